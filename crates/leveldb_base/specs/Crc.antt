@@ -1,0 +1,33 @@
+-- CRC32C, the checksum of LevelDB's logs and tables, bit by bit.
+use Rattle.std.specs.Prelude.{ℕ, zero, suc, ◌+◌, ◌/◌, ◌%◌, ◌^◌, ◌-◌, nat_eq, if◌then◌else◌, List, fold, bit_xor}
+use Rattle.std.specs.Int.{w32, rotate_left, rotate_right}
+
+-- one bit leaves the register: where it was a one, the polynomial is taken off
+abbrev pub crc_shift : ℕ → ℕ
+crc_shift register = if nat_eq (register % 2) 1 then bit_xor (register / 2) 0x82f63b78 else register / 2
+
+-- so many bits leave the register
+abbrev pub crc_shifts : ℕ → ℕ → ℕ
+crc_shifts zero register = register
+crc_shifts (suc bits) register = crc_shifts bits (crc_shift register)
+
+-- the register after a byte
+unfoldable pub crc_byte : ℕ → ℕ → ℕ
+crc_byte register byte = crc_shifts 8 (bit_xor register byte)
+
+-- the register after a text
+unfoldable pub crc_register : ℕ → List ℕ → ℕ
+crc_register register text = fold crc_byte register text
+
+-- the checksum of a text: the register begins with all ones, and ends complemented
+unfoldable pub crc_of : List ℕ → ℕ
+crc_of text = bit_xor (crc_register 0xffffffff text) 0xffffffff
+
+-- a checksum as files keep it, turned right by 15 bits and a constant added, since a checksum of bytes that
+-- hold checksums is weak
+abbrev pub masked : ℕ → ℕ
+masked sum = (rotate_right w32 sum 15 + 0xa282ead8) % 2 ^ 32
+
+-- the constant taken off, and turned back
+abbrev pub unmasked : ℕ → ℕ
+unmasked kept = rotate_left w32 ((kept + (2 ^ 32 - 0xa282ead8)) % 2 ^ 32) 15

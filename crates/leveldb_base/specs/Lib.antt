@@ -1,0 +1,6 @@
+pub mod Status
+pub mod Varint
+pub mod Crc
+pub mod Order
+pub mod Bytewise
+pub mod Places

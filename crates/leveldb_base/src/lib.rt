@@ -1,0 +1,5 @@
+//! What every layer of the store stands on: errors with causes, numbers and checksums as bytes,
+//! the order of keys, and the meaning of an iterator.
+#![tactic(auto)]
+
+pub mod error;
