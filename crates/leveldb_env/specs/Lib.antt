@@ -1,0 +1,4 @@
+pub mod Disk
+pub mod Times
+pub mod Calls
+pub mod Bytes
