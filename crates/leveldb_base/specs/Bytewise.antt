@@ -1,5 +1,5 @@
 -- The separator and the successor of LevelDB's bytewise comparator.
-use Rattle.std.specs.Prelude.{ℕ, ◌+◌, ◌<◌, true, false, Bool, if◌then◌else◌, nat_lt, nat_eq, List, [], ◌∷◌, ◌++◌, Option, None, Some}
+use Rattle.std.specs.Prelude.{ℕ, ◌+◌, Bool, if◌then◌else◌, nat_lt, nat_eq, List, [], ◌∷◌, ◌++◌, Option, None, Some, unwrap_or}
 use Rattle.std.specs.Option.{option_map}
 use Rattle.std.specs.declared.cmp.Ordering.{Ordering}
 use Rattle.std.specs.Ordering.{is_lt, nat_cmp}
@@ -26,6 +26,7 @@ raised_first (x ∷ a) = if nat_eq x 0xff then option_map (λ key. x ∷ key) (r
 abbrev pub bytewise : List ℕ → List ℕ → Ordering
 bytewise = slice_cmp nat_cmp
 
+-- whether a key is before another
 abbrev pub is_before : List ℕ → List ℕ → Bool
 is_before a b = is_lt (bytewise a b)
 
@@ -33,15 +34,15 @@ is_before a b = is_lt (bytewise a b)
 abbrev pub lengthened : List ℕ → List ℕ → List ℕ
 lengthened a b = if is_before (a ++ 0 ∷ []) b then a ++ 0 ∷ [] else a
 
--- a key with its last byte raised where that is before b, else lengthened
+-- a key with its last byte that isn't 0xff raised where that is before b, else lengthened
 abbrev pub raised_or_lengthened : List ℕ → List ℕ → List ℕ
 raised_or_lengthened a b = elim (raised_last a) [ Some key ↦ (if is_before key b then key else lengthened a b) | None ↦ lengthened a b ]
 
--- The same bytes separate themselves. Else it is the shortest beginning of a with a byte raised that stays before b,
--- else a with its last byte raised, else a with a zero byte, else a.
+-- The same bytes separate themselves. Else it is a up to the first byte that, raised, is still below b's byte there, with it raised;
+-- else a with its last byte that isn't 0xff raised, where that is before b; else a and a zero byte, where that is before b; else a.
 abbrev pub bytewise_separator : List ℕ → List ℕ → List ℕ
-bytewise_separator a b = if bytes_eq a b then a else elim (raised_between a b) [ Some key ↦ key | None ↦ raised_or_lengthened a b ]
+bytewise_separator a b = if bytes_eq a b then a else unwrap_or (raised_between a b) (raised_or_lengthened a b)
 
 -- the first byte that isn't 0xff raised and the rest cut off, or 0xff put behind them all
 abbrev pub bytewise_successor : List ℕ → List ℕ
-bytewise_successor a = elim (raised_first a) [ Some key ↦ key | None ↦ a ++ 0xff ∷ [] ]
+bytewise_successor a = unwrap_or (raised_first a) (a ++ 0xff ∷ [])

@@ -10,14 +10,14 @@ pub record IsPreorderOn (accepts : List ℕ → Bool) (cmp : List ℕ → List �
   pub less : (a b c : List ℕ) → accepts a ≡ true → accepts b ≡ true → accepts c ≡ true → cmp a b ≡ Less → cmp b c ≡ Less → cmp a c ≡ Less
   pub alike : (a b c : List ℕ) → accepts a ≡ true → accepts b ≡ true → accepts c ≡ true → cmp a b ≡ Equal → cmp a c ≡ cmp b c
 
--- A key that stands between a and b, for a at or before b: at or after a, before b where a is, and a itself where both are the same.
+-- A key that stands between a and b, asked for where a is at or before b: accepted, at or after a, before b where a is, and a itself where both are the same.
 pub record IsSeparator (accepts : List ℕ → Bool) (cmp : List ℕ → List ℕ → Ordering) (a b sep : List ℕ) : Type 0 where
   pub accepted : accepts sep ≡ true
   pub from : cmp sep a ≢ Less
   pub before : cmp a b ≡ Less → cmp sep b ≡ Less
   pub same : a ≡ b → sep ≡ a
 
--- a key at or after a
+-- an accepted key at or after a
 pub record IsSuccessor (accepts : List ℕ → Bool) (cmp : List ℕ → List ℕ → Ordering) (a succ : List ℕ) : Type 0 where
   pub accepted : accepts succ ≡ true
   pub from : cmp succ a ≢ Less

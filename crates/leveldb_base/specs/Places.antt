@@ -31,6 +31,11 @@ count_before cmp key (pair ∷ pairs) = if is_lt (cmp pair.0 key) then count_bef
 abbrev pub seek_place : (List ℕ → List ℕ → Ordering) → List Pair → List ℕ → Option ℕ
 seek_place cmp pairs key = place_within pairs (count_before cmp key pairs)
 
+-- no place, or one that the list has
+abbrev pub IsPlace : List Pair → Option ℕ → Type 0
+IsPlace pairs None = Unit {0}
+IsPlace pairs (Some i) = i < length pairs
+
 -- the pair at a place
 abbrev pub pair_at : List Pair → Option ℕ → Option Pair
 pair_at pairs place = option_and_then (slice_get pairs) place

@@ -2,7 +2,7 @@
 use Rattle.std.specs.Prelude.{◌≡◌, ℕ, zero, suc, ◌+◌, ◌*◌, ◌/◌, ◌%◌, ◌^◌, ◌<◌, ◌≤◌, true, false, nat_lt, List, [], ◌∷◌, ◌++◌, length, take, drop, Option, None, Some}
 use Rattle.byteorder.specs.Endian.{little_bytes}
 
--- a number in so many bytes, the lowest first
+-- the lowest so many bytes of a number, the lowest first
 abbrev pub little : ℕ → ℕ → List ℕ
 little width n = little_bytes width n
 
@@ -13,7 +13,7 @@ IsVarint [] n = ⊥
 IsVarint (b ∷ []) n = (b < 128) × (n ≡ b)
 IsVarint (b ∷ c ∷ bytes) n = (128 ≤ b) × (b < 256) × (high : ℕ) × (0 < high) × (n + 128 ≡ b + 128 * high) × IsVarint (c ∷ bytes) high
 
--- the spelling of a number that has at most so many groups
+-- the spelling of a number that has at most so many groups behind its lowest
 abbrev pub varint_within : ℕ → ℕ → List ℕ
 varint_within zero n = n ∷ []
 varint_within (suc groups) n = elim (nat_lt n 128) [ true ↦ n ∷ [] | false ↦ (n % 128 + 128) ∷ varint_within groups (n / 128) ]
@@ -35,4 +35,4 @@ ReadsVarint bits bytes None = (n : ℕ) (rest : List ℕ) → n < 2 ^ bits → b
 -- What reading a text behind its length gives: the text and what follows it, or nothing where no such text stands there.
 abbrev pub ReadsSized : List ℕ → Option (List ℕ × List ℕ) → Type 0
 ReadsSized bytes (Some (text, rest)) = bytes ≡ sized text ++ rest
-ReadsSized bytes None = (text rest : List ℕ) → length text < 2 ^ 32 → bytes ≡ sized text ++ rest → ⊥
+ReadsSized bytes None = (text rest : List ℕ) → bytes ≡ sized text ++ rest → ⊥
