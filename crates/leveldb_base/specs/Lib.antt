@@ -4,3 +4,5 @@ pub mod Crc
 pub mod Order
 pub mod Bytewise
 pub mod Places
+pub mod VarintLaws
+pub mod LittleLaws
