@@ -6,3 +6,5 @@ pub mod Bytewise
 pub mod Places
 pub mod History
 pub mod View
+pub mod VarintLaws
+pub mod LittleLaws
