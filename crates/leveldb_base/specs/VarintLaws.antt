@@ -124,6 +124,12 @@ length-spelling-le (suc (suc groups)) (b ∷ c ∷ bytes) n h some f =
     let rest = length-spelling-le (suc groups) (c ∷ bytes) f.2 high (omega arith) f.5 in
     omega (arith, rest)
 
+pub length-varint-small : (n : ℕ) → n < 128 → length (varint n) ≡ 1
+length-varint-small n h = ap length (varint-small n h)
+
+pub length-varint-large : (n : ℕ) → 128 ≤ n → length (varint n) ≡ length (varint (n / 128)) + 1
+length-varint-large n h = let e = ap length (varint-large n h) in omega (arith, e)
+
 -- a number below 128 to the power of k has at most k bytes
 pub length-varint-le : (groups n : ℕ) → n < 128 ^ groups → 1 ≤ groups → length (varint n) ≤ groups
 length-varint-le groups n h some = length-spelling-le groups (varint n) n h some (varint_spells n)
@@ -133,6 +139,9 @@ length-varint_32 n h = length-varint-le 5 n (omega arith) (omega arith)
 
 pub length-varint_64 : (n : ℕ) → n < 2 ^ 64 → length (varint n) ≤ 10
 length-varint_64 n h = length-varint-le 10 n (omega arith) (omega arith)
+
+-- how long spellings are, for tactics
+pub ruleset varint_lengths = (length-varint-small, length-varint-large, length-varint-pos, length-varint_32, length-varint_64)
 
 length-spelling-gt : (groups : ℕ) (bytes : List ℕ) (n : ℕ) → 128 ^ groups ≤ n → IsVarint bytes n → groups < length bytes
 length-spelling-gt groups [] n h f = absurd f

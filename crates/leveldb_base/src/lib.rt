@@ -3,3 +3,4 @@
 #![tactic(auto)]
 
 pub mod error;
+pub mod varint;

@@ -1,0 +1,2 @@
+pub mod VarintSteps
+pub mod VarintReads
