@@ -2,4 +2,5 @@
 //! the order of keys, and the meaning of an iterator.
 #![tactic(auto)]
 
+pub mod cmp;
 pub mod error;
