@@ -1,2 +1,3 @@
 pub mod VarintSteps
 pub mod VarintReads
+pub mod Raised

@@ -1,5 +1,5 @@
 -- The separator and the successor of LevelDB's bytewise comparator.
-use Rattle.std.specs.Prelude.{ℕ, ◌+◌, Bool, if◌then◌else◌, nat_lt, nat_eq, List, [], ◌∷◌, ◌++◌, Option, None, Some, unwrap_or}
+use Rattle.std.specs.Prelude.{ℕ, ◌+◌, Bool, if◌then◌else◌, nat_lt, nat_eq, List, [], ◌∷◌, ◌++◌, take, slice_index, Option, None, Some, unwrap_or}
 use Rattle.std.specs.Option.{option_map}
 use Rattle.std.specs.declared.cmp.Ordering.{Ordering}
 use Rattle.std.specs.Ordering.{is_lt, nat_cmp}
@@ -21,6 +21,10 @@ raised_last (x ∷ a) = elim (raised_last a) [ Some key ↦ Some (x ∷ key) | N
 abbrev pub raised_first : List ℕ → Option (List ℕ)
 raised_first [] = None
 raised_first (x ∷ a) = if nat_eq x 0xff then option_map (λ key. x ∷ key) (raised_first a) else Some ((x + 1) ∷ [])
+
+-- a key up to a place, with the byte there raised
+abbrev pub raised_at : List ℕ → ℕ → List ℕ
+raised_at key i = take i key ++ (slice_index key i + 1) ∷ []
 
 -- by bytes, and a beginning before what it begins
 abbrev pub bytewise : List ℕ → List ℕ → Ordering

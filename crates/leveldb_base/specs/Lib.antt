@@ -3,6 +3,7 @@ pub mod Varint
 pub mod Crc
 pub mod Order
 pub mod Bytewise
+pub mod BytewiseLaws
 pub mod Places
 pub mod History
 pub mod View

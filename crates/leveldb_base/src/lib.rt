@@ -2,5 +2,6 @@
 //! the order of keys, and the meaning of an iterator.
 #![tactic(auto)]
 
+pub mod cmp;
 pub mod error;
 pub mod varint;

@@ -1,0 +1,303 @@
+//! Comparators: the order of keys, and the short keys that stand between two of them.
+ghost use Rattle.std.specs.Prelude.{◌≡◌, ◌≢◌, ◌+◌, ◌<◌, ℕ, Bool, true, List, IfOk, IfErr, IfSome, length, slice_index, slice_set};
+ghost use Rattle.std.specs.Option.{option_map};
+ghost use Rattle.std.specs.declared.cmp.Ordering.{Ordering};
+ghost use Rattle.std.specs.declared.cmp.Ordering.TheVariants.{Equal, Greater};
+ghost use Rattle.leveldb_base.specs.Status.{IsOutOfMemory};
+ghost use Rattle.leveldb_base.specs.Order.{IsPreorderOn, IsSeparator, IsSuccessor};
+ghost use Rattle.leveldb_base.specs.Bytewise.{bytewise, bytewise_separator, bytewise_successor, raised_between, raised_last, raised_first, raised_at, lengthened, raised_or_lengthened};
+ghost use Rattle.leveldb_base.specs.BytewiseLaws.{bytewise_preorder, bytewise_exact, bytewise_separates, bytewise_succeeds};
+
+use crate::error::Result;
+use std::alloc::Global;
+use std::cmp::Ordering;
+
+/// An order on the keys that it accepts, a total preorder there, by which a store sorts its entries.
+/// Every method answers on any bytes; the laws speak of accepted keys.
+pub trait Cmp {
+    ghost accepts: { Self → List ℕ → Bool };
+
+    ghost cmp: { Self → List ℕ → List ℕ → Ordering };
+
+    ghost shortest_sep: { Self → List ℕ → List ℕ → List ℕ };
+
+    ghost short_succ: { Self → List ℕ → List ℕ };
+
+    ghost name: { Self → List ℕ };
+
+    /// Whether the key is one that the order is meant for.
+    fn accepts(&self, key: &[u8]) -> bool
+        ensures { result ≡ accepts self.now key.now };
+
+    fn cmp(&self, a: &[u8], b: &[u8]) -> Ordering
+        ensures { result ≡ cmp self.now a.now b.now };
+
+    /// A key at or after `from`, before `to` where `from` is, and `from` itself where both are the same bytes,
+    /// for accepted keys with `from` at or before `to`. It is meant to be short.
+    fn find_shortest_sep(&self, alloc: Global, from: &[u8], to: &[u8]) -> Result<Vec<u8>>
+        ensures ok { IfOk result (λ sep. sep.items ≡ shortest_sep self.now from.now to.now) }
+        ensures cause { IfErr result IsOutOfMemory };
+
+    /// A key at or after an accepted key. It is meant to be short.
+    fn find_short_succ(&self, alloc: Global, key: &[u8]) -> Result<Vec<u8>>
+        ensures ok { IfOk result (λ succ. succ.items ≡ short_succ self.now key.now) }
+        ensures cause { IfErr result IsOutOfMemory };
+
+    /// The order's name, by which a store knows that it is opened with the order that it was made with.
+    fn id(&self) -> &'static str
+        ensures { result.now ≡ name self.now };
+
+    ghost preorder: { (c : Self) → IsPreorderOn (accepts c) (cmp c) };
+
+    ghost separates: { (c : Self) (a b : List ℕ) → accepts c a ≡ true → accepts c b ≡ true → cmp c a b ≢ Greater → IsSeparator (accepts c) (cmp c) a b (shortest_sep c a b) };
+
+    ghost succeeds: { (c : Self) (a : List ℕ) → accepts c a ≡ true → IsSuccessor (accepts c) (cmp c) a (short_succ c a) };
+}
+
+/// A comparator that accepts all bytes and tells apart all keys.
+pub trait UserCmp: Cmp {
+    ghost accepts_all: { (c : Self) (key : List ℕ) → Self.accepts c key ≡ true };
+
+    ghost exact: { (c : Self) (a b : List ℕ) → Self.cmp c a b ≡ Equal → a ≡ b };
+}
+
+/// A reference to a comparator is one too.
+impl<C: Cmp> Cmp for &C {
+    ghost accepts = { λ c. C.accepts c.now };
+
+    ghost cmp = { λ c. C.cmp c.now };
+
+    ghost shortest_sep = { λ c. C.shortest_sep c.now };
+
+    ghost short_succ = { λ c. C.short_succ c.now };
+
+    ghost name = { λ c. C.name c.now };
+
+    fn accepts(&self, key: &[u8]) -> bool {
+        (**self).accepts(key)
+    }
+
+    fn cmp(&self, a: &[u8], b: &[u8]) -> Ordering {
+        (**self).cmp(a, b)
+    }
+
+    fn find_shortest_sep(&self, alloc: Global, from: &[u8], to: &[u8]) -> Result<Vec<u8>> {
+        (**self).find_shortest_sep(alloc, from, to)
+    }
+
+    fn find_short_succ(&self, alloc: Global, key: &[u8]) -> Result<Vec<u8>> {
+        (**self).find_short_succ(alloc, key)
+    }
+
+    fn id(&self) -> &'static str {
+        (**self).id()
+    }
+
+    ghost preorder = { λ c. C.preorder c.now };
+
+    ghost separates = { λ c. C.separates c.now };
+
+    ghost succeeds = { λ c. C.succeeds c.now };
+}
+
+impl<C: UserCmp> UserCmp for &C {
+    ghost accepts_all = { λ c. C.accepts_all c.now };
+
+    ghost exact = { λ c. C.exact c.now };
+}
+
+/// LevelDB's order: by bytes, and a beginning before what it begins.
+#[derive(Clone, Copy, Debug)]
+pub struct DefaultCmp;
+
+impl Cmp for DefaultCmp {
+    ghost use Rattle.std.specs.Prelude.{codes};
+
+    ghost accepts = { λ _ _. true };
+
+    ghost cmp = { λ _. bytewise };
+
+    ghost shortest_sep = { λ _. bytewise_separator };
+
+    ghost short_succ = { λ _. bytewise_successor };
+
+    ghost name = { λ _. codes "leveldb.BytewiseComparator" };
+
+    fn accepts(&self, _key: &[u8]) -> bool {
+        true
+    }
+
+    #[inline]
+    fn cmp(&self, a: &[u8], b: &[u8]) -> Ordering {
+        a.cmp(b)
+    }
+
+    fn find_shortest_sep(&self, alloc: Global, from: &[u8], to: &[u8]) -> Result<Vec<u8>> {
+        if from == to {
+            return Ok(Vec::from_slice(alloc, from)?);
+        }
+        match place_between(from, to) {
+            Some(i) => raised_and_cut(alloc, from, i),
+            None => raised_or_lengthened(alloc, from, to),
+        }
+    }
+
+    fn find_short_succ(&self, alloc: Global, key: &[u8]) -> Result<Vec<u8>> {
+        match first_place(key) {
+            Some(i) => raised_and_cut(alloc, key, i),
+            None => {
+                let mut succ = Vec::with_capacity(alloc, key.len() + 1)?;
+                succ.extend_from_slice(key)?;
+                succ.push(0xff)?;
+                Ok(succ)
+            }
+        }
+    }
+
+    fn id(&self) -> &'static str {
+        "leveldb.BytewiseComparator"
+    }
+
+    ghost preorder = { λ _. bytewise_preorder };
+
+    ghost separates = { λ _ a b _ _ h. bytewise_separates a b h };
+
+    ghost succeeds = { λ _ a _. bytewise_succeeds a };
+}
+
+impl UserCmp for DefaultCmp {
+    ghost use Rattle.std.specs.Prelude.{refl};
+
+    ghost accepts_all = { λ _ _. refl };
+
+    ghost exact = { λ _. bytewise_exact };
+}
+
+// The first place whose byte can be raised and stay below the other key's.
+fn place_between(from: &[u8], to: &[u8]) -> Option<usize>
+    ensures place { IfSome result (λ i. (i < length from.now) × (slice_index from.now i < 0xff)) }
+    ensures raised { raised_between from.now to.now ≡ option_map (raised_at from.now) result }
+{
+    from.iter()
+        .zip(to)
+        .position(|(a, b)| u16::from(*a) + 1 < u16::from(*b))
+}
+
+// The first place whose byte isn't 0xff.
+fn first_place(key: &[u8]) -> Option<usize>
+    ensures place { IfSome result (λ i. (i < length key.now) × (slice_index key.now i < 0xff)) }
+    ensures raised { raised_first key.now ≡ option_map (raised_at key.now) result }
+{
+    key.iter().position(|b| *b != 0xff)
+}
+
+// The last place whose byte isn't 0xff.
+fn last_place(key: &[u8]) -> Option<usize>
+    ensures place { IfSome result (λ i. (i < length key.now) × (slice_index key.now i < 0xff)) }
+    ensures raised { raised_last key.now ≡ option_map (λ i. slice_set key.now i (slice_index key.now i + 1)) result }
+{
+    key.iter().rposition(|b| *b != 0xff)
+}
+
+// The key up to a place, with the byte there raised.
+fn raised_and_cut(alloc: Global, key: &[u8], i: usize) -> Result<Vec<u8>>
+    requires place { i < length key.now }
+    requires low { slice_index key.now i < 0xff }
+    ensures ok { IfOk result (λ cut. cut.items ≡ raised_at key.now i) }
+    ensures cause { IfErr result IsOutOfMemory }
+{
+    let mut cut = Vec::from_slice(alloc, &key[..=i])?;
+    cut[i] += 1;
+    Ok(cut)
+}
+
+// The key with its last byte that isn't 0xff raised where that is before the other key, else lengthened.
+fn raised_or_lengthened(alloc: Global, from: &[u8], to: &[u8]) -> Result<Vec<u8>>
+    ensures ok { IfOk result (λ sep. sep.items ≡ raised_or_lengthened from.now to.now) }
+    ensures cause { IfErr result IsOutOfMemory }
+{
+    let mut sep = Vec::with_capacity(alloc, from.len() + 1)?;
+    sep.extend_from_slice(from)?;
+    let Some(i) = last_place(from) else {
+        return lengthened(sep, to);
+    };
+    sep[i] += 1;
+    if sep.as_slice().cmp(to).is_lt() {
+        return Ok(sep);
+    }
+    sep[i] = from[i];
+    lengthened(sep, to)
+}
+
+// The key with a zero byte behind it where that is before the other key, else the key.
+fn lengthened(key: Vec<u8>, to: &[u8]) -> Result<Vec<u8>>
+    ensures ok { IfOk result (λ sep. sep.items ≡ lengthened key.items to.now) }
+    ensures cause { IfErr result IsOutOfMemory }
+{
+    let mut sep = key;
+    sep.push(0)?;
+    if sep.as_slice().cmp(to).is_ge() {
+        sep.pop();
+    }
+    Ok(sep)
+}
+
+#[cfg(test)]
+mod tests {
+    use super::{Cmp, DefaultCmp};
+    use std::cmp::Ordering;
+    use std::test::Fail;
+
+    // The expected separators and successors are those of LevelDB's rules, worked by hand.
+    #[test]
+    fn separators(rt: HostRuntime) -> Result<(), Fail> {
+        let cases: [(&[u8], &[u8], &[u8]); 10] = [
+            (b"abc", b"abc\0", b"abc"),
+            (b"yyy", b"z", b"yyz"),
+            (b"abcd", b"abcf", b"abce"),
+            (b"abc", b"acd", b"abd"),
+            (b"abcdefghi", b"abcffghi", b"abce"),
+            (b"a", b"b", b"a\0"),
+            (b"abc", b"zzz", b"b"),
+            (b"", b"\0", b""),
+            (b"\xff\xff", b"\xff\xff\x01", b"\xff\xff\0"),
+            (b"abc", b"abc", b"abc"),
+        ];
+        for (from, to, wanted) in cases {
+            let sep = DefaultCmp.find_shortest_sep(rt.alloc(), from, to)?;
+            assert!(rt; sep.as_slice() == wanted, "{from:?} {to:?}: {sep:?}");
+        }
+        Ok(())
+    }
+
+    #[test]
+    fn successors(rt: HostRuntime) -> Result<(), Fail> {
+        let cases: [(&[u8], &[u8]); 5] = [
+            (b"\xff\xff\xff", b"\xff\xff\xff\xff"),
+            (b"abcd", b"b"),
+            (b"zzzz", b"{"),
+            (b"", b"\xff"),
+            (b"\xff\x01\x02", b"\xff\x02"),
+        ];
+        for (key, wanted) in cases {
+            let succ = DefaultCmp.find_short_succ(rt.alloc(), key)?;
+            assert!(rt; succ.as_slice() == wanted, "{key:?}: {succ:?}");
+        }
+        Ok(())
+    }
+
+    // What a comparator answers through its bound.
+    fn order_and_name<C: Cmp + Copy>(cmp: C, a: &[u8], b: &[u8]) -> (Ordering, bool, &'static str) {
+        (cmp.cmp(a, b), cmp.accepts(a), cmp.id())
+    }
+
+    #[test]
+    fn order(rt: HostRuntime) {
+        let name = "leveldb.BytewiseComparator";
+        let wanted = (Ordering::Less, true, name);
+        assert!(rt; order_and_name(&DefaultCmp, b"ab", b"ab\0") == wanted);
+        assert!(rt; order_and_name(DefaultCmp, b"a\xff", b"b") == wanted);
+        assert!(rt; order_and_name(&DefaultCmp, b"", b"") == (Ordering::Equal, true, name));
+        assert!(rt; DefaultCmp.cmp(b"b", b"a\xff") == Ordering::Greater);
+    }
+}
