@@ -13,7 +13,7 @@ module _ {S : Type 0} (gives : S → ℕ → Result (List ℕ) Status → S → 
   Draws from [] to = to ≡ from
   Draws from (piece ∷ pieces) to = (room : ℕ) × (mid : S) × (0 < length piece) × gives from room (Ok piece) mid × Draws mid pieces to
 
-  -- a read for which there was room gave nothing: the source is at its end
+  -- a read for which there was room gave nothing, as at a source's end
   abbrev pub AtEnd : S → S → Type 0
   AtEnd from to = (room : ℕ) × (0 < room) × gives from room (Ok []) to
 

@@ -1,9 +1,8 @@
 -- What the calls of an environment answer and do.
-use Rattle.std.specs.Prelude.{◌≡◌, ◌⊎◌, ◌≤◌, ◌<◌, ◌-◌, ◌^◌, ℕ, Bool, true, false, if◌then◌else◌, List, [], ◌∷◌, ◌++◌, length, take, drop, Option, None, Some, Result, Ok, Err, is_ok, OnOk, IfErr, IsTrue, IsSome, Contains, ◌↔◌}
+use Rattle.std.specs.Prelude.{◌≡◌, ◌⊎◌, ◌≤◌, ◌<◌, ◌-◌, ◌+◌, ◌^◌, ℕ, Bool, true, false, if◌then◌else◌, List, [], ◌∷◌, ◌++◌, length, take, drop, Option, None, Some, Result, Ok, Err, is_ok, OnOk, IfErr, IsTrue, IsSome, Contains, ◌↔◌}
 use Rattle.std.specs.List.{IsDistinct}
 use Rattle.std.specs.Str.{bytes_eq}
 use Rattle.leveldb_base.specs.declared.error.Status.{Status}
-use Rattle.leveldb_base.specs.declared.error.StatusCode.{StatusCode}
 use Rattle.leveldb_base.specs.declared.error.StatusCode.TheVariants.{OutOfMemory, NotFound, LockError}
 use Rattle.leveldb_env.specs.Disk.{File, Files, Disk, bytes_of, extended, in_folder}
 use Rattle.leveldb_env.specs.Times.{Told, Within}
@@ -42,34 +41,38 @@ SameLocks tells_disk old new = IsTrue tells_disk → new.disk.locked ≡ old.dis
 
 -- ---- why a call fails
 
--- The count of failed calls before and after: it grows by failures of the device alone, up to its greatest.
+-- The count of failed calls before and after: it grows by one at each failure of the device, up to its greatest.
 -- An Err is one that is excused, and then it isn't counted, or it was counted.
-pub record HasCause {T : Type 0} (Excused : StatusCode → Type 0) (before now : ℕ) (result : Result T Status) : Type 0 where
+pub record HasCause {T : Type 0} (Excused : Status → Type 0) (before now : ℕ) (result : Result T Status) : Type 0 where
   pub later : before ≤ now
   pub ok : OnOk result (now ≡ before)
-  pub uncounted : IfErr result (λ e. Excused e.code → now ≡ before)
-  pub cause : IfErr result (λ e. Excused e.code ⊎ (before < now) ⊎ (now ≡ 2 ^ 64 - 1))
+  pub uncounted : IfErr result (λ e. Excused e → now ≡ before)
+  pub cause : IfErr result (λ e. Excused e ⊎ (now ≡ before + 1) ⊎ ((before ≡ 2 ^ 64 - 1) × (now ≡ before)))
 
--- want of memory is excused
-abbrev pub NoMemory : StatusCode → Type 0
-NoMemory code = code ≡ OutOfMemory
+-- want of memory is excused; it has no text
+abbrev pub NoMemory : Status → Type 0
+NoMemory e = (e.code ≡ OutOfMemory) × (e.err ≡ None)
 
 -- so is the answer for a name that is missing, of a disk that is told
-abbrev pub IsMissing : Bool → List ℕ → Told → StatusCode → Type 0
-IsMissing tells_disk name told code = NoMemory code ⊎ ((code ≡ NotFound) × (IsTrue tells_disk → told.disk.files name ≡ None))
+abbrev pub IsMissing : Bool → List ℕ → Told → Status → Type 0
+IsMissing tells_disk name told e = NoMemory e ⊎ ((e.code ≡ NotFound) × (IsTrue tells_disk → told.disk.files name ≡ None))
+
+-- and that for an open file whose name is gone from a disk that is told
+abbrev pub IsGone : Bool → List ℕ → Told → Status → Type 0
+IsGone tells_disk name told e = NoMemory e ⊎ ((e.code ≡ NotFound) × IsTrue tells_disk × (told.disk.files name ≡ None))
 
 -- and that for a folder without a name
-abbrev pub IsEmptyFolder : Bool → List ℕ → Told → StatusCode → Type 0
-IsEmptyFolder tells_disk folder told code =
-    NoMemory code ⊎ ((code ≡ NotFound) × (IsTrue tells_disk → (child : List ℕ) → told.disk.files (in_folder folder child) ≡ None))
+abbrev pub IsEmptyFolder : Bool → List ℕ → Told → Status → Type 0
+IsEmptyFolder tells_disk folder told e =
+    NoMemory e ⊎ ((e.code ≡ NotFound) × (IsTrue tells_disk → (child : List ℕ) → told.disk.files (in_folder folder child) ≡ None))
 
 -- and that for a name whose lock is so already
-abbrev pub LockIs : Bool → Bool → List ℕ → Told → StatusCode → Type 0
-LockIs tells_disk held name told code = (code ≡ LockError) × (IsTrue tells_disk → told.disk.locked name ≡ held)
+abbrev pub LockIs : Bool → Bool → List ℕ → Told → Status → Type 0
+LockIs tells_disk held name told e = (e.code ≡ LockError) × (IsTrue tells_disk → told.disk.locked name ≡ held)
 
 -- a lock is refused for want of memory, or where the name is locked
-abbrev pub IsLocked : Bool → List ℕ → Told → StatusCode → Type 0
-IsLocked tells_disk name told code = NoMemory code ⊎ LockIs tells_disk true name told code
+abbrev pub IsLocked : Bool → List ℕ → Told → Status → Type 0
+IsLocked tells_disk name told e = NoMemory e ⊎ LockIs tells_disk true name told e
 
 -- ---- what a read gives
 

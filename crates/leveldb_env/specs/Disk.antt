@@ -50,9 +50,14 @@ created name files = with_file name (or_empty (files name)) files
 abbrev pub deleted : List ℕ → Files → Files
 deleted name files = with_file name None files
 
+-- a file that stood under one name stands under the other; a missing one moves nothing
+abbrev pub moved : List ℕ → List ℕ → Files → Option File → Files
+moved from to files None = files
+moved from to files (Some file) = with_file to (Some file) (deleted from files)
+
 -- what stood under one name stands under the other
 abbrev pub renamed : List ℕ → List ℕ → Files → Files
-renamed from to files = with_file to (files from) (deleted from files)
+renamed from to files = moved from to files (files from)
 
 -- bytes behind a file's
 abbrev pub longer_file : List ℕ → File → File

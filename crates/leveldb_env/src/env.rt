@@ -3,7 +3,7 @@ ghost use Rattle.std.specs.Prelude.{◌≡◌, ◌≢◌, ◌≤◌, ◌<◌, �
 ghost use Rattle.leveldb_base.specs.declared.error.Status.{Status};
 ghost use Rattle.leveldb_env.specs.Disk.{Files, bytes_of, created, emptied, deleted, renamed, extended, synced, without_folder, lock_set, same};
 ghost use Rattle.leveldb_env.specs.Times.{Told};
-ghost use Rattle.leveldb_env.specs.Calls.{Does, EitherSide, Appending, Still, Anything, Relocks, SameLocks, HasCause, NoMemory, IsMissing, IsEmptyFolder, IsLocked, LockIs, ReadsAt, Lists};
+ghost use Rattle.leveldb_env.specs.Calls.{Does, EitherSide, Appending, Still, Anything, Relocks, SameLocks, HasCause, NoMemory, IsMissing, IsGone, IsEmptyFolder, IsLocked, LockIs, ReadsAt, Lists};
 
 pub mod sink;
 pub mod source;
@@ -18,7 +18,8 @@ use std::alloc::Global;
 /// An implementation may tell nothing but its count of failed calls, or also what its disk holds,
 /// or also what the files were at each moment. A count of failed calls is of those that the device
 /// itself refused: what follows from the disk's own state, as a missing name, and want of memory
-/// aren't counted. What a call with a handle to a deleted or renamed file answers is left open.
+/// aren't counted. An open file stands for its name: what a call with a handle to a deleted or renamed
+/// file answers is otherwise left open.
 pub trait Env {
     /// A file that is open. It borrows nothing.
     type File: Drop;
@@ -96,7 +97,7 @@ pub trait Env {
         ensures does { Does tells_disk (extended (name_of file.old) bytes.now) (Appending (name_of file.old) bytes.now) (tells self.old) (tells self.new) result }
         ensures locks { SameLocks tells_disk (tells self.old) (tells self.new) }
         ensures file { IsTrue tells_disk → name_of file.new ≡ name_of file.old }
-        ensures cause { HasCause NoMemory (failures self.old) (failures self.new) result };
+        ensures cause { HasCause (IsGone tells_disk (name_of file.old) (tells self.old)) (failures self.old) (failures self.new) result };
 
     /// Makes a crash keep all bytes of the file. After an Err it keeps what it kept before.
     fn sync(&mut self, file: &mut Self::File) -> Result<()>
@@ -104,7 +105,7 @@ pub trait Env {
         ensures undone { OnErr result (IsTrue tells_disk → (tells self.new).disk.files ≡ (tells self.old).disk.files) }
         ensures locks { SameLocks tells_disk (tells self.old) (tells self.new) }
         ensures file { IsTrue tells_disk → name_of file.new ≡ name_of file.old }
-        ensures cause { HasCause NoMemory (failures self.old) (failures self.new) result };
+        ensures cause { HasCause (IsGone tells_disk (name_of file.old) (tells self.old)) (failures self.old) (failures self.new) result };
 
     /// Whether a file has the name.
     fn exists(&mut self, name: &str) -> Result<bool>
@@ -181,6 +182,9 @@ pub trait Env {
     /// At this moment the files are no others.
     ghost only_now: { (e : Self) (files : Files) → (tells e).stood (tells e).moment files → files ≡ (tells e).disk.files };
 
-    /// This moment is one of those since an earlier one.
-    ghost counts_now: { (e : Self) (t : ℕ) → IsTrue tells_moments → t ≤ (tells e).moment → (tells e).stood t (tells e).disk.files };
+    /// What the files are now is told of this moment.
+    ghost counts_now: { (e : Self) → IsTrue tells_moments → (tells e).stood (tells e).moment (tells e).disk.files };
+
+    /// Moments are told of a disk that is told.
+    ghost moments_need_disk: { IsTrue tells_moments → IsTrue tells_disk };
 }
