@@ -1,6 +1,6 @@
 //! Numbers as varints and texts behind their lengths, as LevelDB's logs and tables write them: seven bits a byte,
 //! the lowest group first, a byte from 128 on where more follow, and only the shortest spelling is read.
-ghost use Rattle.std.specs.Prelude.{◌≡◌, ◌↔◌, ℕ, ◌^◌, ◌<◌, ◌≤◌, List, ◌++◌, length, take, drop, Option, Some, None, OnOk, OnErr, IfErr, All};
+ghost use Rattle.std.specs.Prelude.{◌≡◌, ◌↔◌, ℕ, ◌+◌, ◌^◌, ◌<◌, ◌≤◌, List, ◌++◌, vec_len, vec_capacity, length, take, drop, Option, Some, None, OnOk, OnErr, IfErr, All};
 ghost use Rattle.byteorder.specs.Endian.{little_number};
 ghost use Rattle.leveldb_base.specs.Varint.{little, IsVarint, varint, sized, ReadsVarint, ReadsSized};
 ghost use Rattle.leveldb_base.specs.Places.{pair_of};
@@ -57,6 +57,10 @@ pub fn put_varint32(dst: &mut Vec<u8>, n: u32) -> Result<()>
     ensures ok { OnOk result (dst.new.items ≡ dst.old.items ++ varint n) }
     ensures err { OnErr result (dst.new.items ≡ dst.old.items) }
     ensures memory { IfErr result (λ status. (status.code ≡ OutOfMemory) × (status.err ≡ None)) }
+
+    // The capacity never shrinks, and only where room was missing does the call fail.
+    ensures capacity { vec_capacity dst.old ≤ vec_capacity dst.new }
+    ensures full { OnErr result (vec_capacity dst.old < vec_len dst.old + length (varint n)) }
 {
     let mut bytes = [0; 5];
     let used = encode_varint32(&mut bytes, n);
@@ -70,6 +74,10 @@ pub fn put_varint64(dst: &mut Vec<u8>, n: u64) -> Result<()>
     ensures ok { OnOk result (dst.new.items ≡ dst.old.items ++ varint n) }
     ensures err { OnErr result (dst.new.items ≡ dst.old.items) }
     ensures memory { IfErr result (λ status. (status.code ≡ OutOfMemory) × (status.err ≡ None)) }
+
+    // The capacity never shrinks, and only where room was missing does the call fail.
+    ensures capacity { vec_capacity dst.old ≤ vec_capacity dst.new }
+    ensures full { OnErr result (vec_capacity dst.old < vec_len dst.old + length (varint n)) }
 {
     let mut bytes = [0; 10];
     let used = encode_varint64(&mut bytes, n);
@@ -129,6 +137,10 @@ pub fn put_length_prefixed_slice(dst: &mut Vec<u8>, text: &[u8]) -> Result<()>
     ensures ok { OnOk result (dst.new.items ≡ dst.old.items ++ sized text.now) }
     ensures err { OnErr result (dst.new.items ≡ dst.old.items) }
     ensures memory { IfErr result (λ status. (status.code ≡ OutOfMemory) × (status.err ≡ None)) }
+
+    // The capacity never shrinks, and only where room was missing does the call fail.
+    ensures capacity { vec_capacity dst.old ≤ vec_capacity dst.new }
+    ensures full { OnErr result (vec_capacity dst.old < vec_len dst.old + length (sized text.now)) }
 {
     let mut bytes = [0; 5];
     let used = encode_varint32(&mut bytes, text.len() as u32);
@@ -178,3 +190,90 @@ pub fn fixed_bytes_again()
         → little width (little_number width bytes) ≡ take width bytes }
     ensures number { (width n : ℕ) (rest : List ℕ) → n < 256 ^ width → little_number width (little width n ++ rest) ≡ n }
 {}
+
+#[cfg(test)]
+mod tests {
+    use super::*;
+
+    /// Rows of LevelDB's documents, both ways.
+    #[test]
+    fn numbers_of_32_bits(rt: HostRuntime) -> Result<()> {
+        let rows: [(u32, &[u8]); 4] = [
+            (127, &[0x7f]),
+            (128, &[0x80, 1]),
+            (300, &[0xac, 2]),
+            (u32::MAX, &[0xff, 0xff, 0xff, 0xff, 0x0f]),
+        ];
+        for (n, bytes) in rows {
+            let mut put = Vec::new(rt.alloc());
+            put_varint32(&mut put, n)?;
+            assert_eq!(rt; put.as_slice(), bytes, "put {n}");
+            let mut encoded = [7; 5];
+            assert_eq!(rt; encode_varint32(&mut encoded, n), bytes.len(), "encode {n}");
+            assert!(rt; encoded.starts_with(bytes), "encode {n}");
+            assert_eq!(rt; varint_length(u64::from(n)), bytes.len(), "length of {n}");
+            assert_eq!(rt; get_varint32(bytes), Some((n, bytes.len())), "get {n}");
+            assert_eq!(rt;
+                get_varint64(bytes),
+                Some((u64::from(n), bytes.len())),
+                "get {n}"
+            );
+        }
+        Ok(())
+    }
+
+    /// The largest number: nine groups of ones, and the one bit that is left.
+    #[test]
+    fn largest_number(rt: HostRuntime) -> Result<()> {
+        let bytes = [0xff, 0xff, 0xff, 0xff, 0xff, 0xff, 0xff, 0xff, 0xff, 1];
+        let mut put = Vec::new(rt.alloc());
+        put_varint64(&mut put, u64::MAX)?;
+        assert_eq!(rt; put.as_slice(), bytes.as_slice());
+        let mut encoded = [0; 10];
+        assert_eq!(rt; encode_varint64(&mut encoded, u64::MAX), 10);
+        assert_eq!(rt; encoded, bytes);
+        assert_eq!(rt; varint_length(u64::MAX), 10);
+        assert_eq!(rt; get_varint64(&bytes), Some((u64::MAX, 10)));
+        Ok(())
+    }
+
+    /// A second spelling of 1, cut ones, and numbers of too many bits.
+    #[test]
+    fn refused(rt: HostRuntime) {
+        let rows: [&[u8]; 6] = [
+            &[],
+            &[0x81, 0],
+            &[0x80],
+            &[0xff, 0xff, 0xff],
+            &[0xff, 0xff, 0xff, 0xff, 0xff, 0xff, 0xff, 0xff, 0xff, 2],
+            &[
+                0x80, 0x80, 0x80, 0x80, 0x80, 0x80, 0x80, 0x80, 0x80, 0x80, 1,
+            ],
+        ];
+        for bytes in rows {
+            assert_eq!(rt; get_varint32(bytes), None, "{bytes:?}");
+            assert_eq!(rt; get_varint64(bytes), None, "{bytes:?}");
+        }
+        let wide = [0x80, 0x80, 0x80, 0x80, 0x10];
+        assert_eq!(rt; get_varint32(&wide), None);
+        assert_eq!(rt; get_varint64(&wide), Some((1 << 32, 5)));
+    }
+
+    #[test]
+    fn texts_behind_their_lengths(rt: HostRuntime) -> Result<()> {
+        let mut put = Vec::new(rt.alloc());
+        put_length_prefixed_slice(&mut put, b"key")?;
+        put_length_prefixed_slice(&mut put, b"")?;
+        assert_eq!(rt; put.as_slice(), b"\x03key\0".as_slice());
+        let Some((key, rest)) = get_length_prefixed_slice(put.as_slice()) else {
+            panic!(rt; "no key");
+        };
+        assert_eq!(rt; key, b"key".as_slice());
+        let Some((empty, rest)) = get_length_prefixed_slice(rest) else {
+            panic!(rt; "no empty text");
+        };
+        assert!(rt; empty.is_empty() && rest.is_empty());
+        assert!(rt; get_length_prefixed_slice(b"\x03ke").is_none());
+        Ok(())
+    }
+}
