@@ -1,6 +1,7 @@
 -- The texts of codes and statuses.
 use Rattle.std.specs.Prelude.{◌≡◌, ℕ, List, [], ◌∷◌, ◌++◌, Option, None, Some, codes, string_bytes, String}
 use Rattle.std.specs.declared.alloc.Global.{Global}
+use Rattle.leveldb_base.specs.declared.error.Status.{Status}
 use Rattle.leveldb_base.specs.declared.error.StatusCode.{StatusCode}
 use Rattle.leveldb_base.specs.declared.error.StatusCode.TheVariants.{OK, AlreadyExists, Corruption, CompressionError, IOError, InvalidArgument, InvalidData, LockError, NotFound, NotSupported, PermissionDenied, Unknown, OutOfMemory}
 
@@ -33,3 +34,7 @@ text_of (Some text) = string_bytes text
 -- a message put before a text
 abbrev pub annotated : List ℕ → List ℕ → List ℕ
 annotated message text = message ++ (codes ": " ++ text)
+
+-- want of memory, with no text
+abbrev pub IsOutOfMemory : Status → Type 0
+IsOutOfMemory status = (status.code ≡ OutOfMemory) × (status.err ≡ None)
