@@ -1,6 +1,7 @@
 -- A list of pairs and an optional place in it, which is what every iterator stands for, and the moves between places.
 use Rattle.std.specs.Prelude.{ℕ, ◌+◌, ◌-◌, ◌<◌, List, [], ◌∷◌, Option, Some, None, if◌then◌else◌, nat_lt, length, slice_get, option_and_then}
 use Rattle.std.specs.Borrow.{Bor}
+use Rattle.std.specs.Global.{Vec}
 use Rattle.std.specs.declared.cmp.Ordering.{Ordering}
 use Rattle.std.specs.Ordering.{is_lt}
 
@@ -44,3 +45,8 @@ pair_at pairs place = option_and_then (slice_get pairs) place
 abbrev pub pair_of : Option (Bor (List ℕ) × Bor (List ℕ)) → Option Pair
 pair_of None = None
 pair_of (Some refs) = Some (refs.0.now, refs.1.now)
+
+-- what two byte vectors hold
+abbrev pub copied_pair : Option (Vec ℕ × Vec ℕ) → Option Pair
+copied_pair None = None
+copied_pair (Some pair) = Some (pair.0.items, pair.1.items)

@@ -5,3 +5,4 @@
 pub mod cmp;
 pub mod error;
 pub mod varint;
+pub mod types;
