@@ -183,10 +183,10 @@ reads_wide bytes n used f wide m rest fits e =
     omega (arith, number, wide, fits)
 
 -- what stands behind a length is cut where the length says
-pub reads_sized : (bytes behind : List ℕ) (size used : ℕ) (r : Option (Bor (List ℕ) × Bor (List ℕ))) → ReadsVarint 32 bytes (Some (size, used)) → behind ≡ drop used bytes
+pub reads_sized : (bytes behind : List ℕ) (size used : ℕ) (r : Option (Bor (List ℕ) × Bor (List ℕ))) → ReadsVarint 64 bytes (Some (size, used)) → behind ≡ drop used bytes
     → MatchOption r (length behind < size) (λ p. IsSplitAt behind size p.0.now p.1.now) → ReadsSized bytes (pair_of r)
 reads_sized bytes behind size used (Some refs) f same g =
-    let front = read_number 32 bytes size used f in
+    let front = read_number 64 bytes size used f in
     let text = refs.0.now in
     let rest = refs.1.now in
     front.1
@@ -194,7 +194,7 @@ reads_sized bytes behind size used (Some refs) f same g =
     ∙ sym (append_assoc (varint size) text rest)
     ∙ ap (λ k. (varint k ++ text) ++ rest) (sym g.3)
 reads_sized bytes behind size used None f same g = λ text rest fits e.
-    let front = read_number 32 bytes size used f in
+    let front = read_number 64 bytes size used f in
     let one = one_number (length text) size (text ++ rest) (drop used bytes) (sym (append_assoc (varint (length text)) text rest) ∙ sym e ∙ front.1) in
     let number = one.0 in
     let whole = ap length (one.1 ∙ sym same) in

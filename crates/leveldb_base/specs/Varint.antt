@@ -32,7 +32,8 @@ abbrev pub ReadsVarint : ℕ → List ℕ → Option (ℕ × ℕ) → Type 0
 ReadsVarint bits bytes (Some (n, used)) = (n < 2 ^ bits) × (used ≤ length bytes) × IsVarint (take used bytes) n
 ReadsVarint bits bytes None = (n : ℕ) (rest : List ℕ) → n < 2 ^ bits → bytes ≡ varint n ++ rest → ⊥
 
--- What reading a text behind its length gives: the text and what follows it, or nothing where no such text stands there.
+-- What reading a text behind its length gives: the text and what follows it, or nothing where none stands there whose
+-- length has 64 bits.
 abbrev pub ReadsSized : List ℕ → Option (List ℕ × List ℕ) → Type 0
 ReadsSized bytes (Some (text, rest)) = bytes ≡ sized text ++ rest
-ReadsSized bytes None = (text rest : List ℕ) → bytes ≡ sized text ++ rest → ⊥
+ReadsSized bytes None = (text rest : List ℕ) → length text < 2 ^ 64 → bytes ≡ sized text ++ rest → ⊥

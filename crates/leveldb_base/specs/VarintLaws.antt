@@ -179,9 +179,9 @@ read_written bits n rest (Some (m, used)) h f =
     cc
 
 -- a sized text that was written is read
-pub read_sized : (text rest : List ℕ) (r : Option (List ℕ × List ℕ)) → ReadsSized (sized text ++ rest) r → r ≡ Some (text, rest)
-read_sized text rest None f = absurd (f text rest refl)
-read_sized text rest (Some (t, x)) f =
+pub read_sized : (text rest : List ℕ) (r : Option (List ℕ × List ℕ)) → length text < 2 ^ 64 → ReadsSized (sized text ++ rest) r → r ≡ Some (text, rest)
+read_sized text rest None h f = absurd (f text rest h refl)
+read_sized text rest (Some (t, x)) h f =
     let same = one_sized text t rest x f in
     let s = same.0 in let r = same.1 in
     cc

@@ -133,7 +133,6 @@ fn get_long_varint(src: &[u8]) -> Option<(u64, usize)>
 /// Puts `text` behind its length and both behind what is there, or nothing.
 #[tactic(auto, using(crate::specs::VarintLaws::varint_lengths))]
 pub fn put_length_prefixed_slice(dst: &mut Vec<u8>, text: &[u8]) -> Result<()>
-    requires { length text.now < 2 ^ 32 }
     ensures ok { OnOk result (dst.new.items ≡ dst.old.items ++ sized text.now) }
     ensures err { OnErr result (dst.new.items ≡ dst.old.items) }
     ensures memory { IfErr result (λ status. (status.code ≡ OutOfMemory) × (status.err ≡ None)) }
@@ -142,8 +141,8 @@ pub fn put_length_prefixed_slice(dst: &mut Vec<u8>, text: &[u8]) -> Result<()>
     ensures capacity { vec_capacity dst.old ≤ vec_capacity dst.new }
     ensures full { OnErr result (vec_capacity dst.old < vec_len dst.old + length (sized text.now)) }
 {
-    let mut bytes = [0; 5];
-    let used = encode_varint32(&mut bytes, text.len() as u32);
+    let mut bytes = [0; 10];
+    let used = encode_varint64(&mut bytes, text.len() as u64);
     dst.reserve(used + text.len())?;
     dst.extend_from_slice(&bytes[..used])?;
     dst.extend_from_slice(text)?;
@@ -156,7 +155,7 @@ pub fn put_length_prefixed_slice(dst: &mut Vec<u8>, text: &[u8]) -> Result<()>
 pub fn get_length_prefixed_slice(src: &[u8]) -> Option<(&[u8], &[u8])>
     ensures { ReadsSized src.now (pair_of result) }
 {
-    let (size, used) = get_varint32(src)?;
+    let (size, used) = get_varint64(src)?;
     src[used..].split_at_checked(size as usize)
 }
 
@@ -179,7 +178,7 @@ pub fn sized_texts_are_prefix_free()
 pub fn written_is_read()
     ensures number { (bits n : ℕ) (rest : List ℕ) (answer : Option (ℕ × ℕ)) → n < 2 ^ bits
         → ReadsVarint bits (varint n ++ rest) answer → answer ≡ Some (n, length (varint n)) }
-    ensures text { (text rest : List ℕ) (answer : Option (List ℕ × List ℕ)) → length text < 2 ^ 32
+    ensures text { (text rest : List ℕ) (answer : Option (List ℕ × List ℕ)) → length text < 2 ^ 64
         → ReadsSized (sized text ++ rest) answer → answer ≡ Some (text, rest) }
 {}
 
