@@ -86,7 +86,7 @@ pub fn put_varint64(dst: &mut Vec<u8>, n: u64) -> Result<()>
 }
 
 /// The number below 2^32 that is spelled at the front of `src`, and how many bytes spell it.
-/// `None` where no number's one spelling stands there, as at a cut one or one that ends in a zero group.
+/// `None` where no such number's one spelling stands there: it is cut, ends in a zero group, or spells a larger number.
 #[inline]
 pub fn get_varint32(src: &[u8]) -> Option<(u32, usize)>
     ensures { ReadsVarint 32 src.now result }
@@ -99,7 +99,7 @@ pub fn get_varint32(src: &[u8]) -> Option<(u32, usize)>
 }
 
 /// The number below 2^64 that is spelled at the front of `src`, and how many bytes spell it.
-/// `None` where no number's one spelling stands there, as at a cut one or one that ends in a zero group.
+/// `None` where no such number's one spelling stands there: it is cut, ends in a zero group, or spells a larger number.
 #[inline]
 pub fn get_varint64(src: &[u8]) -> Option<(u64, usize)>
     ensures { ReadsVarint 64 src.now result }
@@ -115,6 +115,7 @@ fn get_long_varint(src: &[u8]) -> Option<(u64, usize)>
 {
     let mut n = 0;
     for (i, byte) in src.iter().enumerate() {
+        // Nine groups hold 63 bits, and the tenth only the last one.
         if i == 9 && *byte > 1 {
             return None;
         }
@@ -162,6 +163,13 @@ pub fn get_length_prefixed_slice(src: &[u8]) -> Option<(&[u8], &[u8])>
 /// What spells a number is what is written for it, so the same numbers are always the same bytes.
 pub fn varints_have_one_spelling()
     ensures { (bytes : List ℕ) (n : ℕ) → IsVarint bytes n ↔ (bytes ≡ varint n) }
+{}
+
+/// No spelling is empty, and 5 bytes are room for any number of 32 bits, and 10 for any of 64.
+pub fn varints_are_short()
+    ensures some { (n : ℕ) → 1 ≤ length (varint n) }
+    ensures bits_32 { (n : ℕ) → n < 2 ^ 32 → length (varint n) ≤ 5 }
+    ensures bits_64 { (n : ℕ) → n < 2 ^ 64 → length (varint n) ≤ 10 }
 {}
 
 /// No number's spelling begins another's, so numbers that stand one behind the other have one reading.
