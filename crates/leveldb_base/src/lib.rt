@@ -4,5 +4,5 @@
 
 pub mod cmp;
 pub mod error;
-pub mod varint;
 pub mod types;
+pub mod varint;
