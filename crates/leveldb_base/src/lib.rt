@@ -2,7 +2,8 @@
 //! the order of keys, and the meaning of an iterator.
 #![tactic(auto)]
 
+pub mod blockhandle;
 pub mod cmp;
 pub mod error;
-pub mod varint;
 pub mod types;
+pub mod varint;
