@@ -1,3 +1,4 @@
 pub mod VarintSteps
 pub mod VarintReads
 pub mod Raised
+pub mod HandleReads

@@ -4,6 +4,8 @@ pub mod Crc
 pub mod Order
 pub mod Bytewise
 pub mod BytewiseLaws
+pub mod Handle
+pub mod HandleLaws
 pub mod Places
 pub mod History
 pub mod View

@@ -2,6 +2,7 @@
 //! the order of keys, and the meaning of an iterator.
 #![tactic(auto)]
 
+pub mod blockhandle;
 pub mod cmp;
 pub mod error;
 pub mod types;
