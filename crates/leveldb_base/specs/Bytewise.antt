@@ -1,5 +1,5 @@
 -- The separator and the successor of LevelDB's bytewise comparator.
-use Rattle.std.specs.Prelude.{ℕ, ◌+◌, Bool, if◌then◌else◌, nat_lt, nat_eq, List, [], ◌∷◌, ◌++◌, take, slice_index, Option, None, Some}
+use Rattle.std.specs.Prelude.{ℕ, ◌+◌, Bool, if◌then◌else◌, nat_lt, nat_eq, List, [], ◌∷◌, ◌++◌, take, slice_index, Option, None, Some, unwrap_or}
 use Rattle.std.specs.Option.{option_map}
 use Rattle.std.specs.declared.cmp.Ordering.{Ordering}
 use Rattle.std.specs.Ordering.{is_lt, nat_cmp}
@@ -45,8 +45,8 @@ raised_or_lengthened a b = elim (raised_last a) [ Some key ↦ (if is_before key
 -- The same bytes separate themselves. Else it is a up to the first byte that, raised, is still below b's byte there, with it raised;
 -- else a with its last byte that isn't 0xff raised, where that is before b; else a and a zero byte, where that is before b; else a.
 abbrev pub bytewise_separator : List ℕ → List ℕ → List ℕ
-bytewise_separator a b = if bytes_eq a b then a else elim (raised_between a b) [ Some key ↦ key | None ↦ raised_or_lengthened a b ]
+bytewise_separator a b = if bytes_eq a b then a else unwrap_or (raised_between a b) (raised_or_lengthened a b)
 
 -- the first byte that isn't 0xff raised and the rest cut off, or 0xff put behind them all
 abbrev pub bytewise_successor : List ℕ → List ℕ
-bytewise_successor a = elim (raised_first a) [ Some key ↦ key | None ↦ a ++ 0xff ∷ [] ]
+bytewise_successor a = unwrap_or (raised_first a) (a ++ 0xff ∷ [])

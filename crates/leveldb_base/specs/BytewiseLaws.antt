@@ -1,5 +1,5 @@
 -- The laws of LevelDB's bytewise comparator.
-use Rattle.std.specs.Prelude.{◌≡◌, ◌≢◌, ℕ, ◌+◌, Bool, true, false, nat_lt, nat_eq, if◌then◌else◌, List, [], ◌∷◌, ◌++◌, Option, Some, None, refl}
+use Rattle.std.specs.Prelude.{◌≡◌, ◌≢◌, ℕ, ◌+◌, Bool, true, false, nat_lt, nat_eq, if◌then◌else◌, List, [], ◌∷◌, ◌++◌, Option, Some, None, unwrap_or, refl}
 use Rattle.std.proofs.Common.{arith, sym, cond}
 use Rattle.std.specs.declared.cmp.Ordering.{Ordering}
 use Rattle.std.specs.declared.cmp.Ordering.TheVariants.{Less, Equal, Greater}
@@ -112,11 +112,11 @@ raised_or_lengthened_between a b = by (raised_last a) (raised_last_after a)
     by None after = lengthened_between a b
     by (Some key) after = tested_between a b key (lengthened a b) after (lengthened_between a b)
 
-separator_between : (a b : List ℕ) (t : Bool) → bytewise a b ≢ Greater → IsBetween a b (if t then a else elim (raised_between a b) [ Some key ↦ key | None ↦ raised_or_lengthened a b ])
+separator_between : (a b : List ℕ) (t : Bool) → bytewise a b ≢ Greater → IsBetween a b (if t then a else unwrap_or (raised_between a b) (raised_or_lengthened a b))
 separator_between a b true h = own_between a b
 separator_between a b false h = by (raised_between a b) (raised_between_after a b) (raised_between_before a b h)
   where
-    by : (raised : Option (List ℕ)) → IsAfter a raised → IsBefore b raised → IsBetween a b (elim raised [ Some key ↦ key | None ↦ raised_or_lengthened a b ])
+    by : (raised : Option (List ℕ)) → IsAfter a raised → IsBefore b raised → IsBetween a b (unwrap_or raised (raised_or_lengthened a b))
     by None after before = raised_or_lengthened_between a b
     by (Some key) after before = record { from = λ l. cc; before = λ _. before }
 
@@ -133,6 +133,6 @@ bytewise_separates a b h =
 pub bytewise_succeeds : (a : List ℕ) → IsSuccessor (λ _. true) bytewise a (bytewise_successor a)
 bytewise_succeeds a = record { accepted = refl; from = by (raised_first a) (raised_first_after a) }
   where
-    by : (raised : Option (List ℕ)) → IsAfter a raised → bytewise (elim raised [ Some key ↦ key | None ↦ a ++ 0xff ∷ [] ]) a ≢ Less
+    by : (raised : Option (List ℕ)) → IsAfter a raised → bytewise (unwrap_or raised (a ++ 0xff ∷ [])) a ≢ Less
     by None after = λ l. let longer = longer_after a 0xff [] in cc
     by (Some key) after = λ l. cc
