@@ -1,5 +1,5 @@
 -- CRC32C, the checksum of LevelDB's logs and tables, bit by bit.
-use Rattle.std.specs.Prelude.{ℕ, zero, suc, ◌+◌, ◌/◌, ◌%◌, ◌^◌, ◌-◌, nat_eq, if◌then◌else◌, List, fold, bit_xor}
+use Rattle.std.specs.Prelude.{◌≡◌, ℕ, zero, suc, ◌+◌, ◌*◌, ◌/◌, ◌%◌, ◌^◌, ◌-◌, nat_eq, if◌then◌else◌, List, fold, bit_xor}
 use Rattle.std.specs.Int.{w32, rotate_left, rotate_right}
 
 -- one bit leaves the register: where it was a one, the polynomial is taken off
@@ -18,6 +18,14 @@ crc_byte register byte = crc_shifts 8 (bit_xor register byte)
 -- the register after a text
 unfoldable pub crc_register : ℕ → List ℕ → ℕ
 crc_register register text = fold crc_byte register text
+
+-- the register after so many zero bytes
+unfoldable pub crc_zeros : ℕ → ℕ → ℕ
+crc_zeros bytes register = crc_shifts (8 * bytes) register
+
+-- the register of a digest that has read the text: it begins with all ones
+abbrev pub HasRead : ℕ → List ℕ → Type 0
+HasRead register text = register ≡ crc_register 0xffffffff text
 
 -- the checksum of a text: the register begins with all ones, and ends complemented
 unfoldable pub crc_of : List ℕ → ℕ

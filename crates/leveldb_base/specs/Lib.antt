@@ -11,3 +11,4 @@ pub mod History
 pub mod View
 pub mod VarintLaws
 pub mod LittleLaws
+pub mod CrcLaws

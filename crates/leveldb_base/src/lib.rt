@@ -4,6 +4,7 @@
 
 pub mod blockhandle;
 pub mod cmp;
+pub mod crc;
 pub mod error;
 pub mod types;
 pub mod varint;

@@ -1,0 +1,136 @@
+//! The register of CRC32C, and what a text makes of it, sixteen bytes at a time.
+ghost use Rattle.std.specs.Prelude.{◌≡◌, ℕ, ◌+◌, ◌<◌, ◌≤◌, List, ◌++◌, fold, bit_xor};
+ghost use Rattle.leveldb_base.specs.Crc.{crc_byte, crc_zeros, crc_register, crc_of, HasRead};
+
+use crate::crc::tables::TABLES;
+use std::marker::Model;
+
+/// The checksum of a text that is read in pieces. A clause sees it as its register.
+#[derive(Drop)]
+pub struct Digest {
+    register: u32,
+}
+
+impl Model for Digest {
+    ghost Value = { ℕ };
+
+    ghost view = { λ digest. digest.register };
+}
+
+impl Digest {
+    pub(crate) fn new() -> Digest
+        ensures { result ≡ 0xffffffff }
+    {
+        Digest {
+            register: 0xffff_ffff,
+        }
+    }
+
+    /// Reads the next piece. However a text is cut, its pieces leave what the whole leaves.
+    pub fn update(&mut self, data: &[u8])
+        ensures register { self.new ≡ crc_register self.old «data».now }
+        ensures text { (text : List ℕ) → HasRead self.old text → HasRead self.new (text ++ «data».now) }
+        ensures pieces { (a b : List ℕ) → «data».now ≡ a ++ b → self.new ≡ crc_register (crc_register self.old a) b }
+    {
+        self.register = after_text(self.register, data);
+    }
+
+    /// The checksum of the pieces, one behind another.
+    pub fn finalize(self) -> u32
+        ensures sum { result ≡ bit_xor self 0xffffffff }
+        ensures text { (text : List ℕ) → HasRead self text → result ≡ crc_of text }
+    {
+        self.register ^ 0xffff_ffff
+    }
+}
+
+fn after_text(register: u32, text: &[u8]) -> u32
+    ensures { result ≡ crc_register register text.now }
+{
+    let (blocks, rest) = text.as_chunks::<16>();
+    let (words, bytes) = rest.as_chunks::<4>();
+    after_bytes(after_words(after_blocks(register, blocks), words), bytes)
+}
+
+fn after_blocks(mut register: u32, blocks: &[[u8; 16]]) -> u32
+    ensures { result ≡ fold crc_register register blocks.now }
+{
+    for block in blocks {
+        register = after_block(register, block);
+    }
+    register
+}
+
+fn after_words(mut register: u32, words: &[[u8; 4]]) -> u32
+    ensures { result ≡ fold crc_register register words.now }
+{
+    for word in words {
+        register = after_word(register, *word);
+    }
+    register
+}
+
+fn after_bytes(mut register: u32, bytes: &[u8]) -> u32
+    ensures { result ≡ crc_register register bytes.now }
+{
+    for byte in bytes {
+        register = after_byte(register, *byte);
+    }
+    register
+}
+
+// Only the first word waits for the register, so it is taken last: the blocks then overlap in a
+// processor, at twice the speed.
+#[inline]
+fn after_block(register: u32, block: &[u8; 16]) -> u32
+    ensures { result ≡ crc_register register block.now }
+{
+    let (words, _) = block.as_chunks::<4>();
+    let others = word_then_zeros(words[1], 8)
+        ^ word_then_zeros(words[2], 4)
+        ^ word_then_zeros(words[3], 0);
+    others ^ word_then_zeros(mixed(register, words[0]), 12)
+}
+
+#[inline]
+fn after_word(register: u32, word: [u8; 4]) -> u32
+    ensures { result ≡ crc_register register word }
+{
+    word_then_zeros(mixed(register, word), 0)
+}
+
+#[inline]
+fn after_byte(register: u32, byte: u8) -> u32
+    ensures { result ≡ crc_byte register byte }
+{
+    byte_then_zeros(byte ^ (register & 0xff) as u8, 0) ^ (register >> 8)
+}
+
+// The word that makes of an empty register what this word makes of the register.
+#[inline]
+fn mixed(register: u32, word: [u8; 4]) -> [u8; 4]
+    ensures { crc_register 0 result ≡ crc_register register word }
+{
+    let [a, b, c, d] = register.to_le_bytes();
+    [word[0] ^ a, word[1] ^ b, word[2] ^ c, word[3] ^ d]
+}
+
+// The register after a word and so many zero bytes, where it was empty.
+#[inline]
+fn word_then_zeros(word: [u8; 4], zeros: usize) -> u32
+    requires { zeros ≤ 12 }
+    ensures { result ≡ crc_zeros zeros (crc_register 0 word) }
+{
+    let [a, b, c, d] = word;
+    (byte_then_zeros(a, zeros + 3) ^ byte_then_zeros(b, zeros + 2))
+        ^ (byte_then_zeros(c, zeros + 1) ^ byte_then_zeros(d, zeros))
+}
+
+// The register after a byte and so many zero bytes, where it was empty.
+#[inline]
+fn byte_then_zeros(byte: u8, zeros: usize) -> u32
+    requires { zeros < 16 }
+    ensures { result ≡ crc_zeros (zeros + 1) byte }
+{
+    TABLES[zeros][byte as usize]
+}
