@@ -8,7 +8,7 @@ use Rattle.std.proofs.lemmas.List.{take-append-drop, take_all}
 use Rattle.std.specs.Simd.{first_chunks}
 use Rattle.leveldb_base.specs.Crc.{crc_byte, crc_register, crc_zeros}
 use Rattle.leveldb_base.specs.CrcLaws.{crc_register-append}
-use Rattle.leveldb_base.proofs.CrcZeros.{crc_zeros-none, crc_zeros-xor, crc_zeros-add, crc_zeros-empty, crc_register-from, crc_zeros-register, crc_byte-parts, crc_byte-empty}
+use Rattle.leveldb_base.proofs.CrcZeros.{crc_zeros-none, crc_zeros-xor, crc_zeros-add, crc_zeros-empty, crc_register-apart, crc_zeros-register, crc_byte-parts, crc_byte-empty}
 
 -- a list of four by its elements
 pub four_elements : (word : List ℕ) → length word ≡ 4 → get_or word 0 0 ∷ get_or word 1 0 ∷ get_or word 2 0 ∷ get_or word 3 0 ∷ [] ≡ word
@@ -62,6 +62,14 @@ crc_register-chunks size register text chunks rest front back =
     ∙ sym (crc_register-append register (take (count * size) text) (drop (count * size) text))
     ∙ ap (crc_register register) (take-append-drop (count * size) text)
 
+-- a sum of two registers, and a word behind it
+crc_register-xor : (a b : ℕ) (word : List ℕ) → length word ≡ 4
+    → crc_register (bit_xor a b) word ≡ bit_xor (bit_xor (crc_zeros 4 a) (crc_zeros 4 b)) (crc_register 0 word)
+crc_register-xor a b word long =
+    let read : crc_zeros (length word) (bit_xor a b) ≡ bit_xor (crc_zeros 4 a) (crc_zeros 4 b) =
+    ap (λ n. crc_zeros n (bit_xor a b)) long ∙ crc_zeros-xor 4 a b
+    in crc_register-apart (bit_xor a b) word ∙ ap (λ r. bit_xor r (crc_register 0 word)) read
+
 -- the parts of a register and of three words behind it
 words_apart : (register : ℕ) (first second third : List ℕ) → length first ≡ 4 → length second ≡ 4 → length third ≡ 4
     → bit_xor (bit_xor (bit_xor (crc_zeros 8 (crc_register 0 first)) (crc_zeros 4 (crc_register 0 second))) (crc_zeros 0 (crc_register 0 third))) (crc_zeros 12 register)
@@ -70,18 +78,16 @@ words_apart register first second third e f g =
     let x = crc_register 0 first
     in let y = crc_register 0 second
     in let z = crc_register 0 third
-    in let one : crc_register register first ≡ bit_xor (crc_zeros 4 register) x = crc_register-from register first ∙ ap (λ n. bit_xor (crc_zeros n register) x) e
+    in let one : crc_register register first ≡ bit_xor (crc_zeros 4 register) x =
+    crc_register-apart register first ∙ ap (λ n. bit_xor (crc_zeros n register) x) e
     in let two : crc_register (crc_register register first) second ≡ bit_xor (bit_xor (crc_zeros 8 register) (crc_zeros 4 x)) y =
-    crc_register-from (crc_register register first) second
-    ∙ ap₂ (λ n r. bit_xor (crc_zeros n r) y) f one
-    ∙ ap (λ r. bit_xor r y) (crc_zeros-xor 4 (crc_zeros 4 register) x ∙ ap (λ r. bit_xor r (crc_zeros 4 x)) (sym (crc_zeros-add 4 4 register)))
+    ap (λ r. crc_register r second) one ∙ crc_register-xor (crc_zeros 4 register) x second f
+    ∙ ap (λ r. bit_xor (bit_xor r (crc_zeros 4 x)) y) (sym (crc_zeros-add 4 4 register))
     in let three : crc_register (crc_register (crc_register register first) second) third
     ≡ bit_xor (bit_xor (bit_xor (crc_zeros 12 register) (crc_zeros 8 x)) (crc_zeros 4 y)) z =
-    crc_register-from (crc_register (crc_register register first) second) third
-    ∙ ap₂ (λ n r. bit_xor (crc_zeros n r) z) g two
-    ∙ ap (λ r. bit_xor r z) (crc_zeros-xor 4 (bit_xor (crc_zeros 8 register) (crc_zeros 4 x)) y
-    ∙ ap (λ r. bit_xor r (crc_zeros 4 y)) (crc_zeros-xor 4 (crc_zeros 8 register) (crc_zeros 4 x)
-    ∙ ap₂ bit_xor (sym (crc_zeros-add 8 4 register)) (sym (crc_zeros-add 4 4 x))))
+    ap (λ r. crc_register r third) two ∙ crc_register-xor (bit_xor (crc_zeros 8 register) (crc_zeros 4 x)) y third g
+    ∙ ap (λ r. bit_xor (bit_xor r (crc_zeros 4 y)) z)
+    (crc_zeros-xor 4 (crc_zeros 8 register) (crc_zeros 4 x) ∙ ap₂ bit_xor (sym (crc_zeros-add 8 4 register)) (sym (crc_zeros-add 4 4 x)))
     in let a = crc_zeros 12 register
     in let b = crc_zeros 8 x
     in let c = crc_zeros 4 y

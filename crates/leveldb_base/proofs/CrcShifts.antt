@@ -10,7 +10,7 @@ crc_shifts-add zero n register = ap (λ k. crc_shifts k register) (zero-add n)
 crc_shifts-add (suc m) n register = ap (λ k. crc_shifts k register) (suc-add m n) ∙ crc_shifts-add m n (crc_shift register)
 
 -- the middle two change places
-pub xor_swap : (a b c d : ℕ) → bit_xor (bit_xor a b) (bit_xor c d) ≡ bit_xor (bit_xor a c) (bit_xor b d)
+xor_swap : (a b c d : ℕ) → bit_xor (bit_xor a b) (bit_xor c d) ≡ bit_xor (bit_xor a c) (bit_xor b d)
 xor_swap a b c d =
     xor_assoc a b (bit_xor c d) ∙ ap (bit_xor a) (sym (xor_assoc b c d) ∙ ap (λ bc. bit_xor bc d) (xor_comm b c) ∙ xor_assoc c b d)
     ∙ sym (xor_assoc a c (bit_xor b d))

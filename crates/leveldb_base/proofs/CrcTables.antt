@@ -27,9 +27,9 @@ get_or-tables_from (suc count) table (suc k) i k_in i_in =
 
 pub get_or-TABLES : (count byte : ℕ) → count < 16 → byte < 256 → get_or (get_or TABLES count []) byte 0 ≡ crc_zeros (count + 1) byte
 unfolding crc_zeros
-get_or-TABLES count byte zeros_in byte_in =
+get_or-TABLES count byte count_in byte_in =
     ap (λ tables. get_or (get_or tables count []) byte 0) TABLES-computed
-    ∙ get_or-tables_from 16 (map (crc_shifts 8) (range_with_len 0 256)) count byte zeros_in (rw (length-map, length-range_with_len) byte_in)
+    ∙ get_or-tables_from 16 (map (crc_shifts 8) (range_with_len 0 256)) count byte count_in (rw (length-map, length-range_with_len) byte_in)
     ∙ ap (crc_shifts (8 * count)) (get_or-map (crc_shifts 8) (range_with_len 0 256) byte 0 0 (rw length-range_with_len byte_in))
     ∙ sym (crc_shifts-add 8 (8 * count) (get_or (range_with_len 0 256) byte 0))
     ∙ (let entry : get_or (range_with_len 0 256) byte 0 ≡ byte = get_or-range_with_len 0 256 byte 0 byte_in ∙ zero-add byte

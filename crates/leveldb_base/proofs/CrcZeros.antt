@@ -60,18 +60,18 @@ crc_byte-parts register other byte =
     ∙ sym (crc_byte-zeros (bit_xor register other) byte)
 
 -- a register's part in what a text leaves, and the text's part
-pub crc_register-from : (register : ℕ) (text : List ℕ) → crc_register register text ≡ bit_xor (crc_zeros (length text) register) (crc_register 0 text)
+pub crc_register-apart : (register : ℕ) (text : List ℕ) → crc_register register text ≡ bit_xor (crc_zeros (length text) register) (crc_register 0 text)
 unfolding crc_register
-crc_register-from register [] = sym (xor_zero_r (crc_zeros 0 register) ∙ crc_zeros-none register)
-crc_register-from register (byte ∷ text) =
+crc_register-apart register [] = sym (xor_zero_r (crc_zeros 0 register) ∙ crc_zeros-none register)
+crc_register-apart register (byte ∷ text) =
     let count = length text
     in let first : crc_zeros count (crc_byte register byte) ≡ bit_xor (crc_zeros (suc count) register) (crc_zeros count (crc_byte 0 byte)) =
     ap (crc_zeros count) (crc_byte-zeros register byte ∙ crc_zeros-xor 1 register byte)
     ∙ crc_zeros-xor count (crc_zeros 1 register) (crc_zeros 1 byte)
     ∙ ap₂ bit_xor (sym (crc_zeros-add 1 count register) ∙ ap (λ n. crc_zeros n register) (one-add count)) (ap (crc_zeros count) (sym (crc_byte-zeros 0 byte)))
-    in crc_register-from (crc_byte register byte) text ∙ ap (λ r. bit_xor r (crc_register 0 text)) first
+    in crc_register-apart (crc_byte register byte) text ∙ ap (λ r. bit_xor r (crc_register 0 text)) first
     ∙ xor_assoc (crc_zeros (suc count) register) (crc_zeros count (crc_byte 0 byte)) (crc_register 0 text)
-    ∙ ap (bit_xor (crc_zeros (suc count) register)) (sym (crc_register-from (crc_byte 0 byte) text))
+    ∙ ap (bit_xor (crc_zeros (suc count) register)) (sym (crc_register-apart (crc_byte 0 byte) text))
 
 -- the first byte's part, and that of the others
 pub crc_zeros-register : (behind : ℕ) (byte : ℕ) (text : List ℕ)
@@ -82,6 +82,6 @@ crc_zeros-register behind byte text =
     in let first : crc_zeros behind (crc_zeros count (crc_byte 0 byte)) ≡ crc_zeros (behind + count + 1) byte =
     ap (λ r. crc_zeros behind (crc_zeros count r)) (crc_byte-zeros 0 byte) ∙ ap (crc_zeros behind) (sym (crc_zeros-add 1 count byte))
     ∙ sym (crc_zeros-add (1 + count) behind byte) ∙ (let sum : 1 + count + behind ≡ behind + count + 1 = omega arith in ap (λ n. crc_zeros n byte) sum)
-    in ap (crc_zeros behind) (crc_register-from (crc_byte 0 byte) text)
+    in ap (crc_zeros behind) (crc_register-apart (crc_byte 0 byte) text)
     ∙ crc_zeros-xor behind (crc_zeros count (crc_byte 0 byte)) (crc_register 0 text)
     ∙ ap (λ r. bit_xor r (crc_zeros behind (crc_register 0 text))) first

@@ -13,7 +13,8 @@ const MASK_DELTA: u32 = 0xa282_ead8;
 /// The checksum of `data`.
 pub fn crc32(data: &[u8]) -> u32
     ensures sum { result ≡ crc_of «data».now }
-    ensures pieces { (a b : List ℕ) → «data».now ≡ a ++ b → result ≡ bit_xor (crc_register (crc_register 0xffffffff a) b) 0xffffffff }
+    ensures pieces { (a b : List ℕ) → «data».now ≡ a ++ b
+        → result ≡ bit_xor (crc_register (crc_register 0xffffffff a) b) 0xffffffff }
 {
     let mut digest = digest();
     digest.update(data);
@@ -36,7 +37,7 @@ pub fn mask_crc(sum: u32) -> u32
     sum.rotate_right(15).wrapping_add(MASK_DELTA)
 }
 
-/// The checksum that a file keeps.
+/// The checksum that `mask_crc` made `kept` of.
 pub fn unmask_crc(kept: u32) -> u32
     ensures sum { result ≡ unmasked kept }
     ensures undone { masked result ≡ kept }
@@ -77,7 +78,7 @@ mod tests {
         text
     }
 
-    // Known sums: RFC 3720 has the first two, and the third is the check value of catalogues.
+    // The first two are iSCSI's examples, and the third is what catalogues of checksums give.
     #[test]
     fn known_sums(rt: HostRuntime) {
         assert_eq!(rt; crc32(&[0; 32]), 0x8a91_36aa);

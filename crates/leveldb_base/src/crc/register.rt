@@ -30,7 +30,8 @@ impl Digest {
     pub fn update(&mut self, data: &[u8])
         ensures register { self.new ≡ crc_register self.old «data».now }
         ensures text { (text : List ℕ) → HasRead self.old text → HasRead self.new (text ++ «data».now) }
-        ensures pieces { (a b : List ℕ) → «data».now ≡ a ++ b → self.new ≡ crc_register (crc_register self.old a) b }
+        ensures pieces { (a b : List ℕ) → «data».now ≡ a ++ b
+            → self.new ≡ crc_register (crc_register self.old a) b }
     {
         self.register = after_text(self.register, data);
     }
