@@ -1,0 +1,172 @@
+-- The record log: records cut into fragments, which lie in blocks of one size.
+use Rattle.std.specs.Prelude.{◌≡◌, ◌≢◌, ℕ, zero, suc, ◌+◌, ◌-◌, ◌%◌, ◌≤◌, Bool, true, false, if◌then◌else◌, nat_lt, nat_le, List, [], ◌∷◌, ◌++◌, length, take, drop, replicate}
+use Rattle.std.specs.List.{concat}
+use Rattle.leveldb_base.specs.Crc.{crc_of, masked}
+use Rattle.leveldb_base.specs.Varint.{little}
+
+-- ---- blocks and fragments
+
+-- the size of a block where no other is given
+abbrev pub block_size : ℕ
+block_size = 32768
+
+-- a fragment's header: its checksum (4), its length (2) and its type (1)
+abbrev pub header_size : ℕ
+header_size = 7
+
+-- what stands before a fragment at this place of a block: nothing, or zeros to the block's end where no header fits
+abbrev pub filler : ℕ → ℕ → List ℕ
+filler size place = elim (nat_lt (size - place) header_size) [ true ↦ replicate (size - place) 0 | false ↦ [] ]
+
+-- the most data that the next fragment can have
+abbrev pub room : ℕ → ℕ → ℕ
+room size place = (if nat_lt (size - place) header_size then size else size - place) - header_size
+
+-- the place in its block behind some bytes
+abbrev pub behind : ℕ → ℕ → List ℕ → ℕ
+behind size place bytes = (place + length bytes) % size
+
+-- a fragment: its type and its data, which is a part of a record
+pub record Fragment : Type 0 where
+  pub type : ℕ
+  pub part : List ℕ
+
+-- the four bytes that guard a fragment: the masked checksum of its type and its data
+unfoldable pub checksum : Fragment → List ℕ
+checksum fragment = little 4 (masked (crc_of (fragment.type ∷ fragment.part)))
+
+-- four bytes that are taken as a fragment's checksum: the right ones, or any where checksums aren't asked for
+abbrev pub IsChecksum : Bool → Fragment → List ℕ → Type 0
+IsChecksum true fragment sum = sum ≡ checksum fragment
+IsChecksum false fragment sum = length sum ≡ 4
+
+-- a fragment's bytes behind this checksum
+unfoldable pub fragment_bytes : List ℕ → Fragment → List ℕ
+fragment_bytes sum fragment = sum ++ (little 2 (length fragment.part) ++ fragment.type ∷ fragment.part)
+
+-- from this place on the bytes are filler and the fragment, which lies within its block
+pub record IsFragment (checked : Bool) (size : ℕ) (fragment : Fragment) (place : ℕ) (bytes : List ℕ) : Type 0 where
+  pub sum : List ℕ
+  pub within : length fragment.part ≤ room size place
+  pub summed : IsChecksum checked fragment sum
+  pub bytes_are : bytes ≡ filler size place ++ fragment_bytes sum fragment
+
+-- from this place on the bytes are a front, and behind it a rest
+pub record Then (size : ℕ) (IsFront IsRest : ℕ → List ℕ → Type 0) (place : ℕ) (bytes : List ℕ) : Type 0 where
+  pub front : List ℕ
+  pub rest : List ℕ
+  pub bytes_are : bytes ≡ front ++ rest
+  pub is_front : IsFront place front
+  pub is_rest : IsRest (behind size place front) rest
+
+-- from this place on the bytes are these fragments
+abbrev pub AreFragments : Bool → ℕ → List Fragment → ℕ → List ℕ → Type 0
+AreFragments checked size [] place bytes = bytes ≡ []
+AreFragments checked size (fragment ∷ fragments) place bytes = Then size (IsFragment checked size fragment) (AreFragments checked size fragments) place bytes
+
+-- ---- records
+
+-- a fragment's type, by whether its part is the record's first and whether it is the last: Full, First, Middle, Last
+abbrev pub record_type : Bool → Bool → ℕ
+record_type true true = 1
+record_type true false = 2
+record_type false false = 3
+record_type false true = 4
+
+-- the fragments of a part and of those after it, the record's last among them
+abbrev pub fragments_of : Bool → List ℕ → List (List ℕ) → List Fragment
+fragments_of first part [] = record { type = record_type first true; part = part } ∷ []
+fragments_of first part (next ∷ parts) = record { type = record_type first false; part = part } ∷ fragments_of false next parts
+
+-- from this place on the bytes are one whole record that isn't empty, however it is cut into parts
+pub record IsRecord (checked : Bool) (size : ℕ) (text : List ℕ) (place : ℕ) (bytes : List ℕ) : Type 0 where
+  pub part : List ℕ
+  pub parts : List (List ℕ)
+  pub text_is : part ++ concat parts ≡ text
+  pub some : text ≢ []
+  pub laid : AreFragments checked size (fragments_of true part parts) place bytes
+
+-- how a log ends: between two records, or in bytes that are no record
+pub data End : Type 0 where
+  clean : End
+  bad : End
+
+-- nothing is left, or a rest of which no front is a whole record
+abbrev pub Ends : Bool → ℕ → End → ℕ → List ℕ → Type 0
+Ends checked size clean place rest = rest ≡ []
+Ends checked size bad place rest = (rest ≢ []) × ((text front more : List ℕ) → rest ≡ front ++ more → IsRecord checked size text place front → ⊥)
+
+-- from this place on the bytes are these records, and then this end
+abbrev pub LogOf : Bool → ℕ → List (List ℕ) → End → ℕ → List ℕ → Type 0
+LogOf checked size [] end place bytes = Ends checked size end place bytes
+LogOf checked size (text ∷ texts) end place bytes = Then size (IsRecord checked size text) (LogOf checked size texts end) place bytes
+
+-- a whole file of a log: its blocks have the usual size, and checksums are asked for
+abbrev pub IsLogFile : List ℕ → List (List ℕ) → End → Type 0
+IsLogFile bytes records end = LogOf true block_size records end 0 bytes
+
+-- ---- what is written
+
+-- each part but the last fills its block, and the last has a byte
+abbrev pub FillBlocks : ℕ → List ℕ → List (List ℕ) → ℕ → Type 0
+FillBlocks size part [] place = part ≢ []
+FillBlocks size part (next ∷ parts) place = (length part ≡ room size place) × FillBlocks size next parts 0
+
+-- from this place on the bytes are the one framing of a record
+pub record IsFramedRecord (size : ℕ) (text : List ℕ) (place : ℕ) (bytes : List ℕ) : Type 0 where
+  pub part : List ℕ
+  pub parts : List (List ℕ)
+  pub text_is : part ++ concat parts ≡ text
+  pub full : FillBlocks size part parts place
+  pub laid : AreFragments true size (fragments_of true part parts) place bytes
+
+-- from this place on the bytes are the one framing of these records
+abbrev pub IsFramed : ℕ → List (List ℕ) → ℕ → List ℕ → Type 0
+IsFramed size [] place bytes = bytes ≡ []
+IsFramed size (text ∷ texts) place bytes = Then size (IsFramedRecord size text) (IsFramed size texts) place bytes
+
+-- a fragment with its filler and its checksum
+unfoldable pub fragment_at : ℕ → Fragment → ℕ → List ℕ
+fragment_at size fragment place = filler size place ++ fragment_bytes (checksum fragment) fragment
+
+-- the framing of what is left of a record, in so many fragments at most
+abbrev pub framed_within : ℕ → ℕ → Bool → List ℕ → ℕ → List ℕ
+framed_within zero size first text place = []
+framed_within (suc fragments) size first text place =
+    elim (nat_le (length text) (room size place)) [
+      | true ↦ fragment_at size (record { type = record_type first true; part = text }) place
+      | false ↦ fragment_at size (record { type = record_type first false; part = take (room size place) text }) place
+          ++ framed_within fragments size false (drop (room size place) text) 0
+    ]
+
+-- the framing of a record as a function; an empty record has none
+unfoldable pub framed_record : ℕ → List ℕ → ℕ → List ℕ
+framed_record size [] place = []
+framed_record size (byte ∷ text) place = framed_within (suc (suc (length text))) size true (byte ∷ text) place
+
+-- the framing of these records as a function
+abbrev pub framed : ℕ → List (List ℕ) → ℕ → List ℕ
+framed size [] place = []
+framed size (text ∷ texts) place = framed_record size text place ++ framed size texts (behind size place (framed_record size text place))
+
+-- what a record adds at this offset of a log's file
+abbrev pub frame_at : ℕ → List ℕ → List ℕ
+frame_at offset text = framed_record block_size text (offset % block_size)
+
+-- ---- a wrong checksum
+
+-- from this place on the bytes are filler and the fragment within its block, behind four bytes that aren't its checksum
+pub record IsDamaged (size : ℕ) (fragment : Fragment) (place : ℕ) (bytes : List ℕ) : Type 0 where
+  pub unchecked : IsFragment false size fragment place bytes
+  pub wrong : unchecked.sum ≢ checksum fragment
+
+-- the fragments of a record's parts, none of them its last
+abbrev pub begun_of : Bool → List (List ℕ) → List Fragment
+begun_of first [] = []
+begun_of first (part ∷ parts) = record { type = record_type first false; part = part } ∷ begun_of false parts
+
+-- from this place on the bytes are fragments of a record that is begun, if any, and then one of any type with a wrong checksum
+pub record BreaksOff (size place : ℕ) (bytes : List ℕ) : Type 0 where
+  pub parts : List (List ℕ)
+  pub fragment : Fragment
+  pub laid : Then size (AreFragments true size (begun_of true parts)) (IsDamaged size fragment) place bytes

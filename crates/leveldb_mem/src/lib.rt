@@ -1,0 +1,2 @@
+//! The record log and what lies in memory beside it.
+#![tactic(auto)]
