@@ -78,13 +78,17 @@ abbrev pub fragments_of : Bool → List ℕ → List (List ℕ) → List Fragmen
 fragments_of first part [] = record { type = record_type first true; part = part } ∷ []
 fragments_of first part (next ∷ parts) = record { type = record_type first false; part = part } ∷ fragments_of false next parts
 
--- from this place on the bytes are one whole record that isn't empty, however it is cut into parts
-pub record IsRecord (checked : Bool) (size : ℕ) (text : List ℕ) (place : ℕ) (bytes : List ℕ) : Type 0 where
+-- from this place on the bytes are what is left of a record, from its first part on or from a later one
+pub record IsRemainder (checked : Bool) (size : ℕ) (first : Bool) (text : List ℕ) (place : ℕ) (bytes : List ℕ) : Type 0 where
   pub part : List ℕ
   pub parts : List (List ℕ)
   pub text_is : part ++ concat parts ≡ text
+  pub laid : AreFragments checked size (fragments_of first part parts) place bytes
+
+-- from this place on the bytes are one whole record that isn't empty, however it is cut into parts
+pub record IsRecord (checked : Bool) (size : ℕ) (text : List ℕ) (place : ℕ) (bytes : List ℕ) : Type 0 where
   pub some : text ≢ []
-  pub laid : AreFragments checked size (fragments_of true part parts) place bytes
+  pub whole : IsRemainder checked size true text place bytes
 
 -- how a log ends: between two records, or in bytes that are no record
 pub data End : Type 0 where
@@ -112,13 +116,14 @@ abbrev pub FillBlocks : ℕ → List ℕ → List (List ℕ) → ℕ → Type 0
 FillBlocks size part [] place = part ≢ []
 FillBlocks size part (next ∷ parts) place = (length part ≡ room size place) × FillBlocks size next parts 0
 
+-- from this place on the bytes are the one framing of what is left of a record
+pub record IsFramedRemainder (size : ℕ) (first : Bool) (text : List ℕ) (place : ℕ) (bytes : List ℕ) : Type 0 where
+  pub whole : IsRemainder true size first text place bytes
+  pub full : FillBlocks size whole.part whole.parts place
+
 -- from this place on the bytes are the one framing of a record
-pub record IsFramedRecord (size : ℕ) (text : List ℕ) (place : ℕ) (bytes : List ℕ) : Type 0 where
-  pub part : List ℕ
-  pub parts : List (List ℕ)
-  pub text_is : part ++ concat parts ≡ text
-  pub full : FillBlocks size part parts place
-  pub laid : AreFragments true size (fragments_of true part parts) place bytes
+abbrev pub IsFramedRecord : ℕ → List ℕ → ℕ → List ℕ → Type 0
+IsFramedRecord size text place bytes = IsFramedRemainder size true text place bytes
 
 -- from this place on the bytes are the one framing of these records
 abbrev pub IsFramed : ℕ → List (List ℕ) → ℕ → List ℕ → Type 0
@@ -165,8 +170,9 @@ abbrev pub begun_of : Bool → List (List ℕ) → List Fragment
 begun_of first [] = []
 begun_of first (part ∷ parts) = record { type = record_type first false; part = part } ∷ begun_of false parts
 
--- from this place on the bytes are fragments of a record that is begun, if any, and then one of any type with a wrong checksum
-pub record BreaksOff (size place : ℕ) (bytes : List ℕ) : Type 0 where
+-- from this place on the bytes are parts of a record, from its first on or from a later one, none of them its last,
+-- and then a fragment of any type with a wrong checksum
+pub record BreaksOff (size : ℕ) (first : Bool) (place : ℕ) (bytes : List ℕ) : Type 0 where
   pub parts : List (List ℕ)
   pub fragment : Fragment
-  pub laid : Then size (AreFragments true size (begun_of true parts)) (IsDamaged size fragment) place bytes
+  pub laid : Then size (AreFragments true size (begun_of first parts)) (IsDamaged size fragment) place bytes
