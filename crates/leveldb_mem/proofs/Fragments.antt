@@ -1,5 +1,5 @@
 -- One fragment begins no other.
-use Rattle.std.proofs.Common.{◌≡◌, ℕ, ◌+◌, ◌-◌, ◌/◌, ◌%◌, ◌<◌, ◌≤◌, Bool, true, false, if◌then◌else◌, nat_lt, List, ◌∷◌, ◌++◌, length, refl, sym, ◌∙◌, ap, arith, append_assoc, length-append}
+use Rattle.std.proofs.Common.{◌≡◌, ℕ, ◌+◌, ◌-◌, ◌*◌, ◌/◌, ◌%◌, ◌<◌, ◌≤◌, Bool, true, false, if◌then◌else◌, nat_lt, List, ◌∷◌, ◌++◌, length, refl, sym, ◌∙◌, ap, arith, append_assoc, length-append}
 use Rattle.std.proofs.lemmas.List.{append_cancel_left}
 use Rattle.leveldb_base.specs.Varint.{little}
 use Rattle.leveldb_mem.specs.Log.{filler, room, Fragment, checksum, IsChecksum, fragment_bytes, IsFragment}
@@ -42,7 +42,7 @@ same_bytes these those x y f g four_f four_g small_f small_g e =
     (header.0, ap (λ type. fragment_of type f.part) types ∙ ap (fragment_of g.type) parts.0, parts.1)
 
 -- a fragment with the right checksum is one where checksums aren't asked for
-pub unchecked : (checked : Bool) (size : ℕ) (fragment : Fragment) (place : ℕ) (bytes : List ℕ) → IsFragment checked size fragment place bytes → IsFragment false size fragment place bytes
+abbrev pub unchecked : (checked : Bool) (size : ℕ) (fragment : Fragment) (place : ℕ) (bytes : List ℕ) → IsFragment checked size fragment place bytes → IsFragment false size fragment place bytes
 unchecked checked size fragment place bytes is = record { sum = is.sum; within = is.within; summed = length-sum checked fragment is.sum is.summed; bytes_are = is.bytes_are }
 
 -- how long a fragment is
@@ -52,7 +52,7 @@ length-fragment checked size f place a is =
     ap length is.bytes_are ∙ length-append (filler size place) (fragment_bytes is.sum f) ∙ ap (λ n. length (filler size place) + n) header
 
 module _ (checked : Bool) (size : ℕ) (fits : size ≤ 32768) where
-  short : (place : ℕ) (part : List ℕ) → length part ≤ room size place → length part < 65536
+  pub short : (place : ℕ) (part : List ℕ) → length part ≤ room size place → length part < 65536
   short place part h =
       elim (nat_lt (size - place) 7) as (λ t. length part ≤ (if t then size else size - place) - 7 → length part < 65536) [
         | true ↦ λ k. omega arith
@@ -82,3 +82,18 @@ module _ (checked : Bool) (size : ℕ) (fits : size ≤ 32768) where
 -- a fragment with the right checksum is determined by its type and its data
 pub same_fragment : (size : ℕ) (f : Fragment) (place : ℕ) (a b : List ℕ) → IsFragment true size f place a → IsFragment true size f place b → a ≡ b
 same_fragment size f place a b is_a is_b = is_a.bytes_are ∙ ap (λ z. filler size place ++ fragment_bytes z f) (is_a.summed ∙ sym is_b.summed) ∙ sym is_b.bytes_are
+
+-- What the seven bytes behind the filler tell of a fragment that stands there: its checksum, its length and its type; its data follows.
+pub header_tells : (checked : Bool) (size : ℕ) → size ≤ 32768 → (f : Fragment) (place : ℕ) (front more : List ℕ) (is : IsFragment checked size f place front) (sum rest : List ℕ) (low high type : ℕ)
+    → length sum ≡ 4 → front ++ more ≡ filler size place ++ (sum ++ low ∷ high ∷ type ∷ rest) → (is.sum ≡ sum) × (length f.part ≡ low + 256 * high) × (f.type ≡ type) × (f.part ++ more ≡ rest)
+unfolding fragment_bytes
+header_tells checked size fits f place front more is sum rest low high type four e =
+    let before = filler size place in
+    let header = little 2 (length f.part) ++ f.type ∷ f.part in
+    let whole : (before ++ (is.sum ++ header)) ++ more ≡ before ++ (sum ++ low ∷ high ∷ type ∷ rest) = ap (λ z. z ++ more) (sym is.bytes_are) ∙ e in
+    let behind_filler = append_cancel_left before ((is.sum ++ header) ++ more) (sum ++ low ∷ high ∷ type ∷ rest) (sym (append_assoc before (is.sum ++ header) more) ∙ whole) in
+    let parts = same_fronts is.sum sum (header ++ more) (low ∷ high ∷ type ∷ rest) (length-sum checked f is.sum is.summed ∙ sym four) (sym (append_assoc is.sum header more) ∙ behind_filler) in
+    let low_is : length f.part % 256 ≡ low = same_head parts.1 in
+    let high_is : length f.part / 256 % 256 ≡ high = same_head (same_tail parts.1) in
+    let few = short checked size fits place f.part is.within in
+    (parts.0, omega arith, same_head (same_tail (same_tail parts.1)), same_tail (same_tail (same_tail parts.1)))

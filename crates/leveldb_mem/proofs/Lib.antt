@@ -4,3 +4,7 @@ pub mod Records
 pub mod Logs
 pub mod Framing
 pub mod Framed
+pub mod Remainders
+pub mod Readings
+pub mod Breaks
+pub mod Crashes

@@ -1,7 +1,7 @@
 -- One record begins no other.
 use Rattle.std.proofs.Common.{◌≡◌, ◌≢◌, ℕ, ◌≤◌, Bool, true, false, List, [], ◌∷◌, ◌++◌, length, sym, ◌∙◌, ap, subst, arith, length-append}
 use Rattle.std.specs.List.{concat}
-use Rattle.leveldb_mem.specs.Log.{behind, Fragment, IsFragment, Then, AreFragments, record_type, fragments_of, IsRecord}
+use Rattle.leveldb_mem.specs.Log.{behind, Fragment, IsFragment, Then, AreFragments, record_type, fragments_of, IsRemainder, IsRecord}
 use Rattle.leveldb_mem.proofs.Texts.{in_front}
 use Rattle.leveldb_mem.proofs.Fragments.{one_fragment, length-fragment}
 
@@ -33,13 +33,18 @@ module _ (checked : Bool) (size : ℕ) (fits : size ≤ 32768) where
       let parts : p ∷ (p' ∷ ps) ≡ q ∷ (q' ∷ qs) = ap (λ fragment. fragment.part ∷ (p' ∷ ps)) same.0 ∙ ap (λ z. q ∷ z) rest.0 in
       (parts, f.bytes_are ∙ ap (λ z. z ++ f.rest) same.1 ∙ ap (λ z. g.front ++ z) rest.1 ∙ sym g.bytes_are, rest.2)
 
+  -- what is left of a record begins nothing else that is
+  pub one_remainder : (place : ℕ) (first : Bool) (r s a b x y : List ℕ) → IsRemainder checked size first r place a → IsRemainder checked size first s place b
+      → a ++ x ≡ b ++ y → (r ≡ s) × (a ≡ b) × (x ≡ y)
+  one_remainder place first r s a b x y f g e =
+      let same = one_cutting place first f.part f.parts g.part g.parts a b x y f.laid g.laid e in
+      let texts : concat (f.part ∷ f.parts) ≡ concat (g.part ∷ g.parts) = ap concat same.0 in
+      (sym f.text_is ∙ texts ∙ g.text_is, same.1, same.2)
+
   -- one record begins no other
   pub one_record : (place : ℕ) (r s a b x y : List ℕ) → IsRecord checked size r place a → IsRecord checked size s place b
       → a ++ x ≡ b ++ y → (r ≡ s) × (a ≡ b) × (x ≡ y)
-  one_record place r s a b x y f g e =
-      let same = one_cutting place true f.whole.part f.whole.parts g.whole.part g.whole.parts a b x y f.whole.laid g.whole.laid e in
-      let texts : concat (f.whole.part ∷ f.whole.parts) ≡ concat (g.whole.part ∷ g.whole.parts) = ap concat same.0 in
-      (sym f.whole.text_is ∙ texts ∙ g.whole.text_is, same.1, same.2)
+  one_record place r s a b x y f g e = one_remainder place true r s a b x y f.whole g.whole e
 
 -- a record has at least a header
 pub length-record : (checked : Bool) (size place : ℕ) (r a : List ℕ) → IsRecord checked size r place a → 7 ≤ length a
