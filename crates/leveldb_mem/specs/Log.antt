@@ -10,6 +10,11 @@ use Rattle.leveldb_base.specs.Varint.{little}
 abbrev pub block_size : ℕ
 block_size = 32768
 
+-- the sizes of blocks that a reader or a writer takes
+pub record IsBlockSize (size : ℕ) : Type 0 where
+  pub least : 8 ≤ size
+  pub most : size ≤ 32768
+
 -- a fragment's header: its checksum (4), its length (2) and its type (1)
 abbrev pub header_size : ℕ
 header_size = 7

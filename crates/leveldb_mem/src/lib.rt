@@ -1,2 +1,4 @@
 //! The record log and what lies in memory beside it.
 #![tactic(auto)]
+
+pub mod log_laws;

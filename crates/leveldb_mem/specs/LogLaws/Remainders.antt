@@ -4,9 +4,9 @@ use Rattle.std.specs.List.{concat}
 use Rattle.std.proofs.lemmas.List.{append_cancel_left, drop_at}
 use Rattle.leveldb_base.specs.Varint.{little}
 use Rattle.leveldb_mem.specs.Log.{filler, room, behind, Fragment, fragment_bytes, IsFragment, Then, AreFragments, record_type, fragments_of, IsRemainder, IsRecord}
-use Rattle.leveldb_mem.proofs.Texts.{same_head, same_tail, same_fronts, in_front}
-use Rattle.leveldb_mem.proofs.Fragments.{fragment_of, length-sum, length-fragment, one_fragment, short}
-use Rattle.leveldb_mem.proofs.Records.{one_remainder}
+use Rattle.leveldb_mem.specs.LogLaws.Texts.{in_front}
+use Rattle.leveldb_mem.specs.LogLaws.Fragments.{fragment_of, length-sum, length-fragment, one_fragment, short}
+use Rattle.leveldb_mem.specs.LogLaws.Records.{one_remainder}
 
 -- no front of the bytes is a fragment, is what is left of a record, is a record
 abbrev pub NoFragment : Bool → ℕ → ℕ → List ℕ → Type 0

@@ -1,8 +1,8 @@
 -- Two readings of one log are one, and a log cut anywhere reads as a beginning of its records.
 use Rattle.std.proofs.Common.{◌≡◌, ℕ, zero, suc, ◌≤◌, Bool, List, [], ◌∷◌, ◌++◌, length, take, refl, sym, ◌∙◌, ap, subst, arith, append_assoc, length-append, append-nil}
 use Rattle.leveldb_mem.specs.Log.{behind, Then, IsRecord, End, clean, bad, Ends, LogOf}
-use Rattle.leveldb_mem.proofs.Texts.{in_front}
-use Rattle.leveldb_mem.proofs.Records.{one_record, length-record}
+use Rattle.leveldb_mem.specs.LogLaws.Texts.{in_front}
+use Rattle.leveldb_mem.specs.LogLaws.Records.{one_record, length-record}
 
 module _ (checked : Bool) (size : ℕ) (fits : size ≤ 32768) where
   none_in_nothing : (place : ℕ) (text front rest : List ℕ) → IsRecord checked size text place front → [] ≡ front ++ rest → ⊥

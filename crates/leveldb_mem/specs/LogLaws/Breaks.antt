@@ -2,11 +2,11 @@
 use Rattle.std.proofs.Common.{◌≡◌, ◌≢◌, ℕ, ◌+◌, ◌<◌, ◌≤◌, Bool, true, false, List, [], ◌∷◌, ◌++◌, length, refl, sym, ◌∙◌, ap, subst, arith, append_assoc, length-append}
 use Rattle.std.proofs.Math.Nat.{mod-lt}
 use Rattle.leveldb_mem.specs.Log.{behind, Fragment, checksum, IsFragment, Then, AreFragments, record_type, bad, Ends, IsDamaged, begun_of, BreaksOff}
-use Rattle.leveldb_mem.proofs.Texts.{in_front}
-use Rattle.leveldb_mem.proofs.Fragments.{fragment_of, unchecked, alike, length-fragment}
-use Rattle.leveldb_mem.proofs.Records.{not_both}
-use Rattle.leveldb_mem.proofs.Framing.{behind_both, behind_none}
-use Rattle.leveldb_mem.proofs.Remainders.{NoFragment, NoRemainder, none_without, none_behind, no_record_without}
+use Rattle.leveldb_mem.specs.LogLaws.Texts.{in_front}
+use Rattle.leveldb_mem.specs.LogLaws.Fragments.{fragment_of, unchecked, alike, length-fragment}
+use Rattle.leveldb_mem.specs.LogLaws.Records.{not_both}
+use Rattle.leveldb_mem.specs.LogLaws.Framing.{behind_both, behind_none}
+use Rattle.leveldb_mem.specs.LogLaws.Remainders.{NoFragment, NoRemainder, none_without, none_behind, no_record_without}
 
 -- a fragment with a wrong checksum breaks a log off
 pub breaks_here : (size : ℕ) (first : Bool) (f : Fragment) (place : ℕ) (bytes : List ℕ) → place < size → IsDamaged size f place bytes → BreaksOff size first place bytes

@@ -4,9 +4,9 @@ use Rattle.std.specs.List.{concat}
 use Rattle.std.proofs.lemmas.List.{length-replicate}
 use Rattle.std.proofs.lemmas.Bool.{ltb-false}
 use Rattle.std.proofs.Math.Nat.{mod_self, add-mod_left, mod-add-mod, mod-eq_of_lt, mod-lt}
+use Rattle.leveldb_base.specs.VarintLaws.{apart}
 use Rattle.leveldb_mem.specs.Log.{filler, room, behind, Fragment, IsFragment, AreFragments, record_type, fragments_of, IsRecord, End, clean, LogOf, FillBlocks, IsFramedRecord, IsFramed}
-use Rattle.leveldb_mem.proofs.Texts.{same_fronts}
-use Rattle.leveldb_mem.proofs.Fragments.{fragment_of, unchecked, length-fragment, same_fragment}
+use Rattle.leveldb_mem.specs.LogLaws.Fragments.{fragment_of, unchecked, length-fragment, same_fragment}
 
 -- filler, a header and data that fills the block reach to the block's end
 block_end : (size place : ℕ) → 8 ≤ size → place < size → (place + (length (filler size place) + (7 + room size place))) % size ≡ 0
@@ -112,7 +112,7 @@ module _ (size : ℕ) (large : 8 ≤ size) where
   one_cut place inside first p [] q (q' ∷ qs) a b full_p full_q f g e = absurd (too_short (room size place) p q (concat (q' ∷ qs)) f.is_front.within full_q.0 (some_data size q' qs 0 full_q.1) (sym (append-nil p) ∙ e))
   one_cut place inside first p (p' ∷ ps) q [] a b full_p full_q f g e = absurd (too_short (room size place) q p (concat (p' ∷ ps)) g.is_front.within full_p.0 (some_data size p' ps 0 full_p.1) (sym (append-nil q) ∙ sym e))
   one_cut place inside first p (p' ∷ ps) q (q' ∷ qs) a b full_p full_q f g e =
-      let same = same_fronts p q (concat (p' ∷ ps)) (concat (q' ∷ qs)) (full_p.0 ∙ sym full_q.0) e in
+      let same = apart p q (concat (p' ∷ ps)) (concat (q' ∷ qs)) (full_p.0 ∙ sym full_q.0) e in
       let fronts = same_fragment size _ place f.front g.front (subst (λ z. IsFragment true size (fragment_of (record_type first false) z) place f.front) same.0 f.is_front) g.is_front in
       let rest = one_cut 0 start false p' ps q' qs f.rest g.rest full_p.1 full_q.1
       (subst (λ z. AreFragments true size (fragments_of false p' ps) z f.rest) (fills place _ f.front inside f.is_front full_p.0) f.is_rest)

@@ -2,8 +2,8 @@
 use Rattle.std.proofs.Common.{◌≡◌, ◌≢◌, ℕ, ◌≤◌, Bool, true, false, List, [], ◌∷◌, ◌++◌, length, sym, ◌∙◌, ap, subst, arith, length-append}
 use Rattle.std.specs.List.{concat}
 use Rattle.leveldb_mem.specs.Log.{behind, Fragment, IsFragment, Then, AreFragments, record_type, fragments_of, IsRemainder, IsRecord}
-use Rattle.leveldb_mem.proofs.Texts.{in_front}
-use Rattle.leveldb_mem.proofs.Fragments.{one_fragment, length-fragment}
+use Rattle.leveldb_mem.specs.LogLaws.Texts.{in_front}
+use Rattle.leveldb_mem.specs.LogLaws.Fragments.{one_fragment, length-fragment}
 
 pub not_both : (first : Bool) → record_type first true ≢ record_type first false
 not_both true e = cc

@@ -8,15 +8,6 @@ module _ {A : Type 0} where
   pub same_tail : {a b : A} {x y : List A} → a ∷ x ≡ b ∷ y → x ≡ y
   same_tail e = cc
 
-  -- fronts of one length of one text are the same, and so is what follows
-  pub same_fronts : (a b x y : List A) → length a ≡ length b → a ++ x ≡ b ++ y → (a ≡ b) × (x ≡ y)
-  same_fronts [] [] x y l e = (refl, e)
-  same_fronts [] (c ∷ b) x y l e = absurd (omega arith)
-  same_fronts (c ∷ a) [] x y l e = absurd (omega arith)
-  same_fronts (c ∷ a) (d ∷ b) x y l e =
-      let rest = same_fronts a b x y (omega arith) (same_tail e) in
-      (ap (λ z. z ∷ a) (same_head e) ∙ ap (λ z. d ∷ z) rest.0, rest.1)
-
   -- a text that stands in front of another
   pub in_front : (a b c x y : List A) → a ≡ b ++ c → a ++ x ≡ y → b ++ (c ++ x) ≡ y
   in_front a b c x y is e = sym (append_assoc b c x) ∙ ap (λ z. z ++ x) (sym is) ∙ e

@@ -2,8 +2,9 @@
 use Rattle.std.proofs.Common.{◌≡◌, ℕ, ◌+◌, ◌-◌, ◌*◌, ◌/◌, ◌%◌, ◌<◌, ◌≤◌, Bool, true, false, if◌then◌else◌, nat_lt, List, ◌∷◌, ◌++◌, length, refl, sym, ◌∙◌, ap, arith, append_assoc, length-append}
 use Rattle.std.proofs.lemmas.List.{append_cancel_left}
 use Rattle.leveldb_base.specs.Varint.{little}
+use Rattle.leveldb_base.specs.VarintLaws.{apart}
 use Rattle.leveldb_mem.specs.Log.{filler, room, Fragment, checksum, IsChecksum, fragment_bytes, IsFragment}
-use Rattle.leveldb_mem.proofs.Texts.{same_head, same_tail, same_fronts}
+use Rattle.leveldb_mem.specs.LogLaws.Texts.{same_head, same_tail}
 
 -- a fragment by its parts
 abbrev pub fragment_of : ℕ → List ℕ → Fragment
@@ -35,10 +36,10 @@ unfolding fragment_bytes
 same_bytes these those x y f g four_f four_g small_f small_g e =
     let spread : (sum x : List ℕ) (f : Fragment) → fragment_bytes sum f ++ x ≡ sum ++ (little 2 (length f.part) ++ f.type ∷ (f.part ++ x)) =
     λ sum x f. append_assoc sum (little 2 (length f.part) ++ f.type ∷ f.part) x in
-    let header = same_fronts these those (little 2 (length f.part) ++ f.type ∷ (f.part ++ x)) (little 2 (length g.part) ++ g.type ∷ (g.part ++ y)) (four_f ∙ sym four_g) (sym (spread these x f) ∙ e ∙ spread those y g) in
+    let header = apart these those (little 2 (length f.part) ++ f.type ∷ (f.part ++ x)) (little 2 (length g.part) ++ g.type ∷ (g.part ++ y)) (four_f ∙ sym four_g) (sym (spread these x f) ∙ e ∙ spread those y g) in
     let lengths = same_number (length f.part) (length g.part) small_f small_g (same_head header.1) (same_head (same_tail header.1)) in
     let types = same_head (same_tail (same_tail header.1)) in
-    let parts = same_fronts f.part g.part x y lengths (same_tail (same_tail (same_tail header.1))) in
+    let parts = apart f.part g.part x y lengths (same_tail (same_tail (same_tail header.1))) in
     (header.0, ap (λ type. fragment_of type f.part) types ∙ ap (fragment_of g.type) parts.0, parts.1)
 
 -- a fragment with the right checksum is one where checksums aren't asked for
@@ -92,7 +93,7 @@ header_tells checked size fits f place front more is sum rest low high type four
     let header = little 2 (length f.part) ++ f.type ∷ f.part in
     let whole : (before ++ (is.sum ++ header)) ++ more ≡ before ++ (sum ++ low ∷ high ∷ type ∷ rest) = ap (λ z. z ++ more) (sym is.bytes_are) ∙ e in
     let behind_filler = append_cancel_left before ((is.sum ++ header) ++ more) (sum ++ low ∷ high ∷ type ∷ rest) (sym (append_assoc before (is.sum ++ header) more) ∙ whole) in
-    let parts = same_fronts is.sum sum (header ++ more) (low ∷ high ∷ type ∷ rest) (length-sum checked f is.sum is.summed ∙ sym four) (sym (append_assoc is.sum header more) ∙ behind_filler) in
+    let parts = apart is.sum sum (header ++ more) (low ∷ high ∷ type ∷ rest) (length-sum checked f is.sum is.summed ∙ sym four) (sym (append_assoc is.sum header more) ∙ behind_filler) in
     let low_is : length f.part % 256 ≡ low = same_head parts.1 in
     let high_is : length f.part / 256 % 256 ≡ high = same_head (same_tail parts.1) in
     let few = short checked size fits place f.part is.within in

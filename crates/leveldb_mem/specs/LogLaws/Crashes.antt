@@ -4,10 +4,10 @@ use Rattle.std.specs.List.{concat}
 use Rattle.std.proofs.lemmas.List.{take_at, drop_at, take-append-drop}
 use Rattle.leveldb_mem.specs.Log.{filler, behind, Fragment, IsFragment, Then, AreFragments, record_type, fragments_of, IsRemainder, IsRecord, End, clean, LogOf}
 use Rattle.leveldb_mem.specs.Honest.{Began, FragmentAt, HonestTail}
-use Rattle.leveldb_mem.proofs.Texts.{in_front, split}
-use Rattle.leveldb_mem.proofs.Fragments.{fragment_of, length-fragment, one_fragment}
-use Rattle.leveldb_mem.proofs.Records.{not_both, length-record}
-use Rattle.leveldb_mem.proofs.Framing.{start, behind-lt, behind_both, behind_none}
+use Rattle.leveldb_mem.specs.LogLaws.Texts.{in_front, split}
+use Rattle.leveldb_mem.specs.LogLaws.Fragments.{fragment_of, length-fragment, one_fragment}
+use Rattle.leveldb_mem.specs.LogLaws.Records.{not_both, length-record}
+use Rattle.leveldb_mem.specs.LogLaws.Framing.{start, behind-lt, behind_both, behind_none}
 
 -- Wherever whole fragments are followed by one, and what is left has one there too, the two are the same.
 abbrev Unforged : ℕ → ℕ → List ℕ → List ℕ → Type 0

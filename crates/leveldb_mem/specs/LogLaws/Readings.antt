@@ -5,9 +5,9 @@ use Rattle.std.proofs.lemmas.Bool.Decides.{eqb_tells, leb_tells}
 use Rattle.std.proofs.lemmas.List.{drop_at, take_at}
 use Rattle.std.proofs.lemmas.Slice.Eq.{bytes_eq-Decides}
 use Rattle.leveldb_mem.specs.Log.{filler, room, behind, Fragment, checksum, IsChecksum, fragment_bytes, IsFragment, record_type, IsRemainder, IsRecord, End, clean, bad, LogOf}
-use Rattle.leveldb_mem.proofs.Fragments.{fragment_of, length-fragment, header_tells}
-use Rattle.leveldb_mem.proofs.Records.{length-record}
-use Rattle.leveldb_mem.proofs.Remainders.{NoFragment, NoRemainder, NoRecord, last_fragment, next_fragment, none_without, none_behind, none_without_data, no_record_without}
+use Rattle.leveldb_mem.specs.LogLaws.Fragments.{fragment_of, length-fragment, header_tells}
+use Rattle.leveldb_mem.specs.LogLaws.Records.{length-record}
+use Rattle.leveldb_mem.specs.LogLaws.Remainders.{NoFragment, NoRemainder, NoRecord, last_fragment, next_fragment, none_without, none_behind, none_without_data, no_record_without}
 
 -- ---- facts that hold or don't
 

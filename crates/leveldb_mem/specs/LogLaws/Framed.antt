@@ -4,8 +4,8 @@ use Rattle.std.specs.List.{AllByRecursion}
 use Rattle.std.proofs.lemmas.List.{take-append-drop}
 use Rattle.std.proofs.lemmas.Bool.{leb-true, leb-false}
 use Rattle.leveldb_mem.specs.Log.{room, behind, Fragment, checksum, IsFragment, AreFragments, record_type, fragments_of, IsFramedRemainder, IsFramedRecord, IsFramed, fragment_at, framed_within, framed_record, framed}
-use Rattle.leveldb_mem.proofs.Fragments.{fragment_of}
-use Rattle.leveldb_mem.proofs.Framing.{fills, start, behind-lt}
+use Rattle.leveldb_mem.specs.LogLaws.Fragments.{fragment_of}
+use Rattle.leveldb_mem.specs.LogLaws.Framing.{fills, start, behind-lt}
 
 right_fragment : (size : ℕ) (f : Fragment) (place : ℕ) → length f.part ≤ room size place → IsFragment true size f place (fragment_at size f place)
 unfolding fragment_at
