@@ -10,10 +10,18 @@ pub mod Readings
 pub mod Breaks
 pub mod Crashes
 pub mod Files
-
+use Rattle.std.proofs.Common.{refl, sym, ◌∙◌, ap, arith, length-append, lit≤}
+use Rattle.std.proofs.lemmas.List.{take_at}
 use Rattle.std.specs.Prelude.{◌≡◌, ◌≢◌, ℕ, ◌+◌, ◌<◌, ◌≤◌, ◌⊎◌, Bool, true, List, [], ◌∷◌, ◌++◌, length, take, All}
 use Rattle.leveldb_mem.specs.Log.{IsBlockSize, block_size, behind, End, clean, bad, Ends, LogOf, IsLogFile, IsFramedRecord, IsFramed, framed_record, framed, frame_at, BreaksOff}
 use Rattle.leveldb_mem.specs.Honest.{FragmentAt, HonestTail}
+use Rattle.leveldb_mem.specs.LogLaws.Logs as logs
+use Rattle.leveldb_mem.specs.LogLaws.Framing as framing
+use Rattle.leveldb_mem.specs.LogLaws.Framed as framings
+use Rattle.leveldb_mem.specs.LogLaws.Readings as readings
+use Rattle.leveldb_mem.specs.LogLaws.Breaks as breaks
+use Rattle.leveldb_mem.specs.LogLaws.Crashes as crashes
+use Rattle.leveldb_mem.specs.LogLaws.Files as files
 
 -- ---- reading
 
@@ -50,9 +58,17 @@ BreaksBad = (size place : ℕ) (front more : List ℕ) → IsBlockSize size → 
 
 -- ---- writing
 
--- records none of which is empty have the framing that the function gives
-abbrev pub EachFramed : Type 0
-EachFramed = (size place : ℕ) (records : List (List ℕ)) → IsBlockSize size → place < size → All (λ text. text ≢ []) records → IsFramed size records place (framed size records place)
+-- a record that isn't empty has the framing that the function gives
+abbrev pub RecordFramed : Type 0
+RecordFramed = (size place : ℕ) (text : List ℕ) → IsBlockSize size → place < size → text ≢ [] → IsFramedRecord size text place (framed_record size text place)
+
+-- and so have records none of which is empty
+abbrev pub RecordsFramed : Type 0
+RecordsFramed = (size place : ℕ) (records : List (List ℕ)) → IsBlockSize size → place < size → All (λ text. text ≢ []) records → IsFramed size records place (framed size records place)
+
+-- a record has one framing
+abbrev pub OneRecordFraming : Type 0
+OneRecordFraming = (size place : ℕ) (text these those : List ℕ) → IsBlockSize size → place < size → IsFramedRecord size text place these → IsFramedRecord size text place those → these ≡ those
 
 -- records have one framing
 abbrev pub OneFraming : Type 0
@@ -96,12 +112,88 @@ pub record LogLaws : Type 0 where
   pub more : (bytes : List ℕ) (records : List (List ℕ)) (text : List ℕ) → text ≢ [] → IsLogFile bytes records clean → IsLogFile (bytes ++ frame_at (length bytes) text) (records ++ text ∷ []) clean
   -- a beginning of the frame is no record, or that one
   pub part : (bytes : List ℕ) (records : List (List ℕ)) (text : List ℕ) (n : ℕ) → text ≢ [] → IsLogFile bytes records clean
-    → (found : List (List ℕ)) × (e : End) × IsLogFile (bytes ++ take n (frame_at (length bytes) text)) found e × ((found ≡ records) ⊎ (found ≡ records ++ text ∷ []))
+      → (found : List (List ℕ)) × (e : End) × IsLogFile (bytes ++ take n (frame_at (length bytes) text)) found e × ((found ≡ records) ⊎ (found ≡ records ++ text ∷ []))
   -- for each number of records, from those that a front has on, a longer front has just these
   pub cut : (front rest : List ℕ) (first records : List (List ℕ)) (e1 e2 : End) (n : ℕ) → IsLogFile front first e1 → IsLogFile (front ++ rest) records e2 → length first ≤ n → n ≤ length records
-    → (k : ℕ) × (e : End) × IsLogFile (front ++ take k rest) (take n records) e
+      → (k : ℕ) × (e : End) × IsLogFile (front ++ take k rest) (take n records) e
   -- an honest tail behind a front gives some of the records that were appended
   pub torn : (front rest tail : List ℕ) (first records : List (List ℕ)) (text : List ℕ) (n : ℕ) (e1 : End) → text ≢ [] → IsLogFile front first e1 → IsLogFile (front ++ rest) records clean
-    → let whole = front ++ rest ++ take n (frame_at (length (front ++ rest)) text) in
+      → let whole = front ++ rest ++ take n (frame_at (length (front ++ rest)) text) in
       length (front ++ tail) ≤ length whole → HonestTail block_size whole (front ++ tail)
-    → (found : List (List ℕ)) × (e : End) × IsLogFile (front ++ tail) found e × SomeOf (length first) records text found
+      → (found : List (List ℕ)) × (e : End) × IsLogFile (front ++ tail) found e × SomeOf (length first) records text found
+
+-- ---- the proofs
+
+pub one_reading : OneReading
+one_reading checked size place bytes records others end other_end block = logs.one_log checked size block.most place bytes records others end other_end
+
+pub each_reads : EachReads
+each_reads checked size place bytes block = readings.log_reads checked size block.most place bytes
+
+-- what stands in front of some records
+first_of : (least : ℕ) (records found others : List (List ℕ)) → records ≡ found ++ others → least ≤ length found → AreFirst least records found
+first_of least records found others e enough =
+    let whole = ap length e in
+    let both = length-append found others in
+    record { count = length found; enough = enough; there = omega arith; first = sym (take_at found others (length found) refl) ∙ ap (take (length found)) (sym e) }
+
+longer : (found first others : List (List ℕ)) → found ≡ first ++ others → length first ≤ length found
+longer found first others e =
+    let whole = ap length e in
+    let both = length-append first others in
+    omega arith
+
+pub cut_reads : CutReads
+cut_reads checked size place front part rest first found records first_end found_end end block is_first is_found is =
+    let lower = logs.cut_log checked size block.most place front part found first found_end first_end is_found is_first in
+    let upper = logs.cut_log checked size block.most place (front ++ part) rest records found end found_end is is_found in
+    first_of (length first) records found upper.0 upper.1 (longer found first lower.0 lower.1)
+
+pub front_of_records : FirstRecords
+front_of_records = logs.first_records
+
+pub breaks_bad : BreaksBad
+breaks_bad size place front more block inside off = breaks.breaks_bad size block.most place front more inside off
+
+pub record_framed : RecordFramed
+record_framed size place text block inside some = framings.framed_record_is size block.least text place inside some
+
+pub records_framed : RecordsFramed
+records_framed size place records block inside some = framings.framed_is size block.least records place inside some
+
+pub one_record_framing : OneRecordFraming
+one_record_framing size place text these those block inside is_these is_those = framing.one_record_framing size block.least place inside text these those is_these is_those
+
+pub one_framing : OneFraming
+one_framing size place records these those block inside is_these is_those = framing.one_framing size block.least place inside records these those is_these is_those
+
+pub framing_reads : FramingReads
+framing_reads checked size place records bytes is = framing.framing_reads checked size records place bytes is
+
+pub logs_append : LogsAppend
+logs_append checked size place records others front rest end block inside is_front is_rest = framing.log_append size block.least checked place inside records others front rest end is_front is_rest
+
+pub framings_append : FramingsAppend
+framings_append size place records others front rest block inside is_front is_rest = framing.framing_append size block.least place inside records others front rest is_front is_rest
+
+pub crash_leaves : CrashLeaves
+crash_leaves size kept since missing tail first records found first_end found_end block is_first is short honest is_found =
+    let lower = logs.cut_log true size block.most 0 kept tail found first found_end first_end is_found is_first in
+    let n = length-append kept since in
+    let m = length-append kept tail in
+    let upper = crashes.honest_log size block.least block.most (kept ++ since) missing (kept ++ tail) records found found_end is is_found (omega arith) honest in
+    first_of (length first) records found upper.0 upper.1 (longer found first lower.0 lower.1)
+
+-- the usual size is one
+pub usual_size : IsBlockSize block_size
+usual_size = record { least = lit≤ tt; most = lit≤ tt }
+
+pub log_laws : LogLaws
+log_laws = record {
+  one = λ bytes these those e1 e2. one_reading true block_size 0 bytes these those e1 e2 usual_size;
+  fits = files.within block_size;
+  more = files.one_more block_size usual_size;
+  part = files.cut_short block_size usual_size;
+  cut = files.cut_at block_size usual_size;
+  torn = files.torn block_size usual_size;
+}

@@ -1,8 +1,46 @@
 //! The laws of the record log, as contracts of functions that do nothing.
 
-ghost use Rattle.leveldb_mem.specs.LogLaws.{OneReading};
+ghost use Rattle.leveldb_mem.specs.LogLaws.{OneReading, EachReads, CutReads, FirstRecords, BreaksBad, RecordFramed, RecordsFramed, OneRecordFraming, OneFraming, FramingReads, LogsAppend, FramingsAppend, CrashLeaves, LogLaws};
 
-/// What a log holds is one list of records with one end, whoever reads it and however.
-pub fn log_has_one_reading()
-    ensures { OneReading }
+/// What bytes hold as a log is determined: any bytes read as some records and an end, and no others. So two readers that keep to
+/// the format agree, and a store can't choose what it recovers.
+pub fn bytes_are_one_log()
+    ensures each { EachReads }
+    ensures one { OneReading }
+{}
+
+/// A log that was cut loses records from its end alone, and none that lies whole before the cut.
+pub fn cut_log_keeps_first_records()
+    ensures cut { CutReads }
+    ensures front { FirstRecords }
+{}
+
+/// A wrong checksum ends a log badly, in whatever fragment of a record it stands and whatever follows.
+pub fn wrong_checksum_ends_log()
+    ensures { BreaksBad }
+{}
+
+/// There is one way to write records, which a function gives, and it reads as these records.
+pub fn records_have_one_framing()
+    ensures record { RecordFramed }
+    ensures records { RecordsFramed }
+    ensures one_record { OneRecordFraming }
+    ensures one { OneFraming }
+    ensures reads { FramingReads }
+{}
+
+/// A log that ends cleanly can be written on: what it holds and what is added stand one behind the other.
+pub fn clean_log_goes_on()
+    ensures logs { LogsAppend }
+    ensures framings { FramingsAppend }
+{}
+
+/// An honest crash loses records from a log's end alone, and none whose bytes were kept.
+pub fn crash_keeps_first_records()
+    ensures { CrashLeaves }
+{}
+
+/// What a store's theorem on crashes takes of the files of its log and its manifest.
+pub fn log_files_keep_laws()
+    ensures { LogLaws }
 {}

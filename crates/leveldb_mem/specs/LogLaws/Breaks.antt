@@ -1,8 +1,7 @@
 -- A log that breaks off with a wrong checksum has a bad end there.
-use Rattle.std.proofs.Common.{◌≡◌, ◌≢◌, ℕ, ◌+◌, ◌<◌, ◌≤◌, Bool, true, false, List, [], ◌∷◌, ◌++◌, length, refl, sym, ◌∙◌, ap, subst, arith, append_assoc, length-append}
+use Rattle.std.proofs.Common.{◌≡◌, ℕ, ◌+◌, ◌<◌, ◌≤◌, Bool, true, false, List, [], ◌∷◌, ◌++◌, length, refl, sym, ◌∙◌, ap, subst, arith, append_assoc, length-append}
 use Rattle.std.proofs.Math.Nat.{mod-lt}
 use Rattle.leveldb_mem.specs.Log.{behind, Fragment, checksum, IsFragment, Then, AreFragments, record_type, bad, Ends, IsDamaged, begun_of, BreaksOff}
-use Rattle.leveldb_mem.specs.LogLaws.Texts.{in_front}
 use Rattle.leveldb_mem.specs.LogLaws.Fragments.{fragment_of, unchecked, alike, length-fragment}
 use Rattle.leveldb_mem.specs.LogLaws.Records.{not_both}
 use Rattle.leveldb_mem.specs.LogLaws.Framing.{behind_both, behind_none}
@@ -49,10 +48,10 @@ module _ (size : ℕ) (fits : size ≤ 32768) where
   none_left first place (part ∷ parts) f front more inside laid =
       let these = laid.is_front in
       let others : Then size (AreFragments true size (begun_of false parts)) (IsDamaged size f) (behind size place these.front) (these.rest ++ laid.rest) =
-        record { front = these.rest; rest = laid.rest; bytes_are = refl; is_front = these.is_rest; is_rest = subst (λ z. IsDamaged size f z laid.rest) (sym (behind_both size place these.front these.rest laid.front these.bytes_are)) laid.is_rest } in
+      record { front = these.rest; rest = laid.rest; bytes_are = refl; is_front = these.is_rest; is_rest = subst (λ z. IsDamaged size f z laid.rest) (sym (behind_both size place these.front these.rest laid.front these.bytes_are)) laid.is_rest } in
       let none = none_left false (behind size place these.front) parts f (these.rest ++ laid.rest) more (mod-lt (place + length these.front) (omega arith)) others in
       let whole : front ++ more ≡ these.front ++ ((these.rest ++ laid.rest) ++ more) =
-        ap (λ z. z ++ more) (laid.bytes_are ∙ ap (λ z. z ++ laid.rest) these.bytes_are ∙ append_assoc these.front these.rest laid.rest) ∙ append_assoc these.front (these.rest ++ laid.rest) more in
+      ap (λ z. z ++ more) (laid.bytes_are ∙ ap (λ z. z ++ laid.rest) these.bytes_are ∙ append_assoc these.front these.rest laid.rest) ∙ append_assoc these.front (these.rest ++ laid.rest) more in
       none_behind true size fits first (fragment_of (record_type first false) part) place (front ++ more) these.front ((these.rest ++ laid.rest) ++ more) whole these.is_front (λ e. not_both first (sym e)) (λ goes. none)
 
   -- bytes that break off have a bad end

@@ -1,11 +1,11 @@
 -- What a crash leaves of a log reads as a beginning of the records that were written.
-use Rattle.std.proofs.Common.{◌≡◌, ◌≢◌, ℕ, ◌+◌, ◌%◌, ◌<◌, ◌≤◌, Bool, true, false, List, [], ◌∷◌, ◌++◌, length, take, drop, refl, sym, ◌∙◌, ap, subst, arith, append_assoc, append-nil, length-append}
+use Rattle.std.proofs.Common.{◌≡◌, ℕ, ◌+◌, ◌%◌, ◌<◌, ◌≤◌, Bool, true, false, List, [], ◌∷◌, ◌++◌, length, take, drop, refl, sym, ◌∙◌, ap, subst, arith, append_assoc, append-nil, length-append}
 use Rattle.std.specs.List.{concat}
 use Rattle.std.proofs.lemmas.List.{take_at, drop_at, take-append-drop}
-use Rattle.leveldb_mem.specs.Log.{filler, behind, Fragment, IsFragment, Then, AreFragments, record_type, fragments_of, IsRemainder, IsRecord, End, clean, LogOf}
+use Rattle.leveldb_mem.specs.Log.{behind, Fragment, IsFragment, Then, AreFragments, fragments_of, End, clean, LogOf}
 use Rattle.leveldb_mem.specs.Honest.{Began, FragmentAt, HonestTail}
 use Rattle.leveldb_mem.specs.LogLaws.Texts.{in_front, split}
-use Rattle.leveldb_mem.specs.LogLaws.Fragments.{fragment_of, length-fragment, one_fragment}
+use Rattle.leveldb_mem.specs.LogLaws.Fragments.{length-fragment, one_fragment}
 use Rattle.leveldb_mem.specs.LogLaws.Records.{not_both, length-record}
 use Rattle.leveldb_mem.specs.LogLaws.Framing.{start, behind-lt, behind_both, behind_none}
 
@@ -23,20 +23,23 @@ module _ (size : ℕ) (large : 8 ≤ size) (fits : size ≤ 32768) where
   first_same place inside f g a b x y w l is_a is_b e d unforged =
       let here : behind size place [] ≡ place = behind_none size place inside [] refl in
       let same = unforged [] [] a x [] b y f g refl e (subst (λ z. IsFragment true size f z a) (sym here) is_a) d refl (subst (λ z. IsFragment true size g z b) (sym here) is_b) in
-      let fragments = one_fragment true size fits place f g a b [] [] is_a is_b (ap (λ z. z ++ []) same) in
-      (fragments.0, same, λ chain before front more begin other rest h k are xs there ys lengths here'.
-        (let moved : behind size (behind size place b) before ≡ behind size place (a ++ before) =
-           ap (λ z. behind size (behind size place z) before) (sym same) ∙ behind_both size place a before (a ++ before) refl in
-         let n = length-append b begin in
-         let m = length-append a before in
-         let whole = ap length same in
-         unforged (f ∷ chain) (a ++ before) front more (b ++ begin) other rest h k
-           (record { front = a; rest = before; bytes_are = refl; is_front = is_a; is_rest = subst (λ z. AreFragments true size chain (behind size place z) before) (sym same) are })
-           (e ∙ ap (λ z. a ++ z) xs ∙ sym (append_assoc a before (front ++ more)))
-           (subst (λ z. IsFragment true size h z front) moved there)
-           (d ∙ ap (λ z. b ++ z) ys ∙ sym (append_assoc b begin (other ++ rest)))
-           (omega arith)
-           (subst (λ z. IsFragment true size k z other) moved here')))
+      let fragments = one_fragment true size fits place f g a b [] [] is_a is_b (ap (λ z. z ++ []) same) in (
+        fragments.0,
+        same,
+        λ chain before front more begin other rest h k are xs there ys lengths here'.
+            (let moved : behind size (behind size place b) before ≡ behind size place (a ++ before) =
+            ap (λ z. behind size (behind size place z) before) (sym same) ∙ behind_both size place a before (a ++ before) refl in
+            let n = length-append b begin in
+            let m = length-append a before in
+            let whole = ap length same in
+            unforged (f ∷ chain) (a ++ before) front more (b ++ begin) other rest h k
+            (record { front = a; rest = before; bytes_are = refl; is_front = is_a; is_rest = subst (λ z. AreFragments true size chain (behind size place z) before) (sym same) are })
+            (e ∙ ap (λ z. a ++ z) xs ∙ sym (append_assoc a before (front ++ more)))
+            (subst (λ z. IsFragment true size h z front) moved there)
+            (d ∙ ap (λ z. b ++ z) ys ∙ sym (append_assoc b begin (other ++ rest)))
+            (omega arith)
+            (subst (λ z. IsFragment true size k z other) moved here')),
+      )
 
   same_start : (place : ℕ) → place < size → (f g : Fragment) (P Q : ℕ → List ℕ → Type 0) (a b x y w l : List ℕ) (these : Then size (IsFragment true size f) P place a) (those : Then size (IsFragment true size g) Q place b)
       → w ≡ a ++ x → l ≡ b ++ y → Unforged size place w l → (f ≡ g) × (these.front ≡ those.front) × Unforged size (behind size place those.front) (these.rest ++ x) (those.rest ++ y)
@@ -128,11 +131,11 @@ module _ (size : ℕ) (large : 8 ≤ size) (fits : size ≤ 32768) where
       } in
       let same = honest (length before) (length other) began stands in
       let found_there : take (length other) (drop (length before) left) ≡ other =
-        ap (λ z. take (length other) (drop (length before) z)) d ∙ ap (take (length other)) (drop_at begin (other ++ rest) (length before) l) ∙ take_at other rest (length other) refl in
+      ap (λ z. take (length other) (drop (length before) z)) d ∙ ap (take (length other)) (drop_at begin (other ++ rest) (length before) l) ∙ take_at other rest (length other) refl in
       let written_there : take (length other) (drop (length before) written) ≡ take (length other) w.0 =
-        ap (λ z. take (length other) (drop (length before) z)) w.1 ∙ ap (take (length other)) (drop_at before w.0 (length before) refl) in
+      ap (λ z. take (length other) (drop (length before) z)) w.1 ∙ ap (take (length other)) (drop_at before w.0 (length before) refl) in
       let begins : w.0 ≡ other ++ drop (length other) w.0 =
-        sym (take-append-drop (length other) w.0) ∙ ap (λ z. z ++ drop (length other) w.0) (sym written_there ∙ sym same ∙ found_there) in
+      sym (take-append-drop (length other) w.0) ∙ ap (λ z. z ++ drop (length other) w.0) (sym written_there ∙ sym same ∙ found_there) in
       let joined : front ++ others ≡ other ++ (drop (length other) w.0 ++ more) = sym w.2 ∙ ap (λ z. z ++ more) begins ∙ append_assoc other (drop (length other) w.0) more in
       (one_fragment true size fits (behind size 0 before) f g front other others (drop (length other) w.0 ++ more) is found joined).1
 

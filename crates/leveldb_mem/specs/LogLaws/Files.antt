@@ -1,9 +1,9 @@
 -- A log's file: one record more, a record that is cut short, and a crash.
 use Rattle.std.proofs.Common.{◌≡◌, ◌≢◌, ◌⊎◌, inl, inr, ⊎_elim, ℕ, ◌+◌, ◌%◌, ◌≤◌, true, false, nat_le, List, [], ◌∷◌, ◌++◌, length, take, drop, refl, sym, ◌∙◌, ap, subst, arith, append_assoc, append-nil, length-append, length-take}
-use Rattle.std.proofs.lemmas.List.{take-append-drop, take-append-le, take_at, take_all}
+use Rattle.std.proofs.lemmas.List.{take-append-drop, take-append-le, take_at}
 use Rattle.std.proofs.lemmas.Bool.{leb-true, leb-false}
 use Rattle.std.proofs.Math.Nat.{mod-lt}
-use Rattle.leveldb_mem.specs.Log.{IsBlockSize, behind, IsFramedRecord, End, clean, LogOf, framed_record}
+use Rattle.leveldb_mem.specs.Log.{IsBlockSize, behind, End, clean, LogOf, framed_record}
 use Rattle.leveldb_mem.specs.Honest.{FragmentAt, HonestTail}
 use Rattle.leveldb_mem.specs.LogLaws.Texts.{split}
 use Rattle.leveldb_mem.specs.LogLaws.Logs.{cut_log, first_records}
@@ -74,11 +74,15 @@ module _ (size : ℕ) (block : IsBlockSize size) where
       let f = frame (length bytes) text in
       let read = log_reads true size block.most 0 (bytes ++ take n f) in
       let upper = cut_log true size block.most 0 (bytes ++ take n f) (drop n f) (records ++ text ∷ []) read.0 clean read.1 (in_two bytes records text n some is) read.2 in
-      let lower = cut_log true size block.most 0 bytes (take n f) read.0 records read.1 clean read.2 is in
-      (read.0, read.1, read.2, ⊎_elim
-        (λ (few : (length read.0 ≤ length records) × (read.0 ≡ take (length read.0) records)). inl (all_of records read.0 lower.0 lower.1 few.0))
-        (λ (all : read.0 ≡ records ++ text ∷ []). inr all)
-        (beginning records read.0 upper.0 text upper.1))
+      let lower = cut_log true size block.most 0 bytes (take n f) read.0 records read.1 clean read.2 is in (
+        read.0,
+        read.1,
+        read.2,
+        ⊎_elim
+            (λ (few : (length read.0 ≤ length records) × (read.0 ≡ take (length read.0) records)). inl (all_of records read.0 lower.0 lower.1 few.0))
+            (λ (all : read.0 ≡ records ++ text ∷ []). inr all)
+            (beginning records read.0 upper.0 text upper.1),
+      )
 
   -- for each number of records, from those that a front has on, a longer front has just these
   pub cut_at : (front rest : List ℕ) (first records : List (List ℕ)) (first_end end : End) (n : ℕ) → LogFile front first first_end → LogFile (front ++ rest) records end
@@ -102,7 +106,7 @@ module _ (size : ℕ) (block : IsBlockSize size) where
   -- an honest tail behind a front gives some of the records that were appended, and at least those of the front
   pub torn : (front rest tail : List ℕ) (first records : List (List ℕ)) (text : List ℕ) (n : ℕ) (first_end : End) → text ≢ [] → LogFile front first first_end → LogFile (front ++ rest) records clean
       → let whole = front ++ rest ++ take n (frame (length (front ++ rest)) text) in
-        length (front ++ tail) ≤ length whole → HonestTail size whole (front ++ tail)
+      length (front ++ tail) ≤ length whole → HonestTail size whole (front ++ tail)
       → (found : List (List ℕ)) × (end : End) × LogFile (front ++ tail) found end
       × (((k : ℕ) × (length first ≤ k) × (k ≤ length records) × (found ≡ take k records)) ⊎ (found ≡ records ++ text ∷ []))
   torn front rest tail first records text n first_end some is_first is short honest =
@@ -111,8 +115,12 @@ module _ (size : ℕ) (block : IsBlockSize size) where
       let upper = honest_log size block.least block.most (front ++ rest ++ take n f) (drop n f) (front ++ tail) (records ++ text ∷ []) read.0 read.1 (in_two (front ++ rest) records text n some is) read.2 short honest in
       let lower = cut_log true size block.most 0 front tail read.0 first read.1 first_end read.2 is_first in
       let lengths = ap length lower.1 in
-      let both = length-append first lower.0 in
-      (read.0, read.1, read.2, ⊎_elim
-        (λ (few : (length read.0 ≤ length records) × (read.0 ≡ take (length read.0) records)). inl (length read.0, omega arith, few.0, few.1))
-        (λ (all : read.0 ≡ records ++ text ∷ []). inr all)
-        (beginning records read.0 upper.0 text upper.1))
+      let both = length-append first lower.0 in (
+        read.0,
+        read.1,
+        read.2,
+        ⊎_elim
+            (λ (few : (length read.0 ≤ length records) × (read.0 ≡ take (length read.0) records)). inl (length read.0, omega arith, few.0, few.1))
+            (λ (all : read.0 ≡ records ++ text ∷ []). inr all)
+            (beginning records read.0 upper.0 text upper.1),
+      )

@@ -1,7 +1,8 @@
 -- Each list of records that aren't empty has a framing, which a function gives.
 use Rattle.std.proofs.Common.{◌≡◌, ◌≢◌, ℕ, zero, suc, ◌+◌, ◌-◌, ◌<◌, ◌≤◌, Bool, true, false, if◌then◌else◌, nat_lt, nat_le, List, [], ◌∷◌, ◌++◌, length, take, drop, refl, sym, ap, subst, arith, append-nil, length-take, length-drop}
-use Rattle.std.specs.List.{AllByRecursion}
+use Rattle.std.specs.List.{All}
 use Rattle.std.proofs.lemmas.List.{take-append-drop}
+use Rattle.std.proofs.lemmas.List.Elements.{All-head, All-tail}
 use Rattle.std.proofs.lemmas.Bool.{leb-true, leb-false}
 use Rattle.leveldb_mem.specs.Log.{room, behind, Fragment, checksum, IsFragment, AreFragments, record_type, fragments_of, IsFramedRemainder, IsFramedRecord, IsFramed, fragment_at, framed_within, framed_record, framed}
 use Rattle.leveldb_mem.specs.LogLaws.Fragments.{fragment_of}
@@ -15,9 +16,9 @@ module _ (size : ℕ) (large : 8 ≤ size) where
   room_start : 1 ≤ room size 0
   room_start = elim (nat_lt (size - 0) 7) as (λ t. nat_lt (size - 0) 7 ≡ t → 1 ≤ (if t then size else size - 0) - 7) [ true ↦ λ e. omega arith | false ↦ λ e. omega arith ] refl
 
-  -- all in one fragment
-  alone : (first : Bool) (text : List ℕ) (place : ℕ) → 1 ≤ length text → length text ≤ room size place → IsFramedRemainder size first text place (fragment_at size (fragment_of (record_type first true) text) place)
-  alone first text place some short =
+  -- data that fits is one fragment, the last
+  pub last_framed : (first : Bool) (text : List ℕ) (place : ℕ) → 1 ≤ length text → length text ≤ room size place → IsFramedRemainder size first text place (fragment_at size (fragment_of (record_type first true) text) place)
+  last_framed first text place some short =
       let front = fragment_at size (fragment_of (record_type first true) text) place in
       record {
         whole = record {
@@ -29,10 +30,10 @@ module _ (size : ℕ) (large : 8 ≤ size) where
         full = λ e. (let none = ap length e in omega arith);
       }
 
-  -- a fragment that fills its block, and what is left
-  in_front : (first : Bool) (part text : List ℕ) (place : ℕ) (bytes : List ℕ) → place < size → length part ≡ room size place → IsFramedRemainder size false text 0 bytes
+  -- a fragment that fills its block stands before what is left
+  pub next_framed : (first : Bool) (part text : List ℕ) (place : ℕ) (bytes : List ℕ) → place < size → length part ≡ room size place → IsFramedRemainder size false text 0 bytes
       → IsFramedRemainder size first (part ++ text) place (fragment_at size (fragment_of (record_type first false) part) place ++ bytes)
-  in_front first part text place bytes inside full rest =
+  next_framed first part text place bytes inside full rest =
       let front = fragment_at size (fragment_of (record_type first false) part) place in
       let is_front = right_fragment size (fragment_of (record_type first false) part) place (omega arith) in
       record {
@@ -59,14 +60,14 @@ module _ (size : ℕ) (large : 8 ≤ size) where
         | true ↦ fragment_at size (fragment_of (record_type first true) text) place
         | false ↦ fragment_at size (fragment_of (record_type first false) (take (room size place) text)) place ++ framed_within fragments size false (drop (room size place) text) 0
       ])) [
-        | true ↦ λ e. alone first text place some (leb-true _ _ e)
+        | true ↦ λ e. last_framed first text place some (leb-true _ _ e)
         | false ↦ λ e.
             let more = leb-false (length text) (room size place) e in
             let n = length-take (room size place) text in
             let m = length-drop (room size place) text in
             let rest = later (drop (room size place) text) (omega arith) (omega arith) in
             subst (λ z. IsFramedRemainder size first z place (fragment_at size (fragment_of (record_type first false) (take (room size place) text)) place ++ framed_within fragments size false (drop (room size place) text) 0))
-            (take-append-drop (room size place) text) (in_front first (take (room size place) text) (drop (room size place) text) place _ inside (omega arith) rest)
+            (take-append-drop (room size place) text) (next_framed first (take (room size place) text) (drop (room size place) text) place _ inside (omega arith) rest)
       ] refl
 
   from_start : (fragments : ℕ) (first : Bool) (text : List ℕ) → 1 ≤ length text → length text ≤ fragments → IsFramedRemainder size first text 0 (framed_within fragments size first text 0)
@@ -82,7 +83,7 @@ module _ (size : ℕ) (large : 8 ≤ size) where
       step (suc (length text)) true (byte ∷ text) place inside (omega arith) (λ t l e. from_start (suc (length text)) false t l (omega arith))
 
   -- and of records none of which is empty
-  pub framed_is : (texts : List (List ℕ)) (place : ℕ) → place < size → AllByRecursion (λ text. text ≢ []) texts → IsFramed size texts place (framed size texts place)
+  pub framed_is : (texts : List (List ℕ)) (place : ℕ) → place < size → All (λ text. text ≢ []) texts → IsFramed size texts place (framed size texts place)
   framed_is [] place inside some = refl
   framed_is (text ∷ texts) place inside some =
       let front = framed_record size text place in
@@ -90,6 +91,6 @@ module _ (size : ℕ) (large : 8 ≤ size) where
         front = front;
         rest = framed size texts (behind size place front);
         bytes_are = refl;
-        is_front = framed_record_is text place inside some.0;
-        is_rest = framed_is texts (behind size place front) (behind-lt size large place front) some.1;
+        is_front = framed_record_is text place inside (All-head (λ z. z ≢ []) text texts some);
+        is_rest = framed_is texts (behind size place front) (behind-lt size large place front) (All-tail (λ z. z ≢ []) text texts some);
       }

@@ -119,7 +119,8 @@ module _ (size : ℕ) (large : 8 ≤ size) where
       (subst (λ z. AreFragments true size (fragments_of false q' qs) z g.rest) (fills place _ g.front inside g.is_front full_q.0) g.is_rest) same.1 in
       f.bytes_are ∙ ap (λ z. z ++ f.rest) fronts ∙ ap (λ z. g.front ++ z) rest ∙ sym g.bytes_are
 
-  one_record_framing : (place : ℕ) → place < size → (text a b : List ℕ) → IsFramedRecord size text place a → IsFramedRecord size text place b → a ≡ b
+  -- a record has one framing
+  pub one_record_framing : (place : ℕ) → place < size → (text a b : List ℕ) → IsFramedRecord size text place a → IsFramedRecord size text place b → a ≡ b
   one_record_framing place inside text a b f g = one_cut place inside true f.whole.part f.whole.parts g.whole.part g.whole.parts a b f.full g.full f.whole.laid g.whole.laid (f.whole.text_is ∙ sym g.whole.text_is)
 
   -- records have one framing

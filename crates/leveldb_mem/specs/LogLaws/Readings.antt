@@ -73,7 +73,7 @@ module _ (checked : Bool) (size : ℕ) (fits : size ≤ 32768) where
     told_or_none : First place bytes ⊎ NoFragment checked size place bytes
     told_or_none =
         ⊎_elim (λ (stands : Stands). inl (found stands)) (λ (no : Stands → ⊥). inr (λ f front more e is. no (stands f front more e is)))
-            (both_or_not (at_most_or_not (length told.part) (room size place)) (both_or_not (checksum_or_not checked told sum) (same_or_not _ _)))
+        (both_or_not (at_most_or_not (length told.part) (room size place)) (both_or_not (checksum_or_not checked told sum) (same_or_not _ _)))
       where
         found : Stands → First place bytes
         found stands = record {
@@ -114,8 +114,8 @@ module _ (checked : Bool) (size : ℕ) (fits : size ≤ 32768) where
   left_or_none zero first place bytes few = absurd (omega arith)
   left_or_none (suc steps) first place bytes few =
       ⊎_elim (λ (f : First place bytes). by_type f (left_or_none steps false (behind size place f.front) f.rest (shorter f)) (equal_or_not f.fragment.type (record_type first true)))
-          (λ (none : NoFragment checked size place bytes). inr (none_without checked size first place bytes none))
-          (first_or_none place bytes)
+      (λ (none : NoFragment checked size place bytes). inr (none_without checked size first place bytes none))
+      (first_or_none place bytes)
     where
       shorter : (f : First place bytes) → length f.rest < steps
       shorter f =
@@ -128,28 +128,28 @@ module _ (checked : Bool) (size : ℕ) (fits : size ≤ 32768) where
           → Left false (behind size place f.front) f.rest ⊎ NoRemainder checked size false (behind size place f.front) f.rest → Left first place bytes ⊎ NoRemainder checked size first place bytes
       by_rest f not_last goes_on rest =
           ⊎_elim
-              (λ (l : Left false (behind size place f.front) f.rest). inl (record {
-                text = f.fragment.part ++ l.text;
-                front = f.front ++ l.front;
-                rest = l.rest;
-                bytes_are = f.bytes_are ∙ ap (λ z. f.front ++ z) l.bytes_are ∙ sym (append_assoc f.front l.front l.rest);
-                is = next_fragment checked size first f.fragment l.text place f.front l.front goes_on f.is l.is;
-              }))
-              (λ (none : NoRemainder checked size false (behind size place f.front) f.rest). inr (none_behind checked size fits first f.fragment place bytes f.front f.rest f.bytes_are f.is not_last (λ goes. none)))
-              rest
+          (λ (l : Left false (behind size place f.front) f.rest). inl (record {
+            text = f.fragment.part ++ l.text;
+            front = f.front ++ l.front;
+            rest = l.rest;
+            bytes_are = f.bytes_are ∙ ap (λ z. f.front ++ z) l.bytes_are ∙ sym (append_assoc f.front l.front l.rest);
+            is = next_fragment checked size first f.fragment l.text place f.front l.front goes_on f.is l.is;
+          }))
+          (λ (none : NoRemainder checked size false (behind size place f.front) f.rest). inr (none_behind checked size fits first f.fragment place bytes f.front f.rest f.bytes_are f.is not_last (λ goes. none)))
+          rest
 
       by_type : (f : First place bytes) → Left false (behind size place f.front) f.rest ⊎ NoRemainder checked size false (behind size place f.front) f.rest
           → OrNot (f.fragment.type ≡ record_type first true) → Left first place bytes ⊎ NoRemainder checked size first place bytes
       by_type f rest test =
           ⊎_elim
-              (λ (is_last : f.fragment.type ≡ record_type first true).
-                  inl (record { text = f.fragment.part; front = f.front; rest = f.rest; bytes_are = f.bytes_are; is = last_fragment checked size first f.fragment place f.front is_last f.is }))
-              (λ (not_last : f.fragment.type ≢ record_type first true).
-                  ⊎_elim
-                      (λ (goes_on : f.fragment.type ≡ record_type first false). by_rest f not_last goes_on rest)
-                      (λ (other : f.fragment.type ≢ record_type first false). inr (none_behind checked size fits first f.fragment place bytes f.front f.rest f.bytes_are f.is not_last (λ goes. absurd (other goes))))
-                      (equal_or_not f.fragment.type (record_type first false)))
-              test
+          (λ (is_last : f.fragment.type ≡ record_type first true).
+          inl (record { text = f.fragment.part; front = f.front; rest = f.rest; bytes_are = f.bytes_are; is = last_fragment checked size first f.fragment place f.front is_last f.is }))
+          (λ (not_last : f.fragment.type ≢ record_type first true).
+          ⊎_elim
+          (λ (goes_on : f.fragment.type ≡ record_type first false). by_rest f not_last goes_on rest)
+          (λ (other : f.fragment.type ≢ record_type first false). inr (none_behind checked size fits first f.fragment place bytes f.front f.rest f.bytes_are f.is not_last (λ goes. absurd (other goes))))
+          (equal_or_not f.fragment.type (record_type first false)))
+          test
 
   record Next (place : ℕ) (bytes : List ℕ) : Type 0 where
     text : List ℕ
@@ -161,8 +161,8 @@ module _ (checked : Bool) (size : ℕ) (fits : size ≤ 32768) where
   next_or_none : (place : ℕ) (bytes : List ℕ) → Next place bytes ⊎ NoRecord checked size place bytes
   next_or_none place bytes =
       ⊎_elim (λ (l : Left true place bytes). by_text l.text l.front l.rest l.bytes_are l.is)
-          (λ (none : NoRemainder checked size true place bytes). inr (no_record_without checked size place bytes none))
-          (left_or_none (suc (length bytes)) true place bytes (omega arith))
+      (λ (none : NoRemainder checked size true place bytes). inr (no_record_without checked size place bytes none))
+      (left_or_none (suc (length bytes)) true place bytes (omega arith))
     where
       by_text : (text front rest : List ℕ) → bytes ≡ front ++ rest → IsRemainder checked size true text place front → Next place bytes ⊎ NoRecord checked size place bytes
       by_text [] front rest e is = inr (none_without_data checked size fits place bytes front rest e is)
@@ -184,14 +184,14 @@ module _ (checked : Bool) (size : ℕ) (fits : size ≤ 32768) where
   reads (suc steps) place [] few = ([], clean, refl)
   reads (suc steps) place (byte ∷ bytes) few =
       ⊎_elim
-          (λ (r : Next place (byte ∷ bytes)).
-              let some = length-record checked size place r.text r.front r.is in
-              let whole = ap length r.bytes_are in
-              let both = length-append r.front r.rest in
-              let others = reads steps (behind size place r.front) r.rest (omega arith) in
-              (r.text ∷ others.0, others.1, record { front = r.front; rest = r.rest; bytes_are = r.bytes_are; is_front = r.is; is_rest = others.2 }))
-          (λ (none : NoRecord checked size place (byte ∷ bytes)). ([], bad, ((λ e. (let n = ap length e in omega arith)), none)))
-          (next_or_none place (byte ∷ bytes))
+      (λ (r : Next place (byte ∷ bytes)).
+      let some = length-record checked size place r.text r.front r.is in
+      let whole = ap length r.bytes_are in
+      let both = length-append r.front r.rest in
+      let others = reads steps (behind size place r.front) r.rest (omega arith) in
+      (r.text ∷ others.0, others.1, record { front = r.front; rest = r.rest; bytes_are = r.bytes_are; is_front = r.is; is_rest = others.2 }))
+      (λ (none : NoRecord checked size place (byte ∷ bytes)). ([], bad, ((λ e. (let n = ap length e in omega arith)), none)))
+      (next_or_none place (byte ∷ bytes))
 
   -- each text of bytes reads as some records and an end
   pub log_reads : (place : ℕ) (bytes : List ℕ) → Reads place bytes

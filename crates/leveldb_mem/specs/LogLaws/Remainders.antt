@@ -1,11 +1,9 @@
 -- What is left of a record, by its first fragment.
-use Rattle.std.proofs.Common.{◌≡◌, ◌≢◌, ◌⊎◌, inl, inr, ⊎_elim, ℕ, ◌+◌, ◌*◌, ◌/◌, ◌%◌, ◌<◌, ◌≤◌, Bool, true, false, List, [], ◌∷◌, ◌++◌, length, drop, refl, sym, ◌∙◌, ap, subst, arith, append_assoc, append-nil, length-append}
+use Rattle.std.proofs.Common.{◌≡◌, ◌≢◌, ◌⊎◌, inl, inr, ⊎_elim, ℕ, ◌≤◌, Bool, true, false, List, [], ◌∷◌, ◌++◌, refl, sym, ◌∙◌, ap, subst, append-nil}
 use Rattle.std.specs.List.{concat}
-use Rattle.std.proofs.lemmas.List.{append_cancel_left, drop_at}
-use Rattle.leveldb_base.specs.Varint.{little}
-use Rattle.leveldb_mem.specs.Log.{filler, room, behind, Fragment, fragment_bytes, IsFragment, Then, AreFragments, record_type, fragments_of, IsRemainder, IsRecord}
+use Rattle.leveldb_mem.specs.Log.{behind, Fragment, IsFragment, AreFragments, record_type, fragments_of, IsRemainder, IsRecord}
 use Rattle.leveldb_mem.specs.LogLaws.Texts.{in_front}
-use Rattle.leveldb_mem.specs.LogLaws.Fragments.{fragment_of, length-sum, length-fragment, one_fragment, short}
+use Rattle.leveldb_mem.specs.LogLaws.Fragments.{fragment_of, one_fragment}
 use Rattle.leveldb_mem.specs.LogLaws.Records.{one_remainder}
 
 -- no front of the bytes is a fragment, is what is left of a record, is a record
@@ -81,10 +79,10 @@ module _ (checked : Bool) (size : ℕ) where
         let same = one_fragment checked size fits place s.fragment f s.front front (s.rest ++ more) rest s.is_front is joined in
         let type = ap (λ fragment. fragment.type) same.0 in
         ⊎_elim
-            (λ (last : s.fragment.type ≡ record_type first true). not_last (sym type ∙ last))
-            (λ (goes : (s.fragment.type ≡ record_type first false) × (others : List ℕ) × IsRemainder checked size false others (behind size place s.front) s.rest).
-                none (sym type ∙ goes.0) goes.1 s.rest more (sym same.2) (subst (λ z. IsRemainder checked size false goes.1 (behind size place z) s.rest) same.1 goes.2))
-            s.goes_on
+        (λ (last : s.fragment.type ≡ record_type first true). not_last (sym type ∙ last))
+        (λ (goes : (s.fragment.type ≡ record_type first false) × (others : List ℕ) × IsRemainder checked size false others (behind size place s.front) s.rest).
+        none (sym type ∙ goes.0) goes.1 s.rest more (sym same.2) (subst (λ z. IsRemainder checked size false goes.1 (behind size place z) s.rest) same.1 goes.2))
+        s.goes_on
 
     -- a record without data is none
     pub none_without_data : (place : ℕ) (bytes front more : List ℕ) → bytes ≡ front ++ more → IsRemainder checked size true [] place front → NoRecord checked size place bytes
