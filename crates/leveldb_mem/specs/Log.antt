@@ -7,8 +7,8 @@ use Rattle.leveldb_base.specs.Varint.{little}
 -- ---- blocks and fragments
 
 -- the size of a block where no other is given
-abbrev pub block_size : ℕ
-block_size = 32768
+abbrev pub log_block_size : ℕ
+log_block_size = 32768
 
 -- the sizes of blocks that a reader or a writer takes
 pub record IsBlockSize (size : ℕ) : Type 0 where
@@ -112,7 +112,7 @@ LogOf checked size (text ∷ texts) end place bytes = Then size (IsRecord checke
 
 -- a whole file of a log: its blocks have the usual size, and checksums are asked for
 abbrev pub IsLogFile : List ℕ → List (List ℕ) → End → Type 0
-IsLogFile bytes records end = LogOf true block_size records end 0 bytes
+IsLogFile bytes records end = LogOf true log_block_size records end 0 bytes
 
 -- ---- what is written
 
@@ -161,7 +161,7 @@ framed size (text ∷ texts) place = framed_record size text place ++ framed siz
 
 -- what a record adds at this offset of a log's file
 abbrev pub frame_at : ℕ → List ℕ → List ℕ
-frame_at offset text = framed_record block_size text (offset % block_size)
+frame_at offset text = framed_record log_block_size text (offset % log_block_size)
 
 -- ---- a wrong checksum
 

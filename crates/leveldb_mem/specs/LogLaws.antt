@@ -11,9 +11,9 @@ pub mod Breaks
 pub mod Crashes
 pub mod Files
 use Rattle.std.proofs.Common.{refl, sym, ◌∙◌, ap, arith, length-append, lit≤}
-use Rattle.std.proofs.lemmas.List.{take_at}
-use Rattle.std.specs.Prelude.{◌≡◌, ◌≢◌, ℕ, ◌+◌, ◌<◌, ◌≤◌, ◌⊎◌, Bool, true, List, [], ◌∷◌, ◌++◌, length, take, All}
-use Rattle.leveldb_mem.specs.Log.{IsBlockSize, block_size, behind, End, clean, bad, Ends, LogOf, IsLogFile, IsFramedRecord, IsFramed, framed_record, framed, frame_at, BreaksOff}
+use Rattle.std.proofs.lemmas.List.{take_at, take-append-le, drop-append-le, length-drop}
+use Rattle.std.specs.Prelude.{◌≡◌, ◌≢◌, ℕ, ◌+◌, ◌<◌, ◌≤◌, ◌⊎◌, Bool, true, List, [], ◌∷◌, ◌++◌, length, take, drop, All}
+use Rattle.leveldb_mem.specs.Log.{IsBlockSize, log_block_size, behind, End, clean, bad, Ends, LogOf, IsLogFile, IsFramedRecord, IsFramed, framed_record, framed, frame_at, BreaksOff}
 use Rattle.leveldb_mem.specs.Honest.{FragmentAt, HonestTail}
 use Rattle.leveldb_mem.specs.LogLaws.Logs as logs
 use Rattle.leveldb_mem.specs.LogLaws.Framing as framing
@@ -90,6 +90,10 @@ FramingsAppend = (size place : ℕ) (records others : List (List ℕ)) (front re
 
 -- ---- a crash
 
+-- a crash that only cuts bytes off is honest
+abbrev pub CutIsHonest : Type 0
+CutIsHonest = (size : ℕ) (front rest : List ℕ) → HonestTail size (front ++ rest) front
+
 -- Of a log whose last bytes may be missing, as a refused append leaves it, an honest crash leaves the first records:
 -- at least those that the kept bytes read as.
 abbrev pub CrashLeaves : Type 0
@@ -107,7 +111,7 @@ pub record LogLaws : Type 0 where
   -- bytes are one list of records
   pub one : (bytes : List ℕ) (these those : List (List ℕ)) (e1 e2 : End) → IsLogFile bytes these e1 → IsLogFile bytes those e2 → (these ≡ those) × (e1 ≡ e2)
   -- a fragment stands within the bytes
-  pub fits : (bytes : List ℕ) (offset n : ℕ) → FragmentAt block_size bytes offset n → offset + n ≤ length bytes
+  pub fits : (bytes : List ℕ) (offset n : ℕ) → FragmentAt log_block_size bytes offset n → offset + n ≤ length bytes
   -- behind a clean end the frame of a record is one record more
   pub more : (bytes : List ℕ) (records : List (List ℕ)) (text : List ℕ) → text ≢ [] → IsLogFile bytes records clean → IsLogFile (bytes ++ frame_at (length bytes) text) (records ++ text ∷ []) clean
   -- a beginning of the frame is no record, or that one
@@ -119,7 +123,7 @@ pub record LogLaws : Type 0 where
   -- an honest tail behind a front gives some of the records that were appended
   pub torn : (front rest tail : List ℕ) (first records : List (List ℕ)) (text : List ℕ) (n : ℕ) (e1 : End) → text ≢ [] → IsLogFile front first e1 → IsLogFile (front ++ rest) records clean
       → let whole = front ++ rest ++ take n (frame_at (length (front ++ rest)) text) in
-      length (front ++ tail) ≤ length whole → HonestTail block_size whole (front ++ tail)
+      length (front ++ tail) ≤ length whole → HonestTail log_block_size whole (front ++ tail)
       → (found : List (List ℕ)) × (e : End) × IsLogFile (front ++ tail) found e × SomeOf (length first) records text found
 
 -- ---- the proofs
@@ -176,6 +180,12 @@ logs_append checked size place records others front rest end block inside is_fro
 pub framings_append : FramingsAppend
 framings_append size place records others front rest block inside is_front is_rest = framing.framing_append size block.least place inside records others front rest is_front is_rest
 
+pub cut_is_honest : CutIsHonest
+cut_is_honest size front rest offset n began there =
+    let inside = files.within size front offset n there in
+    let left = length-drop offset front in
+    sym (ap (take n) (drop-append-le offset front rest (omega arith)) ∙ take-append-le n (drop offset front) rest (omega arith))
+
 pub crash_leaves : CrashLeaves
 crash_leaves size kept since missing tail first records found first_end found_end block is_first is short honest is_found =
     let lower = logs.cut_log true size block.most 0 kept tail found first found_end first_end is_found is_first in
@@ -185,15 +195,15 @@ crash_leaves size kept since missing tail first records found first_end found_en
     first_of (length first) records found upper.0 upper.1 (longer found first lower.0 lower.1)
 
 -- the usual size is one
-pub usual_size : IsBlockSize block_size
+pub usual_size : IsBlockSize log_block_size
 usual_size = record { least = lit≤ tt; most = lit≤ tt }
 
 pub log_laws : LogLaws
 log_laws = record {
-  one = λ bytes these those e1 e2. one_reading true block_size 0 bytes these those e1 e2 usual_size;
-  fits = files.within block_size;
-  more = files.one_more block_size usual_size;
-  part = files.cut_short block_size usual_size;
-  cut = files.cut_at block_size usual_size;
-  torn = files.torn block_size usual_size;
+  one = λ bytes these those e1 e2. one_reading true log_block_size 0 bytes these those e1 e2 usual_size;
+  fits = files.within log_block_size;
+  more = files.one_more log_block_size usual_size;
+  part = files.cut_short log_block_size usual_size;
+  cut = files.cut_at log_block_size usual_size;
+  torn = files.torn log_block_size usual_size;
 }

@@ -1,6 +1,6 @@
 //! The laws of the record log, as contracts of functions that do nothing.
 
-ghost use Rattle.leveldb_mem.specs.LogLaws.{OneReading, EachReads, CutReads, FirstRecords, BreaksBad, RecordFramed, RecordsFramed, OneRecordFraming, OneFraming, FramingReads, LogsAppend, FramingsAppend, CrashLeaves, LogLaws};
+ghost use Rattle.leveldb_mem.specs.LogLaws.{OneReading, EachReads, CutReads, FirstRecords, BreaksBad, RecordFramed, RecordsFramed, OneRecordFraming, OneFraming, FramingReads, LogsAppend, FramingsAppend, CutIsHonest, CrashLeaves, LogLaws};
 
 /// What bytes hold as a log is determined: any bytes read as some records and an end, and no others. So two readers that keep to
 /// the format agree, and a store can't choose what it recovers.
@@ -35,9 +35,10 @@ pub fn clean_log_goes_on()
     ensures framings { FramingsAppend }
 {}
 
-/// An honest crash loses records from a log's end alone, and none whose bytes were kept.
+/// An honest crash loses records from a log's end alone, and none whose bytes were kept. A crash that only cuts bytes off is one.
 pub fn crash_keeps_first_records()
-    ensures { CrashLeaves }
+    ensures cut { CutIsHonest }
+    ensures kept { CrashLeaves }
 {}
 
 /// What a store's theorem on crashes takes of the files of its log and its manifest.
