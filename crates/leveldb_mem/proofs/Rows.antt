@@ -1,5 +1,5 @@
 -- How long the framings of some records are, computed.
-use Rattle.std.proofs.Common.{◌≡◌, ℕ, ◌-◌, List, [], ◌∷◌, length, map, slice_index, replicate, refl, codes}
+use Rattle.std.proofs.Common.{◌≡◌, ◌-◌, [], ◌∷◌, length, map, slice_index, replicate, refl, codes}
 use Rattle.leveldb_mem.specs.Log.{fragment_bytes, checksum, fragment_at, framed_record, framed, frame_at}
 
 small_blocks : length (framed 17 (codes "abcdefghi" ∷ codes "123456789012" ∷ codes "0101010101010101010101" ∷ []) 0) ≡ 93

@@ -175,8 +175,7 @@ abbrev pub begun_of : Bool → List (List ℕ) → List Fragment
 begun_of first [] = []
 begun_of first (part ∷ parts) = record { type = record_type first false; part = part } ∷ begun_of false parts
 
--- from this place on the bytes are parts of a record, from its first on or from a later one, none of them its last,
--- and then a fragment of any type with a wrong checksum
+-- from this place on the bytes are parts of a record, none of them its last, and then a fragment of any type with a wrong checksum
 pub record BreaksOff (size : ℕ) (first : Bool) (place : ℕ) (bytes : List ℕ) : Type 0 where
   pub parts : List (List ℕ)
   pub fragment : Fragment

@@ -6,6 +6,7 @@ pub mod Logs
 pub mod Framing
 pub mod Framed
 pub mod Remainders
+pub mod Headers
 pub mod Readings
 pub mod Breaks
 pub mod Crashes

@@ -1,5 +1,5 @@
 -- One fragment begins no other.
-use Rattle.std.proofs.Common.{◌≡◌, ℕ, ◌+◌, ◌-◌, ◌*◌, ◌/◌, ◌%◌, ◌<◌, ◌≤◌, Bool, true, false, if◌then◌else◌, nat_lt, List, ◌∷◌, ◌++◌, length, refl, sym, ◌∙◌, ap, arith, append_assoc, length-append}
+use Rattle.std.proofs.Common.{◌≡◌, ℕ, ◌+◌, ◌-◌, ◌/◌, ◌%◌, ◌<◌, ◌≤◌, Bool, true, false, if◌then◌else◌, nat_lt, List, ◌∷◌, ◌++◌, length, refl, sym, ◌∙◌, ap, arith, append_assoc, length-append}
 use Rattle.std.proofs.lemmas.List.{append_cancel_left}
 use Rattle.leveldb_base.specs.Varint.{little}
 use Rattle.leveldb_base.specs.VarintLaws.{apart}
@@ -83,18 +83,3 @@ module _ (checked : Bool) (size : ℕ) (fits : size ≤ 32768) where
 -- a fragment with the right checksum is determined by its type and its data
 pub same_fragment : (size : ℕ) (f : Fragment) (place : ℕ) (a b : List ℕ) → IsFragment true size f place a → IsFragment true size f place b → a ≡ b
 same_fragment size f place a b is_a is_b = is_a.bytes_are ∙ ap (λ z. filler size place ++ fragment_bytes z f) (is_a.summed ∙ sym is_b.summed) ∙ sym is_b.bytes_are
-
--- What the seven bytes behind the filler tell of a fragment that stands there: its checksum, its length and its type; its data follows.
-pub header_tells : (checked : Bool) (size : ℕ) → size ≤ 32768 → (f : Fragment) (place : ℕ) (front more : List ℕ) (is : IsFragment checked size f place front) (sum rest : List ℕ) (low high type : ℕ)
-    → length sum ≡ 4 → front ++ more ≡ filler size place ++ (sum ++ low ∷ high ∷ type ∷ rest) → (is.sum ≡ sum) × (length f.part ≡ low + 256 * high) × (f.type ≡ type) × (f.part ++ more ≡ rest)
-unfolding fragment_bytes
-header_tells checked size fits f place front more is sum rest low high type four e =
-    let before = filler size place in
-    let header = little 2 (length f.part) ++ f.type ∷ f.part in
-    let whole : (before ++ (is.sum ++ header)) ++ more ≡ before ++ (sum ++ low ∷ high ∷ type ∷ rest) = ap (λ z. z ++ more) (sym is.bytes_are) ∙ e in
-    let behind_filler = append_cancel_left before ((is.sum ++ header) ++ more) (sum ++ low ∷ high ∷ type ∷ rest) (sym (append_assoc before (is.sum ++ header) more) ∙ whole) in
-    let parts = apart is.sum sum (header ++ more) (low ∷ high ∷ type ∷ rest) (length-sum checked f is.sum is.summed ∙ sym four) (sym (append_assoc is.sum header more) ∙ behind_filler) in
-    let low_is : length f.part % 256 ≡ low = same_head parts.1 in
-    let high_is : length f.part / 256 % 256 ≡ high = same_head (same_tail parts.1) in
-    let few = short checked size fits place f.part is.within in
-    (parts.0, omega arith, same_head (same_tail (same_tail parts.1)), same_tail (same_tail (same_tail parts.1)))

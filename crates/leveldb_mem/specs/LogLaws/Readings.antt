@@ -5,7 +5,8 @@ use Rattle.std.proofs.lemmas.Bool.Decides.{eqb_tells, leb_tells}
 use Rattle.std.proofs.lemmas.List.{drop_at, take_at}
 use Rattle.std.proofs.lemmas.Slice.Eq.{bytes_eq-Decides}
 use Rattle.leveldb_mem.specs.Log.{filler, room, behind, Fragment, checksum, IsChecksum, fragment_bytes, IsFragment, record_type, IsRemainder, IsRecord, End, clean, bad, LogOf}
-use Rattle.leveldb_mem.specs.LogLaws.Fragments.{fragment_of, length-fragment, header_tells}
+use Rattle.leveldb_mem.specs.LogLaws.Fragments.{fragment_of, length-fragment}
+use Rattle.leveldb_mem.specs.LogLaws.Headers.{header_tells, none_short}
 use Rattle.leveldb_mem.specs.LogLaws.Records.{length-record}
 use Rattle.leveldb_mem.specs.LogLaws.Remainders.{NoFragment, NoRemainder, NoRecord, last_fragment, next_fragment, none_without, none_behind, none_without_data, no_record_without}
 
@@ -54,14 +55,6 @@ module _ (checked : Bool) (size : ℕ) (fits : size ≤ 32768) where
   behind_filler place bytes f front more e is =
       front_again bytes (filler size place) (fragment_bytes is.sum f ++ more) (e ∙ ap (λ z. z ++ more) is.bytes_are ∙ append_assoc (filler size place) (fragment_bytes is.sum f) more)
 
-  too_short : (place : ℕ) (bytes : List ℕ) → length (drop (length (filler size place)) bytes) < 7 → NoFragment checked size place bytes
-  too_short place bytes few f front more e is =
-      let whole = ap length e in
-      let both = length-append front more in
-      let long = length-fragment checked size f place front is in
-      let left = length-drop (length (filler size place)) bytes in
-      omega arith
-
   module _ (place : ℕ) (bytes sum rest : List ℕ) (low high type : ℕ) (four : length sum ≡ 4) (header : sum ++ low ∷ high ∷ type ∷ rest ≡ drop (length (filler size place)) bytes) where
     -- the fragment of which the header tells
     abbrev told : Fragment
@@ -99,7 +92,11 @@ module _ (checked : Bool) (size : ℕ) (fits : size ≤ 32768) where
     where
       by_header : (left : List ℕ) → left ≡ drop (length (filler size place)) bytes → First place bytes ⊎ NoFragment checked size place bytes
       by_header (a ∷ b ∷ c ∷ d ∷ low ∷ high ∷ type ∷ rest) e = told_or_none place bytes (a ∷ b ∷ c ∷ d ∷ []) rest low high type refl e
-      by_header left e = inr (too_short place bytes (subst (λ z. length z < 7) e (omega arith)))
+      by_header left e =
+          let few : length left < 7 = omega arith in
+          let whole = ap length e in
+          let n = length-drop (length (filler size place)) bytes in
+          inr (none_short checked size place bytes (omega arith))
 
   -- ---- what is left of a record, and a record
 
