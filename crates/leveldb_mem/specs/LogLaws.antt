@@ -11,7 +11,7 @@ pub mod Readings
 pub mod Breaks
 pub mod Crashes
 pub mod Files
-use Rattle.std.proofs.Common.{refl, sym, ◌∙◌, ap, arith, length-append, lit≤}
+use Rattle.std.proofs.Common.{inl, inr, ⊎_elim, refl, sym, ◌∙◌, ap, arith, length-append, lit≤}
 use Rattle.std.proofs.lemmas.List.{take_at, take-append-le, drop-append-le, length-drop}
 use Rattle.std.specs.Prelude.{◌≡◌, ◌≢◌, ℕ, ◌+◌, ◌<◌, ◌≤◌, ◌⊎◌, Bool, true, List, [], ◌∷◌, ◌++◌, length, take, drop, All}
 use Rattle.leveldb_mem.specs.Log.{IsBlockSize, log_block_size, behind, End, clean, bad, Ends, LogOf, IsLogFile, IsFramedRecord, IsFramed, framed_record, framed, frame_at, BreaksOff}
@@ -105,7 +105,7 @@ CrashLeaves = (size : ℕ) (kept since missing tail : List ℕ) (first records f
 
 -- the first records, at least so many, or all and one more
 abbrev pub SomeOf : ℕ → List (List ℕ) → List ℕ → List (List ℕ) → Type 0
-SomeOf least records one found = ((n : ℕ) × (least ≤ n) × (n ≤ length records) × (found ≡ take n records)) ⊎ (found ≡ records ++ one ∷ [])
+SomeOf least records one found = AreFirst least records found ⊎ (found ≡ records ++ one ∷ [])
 
 -- what a store takes of a log's file for its theorem on crashes
 pub record LogLaws : Type 0 where
@@ -195,6 +195,12 @@ crash_leaves size kept since missing tail first records found first_end found_en
     let upper = crashes.honest_log size block.least block.most (kept ++ since) missing (kept ++ tail) records found found_end is is_found (omega arith) honest in
     first_of (length first) records found upper.0 upper.1 (longer found first lower.0 lower.1)
 
+some_of : (least : ℕ) (records found : List (List ℕ)) (one : List ℕ) → ((n : ℕ) × (least ≤ n) × (n ≤ length records) × (found ≡ take n records)) ⊎ (found ≡ records ++ one ∷ []) → SomeOf least records one found
+some_of least records found one =
+    ⊎_elim
+    (λ (few : (n : ℕ) × (least ≤ n) × (n ≤ length records) × (found ≡ take n records)). inl (record { count = few.0; enough = few.1; there = few.2; first = few.3 }))
+    (λ (all : found ≡ records ++ one ∷ []). inr all)
+
 -- the usual size is one
 pub usual_size : IsBlockSize log_block_size
 usual_size = record { least = lit≤ tt; most = lit≤ tt }
@@ -206,5 +212,7 @@ log_laws = record {
   more = files.one_more log_block_size usual_size;
   part = files.cut_short log_block_size usual_size;
   cut = files.cut_at log_block_size usual_size;
-  torn = files.torn log_block_size usual_size;
+  torn = λ front rest tail first records text n e1 some is_first is short honest. (
+      let found = files.torn log_block_size usual_size front rest tail first records text n e1 some is_first is short honest in
+      (found.0, found.1, found.2, some_of (length first) records found.0 text found.3));
 }
