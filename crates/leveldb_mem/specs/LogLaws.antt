@@ -57,6 +57,11 @@ FirstRecords = (checked : Bool) (size place : ℕ) (bytes : List ℕ) (records :
 abbrev pub BreaksBad : Type 0
 BreaksBad = (size place : ℕ) (front more : List ℕ) → IsBlockSize size → place < size → BreaksOff size true place front → LogOf true size [] bad place (front ++ more)
 
+-- bytes break off with a wrong checksum at one place at most
+abbrev pub BreaksOnce : Type 0
+BreaksOnce = (size place : ℕ) (these those more others : List ℕ) → IsBlockSize size → place < size → BreaksOff size true place these → BreaksOff size true place those
+    → these ++ more ≡ those ++ others → these ≡ those
+
 -- ---- writing
 
 -- a record that isn't empty has the framing that the function gives
@@ -155,6 +160,9 @@ front_of_records = logs.first_records
 
 pub breaks_bad : BreaksBad
 breaks_bad size place front more block inside off = breaks.breaks_bad size block.most place front more inside off
+
+pub breaks_once : BreaksOnce
+breaks_once size place these those more others block inside off other e = breaks.breaks_once size block.most place these those more others inside off other e
 
 pub record_framed : RecordFramed
 record_framed size place text block inside some = framings.framed_record_is size block.least text place inside some
