@@ -116,9 +116,10 @@ pub record LogLaws : Type 0 where
   pub fits : (bytes : List ℕ) (offset n : ℕ) → FragmentAt log_block_size bytes offset n → offset + n ≤ length bytes
   -- behind a clean end the frame of a record is one record more
   pub more : (bytes : List ℕ) (records : List (List ℕ)) (text : List ℕ) → text ≢ [] → IsLogFile bytes records clean → IsLogFile (bytes ++ frame_at (length bytes) text) (records ++ text ∷ []) clean
-  -- a beginning of the frame is no record, or that one
+  -- a beginning of the frame is no record, or that one, and one that isn't whole is none
   pub part : (bytes : List ℕ) (records : List (List ℕ)) (text : List ℕ) (n : ℕ) → text ≢ [] → IsLogFile bytes records clean
       → (found : List (List ℕ)) × (e : End) × IsLogFile (bytes ++ take n (frame_at (length bytes) text)) found e × ((found ≡ records) ⊎ (found ≡ records ++ text ∷ []))
+      × (n < length (frame_at (length bytes) text) → found ≡ records)
   -- for each number of records, from those that a front has on, a longer front has just these
   pub cut : (front rest : List ℕ) (first records : List (List ℕ)) (e1 e2 : End) (n : ℕ) → IsLogFile front first e1 → IsLogFile (front ++ rest) records e2 → length first ≤ n → n ≤ length records
       → (k : ℕ) × (e : End) × IsLogFile (front ++ take k rest) (take n records) e
