@@ -10,3 +10,4 @@ pub mod Sources
 pub mod SourceLaws
 pub mod OpenFiles
 pub mod OpenFileLaws
+pub mod WholeFiles
