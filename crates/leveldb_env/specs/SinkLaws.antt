@@ -96,5 +96,7 @@ each_behind from [] to put = put ∙ sym (append-nil from)
 each_behind from (piece ∷ pieces) to put = each_behind put.0 pieces to put.2 ∙ ap (λ b. b ++ concat pieces) put.1.ok ∙ append_assoc from piece (concat pieces)
 
 -- all that was put stands behind what was there
-pub PutsAll-behind : {from to bytes : List ℕ} → PutsAll PutsBehind from bytes to → to ≡ from ++ bytes
-PutsAll-behind {from} {to} all = each_behind from all.pieces to all.put ∙ ap (λ b. from ++ b) (sym all.joined)
+pub PutsAll-behind : {S : Type 0} (items : S → List ℕ) {from to : S} {bytes : List ℕ} → PutsAll (λ old put result new. PutsBehind (items old) put result (items new)) from bytes to → items to ≡ items from ++ bytes
+PutsAll-behind {S} items {from} {to} all =
+    let seen = PutsAll-seen (λ (old : S) put result (new : S). PutsBehind (items old) put result (items new)) PutsBehind items (λ old put result new behind. behind) all in
+    each_behind (items from) seen.pieces (items to) seen.put ∙ ap (λ b. items from ++ b) (sym seen.joined)

@@ -90,15 +90,21 @@ drawn_first from (piece ∷ pieces) to drawn =
     sym (take-append-drop drawn.0 from) ∙ ap (λ p. p ++ drop drawn.0 from) (sym piece_is)
     ∙ ap (λ b. piece ++ b) (sym drawn.3.left ∙ drawn_first drawn.1 pieces to drawn.4) ∙ sym (append_assoc piece (concat pieces) to)
 
--- what was given comes before what is left
-pub GivesSome-first : {from to bytes : List ℕ} → GivesSome GivesFirst from bytes to → from ≡ bytes ++ to
-GivesSome-first {from} {to} some = drawn_first from some.pieces to some.drawn ∙ ap (λ b. b ++ to) (sym some.joined)
+module _ {S : Type 0} (left : S → List ℕ) where
+  abbrev first_given : S → ℕ → Result (List ℕ) Status → S → Type 0
+  first_given old room result new = GivesFirst (left old) room result (left new)
 
--- all was given, and nothing is left
-pub GivesAll-first : {from to bytes : List ℕ} → GivesAll GivesFirst from bytes to → (bytes ≡ from) × (to ≡ [])
-GivesAll-first {from} {to} {bytes} all =
-    let none : [] ≡ take all.at_end.0 all.mid = cc (all.at_end.2.ok) in
-    let ended = taken_none all.at_end.0 all.mid all.at_end.1 none in (
-      sym (GivesSome-first all.given_before ∙ ap (λ b. bytes ++ b) ended ∙ append-nil bytes),
-      all.at_end.2.left ∙ ap (drop all.at_end.0) ended ∙ drop-nil all.at_end.0,
-    )
+  -- what was given comes before what is left
+  pub GivesSome-first : {from to : S} {bytes : List ℕ} → GivesSome first_given from bytes to → left from ≡ bytes ++ left to
+  GivesSome-first {from} {to} some =
+      let seen = GivesSome-seen first_given GivesFirst left (λ old room result new first. first) some in
+      drawn_first (left from) seen.pieces (left to) seen.drawn ∙ ap (λ b. b ++ left to) (sym seen.joined)
+
+  -- all was given, and nothing is left
+  pub GivesAll-first : {from to : S} {bytes : List ℕ} → GivesAll first_given from bytes to → (bytes ≡ left from) × (left to ≡ [])
+  GivesAll-first {from} {to} {bytes} all =
+      let none : [] ≡ take all.at_end.0 (left all.mid) = cc (all.at_end.2.ok) in
+      let ended = taken_none all.at_end.0 (left all.mid) all.at_end.1 none in (
+        sym (GivesSome-first all.given_before ∙ ap (λ b. bytes ++ b) ended ∙ append-nil bytes),
+        all.at_end.2.left ∙ ap (drop all.at_end.0) ended ∙ drop-nil all.at_end.0,
+      )
