@@ -2,3 +2,4 @@ pub mod Disk
 pub mod Times
 pub mod Calls
 pub mod Bytes
+pub mod Mem

@@ -1,0 +1,3 @@
+//! Environments in memory.
+
+pub mod files;
