@@ -12,7 +12,7 @@ use Rattle.std.specs.Str.{bytes_eq}
 use Rattle.std.proofs.lemmas.Map.Entries.{lookup-filter-keys}
 use Rattle.std.proofs.lemmas.Map.Text.{btree_map_updates_text, is_eq-slice_cmp}
 use Rattle.std.specs.declared.alloc.Global.{Global}
-use Rattle.leveldb_env.specs.Disk.{File, Files, with_file, or_empty, created, deleted, renamed, is_under, without_folder}
+use Rattle.leveldb_env.specs.Disk.{File, Files, with_file, or_empty, created, deleted, moved, renamed, is_under, without_folder}
 use Rattle.leveldb_env.specs.Mem.{files_of}
 
 abbrev pub FileMap : Type 0
@@ -83,9 +83,10 @@ module _ (files : Files) (from to : List ℕ) where
       some None = refl
       some (Some x) = refl
 
-  pub renamed_by_steps : (y : Option File) → y ≡ files from → with_file to y (deleted from (created to files)) ≡ renamed from to files
-  renamed_by_steps y is = λ i q. at q (bytes_eq to q) i
+  pub renamed_by_steps : (file : Option File) → IsSome file → file ≡ files from → with_file to file (deleted from (created to files)) ≡ renamed from to files
+  renamed_by_steps None there is = absurd (cc there)
+  renamed_by_steps (Some file) there is = (λ i q. at q (bytes_eq to q) i) ∙ ap (moved from to files) is
     where
-      at : (q : List ℕ) (b : Bool) → cond b y (cond (bytes_eq from q) None (cond b (or_empty (files to)) (files q))) ≡ cond b (files from) (cond (bytes_eq from q) None (files q))
-      at q true = is
+      at : (q : List ℕ) (b : Bool) → cond b (Some file) (cond (bytes_eq from q) None (cond b (or_empty (files to)) (files q))) ≡ cond b (Some file) (cond (bytes_eq from q) None (files q))
+      at q true = refl
       at q false = refl

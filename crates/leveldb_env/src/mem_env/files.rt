@@ -1,5 +1,5 @@
 //! Files in memory, and what the calls of an environment make of a map of them by name.
-ghost use Rattle.std.specs.Prelude.{◌≡◌, [], length, is_some, map, OnOk, OnErr, IfOk, IsSome, string_bytes};
+ghost use Rattle.std.specs.Prelude.{◌≡◌, false, [], length, is_some, map, OnOk, OnErr, IfOk, IsSome, string_bytes};
 ghost use Rattle.std.specs.Option.{option_copied};
 ghost use Rattle.leveldb_env.specs.Disk.{bytes_of, kept_file, longer_file, file_kept, with_file, emptied, created, deleted, renamed, extended, synced, without_folder};
 ghost use Rattle.leveldb_env.specs.Calls.{ReadsFrom, Lists};
@@ -111,53 +111,65 @@ pub fn create_file(files: &mut FileMap, alloc: Global, name: &str) -> Result<(),
     empty_file(files, alloc, name)
 }
 
-/// Puts bytes behind those of the name's file. A missing name stays missing.
-pub fn extend_file(files: &mut FileMap, name: &str, bytes: &[u8]) -> Result<(), AllocError>
+/// Puts bytes behind those of the name's file. Whether the name is there is answered.
+pub fn extend_file(files: &mut FileMap, name: &str, bytes: &[u8]) -> Result<bool, AllocError>
+    ensures there { IfOk result (λ there. there ≡ is_some (files_of files.old name.now)) }
     ensures ok { OnOk result (files_of files.new ≡ extended name.now bytes.now (files_of files.old)) }
+    ensures missing { result ≡ Ok false → files_of files.new ≡ files_of files.old }
     ensures err { OnErr result (files_of files.new ≡ files_of files.old) }
 {
-    if let Some(file) = files.get_mut(name) {
-        file.append(bytes)?;
-    }
-    Ok(())
+    let Some(file) = files.get_mut(name) else {
+        return Ok(false);
+    };
+    file.append(bytes)?;
+    Ok(true)
 }
 
-/// Makes a crash keep all bytes of the name's file.
-pub fn sync_file(files: &mut FileMap, name: &str)
-    ensures { files_of files.new ≡ synced name.now (files_of files.old) }
+/// Makes a crash keep all bytes of the name's file. Whether the name is there is answered.
+pub fn sync_file(files: &mut FileMap, name: &str) -> bool
+    ensures there { result ≡ is_some (files_of files.old name.now) }
+    ensures synced { files_of files.new ≡ synced name.now (files_of files.old) }
+    ensures missing { result ≡ false → files_of files.new ≡ files_of files.old }
 {
-    if let Some(file) = files.get_mut(name) {
-        file.sync();
-    }
+    let Some(file) = files.get_mut(name) else {
+        return false;
+    };
+    file.sync();
+    true
 }
 
 /// Takes a name and its file away. Whether the name was there is answered.
 pub fn delete_file(files: &mut FileMap, name: &str) -> bool
     ensures there { result ≡ is_some (files_of files.old name.now) }
     ensures deleted { files_of files.new ≡ deleted name.now (files_of files.old) }
+    ensures missing { result ≡ false → files_of files.new ≡ files_of files.old }
 {
     files.remove(name).is_some()
 }
 
-/// Gives the file under a name another name, in place of what stood there.
+/// Gives a file another name, in place of what stood there. Whether the old name was there is answered.
 pub fn rename_file(
     files: &mut FileMap,
     alloc: Global,
     from: &str,
     to: &str,
-) -> Result<(), AllocError>
-    requires { IsSome (files_of files.old from.now) }
+) -> Result<bool, AllocError>
+    ensures there { IfOk result (λ there. there ≡ is_some (files_of files.old from.now)) }
     ensures ok { OnOk result (files_of files.new ≡ renamed from.now to.now (files_of files.old)) }
+    ensures missing { result ≡ Ok false → files_of files.new ≡ files_of files.old }
     ensures err { OnErr result (files_of files.new ≡ files_of files.old) }
 {
+    if !files.contains_key(from) {
+        return Ok(false);
+    }
     if from == to {
-        return Ok(());
+        return Ok(true);
     }
     create_file(files, alloc, to)?;
     if let Some(moved) = files.remove(from) {
         replace_file(files, to, moved);
     }
-    Ok(())
+    Ok(true)
 }
 
 // Puts a file in place of the one that stands under the name.

@@ -3,8 +3,8 @@ use Rattle.leveldb_env.specs.Disk.{longer_file}
 use Rattle.leveldb_env.proofs.Files.{files_written, files_unwritten}
 use Rattle.leveldb_env.proofs.mem_env.files.extend_file.Goals as goal
 
-pub returns-in_ok-append-clause-ok : goal.returns-in_ok-append-clause-ok
-returns-in_ok-append-clause-ok c =
+pub returns-clause-ok : goal.returns-clause-ok
+returns-clause-ok c =
     let w = c.append.new.self in
     files_written c.args.name.now c.args.files.now (c.get_mut.follows.lender w) c.in-Some.file.now w (longer_file c.args.bytes.now) c.in-Some.ensures.value (c.get_mut.follows.holds w).3 c.in_ok-append.ensures.ok
 
