@@ -1,6 +1,8 @@
 -- A change of one name in a map of files, as a change of what stands under it.
 use Rattle.std.proofs.Common.{◌≡◌, ℕ, Bool, true, false, not, cond, List, Option, Some, None, IsSome, refl, sym, ◌∙◌, ap, subst, String, string_bytes}
 use Rattle.std.specs.BTreeMap as tree
+use Rattle.std.specs.BTreeSet as sorted
+use Rattle.std.specs.BTreeSet.{BTreeSet, contains_text}
 use Rattle.std.specs.BTreeMap.{BTreeMap, is_at, get_by_text}
 use Rattle.std.specs.Ordering.{nat_cmp}
 use Rattle.std.specs.Cmp.Lexicographic.{slice_cmp, bytes_decides, nat_list_eq_equiv}
@@ -10,9 +12,9 @@ use Rattle.std.specs.List.{filter}
 use Rattle.std.specs.Option.{option_map}
 use Rattle.std.specs.Str.{bytes_eq}
 use Rattle.std.proofs.lemmas.Map.Entries.{lookup-filter-keys}
-use Rattle.std.proofs.lemmas.Map.Text.{btree_map_updates_text, is_eq-slice_cmp}
+use Rattle.std.proofs.lemmas.Map.Text.{btree_map_updates_text, btree_set_updates_text, is_eq-slice_cmp}
 use Rattle.std.specs.declared.alloc.Global.{Global}
-use Rattle.leveldb_env.specs.Disk.{File, Files, with_file, or_empty, created, deleted, moved, renamed, is_under, without_folder}
+use Rattle.leveldb_env.specs.Disk.{File, Files, with_file, lock_set, or_empty, created, deleted, moved, renamed, is_under, without_folder}
 use Rattle.leveldb_env.specs.Mem.{files_of}
 
 abbrev pub FileMap : Type 0
@@ -90,3 +92,8 @@ module _ (files : Files) (from to : List ℕ) where
       at : (q : List ℕ) (b : Bool) → cond b (Some file) (cond (bytes_eq from q) None (cond b (or_empty (files to)) (files q))) ≡ cond b (Some file) (cond (bytes_eq from q) None (files q))
       at q true = refl
       at q false = refl
+
+-- ---- locks
+
+pub locks_updated : (name : List ℕ) (s n : BTreeSet (String Global)) (held : Bool) → sorted.UpdatesBy string_cmp (λ k. slice_cmp nat_cmp name (string_bytes k)) s n held → contains_text n ≡ lock_set name held (contains_text s)
+locks_updated name s n held updates = λ i q. btree_set_updates_text name s n held updates q i

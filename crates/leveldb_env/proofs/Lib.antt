@@ -2,3 +2,5 @@ pub mod Elements
 pub mod Files
 pub mod Names
 pub mod Folders
+pub mod Locks
+pub mod Appends

@@ -1,5 +1,5 @@
 //! Files in memory, and what the calls of an environment make of a map of them by name.
-ghost use Rattle.std.specs.Prelude.{◌≡◌, false, [], length, is_some, map, OnOk, OnErr, IfOk, IsSome, string_bytes};
+ghost use Rattle.std.specs.Prelude.{◌≡◌, ◌<◌, ◌+◌, ◌^◌, false, [], length, is_some, map, OnOk, OnErr, IfOk, IsSome, string_bytes};
 ghost use Rattle.std.specs.Option.{option_copied};
 ghost use Rattle.leveldb_env.specs.Disk.{bytes_of, kept_file, longer_file, file_kept, with_file, emptied, created, deleted, renamed, extended, synced, without_folder};
 ghost use Rattle.leveldb_env.specs.Calls.{ReadsFrom, Lists};
@@ -47,7 +47,8 @@ impl MemFile {
 
     /// Copies its bytes from a place on to the front of the target, as far as both go. How many came is answered.
     pub fn read_at(&self, place: usize, target: &mut [u8]) -> usize
-        ensures { ReadsFrom place result target.new (bytes_of self.now) }
+        ensures read { ReadsFrom place result target.new (bytes_of self.now) }
+        ensures end { place + result < 2 ^ 64 }
     {
         if place >= self.bytes.len() {
             return 0;
