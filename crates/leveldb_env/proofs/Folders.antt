@@ -14,7 +14,7 @@ use Rattle.std.proofs.lemmas.Map.Made.{is_member-Decides}
 use Rattle.std.proofs.lemmas.Slice.Eq.{starts_is}
 use Rattle.leveldb_env.specs.Calls.{Lists}
 use Rattle.leveldb_env.specs.Disk.{Files, is_under, in_folder}
-use Rattle.leveldb_env.specs.Mem.{child_under, child_in, without_slash}
+use Rattle.leveldb_env.specs.Folders.{child_under, child_in, without_slash}
 use Rattle.leveldb_env.proofs.Elements.{filter_map_source, Contains-filter_map, IsDistinct-filter_map}
 use Rattle.leveldb_env.proofs.Names.{AreNames}
 

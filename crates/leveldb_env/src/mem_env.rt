@@ -1,15 +1,15 @@
 //! An environment in memory.
-ghost use Rattle.std.specs.Prelude.{◌≡◌, ◌<◌, ◌+◌, ◌^◌, true, false, ℕ, List, length, map, Ok, IfOk, IfErr, IsErrAnd, OnOk, OnErr, Some, None, IsSome, IsSomeAnd, is_some, string_bytes};
-ghost use Rattle.std.proofs.Common.{rules};
+ghost use Rattle.std.specs.Prelude.{◌≡◌, ◌⊎◌, ◌<◌, ◌+◌, ◌^◌, true, false, refl, ℕ, List, length, map, codes, Ok, IfOk, IfErr, IfSome, IsErrAnd, OnOk, OnErr, Some, None, IsSome, IsSomeAnd, is_some, string_bytes};
 ghost use Rattle.std.specs.BTreeSet.{contains_text};
+ghost use Rattle.leveldb_base.specs.Status.{status_text, annotated};
 ghost use Rattle.leveldb_env.specs.Disk.{bytes_of, emptied, created, deleted, renamed, extended, synced, without_folder, lock_set};
-ghost use Rattle.leveldb_env.specs.Calls.{NoMemory, IsMissing, IsLocked, LockIs, ReadsAt, Lists};
-ghost use Rattle.leveldb_env.specs.Mem.{Changes, disk_of, time_of, told_of, handle_name, handle_place, never_stood, tells_no_moments};
+ghost use Rattle.leveldb_env.specs.Calls.{NoMemory, Lists};
+ghost use Rattle.leveldb_env.specs.Mem.{Changes, CopiesFrom, IsNoSuchFile, IsNoFileOrMemory, IsAlreadyLocked, IsNotLocked, lock_taken, lock_freed, disk_of, time_of, told_of, handle_name, handle_place, fails_below, never_stood, tells_no_moments};
 
 pub mod files;
 
 use crate::env::Env;
-use files::{FileMap, MemFile};
+use files::FileMap;
 use leveldb_base::error::{Result, Status, StatusCode};
 use std::alloc::{AllocError, Global};
 use std::collections::{BTreeMap, BTreeSet};
@@ -31,11 +31,12 @@ pub struct MemHandle {
 }
 
 impl MemEnv {
-    /// A disk without a name or a lock, at time 0.
+    /// A disk without a name or a lock, at time 0. No device ever refuses it a call.
     pub fn new(alloc: Global) -> MemEnv
         ensures files { (name : List ℕ) → (disk_of result).files name ≡ None }
         ensures locks { (name : List ℕ) → (disk_of result).locked name ≡ false }
         ensures time { time_of result ≡ 0 }
+        ensures no_failure { (env : MemEnv) → ⟦<MemEnv as Env>⟧.failures env ≡ 0 }
     {
         MemEnv {
             alloc,
@@ -55,9 +56,10 @@ impl MemEnv {
 
     // Copies bytes of the name's file from a place on to the front of the target.
     fn copy_at(&self, name: &str, place: usize, target: &mut [u8]) -> Result<usize>
-        ensures read { IfOk result (λ n. ReadsAt ((disk_of self.now).files name.now) place n target.new) }
+        ensures copied { IfOk result (λ n. CopiesFrom ((disk_of self.now).files name.now) place n target.old target.new) }
         ensures end { IfOk result (λ n. place + n < 2 ^ 64) }
-        ensures refused { IfErr result (IsMissing true name.now (told_of self.now)) }
+        ensures refused { IfErr result (IsNoSuchFile (disk_of self.now).files name.now) }
+        ensures err { OnErr result (target.new ≡ target.old) }
     {
         match self.files.get(name) {
             Some(file) => Ok(file.read_at(place, target)),
@@ -82,7 +84,8 @@ impl MemHandle {
 // A refusal whose text says what is wrong with which name, where there is memory for it.
 #[cold]
 fn refuse<T>(alloc: Global, code: StatusCode, what: &str, name: &str) -> Result<T>
-    ensures { IsErrAnd result (λ status. status.code ≡ code) }
+    ensures code { IsErrAnd result (λ status. status.code ≡ code) }
+    ensures text { IsErrAnd result (λ status. IfSome status.err (λ text. string_bytes text ≡ status_text code (annotated what.now name.now))) }
 {
     let Ok(msg) = format!(in alloc; "{what}: {name}") else {
         return Err(Status { code, err: None });
@@ -92,7 +95,8 @@ fn refuse<T>(alloc: Global, code: StatusCode, what: &str, name: &str) -> Result<
 
 #[cold]
 fn missing<T>(alloc: Global, name: &str) -> Result<T>
-    ensures { IsErrAnd result (λ status. status.code ≡ StatusCode.NotFound) }
+    ensures code { IsErrAnd result (λ status. status.code ≡ StatusCode.NotFound) }
+    ensures text { IsErrAnd result (λ status. IfSome status.err (λ text. string_bytes text ≡ status_text StatusCode.NotFound (annotated (codes "no such file") name.now))) }
 {
     refuse(alloc, StatusCode::NotFound, "no such file", name)
 }
@@ -132,19 +136,19 @@ impl Env for MemEnv {
 
     ghost place_of = { handle_place };
 
-    ghost counts = { λ _. Prim.search rules };
+    ghost counts = { fails_below };
 
     ghost only_now = { never_stood };
 
     ghost counts_now = { tells_no_moments };
 
-    ghost moments_need_disk = { λ told. cc };
+    ghost moments_need_disk = { λ told. refl };
 
     fn open_sequential_file(&mut self, name: &str) -> Result<MemHandle>
         ensures still { self.new ≡ self.old }
         ensures file { IfOk result (λ file. (handle_name file ≡ name.now) × (handle_place file ≡ 0)) }
         ensures there { OnOk result (IsSome ((disk_of self.old).files name.now)) }
-        ensures refused { IfErr result (IsMissing true name.now (told_of self.old)) }
+        ensures refused { IfErr result (IsNoFileOrMemory (disk_of self.old).files name.now) }
     {
         if !self.files.contains_key(name) {
             return missing(self.alloc, name);
@@ -156,7 +160,7 @@ impl Env for MemEnv {
         ensures still { self.new ≡ self.old }
         ensures file { IfOk result (λ file. (handle_name file ≡ name.now) × (handle_place file ≡ 0)) }
         ensures there { OnOk result (IsSome ((disk_of self.old).files name.now)) }
-        ensures refused { IfErr result (IsMissing true name.now (told_of self.old)) }
+        ensures refused { IfErr result (IsNoFileOrMemory (disk_of self.old).files name.now) }
     {
         self.open_sequential_file(name)
     }
@@ -183,10 +187,11 @@ impl Env for MemEnv {
 
     fn read(&mut self, file: &mut MemHandle, target: &mut [u8]) -> Result<usize>
         ensures still { self.new ≡ self.old }
-        ensures read { IfOk result (λ n. ReadsAt ((disk_of self.old).files (handle_name file.old)) (handle_place file.old) n target.new) }
+        ensures copied { IfOk result (λ n. CopiesFrom ((disk_of self.old).files (handle_name file.old)) (handle_place file.old) n target.old target.new) }
         ensures place { IfOk result (λ n. handle_place file.new ≡ handle_place file.old + n) }
         ensures name { handle_name file.new ≡ handle_name file.old }
-        ensures refused { IfErr result (IsMissing true (handle_name file.old) (told_of self.old)) }
+        ensures refused { IfErr result (IsNoSuchFile (disk_of self.old).files (handle_name file.old)) }
+        ensures err { OnErr result ((target.new ≡ target.old) × (file.new ≡ file.old)) }
     {
         let n = self.copy_at(file.name.as_str(), file.place, target)?;
         file.place += n;
@@ -195,8 +200,9 @@ impl Env for MemEnv {
 
     fn read_at(&mut self, file: &MemHandle, place: usize, target: &mut [u8]) -> Result<usize>
         ensures still { self.new ≡ self.old }
-        ensures read { IfOk result (λ n. ReadsAt ((disk_of self.old).files (handle_name file.now)) place n target.new) }
-        ensures refused { IfErr result (IsMissing true (handle_name file.now) (told_of self.old)) }
+        ensures copied { IfOk result (λ n. CopiesFrom ((disk_of self.old).files (handle_name file.now)) place n target.old target.new) }
+        ensures refused { IfErr result (IsNoSuchFile (disk_of self.old).files (handle_name file.now)) }
+        ensures err { OnErr result (target.new ≡ target.old) }
     {
         self.copy_at(file.name.as_str(), place, target)
     }
@@ -205,7 +211,7 @@ impl Env for MemEnv {
         ensures changes { Changes (extended (handle_name file.old) bytes.now) self.old self.new result }
         ensures file { file.new ≡ file.old }
         ensures there { OnOk result (IsSome ((disk_of self.old).files (handle_name file.old))) }
-        ensures refused { IfErr result (IsMissing true (handle_name file.old) (told_of self.old)) }
+        ensures refused { IfErr result (IsNoFileOrMemory (disk_of self.old).files (handle_name file.old)) }
     {
         let name = file.name.as_str();
         if files::extend_file(&mut self.files, name, bytes)? {
@@ -218,7 +224,7 @@ impl Env for MemEnv {
         ensures changes { Changes (synced (handle_name file.old)) self.old self.new result }
         ensures file { file.new ≡ file.old }
         ensures there { OnOk result (IsSome ((disk_of self.old).files (handle_name file.old))) }
-        ensures refused { IfErr result (λ e. (e.code ≡ StatusCode.NotFound) × ((disk_of self.old).files (handle_name file.old) ≡ None)) }
+        ensures refused { IfErr result (IsNoSuchFile (disk_of self.old).files (handle_name file.old)) }
     {
         let name = file.name.as_str();
         if files::sync_file(&mut self.files, name) {
@@ -245,7 +251,7 @@ impl Env for MemEnv {
     fn size_of(&mut self, name: &str) -> Result<usize>
         ensures still { self.new ≡ self.old }
         ensures answer { IfOk result (λ n. IsSomeAnd ((disk_of self.old).files name.now) (λ file. n ≡ length (bytes_of file))) }
-        ensures refused { IfErr result (λ e. (e.code ≡ StatusCode.NotFound) × ((disk_of self.old).files name.now ≡ None)) }
+        ensures refused { IfErr result (IsNoSuchFile (disk_of self.old).files name.now) }
     {
         match self.files.get(name) {
             Some(found) => Ok(found.size()),
@@ -256,7 +262,7 @@ impl Env for MemEnv {
     fn delete(&mut self, name: &str) -> Result<()>
         ensures changes { Changes (deleted name.now) self.old self.new result }
         ensures there { OnOk result (IsSome ((disk_of self.old).files name.now)) }
-        ensures refused { IfErr result (λ e. (e.code ≡ StatusCode.NotFound) × ((disk_of self.old).files name.now ≡ None)) }
+        ensures refused { IfErr result (IsNoSuchFile (disk_of self.old).files name.now) }
     {
         if files::delete_file(&mut self.files, name) {
             return Ok(());
@@ -282,7 +288,7 @@ impl Env for MemEnv {
     fn rename(&mut self, from: &str, to: &str) -> Result<()>
         ensures changes { Changes (renamed from.now to.now) self.old self.new result }
         ensures there { OnOk result (IsSome ((disk_of self.old).files from.now)) }
-        ensures refused { IfErr result (IsMissing true from.now (told_of self.old)) }
+        ensures refused { IfErr result (IsNoFileOrMemory (disk_of self.old).files from.now) }
     {
         if files::rename_file(&mut self.files, self.alloc, from, to)? {
             return Ok(());
@@ -291,14 +297,14 @@ impl Env for MemEnv {
     }
 
     fn lock(&mut self, name: &str) -> Result<()>
-        ensures ok { OnOk result (disk_of self.new ≡ record { files = created name.now (disk_of self.old).files; locked = lock_set name.now true (disk_of self.old).locked }) }
+        ensures ok { OnOk result (disk_of self.new ≡ lock_taken name.now (disk_of self.old)) }
         ensures err { OnErr result (disk_of self.new ≡ disk_of self.old) }
         ensures time { time_of self.new ≡ time_of self.old }
         ensures was_free { OnOk result ((disk_of self.old).locked name.now ≡ false) }
-        ensures refused { IfErr result (IsLocked true name.now (told_of self.old)) }
+        ensures refused { IfErr result (λ e. NoMemory e ⊎ IsAlreadyLocked (disk_of self.old).locked name.now e) }
     {
         if self.locks.contains(name) {
-            return refuse(self.alloc, StatusCode::LockError, "locked", name);
+            return refuse(self.alloc, StatusCode::LockError, "already locked", name);
         }
         put_lock(&mut self.locks, self.alloc, name)?;
         if let Err(refused) = files::create_file(&mut self.files, self.alloc, name) {
@@ -309,11 +315,11 @@ impl Env for MemEnv {
     }
 
     fn unlock(&mut self, name: &str) -> Result<()>
-        ensures ok { OnOk result (disk_of self.new ≡ record { files = (disk_of self.old).files; locked = lock_set name.now false (disk_of self.old).locked }) }
+        ensures ok { OnOk result (disk_of self.new ≡ lock_freed name.now (disk_of self.old)) }
         ensures err { OnErr result (disk_of self.new ≡ disk_of self.old) }
         ensures time { time_of self.new ≡ time_of self.old }
         ensures was_locked { OnOk result ((disk_of self.old).locked name.now ≡ true) }
-        ensures refused { IfErr result (LockIs true false name.now (told_of self.old)) }
+        ensures refused { IfErr result (IsNotLocked (disk_of self.old).locked name.now) }
     {
         if take_lock(&mut self.locks, name) {
             return Ok(());

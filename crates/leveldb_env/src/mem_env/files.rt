@@ -1,9 +1,10 @@
 //! Files in memory, and what the calls of an environment make of a map of them by name.
-ghost use Rattle.std.specs.Prelude.{◌≡◌, ◌<◌, ◌+◌, ◌^◌, false, [], length, is_some, map, OnOk, OnErr, IfOk, IsSome, string_bytes};
+ghost use Rattle.std.specs.Prelude.{◌≡◌, ◌<◌, ◌+◌, ◌^◌, false, [], length, min, drop, is_some, map, OnOk, OnErr, IfOk, IsSome, string_bytes};
 ghost use Rattle.std.specs.Option.{option_copied};
 ghost use Rattle.leveldb_env.specs.Disk.{bytes_of, kept_file, longer_file, file_kept, with_file, emptied, created, deleted, renamed, extended, synced, without_folder};
-ghost use Rattle.leveldb_env.specs.Calls.{ReadsFrom, Lists};
-ghost use Rattle.leveldb_env.specs.Mem.{files_of, child_under, child_in};
+ghost use Rattle.leveldb_env.specs.Calls.{Lists};
+ghost use Rattle.leveldb_env.specs.Folders.{child_under, child_in};
+ghost use Rattle.leveldb_env.specs.Mem.{files_of, copied_over};
 
 use std::alloc::{AllocError, Global};
 use std::collections::BTreeMap;
@@ -45,9 +46,10 @@ impl MemFile {
         self.bytes.len()
     }
 
-    /// Copies its bytes from a place on to the front of the target, as far as both go. How many came is answered.
+    /// Copies its bytes from a place on over the front of the target, as far as both go. How many came is answered.
     pub fn read_at(&self, place: usize, target: &mut [u8]) -> usize
-        ensures read { ReadsFrom place result target.new (bytes_of self.now) }
+        ensures count { result ≡ min (length target.old) (length (drop place (bytes_of self.now))) }
+        ensures copied { target.new ≡ copied_over (drop place (bytes_of self.now)) target.old }
         ensures end { place + result < 2 ^ 64 }
     {
         if place >= self.bytes.len() {
@@ -190,8 +192,8 @@ pub fn remove_folder(files: &mut FileMap, folder: &str)
     files.retain(|name, _file| child_of(folder, name.as_str()).is_none());
 }
 
-/// What stands behind the folder and its `/`, of a name that is under it.
-pub fn child_of<'a>(folder: &str, name: &'a str) -> Option<&'a str>
+// What stands behind the folder and its `/`, of a name that is under it.
+fn child_of<'a>(folder: &str, name: &'a str) -> Option<&'a str>
     ensures { option_copied result ≡ child_under folder.now name.now }
 {
     name.strip_prefix(folder)?.strip_prefix('/')

@@ -1,7 +1,7 @@
 use Rattle.std.proofs.Common.{◌∙◌, ap, sym, Some, None, cond, lit<}
 use Rattle.std.specs.Option.{option_and_then}
 use Rattle.std.proofs.lemmas.Str.Pattern.{contains_char}
-use Rattle.leveldb_env.specs.Mem.{without_slash}
+use Rattle.leveldb_env.specs.Folders.{without_slash}
 use Rattle.leveldb_env.proofs.Folders.{has_slash}
 use Rattle.leveldb_env.proofs.mem_env.files.direct_child.Goals as goal
 
