@@ -4,3 +4,5 @@ pub mod Names
 pub mod Folders
 pub mod Locks
 pub mod Appends
+pub mod Picks
+pub mod Leaving

@@ -4,3 +4,4 @@ pub mod Calls
 pub mod Bytes
 pub mod Folders
 pub mod Mem
+pub mod Picks

@@ -7,9 +7,11 @@ ghost use Rattle.leveldb_env.specs.Calls.{NoMemory, Lists};
 ghost use Rattle.leveldb_env.specs.Mem.{Changes, CopiesFrom, IsNoSuchFile, IsNoFileOrMemory, IsAlreadyLocked, IsNotLocked, lock_taken, lock_freed, disk_of, time_of, told_of, handle_name, handle_place, fails_below, never_stood, tells_no_moments};
 
 pub mod files;
+pub mod picks;
 
 use crate::env::Env;
 use files::FileMap;
+pub use picks::Pick;
 use leveldb_base::error::{Result, Status, StatusCode};
 use std::alloc::{AllocError, Global};
 use std::collections::{BTreeMap, BTreeSet};

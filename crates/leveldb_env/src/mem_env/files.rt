@@ -1,5 +1,5 @@
 //! Files in memory, and what the calls of an environment make of a map of them by name.
-ghost use Rattle.std.specs.Prelude.{◌≡◌, ◌<◌, ◌+◌, ◌^◌, false, [], length, min, drop, is_some, map, OnOk, OnErr, IfOk, IsSome, string_bytes};
+ghost use Rattle.std.specs.Prelude.{◌≡◌, ◌<◌, ◌+◌, ◌^◌, false, [], ◌++◌, length, min, drop, is_some, map, OnOk, OnErr, IfOk, IsSome, string_bytes};
 ghost use Rattle.std.specs.Option.{option_copied};
 ghost use Rattle.leveldb_env.specs.Disk.{bytes_of, kept_file, longer_file, file_kept, with_file, emptied, created, deleted, renamed, extended, synced, without_folder};
 ghost use Rattle.leveldb_env.specs.Calls.{Lists};
@@ -46,6 +46,13 @@ impl MemFile {
         self.bytes.len()
     }
 
+    /// How many bytes were appended since those that a crash keeps.
+    pub fn since_len(&self) -> usize
+        ensures { result ≡ length self.now.since }
+    {
+        self.bytes.len() - self.kept
+    }
+
     /// Copies its bytes from a place on over the front of the target, as far as both go. How many came is answered.
     pub fn read_at(&self, place: usize, target: &mut [u8]) -> usize
         ensures count { result ≡ min (length target.old) (length (drop place (bytes_of self.now))) }
@@ -74,6 +81,17 @@ impl MemFile {
         ensures { self.new ≡ file_kept self.old }
     {
         self.kept = self.bytes.len();
+    }
+
+    /// The file that a crash leaves: the kept bytes and behind them this tail, all kept.
+    pub fn left(&self, alloc: Global, tail: &[u8]) -> Result<MemFile, AllocError>
+        ensures { IfOk result (λ left. left ≡ kept_file (self.now.kept ++ tail.now)) }
+    {
+        let mut bytes = Vec::with_capacity(alloc, self.kept + tail.len())?;
+        bytes.extend_from_slice(&self.bytes[..self.kept])?;
+        bytes.extend_from_slice(tail)?;
+        let kept = bytes.len();
+        Ok(MemFile { bytes, kept })
     }
 }
 
