@@ -19,6 +19,11 @@ module _ {X : Type 0} where
   pub Contains-tail : (x : X) (xs : List X) (y : X) → Contains xs y → Contains (x ∷ xs) y
   Contains-tail x xs y among = Contains-append_right (x ∷ []) xs y among
 
+  -- what holds of each element
+  pub all_among : (P : X → Type 0) (xs : List X) → ((x : X) → Contains xs x → P x) → AllByRecursion P xs
+  all_among P [] holds = tt
+  all_among P (x ∷ xs) holds = (holds x (Contains-head x xs), all_among P xs (λ y among. holds y (Contains-tail x xs y among)))
+
 module _ {X Y : Type 0} (f : X → Option Y) where
   abbrev pub Source : List X → Y → Type 0
   Source xs y = (x : X) × Contains xs x × (f x ≡ Some y)

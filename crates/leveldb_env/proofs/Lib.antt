@@ -6,3 +6,4 @@ pub mod Locks
 pub mod Appends
 pub mod Picks
 pub mod Leaving
+pub mod PickLaws

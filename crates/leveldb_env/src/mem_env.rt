@@ -2,8 +2,9 @@
 ghost use Rattle.std.specs.Prelude.{◌≡◌, ◌⊎◌, ◌<◌, ◌+◌, ◌^◌, true, false, refl, ℕ, List, length, map, codes, Ok, IfOk, IfErr, IfSome, IsErrAnd, OnOk, OnErr, Some, None, IsSome, IsSomeAnd, is_some, string_bytes};
 ghost use Rattle.std.specs.BTreeSet.{contains_text};
 ghost use Rattle.leveldb_base.specs.Status.{status_text, annotated};
-ghost use Rattle.leveldb_env.specs.Disk.{bytes_of, emptied, created, deleted, renamed, extended, synced, without_folder, lock_set};
+ghost use Rattle.leveldb_env.specs.Disk.{bytes_of, emptied, created, deleted, renamed, extended, synced, without_folder, lock_set, LeavesDisk};
 ghost use Rattle.leveldb_env.specs.Calls.{NoMemory, Lists};
+ghost use Rattle.leveldb_env.specs.Picks.{picked, tails_of, IsAllowed, IsRefused, LeavesByTails};
 ghost use Rattle.leveldb_env.specs.Mem.{Changes, CopiesFrom, IsNoSuchFile, IsNoFileOrMemory, IsAlreadyLocked, IsNotLocked, lock_taken, lock_freed, disk_of, time_of, told_of, handle_name, handle_place, fails_below, never_stood, tells_no_moments};
 
 pub mod files;
@@ -11,8 +12,8 @@ pub mod picks;
 
 use crate::env::Env;
 use files::FileMap;
+use leveldb_base::error::{Result, Status, StatusCode, err};
 pub use picks::Pick;
-use leveldb_base::error::{Result, Status, StatusCode};
 use std::alloc::{AllocError, Global};
 use std::collections::{BTreeMap, BTreeSet};
 
@@ -54,6 +55,34 @@ impl MemEnv {
         ensures disk { disk_of self.new ≡ disk_of self.old }
     {
         self.micros = micros;
+    }
+
+    /// The disk that a crash now leaves by this choice: of each file the kept bytes and the tail picked
+    /// for it, then all kept, no lock held, the time as it was. `pick.after` is ignored.
+    ///
+    /// `InvalidArgument` for a name given twice or not there, and for a tail longer than what was
+    /// appended since. Each disk that a crash may leave is left by some choice.
+    pub fn crashed(&self, alloc: Global, pick: &Pick) -> Result<MemEnv>
+        ensures left { IfOk result (λ left. (disk_of left).files ≡ picked (tails_of pick.now.tails.items) (disk_of self.now).files) }
+        ensures leaves { IfOk result (λ left. LeavesDisk (disk_of self.now) (disk_of left)) }
+        ensures time { IfOk result (λ left. time_of left ≡ time_of self.now) }
+        ensures allowed { OnOk result (IsAllowed (disk_of self.now).files (tails_of pick.now.tails.items)) }
+        ensures refused { IfErr result (IsRefused (disk_of self.now).files (tails_of pick.now.tails.items)) }
+        ensures every { LeavesByTails (disk_of self.now).files }
+    {
+        if !picks::is_allowed(&self.files, pick.tails.as_slice()) {
+            return err(
+                alloc,
+                StatusCode::InvalidArgument,
+                "no crash leaves these tails",
+            );
+        }
+        Ok(MemEnv {
+            alloc,
+            files: picks::left_files(&self.files, alloc, pick.tails.as_slice())?,
+            locks: BTreeSet::new(alloc),
+            micros: self.micros,
+        })
     }
 
     // Copies bytes of the name's file from a place on to the front of the target.

@@ -1,4 +1,4 @@
-use Rattle.std.proofs.Common.{◌≡◌, ◌∙◌, ℕ, ◌+◌, List, Option, ◌∷◌, ◌++◌, None, take, drop, false, true, sym, ap, subst}
+use Rattle.std.proofs.Common.{◌≡◌, ◌∙◌, ℕ, ◌+◌, List, Option, ◌∷◌, ◌++◌, None, take, drop, sym, ap, subst}
 use Rattle.std.specs.Map.{lookup}
 use Rattle.std.specs.Str.{bytes_eq}
 use Rattle.leveldb_env.specs.Mem.{files_of}
@@ -32,12 +32,13 @@ loop-i-init c = allowed_none (files_of c.args.files.now)
 pub returns-then-not-is_tail : goal.returns-then-not-is_tail
 unfolding before
 returns-then-not-is_tail c =
-    let at = (goal.at.returns-then-not-is_tail c).After-as_slice in
-    (λ no. absurd (cc no),
-     λ allowed. elim c.then-not-is_tail.branch [
-       then-not-is_tail-via-then-not-is_tail w ↦ absurd (cc (sym w.if-not-is_tail.true ∙ c.is_tail.ensures.1 (fits at allowed)))
-       | then-not-is_tail-via-else-not-is_tail+then-is_some w ↦ absurd (copied_some w.find_tail.result _ w.find_tail.ensures (sym w.is_some.ensures ∙ w.if-is_some.true) (once at allowed))
-     ])
+    let at = (goal.at.returns-then-not-is_tail c).After-as_slice in (
+      λ no. absurd (cc no),
+      λ allowed. elim c.then-not-is_tail.branch [
+        | then-not-is_tail-via-then-not-is_tail w ↦ absurd (cc (sym w.if-not-is_tail.true ∙ c.is_tail.ensures.1 (fits at allowed)))
+        | then-not-is_tail-via-else-not-is_tail+then-is_some w ↦ absurd (copied_some w.find_tail.result _ w.find_tail.ensures (sym w.is_some.ensures ∙ w.if-is_some.true) (once at allowed))
+      ],
+    )
 
 pub loop-i-preserved : goal.loop-i-preserved
 unfolding before
@@ -48,6 +49,6 @@ loop-i-preserved c =
     let given = c.index-tails-i.result in
     let fits : IsTailOf files (pick_of given) = subst (IsTailOf files) (at_hand at) (c.is_tail.ensures.0 c.if-not-is_tail.false) in
     let new : lookup (bytes_eq (pick_of given).0) (tails_of (take c.loop-i.i tails)) ≡ None =
-        ap (before at) (sym c.as_str-name.ensures.value) ∙ copied_none c.find_tail.result _ c.find_tail.ensures (sym c.is_some.ensures ∙ c.if-is_some.false) in
+    ap (before at) (sym c.as_str-name.ensures.value) ∙ copied_none c.find_tail.result _ c.find_tail.ensures (sym c.is_some.ensures ∙ c.if-is_some.false) in
     subst (IsAllowed files) (sym (tails_up_to tails c.loop-i.i given c.loop-i-test.true c.index-tails-i.is))
     (allowed_more files (tails_of (take c.loop-i.i tails)) (pick_of given) c.loop-i.invariant fits new)
