@@ -9,6 +9,8 @@ ghost use Rattle.leveldb_env.specs.Mem.{Changes, CopiesFrom, IsNoSuchFile, IsNoF
 
 pub mod files;
 pub mod picks;
+#[cfg(test)]
+mod tests;
 
 use crate::env::Env;
 use files::FileMap;
