@@ -11,3 +11,6 @@ pub mod SourceLaws
 pub mod OpenFiles
 pub mod OpenFileLaws
 pub mod WholeFiles
+pub mod Folders
+pub mod Mem
+pub mod Picks
