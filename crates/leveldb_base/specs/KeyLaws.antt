@@ -1,7 +1,9 @@
 -- Keys are read as they were written, and only so.
 use Rattle.std.proofs.Common.{◌≡◌, ℕ, zero, suc, ◌+◌, ◌-◌, ◌*◌, ◌/◌, ◌%◌, ◌^◌, ◌<◌, ◌≤◌, Bool, true, false, cond, nat_le, nat_eq, List, [], ◌∷◌, ◌++◌, length, take, drop, slice_index, Option, None, Some, IfSome, refl, sym, ◌∙◌, ap, arith, append_assoc, append-nil}
 use Rattle.std.specs.List.{All, starts_with}
-use Rattle.std.proofs.lemmas.Bool.{lt-ltb, le-ltb, le-leb}
+use Rattle.std.specs.declared.cmp.Ordering.{Ordering}
+use Rattle.std.specs.Ordering.{ordering_then, nat_cmp}
+use Rattle.std.proofs.lemmas.Bool.{and_from, lt-ltb, le-ltb, le-leb}
 use Rattle.std.proofs.lemmas.Bool.Decides.{Decides-eqb}
 use Rattle.std.proofs.lemmas.List.Elements.{All-drop}
 use Rattle.std.proofs.lemmas.Slice.Eq.{starts_is}
@@ -14,7 +16,7 @@ use Rattle.leveldb_base.specs.VarintLaws.{varint_spells, apart, one_number, one_
 use Rattle.leveldb_base.specs.LittleLaws.{little-little_number}
 use Rattle.leveldb_base.specs.declared.key_types.ValueType.{ValueType}
 use Rattle.leveldb_base.specs.declared.key_types.ValueType.TheVariants.{TypeDeletion, TypeValue}
-use Rattle.leveldb_base.specs.Keys.{type_number, type_from, tag, internal_key, user_part, tag_part, sequence_part, type_part, lookup_key, memtable_key, tail_of, HasParts, front_number, behind_number, inner_key}
+use Rattle.leveldb_base.specs.Keys.{type_number, type_from, tag, internal_key, user_part, tag_part, sequence_part, type_part, internal_accepts, internal_cmp, lookup_key, memtable_key, tail_of, HasParts, front_number, behind_number, inner_key}
 
 pub length-internal_key : (user : List ℕ) (sequence : ℕ) (kind : ValueType) → length (internal_key user sequence kind) ≡ length user + 8
 length-internal_key user sequence kind = length-append user (little 8 (tag sequence kind)) ∙ ap (λ n. length user + n) (length-bytes_low_first 0 8 (tag sequence kind))
@@ -63,6 +65,21 @@ type_part-internal_key user sequence kind h = ap (λ n. type_from (n % 256)) (ta
 
 pub sequence_part-lt : (key : List ℕ) → sequence_part key < 2 ^ 56
 sequence_part-lt key = omega arith
+
+-- an internal key of an accepted user's key is accepted
+pub internal_accepts-internal_key : (accepts : List ℕ → Bool) (user : List ℕ) (sequence : ℕ) (kind : ValueType) → accepts user ≡ true → internal_accepts accepts (internal_key user sequence kind) ≡ true
+internal_accepts-internal_key accepts user sequence kind h =
+    let key = internal_key user sequence kind in
+    let size = length-internal_key user sequence kind in
+    let long : nat_le 8 (length key) ≡ true = le-leb 8 (length key) (omega (arith, size)) in
+    and_from (nat_le 8 (length key)) (accepts (user_part key)) long (ap accepts (user_part-internal_key user sequence kind) ∙ h)
+
+-- how an internal key is ordered
+pub internal_cmp-internal_key : (cmp : List ℕ → List ℕ → Ordering) (user : List ℕ) (sequence : ℕ) (kind : ValueType) (b : List ℕ) → sequence < 2 ^ 56
+    → internal_cmp cmp (internal_key user sequence kind) b ≡ ordering_then (cmp user (user_part b)) (nat_cmp (sequence_part b) sequence)
+internal_cmp-internal_key cmp user sequence kind b h =
+    ap (λ u. ordering_then (cmp u (user_part b)) (nat_cmp (sequence_part b) (sequence_part (internal_key user sequence kind)))) (user_part-internal_key user sequence kind)
+    ∙ ap (λ n. ordering_then (cmp user (user_part b)) (nat_cmp (sequence_part b) n)) (sequence_part-internal_key user sequence kind h)
 
 type_number-from : (n : ℕ) → n < 2 → type_number (type_from n) ≡ n
 type_number-from zero h = refl

@@ -2,7 +2,8 @@
 use Rattle.std.specs.Prelude.{◌≡◌, ℕ, zero, suc, ◌+◌, ◌-◌, ◌*◌, ◌/◌, ◌%◌, ◌^◌, ◌<◌, Bool, ◌&&◌, nat_le, nat_lt, nat_eq, if◌then◌else◌, List, [], ◌∷◌, ◌++◌, length, take, drop, Option, Some, None, IfSome}
 use Rattle.std.specs.List.{starts_with}
 use Rattle.std.specs.declared.cmp.Ordering.{Ordering}
-use Rattle.std.specs.Ordering.{ordering_then, nat_cmp}
+use Rattle.std.specs.Ordering.{ordering_then, nat_cmp, is_lt}
+use Rattle.std.specs.Str.{bytes_eq}
 use Rattle.byteorder.specs.Endian.{little_number}
 use Rattle.leveldb_base.specs.Varint.{little, varint, sized}
 use Rattle.leveldb_base.specs.declared.key_types.ValueType.{ValueType}
@@ -100,3 +101,19 @@ memtable_cmp cmp a b = internal_cmp cmp (inner_key a) (inner_key b)
 -- they are accepted where their internal keys are
 abbrev pub memtable_accepts : (List ℕ → Bool) → List ℕ → Bool
 memtable_accepts accepts key = internal_accepts accepts (inner_key key)
+
+-- the greatest sequence number
+abbrev pub greatest_sequence : ℕ
+greatest_sequence = 2 ^ 56 - 1
+
+-- The same bytes separate themselves. Else it is the separator of the users' keys: with the greatest sequence number where it is shorter than
+-- a's user key and after it, so that it is the first of its key, else with a's number.
+abbrev pub internal_separator : (List ℕ → List ℕ → Ordering) → (List ℕ → List ℕ → List ℕ) → List ℕ → List ℕ → List ℕ
+internal_separator cmp separator a b =
+    let user = separator (user_part a) (user_part b) in
+    let moved = nat_lt (length user) (length (user_part a)) && is_lt (cmp (user_part a) user) in
+    if bytes_eq a b then a else internal_key user (if moved then greatest_sequence else sequence_part a) TypeValue
+
+-- the successor of the user's key with the key's number
+abbrev pub internal_successor : (List ℕ → List ℕ) → List ℕ → List ℕ
+internal_successor successor a = internal_key (successor (user_part a)) (sequence_part a) TypeValue

@@ -8,6 +8,8 @@ pub mod Handle
 pub mod HandleLaws
 pub mod Keys
 pub mod KeyLaws
+pub mod OrderLaws
+pub mod KeyOrderLaws
 pub mod Places
 pub mod History
 pub mod View

@@ -159,7 +159,7 @@ fn sized_internal_key(
     Ok((bytes, used))
 }
 
-fn tag_bytes(sequence: SequenceNumber, kind: ValueType) -> [u8; TAG_LEN]
+pub(crate) fn tag_bytes(sequence: SequenceNumber, kind: ValueType) -> [u8; TAG_LEN]
     requires { sequence < 2 ^ 56 }
     ensures { result ≡ little 8 (tag sequence kind) }
 {
@@ -218,6 +218,7 @@ fn front_len(bytes: &[u8]) -> (usize, usize)
 }
 
 /// The order of memtable keys and look-up keys: that of their internal keys.
+#[inline]
 pub fn cmp_memtable_key<C: Cmp>(ucmp: &C, a: MemtableKey<'_>, b: MemtableKey<'_>) -> Ordering
     ensures { result ≡ memtable_cmp (C.cmp ucmp.now) a.now b.now }
 {
@@ -226,7 +227,7 @@ pub fn cmp_memtable_key<C: Cmp>(ucmp: &C, a: MemtableKey<'_>, b: MemtableKey<'_>
 
 // The internal key that stands behind its length in front, or the empty text where none does.
 #[inline]
-fn front_key(key: MemtableKey<'_>) -> InternalKey<'_>
+pub(crate) fn front_key(key: MemtableKey<'_>) -> InternalKey<'_>
     ensures { result.now ≡ inner_key key.now }
 {
     match get_length_prefixed_slice(key) {
@@ -261,15 +262,25 @@ fn split_tag(ikey: &[u8]) -> (&[u8], u64)
     (user, LittleEndian::read_u64(tag))
 }
 
+// The user's key and the sequence number.
+#[inline]
+pub(crate) fn split_sequence(ikey: &[u8]) -> (&[u8], SequenceNumber)
+    ensures user { result.0.now ≡ user_part ikey.now }
+    ensures sequence { result.1 ≡ sequence_part ikey.now }
+{
+    let (user, tag) = split_tag(ikey);
+    (user, tag >> 8)
+}
+
 /// The order of internal keys: by the user's key rising, then by the sequence number falling; the type is ignored.
 /// Fewer than eight bytes are taken as an empty user's key with number 0.
+#[inline]
 pub fn cmp_internal_key<C: Cmp>(ucmp: &C, a: InternalKey<'_>, b: InternalKey<'_>) -> Ordering
     ensures { result ≡ internal_cmp (C.cmp ucmp.now) a.now b.now }
 {
-    let (user_a, tag_a) = split_tag(a);
-    let (user_b, tag_b) = split_tag(b);
-    ucmp.cmp(user_a, user_b)
-        .then((tag_b >> 8).cmp(&(tag_a >> 8)))
+    let (user_a, sequence_a) = split_sequence(a);
+    let (user_b, sequence_b) = split_sequence(b);
+    ucmp.cmp(user_a, user_b).then(sequence_b.cmp(&sequence_a))
 }
 
 /// Takes the tag off an internal key.
