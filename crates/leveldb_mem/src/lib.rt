@@ -2,3 +2,4 @@
 #![tactic(auto)]
 
 pub mod log_laws;
+pub mod write_batch;

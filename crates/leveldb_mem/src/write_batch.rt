@@ -1,0 +1,460 @@
+//! Write batches: changes of keys that are made together, held as the bytes that stand for them in the log.
+ghost use Rattle.std.specs.Prelude.{◌≡◌, ◌↔◌, ◌⊎◌, ◌+◌, ◌^◌, ◌<◌, ◌≤◌, [], ◌∷◌, ◌++◌, length, take, drop, Some, None, IfOk, OnOk, OnErr, IfErr, IfSome, IsErrAnd, IsTrue, vec_len, vec_capacity, option_copied};
+ghost use Rattle.std.specs.Iterator.{YieldsFirstBy, item_count};
+ghost use Rattle.std.specs.Option.{SomeIff};
+ghost use Rattle.leveldb_base.specs.Status.{IsOutOfMemory};
+ghost use Rattle.leveldb_base.specs.declared.error.StatusCode.TheVariants.{InvalidArgument};
+ghost use Rattle.leveldb_base.specs.Varint.{little, sized};
+ghost use Rattle.leveldb_mem.specs.Batch.{item_of, batch_of, with_item, spelling, BatchOf, IsBatch, IsTooLong, AreEntries, CountsEntries, ReadsEntry, lent_item, lent_entry, OneReading, OneSpelling, EachShort, CountFits};
+ghost use Rattle.leveldb_mem.specs.BatchLaws.{IsBatch-prop, AreEntries-prop};
+
+use byteorder::{ByteOrder, LittleEndian};
+use leveldb_base::error::{Result, StatusCode, err};
+use leveldb_base::key_types::ValueType;
+use leveldb_base::types::SequenceNumber;
+use leveldb_base::varint::{encode_varint64, get_length_prefixed_slice, varint_length};
+use std::alloc::Global;
+use std::marker::Model;
+
+const COUNT_OFFSET: usize = 8;
+
+const HEADER_SIZE: usize = 12;
+
+const MAX_SIZE: usize = 1 << 30;
+
+const DELETION: u8 = ValueType::TypeDeletion as u8;
+
+const VALUE: u8 = ValueType::TypeValue as u8;
+
+/// Changes in order, and the number of the first of them; each takes the number behind that of the one before.
+/// A batch has at most 2^30 bytes.
+#[derive(Debug, Drop)]
+pub struct WriteBatch {
+    entries: Vec<u8>,
+    ghost is_batch: { IsBatch entries.items } by { IsBatch-prop entries.items },
+}
+
+impl Model for WriteBatch {
+    ghost use Rattle.leveldb_mem.specs.Batch.{Batch};
+
+    ghost Value = { Batch };
+
+    ghost view = { λ batch. batch.is_batch.0 };
+}
+
+impl WriteBatch {
+    /// A batch without changes, at number 0.
+    pub fn new(alloc: Global) -> Result<WriteBatch>
+        ensures ok { IfOk result (λ batch. batch ≡ batch_of 0 []) }
+        ensures memory { IfErr result IsOutOfMemory }
+    {
+        let mut entries = Vec::with_capacity(alloc, 128)?;
+        entries.extend_from_slice(&[0; HEADER_SIZE])?;
+        Ok(WriteBatch { entries })
+    }
+
+    /// Makes it the batch that these bytes are.
+    /// `InvalidArgument` where they are none.
+    pub fn set_contents(&mut self, from: &[u8]) -> Result<()>
+        ensures ok { OnOk result (BatchOf from.now self.new.first self.new.items) }
+        ensures err { OnErr result (self.new ≡ self.old) }
+        ensures malformed { IsErrAnd result (λ status. status.code ≡ InvalidArgument) ↔ (¬ IsBatch from.now) }
+        ensures cause { IfErr result (λ status. (status.code ≡ InvalidArgument) ⊎ IsOutOfMemory status) }
+    {
+        if !is_batch(from) {
+            let alloc = *self.entries.allocator();
+            return err(alloc, StatusCode::InvalidArgument, "not a write batch");
+        }
+        replace(&mut self.entries, from)
+    }
+
+    /// Adds the change that gives `key` this value.
+    /// `InvalidArgument` where the batch would be past its limit.
+    pub fn put(&mut self, key: &[u8], value: &[u8]) -> Result<()>
+        ensures ok { OnOk result (self.new ≡ with_item self.old (item_of key.now (Some value.now))) }
+        ensures err { OnErr result (self.new ≡ self.old) }
+        ensures too_long { IsErrAnd result (λ status. status.code ≡ InvalidArgument)
+            ↔ IsTooLong (with_item self.old (item_of key.now (Some value.now))) }
+        ensures cause { IfErr result (λ status. (status.code ≡ InvalidArgument) ⊎ IsOutOfMemory status) }
+    {
+        self.add(key, Some(value))
+    }
+
+    /// Adds the change that deletes `key`.
+    /// `InvalidArgument` where the batch would be past its limit.
+    pub fn delete(&mut self, key: &[u8]) -> Result<()>
+        ensures ok { OnOk result (self.new ≡ with_item self.old (item_of key.now None)) }
+        ensures err { OnErr result (self.new ≡ self.old) }
+        ensures too_long { IsErrAnd result (λ status. status.code ≡ InvalidArgument)
+            ↔ IsTooLong (with_item self.old (item_of key.now None)) }
+        ensures cause { IfErr result (λ status. (status.code ≡ InvalidArgument) ⊎ IsOutOfMemory status) }
+    {
+        self.add(key, None)
+    }
+
+    #[inline]
+    fn add(&mut self, key: &[u8], value: Option<&[u8]>) -> Result<()>
+        ensures ok { OnOk result (self.new ≡ with_item self.old (item_of key.now (option_copied value.entry))) }
+        ensures err { OnErr result (self.new ≡ self.old) }
+        ensures too_long { IsErrAnd result (λ status. status.code ≡ InvalidArgument)
+            ↔ IsTooLong (with_item self.old (item_of key.now (option_copied value.entry))) }
+        ensures cause { IfErr result (λ status. (status.code ≡ InvalidArgument) ⊎ IsOutOfMemory status) }
+    {
+        let Some(length) = entry_length(key, value, MAX_SIZE - self.entries.len()) else {
+            let alloc = *self.entries.allocator();
+            return err(
+                alloc,
+                StatusCode::InvalidArgument,
+                "a write batch has at most 2^30 bytes",
+            );
+        };
+        let count = self.count();
+        self.entries.reserve(length)?;
+        put_entry(&mut self.entries, key, value);
+        write_count(&mut self.entries, count + 1);
+        Ok(())
+    }
+
+    /// Takes all changes out and sets the number to 0. The memory is kept.
+    pub fn clear(&mut self)
+        ensures { self.new ≡ batch_of 0 [] }
+    {
+        self.entries.truncate(HEADER_SIZE);
+        self.entries.copy_from_slice(&[0; HEADER_SIZE]);
+    }
+
+    /// How many changes there are.
+    #[inline]
+    pub fn count(&self) -> u32
+        ensures { result ≡ length self.now.items }
+    {
+        LittleEndian::read_u32(&self.entries[COUNT_OFFSET..])
+    }
+
+    /// Sets the number of the first change.
+    pub fn set_sequence(&mut self, sequence: SequenceNumber)
+        ensures { self.new ≡ batch_of sequence self.old.items }
+    {
+        LittleEndian::write_u64(&mut self.entries, sequence);
+    }
+
+    /// The number of the first change.
+    pub fn sequence(&self) -> SequenceNumber
+        ensures { result ≡ self.now.first }
+    {
+        LittleEndian::read_u64(&self.entries)
+    }
+
+    /// The changes in order: each key with its value, or with none where it is deleted.
+    pub fn iter(&self) -> WriteBatchIter<'_>
+        ensures items { result ≡ self.now.items }
+        ensures bound { length result < 2 ^ 32 }
+    {
+        WriteBatchIter {
+            entries: &self.entries[HEADER_SIZE..],
+        }
+    }
+
+    /// The batch as bytes.
+    pub fn contents(&self) -> &[u8]
+        ensures { BatchOf result.now self.now.first self.now.items }
+    {
+        self.entries.as_slice()
+    }
+
+    /// The batch as bytes, with its first change at `sequence`.
+    pub fn encode(mut self, sequence: SequenceNumber) -> Vec<u8>
+        ensures { BatchOf result.items sequence self.items }
+    {
+        self.set_sequence(sequence);
+        self.entries
+    }
+}
+
+/// The changes of a batch that are left to walk over, lent from it.
+#[derive(Debug, Drop)]
+pub struct WriteBatchIter<'a> {
+    entries: &'a [u8],
+    ghost are_entries: { AreEntries entries.now } by { AreEntries-prop entries.now },
+}
+
+impl<'a> Model for WriteBatchIter<'a> {
+    ghost use Rattle.std.specs.Prelude.{List};
+    ghost use Rattle.leveldb_base.specs.History.{Item};
+
+    ghost Value = { List Item };
+
+    ghost view = { λ left. left.are_entries.0 };
+}
+
+impl<'a> Iterator for WriteBatchIter<'a> {
+    type Item = (&'a [u8], Option<&'a [u8]>);
+
+    ghost next_gives = { YieldsFirstBy lent_item (λ left. left) };
+
+    ghost remaining = { item_count (λ left. left) };
+
+    #[inline]
+    fn next(&mut self) -> Option<(&'a [u8], Option<&'a [u8]>)> {
+        let (item, others) = take_entry(self.entries)?;
+        self.entries = others;
+        Some(item)
+    }
+}
+
+// Puts these bytes in place of the others.
+fn replace(entries: &mut Vec<u8>, bytes: &[u8]) -> Result<()>
+    ensures ok { OnOk result (entries.new.items ≡ bytes.now) }
+    ensures err { OnErr result (entries.new.items ≡ entries.old.items) }
+    ensures memory { IfErr result IsOutOfMemory }
+{
+    entries.reserve(bytes.len().saturating_sub(entries.len()))?;
+    entries.clear();
+    entries.extend_from_slice(bytes).unwrap();
+    Ok(())
+}
+
+// Changes the count in the header.
+fn write_count(bytes: &mut [u8], count: u32)
+    requires { 12 ≤ length bytes.old }
+    ensures { bytes.new ≡ take 8 bytes.old ++ (little 4 count ++ drop 12 bytes.old) }
+{
+    LittleEndian::write_u32(&mut bytes[COUNT_OFFSET..], count);
+}
+
+// How many bytes the text takes behind its length, where it is within the limit.
+#[inline]
+#[tactic(auto, using(leveldb_base::specs::VarintLaws::varint_lengths))]
+fn sized_length(text: &[u8]) -> Option<usize>
+    ensures length { SomeIff result (length text.now ≤ 2 ^ 30) (length (sized text.now)) }
+    ensures bound { IfSome result (λ length. length ≤ 2 ^ 30 + 5) }
+{
+    if text.len() > MAX_SIZE {
+        return None;
+    }
+    Some(varint_length(text.len() as u64) + text.len())
+}
+
+// How many bytes the entry takes, where there is room for it.
+#[inline]
+#[tactic(auto, using(leveldb_base::specs::VarintLaws::varint_lengths))]
+fn entry_length(key: &[u8], value: Option<&[u8]>, room: usize) -> Option<usize>
+    requires { room ≤ 2 ^ 30 }
+    ensures { let size = length (spelling key.now (option_copied value.entry)) in SomeIff result (size ≤ room) size }
+{
+    let key_length = sized_length(key)?;
+    let length = match value {
+        None => 1 + key_length,
+        Some(value) => 1 + key_length + sized_length(value)?,
+    };
+    if length > room {
+        return None;
+    }
+    Some(length)
+}
+
+// Puts the kind of an entry, and its key behind its length.
+#[inline]
+#[tactic(auto, using(leveldb_base::specs::VarintLaws::varint_lengths))]
+fn put_key(entries: &mut Vec<u8>, kind: u8, key: &[u8])
+    requires { vec_len entries.old + 1 + length (sized key.now) ≤ vec_capacity entries.old }
+    ensures items { entries.new.items ≡ entries.old.items ++ kind ∷ sized key.now }
+    ensures capacity { vec_capacity entries.old ≤ vec_capacity entries.new }
+{
+    let mut head = [kind; 11];
+    let used = encode_varint64(&mut head[1..], key.len() as u64);
+    entries.extend_from_slice(&head[..=used]).unwrap();
+    entries.extend_from_slice(key).unwrap();
+}
+
+// Puts a value behind its length.
+#[inline]
+#[tactic(auto, using(leveldb_base::specs::VarintLaws::varint_lengths))]
+fn put_value(entries: &mut Vec<u8>, value: &[u8])
+    requires { vec_len entries.old + length (sized value.now) ≤ vec_capacity entries.old }
+    ensures { entries.new.items ≡ entries.old.items ++ sized value.now }
+{
+    let mut head = [0; 10];
+    let used = encode_varint64(&mut head, value.len() as u64);
+    entries.extend_from_slice(&head[..used]).unwrap();
+    entries.extend_from_slice(value).unwrap();
+}
+
+// Puts an entry behind the others.
+#[inline]
+fn put_entry(entries: &mut Vec<u8>, key: &[u8], value: Option<&[u8]>)
+    requires { vec_len entries.old + length (spelling key.now (option_copied value)) ≤ vec_capacity entries.old }
+    ensures { entries.new.items ≡ entries.old.items ++ spelling key.now (option_copied value.entry) }
+{
+    match value {
+        None => put_key(entries, DELETION, key),
+        Some(value) => {
+            put_key(entries, VALUE, key);
+            put_value(entries, value);
+        }
+    }
+}
+
+// The entry at the front, and what follows it.
+fn take_entry(bytes: &[u8]) -> Option<((&[u8], Option<&[u8]>), &[u8])>
+    ensures { ReadsEntry bytes.now (lent_entry result) }
+{
+    let (kind, rest) = bytes.split_first()?;
+    let (key, rest) = get_length_prefixed_slice(rest)?;
+    match *kind {
+        DELETION => Some(((key, None), rest)),
+        VALUE => {
+            let (value, rest) = get_length_prefixed_slice(rest)?;
+            Some(((key, Some(value)), rest))
+        }
+        _ => None,
+    }
+}
+
+// How many entries the bytes are, where they are entries.
+fn count_entries(bytes: &[u8]) -> Option<usize>
+    ensures { CountsEntries bytes.now result }
+{
+    let mut rest = bytes;
+    let mut count = 0;
+    while !rest.is_empty() {
+        let (_, others) = take_entry(rest)?;
+        rest = others;
+        count += 1;
+    }
+    Some(count)
+}
+
+fn is_batch(bytes: &[u8]) -> bool
+    ensures { IsTrue result ↔ IsBatch bytes.now }
+{
+    if bytes.len() < HEADER_SIZE || bytes.len() > MAX_SIZE {
+        return false;
+    }
+    let count = LittleEndian::read_u32(&bytes[COUNT_OFFSET..]);
+    count_entries(&bytes[HEADER_SIZE..]) == Some(count as usize)
+}
+
+/// Bytes are a batch in one way, and a batch has one spelling: encoded again at its own number, what was read is the
+/// bytes that were read.
+pub fn batches_are_their_bytes()
+    ensures reading { OneReading }
+    ensures spelling { OneSpelling }
+{}
+
+/// The limit of a batch's bytes limits each key and each value, and how many changes there are.
+pub fn batches_are_limited()
+    ensures texts { EachShort }
+    ensures count { CountFits }
+{}
+
+#[cfg(test)]
+mod tests {
+    use super::*;
+
+    /// Three puts and two deletions, which are 49 bytes.
+    fn five(alloc: Global) -> Result<WriteBatch> {
+        let mut batch = WriteBatch::new(alloc)?;
+        batch.put(b"abc", b"def")?;
+        batch.put(b"123", b"456")?;
+        batch.put(b"xxx", b"yyy")?;
+        batch.delete(b"zzz")?;
+        batch.delete(b"010")?;
+        Ok(batch)
+    }
+
+    #[test]
+    fn one_put(rt: HostRuntime) -> Result<()> {
+        let mut batch = WriteBatch::new(rt.alloc())?;
+        assert_eq!(rt; batch.contents(), [0; 12].as_slice());
+        batch.put(b"a", b"1")?;
+        let encoded = batch.encode(1);
+        let bytes = b"\x01\0\0\0\0\0\0\0\x01\0\0\0\x01\x01a\x011";
+        assert_eq!(rt; encoded.as_slice(), bytes.as_slice());
+        Ok(())
+    }
+
+    #[test]
+    fn five_changes(rt: HostRuntime) -> Result<()> {
+        let mut batch = five(rt.alloc())?;
+        assert_eq!(rt; batch.contents().len(), 49);
+        assert_eq!(rt; batch.count(), 5);
+        let changes: [(&[u8], Option<&[u8]>); 5] = [
+            (b"abc", Some(b"def")),
+            (b"123", Some(b"456")),
+            (b"xxx", Some(b"yyy")),
+            (b"zzz", None),
+            (b"010", None),
+        ];
+        let mut left = changes.iter();
+        for change in batch.iter() {
+            assert_eq!(rt; Some(&change), left.next());
+        }
+        assert!(rt; left.next().is_none());
+        batch.set_sequence(7);
+        assert_eq!(rt; batch.sequence(), 7);
+        batch.clear();
+        assert_eq!(rt;
+            (batch.contents().len(), batch.count(), batch.sequence()),
+            (12, 0, 0)
+        );
+        assert!(rt; batch.iter().next().is_none());
+        Ok(())
+    }
+
+    /// A cut text, a length with a second spelling, a count that isn't that of the entries, a kind that isn't there,
+    /// a byte behind the entries, and a cut header.
+    #[test]
+    fn malformed(rt: HostRuntime) -> Result<()> {
+        let rows: [&[u8]; 6] = [
+            b"\x01\0\0\0\0\0\0\0\x01\0\0\0\x01\x01a",
+            b"\x01\0\0\0\0\0\0\0\x01\0\0\0\x01\x81\0a\x011",
+            b"\x01\0\0\0\0\0\0\0\x02\0\0\0\x01\x01a\x011",
+            b"\x01\0\0\0\0\0\0\0\x01\0\0\0\x02\x01a",
+            b"\x01\0\0\0\0\0\0\0\x01\0\0\0\0\x01a\0",
+            b"\x01\0\0\0\0\0\0\0\0\0\0",
+        ];
+        let mut batch = five(rt.alloc())?;
+        let before = Vec::from_slice(rt.alloc(), batch.contents())?;
+        for bytes in rows {
+            match batch.set_contents(bytes) {
+                Ok(()) => panic!(rt; "{bytes:?}"),
+                Err(status) => assert_eq!(rt;
+                    status.code,
+                    StatusCode::InvalidArgument,
+                    "{bytes:?}"
+                ),
+            }
+            assert_eq!(rt; batch.contents(), before.as_slice(), "{bytes:?}");
+        }
+        Ok(())
+    }
+
+    fn raised(alloc: Global, bytes: &[u8], place: usize) -> Result<Vec<u8>>
+        requires { place < length bytes.now }
+    {
+        let mut raised = Vec::from_slice(alloc, bytes)?;
+        raised[place] = raised[place].wrapping_add(1);
+        Ok(raised)
+    }
+
+    /// No cut of a batch is one. With a byte raised by one it is another where that byte is of the number, a key or a value.
+    #[test]
+    fn cut_or_raised(rt: HostRuntime) -> Result<()> {
+        let whole = five(rt.alloc())?.encode(1);
+        let mut batch = WriteBatch::new(rt.alloc())?;
+        for cut in 0..whole.len() {
+            assert!(rt; batch.set_contents(&whole[..cut]).is_err(), "{cut} bytes");
+        }
+        let mut others = Vec::new(rt.alloc());
+        for place in 0..whole.len() {
+            let bytes = raised(rt.alloc(), &whole, place)?;
+            if batch.set_contents(&bytes).is_ok() {
+                assert_eq!(rt; batch.contents(), bytes.as_slice(), "place {place}");
+                others.push(place)?;
+            }
+        }
+        assert_eq!(rt; others.len(), 8 + 3 * 6 + 2 * 3);
+        Ok(())
+    }
+}
