@@ -7,3 +7,4 @@ pub mod Causes
 pub mod Machine
 pub mod Runs
 pub mod Serves
+pub mod Laws
