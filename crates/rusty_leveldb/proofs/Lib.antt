@@ -5,3 +5,4 @@ pub mod Crashed
 pub mod Hand
 pub mod Crashes
 pub mod Causes
+pub mod Example

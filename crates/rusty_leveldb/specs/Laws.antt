@@ -1,15 +1,15 @@
 -- What holds of the machine and of disks that hold its history, in the format of this store.
-use Rattle.std.specs.Prelude.{◌≡◌, ◌⊎◌, ℕ, List, None, false}
+use Rattle.std.specs.Prelude.{◌≡◌, ◌⊎◌, ℕ, List, [], ◌∷◌, Some, None, true, false, IsTrue}
 use Rattle.std.specs.declared.cmp.Ordering.{Ordering}
 use Rattle.leveldb_env.specs.Disk.{Files, Disk, Leaves, LeavesDisk}
 use Rattle.rusty_leveldb.specs.Names.{lock_path}
 use Rattle.rusty_leveldb.specs.Contents.{Contents}
 use Rattle.rusty_leveldb.specs.OneLog.{log_path}
 use Rattle.rusty_leveldb.specs.Holds.{IsHonest}
-use Rattle.rusty_leveldb.specs.State.{State, IsState, Request, Answer, Refusal, refused}
+use Rattle.rusty_leveldb.specs.State.{State, IsState, Opening, Request, open_store, write, get, Answer, done, found, Refusal, refused}
 use Rattle.rusty_leveldb.specs.Causes.{Faults, Cause, Comes, IsClosedRefusal, IsBrokenRefusal}
 use Rattle.rusty_leveldb.specs.Machine.{Step, Crashes, in_hand}
-use Rattle.rusty_leveldb.specs.Runs.{new_state}
+use Rattle.rusty_leveldb.specs.Runs.{Event, Life, goes_on, crashes, Lives, new_state}
 use Rattle.rusty_leveldb.specs.Serves.{Reads, StandsFor, IsSpared, risk_of}
 
 -- files have one reading
@@ -36,3 +36,24 @@ CrashInside = (store : List ℕ) (cmp : List ℕ → List ℕ → Ordering) (fau
 abbrev pub RefusalHasCause : Type 0
 RefusalHasCause = (cmp : List ℕ → List ℕ → Ordering) (faults : Faults) (old new : State) (request : Request) (refusal : Refusal) → Step cmp faults old request (refused refusal) new
     → ((cause : Cause) × Comes faults old request refusal cause) ⊎ IsClosedRefusal refusal ⊎ IsBrokenRefusal refusal
+
+-- ---- an example
+
+-- an answer that came at this moment, with no failure
+abbrev pub told_at : ℕ → Request → Answer → ℕ × Event
+told_at moment request answer = (moment, record { request = request; answer = answer; failures = 0; coders = [] })
+
+-- a life that makes a store and writes a value with a sync, cut short right behind that, and one that finds the value
+abbrev pub written_and_found : Opening → List ℕ → List ℕ → List Life
+written_and_found opening key value =
+    record {
+      answered = told_at 1 (open_store opening) done ∷ told_at 2 (write (record { key = key; value = Some value } ∷ []) true) done ∷ told_at 3 (get None key) (found (Some value)) ∷ [];
+      ending = crashes 2 0;
+    }
+    ∷ record { answered = told_at 1 (open_store opening) done ∷ told_at 2 (get None key) (found (Some value)) ∷ []; ending = goes_on }
+    ∷ []
+
+-- these lives may be
+abbrev pub SyncedIsFound : Type 0
+SyncedIsFound = (cmp : List ℕ → List ℕ → Ordering) (opening : Opening) (key value : List ℕ) → IsTrue opening.fits → IsTrue opening.compresses → IsTrue opening.create_if_missing → opening.error_if_exists ≡ false
+    → (last : State) × Lives cmp 0 new_state (written_and_found opening key value) 0 last

@@ -1,6 +1,6 @@
 //! The laws of the store's machine, as contracts of functions that do nothing.
 
-ghost use Rattle.rusty_leveldb.specs.Laws.{OneReading, NothingStands, CrashBetween, CrashInside, RefusalHasCause};
+ghost use Rattle.rusty_leveldb.specs.Laws.{OneReading, NothingStands, CrashBetween, CrashInside, RefusalHasCause, SyncedIsFound};
 
 /// What a store's files hold is determined, so a store can't choose what it recovers. And a disk on which no store is yet is one
 /// from which a store's life may begin.
@@ -20,4 +20,9 @@ pub fn crashes_leave_a_beginning()
 /// A refused request has one of the causes, each with its condition, or the store was closed, or it broke earlier.
 pub fn refusals_have_causes()
     ensures { RefusalHasCause }
+{}
+
+/// The machine's rows can be met: a value that was written with a sync before a crash is found behind it.
+pub fn synced_write_is_found()
+    ensures { SyncedIsFound }
 {}
