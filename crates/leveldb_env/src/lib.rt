@@ -3,6 +3,6 @@
 #![tactic(auto)]
 
 pub mod env;
-pub mod mem_env;
 pub mod filter;
+pub mod mem_env;
 pub mod options;
