@@ -3,8 +3,8 @@ ghost use Rattle.std.specs.Prelude.{◌≡◌, ◌≢◌, ◌⊎◌, ◌++◌, f
 ghost use Rattle.std.specs.Str.{bytes_eq};
 ghost use Rattle.leveldb_env.specs.Disk.{kept_file};
 ghost use Rattle.leveldb_env.specs.Runs.{Run};
-ghost use Rattle.leveldb_env.specs.Sinks.{PutsAll, BreaksOff};
-ghost use Rattle.leveldb_env.specs.OpenFiles.{opened, IsLonger, IsBrokenOff};
+ghost use Rattle.leveldb_env.specs.Sinks.{PutsAll, PutsPart};
+ghost use Rattle.leveldb_env.specs.OpenFiles.{opened, IsLonger, IsPartlyPut};
 
 use crate::env::source::read_to_end;
 use crate::env::whole_files::{read_file, replace_file};
@@ -15,7 +15,7 @@ use std::alloc::Global;
 
 fn put_pair<S: Sink>(sink: &mut S, first: &[u8], second: &[u8]) -> Result<()>
     ensures ok { OnOk result (PutsAll S.puts sink.old (first.now ++ second.now) sink.new) }
-    ensures err { IfErr result (λ status. (bytes : List ℕ) × BreaksOff S.puts sink.old bytes status sink.new) }
+    ensures err { IfErr result (λ status. (bytes : List ℕ) × PutsPart S.puts sink.old bytes status sink.new) }
 {
     sink.put_all(first)?;
     sink.put_all(second)
@@ -44,7 +44,7 @@ fn put_pair_in_file<E: Env>(
     second: &[u8],
 ) -> Result<()>
     ensures ok { OnOk result (IsLonger E.Env (opened env.old file.old) (first.now ++ second.now) (opened env.new file.new)) }
-    ensures err { IfErr result (λ status. (bytes : List ℕ) × IsBrokenOff E.Env (opened env.old file.old) bytes status (opened env.new file.new)) }
+    ensures err { IfErr result (λ status. (bytes : List ℕ) × IsPartlyPut E.Env (opened env.old file.old) bytes status (opened env.new file.new)) }
 {
     put_pair(&mut EnvFile { env, file }, first, second)
 }
