@@ -82,7 +82,8 @@ SameBut-appending name bytes old files (inl is) = either_same name None old file
 SameBut-appending name bytes old files (inr part) = either_same name (option_map (longer_file (take part.0 bytes)) (old name)) old files (inr part.1)
 
 -- a rename leaves all but its two names alone
-pub renamed-other : (from to : List ℕ) (old files : Files) → EitherSide (renamed from to) old files → (other : List ℕ) → bytes_eq from other ≡ false → bytes_eq to other ≡ false → files other ≡ old other
+pub renamed-other : (from to : List ℕ) (old files : Files) → EitherSide (renamed from to) old files → (other : List ℕ) → bytes_eq from other ≡ false
+    → bytes_eq to other ≡ false → files other ≡ old other
 renamed-other from to old files passes other apart apart_to = ⊎_elim
     (λ is. ap (λ (f : Files). f other) is)
     (λ is. ap (λ (f : Files). f other) is ∙ moved_other (old from)) passes
@@ -109,7 +110,8 @@ longer_none : (file : Option File) → option_map (longer_file []) file ≡ file
 longer_none None = refl
 longer_none (Some file) = ap (λ since. Some (record file { since = since })) (append-nil file.since)
 
-longer_twice : (bytes others : List ℕ) (file : Option File) → option_map (longer_file others) (option_map (longer_file bytes) file) ≡ option_map (longer_file (bytes ++ others)) file
+longer_twice : (bytes others : List ℕ) (file : Option File)
+    → option_map (longer_file others) (option_map (longer_file bytes) file) ≡ option_map (longer_file (bytes ++ others)) file
 longer_twice bytes others None = refl
 longer_twice bytes others (Some file) = ap (λ since. Some (record file { since = since })) (append_assoc file.since bytes others)
 
@@ -138,7 +140,8 @@ Appending-first name bytes others old files (inr part) =
     inr (count, part.1 ∙ ap (λ b. extended name b old) (sym (take-append-le count bytes others fits ∙ take_min part.0 bytes)))
 
 -- what the second of two appends passes
-pub Appending-second : (name bytes others : List ℕ) (old files : Files) → Appending name others (extended name bytes old) files → Appending name (bytes ++ others) old files
+pub Appending-second : (name bytes others : List ℕ) (old files : Files) → Appending name others (extended name bytes old) files
+    → Appending name (bytes ++ others) old files
 Appending-second name bytes others old files (inl is) = inr (length bytes, is ∙ ap (λ b. extended name b old) (sym (take-append_seam bytes others)))
 Appending-second name bytes others old files (inr part) =
     inr (length bytes + part.0, part.1 ∙ extended-append name bytes (take part.0 others) old ∙ ap (λ b. extended name b old) (sym (take-append-add bytes others part.0)))

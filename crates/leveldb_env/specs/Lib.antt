@@ -14,3 +14,4 @@ pub mod WholeFiles
 pub mod Folders
 pub mod Mem
 pub mod Picks
+pub mod Filters

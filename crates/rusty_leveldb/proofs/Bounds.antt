@@ -49,7 +49,7 @@ nothing_stands store disk none free = record {
     pending = omega arith;
     covered = omega arith;
     held = λ one c. absurd (in_none one c);
-    mode = record { held = refl; given = refl; opening = refl };
+    mode = record { held = refl; given = refl };
   };
   holds = record {
     now = inl (carries_nothing store disk.files none);
@@ -60,5 +60,6 @@ nothing_stands store disk none free = record {
     };
   };
   has_store = λ contents read. ap (λ (c : Contents). c.store) (subst (λ file. IsRead file contents) none read);
+  keeps = λ left contents leaves honest read. tt;
   locked = free;
 }

@@ -1,14 +1,14 @@
 -- After a crash the disk that is left holds what it carries, all of it covered; and so on through later crashes.
 use Rattle.std.proofs.Common.{◌≡◌, ◌≤◌, ◌+◌, inl, ℕ, List, [], ◌∷◌, ◌++◌, length, refl, sym, ◌∙◌, ap, subst, arith, false, Option, Some, None, append-nil}
 use Rattle.std.proofs.lemmas.List.{take_all}
-use Rattle.leveldb_base.specs.History.{Entry, History, IsHistory, entries_of, greatest, joined, count_of}
+use Rattle.leveldb_base.specs.History.{History, IsHistory, entries_of, greatest}
 use Rattle.leveldb_base.specs.ViewLaws.Elements.{in_none}
 use Rattle.leveldb_env.specs.Disk.{File, Files, Disk, LeavesFile, Leaves, kept_file}
 use Rattle.rusty_leveldb.specs.Names.{lock_path}
-use Rattle.rusty_leveldb.specs.Contents.{Contents}
+use Rattle.rusty_leveldb.specs.Contents.{Store, missing, made, Contents, Stays}
 use Rattle.rusty_leveldb.specs.Holds.{Carries, CarriesBeginning, IsSafe, Holds, IsHonest, KeepsStore}
 use Rattle.rusty_leveldb.specs.State.{State, closed}
-use Rattle.rusty_leveldb.specs.Machine.{Crashes}
+use Rattle.rusty_leveldb.specs.Machine.{Risk, Crashes}
 use Rattle.rusty_leveldb.specs.Serves.{StandsFor}
 use Rattle.rusty_leveldb.proofs.Bounds.{carries_more}
 use Rattle.rusty_leveldb.proofs.Histories.{history_part, greatest_part}
@@ -27,6 +27,10 @@ left_again (Some f) g h first second =
 
 pub files_again : (files left again : Files) → Leaves files left → Leaves left again → left ≡ again
 files_again files left again first second = λ i name. left_again (files name) (left name) (again name) (first name) (second name) i
+
+stays_same : (there now : Store) → now ≡ there → Stays there now
+stays_same missing now e = tt
+stays_same (made name) now e = e
 
 module _ (store : List ℕ) (reads : Files → Contents → Type 0) where
   -- the disk that is left holds what it carries
@@ -48,40 +52,40 @@ module _ (store : List ℕ) (reads : Files → Contents → Type 0) where
 
   module _ (one : (files : Files) (these those : Contents) → reads files these → reads files those → these ≡ those) where
     -- the crash row
-    pub crash_row : (old : State) (batch : Option (List Entry)) (files : Files) (left : Disk)
-        → IsHistory (joined old.history batch) → greatest (entries_of (joined old.history batch)) ≤ old.last + count_of batch
-        → IsSafe store reads (old.last + count_of batch) old.covered (joined old.history batch) files → KeepsStore store reads old.store files
+    pub crash_row : (old : State) (risk : Risk) (files : Files) (left : Disk) → IsHistory risk.history → greatest (entries_of risk.history) ≤ risk.bound
+        → IsSafe store reads risk.bound old.covered risk.history files → KeepsStore store reads old.store files
         → Leaves files left.files → IsHonest store files left.files → ((name : List ℕ) → left.locked name ≡ false)
-        → (then : State) × Crashes old batch then × StandsFor store reads left then
-    crash_row old batch files left is reached safe keeps leaves honest free =
-        let found = crash_holds files left.files (old.last + count_of batch) old.covered (joined old.history batch) safe leaves honest in
+        → (then : State) × Crashes old risk then × StandsFor store reads left then
+    crash_row old risk files left is reached safe keeps leaves honest free =
+        let found = crash_holds files left.files risk.bound old.covered risk.history safe leaves honest in
         let c = found.0 in
-        let low = greatest_part old.covered (joined old.history batch) c.part c.beginning in
+        let low = greatest_part old.covered risk.history c.part c.beginning in
         let then : State = record {
           history = c.part;
-          last = old.last + count_of batch;
+          last = risk.bound;
           covered = length c.part;
           held = [];
           given = [];
           pending = None;
           mode = closed;
-          opening = None;
           locked = false;
           store = c.carries.contents.store;
-        } in (
+        } in
+        let same : (contents : Contents) → reads left.files contents → contents.store ≡ c.carries.contents.store = λ contents read. ap (λ (x : Contents). x.store) (one left.files contents c.carries.contents read c.carries.read) in (
           then,
-          record { beginning = c.beginning; stays = keeps left.files c.carries.contents leaves c.carries.read; state = refl },
+          record { beginning = c.beginning; stays = keeps left.files c.carries.contents leaves honest c.carries.read; state = refl },
           record {
             is_state = record {
-              history = history_part old.covered (joined old.history batch) c.part is c.beginning;
+              history = history_part old.covered risk.history c.part is c.beginning;
               reached = omega arith;
               pending = omega arith;
               covered = omega arith;
               held = λ one' there. absurd (in_none one' there);
-              mode = record { held = refl; given = refl; opening = refl };
+              mode = record { held = refl; given = refl };
             };
             holds = found.1;
-            has_store = λ contents read. ap (λ (x : Contents). x.store) (one left.files contents c.carries.contents read c.carries.read);
+            has_store = same;
+            keeps = λ again contents leaves2 honest2 read. stays_same c.carries.contents.store contents.store (same contents (subst (λ x. reads x contents) (sym (files_again files left.files again leaves leaves2)) read));
             locked = free (lock_path store);
           },
         )

@@ -15,18 +15,18 @@ use Rattle.rusty_leveldb.specs.Laws.{SyncedIsFound, told_at, written_and_found}
 abbrev quiet : Faults
 quiet = record { before = 0; after = 0; coders = [] }
 
-module _ (cmp : List ℕ → List ℕ → Ordering) (opening : Opening) (key value : List ℕ) (fits : IsTrue opening.fits) (compresses : IsTrue opening.compresses) (create : IsTrue opening.create_if_missing) (there : opening.error_if_exists ≡ false) where
+module _ (cmp : List ℕ → List ℕ → Ordering) (opening : Opening) (key value : List ℕ) (short : IsLongKey key → ⊥) (small : IsLongBatch (record { key = key; value = Some value } ∷ []) → ⊥) (fits : IsTrue opening.fits) (compresses : IsTrue opening.compresses) (create : IsTrue opening.create_if_missing) (there : opening.error_if_exists ≡ false) where
   abbrev entry : Entry
   entry = record { sequence = 1; key = key; value = Some value }
 
   abbrev opened : State
-  opened = record new_state { mode = open_mode; opening = Some opening; locked = true; store = made None }
+  opened = record new_state { mode = open_mode; locked = true; store = made None }
 
   abbrev written : State
   written = record opened { history = (entry ∷ []) ∷ []; last = 1; covered = 1 }
 
   abbrev left : State
-  left = record written { mode = closed; opening = None; locked = false }
+  left = record written { mode = closed; locked = false }
 
   shown : Shows (entry ∷ []) 1 key value
   shown = record { entry = entry; newest = record { there = in_front entry []; seen = omega arith; newest = λ other c k seen. seen }; key_is = refl; value_is = refl }
@@ -34,7 +34,7 @@ module _ (cmp : List ℕ → List ℕ → Ordering) (opening : Opening) (key val
   opens_first : Step cmp quiet new_state (open_store opening) done opened
   opens_first = record {
     later = omega arith;
-    step = record {
+    step = (may_open missing create, record {
       fits = (fits, compresses);
       free = refl;
       may = create;
@@ -45,16 +45,16 @@ module _ (cmp : List ℕ → List ℕ → Ordering) (opening : Opening) (key val
       bounded = omega arith;
       covered = inl refl;
       state = refl;
-    };
+    });
   }
 
   writes : Step cmp quiet opened (write (record { key = key; value = Some value } ∷ []) true) done written
-  writes = record { later = omega arith; step = record { state = refl; covered = inr refl; synced = λ t. refl } }
+  writes = record { later = omega arith; step = (small, record { state = refl; covered = inr refl; synced = λ t. refl }) }
 
   opens_again : Step cmp quiet left (open_store opening) done written
   opens_again = record {
     later = omega arith;
-    step = record {
+    step = (may_open (made None) tt, record {
       fits = (fits, compresses);
       free = refl;
       may = there;
@@ -65,11 +65,11 @@ module _ (cmp : List ℕ → List ℕ → Ordering) (opening : Opening) (key val
       bounded = omega arith;
       covered = inl refl;
       state = refl;
-    };
+    });
   }
 
   finds : Step cmp quiet written (get None key) (found (Some value)) written
-  finds = record { later = omega arith; step = (record { sequence = 1; at_is = refl; looks = shown }, refl) }
+  finds = record { later = omega arith; step = (not_long, (record { sequence = 1; at_is = refl; looks = shown }, refl)) }
 
   abbrev opening_then : ℕ × Event
   opening_then = told_at 1 (open_store opening) done
@@ -90,16 +90,16 @@ module _ (cmp : List ℕ → List ℕ → Ordering) (opening : Opening) (key val
     failures = 0;
     state = written;
     run = (opened, opens_first, (written, writes, (refl, refl)));
-    crash = record { beginning = record { count = 1; enough = omega arith; there = omega arith; first = refl }; stays = refl; state = refl };
+    crash = (written, finds, (0, written, (refl, refl)), record { beginning = record { count = 1; enough = omega arith; there = omega arith; first = refl }; stays = refl; state = refl });
   }
 
   lives : Lives cmp 0 new_state (written_and_found opening key value) 0 written
   lives = (
     0,
     left,
-    ((0, written, (opened, opens_first, (written, writes, (written, finds, (refl, refl))))), stops, refl),
+    (stops, refl),
     (0, written, (written, opens_again, (written, finds, (refl, refl))), (refl, refl)),
   )
 
 pub synced_is_found : SyncedIsFound
-synced_is_found cmp opening key value fits compresses create there = (written cmp opening key value fits compresses create there, lives cmp opening key value fits compresses create there)
+synced_is_found cmp opening key value short small fits compresses create there = (written cmp opening key value short small fits compresses create there, lives cmp opening key value short small fits compresses create there)

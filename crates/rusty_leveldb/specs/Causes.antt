@@ -1,12 +1,12 @@
 -- Why a request may be refused.
-use Rattle.std.specs.Prelude.{◌≡◌, ◌≢◌, ◌<◌, ◌+◌, ◌-◌, ◌^◌, ◌⊎◌, ℕ, false, List, [], Option, Some, None, length, max, Contains, codes, IsTrue}
+use Rattle.std.specs.Prelude.{◌≡◌, ◌≢◌, ◌<◌, ◌≤◌, ◌+◌, ◌-◌, ◌^◌, ◌⊎◌, ℕ, false, List, [], Option, Some, None, length, max, Contains, codes, IsTrue}
 use Rattle.leveldb_base.specs.declared.error.StatusCode.{StatusCode}
 use Rattle.leveldb_base.specs.declared.error.StatusCode.TheVariants.{OutOfMemory, LockError, InvalidArgument, AlreadyExists, NotSupported, IOError}
 use Rattle.leveldb_base.specs.History.{Item}
 use Rattle.leveldb_mem.specs.Batch.{batch_bytes}
 use Rattle.rusty_leveldb.specs.Contents.{Store, missing, made}
 use Rattle.rusty_leveldb.specs.OneLog.{max_sequence}
-use Rattle.rusty_leveldb.specs.State.{State, Opening, Snapshot, Refusal, Request, open_store, write, get, walk, get_snapshot, release_snapshot, compact_range, abandon, Move, seek}
+use Rattle.rusty_leveldb.specs.State.{State, Opening, Snapshot, Refusal, Request, open_store, write, get, walk, get_snapshot, release_snapshot, compact_range, abandon, Move, seek, reset}
 
 -- a cause of a refusal, beside the mode of the store
 pub data Cause : Type 0 where
@@ -76,7 +76,7 @@ Exists old _ = ⊥
 abbrev pub IsUsedUp : State → Request → Type 0
 IsUsedUp old (open_store opening) = opening.compresses ≡ false
 IsUsedUp old (write items sync) = max_sequence < old.last + max 1 (length items)
-IsUsedUp old get_snapshot = Contains old.given (2 ^ 64 - 1)
+IsUsedUp old get_snapshot = 2 ^ 64 - 1 ≤ length old.given
 IsUsedUp old _ = ⊥
 
 -- ---- causes
@@ -117,8 +117,9 @@ Comes faults old request refusal store_exists = (refusal.code ≡ AlreadyExists)
 Comes faults old request refusal used_up = (refusal.code ≡ NotSupported) × IsUsedUp old request
 Comes faults old request refusal coder_failed = ReachesBlocks request × Contains faults.coders refusal.code
 
--- the same of a move of a walk, which has an operand of its own
+-- the same of a move of a walk, which has an operand of its own; a reset is never refused
 abbrev pub MoveComes : Faults → State → Request → Move → Refusal → Cause → Type 0
+MoveComes faults old request reset refusal cause = ⊥
 MoveComes faults old request move refusal bad_operand = (refusal.code ≡ InvalidArgument) × MoveMisfits move
 MoveComes faults old request move refusal cause = Comes faults old request refusal cause
 

@@ -46,6 +46,6 @@ module _ (store : List ℕ) (reads : Files → Contents → Type 0) where
   abbrev pub HasStore : Store → Files → Type 0
   HasStore there files = (contents : Contents) → reads files contents → contents.store ≡ there
 
-  -- whatever a crash leaves now has the store, if it was there
+  -- whatever honest files a crash leaves now have the store, if it was there
   abbrev pub KeepsStore : Store → Files → Type 0
-  KeepsStore there files = (left : Files) (contents : Contents) → Leaves files left → reads left contents → Stays there contents.store
+  KeepsStore there files = (left : Files) (contents : Contents) → Leaves files left → IsHonest store files left → reads left contents → Stays there contents.store

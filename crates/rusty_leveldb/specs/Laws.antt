@@ -7,10 +7,10 @@ use Rattle.rusty_leveldb.specs.Contents.{Contents}
 use Rattle.rusty_leveldb.specs.OneLog.{log_path}
 use Rattle.rusty_leveldb.specs.Holds.{IsHonest}
 use Rattle.rusty_leveldb.specs.State.{State, IsState, Opening, Request, open_store, write, get, Answer, done, found, Refusal, refused}
-use Rattle.rusty_leveldb.specs.Causes.{Faults, Cause, Comes, IsClosedRefusal, IsBrokenRefusal}
-use Rattle.rusty_leveldb.specs.Machine.{Step, Crashes, in_hand}
+use Rattle.rusty_leveldb.specs.Causes.{Faults, Cause, IsLongKey, IsLongBatch, Comes, IsClosedRefusal, IsBrokenRefusal}
+use Rattle.rusty_leveldb.specs.Machine.{Step, risk_between, risk_of, Crashes}
 use Rattle.rusty_leveldb.specs.Runs.{Event, Life, goes_on, crashes, Lives, new_state}
-use Rattle.rusty_leveldb.specs.Serves.{Reads, StandsFor, IsSpared, risk_of}
+use Rattle.rusty_leveldb.specs.Serves.{Reads, StandsFor, IsSpared}
 
 -- files have one reading
 abbrev pub OneReading : Type 0
@@ -23,14 +23,13 @@ NothingStands = (store : List ℕ) (disk : Disk) → disk.files (log_path store)
 -- an honest crash between two requests leaves a state of the crash row, for which the disk that is left stands
 abbrev pub CrashBetween : Type 0
 CrashBetween = (store : List ℕ) (old : State) (disk left : Disk) → StandsFor store (Reads store) disk old → LeavesDisk disk left → IsHonest store disk.files left.files
-    → (then : State) × Crashes old old.pending then × StandsFor store (Reads store) left then
+    → (then : State) × Crashes old (risk_between old) then × StandsFor store (Reads store) left then
 
--- And so does one at a moment inside a request, whatever the request then led to.
+-- and so does one at a moment inside a request that led from the old state to the new one
 abbrev pub CrashInside : Type 0
-CrashInside = (store : List ℕ) (cmp : List ℕ → List ℕ → Ordering) (faults : Faults) (old new : State) (request : Request) (answer : Answer) (files : Files) (left : Disk)
-    → IsState old → Step cmp faults old request answer new → IsSpared store (Reads store) old (risk_of request old new) files
+CrashInside = (store : List ℕ) (old new : State) (request : Request) (files : Files) (left : Disk) → IsState old → IsState new → IsSpared store (Reads store) old (risk_of request old new) files
     → Leaves files left.files → IsHonest store files left.files → ((name : List ℕ) → left.locked name ≡ false)
-    → (then : State) × Crashes old (in_hand old request) then × StandsFor store (Reads store) left then
+    → (then : State) × Crashes old (risk_of request old new) then × StandsFor store (Reads store) left then
 
 -- a refusal has one of the causes, or the mode of the store
 abbrev pub RefusalHasCause : Type 0
@@ -53,7 +52,8 @@ written_and_found opening key value =
     ∷ record { answered = told_at 1 (open_store opening) done ∷ told_at 2 (get None key) (found (Some value)) ∷ []; ending = goes_on }
     ∷ []
 
--- these lives may be
+-- these lives may be, where neither the key nor the batch is too long
 abbrev pub SyncedIsFound : Type 0
-SyncedIsFound = (cmp : List ℕ → List ℕ → Ordering) (opening : Opening) (key value : List ℕ) → IsTrue opening.fits → IsTrue opening.compresses → IsTrue opening.create_if_missing → opening.error_if_exists ≡ false
+SyncedIsFound = (cmp : List ℕ → List ℕ → Ordering) (opening : Opening) (key value : List ℕ) → (IsLongKey key → ⊥) → (IsLongBatch (record { key = key; value = Some value } ∷ []) → ⊥)
+    → IsTrue opening.fits → IsTrue opening.compresses → IsTrue opening.create_if_missing → opening.error_if_exists ≡ false
     → (last : State) × Lives cmp 0 new_state (written_and_found opening key value) 0 last

@@ -6,7 +6,7 @@ use Rattle.leveldb_base.specs.View.{LooksUp, IsView}
 use Rattle.leveldb_base.specs.Places.{Pair, place_within, next_place, previous_place, seek_place, pair_at}
 use Rattle.rusty_leveldb.specs.Contents.{Store, missing, made, Stays}
 use Rattle.rusty_leveldb.specs.State.{Mode, open_mode, broken, closed, Snapshot, Opening, State, Move, seek_to_first, advance, prev, seek, reset, Request, open_store, write, get, walk, get_snapshot, release_snapshot, flush, compact_range, close, abandon, Refusal, Landing, stands_on, nowhere, move_refused, Answer, done, found, walked, snapshot, refused}
-use Rattle.rusty_leveldb.specs.Causes.{Faults, Cause, out_of_memory, device_failed, lock_is_held, bad_operand, store_exists, Comes, MoveComes, IsClosedRefusal, IsBrokenRefusal}
+use Rattle.rusty_leveldb.specs.Causes.{Faults, Cause, out_of_memory, device_failed, lock_is_held, bad_operand, store_exists, Misfits, MoveMisfits, Comes, MoveComes, IsClosedRefusal, IsBrokenRefusal}
 
 -- ---- what a request leaves
 
@@ -53,7 +53,7 @@ pub record Releases (old : State) (one : Snapshot) (new : State) : Type 0 where
 
 -- closed, with nothing held
 abbrev pub closed_state : State → State
-closed_state old = record old { held = []; given = []; mode = closed; opening = None }
+closed_state old = record old { held = []; given = []; mode = closed }
 
 -- all is covered and the lock is free
 pub record Closes (old new : State) : Type 0 where
@@ -95,7 +95,6 @@ pub record Opens (old : State) (opening : Opening) (new : State) : Type 0 where
     given = [];
     pending = None;
     mode = open_mode;
-    opening = Some opening;
     locked = true;
     store = new.store;
   }
@@ -123,41 +122,45 @@ pub record StaysClosed (old : State) (faults : Faults) (cause : Cause) (new : St
 -- ---- reading
 
 -- the sequence at which a request reads: now, or that of a snapshot which is held
-abbrev pub ReadsAt : State → Option Snapshot → ℕ → Type 0
-ReadsAt old None s = s ≡ old.last
-ReadsAt old (Some one) s = Contains old.held one × (s ≡ one.sequence)
+abbrev pub IsSequenceOf : State → Option Snapshot → ℕ → Type 0
+IsSequenceOf old None s = s ≡ old.last
+IsSequenceOf old (Some one) s = Contains old.held one × (s ≡ one.sequence)
 
 -- a look-up
 pub record Gets (old : State) (at : Option Snapshot) (key : List ℕ) (value : Option (List ℕ)) : Type 0 where
   pub sequence : ℕ
-  pub at_is : ReadsAt old at sequence
+  pub at_is : IsSequenceOf old at sequence
   pub looks : LooksUp (entries_of old.history) sequence key value
 
 module _ (cmp : List ℕ → List ℕ → Ordering) where
   -- where a move leads from a place
-  abbrev pub moved : List Pair → Option ℕ → Move → Option ℕ
-  moved pairs place seek_to_first = place_within pairs 0
-  moved pairs place advance = next_place pairs place
-  moved pairs place prev = previous_place place
-  moved pairs place (seek key) = seek_place cmp pairs key
-  moved pairs place reset = None
+  abbrev pub place_after : List Pair → Option ℕ → Move → Option ℕ
+  place_after pairs place seek_to_first = place_within pairs 0
+  place_after pairs place advance = next_place pairs place
+  place_after pairs place prev = previous_place place
+  place_after pairs place (seek key) = seek_place cmp pairs key
+  place_after pairs place reset = None
 
-  -- each move leads where an iterator over the pairs goes; a refused one leaves no place
+  -- Each move leads where an iterator over the pairs goes; a refused one leaves no place, and its cause is one of this move's
+  -- own faults, which go from the last move's end to some count at or above it.
   abbrev pub Moves : Faults → State → Request → List Pair → Option ℕ → List Move → List Landing → Type 0
-  Moves faults old request pairs place [] [] = Unit {0}
+  Moves faults old request pairs place [] [] = faults.before ≡ faults.after
   Moves faults old request pairs place (move ∷ moves) (stands_on pair ∷ landings) =
-      (pair_at pairs (moved pairs place move) ≡ Some pair) × Moves faults old request pairs (moved pairs place move) moves landings
+      (MoveMisfits move → ⊥) × (pair_at pairs (place_after pairs place move) ≡ Some pair)
+      × ((next : ℕ) × (faults.before ≤ next) × Moves (record faults { before = next }) old request pairs (place_after pairs place move) moves landings)
   Moves faults old request pairs place (move ∷ moves) (nowhere ∷ landings) =
-      (moved pairs place move ≡ None) × Moves faults old request pairs None moves landings
+      (MoveMisfits move → ⊥) × (place_after pairs place move ≡ None)
+      × ((next : ℕ) × (faults.before ≤ next) × Moves (record faults { before = next }) old request pairs None moves landings)
   Moves faults old request pairs place (move ∷ moves) (move_refused refusal ∷ landings) =
-      ((cause : Cause) × MoveComes faults old request move refusal cause) × Moves faults old request pairs None moves landings
+      (next : ℕ) × (faults.before ≤ next) × ((cause : Cause) × MoveComes (record faults { after = next }) old request move refusal cause)
+      × Moves (record faults { before = next }) old request pairs None moves landings
   Moves faults old request pairs place [] (landing ∷ landings) = ⊥
   Moves faults old request pairs place (move ∷ moves) [] = ⊥
 
   -- an iterator over the view, from no place on
   pub record Walks (faults : Faults) (old : State) (at : Option Snapshot) (moves : List Move) (landings : List Landing) : Type 0 where
     pub sequence : ℕ
-    pub at_is : ReadsAt old at sequence
+    pub at_is : IsSequenceOf old at sequence
     pub pairs : List Pair
     pub view : IsView cmp (entries_of old.history) sequence pairs
     pub goes : Moves faults old (walk at moves) pairs None moves landings
@@ -165,18 +168,18 @@ module _ (cmp : List ℕ → List ℕ → Ordering) where
   -- ---- the steps
 
   -- done in a mode that allows it
-  abbrev pub Does : Faults → State → Request → Answer → State → Type 0
-  Does faults old (open_store opening) done new = Opens old opening new
-  Does faults old (write items sync) done new = Writes old items sync new
-  Does faults old (get at key) (found value) new = Gets old at key value × (new ≡ old)
-  Does faults old (walk at moves) (walked landings) new = Walks faults old at moves landings × (new ≡ old)
-  Does faults old get_snapshot (snapshot one) new = Gives old one new
-  Does faults old (release_snapshot one) done new = Releases old one new
-  Does faults old flush done new = Covers old new
-  Does faults old (compact_range from to) done new = Keeps old new
-  Does faults old close done new = Closes old new
-  Does faults old abandon done new = Abandons old false new
-  Does faults old _ _ new = ⊥
+  abbrev pub Succeeds : Faults → State → Request → Answer → State → Type 0
+  Succeeds faults old (open_store opening) done new = Opens old opening new
+  Succeeds faults old (write items sync) done new = Writes old items sync new
+  Succeeds faults old (get at key) (found value) new = Gets old at key value × (new ≡ old)
+  Succeeds faults old (walk at moves) (walked landings) new = Walks faults old at moves landings × (new ≡ old)
+  Succeeds faults old get_snapshot (snapshot one) new = Gives old one new
+  Succeeds faults old (release_snapshot one) done new = Releases old one new
+  Succeeds faults old flush done new = Covers old new
+  Succeeds faults old (compact_range from to) done new = Keeps old new
+  Succeeds faults old close done new = Closes old new
+  Succeeds faults old abandon done new = Abandons old false new
+  Succeeds faults old _ _ new = ⊥
 
   -- a failed write to log or manifest breaks the store: for want of memory or by the device alone
   abbrev pub MayBreak : Cause → Type 0
@@ -184,30 +187,35 @@ module _ (cmp : List ℕ → List ℕ → Ordering) where
   MayBreak device_failed = Unit {0}
   MayBreak cause = ⊥
 
+  -- As before, where no call of the device failed; or broken, with this batch pending. All that is asked of the device is an
+  -- append to the log or a sync of it.
+  abbrev pub KeepsOrBreaks : Faults → State → Cause → Option (List Entry) → State → Type 0
+  KeepsOrBreaks faults old cause batch new = ((faults.after ≡ faults.before) × Keeps old new) ⊎ (MayBreak cause × Breaks old batch new)
+
   -- refused for this cause in a mode that allows it; a failed sync is what refuses a flush by the device
   abbrev pub Refuses : Faults → State → Request → Cause → State → Type 0
   Refuses faults old (open_store opening) cause new = StaysClosed old faults cause new
-  Refuses faults old (write items sync) cause new = Keeps old new ⊎ (MayBreak cause × (Breaks old None new ⊎ Breaks old (Some (batch_of old items)) new))
+  Refuses faults old (write items sync) cause new = KeepsOrBreaks faults old cause (Some (batch_of old items)) new
   Refuses faults old flush device_failed new = Breaks old None new
-  Refuses faults old flush cause new = Keeps old new ⊎ (MayBreak cause × Breaks old None new)
+  Refuses faults old flush cause new = KeepsOrBreaks faults old cause None new
   Refuses faults old (compact_range from to) cause new = Keeps old new ⊎ (MayBreak cause × Breaks old None new)
   Refuses faults old close cause new = Breaks old None new
   Refuses faults old abandon cause new = Abandons old old.locked new
   Refuses faults old _ cause new = new ≡ old
 
-  -- done, or refused for a cause
-  abbrev pub Serves : Faults → State → Request → Answer → State → Type 0
-  Serves faults old request (refused refusal) new = (cause : Cause) × Comes faults old request refusal cause × Refuses faults old request cause new
-  Serves faults old request answer new = Does faults old request answer new
+  -- done, where no operand is one that is refused; or refused for a cause
+  abbrev pub Responds : Faults → State → Request → Answer → State → Type 0
+  Responds faults old request (refused refusal) new = (cause : Cause) × Comes faults old request refusal cause × Refuses faults old request cause new
+  Responds faults old request answer new = (Misfits old request → ⊥) × Succeeds faults old request answer new
 
-  -- refused by the mode, and nothing has changed
+  -- refused by the mode, and the state hasn't changed
   abbrev pub Rejects : (Refusal → Type 0) → State → Answer → State → Type 0
   Rejects Says old (refused refusal) new = Says refusal × (new ≡ old)
   Rejects Says old _ new = ⊥
 
   -- By the mode, which is looked at first; a store is opened where none of this name is open.
   abbrev pub StepIn : Mode → Faults → State → Request → Answer → State → Type 0
-  StepIn closed faults old (open_store opening) answer new = Serves faults old (open_store opening) answer new
+  StepIn closed faults old (open_store opening) answer new = Responds faults old (open_store opening) answer new
   StepIn closed faults old abandon answer new = (answer ≡ done) × (new ≡ old)
   StepIn closed faults old request answer new = Rejects IsClosedRefusal old answer new
   StepIn mode faults old (open_store opening) answer new = ⊥
@@ -215,7 +223,7 @@ module _ (cmp : List ℕ → List ℕ → Ordering) where
   StepIn broken faults old flush answer new = Rejects IsBrokenRefusal old answer new
   StepIn broken faults old (compact_range from to) answer new = Rejects IsBrokenRefusal old answer new
   StepIn broken faults old close answer new = Rejects IsBrokenRefusal old answer new
-  StepIn mode faults old request answer new = Serves faults old request answer new
+  StepIn mode faults old request answer new = Responds faults old request answer new
 
   -- from the old state the store may answer so, and then it is in the new one
   pub record Step (faults : Faults) (old : State) (request : Request) (answer : Answer) (new : State) : Type 0 where
@@ -224,29 +232,33 @@ module _ (cmp : List ℕ → List ℕ → Ordering) where
 
 -- ---- a crash
 
--- a batch goes to the log of an open store alone
-abbrev pub in_hand_of : Mode → State → List Item → Option (List Entry)
-in_hand_of open_mode old items = Some (batch_of old items)
-in_hand_of mode old items = old.pending
+-- a history of which a crash may leave a beginning, and a number that nothing left may pass
+pub record Risk : Type 0 where
+  pub history : History
+  pub bound : ℕ
 
--- the batch that the files may have beside the history while a request is served
-abbrev pub in_hand : State → Request → Option (List Entry)
-in_hand old (write items sync) = in_hand_of old.mode old items
-in_hand old request = old.pending
+-- between two requests: the history, and what is pending
+abbrev pub risk_between : State → Risk
+risk_between state = record { history = joined state.history state.pending; bound = state.last + count_of state.pending }
+
+-- At a moment of a request: the history after it, and what is pending then; so a batch is at risk once its append has begun.
+-- While a store is opened it is the history before it, since what was pending may yet be found.
+abbrev pub risk_of : Request → State → State → Risk
+risk_of (open_store opening) old new = risk_between old
+risk_of request old new = risk_between new
 
 -- A crash leaves a beginning with all that was covered, whole batches only; all of it is covered from then on.
-pub record Crashes (old : State) (batch : Option (List Entry)) (new : State) : Type 0 where
-  pub beginning : IsBeginning old.covered (joined old.history batch) new.history
+pub record Crashes (old : State) (risk : Risk) (new : State) : Type 0 where
+  pub beginning : IsBeginning old.covered risk.history new.history
   pub stays : Stays old.store new.store
   pub state : new ≡ record {
     history = new.history;
-    last = old.last + count_of batch;
+    last = risk.bound;
     covered = length new.history;
     held = [];
     given = [];
     pending = None;
     mode = closed;
-    opening = None;
     locked = false;
     store = new.store;
   }

@@ -1,20 +1,20 @@
 -- What the engine's clauses say: from every state that memory and disk stand for, a step of the machine.
 -- `store` is the store's path, `reads files contents` says that the files are a whole store with these contents,
 -- and `Recalls memory disk state` what the engine's memory has to do with them.
-use Rattle.std.specs.Prelude.{◌≡◌, ◌+◌, ℕ, List, [], Option, Some, None, IsSome, Result, Ok, Err, All, map}
+use Rattle.std.specs.Prelude.{◌≡◌, ◌≢◌, ℕ, List, [], Option, Some, None, IsSome, Result, Ok, Err, All, map}
 use Rattle.std.specs.declared.cmp.Ordering.{Ordering}
 use Rattle.leveldb_base.specs.declared.error.Status.{Status}
+use Rattle.leveldb_base.specs.declared.error.StatusCode.TheVariants.{Corruption}
 use Rattle.leveldb_base.specs.Status.{text_of}
-use Rattle.leveldb_base.specs.History.{History, joined, count_of}
 use Rattle.leveldb_env.specs.Disk.{Files, Disk}
 use Rattle.leveldb_env.specs.Times.{Told, Within}
 use Rattle.rusty_leveldb.specs.Names.{lock_path}
 use Rattle.rusty_leveldb.specs.Contents.{Contents}
 use Rattle.rusty_leveldb.specs.OneLog.{IsOneLog, log_path}
 use Rattle.rusty_leveldb.specs.Holds.{IsSafe, Holds, HasStore, KeepsStore}
-use Rattle.rusty_leveldb.specs.State.{State, IsState, broken, closed, Request, open_store, get, walk, get_snapshot, release_snapshot, Refusal, Answer, done, found, refused}
+use Rattle.rusty_leveldb.specs.State.{State, IsState, open_mode, broken, closed, Request, write, get, walk, get_snapshot, release_snapshot, flush, Refusal, Answer, done, found, refused}
 use Rattle.rusty_leveldb.specs.Causes.{Faults}
-use Rattle.rusty_leveldb.specs.Machine.{Step}
+use Rattle.rusty_leveldb.specs.Machine.{Step, Risk, risk_of}
 use Rattle.rusty_leveldb.specs.Runs.{Event, Run}
 
 -- how the store's files are read
@@ -68,28 +68,42 @@ IsReading get_snapshot = Unit {0}
 IsReading (release_snapshot one) = Unit {0}
 IsReading request = ⊥
 
--- a request that only reads leaves the files as they are, and a store that is broken takes no file away
-pub record SparesFiles (request : Request) (new : State) (before after : Files) : Type 0 where
+-- a request that appends to the log or syncs it, and asks nothing else of the device
+abbrev pub IsLogging : Request → Type 0
+IsLogging (write items sync) = Unit {0}
+IsLogging flush = Unit {0}
+IsLogging request = ⊥
+
+abbrev pub IsRefused : Answer → Type 0
+IsRefused (refused refusal) = Unit {0}
+IsRefused answer = ⊥
+
+-- A request that only reads leaves the files as they are, and so does a write or flush that is refused and leaves the store open;
+-- a store that is broken takes no file away.
+pub record SparesFiles (request : Request) (answer : Answer) (old new : State) (before after : Files) : Type 0 where
   pub reading : IsReading request → after ≡ before
-  pub broken : new.mode ≡ broken → (name : List ℕ) → IsSome (before name) → IsSome (after name)
+  pub refused : IsLogging request → IsRefused answer → new.mode ≡ open_mode → after ≡ before
+  pub broken : old.mode ≡ broken → (name : List ℕ) → IsSome (before name) → IsSome (after name)
 
--- a history of which a crash may leave a beginning, and a number that nothing left may pass
-pub record Risk : Type 0 where
-  pub history : History
-  pub bound : ℕ
+-- ---- damage
 
--- What a crash at a moment of a request may leave: a beginning of the history after it, with what is pending then.
--- While a store is opened it is the history before it, since what was pending may yet be found.
-abbrev pub risk_of : Request → State → State → Risk
-risk_of (open_store opening) old new = record { history = joined old.history old.pending; bound = old.last + count_of old.pending }
-risk_of request old new = record { history = joined new.history new.pending; bound = new.last + count_of new.pending }
+-- nothing can be read of the files, so they stand for no state
+abbrev pub IsUnreadable : (Files → Contents → Type 0) → Files → Type 0
+IsUnreadable reads files = (contents : Contents) → reads files contents → ⊥
+
+-- When an opening may be refused for damage: beside the causes of the machine, which knows of none, where nothing could be read as it began.
+abbrev pub DamageComes : (Files → Contents → Type 0) → Files → Refusal → Type 0
+DamageComes reads before refusal = (refusal.code ≡ Corruption) × IsUnreadable reads before
+
+-- ---- the engine's clauses
 
 module _ (store : List ℕ) (reads : Files → Contents → Type 0) where
-  -- the disk stands for a state: it holds the history, and store and lock are as said
+  -- the disk stands for a state: it holds the history, and store and lock are as said, the store behind a crash too
   pub record StandsFor (disk : Disk) (state : State) : Type 0 where
     pub is_state : IsState state
     pub holds : Holds store reads disk.files state.history state.last state.covered state.pending
     pub has_store : HasStore store reads state.store disk.files
+    pub keeps : KeepsStore store reads state.store disk.files
     pub locked : disk.locked (lock_path store) ≡ state.locked
 
   -- a crash now leaves a beginning with at least what was covered before the request, and the store that was there
@@ -113,12 +127,13 @@ module _ (store : List ℕ) (reads : Files → Contents → Type 0) where
       pub memory_is : Remembers memory disk state
 
     module _ (cmp : List ℕ → List ℕ → Ordering) where
-      -- from this state, a step to one for which memory and disk stand then
+      -- from this state, a step to one for which memory and disk stand then; no other lock changes
       pub record Goes (from : Scene M) (request : Request) (answer : Answer) (to : Scene M) (old : State) : Type 0 where
         pub new : State
         pub represents : Represents to.0 to.1.disk new
         pub step : Step cmp (faults_between from.2 to.2) old request answer new
-        pub files : SparesFiles request new from.1.disk.files to.1.disk.files
+        pub files : SparesFiles request answer old new from.1.disk.files to.1.disk.files
+        pub others : (name : List ℕ) → name ≢ lock_path store → to.1.disk.locked name ≡ from.1.disk.locked name
 
       -- the same, safe at each moment
       pub record GoesSafely (from : Scene M) (request : Request) (answer : Answer) (to : Scene M) (old : State) : Type 0 where

@@ -41,8 +41,6 @@ pub record State : Type 0 where
   -- a batch whose append began and was refused: the files may have it
   pub pending : Option (List Entry)
   pub mode : Mode
-  -- the options of the opening, until it is closed
-  pub opening : Option Opening
   -- whether the store's lock is held
   pub locked : Bool
   -- whether the store is there
@@ -52,7 +50,6 @@ pub record State : Type 0 where
 pub record IsAtRest (state : State) : Type 0 where
   pub held : state.held ≡ []
   pub given : state.given ≡ []
-  pub opening : state.opening ≡ None
 
 -- by the mode: an open store has nothing pending, and a closed one is at rest
 abbrev pub SuitsMode : Mode → State → Type 0

@@ -3,18 +3,19 @@ ghost use Rattle.std.specs.Prelude.{◌≡◌, ◌≢◌, ◌⊎◌, ◌++◌, f
 ghost use Rattle.std.specs.Str.{bytes_eq};
 ghost use Rattle.leveldb_env.specs.Disk.{kept_file};
 ghost use Rattle.leveldb_env.specs.Runs.{Run};
-ghost use Rattle.leveldb_env.specs.Sinks.{PutsAll, BreaksOff};
-ghost use Rattle.leveldb_env.specs.OpenFiles.{opened, IsLonger, IsBrokenOff};
+ghost use Rattle.leveldb_env.specs.Sinks.{PutsAll, PutsPart};
+ghost use Rattle.leveldb_env.specs.OpenFiles.{opened, IsLonger, IsPartlyPut};
 
 use crate::env::source::read_to_end;
-use crate::env::whole_files::replace_file;
+use crate::env::whole_files::{read_file, replace_file};
 use crate::env::{Env, EnvFile, Sink, Source};
+use crate::mem_env::{MemEnv, Pick};
 use leveldb_base::error::{Result, Status, StatusCode};
 use std::alloc::Global;
 
 fn put_pair<S: Sink>(sink: &mut S, first: &[u8], second: &[u8]) -> Result<()>
     ensures ok { OnOk result (PutsAll S.puts sink.old (first.now ++ second.now) sink.new) }
-    ensures err { IfErr result (λ status. (bytes : List ℕ) × BreaksOff S.puts sink.old bytes status sink.new) }
+    ensures err { IfErr result (λ status. (bytes : List ℕ) × PutsPart S.puts sink.old bytes status sink.new) }
 {
     sink.put_all(first)?;
     sink.put_all(second)
@@ -43,9 +44,13 @@ fn put_pair_in_file<E: Env>(
     second: &[u8],
 ) -> Result<()>
     ensures ok { OnOk result (IsLonger E.Env (opened env.old file.old) (first.now ++ second.now) (opened env.new file.new)) }
-    ensures err { IfErr result (λ status. (bytes : List ℕ) × IsBrokenOff E.Env (opened env.old file.old) bytes status (opened env.new file.new)) }
+    ensures err { IfErr result (λ status. (bytes : List ℕ) × IsPartlyPut E.Env (opened env.old file.old) bytes status (opened env.new file.new)) }
 {
     put_pair(&mut EnvFile { env, file }, first, second)
+}
+
+fn flush_file<E: Env>(env: &mut E, file: &mut E::File) -> Result<()> {
+    EnvFile { env, file }.flush()
 }
 
 fn rest_of(alloc: Global, bytes: &[u8]) -> Result<Vec<u8>>
@@ -69,6 +74,17 @@ fn replace_each<E: Env>(env: &mut E, temp: &str, names: &[&str], bytes: &[u8]) -
     Ok(())
 }
 
+/// The code of a refusal that is expected; want of memory is passed on.
+fn refusal<T: Drop>(answer: Result<T>) -> Result<Option<StatusCode>> {
+    let Some(status) = answer.err() else {
+        return Ok(None);
+    };
+    if status.code == StatusCode::OutOfMemory {
+        return Err(status);
+    }
+    Ok(Some(status.code))
+}
+
 #[test]
 fn puts_go_behind(rt: HostRuntime) -> Result<()> {
     let mut all = pair(rt.alloc(), b"ab", b"c")?;
@@ -86,5 +102,98 @@ fn a_slice_gives_all_its_bytes(rt: HostRuntime) -> Result<()> {
         let bytes = vec![in rt.alloc(); 7u8; len]?;
         assert_eq!(rt; rest_of(rt.alloc(), &bytes)?, bytes, "of {len}");
     }
+    Ok(())
+}
+
+/// A source that gives so many bytes, one at each read, and is refused then.
+#[derive(Drop)]
+struct Halting {
+    left: u8,
+}
+
+impl Source for Halting {
+    ghost gives = { λ _ _ _ _. Unit {0} };
+
+    fn read_some(&mut self, target: &mut [u8]) -> Result<usize> {
+        let Some(first) = target.first_mut() else {
+            return Ok(0);
+        };
+        if self.left == 0 {
+            return Err(Status {
+                code: StatusCode::IOError,
+                err: None,
+            });
+        }
+        self.left -= 1;
+        *first = self.left;
+        Ok(1)
+    }
+}
+
+#[test]
+fn a_refused_read_is_passed_on(rt: HostRuntime) -> Result<()> {
+    for left in [0, 1, 3] {
+        let mut source = Halting { left };
+        let answer = read_to_end(rt.alloc(), &mut &mut source);
+        assert_eq!(rt; refusal(answer)?, Some(StatusCode::IOError), "after {left}");
+        assert_eq!(rt; source.left, 0);
+    }
+    Ok(())
+}
+
+#[test]
+fn pieces_go_into_a_file_and_come_back(rt: HostRuntime) -> Result<()> {
+    let mut env = MemEnv::new(rt.alloc());
+    let mut file = env.open_writable_file("db/000003.log")?;
+    let long = vec![in rt.alloc(); 7u8; 10_000]?;
+    put_pair_in_file(&mut env, &mut file, b"ab", &long)?;
+    let mut all = pair(rt.alloc(), b"ab", &long)?;
+    assert_eq!(rt; read_file(rt.alloc(), &mut env, "db/000003.log")?, all);
+    let nothing = Pick {
+        tails: Vec::new(rt.alloc()),
+        after: false,
+    };
+    let mut crashed = env.crashed(rt.alloc(), &nothing)?;
+    all.clear();
+    assert_eq!(rt;
+        read_file(rt.alloc(), &mut crashed, "db/000003.log")?,
+        all,
+        "not flushed"
+    );
+    flush_file(&mut env, &mut file)?;
+    let mut crashed = env.crashed(rt.alloc(), &nothing)?;
+    assert_eq!(rt;
+        read_file(rt.alloc(), &mut crashed, "db/000003.log")?.len(),
+        10_002,
+        "flushed"
+    );
+    Ok(())
+}
+
+#[test]
+fn a_file_is_replaced(rt: HostRuntime) -> Result<()> {
+    let mut env = MemEnv::new(rt.alloc());
+    for text in [b"MANIFEST-000001\n", b"MANIFEST-000005\n"] {
+        replace_file(&mut env, "db/000001.dbtmp", "db/CURRENT", text)?;
+        let mut crashed = env.crashed(
+            rt.alloc(),
+            &Pick {
+                tails: Vec::new(rt.alloc()),
+                after: false,
+            },
+        )?;
+        assert_eq!(rt;
+            read_file(rt.alloc(), &mut crashed, "db/CURRENT")?.as_slice(),
+            text.as_slice()
+        );
+    }
+    assert!(rt; !env.exists("db/000001.dbtmp")?);
+    replace_each(&mut env, "tmp", &["a", "b"], b"x")?;
+    assert_eq!(rt;
+        read_file(rt.alloc(), &mut env, "b")?.as_slice(),
+        b"x".as_slice()
+    );
+    let answer = read_file(rt.alloc(), &mut env, "tmp");
+    assert_eq!(rt; refusal(answer)?, Some(StatusCode::NotFound));
     Ok(())
 }
