@@ -1,5 +1,5 @@
 -- Two lives with a crash between: what was written with a sync is found.
-use Rattle.std.proofs.Common.{◌≡◌, ◌≤◌, ◌<◌, inl, inr, ℕ, true, false, List, [], ◌∷◌, refl, arith, Some, None, IsTrue}
+use Rattle.std.proofs.Common.{◌≡◌, ◌≤◌, ◌<◌, ⊎_elim, inl, inr, ℕ, Bool, true, false, List, [], ◌∷◌, refl, arith, Some, None, IsTrue}
 use Rattle.std.proofs.lemmas.List.Elements.{All-nil, All-cons}
 use Rattle.std.specs.declared.cmp.Ordering.{Ordering}
 use Rattle.leveldb_base.specs.History.{Entry}
@@ -7,10 +7,14 @@ use Rattle.leveldb_base.specs.View.{Shows}
 use Rattle.leveldb_base.specs.ViewLaws.Elements.{in_front}
 use Rattle.rusty_leveldb.specs.Contents.{made}
 use Rattle.rusty_leveldb.specs.State.{State, Opening, open_store, write, get, done, found, open_mode, closed}
-use Rattle.rusty_leveldb.specs.Causes.{Faults}
+use Rattle.rusty_leveldb.specs.Causes.{Faults, Misfits, IsLongKey, IsLongBatch}
 use Rattle.rusty_leveldb.specs.Machine.{Step}
 use Rattle.rusty_leveldb.specs.Runs.{Event, StopsAt, Lives, new_state}
 use Rattle.rusty_leveldb.specs.Laws.{SyncedIsFound, told_at, written_and_found}
+
+not_false : (b : Bool) → IsTrue b → b ≡ false → ⊥
+not_false true t e = absurd (cc)
+not_false false t e = absurd (cc)
 
 abbrev quiet : Faults
 quiet = record { before = 0; after = 0; coders = [] }
@@ -31,21 +35,34 @@ module _ (cmp : List ℕ → List ℕ → Ordering) (opening : Opening) (key val
   shown : Shows (entry ∷ []) 1 key value
   shown = record { entry = entry; newest = record { there = in_front entry []; seen = omega arith; newest = λ other c k seen. seen }; key_is = refl; value_is = refl }
 
+  -- no operand of the opening is refused
+  fits_first : Misfits new_state (open_store opening) → ⊥
+  fits_first misfits = ⊎_elim (λ (e : opening.fits ≡ false). not_false opening.fits fits e) (λ (e : opening.create_if_missing ≡ false). not_false opening.create_if_missing create e) misfits
+
+  fits_again : Misfits left (open_store opening) → ⊥
+  fits_again misfits = ⊎_elim (λ (e : opening.fits ≡ false). not_false opening.fits fits e) (λ (never : ⊥). never) misfits
+
+  reads_short : Misfits written (get None key) → ⊥
+  reads_short misfits = ⊎_elim (λ (never : ⊥). never) short misfits
+
   opens_first : Step cmp quiet new_state (open_store opening) done opened
   opens_first = record {
     later = omega arith;
-    step = (may_open missing create, record {
-      fits = (fits, compresses);
-      free = refl;
-      may = create;
-      stays = tt;
-      store = tt;
-      joins = inl refl;
-      reached = omega arith;
-      bounded = omega arith;
-      covered = inl refl;
-      state = refl;
-    });
+    step = (
+      fits_first,
+      record {
+        fits = (fits, compresses);
+        free = refl;
+        may = create;
+        stays = tt;
+        store = tt;
+        joins = inl refl;
+        reached = omega arith;
+        bounded = omega arith;
+        covered = inl refl;
+        state = refl;
+      },
+    );
   }
 
   writes : Step cmp quiet opened (write (record { key = key; value = Some value } ∷ []) true) done written
@@ -54,22 +71,25 @@ module _ (cmp : List ℕ → List ℕ → Ordering) (opening : Opening) (key val
   opens_again : Step cmp quiet left (open_store opening) done written
   opens_again = record {
     later = omega arith;
-    step = (may_open (made None) tt, record {
-      fits = (fits, compresses);
-      free = refl;
-      may = there;
-      stays = refl;
-      store = tt;
-      joins = inl refl;
-      reached = omega arith;
-      bounded = omega arith;
-      covered = inl refl;
-      state = refl;
-    });
+    step = (
+      fits_again,
+      record {
+        fits = (fits, compresses);
+        free = refl;
+        may = there;
+        stays = refl;
+        store = tt;
+        joins = inl refl;
+        reached = omega arith;
+        bounded = omega arith;
+        covered = inl refl;
+        state = refl;
+      },
+    );
   }
 
   finds : Step cmp quiet written (get None key) (found (Some value)) written
-  finds = record { later = omega arith; step = (not_long, (record { sequence = 1; at_is = refl; looks = shown }, refl)) }
+  finds = record { later = omega arith; step = (reads_short, (record { sequence = 1; at_is = refl; looks = shown }, refl)) }
 
   abbrev opening_then : ℕ × Event
   opening_then = told_at 1 (open_store opening) done
