@@ -1,8 +1,8 @@
 -- Crashes between two requests and inside one.
-use Rattle.std.proofs.Common.{◌≤◌, List, ℕ}
+use Rattle.std.proofs.Common.{◌≤◌}
 use Rattle.leveldb_base.specs.History.{IsHistory, entries_of, greatest}
 use Rattle.rusty_leveldb.specs.State.{State, IsState, Request, open_store}
-use Rattle.rusty_leveldb.specs.Machine.{Risk, risk_between, risk_of}
+use Rattle.rusty_leveldb.specs.Machine.{risk_between, risk_of}
 use Rattle.rusty_leveldb.specs.Serves.{Reads}
 use Rattle.rusty_leveldb.specs.Laws.{CrashBetween, CrashInside}
 use Rattle.rusty_leveldb.proofs.Readings.{one_reading}
