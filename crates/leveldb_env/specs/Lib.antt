@@ -13,4 +13,7 @@ pub mod OpenFileLaws
 pub mod WholeFiles
 pub mod Folders
 pub mod Mem
+pub mod Journal
+pub mod Record
 pub mod Picks
+pub mod RecordLaws
