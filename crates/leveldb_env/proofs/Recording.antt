@@ -1,5 +1,5 @@
 -- A call of an environment that records, by what its journal does.
-use Rattle.std.proofs.Common.{◌≡◌, ◌⊎◌, inl, inr, ⊎_elim, ℕ, Bool, true, false, ◌+◌, ◌-◌, ◌*◌, ◌^◌, ◌<◌, nat_lt, List, string_bytes, codes, IfSome, IsErrAnd, IfErr, OnOk, is_some, Option, None, Some, if◌then◌else◌, not, ◌&&◌, ◌||◌, Result, Ok, Err, refl, sym, ◌∙◌, ap, subst, arith}
+use Rattle.std.proofs.Common.{◌≡◌, ◌⊎◌, inl, inr, ⊎_elim, ℕ, Bool, true, false, ◌+◌, ◌-◌, ◌*◌, ◌^◌, ◌<◌, ◌&&◌, nat_lt, List, string_bytes, codes, IfSome, IsErrAnd, IfErr, OnOk, is_some, Option, None, Some, if◌then◌else◌, not, ◌&&◌, ◌||◌, Result, Ok, Err, refl, sym, ◌∙◌, ap, subst, arith}
 use Rattle.std.proofs.lemmas.Bool.Decides.{nat_tests}
 use Rattle.std.proofs.lemmas.Result.{IfErr-weaker}
 use Rattle.leveldb_base.specs.declared.error.Status.{Status}
@@ -12,7 +12,7 @@ use Rattle.leveldb_env.specs.Calls.{Does, EitherSide, Appending, Still, NoMemory
 use Rattle.leveldb_env.specs.Disk.{File, Files, same, created, extended}
 use Rattle.leveldb_env.specs.Journal.{Asked, where_done, name_in, finds, IsNotMade}
 use Rattle.leveldb_env.specs.Mem.{files_of, IsNoSuchFile}
-use Rattle.leveldb_env.specs.Record.{told_of, stood_in, Passed, files_in, locked_in, moment_of, is_past, is_chosen, one_more, StoodInside, Turns, Looks, Asks}
+use Rattle.leveldb_env.specs.Record.{told_of, stood_in, Passed, files_in, locked_in, moment_of, is_past, is_chosen, stands, one_more, StoodInside, Turns, Looks, Asks}
 use Rattle.leveldb_env.specs.Times.{Told, Within}
 use Rattle.leveldb_env.proofs.Appends.{Appending-from_sides}
 
@@ -38,14 +38,14 @@ module _ (old new : RecordEnv) (was now : Journal) (first : was ≡ old.journal)
     time = passes Still passed;
   }
 
-  module _ (change : Files → Files) (stands : Bool) (passed : Passed (EitherSide change (files_by was)) was now) where
-    inside_of : stood_in now (2 * was.count + 1) (change (files_by was)) → StoodInside change old new
+  module _ (change : Files → Files) (may : Bool) (passed : Passed (EitherSide change (files_by was)) was now) where
+    inside_of : stood_in now (2 * was.count + 1) (where_done may change (files_by was)) → StoodInside (where_done may change (files_in old)) old new
     inside_of inside =
-        let so_far : stood_in new.journal (2 * was.count + 1) (change (files_by was)) = subst (λ (j : Journal). stood_in j (2 * was.count + 1) (change (files_by was))) (sym last) inside in
-        subst (λ (j : Journal). stood_in new.journal (2 * j.count + 1) (change (files_by j))) first so_far
+        let so_far : stood_in new.journal (2 * was.count + 1) (where_done may change (files_by was)) = subst (λ (j : Journal). stood_in j (2 * was.count + 1) (where_done may change (files_by was))) (sym last) inside in
+        subst (λ (j : Journal). stood_in new.journal (2 * j.count + 1) (where_done may change (files_by j))) first so_far
 
     -- a call that made its change
-    pub asks_ok : {T : Type 0} (x : T) → files_by now ≡ change (files_by was) → stood_in now (2 * was.count + 1) (change (files_by was)) → Asks change stands old new (Ok x)
+    pub asks_ok : {T : Type 0} (x : T) → files_by now ≡ change (files_by was) → stood_in now (2 * was.count + 1) (where_done may change (files_by was)) → Asks change may old new (Ok x)
     asks_ok x made inside = record {
       ok = ap files_by last ∙ made ∙ ap (λ (j : Journal). change (files_by j)) first;
       err = tt;
@@ -54,17 +54,17 @@ module _ (old new : RecordEnv) (was now : Journal) (first : was ≡ old.journal)
     }
 
     -- one that found no memory
-    pub asks_no_memory : {T : Type 0} (r : Result T Status) (e : Status) → r ≡ Err e → NoMemory e → files_by now ≡ files_by was → Asks change stands old new r
+    pub asks_no_memory : {T : Type 0} (r : Result T Status) (e : Status) → r ≡ Err e → NoMemory e → files_by now ≡ files_by was → Asks change may old new r
     asks_no_memory {T} r e is no_memory same =
-        let at : Asks {T = T} change stands old new (Err e) = record { ok = tt; err = inl (no_memory, ap files_by last ∙ same ∙ ap files_by first); time = passes (EitherSide change) passed; inside = inl no_memory } in
-        subst (λ (r : Result T Status). Asks change stands old new r) (sym is) at
+        let at : Asks {T = T} change may old new (Err e) = record { ok = tt; err = inl (no_memory, ap files_by last ∙ same ∙ ap files_by first); time = passes (EitherSide change) passed; inside = inl no_memory } in
+        subst (λ (r : Result T Status). Asks change may old new r) (sym is) at
 
     -- one that was refused otherwise
-    pub asks_err : {T : Type 0} (r : Result T Status) (e : Status) → r ≡ Err e → files_by now ≡ where_done stands change (files_by was) → stood_in now (2 * was.count + 1) (change (files_by was)) → Asks change stands old new r
+    pub asks_err : {T : Type 0} (r : Result T Status) (e : Status) → r ≡ Err e → files_by now ≡ where_done (may && stands old) change (files_by was) → stood_in now (2 * was.count + 1) (where_done may change (files_by was)) → Asks change may old new r
     asks_err {T} r e is made inside =
-        let left : files_in new ≡ where_done stands change (files_in old) = ap files_by last ∙ made ∙ ap (λ (j : Journal). where_done stands change (files_by j)) first in
-        let at : Asks {T = T} change stands old new (Err e) = record { ok = tt; err = inr left; time = passes (EitherSide change) passed; inside = inr (inr (inside_of inside)) } in
-        subst (λ (r : Result T Status). Asks change stands old new r) (sym is) at
+        let left : files_in new ≡ where_done (may && stands old) change (files_in old) = ap files_by last ∙ made ∙ ap (λ (j : Journal). where_done (may && stands old) change (files_by j)) first in
+        let at : Asks {T = T} change may old new (Err e) = record { ok = tt; err = inr left; time = passes (EitherSide change) passed; inside = inr (inr (inside_of inside)) } in
+        subst (λ (r : Result T Status). Asks change may old new r) (sym is) at
 
 -- ---- what becomes of a call
 
@@ -111,8 +111,8 @@ no_file_found change files name (Ok x) same missing code text = tt
 no_file_found change files name (Err e) same missing code text = no_file change files name e same missing code text
 
 -- a call that asks for nothing for want of memory, as one that asks for a change
-pub asks_nothing : {T : Type 0} (old new : RecordEnv) (change : Files → Files) (stands : Bool) (e : Status) → Looks old new → NoMemory e → Asks {T = T} change stands old new (Err e)
-asks_nothing old new change stands e looked no_memory = record {
+pub asks_nothing : {T : Type 0} (old new : RecordEnv) (change : Files → Files) (may : Bool) (e : Status) → Looks old new → NoMemory e → Asks {T = T} change may old new (Err e)
+asks_nothing old new change may e looked no_memory = record {
   ok = tt;
   err = inl (no_memory, looked.files);
   time = Within-weaker (λ files same. inl same) looked.time;
@@ -128,13 +128,13 @@ pub Does-from_looks : {T : Type 0} (old new : RecordEnv) (r : Result T Status) �
 Does-from_looks old new (Ok x) looked = record { ok = λ _. looked.files; now = λ _. looked.files; time = looked.time }
 Does-from_looks old new (Err e) looked = record { ok = λ _. tt; now = λ _. looked.files; time = looked.time }
 
-either_left : (change : Files → Files) (stands : Bool) (old new : Files) → new ≡ where_done stands change old → EitherSide change old new
+either_left : (change : Files → Files) (done : Bool) (old new : Files) → new ≡ where_done done change old → EitherSide change old new
 either_left change true old new left = inr left
 either_left change false old new left = inl left
 
-pub Does-from_asks : {T : Type 0} (change : Files → Files) (stands : Bool) (old new : RecordEnv) (r : Result T Status) → Asks change stands old new r → Does true change (EitherSide change) (told_of old) (told_of new) r
-Does-from_asks change stands old new (Ok x) asked = record { ok = λ _. asked.ok; now = λ _. inr asked.ok; time = asked.time }
-Does-from_asks change stands old new (Err e) asked = record { ok = λ _. tt; now = λ _. ⊎_elim (λ none. inl none.1) (either_left change stands _ _) asked.err; time = asked.time }
+pub Does-from_asks : {T : Type 0} (change : Files → Files) (may : Bool) (old new : RecordEnv) (r : Result T Status) → Asks change may old new r → Does true change (EitherSide change) (told_of old) (told_of new) r
+Does-from_asks change may old new (Ok x) asked = record { ok = λ _. asked.ok; now = λ _. inr asked.ok; time = asked.time }
+Does-from_asks change may old new (Err e) asked = record { ok = λ _. tt; now = λ _. ⊎_elim (λ none. inl none.1) (either_left change (may && stands old) _ _) asked.err; time = asked.time }
 
 -- what the answer says of the count of failures
 counted_failure : (failures now : ℕ) → failures < 2 ^ 64 → now ≡ one_more failures → (now ≡ failures + 1) ⊎ ((failures ≡ 2 ^ 64 - 1) × (now ≡ failures))
@@ -172,9 +172,9 @@ turns_own Own old new r passed why =
       err = IfErr-weaker r Own _ (λ e cause. inl (record { cause = cause; counted = let_pass.0; chosen = λ chosen. absurd (cc (sym let_pass.1 ∙ chosen)); failures = passed.ok.1 })) why;
     }
 
-pub appends : {T : Type 0} (name bytes : List ℕ) (stands : Bool) (old new : RecordEnv) (r : Result T Status) → Asks (extended name bytes) stands old new r → Does true (extended name bytes) (Appending name bytes) (told_of old) (told_of new) r
-appends name bytes stands old new r asked =
-    let does = Does-from_asks (extended name bytes) stands old new r asked in
+pub appends : {T : Type 0} (name bytes : List ℕ) (may : Bool) (old new : RecordEnv) (r : Result T Status) → Asks (extended name bytes) may old new r → Does true (extended name bytes) (Appending name bytes) (told_of old) (told_of new) r
+appends name bytes may old new r asked =
+    let does = Does-from_asks (extended name bytes) may old new r asked in
     record {
       ok = does.ok;
       now = λ told. Appending-from_sides name bytes _ _ (does.now told);
@@ -182,12 +182,12 @@ appends name bytes stands old new r asked =
     }
 
 -- a name that is locked stays as it is, and a free one is created
-pub locks : {T : Type 0} (name : List ℕ) (stands : Bool) (old new : RecordEnv) (r : Result T Status) → (locked_in old name ≡ false → Asks (created name) stands old new r) → (locked_in old name ≡ true → Looks old new)
+pub locks : {T : Type 0} (name : List ℕ) (may : Bool) (old new : RecordEnv) (r : Result T Status) → (locked_in old name ≡ false → Asks (created name) may old new r) → (locked_in old name ≡ true → Looks old new)
     → OnOk r (locked_in old name ≡ false) → Does true (created name) (EitherSide (created name)) (told_of old) (told_of new) r
-locks name stands old new r asked looked was_free = by (locked_in old name) refl r asked was_free
+locks name may old new r asked looked was_free = by (locked_in old name) refl r asked was_free
   where
-    by : {T : Type 0} (held : Bool) → locked_in old name ≡ held → (r : Result T Status) → (locked_in old name ≡ false → Asks (created name) stands old new r) → OnOk r (locked_in old name ≡ false)
+    by : {T : Type 0} (held : Bool) → locked_in old name ≡ held → (r : Result T Status) → (locked_in old name ≡ false → Asks (created name) may old new r) → OnOk r (locked_in old name ≡ false)
         → Does true (created name) (EitherSide (created name)) (told_of old) (told_of new) r
-    by false free r asked was_free = Does-from_asks (created name) stands old new r (asked free)
+    by false free r asked was_free = Does-from_asks (created name) may old new r (asked free)
     by true held (Ok x) asked was_free = absurd (cc (sym held ∙ was_free))
     by true held (Err e) asked was_free = record { ok = λ _. tt; now = λ _. inl (looked held).files; time = Within-weaker (λ files same. inl same) (looked held).time }

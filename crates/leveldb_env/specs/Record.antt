@@ -116,13 +116,13 @@ pub record Looks (old new : RecordEnv) : Type 0 where
   pub files : files_in new ≡ files_in old
   pub time : Within (Still (files_in old)) (told_of old) (told_of new)
 
--- inside the call the change stood at its moment
-abbrev pub StoodInside : (Files → Files) → RecordEnv → RecordEnv → Type 0
-StoodInside change old new = stood_in new.journal (moment_of old + 1) (change (files_in old))
+-- inside the call these files stood
+abbrev pub StoodInside : Files → RecordEnv → RecordEnv → Type 0
+StoodInside files old new = stood_in new.journal (moment_of old + 1) files
 
--- A call that asks for a change. An Ok has made it, and an Err nothing, but where it's to stand all the same.
-pub record Asks {T : Type 0} (change : Files → Files) (stands : Bool) (old new : RecordEnv) (result : Result T Status) : Type 0 where
+-- A call that asks for a change. An Ok has made it. An Err has made it where it may stand and is to, and nothing for want of memory.
+pub record Asks {T : Type 0} (change : Files → Files) (may_stand : Bool) (old new : RecordEnv) (result : Result T Status) : Type 0 where
   pub ok : OnOk result (files_in new ≡ change (files_in old))
-  pub err : IfErr result (λ e. (NoMemory e × (files_in new ≡ files_in old)) ⊎ (files_in new ≡ where_done stands change (files_in old)))
+  pub err : IfErr result (λ e. (NoMemory e × (files_in new ≡ files_in old)) ⊎ (files_in new ≡ where_done (may_stand && stands old) change (files_in old)))
   pub time : Within (EitherSide change (files_in old)) (told_of old) (told_of new)
-  pub inside : MatchResult result (λ _. StoodInside change old new) (λ e. NoMemory e ⊎ (is_past old ≡ true) ⊎ StoodInside change old new)
+  pub inside : let at_last = where_done may_stand change (files_in old) in MatchResult result (λ _. StoodInside at_last old new) (λ e. NoMemory e ⊎ (is_past old ≡ true) ⊎ StoodInside at_last old new)

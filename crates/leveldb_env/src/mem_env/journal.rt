@@ -43,7 +43,7 @@ pub fn name_in<'a>(change: &Asked<'a>) -> &'a str
     }
 }
 
-/// Whether a change may stand that the device refuses: all but a sync.
+/// Whether a change may stand though its call is refused or cut off: all but a sync.
 pub fn may_stand(change: &Asked<'_>) -> bool
     ensures { result ≡ may_stand change.now }
 {
@@ -79,7 +79,8 @@ fn make_change(
 
 // The change with names and bytes of its own.
 fn note_change(alloc: Global, change: &Asked<'_>) -> Result<Noted, AllocError>
-    ensures { IfOk result (λ own. noted own ≡ asked change.now) }
+    ensures change { IfOk result (λ own. noted own ≡ asked change.now) }
+    ensures may { IfOk result (λ own. may_stand own ≡ may_stand change.now) }
 {
     Ok(match change {
         Change::Emptied(name) => Change::Emptied(String::from_str(alloc, name)?),
@@ -181,7 +182,7 @@ impl Journal {
         ensures missing { result ≡ Ok false → files_of self.new.files ≡ files_of self.old.files }
         ensures err { OnErr result (files_of self.new.files ≡ files_of self.old.files) }
         ensures time { Passed (EitherSide (asked change.now) (files_of self.old.files)) self.old self.new }
-        ensures inside { OnOk result (stood_in self.new (2 * self.old.count + 1) (asked change.now (files_of self.old.files))) }
+        ensures inside { OnOk result (stood_in self.new (2 * self.old.count + 1) (where_done (may_stand change.now) (asked change.now) (files_of self.old.files))) }
     {
         self.count += 1;
         let noted_change = take_memory(&mut self.calls, alloc, change)?;
@@ -203,6 +204,7 @@ fn take_memory(
     change: &Asked<'_>,
 ) -> Result<Noted, AllocError>
     ensures change { IfOk result (λ own. noted own ≡ asked change.now) }
+    ensures may { IfOk result (λ own. may_stand own ≡ may_stand change.now) }
     ensures room { OnOk result (vec_len calls.new < vec_capacity calls.new) }
     ensures calls { calls.new.items ≡ calls.old.items }
 {

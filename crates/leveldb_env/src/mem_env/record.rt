@@ -28,7 +28,7 @@ impl RecordEnv {
     ghost use Rattle.leveldb_env.specs.Calls.{NoMemory};
     ghost use Rattle.leveldb_env.specs.Disk.{Files};
     ghost use Rattle.leveldb_env.specs.Journal.{asked, finds, may_stand, IsNotMade};
-    ghost use Rattle.leveldb_env.specs.Record.{told_of, files_in, locked_in, moment_of, failures_of, fails_in, fails_done, TellsTheSame, is_past, is_chosen, stands, one_more, SameButFailures, Turns, Looks, Asks};
+    ghost use Rattle.leveldb_env.specs.Record.{told_of, files_in, locked_in, moment_of, failures_of, fails_in, fails_done, TellsTheSame, is_past, is_chosen, one_more, SameButFailures, Turns, Looks, Asks};
 
     /// A disk without a name or a lock, at moment 0. No call is chosen to fail.
     pub fn new(alloc: Global) -> RecordEnv
@@ -123,7 +123,7 @@ impl RecordEnv {
     // A call that finds no memory for what it is to answer.
     #[cold]
     fn find_no_memory<T>(&mut self) -> Result<T>
-        ensures asks { (change : Files → Files) (may : Bool) → Asks change (may && stands self.old) self.old self.new result }
+        ensures asks { (change : Files → Files) (may : Bool) → Asks change may self.old self.new result }
         ensures turns { Turns NoMemory self.old self.new result }
         ensures locks { self.new.locks ≡ self.old.locks }
         ensures err { IsErr result }
@@ -144,7 +144,7 @@ impl RecordEnv {
 
     // A call that asks for a change.
     fn ask(&mut self, change: &Asked<'_>) -> Result<()>
-        ensures asks { Asks (asked change.now) (may_stand change.now && stands self.old) self.old self.new result }
+        ensures asks { Asks (asked change.now) (may_stand change.now) self.old self.new result }
         ensures turns { Turns (IsNotMade change.now (files_in self.old)) self.old self.new result }
         ensures there { OnOk result (finds change.now (files_in self.old) ≡ true) }
         ensures locks { self.new.locks ≡ self.old.locks }
@@ -169,7 +169,7 @@ impl Env for RecordEnv {
     ghost use Rattle.leveldb_env.specs.Calls.{NoMemory, Lists};
     ghost use Rattle.leveldb_env.specs.Disk.{bytes_of, emptied, created, deleted, renamed, extended, synced, without_folder, lock_set};
     ghost use Rattle.leveldb_env.specs.Mem.{CopiesFrom, IsNoFileOrMemory, IsNoSuchFile, IsAlreadyLocked, IsNotLocked, handle_name, handle_place};
-    ghost use Rattle.leveldb_env.specs.Record.{told_of, files_in, locked_in, moment_of, failures_of, stands, Turns, Looks, Asks};
+    ghost use Rattle.leveldb_env.specs.Record.{told_of, files_in, locked_in, moment_of, failures_of, Turns, Looks, Asks};
     ghost use Rattle.leveldb_env.specs.RecordLaws.{stands_alone, stands_now, fails_below};
 
     type File = MemHandle;
@@ -219,7 +219,7 @@ impl Env for RecordEnv {
     }
 
     fn open_writable_file(&mut self, name: &str) -> Result<MemHandle>
-        ensures asks { Asks (emptied name.now) (stands self.old) self.old self.new result }
+        ensures asks { Asks (emptied name.now) true self.old self.new result }
         ensures turns { Turns NoMemory self.old self.new result }
         ensures locks { locked_in self.new ≡ locked_in self.old }
         ensures file { IfOk result (λ file. handle_name file ≡ name.now) }
@@ -232,7 +232,7 @@ impl Env for RecordEnv {
     }
 
     fn open_appendable_file(&mut self, name: &str) -> Result<MemHandle>
-        ensures asks { Asks (created name.now) (stands self.old) self.old self.new result }
+        ensures asks { Asks (created name.now) true self.old self.new result }
         ensures turns { Turns NoMemory self.old self.new result }
         ensures locks { locked_in self.new ≡ locked_in self.old }
         ensures file { IfOk result (λ file. handle_name file ≡ name.now) }
@@ -271,7 +271,7 @@ impl Env for RecordEnv {
     }
 
     fn append(&mut self, file: &mut MemHandle, bytes: &[u8]) -> Result<()>
-        ensures asks { Asks (extended (handle_name file.old) bytes.now) (stands self.old) self.old self.new result }
+        ensures asks { Asks (extended (handle_name file.old) bytes.now) true self.old self.new result }
         ensures turns { Turns (IsNoFileOrMemory (files_in self.old) (handle_name file.old)) self.old self.new result }
         ensures locks { locked_in self.new ≡ locked_in self.old }
         ensures there { OnOk result (IsSome (files_in self.old (handle_name file.old))) }
@@ -324,7 +324,7 @@ impl Env for RecordEnv {
     }
 
     fn delete(&mut self, name: &str) -> Result<()>
-        ensures asks { Asks (deleted name.now) (stands self.old) self.old self.new result }
+        ensures asks { Asks (deleted name.now) true self.old self.new result }
         ensures turns { Turns (IsNoFileOrMemory (files_in self.old) name.now) self.old self.new result }
         ensures locks { locked_in self.new ≡ locked_in self.old }
         ensures there { OnOk result (IsSome (files_in self.old name.now)) }
@@ -341,7 +341,7 @@ impl Env for RecordEnv {
     }
 
     fn rmdir(&mut self, folder: &str) -> Result<()>
-        ensures asks { Asks (without_folder folder.now) (stands self.old) self.old self.new result }
+        ensures asks { Asks (without_folder folder.now) true self.old self.new result }
         ensures turns { Turns NoMemory self.old self.new result }
         ensures locks { locked_in self.new ≡ locked_in self.old }
     {
@@ -349,7 +349,7 @@ impl Env for RecordEnv {
     }
 
     fn rename(&mut self, from: &str, to: &str) -> Result<()>
-        ensures asks { Asks (renamed from.now to.now) (stands self.old) self.old self.new result }
+        ensures asks { Asks (renamed from.now to.now) true self.old self.new result }
         ensures turns { Turns (IsNoFileOrMemory (files_in self.old) from.now) self.old self.new result }
         ensures locks { locked_in self.new ≡ locked_in self.old }
         ensures there { OnOk result (IsSome (files_in self.old from.now)) }
@@ -358,7 +358,7 @@ impl Env for RecordEnv {
     }
 
     fn lock(&mut self, name: &str) -> Result<()>
-        ensures asks { locked_in self.old name.now ≡ false → Asks (created name.now) (stands self.old) self.old self.new result }
+        ensures asks { locked_in self.old name.now ≡ false → Asks (created name.now) true self.old self.new result }
         ensures looks { locked_in self.old name.now ≡ true → Looks self.old self.new }
         ensures turns { Turns (λ e. NoMemory e ⊎ IsAlreadyLocked (locked_in self.old) name.now e) self.old self.new result }
         ensures locks { locked_in self.new ≡ (if is_ok result then lock_set name.now true (locked_in self.old) else locked_in self.old) }

@@ -22,7 +22,7 @@ done_is c = c.is_made-done.ensures ∙ ap (λ (env : RecordEnv). not c.in-Some.c
 pub returns-in_err-there-clause-asks : goal.returns-in_err-there-clause-asks
 returns-in_err-there-clause-asks c =
     let p = err_from_is_err_and c.from_residual.result c.from_residual.ensures.1 in
-    asks_no_memory c.args.self.now _ c.turn.new.self.journal c.make.new.self (journal_after c.turn.ensures.next) refl (asked c.args.change.now) (may_stand c.args.change.now && stands c.args.self.now) c.make.ensures.time
+    asks_no_memory c.args.self.now _ c.turn.new.self.journal c.make.new.self (journal_after c.turn.ensures.next) refl (asked c.args.change.now) (may_stand c.args.change.now) c.make.ensures.time
     c.from_residual.result p.0 p.1 p.2 c.in_err-there.ensures.err
 
 -- ---- the chosen call
@@ -34,7 +34,7 @@ returns-then-chosen-clause-asks c =
     let p = err_from_is_err_and c.refuse_call-then-chosen.result c.refuse_call-then-chosen.ensures.code in
     let is_done = done_is d ∙ chosen_made (is_past env) (env.fails_in == 1) c.in-Some.chosen env.fails_done (may_stand c.args.change.now) (taken d).0 (taken d).1 c.if-chosen.true in
     let made = c.in_ok-there.ensures.ok ∙ ap (λ done. where_done done (asked c.args.change.now) (files_of c.turn.new.self.journal.files)) is_done in
-    asks_err env _ c.turn.new.self.journal c.make.new.self (journal_after c.turn.ensures.next) c.refuse_call-then-chosen.ensures.same.journal (asked c.args.change.now) (may_stand c.args.change.now && stands env) c.make.ensures.time
+    asks_err env _ c.turn.new.self.journal c.make.new.self (journal_after c.turn.ensures.next) c.refuse_call-then-chosen.ensures.same.journal (asked c.args.change.now) (may_stand c.args.change.now) c.make.ensures.time
     c.refuse_call-then-chosen.result p.0 p.1 made c.in_ok-there.ensures.inside
 
 -- ---- another call
@@ -58,7 +58,7 @@ returns-then-not-there-clause-asks c =
     let same = c.in_ok-there.ensures.missing (ap Ok c.if-not-there.true) in
     let none : (may_stand c.args.change.now && stands env) ≡ false = ap (λ b. may_stand c.args.change.now && (b && env.fails_done)) (is_other d c.if-chosen.false) ∙ and_false (may_stand c.args.change.now) in
     let made = same ∙ ap (λ stands. where_done stands (asked c.args.change.now) (files_of c.turn.new.self.journal.files)) (sym none) in
-    asks_err env _ c.turn.new.self.journal c.make.new.self (journal_after c.turn.ensures.next) refl (asked c.args.change.now) (may_stand c.args.change.now && stands env) c.make.ensures.time
+    asks_err env _ c.turn.new.self.journal c.make.new.self (journal_after c.turn.ensures.next) refl (asked c.args.change.now) (may_stand c.args.change.now) c.make.ensures.time
     c.missing.result p.0 p.1 made c.in_ok-there.ensures.inside
 
 pub returns-then-not-there-clause-turns : goal.returns-then-not-there-clause-turns
@@ -86,5 +86,5 @@ returns-clause-asks c =
     let d = (goal.at.returns-clause-asks c).In_ok-there in
     let env = c.args.self.now in
     let made = c.in_ok-there.ensures.ok ∙ ap (λ done. where_done done (asked c.args.change.now) (files_of c.turn.new.self.journal.files)) (is_made d c.if-chosen.false) in
-    asks_ok env _ c.turn.new.self.journal c.make.new.self (journal_after c.turn.ensures.next) refl (asked c.args.change.now) (may_stand c.args.change.now && stands env) c.make.ensures.time
+    asks_ok env _ c.turn.new.self.journal c.make.new.self (journal_after c.turn.ensures.next) refl (asked c.args.change.now) (may_stand c.args.change.now) c.make.ensures.time
     _ made c.in_ok-there.ensures.inside
