@@ -5,7 +5,7 @@ ghost use Rattle.leveldb_env.specs.Disk.{Files, kept_file};
 ghost use Rattle.leveldb_env.specs.Times.{Since};
 ghost use Rattle.leveldb_env.specs.Runs.{Run};
 ghost use Rattle.leveldb_env.specs.Sinks.{PutsAll, PutsPart};
-ghost use Rattle.leveldb_env.specs.OpenFiles.{opened, IsLonger, IsPartlyPut};
+ghost use Rattle.leveldb_env.specs.OpenFiles.{opened, Syncs, IsLonger, IsPartlyPut};
 
 use crate::env::source::read_to_end;
 use crate::env::whole_files::{read_file, replace_file};
@@ -50,7 +50,9 @@ fn put_pair_in_file<E: Env>(
     put_pair(&mut EnvFile { env, file }, first, second)
 }
 
-fn flush_file<E: Env>(env: &mut E, file: &mut E::File) -> Result<()> {
+fn flush_file<E: Env>(env: &mut E, file: &mut E::File) -> Result<()>
+    ensures { Syncs E.Env (opened env.old file.old) result (opened env.new file.new) }
+{
     EnvFile { env, file }.flush()
 }
 
