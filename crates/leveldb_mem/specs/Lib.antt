@@ -1,3 +1,5 @@
 pub mod Log
 pub mod Honest
 pub mod LogLaws
+pub mod Batch
+pub mod BatchLaws
