@@ -1,0 +1,2 @@
+//! The store: a machine over a history, on a disk that holds it.
+#![tactic(auto)]
