@@ -6,5 +6,6 @@ pub mod blockhandle;
 pub mod cmp;
 pub mod crc;
 pub mod error;
+pub mod history;
 pub mod types;
 pub mod varint;
