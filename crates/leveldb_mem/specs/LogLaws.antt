@@ -11,10 +11,10 @@ pub mod Readings
 pub mod Breaks
 pub mod Crashes
 pub mod Files
-use Rattle.std.proofs.Common.{inl, inr, ⊎_elim, refl, sym, ◌∙◌, ap, arith, length-append, lit≤}
+use Rattle.std.proofs.Common.{refl, sym, ◌∙◌, ap, arith, length-append, lit≤}
 use Rattle.std.proofs.lemmas.List.{take_at, take-append-le, drop-append-le, length-drop}
 use Rattle.std.specs.Prelude.{◌≡◌, ◌≢◌, ℕ, ◌+◌, ◌<◌, ◌≤◌, ◌⊎◌, Bool, true, List, [], ◌∷◌, ◌++◌, length, take, drop, All}
-use Rattle.leveldb_mem.specs.Log.{IsBlockSize, log_block_size, behind, End, clean, bad, Ends, LogOf, IsLogFile, IsFramedRecord, IsFramed, framed_record, framed, frame_at, BreaksOff}
+use Rattle.leveldb_mem.specs.Log.{IsBlockSize, log_block_size, behind, End, clean, bad, LogOf, IsLogFile, IsFramedRecord, IsFramed, framed_record, framed, frame_at, BreaksOff}
 use Rattle.leveldb_mem.specs.Honest.{FragmentAt, HonestTail}
 use Rattle.leveldb_mem.specs.LogLaws.Logs as logs
 use Rattle.leveldb_mem.specs.LogLaws.Framing as framing
@@ -95,17 +95,13 @@ FramingsAppend = (size place : ℕ) (records others : List (List ℕ)) (front re
 abbrev pub CutIsHonest : Type 0
 CutIsHonest = (size : ℕ) (front rest : List ℕ) → HonestTail size (front ++ rest) front
 
--- Of a log whose last bytes may be missing, as a refused append leaves it, an honest crash leaves the first records:
+-- Of a log whose last bytes may be missing, as a refused append leaves it, an honest crash leaves the first of the records that stood:
 -- at least those that the kept bytes read as.
 abbrev pub CrashLeaves : Type 0
-CrashLeaves = (size : ℕ) (kept since missing tail : List ℕ) (first records found : List (List ℕ)) (first_end found_end : End) → IsBlockSize size
-    → LogOf true size first first_end 0 kept → LogOf true size records clean 0 (kept ++ since ++ missing)
+CrashLeaves = (size : ℕ) (kept since missing tail : List ℕ) (first stood records found : List (List ℕ)) (first_end stood_end found_end : End) → IsBlockSize size
+    → LogOf true size first first_end 0 kept → LogOf true size stood stood_end 0 (kept ++ since) → LogOf true size records clean 0 (kept ++ since ++ missing)
     → length tail ≤ length since → HonestTail size (kept ++ since) (kept ++ tail) → LogOf true size found found_end 0 (kept ++ tail)
-    → AreFirst (length first) records found
-
--- the first records, at least so many, or all and one more
-abbrev pub SomeOf : ℕ → List (List ℕ) → List ℕ → List (List ℕ) → Type 0
-SomeOf least records one found = AreFirst least records found ⊎ (found ≡ records ++ one ∷ [])
+    → AreFirst (length first) stood found
 
 -- what a store takes of a log's file for its theorem on crashes
 pub record LogLaws : Type 0 where
@@ -121,11 +117,11 @@ pub record LogLaws : Type 0 where
   -- for each number of records, from those that a front has on, a longer front has just these
   pub cut : (front rest : List ℕ) (first records : List (List ℕ)) (e1 e2 : End) (n : ℕ) → IsLogFile front first e1 → IsLogFile (front ++ rest) records e2 → length first ≤ n → n ≤ length records
       → (k : ℕ) × (e : End) × IsLogFile (front ++ take k rest) (take n records) e
-  -- an honest tail behind a front gives some of the records that were appended
-  pub torn : (front rest tail : List ℕ) (first records : List (List ℕ)) (text : List ℕ) (n : ℕ) (e1 : End) → text ≢ [] → IsLogFile front first e1 → IsLogFile (front ++ rest) records clean
+  -- an honest tail behind a front gives the first of the records that stood
+  pub torn : (front rest tail : List ℕ) (first records stood : List (List ℕ)) (text : List ℕ) (n : ℕ) (e1 e2 : End) → text ≢ [] → IsLogFile front first e1 → IsLogFile (front ++ rest) records clean
       → let whole = front ++ rest ++ take n (frame_at (length (front ++ rest)) text) in
-      length (front ++ tail) ≤ length whole → HonestTail log_block_size whole (front ++ tail)
-      → (found : List (List ℕ)) × (e : End) × IsLogFile (front ++ tail) found e × SomeOf (length first) records text found
+      IsLogFile whole stood e2 → length (front ++ tail) ≤ length whole → HonestTail log_block_size whole (front ++ tail)
+      → (found : List (List ℕ)) × (e : End) × IsLogFile (front ++ tail) found e × AreFirst (length first) stood found
 
 -- ---- the proofs
 
@@ -188,18 +184,12 @@ cut_is_honest size front rest offset n began there =
     sym (ap (take n) (drop-append-le offset front rest (omega arith)) ∙ take-append-le n (drop offset front) rest (omega arith))
 
 pub crash_leaves : CrashLeaves
-crash_leaves size kept since missing tail first records found first_end found_end block is_first is short honest is_found =
+crash_leaves size kept since missing tail first stood records found first_end stood_end found_end block is_first is_stood is short honest is_found =
     let lower = logs.cut_log true size block.most 0 kept tail found first found_end first_end is_found is_first in
     let n = length-append kept since in
     let m = length-append kept tail in
-    let upper = crashes.honest_log size block.least block.most (kept ++ since) missing (kept ++ tail) records found found_end is is_found (omega arith) honest in
-    first_of (length first) records found upper.0 upper.1 (longer found first lower.0 lower.1)
-
-some_of : (least : ℕ) (records found : List (List ℕ)) (one : List ℕ) → ((n : ℕ) × (least ≤ n) × (n ≤ length records) × (found ≡ take n records)) ⊎ (found ≡ records ++ one ∷ []) → SomeOf least records one found
-some_of least records found one =
-    ⊎_elim
-    (λ (few : (n : ℕ) × (least ≤ n) × (n ≤ length records) × (found ≡ take n records)). inl (record { count = few.0; enough = few.1; there = few.2; first = few.3 }))
-    (λ (all : found ≡ records ++ one ∷ []). inr all)
+    let upper = crashes.honest_stood size block.least block.most (kept ++ since) missing (kept ++ tail) records stood found stood_end found_end is is_stood is_found (omega arith) honest in
+    first_of (length first) stood found upper.0 upper.1 (longer found first lower.0 lower.1)
 
 -- the usual size is one
 pub usual_size : IsBlockSize log_block_size
@@ -212,7 +202,7 @@ log_laws = record {
   more = files.one_more log_block_size usual_size;
   part = files.cut_short log_block_size usual_size;
   cut = files.cut_at log_block_size usual_size;
-  torn = λ front rest tail first records text n e1 some is_first is short honest. (
-      let found = files.torn log_block_size usual_size front rest tail first records text n e1 some is_first is short honest in
-      (found.0, found.1, found.2, some_of (length first) records found.0 text found.3));
+  torn = λ front rest tail first records stood text n e1 e2 some is_first is is_stood short honest. (
+      let found = files.torn log_block_size usual_size front rest tail first records stood text n e1 e2 some is_first is is_stood short honest in
+      (found.0, found.1, found.2, first_of (length first) stood found.0 found.3.0 found.3.1 (longer found.0 first found.4.0 found.4.1)));
 }

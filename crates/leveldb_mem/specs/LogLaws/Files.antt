@@ -10,7 +10,7 @@ use Rattle.leveldb_mem.specs.LogLaws.Logs.{cut_log, first_records}
 use Rattle.leveldb_mem.specs.LogLaws.Framing.{start, framed_reads, log_append}
 use Rattle.leveldb_mem.specs.LogLaws.Framed.{framed_record_is}
 use Rattle.leveldb_mem.specs.LogLaws.Readings.{log_reads}
-use Rattle.leveldb_mem.specs.LogLaws.Crashes.{honest_log}
+use Rattle.leveldb_mem.specs.LogLaws.Crashes.{honest_stood}
 
 -- a beginning of some records and one more
 pub beginning : (records found others : List (List ℕ)) (one : List ℕ) → records ++ one ∷ [] ≡ found ++ others
@@ -103,24 +103,15 @@ module _ (size : ℕ) (block : IsBlockSize size) where
             (length c.0, clean, subst (λ z. LogFile z (take n records) clean) there p.3)
       ] refl
 
-  -- an honest tail behind a front gives some of the records that were appended, and at least those of the front
-  pub torn : (front rest tail : List ℕ) (first records : List (List ℕ)) (text : List ℕ) (n : ℕ) (first_end : End) → text ≢ [] → LogFile front first first_end → LogFile (front ++ rest) records clean
+  -- an honest tail behind a front reads as a beginning of the records that stood, and goes on with those of the front
+  pub torn : (front rest tail : List ℕ) (first records stood : List (List ℕ)) (text : List ℕ) (n : ℕ) (first_end end : End) → text ≢ [] → LogFile front first first_end → LogFile (front ++ rest) records clean
       → let whole = front ++ rest ++ take n (frame (length (front ++ rest)) text) in
-      length (front ++ tail) ≤ length whole → HonestTail size whole (front ++ tail)
-      → (found : List (List ℕ)) × (end : End) × LogFile (front ++ tail) found end
-      × (((k : ℕ) × (length first ≤ k) × (k ≤ length records) × (found ≡ take k records)) ⊎ (found ≡ records ++ text ∷ []))
-  torn front rest tail first records text n first_end some is_first is short honest =
+      LogFile whole stood end → length (front ++ tail) ≤ length whole → HonestTail size whole (front ++ tail)
+      → (found : List (List ℕ)) × (found_end : End) × LogFile (front ++ tail) found found_end × ((others : List (List ℕ)) × (stood ≡ found ++ others)) × ((others : List (List ℕ)) × (found ≡ first ++ others))
+  torn front rest tail first records stood text n first_end end some is_first is is_stood short honest =
       let f = frame (length (front ++ rest)) text in
+      let whole = in_two (front ++ rest) records text n some is in
       let read = log_reads true size block.most 0 (front ++ tail) in
-      let upper = honest_log size block.least block.most (front ++ rest ++ take n f) (drop n f) (front ++ tail) (records ++ text ∷ []) read.0 read.1 (in_two (front ++ rest) records text n some is) read.2 short honest in
+      let upper = honest_stood size block.least block.most (front ++ rest ++ take n f) (drop n f) (front ++ tail) (records ++ text ∷ []) stood read.0 end read.1 whole is_stood read.2 short honest in
       let lower = cut_log true size block.most 0 front tail read.0 first read.1 first_end read.2 is_first in
-      let lengths = ap length lower.1 in
-      let both = length-append first lower.0 in (
-        read.0,
-        read.1,
-        read.2,
-        ⊎_elim
-            (λ (few : (length read.0 ≤ length records) × (read.0 ≡ take (length read.0) records)). inl (length read.0, omega arith, few.0, few.1))
-            (λ (all : read.0 ≡ records ++ text ∷ []). inr all)
-            (beginning records read.0 upper.0 text upper.1),
-      )
+      (read.0, read.1, read.2, upper, lower)
