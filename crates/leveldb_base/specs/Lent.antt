@@ -13,3 +13,7 @@ lent_pairs pairs = map (λ pair. (pair.0.now, pair.1.now)) pairs
 -- the entry that a struct holds
 abbrev pub entry_of : DeclaredEntry → Entry
 entry_of entry = record { sequence = entry.sequence; key = entry.key.items; value = option_map (λ bytes. bytes.items) entry.value }
+
+-- the entries that are lent
+abbrev pub lent_entries : List (Bor DeclaredEntry) → List Entry
+lent_entries entries = map (λ entry. entry_of entry.now) entries

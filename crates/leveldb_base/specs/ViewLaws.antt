@@ -1,5 +1,6 @@
 -- What holds of every view: statements, which the contracts of public functions name, and their proofs, which crates above cite.
 pub mod Elements
+pub mod Shown
 pub mod Stepwise
 use Rattle.std.proofs.Common.{◌≡◌, ◌≢◌, ◌≤◌, ◌<◌, ◌+◌, ◌⊎◌, inl, inr, ⊎_elim, ℕ, Bool, true, false, List, [], ◌∷◌, ◌++◌, refl, sym, ◌∙◌, ap, subst, arith, Option, Some, None, append-nil, append_assoc}
 use Rattle.std.specs.Prelude.{Contains, ◌↔◌, if◌then◌else◌, nat_le}

@@ -2,11 +2,11 @@
 ghost use Rattle.std.specs.Prelude.{◌≡◌, ℕ, List, Option, IfOk, IfErr, map};
 ghost use Rattle.std.specs.Option.{option_map};
 ghost use Rattle.leveldb_base.specs.Status.{IsOutOfMemory};
-ghost use Rattle.leveldb_base.specs.View.{IsView};
+ghost use Rattle.leveldb_base.specs.View.{IsView, LooksUp};
 ghost use Rattle.leveldb_base.specs.ViewLaws.{OneView, EachHasView, ViewPasses, SharedViewIsSame, SameWithMore};
 ghost use Rattle.leveldb_base.specs.ViewLaws.Stepwise.{with_value, view_from};
 ghost use Rattle.leveldb_base.specs.History.{RiseAbove};
-ghost use Rattle.leveldb_base.specs.Lent.{lent_pairs, entry_of};
+ghost use Rattle.leveldb_base.specs.Lent.{lent_pairs, lent_entries, entry_of};
 
 use crate::cmp::{Cmp, UserCmp};
 use crate::error::Result;
@@ -74,25 +74,50 @@ fn put_value<'a, C: Cmp>(
     Ok(put)
 }
 
+/// The value of a key at a sequence, by the entries in their order: that of its newest entry up to there, if it has one.
+pub fn look_up<'a>(entries: &[&'a Entry], sequence: SequenceNumber, key: &[u8]) -> Option<&'a [u8]>
+    ensures { RiseAbove 0 (lent_entries entries.now) → LooksUp (lent_entries entries.now) sequence key.now (option_map (λ bytes. bytes.now) result) }
+{
+    let mut found = None;
+    for entry in entries {
+        if entry.sequence <= sequence && entry.key.as_slice() == key {
+            found = lent_value(entry);
+        }
+    }
+    found
+}
+
+/// What the entry gives its key.
+fn lent_value(entry: &Entry) -> Option<&[u8]>
+    ensures { option_map (λ bytes. bytes.now) result ≡ (entry_of entry.now).value }
+{
+    match &entry.value {
+        Some(value) => Some(value.as_slice()),
+        None => None,
+    }
+}
+
 /// The view of entries in their order, at a sequence: for each key its newest value up to there, sorted by key.
 /// It takes time that grows with the square of the entries: a yardstick for tests, and no part of a store.
 pub fn view_of<'a, C: UserCmp>(
     alloc: Global,
     cmp: &C,
-    entries: &'a [Entry],
+    entries: &[&'a Entry],
     sequence: SequenceNumber,
 ) -> Result<Vec<LentPair<'a>>>
-    ensures view { IfOk result (λ pairs. RiseAbove 0 (map entry_of entries.now) → IsView (C.cmp cmp.now) (map entry_of entries.now) sequence (lent_pairs pairs.items)) }
+    ensures view { IfOk result (λ pairs. RiseAbove 0 (lent_entries entries.now) → IsView (C.cmp cmp.now) (lent_entries entries.now) sequence (lent_pairs pairs.items)) }
     ensures cause { IfErr result IsOutOfMemory }
 {
     let mut pairs = Vec::new(alloc);
     for entry in entries {
         if entry.sequence <= sequence {
-            let value = match &entry.value {
-                Some(value) => Some(value.as_slice()),
-                None => None,
-            };
-            pairs = put_value(alloc, cmp, pairs.as_slice(), entry.key.as_slice(), value)?;
+            pairs = put_value(
+                alloc,
+                cmp,
+                pairs.as_slice(),
+                entry.key.as_slice(),
+                lent_value(entry),
+            )?;
         }
     }
     Ok(pairs)

@@ -1,16 +1,16 @@
 -- The view of entries that come one after another, as a function, and that it is the view.
 use Rattle.std.proofs.Common.{◌≡◌, ◌≢◌, ◌≤◌, ◌<◌, ◌+◌, ◌⊎◌, inl, inr, ⊎_elim, ℕ, Bool, true, false, List, [], ◌∷◌, ◌++◌, refl, sym, ◌∙◌, ap, subst, arith, Option, Some, None, append-nil, append_assoc}
-use Rattle.std.specs.Prelude.{Contains, ◌↔◌, if◌then◌else◌, nat_le}
+use Rattle.std.specs.Prelude.{Contains, if◌then◌else◌, nat_le}
 use Rattle.std.proofs.lemmas.Bool.{leb-true, leb-false}
-use Rattle.std.proofs.lemmas.List.Elements.{Contains-append_left, Contains-push, Contains-push_cases}
 use Rattle.std.specs.declared.cmp.Ordering.{Ordering}
 use Rattle.std.specs.declared.cmp.Ordering.TheVariants.{Less, Equal, Greater}
 use Rattle.std.specs.Ordering.{ordering_reverse}
 use Rattle.leveldb_base.specs.Order.{IsExactOrder}
 use Rattle.leveldb_base.specs.Places.{Pair}
 use Rattle.leveldb_base.specs.History.{Entry, RiseAbove}
-use Rattle.leveldb_base.specs.View.{Shows, IsBeforeAll, AreRising, IsView}
+use Rattle.leveldb_base.specs.View.{IsBeforeAll, AreRising, IsView}
 use Rattle.leveldb_base.specs.ViewLaws.Elements.{in_none, in_front, in_rest, in_cases}
+use Rattle.leveldb_base.specs.ViewLaws.Shown.{AreBelow, below_more, Said, unseen, said_of, of_said}
 
 -- the pair of a key that has a value
 abbrev pub pair_for : List ℕ → Option (List ℕ) → List Pair
@@ -190,116 +190,23 @@ module _ (cmp : List ℕ → List ℕ → Ordering) (order : IsExactOrder cmp) w
           (λ (rest : Contains ps pair). in_rest p pair (with_value cmp key None ps) (gone (inr (c.0, rest))))
           (in_cases p pair ps c.1)))
 
-  -- ---- what is shown with one entry more
-
-  -- every entry is below this number
-  abbrev AreBelow : ℕ → List Entry → Type 0
-  AreBelow n entries = (entry : Entry) → Contains entries entry → entry.sequence < n
-
-  -- the entry is the last, or was there before it
-  last_or : (es : List Entry) (last entry : Entry) → Contains (es ++ last ∷ []) entry → (last ≡ entry) ⊎ Contains es entry
-  last_or es last entry c = ⊎_elim (λ (old : Contains es entry). inr old) (λ (e : last ≡ entry). inl e) (Contains-push_cases es last entry c)
-
   module _ (es : List Entry) (last : Entry) (low : AreBelow last.sequence es) (s : ℕ) where
-    -- an entry past s isn't seen
-    unseen : s < last.sequence → (key value : List ℕ) → Shows (es ++ last ∷ []) s key value ↔ Shows es s key value
-    unseen past key value = (there, back)
-      where
-        there : Shows (es ++ last ∷ []) s key value → Shows es s key value
-        there shows = record {
-          entry = shows.entry;
-          newest = record {
-            there = ⊎_elim
-                (λ (e : last ≡ shows.entry). let n = ap (λ (x : Entry). x.sequence) e in let seen = shows.newest.seen in absurd (omega arith))
-                (λ (c : Contains es shows.entry). c)
-                (last_or es last shows.entry shows.newest.there);
-            seen = shows.newest.seen;
-            newest = λ other c. shows.newest.newest other (Contains-append_left es (last ∷ []) other c);
-          };
-          key_is = shows.key_is;
-          value_is = shows.value_is;
-        }
-
-        back : Shows es s key value → Shows (es ++ last ∷ []) s key value
-        back shows = record {
-          entry = shows.entry;
-          newest = record {
-            there = Contains-append_left es (last ∷ []) shows.entry shows.newest.there;
-            seen = shows.newest.seen;
-            newest = λ other c k seen. ⊎_elim
-                (λ (e : last ≡ other). let n = ap (λ (x : Entry). x.sequence) e in absurd (omega arith))
-                (λ (c' : Contains es other). shows.newest.newest other c' k seen)
-                (last_or es last other c);
-          };
-          key_is = shows.key_is;
-          value_is = shows.value_is;
-        }
-
-    -- what the last entry says of its key, and of the others what was shown
-    abbrev Said : List ℕ → List ℕ → Type 0
-    Said key value = ((key ≡ last.key) × (last.value ≡ Some value)) ⊎ ((key ≢ last.key) × Shows es s key value)
-
-    said_of : (key value : List ℕ) → last.sequence ≤ s → Shows (es ++ last ∷ []) s key value → Said key value
-    said_of key value seen shows = ⊎_elim newest older (last_or es last shows.entry shows.newest.there)
-      where
-        newest : last ≡ shows.entry → Said key value
-        newest e = inl (sym shows.key_is ∙ ap (λ (x : Entry). x.key) (sym e), ap (λ (x : Entry). x.value) e ∙ shows.value_is)
-
-        older : Contains es shows.entry → Said key value
-        older c = inr (
-          (λ k. let high = shows.newest.newest last (Contains-push es last) (sym (shows.key_is ∙ k)) seen in let below = low shows.entry c in omega arith),
-          record {
-            entry = shows.entry;
-            newest = record { there = c; seen = shows.newest.seen; newest = λ other c'. shows.newest.newest other (Contains-append_left es (last ∷ []) other c') };
-            key_is = shows.key_is;
-            value_is = shows.value_is;
-          },
-        )
-
-    of_said : (key value : List ℕ) → last.sequence ≤ s → Said key value → Shows (es ++ last ∷ []) s key value
-    of_said key value seen (inl is) = record {
-      entry = last;
-      newest = record {
-        there = Contains-push es last;
-        seen = seen;
-        newest = λ other c k seen'. ⊎_elim
-            (λ (e : last ≡ other). let n = ap (λ (x : Entry). x.sequence) e in omega arith)
-            (λ (c' : Contains es other). let below = low other c' in omega arith)
-            (last_or es last other c);
-      };
-      key_is = sym is.0;
-      value_is = is.1;
-    }
-    of_said key value seen (inr was) = record {
-      entry = was.1.entry;
-      newest = record {
-        there = Contains-append_left es (last ∷ []) was.1.entry was.1.newest.there;
-        seen = was.1.newest.seen;
-        newest = λ other c k seen'. ⊎_elim
-            (λ (e : last ≡ other). absurd (was.0 (sym was.1.key_is ∙ sym k ∙ ap (λ (x : Entry). x.key) (sym e))))
-            (λ (c' : Contains es other). was.1.newest.newest other c' k seen')
-            (last_or es last other c);
-      };
-      key_is = was.1.key_is;
-      value_is = was.1.value_is;
-    }
-
     -- ---- the view with one entry more
 
     seen_view : (ps : List Pair) → last.sequence ≤ s → IsView cmp es s ps → IsView cmp (es ++ last ∷ []) s (with_value cmp last.key last.value ps)
     seen_view ps seen view = record {
       sorted = rising_with last.key last.value ps view.sorted;
       just = λ key value. (
-        (λ c. of_said key value seen (shown key value (of_with last.key last.value ps (key, value) c))),
-        (λ shows. with_of last.key last.value ps (key, value) (paired key value (said_of key value seen shows))),
+        (λ c. of_said es last low s key value seen (shown key value (of_with last.key last.value ps (key, value) c))),
+        (λ shows. with_of last.key last.value ps (key, value) (paired key value (said_of es last low s key value seen shows))),
       );
     }
       where
-        shown : (key value : List ℕ) → IsOf last.key last.value ps (key, value) → Said key value
+        shown : (key value : List ℕ) → IsOf last.key last.value ps (key, value) → Said es last low s key value
         shown key value (inl is) = inl is
         shown key value (inr was) = inr (was.0, (view.just key value).0 was.1)
 
-        paired : (key value : List ℕ) → Said key value → IsOf last.key last.value ps (key, value)
+        paired : (key value : List ℕ) → Said es last low s key value → IsOf last.key last.value ps (key, value)
         paired key value (inl is) = inl is
         paired key value (inr was) = inr (was.0, (view.just key value).1 was.1)
 
@@ -307,8 +214,8 @@ module _ (cmp : List ℕ → List ℕ → Ordering) (order : IsExactOrder cmp) w
     unseen_view ps past view = record {
       sorted = view.sorted;
       just = λ key value. (
-        (λ c. (unseen past key value).1 ((view.just key value).0 c)),
-        (λ shows. (view.just key value).1 ((unseen past key value).0 shows)),
+        (λ c. (unseen es last low s past key value).1 ((view.just key value).0 c)),
+        (λ shows. (view.just key value).1 ((unseen es last low s past key value).0 shows)),
       );
     }
 
@@ -320,13 +227,6 @@ module _ (cmp : List ℕ → List ℕ → Ordering) (order : IsExactOrder cmp) w
         by false e = unseen_view ps (leb-false last.sequence s e) view
 
   -- ---- the view of all
-
-  below_more : (low : ℕ) (es : List Entry) (last : Entry) → AreBelow (low + 1) es → low < last.sequence → AreBelow (last.sequence + 1) (es ++ last ∷ [])
-  below_more low es last below above entry c =
-      ⊎_elim
-      (λ (e : last ≡ entry). let n = ap (λ (x : Entry). x.sequence) e in omega arith)
-      (λ (old : Contains es entry). let under = below entry old in omega arith)
-      (last_or es last entry c)
 
   onward : (low : ℕ) (es more : List Entry) (s : ℕ) (ps : List Pair) → AreBelow (low + 1) es → RiseAbove low more → IsView cmp es s ps → IsView cmp (es ++ more) s (view_from cmp s ps more)
   onward low es [] s ps below rising view = subst (λ x. IsView cmp x s ps) (sym (append-nil es)) view
