@@ -6,6 +6,10 @@ pub mod Bytewise
 pub mod BytewiseLaws
 pub mod Handle
 pub mod HandleLaws
+pub mod Keys
+pub mod KeyLaws
+pub mod OrderLaws
+pub mod KeyOrderLaws
 pub mod Places
 pub mod History
 pub mod View

@@ -12,6 +12,10 @@ use crate::error::Result;
 use std::alloc::Global;
 use std::cmp::Ordering;
 
+mod internal;
+
+pub use internal::{InternalKeyCmp, MemtableKeyCmp};
+
 /// An order on the keys that it accepts, a total preorder there, by which a store sorts its entries.
 /// Every method answers on any bytes; the laws speak of accepted keys.
 pub trait Cmp {

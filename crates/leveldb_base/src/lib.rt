@@ -7,5 +7,6 @@ pub mod cmp;
 pub mod crc;
 pub mod error;
 pub mod history;
+pub mod key_types;
 pub mod types;
 pub mod varint;

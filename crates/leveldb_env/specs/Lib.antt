@@ -2,3 +2,15 @@ pub mod Disk
 pub mod Times
 pub mod Calls
 pub mod Bytes
+pub mod Runs
+pub mod FileLaws
+pub mod Sinks
+pub mod SinkLaws
+pub mod Sources
+pub mod SourceLaws
+pub mod OpenFiles
+pub mod OpenFileLaws
+pub mod WholeFiles
+pub mod Folders
+pub mod Mem
+pub mod Picks

@@ -5,9 +5,14 @@ ghost use Rattle.leveldb_env.specs.Disk.{Files, bytes_of, created, emptied, dele
 ghost use Rattle.leveldb_env.specs.Times.{Told};
 ghost use Rattle.leveldb_env.specs.Calls.{Does, EitherSide, Appending, Still, Anything, Relocks, SameLocks, HasCause, NoMemory, IsMissing, IsGone, IsEmptyFolder, IsLocked, LockIs, ReadsAt, Lists};
 
+pub mod env_file;
 pub mod sink;
 pub mod source;
+#[cfg(test)]
+mod tests;
+pub mod whole_files;
 
+pub use env_file::EnvFile;
 use leveldb_base::error::{Result, StatusCode};
 pub use sink::Sink;
 pub use source::Source;

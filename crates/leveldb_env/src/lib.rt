@@ -2,3 +2,4 @@
 #![tactic(auto)]
 
 pub mod env;
+pub mod mem_env;

@@ -57,6 +57,11 @@ FirstRecords = (checked : Bool) (size place : ℕ) (bytes : List ℕ) (records :
 abbrev pub BreaksBad : Type 0
 BreaksBad = (size place : ℕ) (front more : List ℕ) → IsBlockSize size → place < size → BreaksOff size true place front → LogOf true size [] bad place (front ++ more)
 
+-- bytes break off with a wrong checksum at one place at most
+abbrev pub BreaksOnce : Type 0
+BreaksOnce = (size place : ℕ) (these those more others : List ℕ) → IsBlockSize size → place < size → BreaksOff size true place these → BreaksOff size true place those
+    → these ++ more ≡ those ++ others → these ≡ those
+
 -- ---- writing
 
 -- a record that isn't empty has the framing that the function gives
@@ -111,9 +116,10 @@ pub record LogLaws : Type 0 where
   pub fits : (bytes : List ℕ) (offset n : ℕ) → FragmentAt log_block_size bytes offset n → offset + n ≤ length bytes
   -- behind a clean end the frame of a record is one record more
   pub more : (bytes : List ℕ) (records : List (List ℕ)) (text : List ℕ) → text ≢ [] → IsLogFile bytes records clean → IsLogFile (bytes ++ frame_at (length bytes) text) (records ++ text ∷ []) clean
-  -- a beginning of the frame is no record, or that one
+  -- a beginning of the frame is no record, or that one, and one that isn't whole is none
   pub part : (bytes : List ℕ) (records : List (List ℕ)) (text : List ℕ) (n : ℕ) → text ≢ [] → IsLogFile bytes records clean
       → (found : List (List ℕ)) × (e : End) × IsLogFile (bytes ++ take n (frame_at (length bytes) text)) found e × ((found ≡ records) ⊎ (found ≡ records ++ text ∷ []))
+      × (n < length (frame_at (length bytes) text) → found ≡ records)
   -- for each number of records, from those that a front has on, a longer front has just these
   pub cut : (front rest : List ℕ) (first records : List (List ℕ)) (e1 e2 : End) (n : ℕ) → IsLogFile front first e1 → IsLogFile (front ++ rest) records e2 → length first ≤ n → n ≤ length records
       → (k : ℕ) × (e : End) × IsLogFile (front ++ take k rest) (take n records) e
@@ -155,6 +161,9 @@ front_of_records = logs.first_records
 
 pub breaks_bad : BreaksBad
 breaks_bad size place front more block inside off = breaks.breaks_bad size block.most place front more inside off
+
+pub breaks_once : BreaksOnce
+breaks_once size place these those more others block inside off other e = breaks.breaks_once size block.most place these those more others inside off other e
 
 pub record_framed : RecordFramed
 record_framed size place text block inside some = framings.framed_record_is size block.least text place inside some

@@ -1,6 +1,6 @@
 //! The laws of the record log, as contracts of functions that do nothing.
 
-ghost use Rattle.leveldb_mem.specs.LogLaws.{OneReading, EachReads, CutReads, FirstRecords, BreaksBad, RecordFramed, RecordsFramed, OneRecordFraming, OneFraming, FramingReads, LogsAppend, FramingsAppend, CutIsHonest, CrashLeaves, LogLaws};
+ghost use Rattle.leveldb_mem.specs.LogLaws.{OneReading, EachReads, CutReads, FirstRecords, BreaksBad, BreaksOnce, RecordFramed, RecordsFramed, OneRecordFraming, OneFraming, FramingReads, LogsAppend, FramingsAppend, CutIsHonest, CrashLeaves, LogLaws};
 
 /// What bytes hold as a log is determined: any bytes read as some records and an end, and no others. So two readers that keep to
 /// the format agree, and a store can't choose what it recovers.
@@ -15,9 +15,11 @@ pub fn cut_log_keeps_first_records()
     ensures front { FirstRecords }
 {}
 
-/// A wrong checksum ends a log badly, in whatever fragment of a record it stands and whatever follows.
+/// A wrong checksum ends a log badly, in whatever fragment of a record it stands and whatever follows. From a place on, bytes break
+/// off so in one fragment at most.
 pub fn wrong_checksum_ends_log()
-    ensures { BreaksBad }
+    ensures bad { BreaksBad }
+    ensures once { BreaksOnce }
 {}
 
 /// There is one way to write records, which a function gives, and it reads as these records.

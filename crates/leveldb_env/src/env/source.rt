@@ -1,9 +1,15 @@
 //! Where bytes come from: what a log is read from.
-ghost use Rattle.std.specs.Prelude.{ℕ, ◌≤◌, List, Result, IfOk, length};
+ghost use Rattle.std.specs.Prelude.{ℕ, ◌≤◌, List, Result, IfOk, IfErr, length};
 ghost use Rattle.leveldb_base.specs.declared.error.Status.{Status};
 ghost use Rattle.leveldb_env.specs.Bytes.{given};
+ghost use Rattle.leveldb_env.specs.Sinks.{ChangesLent};
+ghost use Rattle.leveldb_env.specs.Sources.{GivesAll, GivesFirst, GivesUp};
 
 use leveldb_base::error::Result;
+use std::alloc::Global;
+
+/// How many bytes are asked for at once where all are wanted.
+const PIECE_SIZE: usize = 4096;
 
 /// What gives bytes in order. A refusal passes its `Status` on unchanged.
 pub trait Source {
@@ -15,4 +21,42 @@ pub trait Source {
     fn read_some(&mut self, target: &mut [u8]) -> Result<usize>
         ensures fits { IfOk result (λ n. n ≤ length target.new) }
         ensures gives { gives self.old (length target.old) (given result target.new) self.new };
+}
+
+/// Bytes in memory, of which those that were read are gone. A read is never refused.
+impl Source for &[u8] {
+    ghost gives = { λ old room result new. GivesFirst old.now room result new.now };
+
+    fn read_some(&mut self, target: &mut [u8]) -> Result<usize> {
+        let count = self.len().min(target.len());
+        let (first, others) = self.split_at(count);
+        target[..count].copy_from_slice(first);
+        *self = others;
+        Ok(count)
+    }
+}
+
+/// A source that is lent.
+impl<S: Source> Source for &mut S {
+    ghost gives = { λ old room result new. ChangesLent (λ s t. S.gives s room result t) old new };
+
+    fn read_some(&mut self, target: &mut [u8]) -> Result<usize> {
+        (**self).read_some(target)
+    }
+}
+
+/// All that a source still gives. At a refusal what was read is dropped.
+pub fn read_to_end<S: Source>(alloc: Global, source: &mut S) -> Result<Vec<u8>>
+    ensures ok { IfOk result (λ all. GivesAll S.gives source.old all.items source.new) }
+    ensures err { IfErr result (λ status. GivesUp S.gives source.old status source.new) }
+{
+    let mut all = Vec::new(alloc);
+    let mut target = [0u8; PIECE_SIZE];
+    loop {
+        let count = source.read_some(&mut target)?;
+        if count == 0 {
+            return Ok(all);
+        }
+        all.extend_from_slice(&target[..count])?;
+    }
 }

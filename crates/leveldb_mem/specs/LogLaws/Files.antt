@@ -1,12 +1,12 @@
 -- A log's file: one record more, a record that is cut short, and a crash.
-use Rattle.std.proofs.Common.{◌≡◌, ◌≢◌, ◌⊎◌, inl, inr, ⊎_elim, ℕ, ◌+◌, ◌%◌, ◌≤◌, true, false, nat_le, List, [], ◌∷◌, ◌++◌, length, take, drop, refl, sym, ◌∙◌, ap, subst, arith, append_assoc, append-nil, length-append, length-take}
+use Rattle.std.proofs.Common.{◌≡◌, ◌≢◌, ◌⊎◌, inl, inr, ⊎_elim, ℕ, ◌+◌, ◌%◌, ◌<◌, ◌≤◌, true, false, nat_le, List, [], ◌∷◌, ◌++◌, length, take, drop, refl, sym, ◌∙◌, ap, subst, arith, append_assoc, append-nil, length-append, length-take, length-drop}
 use Rattle.std.proofs.lemmas.List.{take-append-drop, take-append-le, take_at}
 use Rattle.std.proofs.lemmas.Bool.{leb-true, leb-false}
 use Rattle.std.proofs.Math.Nat.{mod-lt}
 use Rattle.leveldb_mem.specs.Log.{IsBlockSize, behind, End, clean, LogOf, framed_record}
 use Rattle.leveldb_mem.specs.Honest.{FragmentAt, HonestTail}
 use Rattle.leveldb_mem.specs.LogLaws.Texts.{split}
-use Rattle.leveldb_mem.specs.LogLaws.Logs.{cut_log, first_records}
+use Rattle.leveldb_mem.specs.LogLaws.Logs.{cut_log, nothing_more, first_records}
 use Rattle.leveldb_mem.specs.LogLaws.Framing.{start, framed_reads, log_append}
 use Rattle.leveldb_mem.specs.LogLaws.Framed.{framed_record_is}
 use Rattle.leveldb_mem.specs.LogLaws.Readings.{log_reads}
@@ -67,21 +67,31 @@ module _ (size : ℕ) (block : IsBlockSize size) where
       let whole : (bytes ++ take n f) ++ drop n f ≡ bytes ++ f = append_assoc bytes (take n f) (drop n f) ∙ ap (λ z. bytes ++ z) (take-append-drop n f) in
       subst (λ z. LogFile z (records ++ text ∷ []) clean) (sym whole) (one_more bytes records text some is)
 
-  -- a beginning of the frame is no record, or that one
+  -- a beginning of the frame is no record, or that one, and one that isn't whole is none
   pub cut_short : (bytes : List ℕ) (records : List (List ℕ)) (text : List ℕ) (n : ℕ) → text ≢ [] → LogFile bytes records clean
       → (found : List (List ℕ)) × (end : End) × LogFile (bytes ++ take n (frame (length bytes) text)) found end × ((found ≡ records) ⊎ (found ≡ records ++ text ∷ []))
+      × (n < length (frame (length bytes) text) → found ≡ records)
   cut_short bytes records text n some is =
       let f = frame (length bytes) text in
+      let whole = in_two bytes records text n some is in
       let read = log_reads true size block.most 0 (bytes ++ take n f) in
-      let upper = cut_log true size block.most 0 (bytes ++ take n f) (drop n f) (records ++ text ∷ []) read.0 clean read.1 (in_two bytes records text n some is) read.2 in
-      let lower = cut_log true size block.most 0 bytes (take n f) read.0 records read.1 clean read.2 is in (
+      let upper = cut_log true size block.most 0 (bytes ++ take n f) (drop n f) (records ++ text ∷ []) read.0 clean read.1 whole read.2 in
+      let lower = cut_log true size block.most 0 bytes (take n f) read.0 records read.1 clean read.2 is in
+      let one_or_none : (read.0 ≡ records) ⊎ (read.0 ≡ records ++ text ∷ []) = ⊎_elim
+      (λ (few : (length read.0 ≤ length records) × (read.0 ≡ take (length read.0) records)). inl (all_of records read.0 lower.0 lower.1 few.0))
+      (λ (all : read.0 ≡ records ++ text ∷ []). inr all)
+      (beginning records read.0 upper.0 text upper.1) in (
         read.0,
         read.1,
         read.2,
-        ⊎_elim
-            (λ (few : (length read.0 ≤ length records) × (read.0 ≡ take (length read.0) records)). inl (all_of records read.0 lower.0 lower.1 few.0))
-            (λ (all : read.0 ≡ records ++ text ∷ []). inr all)
-            (beginning records read.0 upper.0 text upper.1),
+        one_or_none,
+        λ few. ⊎_elim
+            (λ (none : read.0 ≡ records). none)
+            (λ (all : read.0 ≡ records ++ text ∷ []).
+            let nothing = ap length (nothing_more true size block.most 0 (bytes ++ take n f) (drop n f) (records ++ text ∷ []) read.1 whole (subst (λ z. LogFile (bytes ++ take n f) z read.1) all read.2)) in
+            let left = length-drop n f in
+            absurd (omega arith))
+            one_or_none,
       )
 
   -- for each number of records, from those that a front has on, a longer front has just these

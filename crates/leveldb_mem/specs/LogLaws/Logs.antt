@@ -1,5 +1,6 @@
 -- Two readings of one log are one, and a log cut anywhere reads as a beginning of its records.
 use Rattle.std.proofs.Common.{◌≡◌, ℕ, zero, suc, ◌≤◌, Bool, List, [], ◌∷◌, ◌++◌, length, take, refl, sym, ◌∙◌, ap, subst, arith, append_assoc, length-append, append-nil}
+use Rattle.std.proofs.lemmas.List.{nil_from_length}
 use Rattle.leveldb_mem.specs.Log.{behind, Then, IsRecord, End, clean, bad, Ends, LogOf}
 use Rattle.leveldb_mem.specs.LogLaws.Texts.{in_front}
 use Rattle.leveldb_mem.specs.LogLaws.Records.{one_record, length-record}
@@ -42,6 +43,16 @@ module _ (checked : Bool) (size : ℕ) (fits : size ≤ 32768) where
       let same = same_record place r s rs cut e d (bytes ++ more) bytes more f g refl in
       let rest = cut_log (behind size place g.front) g.rest more rs cut e d same.1 g.is_rest in
       (rest.0, ap (λ z. z ∷ rs) same.0 ∙ ap (λ z. s ∷ z) rest.1)
+
+  -- what stands behind a log and adds no record to it is nothing, if the end behind it is clean
+  pub nothing_more : (place : ℕ) (bytes more : List ℕ) (rs : List (List ℕ)) (d : End) → LogOf checked size rs clean place (bytes ++ more) → LogOf checked size rs d place bytes → more ≡ []
+  nothing_more place bytes more [] d f g =
+      let whole = ap length f in
+      let both = length-append bytes more in
+      nil_from_length more (omega arith)
+  nothing_more place bytes more (r ∷ rs) d f g =
+      let same = same_record place r r rs rs clean d (bytes ++ more) bytes more f g refl in
+      nothing_more (behind size place g.front) g.rest more rs d same.1 g.is_rest
 
   -- two readings of one log are one
   pub one_log : (place : ℕ) (bytes : List ℕ) (rs ss : List (List ℕ)) (e d : End) → LogOf checked size rs e place bytes → LogOf checked size ss d place bytes → (rs ≡ ss) × (e ≡ d)

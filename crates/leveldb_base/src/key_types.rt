@@ -1,0 +1,393 @@
+//! The keys of entries: internal keys, which tables hold, and memtable keys, which the memtable holds.
+//!
+//! An internal key is the user's key and eight bytes of `sequence << 8 | type`, the lowest first. A look-up key is
+//! an internal key behind its length, and a memtable key is that and the value behind its length.
+ghost use Rattle.std.specs.Prelude.{◌≡◌, ◌+◌, ◌/◌, ◌%◌, ◌^◌, ◌<◌, ◌≤◌, ◌⊎◌, ℕ, List, [], ◌++◌, Option, Some, IfOk, IfErr, All, length, drop, vec_len};
+ghost use Rattle.leveldb_base.specs.Status.{IsOutOfMemory};
+ghost use Rattle.leveldb_base.specs.Varint.{little, varint, sized};
+ghost use Rattle.leveldb_base.specs.Keys.{type_from, tag, internal_key, user_part, tag_part, sequence_part, type_part, lookup_key, memtable_key, internal_cmp, memtable_cmp, inner_key, tail_of, HasParts, IsMemtableKey, places_of};
+
+use crate::cmp::Cmp;
+use crate::error::Result;
+use crate::types::SequenceNumber;
+use crate::varint::{encode_varint64, get_length_prefixed_slice, get_varint64};
+use byteorder::{ByteOrder, LittleEndian};
+use std::alloc::Global;
+use std::cmp::Ordering;
+use std::marker::Model;
+
+/// Whether an entry deletes its key or gives it a value.
+#[derive(Clone, Copy, Debug, PartialEq, PartialOrd)]
+pub enum ValueType {
+    TypeDeletion = 0,
+    TypeValue = 1,
+}
+
+/// A key as the user gives it.
+pub type UserKey<'a> = &'a [u8];
+
+/// A user's key with a sequence number and a type behind it.
+pub type InternalKey<'a> = &'a [u8];
+
+/// An internal key behind its length, and a value behind its length where it is an entry's.
+pub type MemtableKey<'a> = &'a [u8];
+
+/// A key to look up as of a sequence number. Clauses see it as its internal key.
+#[derive(Clone, Debug, Drop)]
+pub struct LookupKey {
+    key: Vec<u8>,
+    key_offset: usize,
+}
+
+impl Model for LookupKey {
+    ghost Value = { List ℕ };
+
+    ghost view = { λ it. drop it.key_offset it.key.items };
+
+    ghost invariant = { λ it. (it.key.items ≡ sized (drop it.key_offset it.key.items)) × (it.key_offset + 8 ≤ length it.key.items) };
+}
+
+impl LookupKey {
+    /// The key to look up `key` as of `sequence`.
+    pub fn new(alloc: Global, key: UserKey<'_>, sequence: SequenceNumber) -> Result<LookupKey>
+        requires { sequence < 2 ^ 56 }
+        ensures ok { IfOk result (λ made. made ≡ internal_key key.now sequence ValueType.TypeValue) }
+        ensures cause { IfErr result IsOutOfMemory }
+    {
+        LookupKey::new_full(alloc, key, sequence, ValueType::TypeValue)
+    }
+
+    /// The same with a type of the caller's choice.
+    pub fn new_full(
+        alloc: Global,
+        key: UserKey<'_>,
+        sequence: SequenceNumber,
+        kind: ValueType,
+    ) -> Result<LookupKey>
+        requires { sequence < 2 ^ 56 }
+        ensures ok { IfOk result (λ made. made ≡ internal_key key.now sequence kind) }
+        ensures cause { IfErr result IsOutOfMemory }
+    {
+        let (key, key_offset) = sized_internal_key(alloc, key, sequence, kind, 0)?;
+        Ok(LookupKey { key, key_offset })
+    }
+
+    /// The internal key behind its length, by which a memtable is searched.
+    pub fn memtable_key(&self) -> MemtableKey<'_>
+        ensures { result.now ≡ sized self.now }
+    {
+        self.key.as_slice()
+    }
+
+    /// The user's key alone.
+    pub fn user_key(&self) -> UserKey<'_>
+        ensures { result.now ≡ user_part self.now }
+    {
+        &self.key[self.key_offset..self.key.len() - TAG_LEN]
+    }
+
+    /// The internal key, by which tables are searched.
+    pub fn internal_key(&self) -> InternalKey<'_>
+        ensures { result.now ≡ self.now }
+    {
+        &self.key[self.key_offset..]
+    }
+}
+
+/// The type and the sequence number in a tag. Any type but 0 counts as a value.
+#[inline]
+pub fn parse_tag(tag: u64) -> (ValueType, SequenceNumber)
+    ensures kind { result.0 ≡ type_from (tag % 256) }
+    ensures sequence { result.1 ≡ tag / 256 }
+{
+    let kind = match tag & 0xff {
+        0 => ValueType::TypeDeletion,
+        _ => ValueType::TypeValue,
+    };
+    (kind, tag >> 8)
+}
+
+/// The bytes of an entry in memory.
+#[tactic(auto, using(crate::specs::VarintLaws::varint_lengths))]
+pub fn build_memtable_key(
+    alloc: Global,
+    key: &[u8],
+    value: &[u8],
+    kind: ValueType,
+    sequence: SequenceNumber,
+) -> Result<Vec<u8>>
+    requires sequence { sequence < 2 ^ 56 }
+    requires fits { length key.now + length value.now < 2 ^ 63 }
+    ensures ok { IfOk result (λ entry. entry.items ≡ memtable_key key.now sequence kind value.now) }
+    ensures cause { IfErr result IsOutOfMemory }
+{
+    let mut head = [0; MAX_VARINT_LEN];
+    let used = encode_varint64(&mut head, value.len() as u64);
+    let (mut entry, _) = sized_internal_key(alloc, key, sequence, kind, used + value.len())?;
+    entry.extend_from_slice(&head[..used])?;
+    entry.extend_from_slice(value)?;
+    Ok(entry)
+}
+
+// A varint has at most so many bytes.
+const MAX_VARINT_LEN: usize = 10;
+
+// A tag has so many bytes.
+const TAG_LEN: usize = 8;
+
+// An internal key behind its length, in a vector with room for more, and how many bytes the length takes.
+#[tactic(auto, using(crate::specs::VarintLaws::varint_lengths))]
+fn sized_internal_key(
+    alloc: Global,
+    key: &[u8],
+    sequence: SequenceNumber,
+    kind: ValueType,
+    room: usize,
+) -> Result<(Vec<u8>, usize)>
+    requires sequence { sequence < 2 ^ 56 }
+    requires fits { length key.now + room < 2 ^ 63 + 10 }
+    ensures ok { IfOk result (λ made. made.0.items ≡ sized (internal_key key.now sequence kind)) }
+    ensures used { IfOk result (λ made. made.1 ≡ length (varint (length key.now + 8))) }
+    ensures cause { IfErr result IsOutOfMemory }
+{
+    let mut head = [0; MAX_VARINT_LEN];
+    let used = encode_varint64(&mut head, (key.len() + TAG_LEN) as u64);
+    let mut bytes = Vec::with_capacity(alloc, used + key.len() + TAG_LEN + room)?;
+    bytes.extend_from_slice(&head[..used])?;
+    bytes.extend_from_slice(key)?;
+    bytes.extend_from_slice(&tag_bytes(sequence, kind))?;
+    Ok((bytes, used))
+}
+
+pub(crate) fn tag_bytes(sequence: SequenceNumber, kind: ValueType) -> [u8; TAG_LEN]
+    requires { sequence < 2 ^ 56 }
+    ensures { result ≡ little 8 (tag sequence kind) }
+{
+    let mut bytes = [0; TAG_LEN];
+    LittleEndian::write_u64(&mut bytes, (sequence << 8) | kind as u64);
+    bytes
+}
+
+/// How long the user's key of an entry in memory is and where it stands, its tag, and how long its value is and
+/// where it stands. The last three are 0 for a key that ends before its tag.
+pub fn parse_memtable_key(mkey: MemtableKey<'_>) -> (usize, usize, u64, usize, usize)
+    requires { IsMemtableKey mkey.now }
+    ensures { (user : List ℕ) (parts : Option (ℕ × List ℕ)) → HasParts mkey.now user parts → result ≡ places_of user parts }
+{
+    let (len, place, tail) = split_user_key(mkey);
+    if tail.is_empty() {
+        return (len, place, 0, 0, 0);
+    }
+    let (tag, value_len, used) = split_tail(tail);
+    (len, place, tag, value_len, place + len + used)
+}
+
+// How long the user's key is and where it stands, and what stands behind it.
+fn split_user_key(mkey: &[u8]) -> (usize, usize, &[u8])
+    requires { IsMemtableKey mkey.now }
+    ensures parts { (user : List ℕ) (parts : Option (ℕ × List ℕ)) → HasParts mkey.now user parts
+        → (result.0 ≡ length user) × (result.1 ≡ length (varint (length user + 8))) × (result.2.now ≡ tail_of parts) }
+    ensures whole { result.1 + result.0 + length result.2.now ≡ length mkey.now }
+{
+    let (len, place) = front_len(mkey);
+    let len = len - TAG_LEN;
+    (len, place, &mkey[place + len..])
+}
+
+// The tag, how long the value is and where it stands, in what stands behind a user's key.
+fn split_tail(tail: &[u8]) -> (u64, usize, usize)
+    requires { (number : ℕ) × (value : List ℕ) × (number < 2 ^ 64) × (tail.now ≡ little 8 number ++ sized value) }
+    ensures parts { (number : ℕ) (value : List ℕ) → number < 2 ^ 64 → tail.now ≡ little 8 number ++ sized value
+        → result ≡ (number, length value, 8 + length (varint (length value))) }
+    ensures whole { result.2 + result.1 ≡ length tail.now }
+{
+    let tag = LittleEndian::read_u64(tail);
+    let (value_len, used) = front_len(&tail[TAG_LEN..]);
+    (tag, value_len, TAG_LEN + used)
+}
+
+// The length that stands in front, and how many bytes it takes.
+fn front_len(bytes: &[u8]) -> (usize, usize)
+    requires { (n : ℕ) × (rest : List ℕ) × (n < 2 ^ 64) × (bytes.now ≡ varint n ++ rest) }
+    ensures { (n : ℕ) (rest : List ℕ) → bytes.now ≡ varint n ++ rest → result ≡ (n, length (varint n)) }
+{
+    match get_varint64(bytes) {
+        Some((n, used)) => (n as usize, used),
+        None => unreachable!(),
+    }
+}
+
+/// The order of memtable keys and look-up keys: that of their internal keys.
+#[inline]
+pub fn cmp_memtable_key<C: Cmp>(ucmp: &C, a: MemtableKey<'_>, b: MemtableKey<'_>) -> Ordering
+    ensures { result ≡ memtable_cmp (C.cmp ucmp.now) a.now b.now }
+{
+    cmp_internal_key(ucmp, front_key(a), front_key(b))
+}
+
+// The internal key that stands behind its length in front, or the empty text where none does.
+#[inline]
+pub(crate) fn front_key(key: MemtableKey<'_>) -> InternalKey<'_>
+    ensures { result.now ≡ inner_key key.now }
+{
+    match get_length_prefixed_slice(key) {
+        Some((key, _)) => key,
+        None => &key[..0],
+    }
+}
+
+/// The type, the sequence number and the user's key of an internal key. The empty key is read as the deletion of
+/// the empty key with number 0.
+pub fn parse_internal_key(ikey: InternalKey<'_>) -> (ValueType, SequenceNumber, UserKey<'_>)
+    requires { (ikey.now ≡ []) ⊎ (8 ≤ length ikey.now) }
+    ensures kind { result.0 ≡ type_part ikey.now }
+    ensures sequence { result.1 ≡ sequence_part ikey.now }
+    ensures user { result.2.now ≡ user_part ikey.now }
+{
+    let (user, tag) = split_tag(ikey);
+    let (kind, sequence) = parse_tag(tag);
+    (kind, sequence, user)
+}
+
+// The user's key and the tag. Fewer than eight bytes are an empty user's key with the tag 0.
+#[inline]
+fn split_tag(ikey: &[u8]) -> (&[u8], u64)
+    ensures user { result.0.now ≡ user_part ikey.now }
+    ensures tag { result.1 ≡ tag_part ikey.now }
+{
+    if ikey.len() < TAG_LEN {
+        return (&ikey[..0], 0);
+    }
+    let (user, tag) = ikey.split_at(ikey.len() - TAG_LEN);
+    (user, LittleEndian::read_u64(tag))
+}
+
+// The user's key and the sequence number.
+#[inline]
+pub(crate) fn split_sequence(ikey: &[u8]) -> (&[u8], SequenceNumber)
+    ensures user { result.0.now ≡ user_part ikey.now }
+    ensures sequence { result.1 ≡ sequence_part ikey.now }
+{
+    let (user, tag) = split_tag(ikey);
+    (user, tag >> 8)
+}
+
+/// The order of internal keys: by the user's key rising, then by the sequence number falling; the type is ignored.
+/// Fewer than eight bytes are taken as an empty user's key with number 0.
+#[inline]
+pub fn cmp_internal_key<C: Cmp>(ucmp: &C, a: InternalKey<'_>, b: InternalKey<'_>) -> Ordering
+    ensures { result ≡ internal_cmp (C.cmp ucmp.now) a.now b.now }
+{
+    let (user_a, sequence_a) = split_sequence(a);
+    let (user_b, sequence_b) = split_sequence(b);
+    ucmp.cmp(user_a, user_b).then(sequence_b.cmp(&sequence_a))
+}
+
+/// Takes the tag off an internal key.
+pub fn truncate_to_userkey(ikey: &mut Vec<u8>)
+    requires { 8 ≤ vec_len ikey.old }
+    ensures { ikey.new.items ≡ user_part ikey.old.items }
+{
+    ikey.truncate(ikey.len() - TAG_LEN);
+}
+
+/// An internal key is read as it was written, and bytes whose type is a known one are the internal key of their parts.
+pub fn internal_keys_have_one_spelling()
+    ensures read { (user : List ℕ) (sequence : ℕ) (kind : ValueType) → sequence < 2 ^ 56
+        → (user_part (internal_key user sequence kind) ≡ user) × (sequence_part (internal_key user sequence kind) ≡ sequence)
+        × (type_part (internal_key user sequence kind) ≡ kind) }
+    ensures written { (key : List ℕ) → 8 ≤ length key → All (λ b. b < 256) key → tag_part key % 256 < 2
+        → internal_key (user_part key) (sequence_part key) (type_part key) ≡ key }
+{}
+
+/// What is written for an entry in memory has the entry's parts, bytes have no other parts, and an entry's place in
+/// the order of memtable keys, or that of a look-up key, is its internal key's.
+pub fn memtable_keys_have_one_spelling()
+    ensures written { (user : List ℕ) (sequence : ℕ) (kind : ValueType) (value : List ℕ) → sequence < 2 ^ 56
+        → HasParts (memtable_key user sequence kind value) user (Some (tag sequence kind, value)) }
+    ensures only { (bytes user other : List ℕ) (these those : Option (ℕ × List ℕ)) → HasParts bytes user these
+        → HasParts bytes other those → (user ≡ other) × (these ≡ those) }
+    ensures entry { (user : List ℕ) (sequence : ℕ) (kind : ValueType) (value : List ℕ)
+        → inner_key (memtable_key user sequence kind value) ≡ internal_key user sequence kind }
+    ensures looked_up { (user : List ℕ) (sequence : ℕ) (kind : ValueType)
+        → inner_key (lookup_key user sequence kind) ≡ internal_key user sequence kind }
+{}
+
+#[cfg(test)]
+mod tests {
+    use super::*;
+    use crate::cmp::DefaultCmp;
+
+    // The bytes are those of LevelDB's format, worked by hand.
+    #[test]
+    fn look_up_keys(rt: HostRuntime) -> Result<()> {
+        let key = LookupKey::new(rt.alloc(), b"xyabxy", 97)?;
+        let internal = [120, 121, 97, 98, 120, 121, 1, 97, 0, 0, 0, 0, 0, 0];
+        assert!(rt; key.internal_key() == internal.as_slice());
+        assert!(rt; key.user_key() == b"xyabxy".as_slice());
+        assert_eq!(rt; key.memtable_key().first(), Some(&14));
+        assert!(rt; key.memtable_key().ends_with(&internal));
+        let deleted = LookupKey::new_full(rt.alloc(), b"", 1, ValueType::TypeDeletion)?;
+        assert!(rt; deleted.clone()?.memtable_key() == [8, 0, 1, 0, 0, 0, 0, 0, 0].as_slice());
+        Ok(())
+    }
+
+    #[test]
+    fn entries(rt: HostRuntime) -> Result<()> {
+        let deleted = build_memtable_key(rt.alloc(), b"abc", b"", ValueType::TypeDeletion, 231)?;
+        let wanted = [11, 97, 98, 99, 0, 231, 0, 0, 0, 0, 0, 0, 0];
+        assert!(rt; deleted.as_slice() == wanted.as_slice());
+        let entry = build_memtable_key(rt.alloc(), b"abc", b"123", ValueType::TypeValue, 231)?;
+        let wanted = [11, 97, 98, 99, 1, 231, 0, 0, 0, 0, 0, 0, 3, 49, 50, 51];
+        assert!(rt; entry.as_slice() == wanted.as_slice());
+        assert_eq!(rt;
+            parse_memtable_key(entry.as_slice()),
+            (3, 1, 231 << 8 | 1, 3, 13)
+        );
+        assert_eq!(rt; parse_memtable_key(b"\x0babc"), (3, 1, 0, 0, 0));
+        Ok(())
+    }
+
+    #[test]
+    fn parts(rt: HostRuntime) -> Result<()> {
+        assert_eq!(rt; parse_tag(231 << 8 | 1), (ValueType::TypeValue, 231));
+        assert_eq!(rt; parse_tag(231 << 8), (ValueType::TypeDeletion, 231));
+        assert_eq!(rt; parse_tag(7), (ValueType::TypeValue, 0));
+        let (kind, sequence, user) = parse_internal_key(b"abc\x00\xe7\0\0\0\0\0\0");
+        assert_eq!(rt; (kind, sequence), (ValueType::TypeDeletion, 231));
+        assert!(rt; user == b"abc".as_slice());
+        let (kind, sequence, user) = parse_internal_key(b"");
+        assert_eq!(rt; (kind, sequence), (ValueType::TypeDeletion, 0));
+        assert!(rt; user.is_empty());
+        let mut key = Vec::from_slice(rt.alloc(), b"abc\x01\xe7\0\0\0\0\0\0")?;
+        assert_eq!(rt; key.len(), 11);
+        truncate_to_userkey(&mut key);
+        assert!(rt; key.as_slice() == b"abc".as_slice());
+        Ok(())
+    }
+
+    #[test]
+    fn order(rt: HostRuntime) -> Result<()> {
+        let newer = LookupKey::new(rt.alloc(), b"abc", 2)?;
+        let deletion = LookupKey::new_full(rt.alloc(), b"abc", 2, ValueType::TypeDeletion)?;
+        let older = LookupKey::new(rt.alloc(), b"abc", 1)?;
+        let later = LookupKey::new(rt.alloc(), b"abc\0", 3)?;
+        let rows = [
+            (&newer, &older, Ordering::Less),
+            (&older, &newer, Ordering::Greater),
+            (&newer, &deletion, Ordering::Equal),
+            (&older, &later, Ordering::Less),
+        ];
+        for (a, b, wanted) in rows {
+            assert_eq!(rt;
+                cmp_internal_key(&DefaultCmp, a.internal_key(), b.internal_key()),
+                wanted
+            );
+            assert_eq!(rt;
+                cmp_memtable_key(&DefaultCmp, a.memtable_key(), b.memtable_key()),
+                wanted
+            );
+        }
+        Ok(())
+    }
+}

@@ -1,0 +1,144 @@
+-- What stands under a name after a change of the files, and what a call leaves alone.
+use Rattle.std.specs.Prelude.{◌≢◌}
+use Rattle.std.proofs.Common.{◌≡◌, ◌⊎◌, inl, inr, ⊎_elim, ℕ, ◌+◌, ◌≤◌, min, Bool, true, false, cond, List, [], ◌++◌, length, take, Option, None, Some, refl, sym, ◌∙◌, ap, append_assoc, arith}
+use Rattle.std.specs.Option.{option_map}
+use Rattle.std.specs.Str.{bytes_eq}
+use Rattle.std.specs.Cmp.Lexicographic.{bytes_decides, nat_list_eq_equiv}
+use Rattle.std.proofs.lemmas.List.{append-nil, take_all, take_min, take-append-le}
+use Rattle.std.proofs.Math.Seq.{take-append_seam, take-append-add}
+use Rattle.leveldb_env.specs.Disk.{File, Files, with_file, kept_file, or_empty, longer_file, file_kept, created, emptied, deleted, moved, renamed, extended, synced}
+use Rattle.leveldb_env.specs.Calls.{EitherSide, Appending}
+
+-- ---- names
+
+pub bytes_eq-same : (name : List ℕ) → bytes_eq name name ≡ true
+bytes_eq-same name = (bytes_decides name name).1 refl
+
+-- two names are apart
+pub bytes_eq-apart : (name other : List ℕ) → name ≢ other → bytes_eq name other ≡ false
+bytes_eq-apart name other differ = by (bytes_eq name other) refl
+  where
+    by : (b : Bool) → bytes_eq name other ≡ b → bytes_eq name other ≡ false
+    by true e = absurd (differ ((bytes_decides name other).0 e))
+    by false e = e
+
+pub bytes_eq-sym : (name other : List ℕ) → bytes_eq name other ≡ bytes_eq other name
+bytes_eq-sym name other = nat_list_eq_equiv.symm name other
+
+-- ---- one name
+
+pub at_same : (name : List ℕ) (file : Option File) (files : Files) → with_file name file files name ≡ file
+at_same name file files = ap (λ b. cond b file (files name)) (bytes_eq-same name)
+
+pub at_other : (name : List ℕ) (file : Option File) (files : Files) (other : List ℕ) → bytes_eq name other ≡ false → with_file name file files other ≡ files other
+at_other name file files other apart = ap (λ b. cond b file (files other)) apart
+
+-- what is put under a name counts, not what was put there before
+pub with_file-twice : (name : List ℕ) (file before : Option File) (files : Files) → with_file name file (with_file name before files) ≡ with_file name file files
+with_file-twice name file before files = λ i other. at other (bytes_eq name other) i
+  where
+    at : (other : List ℕ) (b : Bool) → cond b file (cond b before (files other)) ≡ cond b file (files other)
+    at other true = refl
+    at other false = refl
+
+-- what is there may be put there
+pub with_file-itself : (name : List ℕ) (files : Files) → with_file name (files name) files ≡ files
+with_file-itself name files = λ i other. at other (bytes_eq name other) refl i
+  where
+    at : (other : List ℕ) (b : Bool) → bytes_eq name other ≡ b → with_file name (files name) files other ≡ files other
+    at other true e = ap (λ b. cond b (files name) (files other)) e ∙ ap files ((bytes_decides name other).0 e)
+    at other false e = at_other name (files name) files other e
+
+-- ---- what each change leaves alone
+
+-- the same but at this name
+abbrev pub SameBut : List ℕ → Files → Files → Type 0
+SameBut name old files = (other : List ℕ) → bytes_eq name other ≡ false → files other ≡ old other
+
+pub SameBut-refl : (name : List ℕ) (files : Files) → SameBut name files files
+SameBut-refl name files = λ other apart. refl
+
+pub SameBut-trans : (name : List ℕ) {old mid new : Files} → SameBut name old mid → SameBut name mid new → SameBut name old new
+SameBut-trans name first second = λ other apart. second other apart ∙ first other apart
+
+either_same : (name : List ℕ) (file : Option File) (old files : Files) → (files ≡ old) ⊎ (files ≡ with_file name file old) → SameBut name old files
+either_same name file old files (inl is) other apart = ap (λ (f : Files). f other) is
+either_same name file old files (inr is) other apart = ap (λ (f : Files). f other) is ∙ at_other name file old other apart
+
+pub SameBut-created : (name : List ℕ) (old files : Files) → EitherSide (created name) old files → SameBut name old files
+SameBut-created name old files passes = either_same name (or_empty (old name)) old files passes
+
+pub SameBut-emptied : (name : List ℕ) (old files : Files) → EitherSide (emptied name) old files → SameBut name old files
+SameBut-emptied name old files passes = either_same name (Some (kept_file [])) old files passes
+
+pub SameBut-deleted : (name : List ℕ) (old files : Files) → EitherSide (deleted name) old files → SameBut name old files
+SameBut-deleted name old files passes = either_same name None old files passes
+
+pub SameBut-synced : (name : List ℕ) (old files : Files) → EitherSide (synced name) old files → SameBut name old files
+SameBut-synced name old files passes = either_same name (option_map file_kept (old name)) old files passes
+
+pub SameBut-appending : (name bytes : List ℕ) (old files : Files) → Appending name bytes old files → SameBut name old files
+SameBut-appending name bytes old files (inl is) = either_same name None old files (inl is)
+SameBut-appending name bytes old files (inr part) = either_same name (option_map (longer_file (take part.0 bytes)) (old name)) old files (inr part.1)
+
+-- a rename leaves all but its two names alone
+pub renamed-other : (from to : List ℕ) (old files : Files) → EitherSide (renamed from to) old files → (other : List ℕ) → bytes_eq from other ≡ false → bytes_eq to other ≡ false → files other ≡ old other
+renamed-other from to old files passes other apart apart_to = ⊎_elim
+    (λ is. ap (λ (f : Files). f other) is)
+    (λ is. ap (λ (f : Files). f other) is ∙ moved_other (old from)) passes
+  where
+    moved_other : (file : Option File) → moved from to old file other ≡ old other
+    moved_other None = refl
+    moved_other (Some file) = at_other to (Some file) (deleted from old) other apart_to ∙ at_other from None old other apart
+
+-- ---- what stands under the name then
+
+-- a file that is there moves
+pub renamed-there : (from to : List ℕ) (files : Files) (file : File) → files from ≡ Some file → renamed from to files ≡ with_file to (Some file) (deleted from files)
+renamed-there from to files file there = ap (moved from to files) there
+
+pub extended-same : (name bytes : List ℕ) (files : Files) (file : File) → files name ≡ Some file → extended name bytes files name ≡ Some (longer_file bytes file)
+extended-same name bytes files file there = at_same name (option_map (longer_file bytes) (files name)) files ∙ ap (option_map (longer_file bytes)) there
+
+pub synced-same : (name : List ℕ) (files : Files) (file : File) → files name ≡ Some file → synced name files name ≡ Some (file_kept file)
+synced-same name files file there = at_same name (option_map file_kept (files name)) files ∙ ap (option_map file_kept) there
+
+-- ---- appends one after another
+
+longer_none : (file : Option File) → option_map (longer_file []) file ≡ file
+longer_none None = refl
+longer_none (Some file) = ap (λ since. Some (record file { since = since })) (append-nil file.since)
+
+longer_twice : (bytes others : List ℕ) (file : Option File) → option_map (longer_file others) (option_map (longer_file bytes) file) ≡ option_map (longer_file (bytes ++ others)) file
+longer_twice bytes others None = refl
+longer_twice bytes others (Some file) = ap (λ since. Some (record file { since = since })) (append_assoc file.since bytes others)
+
+pub extended-nil : (name : List ℕ) (files : Files) → extended name [] files ≡ files
+extended-nil name files = ap (λ file. with_file name file files) (longer_none (files name)) ∙ with_file-itself name files
+
+pub extended-append : (name bytes others : List ℕ) (files : Files) → extended name others (extended name bytes files) ≡ extended name (bytes ++ others) files
+extended-append name bytes others files =
+    let longer = option_map (longer_file bytes) (files name) in
+    with_file-twice name (option_map (longer_file others) (extended name bytes files name)) longer files
+    ∙ ap (λ file. with_file name file files) (ap (option_map (longer_file others)) (at_same name longer files) ∙ longer_twice bytes others (files name))
+
+-- an append may have put nothing, or all
+pub nothing_appended : (name bytes : List ℕ) (files : Files) → Appending name bytes files files
+nothing_appended name bytes files = inl refl
+
+pub appended : (name bytes : List ℕ) (files : Files) → Appending name bytes files (extended name bytes files)
+appended name bytes files = inr (length bytes, ap (λ b. extended name b files) (sym (take_all (length bytes) bytes (omega arith))))
+
+-- what the first of two appends passes
+pub Appending-first : (name bytes others : List ℕ) (old files : Files) → Appending name bytes old files → Appending name (bytes ++ others) old files
+Appending-first name bytes others old files (inl is) = inl is
+Appending-first name bytes others old files (inr part) =
+    let count = min part.0 (length bytes) in
+    let fits : count ≤ length bytes = omega arith in
+    inr (count, part.1 ∙ ap (λ b. extended name b old) (sym (take-append-le count bytes others fits ∙ take_min part.0 bytes)))
+
+-- what the second of two appends passes
+pub Appending-second : (name bytes others : List ℕ) (old files : Files) → Appending name others (extended name bytes old) files → Appending name (bytes ++ others) old files
+Appending-second name bytes others old files (inl is) = inr (length bytes, is ∙ ap (λ b. extended name b old) (sym (take-append_seam bytes others)))
+Appending-second name bytes others old files (inr part) =
+    inr (length bytes + part.0, part.1 ∙ extended-append name bytes (take part.0 others) old ∙ ap (λ b. extended name b old) (sym (take-append-add bytes others part.0)))

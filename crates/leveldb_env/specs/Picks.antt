@@ -1,0 +1,45 @@
+-- What a crash leaves of files by choice: which bytes follow those that it keeps.
+use Rattle.std.specs.Prelude.{◌≡◌, ◌⊎◌, ◌≤◌, ℕ, List, [], ◌++◌, length, All, IsSomeAnd, unwrap_or, map, String, string_bytes, Vec}
+use Rattle.std.specs.List.{IsDistinct}
+use Rattle.std.specs.Map.{lookup, keys_of}
+use Rattle.std.specs.Option.{option_map}
+use Rattle.std.specs.Str.{bytes_eq}
+use Rattle.std.specs.declared.alloc.Global.{Global}
+use Rattle.leveldb_base.specs.declared.error.Status.{Status}
+use Rattle.leveldb_base.specs.declared.error.StatusCode.TheVariants.{InvalidArgument}
+use Rattle.leveldb_env.specs.Calls.{NoMemory}
+use Rattle.leveldb_env.specs.Disk.{Files, kept_file, AreBytes, Leaves}
+
+-- names, each with the tail that is picked for it
+abbrev pub Tails : Type 0
+Tails = List (List ℕ × List ℕ)
+
+-- the tail picked for a name; none where none is picked
+abbrev pub tail_for : Tails → List ℕ → List ℕ
+tail_for tails name = unwrap_or (lookup (bytes_eq name) tails) []
+
+-- of each file its kept bytes and behind them the tail picked for it, all kept
+abbrev pub picked : Tails → Files → Files
+picked tails files = λ name. option_map (λ file. kept_file (file.kept ++ tail_for tails name)) (files name)
+
+-- a tail for a file that is there, no longer than what was appended since
+pub record IsTailOf (files : Files) (pick : List ℕ × List ℕ) : Type 0 where
+  pub bytes : AreBytes pick.1
+  pub fits : IsSomeAnd (files pick.0) (λ file. length pick.1 ≤ length file.since)
+
+-- tails that a crash may leave, each for another name
+pub record IsAllowed (files : Files) (tails : Tails) : Type 0 where
+  pub each : All (IsTailOf files) tails
+  pub once : IsDistinct bytes_eq (keys_of tails)
+
+-- the same as a program gives them
+abbrev pub tails_of : List (String Global × Vec ℕ Global) → Tails
+tails_of tails = map (λ pick. (string_bytes pick.0, pick.1.items)) tails
+
+-- whatever a crash leaves, it leaves by tails that are allowed
+abbrev pub LeavesByTails : Files → Type 0
+LeavesByTails files = (left : Files) → Leaves files left → (tails : Tails) × IsAllowed files tails × (left ≡ picked tails files)
+
+-- a choice is refused where no crash leaves it, and else for want of memory alone
+abbrev pub IsRefused : Files → Tails → Status → Type 0
+IsRefused files tails e = (NoMemory e × IsAllowed files tails) ⊎ ((e.code ≡ InvalidArgument) × (IsAllowed files tails → ⊥))
