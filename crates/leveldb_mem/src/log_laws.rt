@@ -37,7 +37,8 @@ pub fn clean_log_goes_on()
     ensures framings { FramingsAppend }
 {}
 
-/// An honest crash loses records from a log's end alone, and none whose bytes were kept. A crash that only cuts bytes off is one.
+/// Of a log that is clean, or would be with bytes that a refused append left out, an honest crash leaves the first of the records that
+/// stood, and all those of the kept bytes. A crash that only cuts bytes off is honest.
 pub fn crash_keeps_first_records()
     ensures cut { CutIsHonest }
     ensures kept { CrashLeaves }
