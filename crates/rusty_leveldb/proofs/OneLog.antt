@@ -1,0 +1,3 @@
+-- The laws of a store that is one log, on disks alone.
+pub mod Batches
+pub mod LogFile
