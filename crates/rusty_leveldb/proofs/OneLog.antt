@@ -1,3 +1,4 @@
 -- The laws of a store that is one log, on disks alone.
 pub mod Batches
 pub mod LogFile
+pub mod Appending
