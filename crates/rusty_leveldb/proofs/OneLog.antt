@@ -2,3 +2,4 @@
 pub mod Batches
 pub mod LogFile
 pub mod Appending
+pub mod Kept
