@@ -3,3 +3,5 @@ pub mod Batches
 pub mod LogFile
 pub mod Appending
 pub mod Kept
+pub mod Disks
+pub mod Writing
