@@ -5,3 +5,5 @@ pub mod Appending
 pub mod Kept
 pub mod Disks
 pub mod Writing
+pub mod Opening
+pub mod Crashes
