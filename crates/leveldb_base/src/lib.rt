@@ -8,6 +8,5 @@ pub mod crc;
 pub mod error;
 pub mod history;
 pub mod key_types;
-pub mod history;
 pub mod types;
 pub mod varint;

@@ -201,7 +201,7 @@ module _ (file : File) (history : History) (last covered : ℕ) (has : Carried l
   grown_carries n =
       let s = stands n in
       ⊎_elim (λ (none : s.records ≡ now.records). inl (without_batch (grown n) s.end (subst (λ rs. IsLogFile (bytes_of (grown n)) rs s.end) none s.read)))
-          (λ (one : s.records ≡ now.records ++ record' ∷ []). inr (with_batch (grown n) s.end (subst (λ rs. IsLogFile (bytes_of (grown n)) rs s.end) one s.read))) s.which
+      (λ (one : s.records ≡ now.records ++ record' ∷ []). inr (with_batch (grown n) s.end (subst (λ rs. IsLogFile (bytes_of (grown n)) rs s.end) one s.read))) s.which
 
   -- with the whole frame it is that with the batch, and the end is clean
   pub whole_read : IsLogFile (bytes_of (longer_file frame file)) (now.records ++ record' ∷ []) clean
@@ -214,7 +214,7 @@ module _ (file : File) (history : History) (last covered : ℕ) (has : Carried l
   pub grown_safe : (n : ℕ) → Safe bound covered longer (Some (grown n))
   grown_safe n left leaves honest = subst (CarriedBeginning bound covered longer) (sym leaves.3)
       (by_records (log_laws.torn file.kept file.since leaves.0 (first file history last covered safe since now) now.records s.records record' n (first_end file history last covered safe since now) s.end some
-          (first_read file history last covered safe since now) now_read stood no_longer honest_here))
+      (first_read file history last covered safe since now) now_read stood no_longer honest_here))
     where
       s : Stands n
       s = stands n
@@ -260,7 +260,7 @@ module _ (file : File) (history : History) (last covered : ℕ) (has : Carried l
           one same =
               let n = ap length same in
               ⊎_elim (λ (past : length now.records < some_of.count).
-                  all (some_of.first ∙ ap (take some_of.count) same ∙ take_all some_of.count (now.records ++ record' ∷ []) (omega (arith, past, length-append now.records (record' ∷ [])))))
-                  (λ (within : some_of.count ≤ length now.records).
-                  fewer some_of.count some_of.enough within (some_of.first ∙ ap (take some_of.count) same ∙ take-append-le some_of.count now.records (record' ∷ []) within))
-                  (cases_lt (length now.records) some_of.count)
+              all (some_of.first ∙ ap (take some_of.count) same ∙ take_all some_of.count (now.records ++ record' ∷ []) (omega (arith, past, length-append now.records (record' ∷ [])))))
+              (λ (within : some_of.count ≤ length now.records).
+              fewer some_of.count some_of.enough within (some_of.first ∙ ap (take some_of.count) same ∙ take-append-le some_of.count now.records (record' ∷ []) within))
+              (cases_lt (length now.records) some_of.count)

@@ -105,7 +105,7 @@ front_honest file front rest e was is same_was same_is =
     let whole : ((file.kept ++ front) ++ []) ++ rest ≡ bytes_of file = ap (λ b. b ++ rest) (append-nil (file.kept ++ front)) ∙ append_assoc file.kept front rest ∙ ap (λ b. file.kept ++ b) (sym e) in
     let here : HonestTail log_block_size (bytes_of file) ((file.kept ++ front) ++ []) = subst (λ b. HonestTail log_block_size b ((file.kept ++ front) ++ [])) whole (cut_is_honest log_block_size ((file.kept ++ front) ++ []) rest) in
     subst (λ f. HonestTail log_block_size (bytes_of f) (bytes_of is)) (some_is file was same_was)
-        (subst (λ f. HonestTail log_block_size (bytes_of file) (bytes_of f)) (some_is (kept_file (file.kept ++ front)) is same_is) here)
+    (subst (λ f. HonestTail log_block_size (bytes_of file) (bytes_of f)) (some_is (kept_file (file.kept ++ front)) is same_is) here)
 
 cut_honest : (file : Option File) → Honest file (cut file)
 cut_honest None = λ was is same_was same_is. absurd (cc)

@@ -95,7 +95,7 @@ module _ (store : List ℕ) where
     pub replaced_carries : (bound : ℕ) (history : History) (m : Files) → m ≡ renamed from name files → Carries store reads bound history files → Carries store reads bound history m
     replaced_carries bound history m e c =
         carries store bound history m (subst (Carried bound history) (sym (replaced_there m e))
-            (same_records bound history file other records end other_end read read_too (subst (Carried bound history) there (carried store bound history files c))))
+        (same_records bound history file other records end other_end read read_too (subst (Carried bound history) there (carried store bound history files c))))
 
     -- either side is safe
     pub replacing_safe : (bound covered : ℕ) (history part : History) (m : Files) → EitherSide (renamed from name) files m → IsBeginning covered history part → Carries store reads bound part files

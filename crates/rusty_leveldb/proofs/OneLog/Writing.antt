@@ -70,8 +70,8 @@ module _ (store : List ℕ) where
         now_of (inr part) =
             let there_now : m name ≡ Some (longer_file (take part.0 frame) file) = ap (λ (f : Files). f name) part.1 ∙ extended-same name (take part.0 frame) files file there in
             ⊎_elim (λ c. inl (carries store (last + length batch) history m (subst (Carried (last + length batch) history) (sym there_now) c)))
-                (λ c. inr (carries store (last + length batch) longer m (subst (Carried (last + length batch) longer) (sym there_now) c)))
-                (appending.grown_carries file history last covered has safe since covered_there reached old_records is_clean items record' is_batch first_fits all_fit part.0)
+            (λ c. inr (carries store (last + length batch) longer m (subst (Carried (last + length batch) longer) (sym there_now) c)))
+            (appending.grown_carries file history last covered has safe since covered_there reached old_records is_clean items record' is_batch first_fits all_fit part.0)
 
     -- the log then has the record too, and ends cleanly
     pub appended_there : extended name frame files name ≡ Some (longer_file frame file)
@@ -85,7 +85,7 @@ module _ (store : List ℕ) where
     appended_holds m e = record {
       now = inl (carries store (last + length items + 0) longer m (subst (Carried (last + length items + 0) longer) (sym (ap (λ (f : Files). f name) e ∙ appended_there))
           (carried_more (last + length batch) (last + length items + 0) longer (Some (longer_file frame file)) same_bound
-              (appending.whole_carries file history last covered has safe since covered_there reached old_records is_clean items record' is_batch first_fits all_fit))));
+          (appending.whole_carries file history last covered has safe since covered_there reached old_records is_clean items record' is_batch first_fits all_fit))));
       crash = safe_more store (last + length batch) (last + length items + 0) covered longer m same_bound (appending_safe m (subst (Appending name frame files) (sym e) (appended name frame files)));
     }
       where
