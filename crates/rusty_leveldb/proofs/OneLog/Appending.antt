@@ -1,19 +1,17 @@
 -- The one log's file as the frame of one more batch comes to it.
-use Rattle.std.proofs.Common.{◌≡◌, ◌≢◌, ◌≤◌, ◌<◌, ◌+◌, ◌⊎◌, inl, inr, ⊎_elim, ℕ, zero, suc, Bool, true, false, nat_le, List, [], ◌∷◌, ◌++◌, length, take, drop, refl, sym, ◌∙◌, ap, subst, arith, Option, Some, None, append-nil, append_assoc, length-append}
+use Rattle.std.proofs.Common.{◌≡◌, ◌≢◌, ◌≤◌, ◌<◌, ◌+◌, ◌⊎◌, inl, inr, ⊎_elim, ℕ, zero, suc, List, [], ◌∷◌, ◌++◌, length, take, drop, refl, sym, ◌∙◌, ap, subst, arith, Option, Some, append-nil, append_assoc, length-append}
 use Rattle.std.proofs.lemmas.List.{get_or-take, get_or_past, take_all, take-append-drop, take-append-le, length-take}
-use Rattle.std.proofs.lemmas.Bool.{leb-true, leb-false, cases_lt}
-use Rattle.std.specs.Prelude.{slice_index}
-use Rattle.leveldb_base.specs.History.{Item, Entry, History, IsBeginning, placed, entries_of, greatest, joined}
-use Rattle.leveldb_base.specs.Varint.{little}
-use Rattle.leveldb_env.specs.Disk.{File, bytes_of, kept_file, longer_file, AreBytes, LeavesFile}
+use Rattle.std.proofs.lemmas.Bool.{cases_lt}
+use Rattle.leveldb_base.specs.History.{Item, Entry, History, IsBeginning, placed, entries_of, greatest}
+use Rattle.leveldb_env.specs.Disk.{File, bytes_of, kept_file, longer_file, AreBytes}
 use Rattle.leveldb_mem.specs.Log.{log_block_size, End, clean, IsLogFile, frame_at}
 use Rattle.leveldb_mem.specs.Honest.{HonestTail}
 use Rattle.leveldb_mem.specs.LogLaws.{log_laws, AreFirst}
 use Rattle.leveldb_mem.specs.Batch.{Batch, BatchOf, batch_bytes}
-use Rattle.rusty_leveldb.specs.OneLog.{Each, IsRecordOf, AreInOrder, IsLogOf, contents_of, max_sequence}
+use Rattle.rusty_leveldb.specs.OneLog.{Each, IsRecordOf, AreInOrder, contents_of, max_sequence}
 use Rattle.rusty_leveldb.specs.Holds.{Tells}
 use Rattle.rusty_leveldb.proofs.OneLog.Batches.{each_take, each_more, placed_length, batch_at, tells_more, order_one_more, order_take}
-use Rattle.rusty_leveldb.proofs.OneLog.LogFile.{Carried, CarriedBeginning, Honest, Safe, carried_more, front_honest, one_batches}
+use Rattle.rusty_leveldb.proofs.OneLog.LogFile.{Carried, CarriedBeginning, Safe, carried_more, front_honest, one_batches}
 
 -- a batch has bytes
 pub batch_some : (bytes : List ℕ) (first : ℕ) (items : List Item) → BatchOf bytes first items → bytes ≢ []
@@ -201,7 +199,7 @@ module _ (file : File) (history : History) (last covered : ℕ) (has : Carried l
   grown_carries n =
       let s = stands n in
       ⊎_elim (λ (none : s.records ≡ now.records). inl (without_batch (grown n) s.end (subst (λ rs. IsLogFile (bytes_of (grown n)) rs s.end) none s.read)))
-          (λ (one : s.records ≡ now.records ++ record' ∷ []). inr (with_batch (grown n) s.end (subst (λ rs. IsLogFile (bytes_of (grown n)) rs s.end) one s.read))) s.which
+      (λ (one : s.records ≡ now.records ++ record' ∷ []). inr (with_batch (grown n) s.end (subst (λ rs. IsLogFile (bytes_of (grown n)) rs s.end) one s.read))) s.which
 
   -- with the whole frame it is that with the batch, and the end is clean
   pub whole_read : IsLogFile (bytes_of (longer_file frame file)) (now.records ++ record' ∷ []) clean
@@ -214,7 +212,7 @@ module _ (file : File) (history : History) (last covered : ℕ) (has : Carried l
   pub grown_safe : (n : ℕ) → Safe bound covered longer (Some (grown n))
   grown_safe n left leaves honest = subst (CarriedBeginning bound covered longer) (sym leaves.3)
       (by_records (log_laws.torn file.kept file.since leaves.0 (first file history last covered safe since now) now.records s.records record' n (first_end file history last covered safe since now) s.end some
-          (first_read file history last covered safe since now) now_read stood no_longer honest_here))
+      (first_read file history last covered safe since now) now_read stood no_longer honest_here))
     where
       s : Stands n
       s = stands n
@@ -260,7 +258,7 @@ module _ (file : File) (history : History) (last covered : ℕ) (has : Carried l
           one same =
               let n = ap length same in
               ⊎_elim (λ (past : length now.records < some_of.count).
-                  all (some_of.first ∙ ap (take some_of.count) same ∙ take_all some_of.count (now.records ++ record' ∷ []) (omega (arith, past, length-append now.records (record' ∷ [])))))
-                  (λ (within : some_of.count ≤ length now.records).
-                  fewer some_of.count some_of.enough within (some_of.first ∙ ap (take some_of.count) same ∙ take-append-le some_of.count now.records (record' ∷ []) within))
-                  (cases_lt (length now.records) some_of.count)
+              all (some_of.first ∙ ap (take some_of.count) same ∙ take_all some_of.count (now.records ++ record' ∷ []) (omega (arith, past, length-append now.records (record' ∷ [])))))
+              (λ (within : some_of.count ≤ length now.records).
+              fewer some_of.count some_of.enough within (some_of.first ∙ ap (take some_of.count) same ∙ take-append-le some_of.count now.records (record' ∷ []) within))
+              (cases_lt (length now.records) some_of.count)

@@ -1,13 +1,13 @@
 -- What a crash in a request may leave, by the state after it, is within what it may leave by the state before it with the batch in hand.
-use Rattle.std.proofs.Common.{◌≡◌, ◌≤◌, ◌<◌, ◌+◌, ◌⊎◌, inl, inr, ⊎_elim, ℕ, zero, suc, List, [], ◌∷◌, ◌++◌, length, take, Bool, refl, sym, ◌∙◌, ap, subst, arith, Option, Some, None, length-append}
+use Rattle.std.proofs.Common.{◌≡◌, ◌≤◌, ◌<◌, ◌+◌, ◌⊎◌, ⊎_elim, ℕ, zero, suc, List, [], ◌∷◌, ◌++◌, length, take, Bool, refl, sym, ◌∙◌, ap, subst, arith, Option, Some, None, length-append}
 use Rattle.std.specs.declared.cmp.Ordering.{Ordering}
 use Rattle.std.proofs.lemmas.List.{take_all, take-append-le, length-take}
 use Rattle.std.proofs.lemmas.List.Elements.{All-push}
-use Rattle.leveldb_base.specs.History.{Item, Entry, History, IsHistory, IsPlaced, IsBeginning, RiseAbove, placed, entries_of, greatest, joined, count_of}
+use Rattle.leveldb_base.specs.History.{Item, Entry, History, IsHistory, IsPlaced, RiseAbove, placed, entries_of, greatest, joined, count_of}
 use Rattle.leveldb_env.specs.Disk.{Files, Disk, LeavesDisk}
 use Rattle.rusty_leveldb.specs.Contents.{Contents}
 use Rattle.rusty_leveldb.specs.OneLog.{log_path, IsOneLog}
-use Rattle.rusty_leveldb.specs.Holds.{Carries, IsSafe, IsHonest}
+use Rattle.rusty_leveldb.specs.Holds.{IsSafe, IsHonest}
 use Rattle.rusty_leveldb.specs.State.{Mode, open_mode, broken, closed, State, IsState, SuitsMode, Snapshot, Move, Request, open_store, write, get, walk, get_snapshot, release_snapshot, flush, compact_range, close, abandon, Refusal, Answer, done, found, walked, snapshot, refused}
 use Rattle.rusty_leveldb.specs.Causes.{Faults, Cause, device_failed}
 use Rattle.rusty_leveldb.specs.Machine.{Keeps, Writes, Breaks, Step, StepIn, Serves, Rejects, Refuses, batch_of, in_hand, in_hand_of, Crashes}
@@ -206,8 +206,8 @@ module _ (old new : State) where
     write_refused items sync cause none row = ⊎_elim
         (λ (keeps : Keeps old new). still (ap (λ s. s.history) keeps.state) (ap (λ s. s.last) keeps.state) (ap (λ s. s.pending) keeps.state ∙ none))
         (λ breaks. ⊎_elim
-            (λ (b : Breaks old None new). still (ap (λ s. s.history) b.state) (ap (λ s. s.last) b.state) (ap (λ s. s.pending) b.state))
-            (λ (b : Breaks old (Some (batch_of old items)) new). pending_now (ap (λ s. s.history) b.state) (ap (λ s. s.last) b.state) (ap (λ s. s.pending) b.state)) breaks.1) row
+        (λ (b : Breaks old None new). still (ap (λ s. s.history) b.state) (ap (λ s. s.last) b.state) (ap (λ s. s.pending) b.state))
+        (λ (b : Breaks old (Some (batch_of old items)) new). pending_now (ap (λ s. s.history) b.state) (ap (λ s. s.last) b.state) (ap (λ s. s.pending) b.state)) breaks.1) row
       where
         still : new.history ≡ old.history → new.last ≡ old.last → new.pending ≡ None → WithBatch items
         still = nothing_pending (old.last + count_of (Some (batch_of old items))) (Some (batch_of old items)) (omega arith)

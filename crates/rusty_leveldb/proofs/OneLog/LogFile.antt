@@ -1,11 +1,10 @@
 -- What the one log's file says: what it carries, and when a crash of it is safe. The rest of the disk has no part in it.
-use Rattle.std.proofs.Common.{◌≡◌, ◌≤◌, ◌<◌, ◌+◌, ◌^◌, inl, ℕ, zero, suc, Bool, true, false, List, [], ◌++◌, length, take, refl, sym, ◌∙◌, ap, subst, arith, Option, Some, None, append-nil, append_assoc}
-use Rattle.std.proofs.lemmas.List.{take_all, take-append-le}
+use Rattle.std.proofs.Common.{◌≡◌, ◌≤◌, inl, ℕ, zero, suc, Bool, true, false, List, [], ◌++◌, refl, sym, ◌∙◌, ap, subst, arith, Option, Some, None, append-nil, append_assoc}
 use Rattle.std.specs.Prelude.{codes, All}
 use Rattle.std.specs.Char.{IsAsciiDigit}
 use Rattle.std.specs.Str.{bytes_eq}
 use Rattle.std.specs.Cmp.Lexicographic.{bytes_decides}
-use Rattle.leveldb_base.specs.History.{Entry, History, IsBeginning, entries_of, greatest}
+use Rattle.leveldb_base.specs.History.{History, IsBeginning}
 use Rattle.leveldb_env.specs.Disk.{File, Files, bytes_of, kept_file, with_file, AreBytes, LeavesFile, Leaves}
 use Rattle.leveldb_env.specs.FileLaws.{at_same, at_other}
 use Rattle.leveldb_mem.specs.Log.{log_block_size, End, IsLogFile}
@@ -16,7 +15,7 @@ use Rattle.leveldb_mem.specs.BatchLaws.{BatchOf-one}
 use Rattle.rusty_leveldb.specs.Contents.{Contents}
 use Rattle.rusty_leveldb.specs.OneLog.{log_path, Each, IsRecordOf, AreInOrder, IsLogOf, contents_of, IsRead, IsOneLog}
 use Rattle.rusty_leveldb.specs.Names.{IsJournal}
-use Rattle.rusty_leveldb.specs.Holds.{IsHonest, Tells, Carries, CarriesBeginning, IsSafe}
+use Rattle.rusty_leveldb.specs.Holds.{IsHonest, Tells, Carries, IsSafe}
 use Rattle.rusty_leveldb.proofs.OneLog.Batches.{each_one}
 
 -- ---- reading
@@ -105,7 +104,7 @@ front_honest file front rest e was is same_was same_is =
     let whole : ((file.kept ++ front) ++ []) ++ rest ≡ bytes_of file = ap (λ b. b ++ rest) (append-nil (file.kept ++ front)) ∙ append_assoc file.kept front rest ∙ ap (λ b. file.kept ++ b) (sym e) in
     let here : HonestTail log_block_size (bytes_of file) ((file.kept ++ front) ++ []) = subst (λ b. HonestTail log_block_size b ((file.kept ++ front) ++ [])) whole (cut_is_honest log_block_size ((file.kept ++ front) ++ []) rest) in
     subst (λ f. HonestTail log_block_size (bytes_of f) (bytes_of is)) (some_is file was same_was)
-        (subst (λ f. HonestTail log_block_size (bytes_of file) (bytes_of f)) (some_is (kept_file (file.kept ++ front)) is same_is) here)
+    (subst (λ f. HonestTail log_block_size (bytes_of file) (bytes_of f)) (some_is (kept_file (file.kept ++ front)) is same_is) here)
 
 cut_honest : (file : Option File) → Honest file (cut file)
 cut_honest None = λ was is same_was same_is. absurd (cc)
