@@ -1,19 +1,17 @@
 -- The one log's file as the frame of one more batch comes to it.
-use Rattle.std.proofs.Common.{◌≡◌, ◌≢◌, ◌≤◌, ◌<◌, ◌+◌, ◌⊎◌, inl, inr, ⊎_elim, ℕ, zero, suc, Bool, true, false, nat_le, List, [], ◌∷◌, ◌++◌, length, take, drop, refl, sym, ◌∙◌, ap, subst, arith, Option, Some, None, append-nil, append_assoc, length-append}
+use Rattle.std.proofs.Common.{◌≡◌, ◌≢◌, ◌≤◌, ◌<◌, ◌+◌, ◌⊎◌, inl, inr, ⊎_elim, ℕ, zero, suc, List, [], ◌∷◌, ◌++◌, length, take, drop, refl, sym, ◌∙◌, ap, subst, arith, Option, Some, append-nil, append_assoc, length-append}
 use Rattle.std.proofs.lemmas.List.{get_or-take, get_or_past, take_all, take-append-drop, take-append-le, length-take}
-use Rattle.std.proofs.lemmas.Bool.{leb-true, leb-false, cases_lt}
-use Rattle.std.specs.Prelude.{slice_index}
-use Rattle.leveldb_base.specs.History.{Item, Entry, History, IsBeginning, placed, entries_of, greatest, joined}
-use Rattle.leveldb_base.specs.Varint.{little}
-use Rattle.leveldb_env.specs.Disk.{File, bytes_of, kept_file, longer_file, AreBytes, LeavesFile}
+use Rattle.std.proofs.lemmas.Bool.{cases_lt}
+use Rattle.leveldb_base.specs.History.{Item, Entry, History, IsBeginning, placed, entries_of, greatest}
+use Rattle.leveldb_env.specs.Disk.{File, bytes_of, kept_file, longer_file, AreBytes}
 use Rattle.leveldb_mem.specs.Log.{log_block_size, End, clean, IsLogFile, frame_at}
 use Rattle.leveldb_mem.specs.Honest.{HonestTail}
 use Rattle.leveldb_mem.specs.LogLaws.{log_laws, AreFirst}
 use Rattle.leveldb_mem.specs.Batch.{Batch, BatchOf, batch_bytes}
-use Rattle.rusty_leveldb.specs.OneLog.{Each, IsRecordOf, AreInOrder, IsLogOf, contents_of, max_sequence}
+use Rattle.rusty_leveldb.specs.OneLog.{Each, IsRecordOf, AreInOrder, contents_of, max_sequence}
 use Rattle.rusty_leveldb.specs.Holds.{Tells}
 use Rattle.rusty_leveldb.proofs.OneLog.Batches.{each_take, each_more, placed_length, batch_at, tells_more, order_one_more, order_take}
-use Rattle.rusty_leveldb.proofs.OneLog.LogFile.{Carried, CarriedBeginning, Honest, Safe, carried_more, front_honest, one_batches}
+use Rattle.rusty_leveldb.proofs.OneLog.LogFile.{Carried, CarriedBeginning, Safe, carried_more, front_honest, one_batches}
 
 -- a batch has bytes
 pub batch_some : (bytes : List ℕ) (first : ℕ) (items : List Item) → BatchOf bytes first items → bytes ≢ []

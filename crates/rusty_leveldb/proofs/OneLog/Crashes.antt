@@ -1,16 +1,15 @@
 -- What a crash leaves of a store that is one log.
-use Rattle.std.proofs.Common.{◌≡◌, ◌≤◌, ◌<◌, ◌+◌, ◌⊎◌, inl, inr, ℕ, List, [], ◌∷◌, ◌++◌, length, take, drop, get_or, refl, sym, ◌∙◌, ap, subst, arith, false, Option, Some, None, length-append}
-use Rattle.std.specs.Prelude.{All}
-use Rattle.std.proofs.lemmas.List.{take-append-drop, take_all, get_or-take, length-take}
+use Rattle.std.proofs.Common.{◌≤◌, ◌<◌, ◌+◌, ℕ, List, [], ◌∷◌, ◌++◌, length, take, drop, refl, sym, ◌∙◌, ap, subst, arith, false, Option, Some, None}
+use Rattle.std.proofs.lemmas.List.{take-append-drop, get_or-take, length-take}
 use Rattle.std.proofs.lemmas.List.Concat.{flat_map-append}
 use Rattle.leveldb_base.specs.History.{Entry, History, IsHistory, IsPlaced, IsBeginning, RiseAbove, entries_of, greatest, joined, count_of}
 use Rattle.leveldb_base.specs.ViewLaws.Elements.{in_none}
-use Rattle.leveldb_env.specs.Disk.{File, Files, Disk, Leaves, LeavesFile, LeavesDisk, bytes_of, kept_file}
+use Rattle.leveldb_env.specs.Disk.{File, Files, Disk, Leaves, LeavesFile, LeavesDisk}
 use Rattle.rusty_leveldb.specs.Contents.{Contents}
 use Rattle.rusty_leveldb.specs.Names.{lock_path}
 use Rattle.rusty_leveldb.specs.OneLog.{log_path, IsOneLog}
-use Rattle.rusty_leveldb.specs.Holds.{Carries, CarriesBeginning, IsHonest, IsSafe, Holds, HasStore, KeepsStore}
-use Rattle.rusty_leveldb.specs.State.{State, IsState, closed}
+use Rattle.rusty_leveldb.specs.Holds.{Carries, IsHonest, IsSafe, Holds, KeepsStore}
+use Rattle.rusty_leveldb.specs.State.{State, closed}
 use Rattle.rusty_leveldb.specs.Machine.{Crashes}
 use Rattle.rusty_leveldb.specs.Serves.{StandsFor}
 use Rattle.rusty_leveldb.proofs.OneLog.LogFile.{one_contents}

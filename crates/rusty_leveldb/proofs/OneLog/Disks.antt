@@ -1,15 +1,14 @@
 -- A disk whose store is one log: what is read of it, and what is safe on it, is so by the log's file alone.
-use Rattle.std.proofs.Common.{◌≡◌, ◌≤◌, ◌+◌, ◌⊎◌, inl, inr, ⊎_elim, ℕ, List, [], ◌∷◌, ◌++◌, length, false, refl, sym, ◌∙◌, ap, subst, arith, Option, Some, None}
-use Rattle.std.specs.Option.{option_map}
+use Rattle.std.proofs.Common.{◌≡◌, ◌≤◌, ◌+◌, inl, inr, ⊎_elim, ℕ, List, ◌++◌, length, false, sym, ap, subst, arith, Option, Some, None}
 use Rattle.std.specs.Str.{bytes_eq}
-use Rattle.leveldb_base.specs.History.{Entry, History, IsBeginning, joined, count_of}
-use Rattle.leveldb_env.specs.Disk.{File, Files, kept_file, Leaves, LeavesFile}
+use Rattle.leveldb_base.specs.History.{Entry, History, joined, count_of}
+use Rattle.leveldb_env.specs.Disk.{File, Files, kept_file, LeavesFile}
 use Rattle.leveldb_env.specs.FileLaws.{SameBut}
-use Rattle.rusty_leveldb.specs.Contents.{Store, missing, made, Contents, nothing_there, Stays}
+use Rattle.rusty_leveldb.specs.Contents.{Store, missing, made, Contents, Stays}
 use Rattle.rusty_leveldb.specs.OneLog.{log_path, IsRead, IsOneLog}
 use Rattle.rusty_leveldb.specs.Holds.{Carries, IsSafe, Holds, HasStore, KeepsStore}
-use Rattle.rusty_leveldb.proofs.OneLog.LogFile.{Carried, CarriedBeginning, Safe, carried, carries, carried_more, is_safe, safe_of, one_reading}
-use Rattle.rusty_leveldb.proofs.OneLog.Appending.{beginning_longer, beginning_whole}
+use Rattle.rusty_leveldb.proofs.OneLog.LogFile.{Carried, Safe, carried, carries, carried_more, is_safe, safe_of}
+use Rattle.rusty_leveldb.proofs.OneLog.Appending.{beginning_whole}
 use Rattle.rusty_leveldb.proofs.OneLog.Kept.{IsKept, kept_safe}
 
 module _ (store : List ℕ) where

@@ -1,5 +1,5 @@
 -- The one log's file where all its bytes are kept, or where none is; and a file that takes its place.
-use Rattle.std.proofs.Common.{◌≡◌, ◌≢◌, ◌≤◌, ◌<◌, ◌+◌, ◌⊎◌, inl, inr, ⊎_elim, ℕ, List, [], ◌∷◌, ◌++◌, length, true, refl, sym, ◌∙◌, ap, subst, arith, Option, Some, None, append-nil}
+use Rattle.std.proofs.Common.{◌≡◌, ◌≢◌, ℕ, List, [], ◌∷◌, ◌++◌, length, true, refl, sym, ◌∙◌, ap, subst, arith, Option, Some, None, append-nil}
 use Rattle.std.specs.Prelude.{All}
 use Rattle.std.specs.Option.{option_map}
 use Rattle.std.proofs.lemmas.List.{nil_from_length}
@@ -9,11 +9,11 @@ use Rattle.leveldb_env.specs.Disk.{File, bytes_of, kept_file, file_kept, LeavesF
 use Rattle.leveldb_mem.specs.Log.{log_block_size, End, clean, IsLogFile, framed}
 use Rattle.leveldb_mem.specs.LogLaws.{log_laws, framing_reads, records_framed, usual_size}
 use Rattle.leveldb_mem.specs.Batch.{Batch}
-use Rattle.rusty_leveldb.specs.OneLog.{Each, IsRecordOf, IsLogOf, IsRead, contents_of}
+use Rattle.rusty_leveldb.specs.OneLog.{Each, IsRecordOf, contents_of}
 use Rattle.rusty_leveldb.specs.Contents.{nothing_there}
 use Rattle.rusty_leveldb.specs.Holds.{Tells}
-use Rattle.rusty_leveldb.proofs.OneLog.LogFile.{Carried, CarriedBeginning, Honest, Safe, some_is}
-use Rattle.rusty_leveldb.proofs.OneLog.Appending.{Reading, reading, carrying, batch_some}
+use Rattle.rusty_leveldb.proofs.OneLog.LogFile.{Carried, Safe}
+use Rattle.rusty_leveldb.proofs.OneLog.Appending.{reading, carrying, batch_some}
 
 -- ---- the same bytes
 

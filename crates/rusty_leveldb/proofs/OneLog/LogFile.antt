@@ -1,11 +1,10 @@
 -- What the one log's file says: what it carries, and when a crash of it is safe. The rest of the disk has no part in it.
-use Rattle.std.proofs.Common.{◌≡◌, ◌≤◌, ◌<◌, ◌+◌, ◌^◌, inl, ℕ, zero, suc, Bool, true, false, List, [], ◌++◌, length, take, refl, sym, ◌∙◌, ap, subst, arith, Option, Some, None, append-nil, append_assoc}
-use Rattle.std.proofs.lemmas.List.{take_all, take-append-le}
+use Rattle.std.proofs.Common.{◌≡◌, ◌≤◌, inl, ℕ, zero, suc, Bool, true, false, List, [], ◌++◌, refl, sym, ◌∙◌, ap, subst, arith, Option, Some, None, append-nil, append_assoc}
 use Rattle.std.specs.Prelude.{codes, All}
 use Rattle.std.specs.Char.{IsAsciiDigit}
 use Rattle.std.specs.Str.{bytes_eq}
 use Rattle.std.specs.Cmp.Lexicographic.{bytes_decides}
-use Rattle.leveldb_base.specs.History.{Entry, History, IsBeginning, entries_of, greatest}
+use Rattle.leveldb_base.specs.History.{History, IsBeginning}
 use Rattle.leveldb_env.specs.Disk.{File, Files, bytes_of, kept_file, with_file, AreBytes, LeavesFile, Leaves}
 use Rattle.leveldb_env.specs.FileLaws.{at_same, at_other}
 use Rattle.leveldb_mem.specs.Log.{log_block_size, End, IsLogFile}
@@ -16,7 +15,7 @@ use Rattle.leveldb_mem.specs.BatchLaws.{BatchOf-one}
 use Rattle.rusty_leveldb.specs.Contents.{Contents}
 use Rattle.rusty_leveldb.specs.OneLog.{log_path, Each, IsRecordOf, AreInOrder, IsLogOf, contents_of, IsRead, IsOneLog}
 use Rattle.rusty_leveldb.specs.Names.{IsJournal}
-use Rattle.rusty_leveldb.specs.Holds.{IsHonest, Tells, Carries, CarriesBeginning, IsSafe}
+use Rattle.rusty_leveldb.specs.Holds.{IsHonest, Tells, Carries, IsSafe}
 use Rattle.rusty_leveldb.proofs.OneLog.Batches.{each_one}
 
 -- ---- reading

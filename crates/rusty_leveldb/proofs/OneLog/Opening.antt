@@ -1,14 +1,14 @@
 -- A store that is one log as it is opened: a log that is made, and one that takes the place of a log with a bad end.
 use Rattle.std.proofs.Common.{◌≡◌, ◌≤◌, ◌+◌, ◌⊎◌, inl, inr, ⊎_elim, ℕ, List, [], ◌∷◌, ◌++◌, length, refl, sym, ◌∙◌, ap, subst, arith, Option, Some, None, length-append}
 use Rattle.leveldb_base.specs.History.{Entry, History, IsBeginning, joined, count_of}
-use Rattle.leveldb_env.specs.Disk.{File, Files, bytes_of, kept_file, created, emptied, renamed, deleted, with_file, or_empty, LeavesFile}
+use Rattle.leveldb_env.specs.Disk.{File, Files, bytes_of, kept_file, created, renamed, deleted, or_empty}
 use Rattle.leveldb_env.specs.Calls.{EitherSide}
 use Rattle.leveldb_env.specs.FileLaws.{at_same, renamed-there}
 use Rattle.leveldb_mem.specs.Log.{End, IsLogFile}
 use Rattle.rusty_leveldb.specs.Contents.{Contents, nothing_there}
 use Rattle.rusty_leveldb.specs.OneLog.{log_path, IsOneLog}
-use Rattle.rusty_leveldb.specs.Holds.{Tells, Carries, IsSafe, Holds}
-use Rattle.rusty_leveldb.proofs.OneLog.LogFile.{Carried, CarriedBeginning, Safe, carried, carries, is_safe, safe_of}
+use Rattle.rusty_leveldb.specs.Holds.{Carries, IsSafe, Holds}
+use Rattle.rusty_leveldb.proofs.OneLog.LogFile.{Carried, carried, carries, is_safe}
 use Rattle.rusty_leveldb.proofs.OneLog.Appending.{beginning_longer, beginning_whole}
 use Rattle.rusty_leveldb.proofs.OneLog.Kept.{IsKept, kept_safe, created_carries, same_records}
 use Rattle.rusty_leveldb.proofs.OneLog.Disks.{safe_on, kept_holds}

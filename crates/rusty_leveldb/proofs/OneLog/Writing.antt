@@ -1,24 +1,22 @@
 -- A store that is one log as a batch is written: each disk that an append, a sync or a rename passes is safe, and what it holds then.
-use Rattle.std.proofs.Common.{◌≡◌, ◌≢◌, ◌≤◌, ◌<◌, ◌+◌, ◌⊎◌, inl, inr, ⊎_elim, ℕ, List, [], ◌∷◌, ◌++◌, length, take, false, append_assoc, refl, sym, ◌∙◌, ap, subst, arith, Option, Some, None, length-append}
+use Rattle.std.proofs.Common.{◌≡◌, ◌≤◌, ◌+◌, ◌⊎◌, inl, inr, ⊎_elim, ℕ, List, [], ◌∷◌, ◌++◌, length, take, append_assoc, sym, ◌∙◌, ap, subst, arith, Some, None}
 use Rattle.std.specs.Option.{option_map}
-use Rattle.std.specs.Str.{bytes_eq}
-use Rattle.std.proofs.lemmas.List.{take_all}
-use Rattle.leveldb_base.specs.History.{Item, Entry, History, IsBeginning, placed, entries_of, greatest, joined, count_of}
-use Rattle.leveldb_env.specs.Disk.{File, Files, bytes_of, kept_file, file_kept, longer_file, extended, synced, created, emptied, renamed, moved, deleted, with_file, or_empty, AreBytes}
+use Rattle.leveldb_base.specs.History.{Item, Entry, History, placed, entries_of, greatest}
+use Rattle.leveldb_env.specs.Disk.{File, Files, bytes_of, file_kept, longer_file, extended, synced, AreBytes}
 use Rattle.leveldb_env.specs.Calls.{EitherSide, Appending}
-use Rattle.leveldb_env.specs.FileLaws.{at_same, extended-same, synced-same, renamed-there, appended}
-use Rattle.leveldb_mem.specs.Log.{End, clean, IsLogFile, frame_at}
+use Rattle.leveldb_env.specs.FileLaws.{at_same, extended-same, appended}
+use Rattle.leveldb_mem.specs.Log.{clean, IsLogFile, frame_at}
 use Rattle.leveldb_mem.specs.LogLaws.{log_laws}
 use Rattle.leveldb_mem.specs.Batch.{BatchOf}
 use Rattle.rusty_leveldb.specs.Contents.{Contents}
 use Rattle.rusty_leveldb.specs.OneLog.{log_path, IsOneLog, max_sequence}
 use Rattle.rusty_leveldb.specs.Holds.{Carries, IsSafe, Holds}
 use Rattle.rusty_leveldb.proofs.OneLog.Batches.{placed_length}
-use Rattle.rusty_leveldb.proofs.OneLog.LogFile.{Carried, CarriedBeginning, Safe, carried, carries, carried_more, is_safe, safe_of}
+use Rattle.rusty_leveldb.proofs.OneLog.LogFile.{Carried, Safe, carried, carries, carried_more, is_safe, safe_of}
 use Rattle.rusty_leveldb.proofs.OneLog.Appending.{safe_longer, beginning_longer, beginning_whole, batch_some}
 use Rattle.rusty_leveldb.proofs.OneLog.Appending as appending
-use Rattle.rusty_leveldb.proofs.OneLog.Kept.{IsKept, kept_is, kept_safe, kept_carries, created_carries, same_records}
-use Rattle.rusty_leveldb.proofs.OneLog.Disks.{carries_more, safe_more, carries_on, safe_on, holds_on, kept_holds}
+use Rattle.rusty_leveldb.proofs.OneLog.Kept.{IsKept, kept_is, kept_safe, kept_carries}
+use Rattle.rusty_leveldb.proofs.OneLog.Disks.{safe_more, carries_on, safe_on}
 
 module _ (store : List ℕ) where
   abbrev name : List ℕ
