@@ -3,7 +3,7 @@ use Rattle.std.proofs.Common.{◌≡◌, ℕ, true, List, length, Result, Ok, Er
 use Rattle.std.proofs.lemmas.List.{take_all}
 use Rattle.leveldb_base.specs.declared.error.Status.{Status}
 use Rattle.leveldb_env.specs.declared.mem_env.MemEnv.{MemEnv}
-use Rattle.leveldb_env.specs.Calls.{Does, Appending}
+use Rattle.leveldb_env.specs.Calls.{Does, EitherSide, Appending}
 use Rattle.leveldb_env.specs.Disk.{Files, extended}
 use Rattle.leveldb_env.specs.Mem.{Changes, told_of}
 use Rattle.leveldb_env.specs.Times.{Within}
@@ -12,6 +12,10 @@ use Rattle.leveldb_env.specs.Times.{Within}
 pub Appending-whole : (name bytes : List ℕ) (old new : Files) → new ≡ extended name bytes old → Appending name bytes old new
 Appending-whole name bytes old new is =
     inr (length bytes, is ∙ ap (λ (all : List ℕ). extended name all old) (sym (take_all (length bytes) bytes (omega arith))))
+
+pub Appending-from_sides : (name bytes : List ℕ) (old new : Files) → EitherSide (extended name bytes) old new → Appending name bytes old new
+Appending-from_sides name bytes old new (inl same) = inl same
+Appending-from_sides name bytes old new (inr is) = Appending-whole name bytes old new is
 
 no_time : (P : Files → Type 0) (old new : MemEnv) → Within P (told_of old) (told_of new)
 no_time P old new = record {

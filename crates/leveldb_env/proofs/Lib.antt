@@ -3,6 +3,8 @@ pub mod Elements
 pub mod Files
 pub mod Names
 pub mod Folders
+pub mod Moments
+pub mod Recording
 pub mod Locks
 pub mod Appends
 pub mod Picks

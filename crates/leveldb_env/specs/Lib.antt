@@ -13,5 +13,8 @@ pub mod OpenFileLaws
 pub mod WholeFiles
 pub mod Folders
 pub mod Mem
+pub mod Journal
+pub mod Record
 pub mod Picks
 pub mod Filters
+pub mod RecordLaws

@@ -12,7 +12,7 @@ use Rattle.leveldb_env.specs.Times.{Told}
 use Rattle.leveldb_env.specs.Calls.{Does, Appending, NoMemory, IsMissing, IsGone}
 use Rattle.leveldb_env.specs.Bytes.{Draws, Fails}
 use Rattle.leveldb_env.specs.FileLaws.{at_same, extended-nil, extended-append, Appending-first, Appending-second}
-use Rattle.leveldb_env.specs.Runs.{begun, call, Run-trans, Within-trans, Within-mono, cause_after, cause_same, cause_refused}
+use Rattle.leveldb_env.specs.Runs.{begun, call, Run-call, Run-trans, Within-trans, Within-mono, cause_after, cause_same, cause_refused}
 use Rattle.leveldb_env.specs.Sinks.{PutsEach, PutsAll, PutsPart}
 use Rattle.leveldb_env.specs.SinkLaws.{PutsAll-seen, PutsAll-same, PutsPart-seen, PutsPart-same}
 use Rattle.leveldb_env.specs.Sources.{GivesSome, GivesAll, GivesUp}
@@ -125,9 +125,7 @@ module _ {E F : Type 0} (env : Ghosts E F) where
   IsPartlyPut-put : {from mid to : Opened E F} {bytes piece : List ℕ} {status : Status} → IsLonger env from bytes mid → Appends env mid piece (Err status) to
       → IsPartlyPut env from (bytes ++ piece) status to
   IsPartlyPut-put {from} {mid} {to} {bytes} {piece} {status} first put = record {
-    passes = λ tells.
-        let does = appends_join (env.name_of from.file) bytes piece tells (first.does tells) (rw (first.file tells) at put.does) in
-        record { has = does.now tells; time = does.time };
+    passes = λ tells. Run-call tells (appends_join (env.name_of from.file) bytes piece tells (first.does tells) (rw (first.file tells) at put.does));
     locks = λ tells. put.locks tells ∙ first.locks tells;
     file = λ tells. put.file tells ∙ first.file tells;
     cause = cause_after first.counted (cause_same (Err status) (gone_same first) (gone_still first) put.cause);

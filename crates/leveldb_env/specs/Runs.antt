@@ -65,6 +65,11 @@ since_start {P} {first} {now} run only m files from until stood = ⊎_elim
     subst P (sym (only files (subst (λ n. now.stood n files) last stood))) run.has)
     (cases_lt m now.moment)
 
+-- the run of one call
+pub Run-call : {T : Type 0} {tells_disk : Bool} {old new : Told} {change : Files → Files} {Passes : Files → Files → Type 0} {result : Result T Status}
+    → IsTrue tells_disk → Does tells_disk change Passes old new result → Run (Passes old.disk.files) old new
+Run-call tells does = record { has = does.now tells; time = does.time }
+
 -- where less is said of the files
 pub Run-mono : {P Q : Files → Type 0} {first now : Told} → ((files : Files) → P files → Q files) → Run P first now → Run Q first now
 Run-mono so run = record { has = so _ run.has; time = Within-mono so run.time }

@@ -8,7 +8,9 @@ ghost use Rattle.leveldb_env.specs.Picks.{picked, tails_of, IsAllowed, IsRefused
 ghost use Rattle.leveldb_env.specs.Mem.{Changes, CopiesFrom, IsNoSuchFile, IsNoFileOrMemory, IsAlreadyLocked, IsNotLocked, lock_taken, lock_freed, disk_of, time_of, told_of, handle_name, handle_place, fails_below, never_stood, tells_no_moments};
 
 pub mod files;
+mod journal;
 pub mod picks;
+mod record;
 #[cfg(test)]
 mod tests;
 
@@ -16,6 +18,7 @@ use crate::env::Env;
 use files::FileMap;
 use leveldb_base::error::{Result, Status, StatusCode, err};
 pub use picks::Pick;
+pub use record::RecordEnv;
 use std::alloc::{AllocError, Global};
 use std::collections::{BTreeMap, BTreeSet};
 

@@ -5,3 +5,4 @@ pub mod Crashed
 pub mod Crashes
 pub mod Causes
 pub mod Example
+pub mod OneLog

@@ -1,10 +1,11 @@
 //! Any sink and any source at work: what a caller knows of the vector, slice or file behind them.
 ghost use Rattle.std.specs.Prelude.{◌≡◌, ◌≢◌, ◌⊎◌, ◌++◌, false, ℕ, List, All, IfOk, IfErr, OnOk, IsTrue};
 ghost use Rattle.std.specs.Str.{bytes_eq};
-ghost use Rattle.leveldb_env.specs.Disk.{kept_file};
+ghost use Rattle.leveldb_env.specs.Disk.{Files, kept_file};
+ghost use Rattle.leveldb_env.specs.Times.{Since};
 ghost use Rattle.leveldb_env.specs.Runs.{Run};
 ghost use Rattle.leveldb_env.specs.Sinks.{PutsAll, PutsPart};
-ghost use Rattle.leveldb_env.specs.OpenFiles.{opened, IsLonger, IsPartlyPut};
+ghost use Rattle.leveldb_env.specs.OpenFiles.{opened, Syncs, IsLonger, IsPartlyPut};
 
 use crate::env::source::read_to_end;
 use crate::env::whole_files::{read_file, replace_file};
@@ -49,7 +50,9 @@ fn put_pair_in_file<E: Env>(
     put_pair(&mut EnvFile { env, file }, first, second)
 }
 
-fn flush_file<E: Env>(env: &mut E, file: &mut E::File) -> Result<()> {
+fn flush_file<E: Env>(env: &mut E, file: &mut E::File) -> Result<()>
+    ensures { Syncs E.Env (opened env.old file.old) result (opened env.new file.new) }
+{
     EnvFile { env, file }.flush()
 }
 
@@ -58,6 +61,16 @@ fn rest_of(alloc: Global, bytes: &[u8]) -> Result<Vec<u8>>
 {
     let mut source = bytes;
     read_to_end(alloc, &mut source)
+}
+
+/// A crash at any moment leaves the old file or the new one, where the old one was kept.
+fn replace_kept<E: Env>(env: &mut E, temp: &str, name: &str, bytes: &[u8]) -> Result<()>
+    requires { temp.now ≢ name.now }
+    ensures { IsTrue E.tells_disk → (was : List ℕ) → (E.tells env.old).disk.files name.now ≡ Some (kept_file was)
+        → (files left : Files) → Since (E.tells env.new) (E.tells env.old).moment files left
+        → (left name.now ≡ Some (kept_file was)) ⊎ (left name.now ≡ Some (kept_file bytes.now)) }
+{
+    replace_file(env, temp, name, bytes)
 }
 
 /// One file after another gets these bytes, each by way of the same temporary file.
@@ -174,7 +187,7 @@ fn pieces_go_into_a_file_and_come_back(rt: HostRuntime) -> Result<()> {
 fn a_file_is_replaced(rt: HostRuntime) -> Result<()> {
     let mut env = MemEnv::new(rt.alloc());
     for text in [b"MANIFEST-000001\n", b"MANIFEST-000005\n"] {
-        replace_file(&mut env, "db/000001.dbtmp", "db/CURRENT", text)?;
+        replace_kept(&mut env, "db/000001.dbtmp", "db/CURRENT", text)?;
         let mut crashed = env.crashed(
             rt.alloc(),
             &Pick {

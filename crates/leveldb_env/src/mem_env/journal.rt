@@ -1,0 +1,214 @@
+//! Files in memory, with a journal that tells what they were at each moment of a run of calls.
+ghost use Rattle.std.specs.Prelude.{◌≡◌, ◌+◌, ◌*◌, ◌<◌, ◌^◌, true, false, Bool, ℕ, List, OnOk, OnErr, IfOk, Ok, None, vec_len, vec_capacity, nat_le};
+ghost use Rattle.leveldb_env.specs.Disk.{same};
+ghost use Rattle.leveldb_env.specs.Calls.{EitherSide, Still};
+ghost use Rattle.leveldb_env.specs.Journal.{asked, noted, name_in, may_stand, finds, where_done, files_after, are_within};
+ghost use Rattle.leveldb_env.specs.Mem.{files_of};
+
+use super::files;
+use super::files::FileMap;
+use std::alloc::{AllocError, Global};
+use std::collections::BTreeMap;
+
+/// A change of the files that a call asks for, with its names and bytes.
+#[derive(Drop)]
+pub enum Change<N, B> {
+    Emptied(N),
+    Created(N),
+    Extended(N, B),
+    Synced(N),
+    Deleted(N),
+    Renamed(N, N),
+    Cleared(N),
+}
+
+/// A change as a call asks for it.
+pub type Asked<'a> = Change<&'a str, &'a [u8]>;
+
+/// A change as the journal keeps it.
+pub type Noted = Change<String, Vec<u8>>;
+
+/// The name of the file that a change is of.
+pub fn name_in<'a>(change: &Asked<'a>) -> &'a str
+    ensures { result.now ≡ name_in change.now }
+{
+    match change {
+        Change::Emptied(name) => name,
+        Change::Created(name) => name,
+        Change::Extended(name, _bytes) => name,
+        Change::Synced(name) => name,
+        Change::Deleted(name) => name,
+        Change::Renamed(from, _to) => from,
+        Change::Cleared(folder) => folder,
+    }
+}
+
+/// Whether a change may stand though its call is refused or cut off: all but a sync.
+pub fn may_stand(change: &Asked<'_>) -> bool
+    ensures { result ≡ may_stand change.now }
+{
+    !matches!(change, Change::Synced(_))
+}
+
+// Makes a change of the files where it is done. Whether the name that it needs is there is answered.
+fn make_change(
+    files: &mut FileMap,
+    alloc: Global,
+    change: &Asked<'_>,
+    done: bool,
+) -> Result<bool, AllocError>
+    ensures there { IfOk result (λ there. done ≡ true → there ≡ finds change.now (files_of files.old)) }
+    ensures ok { OnOk result (files_of files.new ≡ where_done done (asked change.now) (files_of files.old)) }
+    ensures missing { result ≡ Ok false → files_of files.new ≡ files_of files.old }
+    ensures err { OnErr result (files_of files.new ≡ files_of files.old) }
+{
+    if !done {
+        return Ok(true);
+    }
+    match change {
+        Change::Emptied(name) => files::empty_file(files, alloc, name)?,
+        Change::Created(name) => files::create_file(files, alloc, name)?,
+        Change::Extended(name, bytes) => return files::extend_file(files, name, bytes),
+        Change::Synced(name) => return Ok(files::sync_file(files, name)),
+        Change::Deleted(name) => return Ok(files::delete_file(files, name)),
+        Change::Renamed(from, to) => return files::rename_file(files, alloc, from, to),
+        Change::Cleared(folder) => files::remove_folder(files, folder),
+    }
+    Ok(true)
+}
+
+// The change with names and bytes of its own.
+fn note_change(alloc: Global, change: &Asked<'_>) -> Result<Noted, AllocError>
+    ensures change { IfOk result (λ own. noted own ≡ asked change.now) }
+    ensures may { IfOk result (λ own. may_stand own ≡ may_stand change.now) }
+{
+    Ok(match change {
+        Change::Emptied(name) => Change::Emptied(String::from_str(alloc, name)?),
+        Change::Created(name) => Change::Created(String::from_str(alloc, name)?),
+        Change::Extended(name, bytes) => {
+            Change::Extended(String::from_str(alloc, name)?, bytes.to_vec(alloc)?)
+        }
+        Change::Synced(name) => Change::Synced(String::from_str(alloc, name)?),
+        Change::Deleted(name) => Change::Deleted(String::from_str(alloc, name)?),
+        Change::Renamed(from, to) => {
+            Change::Renamed(String::from_str(alloc, from)?, String::from_str(alloc, to)?)
+        }
+        Change::Cleared(folder) => Change::Cleared(String::from_str(alloc, folder)?),
+    })
+}
+
+// The number of the first call that isn't counted.
+const UNCOUNTED: u64 = 1 << 62;
+
+/// The call of this number, counted from 1, asked for a change, which stands where it is done.
+#[derive(Drop)]
+pub struct Call {
+    number: u64,
+    change: Noted,
+    done: bool,
+}
+
+/// The files at first and now, the calls that asked for a change, and how many calls were made.
+#[derive(Drop)]
+pub struct Journal {
+    first: FileMap,
+    files: FileMap,
+    calls: Vec<Call>,
+    count: u64,
+    ghost few: { count < 2 ^ 62 },
+    ghost numbered: { are_within count calls.items ≡ true },
+    ghost replayed: { files_of files ≡ files_after (files_of first) calls.items count },
+}
+
+impl Journal {
+    ghost use Rattle.leveldb_env.specs.Record.{stood_in, Passed};
+
+    /// No file, and no call made.
+    pub fn new(alloc: Global) -> Journal
+        ensures count { result.count ≡ 0 }
+        ensures files { (name : List ℕ) → files_of result.files name ≡ None }
+    {
+        Journal {
+            first: BTreeMap::new(alloc),
+            files: BTreeMap::new(alloc),
+            calls: Vec::new(alloc),
+            count: 0,
+        }
+    }
+
+    /// The files now.
+    pub fn files(&self) -> &FileMap
+        ensures { result.now ≡ self.now.files }
+    {
+        &self.files
+    }
+
+    /// Twice the calls made so far.
+    pub fn moment(&self) -> u64
+        ensures { result ≡ 2 * self.now.count }
+    {
+        2 * self.count
+    }
+
+    /// Whether no call is counted any more.
+    pub fn is_full(&self) -> bool
+        ensures { result ≡ nat_le (2 ^ 62) (self.now.count + 1) }
+    {
+        self.count + 1 >= UNCOUNTED
+    }
+
+    /// Counts a call that asks for no change.
+    pub fn skip(&mut self)
+        requires { self.old.count + 1 < 2 ^ 62 }
+        ensures counted { self.new.count ≡ self.old.count + 1 }
+        ensures files { self.new.files ≡ self.old.files }
+        ensures time { Passed (Still (files_of self.old.files)) self.old self.new }
+    {
+        self.count += 1;
+    }
+
+    /// Counts a call that asks for a change, and makes it where it is done. Whether the name that it
+    /// needs is there is answered. A refusal changes no file and isn't one of the calls that asked.
+    pub fn make(
+        &mut self,
+        alloc: Global,
+        change: &Asked<'_>,
+        done: bool,
+    ) -> Result<bool, AllocError>
+        requires { self.old.count + 1 < 2 ^ 62 }
+        ensures counted { self.new.count ≡ self.old.count + 1 }
+        ensures there { IfOk result (λ there. done ≡ true → there ≡ finds change.now (files_of self.old.files)) }
+        ensures ok { OnOk result (files_of self.new.files ≡ where_done done (asked change.now) (files_of self.old.files)) }
+        ensures missing { result ≡ Ok false → files_of self.new.files ≡ files_of self.old.files }
+        ensures err { OnErr result (files_of self.new.files ≡ files_of self.old.files) }
+        ensures time { Passed (EitherSide (asked change.now) (files_of self.old.files)) self.old self.new }
+        ensures inside { OnOk result (stood_in self.new (2 * self.old.count + 1) (where_done (may_stand change.now) (asked change.now) (files_of self.old.files))) }
+    {
+        self.count += 1;
+        let noted_change = take_memory(&mut self.calls, alloc, change)?;
+        let there = make_change(&mut self.files, alloc, change, done)?;
+        let call = Call {
+            number: self.count,
+            change: noted_change,
+            done,
+        };
+        self.calls.push(call).unwrap();
+        Ok(there)
+    }
+}
+
+// The change with names and bytes of its own, and room for it among the calls.
+fn take_memory(
+    calls: &mut Vec<Call>,
+    alloc: Global,
+    change: &Asked<'_>,
+) -> Result<Noted, AllocError>
+    ensures change { IfOk result (λ own. noted own ≡ asked change.now) }
+    ensures may { IfOk result (λ own. may_stand own ≡ may_stand change.now) }
+    ensures room { OnOk result (vec_len calls.new < vec_capacity calls.new) }
+    ensures calls { calls.new.items ≡ calls.old.items }
+{
+    let own = note_change(alloc, change)?;
+    calls.reserve(1)?;
+    Ok(own)
+}

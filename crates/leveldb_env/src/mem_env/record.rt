@@ -1,0 +1,406 @@
+//! A disk in memory that tells what its files were at each moment.
+ghost use Rattle.std.specs.Prelude.{◌≡◌, ◌<◌, ◌+◌, ◌-◌, ◌^◌, ◌==◌, ◌&&◌, ◌||◌, min, true, false, Bool, ℕ, List, None, Some, if◌then◌else◌, not, IsErr, IsErrAnd, OnOk};
+
+use crate::env::Env;
+use crate::mem_env::journal::{Asked, Change, Journal, may_stand, name_in};
+use crate::mem_env::{MemHandle, files, missing, put_lock, refuse, take_lock};
+use leveldb_base::error::{Result, Status, StatusCode};
+use std::alloc::{AllocError, Global};
+use std::collections::BTreeSet;
+
+/// A disk in memory that counts its calls and keeps a journal of those that ask for a change. A
+/// call that is chosen before is refused, with its change made or not. Calls past the first 2^62 - 1
+/// are refused, not counted and change nothing.
+#[derive(Drop)]
+pub struct RecordEnv {
+    alloc: Global,
+    journal: Journal,
+    locks: BTreeSet<String>,
+    fails_in: u64,
+    fails_done: bool,
+    failures: u64,
+    ghost counted: { failures < 2 ^ 64 },
+}
+
+impl RecordEnv {
+    ghost use Rattle.std.specs.Prelude.{nat_eq, IfOk, IfErr, OnErr};
+    ghost use Rattle.leveldb_env.specs.Mem.{CopiesFrom, IsNoSuchFile};
+    ghost use Rattle.leveldb_env.specs.Calls.{NoMemory};
+    ghost use Rattle.leveldb_env.specs.Disk.{Files};
+    ghost use Rattle.leveldb_env.specs.Journal.{asked, finds, may_stand, IsNotMade};
+    ghost use Rattle.leveldb_env.specs.Record.{told_of, files_in, locked_in, moment_of, failures_of, fails_in, fails_done, TellsTheSame, is_past, is_chosen, one_more, SameButFailures, Turns, Looks, Asks};
+
+    /// A disk without a name or a lock, at moment 0. No call is chosen to fail.
+    pub fn new(alloc: Global) -> RecordEnv
+        ensures files { (name : List ℕ) → files_in result name ≡ None }
+        ensures locks { (name : List ℕ) → locked_in result name ≡ false }
+        ensures moment { moment_of result ≡ 0 }
+        ensures failures { failures_of result ≡ 0 }
+        ensures fails { fails_in result ≡ 0 }
+    {
+        RecordEnv {
+            alloc,
+            journal: Journal::new(alloc),
+            locks: BTreeSet::new(alloc),
+            fails_in: 0,
+            fails_done: false,
+            failures: 0,
+        }
+    }
+
+    /// Twice the calls made so far.
+    pub fn moment(&self) -> u64
+        ensures { result ≡ moment_of self.now }
+    {
+        self.journal.moment()
+    }
+
+    /// Chooses the nth call from now, 1 being the next, to answer `IOError`; with `done` its change
+    /// stands all the same, but for a sync. 0 chooses none. A new choice replaces an earlier one.
+    pub fn fail(&mut self, nth: u64, done: bool)
+        ensures nth { fails_in self.new ≡ nth }
+        ensures done { fails_done self.new ≡ done }
+        ensures same { TellsTheSame self.old self.new }
+    {
+        self.fails_in = nth;
+        self.fails_done = done;
+    }
+
+    // Copies bytes of the name's file from a place on to the front of the target.
+    fn copy_at(&self, name: &str, place: usize, target: &mut [u8]) -> Result<usize>
+        ensures copied { IfOk result (λ n. CopiesFrom (files_in self.now name.now) place n target.old target.new) }
+        ensures end { IfOk result (λ n. place + n < 2 ^ 64) }
+        ensures refused { IfErr result (IsNoSuchFile (files_in self.now) name.now) }
+        ensures err { OnErr result (target.new ≡ target.old) }
+    {
+        match self.journal.files().get(name) {
+            Some(file) => Ok(file.read_at(place, target)),
+            None => missing(self.alloc, name),
+        }
+    }
+
+    // Whether the next call is the chosen one; none where it isn't counted.
+    fn turn(&mut self) -> Option<bool>
+        ensures turn { result ≡ (if is_past self.old then None else Some (self.old.fails_in == 1)) }
+        ensures next { self.new ≡ record self.old { fails_in = if is_past self.old then self.old.fails_in else self.old.fails_in - 1 } }
+    {
+        if self.journal.is_full() {
+            return None;
+        }
+        let chosen = self.fails_in == 1;
+        self.fails_in = self.fails_in.saturating_sub(1);
+        Some(chosen)
+    }
+
+    // The refusal of the device, counted.
+    #[cold]
+    fn refuse_call<T>(&mut self) -> Result<T>
+        ensures code { IsErrAnd result (λ e. e.code ≡ StatusCode.IOError) }
+        ensures count { failures_of self.new ≡ one_more (failures_of self.old) }
+        ensures same { SameButFailures self.old self.new }
+    {
+        self.failures = self.failures.saturating_add(1);
+        Err(Status::new(self.alloc, StatusCode::IOError, "the device refuses"))
+    }
+
+    // A call that asks for no change.
+    fn look(&mut self) -> Result<()>
+        ensures looks { Looks self.old self.new }
+        ensures files { self.new.journal.files ≡ self.old.journal.files }
+        ensures turns { Turns (λ _. ⊥) self.old self.new result }
+        ensures locks { self.new.locks ≡ self.old.locks }
+    {
+        let Some(chosen) = self.turn() else {
+            return self.refuse_call();
+        };
+        self.journal.skip();
+        if chosen {
+            return self.refuse_call();
+        }
+        Ok(())
+    }
+
+    // A call that finds no memory for what it is to answer.
+    #[cold]
+    fn find_no_memory<T>(&mut self) -> Result<T>
+        ensures asks { (change : Files → Files) (may : Bool) → Asks change may self.old self.new result }
+        ensures turns { Turns NoMemory self.old self.new result }
+        ensures locks { self.new.locks ≡ self.old.locks }
+        ensures err { IsErr result }
+    {
+        if self.turn().is_none() {
+            return self.refuse_call();
+        }
+        self.journal.skip();
+        Err(Status::from(AllocError))
+    }
+
+    // Whether a call's change is made: not where it's the chosen one, but if it's to stand all the same.
+    fn is_made(&self, chosen: bool, change: &Asked<'_>) -> bool
+        ensures { result ≡ (not chosen || (may_stand change.now && self.now.fails_done)) }
+    {
+        !chosen || (may_stand(change) && self.fails_done)
+    }
+
+    // A call that asks for a change.
+    fn ask(&mut self, change: &Asked<'_>) -> Result<()>
+        ensures asks { Asks (asked change.now) (may_stand change.now) self.old self.new result }
+        ensures turns { Turns (IsNotMade change.now (files_in self.old)) self.old self.new result }
+        ensures there { OnOk result (finds change.now (files_in self.old) ≡ true) }
+        ensures locks { self.new.locks ≡ self.old.locks }
+    {
+        let Some(chosen) = self.turn() else {
+            return self.refuse_call();
+        };
+        let done = self.is_made(chosen, change);
+        let there = self.journal.make(self.alloc, change, done)?;
+        if chosen {
+            return self.refuse_call();
+        }
+        if !there {
+            return missing(self.alloc, name_in(change));
+        }
+        Ok(())
+    }
+}
+
+impl Env for RecordEnv {
+    ghost use Rattle.std.specs.Prelude.{◌⊎◌, refl, is_ok, is_some, length, map, string_bytes, Ok, Result, IfOk, IfErr, IsSome, IsSomeAnd, OnErr};
+    ghost use Rattle.leveldb_env.specs.Calls.{NoMemory, Lists};
+    ghost use Rattle.leveldb_env.specs.Disk.{bytes_of, emptied, created, deleted, renamed, extended, synced, without_folder, lock_set};
+    ghost use Rattle.leveldb_env.specs.Mem.{CopiesFrom, IsNoFileOrMemory, IsNoSuchFile, IsAlreadyLocked, IsNotLocked, handle_name, handle_place};
+    ghost use Rattle.leveldb_env.specs.Record.{told_of, files_in, locked_in, moment_of, failures_of, Turns, Looks, Asks};
+    ghost use Rattle.leveldb_env.specs.RecordLaws.{stands_alone, stands_now, fails_below};
+
+    type File = MemHandle;
+
+    ghost tells_disk = { true };
+
+    ghost tells_moments = { true };
+
+    ghost tells = { told_of };
+
+    ghost failures = { failures_of };
+
+    ghost name_of = { handle_name };
+
+    ghost place_of = { handle_place };
+
+    ghost counts = { fails_below };
+
+    ghost only_now = { stands_alone };
+
+    ghost counts_now = { stands_now };
+
+    ghost moments_need_disk = { λ told. refl };
+
+    fn open_sequential_file(&mut self, name: &str) -> Result<MemHandle>
+        ensures looks { Looks self.old self.new }
+        ensures turns { Turns (IsNoFileOrMemory (files_in self.old) name.now) self.old self.new result }
+        ensures locks { locked_in self.new ≡ locked_in self.old }
+        ensures file { IfOk result (λ file. (handle_name file ≡ name.now) × (handle_place file ≡ 0)) }
+        ensures there { OnOk result (IsSome (files_in self.old name.now)) }
+    {
+        self.look()?;
+        if !self.journal.files().contains_key(name) {
+            return missing(self.alloc, name);
+        }
+        Ok(MemHandle::new(self.alloc, name)?)
+    }
+
+    fn open_random_access_file(&mut self, name: &str) -> Result<MemHandle>
+        ensures looks { Looks self.old self.new }
+        ensures turns { Turns (IsNoFileOrMemory (files_in self.old) name.now) self.old self.new result }
+        ensures locks { locked_in self.new ≡ locked_in self.old }
+        ensures file { IfOk result (λ file. (handle_name file ≡ name.now) × (handle_place file ≡ 0)) }
+        ensures there { OnOk result (IsSome (files_in self.old name.now)) }
+    {
+        self.open_sequential_file(name)
+    }
+
+    fn open_writable_file(&mut self, name: &str) -> Result<MemHandle>
+        ensures asks { Asks (emptied name.now) true self.old self.new result }
+        ensures turns { Turns NoMemory self.old self.new result }
+        ensures locks { locked_in self.new ≡ locked_in self.old }
+        ensures file { IfOk result (λ file. handle_name file ≡ name.now) }
+    {
+        let Ok(file) = MemHandle::new(self.alloc, name) else {
+            return self.find_no_memory();
+        };
+        self.ask(&Change::Emptied(name))?;
+        Ok(file)
+    }
+
+    fn open_appendable_file(&mut self, name: &str) -> Result<MemHandle>
+        ensures asks { Asks (created name.now) true self.old self.new result }
+        ensures turns { Turns NoMemory self.old self.new result }
+        ensures locks { locked_in self.new ≡ locked_in self.old }
+        ensures file { IfOk result (λ file. handle_name file ≡ name.now) }
+    {
+        let Ok(file) = MemHandle::new(self.alloc, name) else {
+            return self.find_no_memory();
+        };
+        self.ask(&Change::Created(name))?;
+        Ok(file)
+    }
+
+    fn read(&mut self, file: &mut MemHandle, target: &mut [u8]) -> Result<usize>
+        ensures looks { Looks self.old self.new }
+        ensures turns { Turns (IsNoSuchFile (files_in self.old) (handle_name file.old)) self.old self.new result }
+        ensures locks { locked_in self.new ≡ locked_in self.old }
+        ensures copied { IfOk result (λ n. CopiesFrom (files_in self.old (handle_name file.old)) (handle_place file.old) n target.old target.new) }
+        ensures place { IfOk result (λ n. handle_place file.new ≡ handle_place file.old + n) }
+        ensures name { handle_name file.new ≡ handle_name file.old }
+        ensures err { OnErr result ((target.new ≡ target.old) × (file.new ≡ file.old)) }
+    {
+        self.look()?;
+        let n = self.copy_at(file.name.as_str(), file.place, target)?;
+        file.place += n;
+        Ok(n)
+    }
+
+    fn read_at(&mut self, file: &MemHandle, place: usize, target: &mut [u8]) -> Result<usize>
+        ensures looks { Looks self.old self.new }
+        ensures turns { Turns (IsNoSuchFile (files_in self.old) (handle_name file.now)) self.old self.new result }
+        ensures locks { locked_in self.new ≡ locked_in self.old }
+        ensures copied { IfOk result (λ n. CopiesFrom (files_in self.old (handle_name file.now)) place n target.old target.new) }
+        ensures err { OnErr result (target.new ≡ target.old) }
+    {
+        self.look()?;
+        self.copy_at(file.name.as_str(), place, target)
+    }
+
+    fn append(&mut self, file: &mut MemHandle, bytes: &[u8]) -> Result<()>
+        ensures asks { Asks (extended (handle_name file.old) bytes.now) true self.old self.new result }
+        ensures turns { Turns (IsNoFileOrMemory (files_in self.old) (handle_name file.old)) self.old self.new result }
+        ensures locks { locked_in self.new ≡ locked_in self.old }
+        ensures there { OnOk result (IsSome (files_in self.old (handle_name file.old))) }
+        ensures file { file.new ≡ file.old }
+    {
+        self.ask(&Change::Extended(file.name.as_str(), bytes))
+    }
+
+    fn sync(&mut self, file: &mut MemHandle) -> Result<()>
+        ensures asks { Asks (synced (handle_name file.old)) false self.old self.new result }
+        ensures turns { Turns (IsNoFileOrMemory (files_in self.old) (handle_name file.old)) self.old self.new result }
+        ensures locks { locked_in self.new ≡ locked_in self.old }
+        ensures there { OnOk result (IsSome (files_in self.old (handle_name file.old))) }
+        ensures file { file.new ≡ file.old }
+    {
+        self.ask(&Change::Synced(file.name.as_str()))
+    }
+
+    fn exists(&mut self, name: &str) -> Result<bool>
+        ensures looks { Looks self.old self.new }
+        ensures turns { Turns (λ _. ⊥) self.old self.new result }
+        ensures locks { locked_in self.new ≡ locked_in self.old }
+        ensures answer { IfOk result (λ there. there ≡ is_some (files_in self.old name.now)) }
+    {
+        self.look()?;
+        Ok(self.journal.files().contains_key(name))
+    }
+
+    fn children(&mut self, alloc: Global, folder: &str) -> Result<Vec<String>>
+        ensures looks { Looks self.old self.new }
+        ensures turns { Turns NoMemory self.old self.new result }
+        ensures locks { locked_in self.new ≡ locked_in self.old }
+        ensures answer { IfOk result (λ names. Lists (files_in self.old) folder.now (map string_bytes names.items)) }
+    {
+        self.look()?;
+        Ok(files::list_children(self.journal.files(), alloc, folder)?)
+    }
+
+    fn size_of(&mut self, name: &str) -> Result<usize>
+        ensures looks { Looks self.old self.new }
+        ensures turns { Turns (IsNoSuchFile (files_in self.old) name.now) self.old self.new result }
+        ensures locks { locked_in self.new ≡ locked_in self.old }
+        ensures answer { IfOk result (λ n. IsSomeAnd (files_in self.old name.now) (λ file. n ≡ length (bytes_of file))) }
+    {
+        self.look()?;
+        match self.journal.files().get(name) {
+            Some(found) => Ok(found.size()),
+            None => missing(self.alloc, name),
+        }
+    }
+
+    fn delete(&mut self, name: &str) -> Result<()>
+        ensures asks { Asks (deleted name.now) true self.old self.new result }
+        ensures turns { Turns (IsNoFileOrMemory (files_in self.old) name.now) self.old self.new result }
+        ensures locks { locked_in self.new ≡ locked_in self.old }
+        ensures there { OnOk result (IsSome (files_in self.old name.now)) }
+    {
+        self.ask(&Change::Deleted(name))
+    }
+
+    fn mkdir(&mut self, _folder: &str) -> Result<()>
+        ensures looks { Looks self.old self.new }
+        ensures turns { Turns (λ _. ⊥) self.old self.new result }
+        ensures locks { locked_in self.new ≡ locked_in self.old }
+    {
+        self.look()
+    }
+
+    fn rmdir(&mut self, folder: &str) -> Result<()>
+        ensures asks { Asks (without_folder folder.now) true self.old self.new result }
+        ensures turns { Turns NoMemory self.old self.new result }
+        ensures locks { locked_in self.new ≡ locked_in self.old }
+    {
+        self.ask(&Change::Cleared(folder))
+    }
+
+    fn rename(&mut self, from: &str, to: &str) -> Result<()>
+        ensures asks { Asks (renamed from.now to.now) true self.old self.new result }
+        ensures turns { Turns (IsNoFileOrMemory (files_in self.old) from.now) self.old self.new result }
+        ensures locks { locked_in self.new ≡ locked_in self.old }
+        ensures there { OnOk result (IsSome (files_in self.old from.now)) }
+    {
+        self.ask(&Change::Renamed(from, to))
+    }
+
+    fn lock(&mut self, name: &str) -> Result<()>
+        ensures asks { locked_in self.old name.now ≡ false → Asks (created name.now) true self.old self.new result }
+        ensures looks { locked_in self.old name.now ≡ true → Looks self.old self.new }
+        ensures turns { Turns (λ e. NoMemory e ⊎ IsAlreadyLocked (locked_in self.old) name.now e) self.old self.new result }
+        ensures locks { locked_in self.new ≡ (if is_ok result then lock_set name.now true (locked_in self.old) else locked_in self.old) }
+        ensures was_free { OnOk result (locked_in self.old name.now ≡ false) }
+    {
+        if self.locks.contains(name) {
+            self.look()?;
+            return refuse(self.alloc, StatusCode::LockError, "already locked", name);
+        }
+        if put_lock(&mut self.locks, self.alloc, name).is_err() {
+            return self.find_no_memory();
+        }
+        let answer = self.ask(&Change::Created(name));
+        if answer.is_err() {
+            take_lock(&mut self.locks, name);
+        }
+        answer
+    }
+
+    fn unlock(&mut self, name: &str) -> Result<()>
+        ensures looks { Looks self.old self.new }
+        ensures turns { Turns (IsNotLocked (locked_in self.old) name.now) self.old self.new result }
+        ensures locks { locked_in self.new ≡ (if is_ok result then lock_set name.now false (locked_in self.old) else locked_in self.old) }
+        ensures was_locked { OnOk result (locked_in self.old name.now ≡ true) }
+    {
+        self.look()?;
+        if take_lock(&mut self.locks, name) {
+            return Ok(());
+        }
+        Err(Status {
+            code: StatusCode::LockError,
+            err: None,
+        })
+    }
+
+    fn micros(&mut self) -> Result<u64>
+        ensures looks { Looks self.old self.new }
+        ensures turns { Turns (λ _. ⊥) self.old self.new result }
+        ensures locks { locked_in self.new ≡ locked_in self.old }
+        ensures answer { IfOk result (λ time. time ≡ moment_of self.new) }
+    {
+        self.look()?;
+        Ok(self.moment())
+    }
+}
