@@ -7,4 +7,3 @@ pub mod Disks
 pub mod Writing
 pub mod Opening
 pub mod Crashes
-pub mod InHand

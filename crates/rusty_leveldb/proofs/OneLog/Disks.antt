@@ -69,7 +69,7 @@ module _ (store : List ℕ) where
 
   -- a crash takes no store away
   pub store_stays : (there : Store) (files : Files) (contents : Contents) → reads files contents → contents.store ≡ there → KeepsStore store reads there files
-  store_stays there files contents read is left found leaves found_read = subst (λ s. Stays s found.store) is (by_file (files name) (left name) (leaves name) read found_read)
+  store_stays there files contents read is left found leaves honest found_read = subst (λ s. Stays s found.store) is (by_file (files name) (left name) (leaves name) read found_read)
     where
       by_file : (file crashed : Option File) → LeavesFile file crashed → IsRead file contents → IsRead crashed found → Stays contents.store found.store
       by_file None crashed leaves_it here after = subst (λ s. Stays s found.store) (ap (λ c. c.store) (sym here)) tt
