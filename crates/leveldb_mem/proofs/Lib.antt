@@ -1,3 +1,4 @@
 mod Rows
 mod Batches
 mod Entries
+pub mod WriterSteps

@@ -3,3 +3,4 @@ pub mod Honest
 pub mod LogLaws
 pub mod Batch
 pub mod BatchLaws
+pub mod Writing
