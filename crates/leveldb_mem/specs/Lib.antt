@@ -4,3 +4,8 @@ pub mod LogLaws
 pub mod Batch
 pub mod BatchLaws
 pub mod Writing
+pub mod Reading
+pub mod Comings
+pub mod ReadingLaws
+pub mod ReaderKept
+pub mod ReadingSteps

@@ -4,8 +4,10 @@
 ghost use Rattle.std.specs.Prelude.{◌≡◌};
 ghost use Rattle.leveldb_mem.specs.Log.{record_type};
 
+mod reader;
 mod writer;
 
+pub use reader::{Found, LogReader, ReaderCore, read_records};
 pub use writer::{LogWriter, WriterCore};
 
 /// The size of a block where no other is given.
