@@ -1,3 +1,12 @@
 mod Rows
 mod Batches
 mod Entries
+pub mod WriterSteps
+pub mod Ranges
+pub mod ReaderSteps
+pub mod FragmentSteps
+pub mod NoFragments
+pub mod Takings
+pub mod BehindFiller
+pub mod Leads
+pub mod Joinings

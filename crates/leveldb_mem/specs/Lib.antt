@@ -3,3 +3,9 @@ pub mod Honest
 pub mod LogLaws
 pub mod Batch
 pub mod BatchLaws
+pub mod Writing
+pub mod Reading
+pub mod Comings
+pub mod ReadingLaws
+pub mod ReaderKept
+pub mod ReadingSteps

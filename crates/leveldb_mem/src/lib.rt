@@ -1,5 +1,6 @@
 //! The record log and what lies in memory beside it.
 #![tactic(auto)]
 
+pub mod log;
 pub mod log_laws;
 pub mod write_batch;
