@@ -16,16 +16,16 @@ returns c =
     let odd : (c.args.moment % 2 == 1) ≡ true = odd_from_test c.args.moment c.if-moment-eq0.false in
     elim c.match-call_behind.branch [
       | in-Some+in_ok-make_change w ↦
-      let call = w.in-Some.call.now in
-      let lent = w.lend_change-change.result in
-      let before = files_of c.in_ok-files.files in
-      let found : Some call ≡ call_behind j.calls.items (c.args.moment / 2) = ap option_copied (sym w.in-Some.is) ∙ c.call_behind.ensures in
-      ap files_of w.files-is ∙ w.in_ok-make_change.ensures.ok
-      ∙ ap (λ done. where_done done (asked lent) before) w.stands_inside.ensures
-      ∙ done_both (side || is_append lent) (may_stand lent) (asked lent) before
-      ∙ (λ i. where_done (side || w.lend_change-change.ensures.append i) (where_done (w.lend_change-change.ensures.may i) (w.lend_change-change.ensures.change i)) before)
-      ∙ ap (side_of side (Some call)) c.in_ok-files.ensures
-      ∙ files_at_odd first j.calls.items c.args.moment side (Some call) odd found
+          let call = w.in-Some.call.now in
+          let lent = w.lend_change-change.result in
+          let before = files_of c.in_ok-files.files in
+          let found : Some call ≡ call_behind j.calls.items (c.args.moment / 2) = ap option_copied (sym w.in-Some.is) ∙ c.call_behind.ensures in
+          ap files_of w.files-is ∙ w.in_ok-make_change.ensures.ok
+          ∙ ap (λ done. where_done done (asked lent) before) w.stands_inside.ensures
+          ∙ done_both (side || is_append lent) (may_stand lent) (asked lent) before
+          ∙ (λ i. where_done (side || w.lend_change-change.ensures.append i) (where_done (w.lend_change-change.ensures.may i) (w.lend_change-change.ensures.change i)) before)
+          ∙ ap (side_of side (Some call)) c.in_ok-files.ensures
+          ∙ files_at_odd first j.calls.items c.args.moment side (Some call) odd found
       | in_default w ↦
-      ap files_of w.files-is ∙ c.in_ok-files.ensures ∙ files_at_odd first j.calls.items c.args.moment side None odd (ap option_copied (sym w.in_default.is) ∙ c.call_behind.ensures)
+          ap files_of w.files-is ∙ c.in_ok-files.ensures ∙ files_at_odd first j.calls.items c.args.moment side None odd (ap option_copied (sym w.in_default.is) ∙ c.call_behind.ensures)
     ]
