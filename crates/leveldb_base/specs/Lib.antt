@@ -16,3 +16,5 @@ pub mod View
 pub mod VarintLaws
 pub mod LittleLaws
 pub mod CrcLaws
+pub mod ViewLaws
+pub mod Lent

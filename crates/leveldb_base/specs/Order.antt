@@ -21,3 +21,8 @@ pub record IsSeparator (accepts : List ℕ → Bool) (cmp : List ℕ → List �
 pub record IsSuccessor (accepts : List ℕ → Bool) (cmp : List ℕ → List ℕ → Ordering) (a succ : List ℕ) : Type 0 where
   pub accepted : accepts succ ≡ true
   pub from : cmp succ a ≢ Less
+
+-- an order of all keys that tells different ones apart
+pub record IsExactOrder (cmp : List ℕ → List ℕ → Ordering) : Type 0 where
+  pub preorder : IsPreorderOn (λ key. true) cmp
+  pub exact : (a b : List ℕ) → cmp a b ≡ Equal → a ≡ b

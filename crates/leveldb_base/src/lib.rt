@@ -6,6 +6,7 @@ pub mod blockhandle;
 pub mod cmp;
 pub mod crc;
 pub mod error;
+pub mod history;
 pub mod key_types;
 pub mod types;
 pub mod varint;

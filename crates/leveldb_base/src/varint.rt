@@ -1,10 +1,10 @@
 //! Numbers as varints and texts behind their lengths, as LevelDB's logs and tables write them: seven bits a byte,
 //! the lowest group first, a byte from 128 on where more follow, and only the shortest spelling is read.
-ghost use Rattle.std.specs.Prelude.{◌≡◌, ◌↔◌, ℕ, ◌+◌, ◌^◌, ◌<◌, ◌≤◌, List, ◌++◌, vec_len, vec_capacity, length, take, drop, Option, Some, None, OnOk, OnErr, IfErr, All};
+ghost use Rattle.std.specs.Prelude.{◌≡◌, ◌↔◌, ℕ, ◌+◌, ◌^◌, ◌<◌, ◌≤◌, List, ◌++◌, vec_len, vec_capacity, length, take, drop, Option, Some, OnOk, OnErr, IfErr, All};
 ghost use Rattle.byteorder.specs.Endian.{little_number};
+ghost use Rattle.leveldb_base.specs.Status.{IsOutOfMemory};
 ghost use Rattle.leveldb_base.specs.Varint.{little, IsVarint, varint, sized, ReadsVarint, ReadsSized};
 ghost use Rattle.leveldb_base.specs.Places.{pair_of};
-ghost use Rattle.leveldb_base.specs.declared.error.StatusCode.TheVariants.{OutOfMemory};
 
 use crate::error::Result;
 
@@ -56,7 +56,7 @@ pub fn encode_varint64(dst: &mut [u8], n: u64) -> usize
 pub fn put_varint32(dst: &mut Vec<u8>, n: u32) -> Result<()>
     ensures ok { OnOk result (dst.new.items ≡ dst.old.items ++ varint n) }
     ensures err { OnErr result (dst.new.items ≡ dst.old.items) }
-    ensures memory { IfErr result (λ status. (status.code ≡ OutOfMemory) × (status.err ≡ None)) }
+    ensures memory { IfErr result IsOutOfMemory }
 
     // The capacity never shrinks, and only where room was missing does the call fail.
     ensures capacity { vec_capacity dst.old ≤ vec_capacity dst.new }
@@ -73,7 +73,7 @@ pub fn put_varint32(dst: &mut Vec<u8>, n: u32) -> Result<()>
 pub fn put_varint64(dst: &mut Vec<u8>, n: u64) -> Result<()>
     ensures ok { OnOk result (dst.new.items ≡ dst.old.items ++ varint n) }
     ensures err { OnErr result (dst.new.items ≡ dst.old.items) }
-    ensures memory { IfErr result (λ status. (status.code ≡ OutOfMemory) × (status.err ≡ None)) }
+    ensures memory { IfErr result IsOutOfMemory }
 
     // The capacity never shrinks, and only where room was missing does the call fail.
     ensures capacity { vec_capacity dst.old ≤ vec_capacity dst.new }
@@ -136,7 +136,7 @@ fn get_long_varint(src: &[u8]) -> Option<(u64, usize)>
 pub fn put_length_prefixed_slice(dst: &mut Vec<u8>, text: &[u8]) -> Result<()>
     ensures ok { OnOk result (dst.new.items ≡ dst.old.items ++ sized text.now) }
     ensures err { OnErr result (dst.new.items ≡ dst.old.items) }
-    ensures memory { IfErr result (λ status. (status.code ≡ OutOfMemory) × (status.err ≡ None)) }
+    ensures memory { IfErr result IsOutOfMemory }
 
     // The capacity never shrinks, and only where room was missing does the call fail.
     ensures capacity { vec_capacity dst.old ≤ vec_capacity dst.new }

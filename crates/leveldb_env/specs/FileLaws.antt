@@ -1,12 +1,12 @@
 -- What stands under a name after a change of the files, and what a call leaves alone.
 use Rattle.std.specs.Prelude.{◌≢◌}
-use Rattle.std.proofs.Common.{◌≡◌, ◌⊎◌, inl, inr, ⊎_elim, ℕ, ◌+◌, ◌≤◌, min, Bool, true, false, cond, List, [], ◌++◌, length, take, Option, None, Some, refl, sym, ◌∙◌, ap, append_assoc, arith}
+use Rattle.std.proofs.Common.{◌≡◌, ◌⊎◌, inl, inr, ⊎_elim, ℕ, ◌+◌, ◌≤◌, min, Bool, true, false, cond, List, [], ◌∷◌, ◌++◌, length, take, Option, None, Some, refl, sym, ◌∙◌, ap, append_assoc, arith}
 use Rattle.std.specs.Option.{option_map}
 use Rattle.std.specs.Str.{bytes_eq}
 use Rattle.std.specs.Cmp.Lexicographic.{bytes_decides, nat_list_eq_equiv}
 use Rattle.std.proofs.lemmas.List.{append-nil, take_all, take_min, take-append-le}
 use Rattle.std.proofs.Math.Seq.{take-append_seam, take-append-add}
-use Rattle.leveldb_env.specs.Disk.{File, Files, with_file, kept_file, or_empty, longer_file, file_kept, created, emptied, deleted, moved, renamed, extended, synced}
+use Rattle.leveldb_env.specs.Disk.{File, Files, with_file, kept_file, or_empty, longer_file, file_kept, LeavesFile, created, emptied, deleted, moved, renamed, extended, synced}
 use Rattle.leveldb_env.specs.Calls.{EitherSide, Appending}
 
 -- ---- names
@@ -82,7 +82,8 @@ SameBut-appending name bytes old files (inl is) = either_same name None old file
 SameBut-appending name bytes old files (inr part) = either_same name (option_map (longer_file (take part.0 bytes)) (old name)) old files (inr part.1)
 
 -- a rename leaves all but its two names alone
-pub renamed-other : (from to : List ℕ) (old files : Files) → EitherSide (renamed from to) old files → (other : List ℕ) → bytes_eq from other ≡ false → bytes_eq to other ≡ false → files other ≡ old other
+pub renamed-other : (from to : List ℕ) (old files : Files) → EitherSide (renamed from to) old files → (other : List ℕ) → bytes_eq from other ≡ false
+    → bytes_eq to other ≡ false → files other ≡ old other
 renamed-other from to old files passes other apart apart_to = ⊎_elim
     (λ is. ap (λ (f : Files). f other) is)
     (λ is. ap (λ (f : Files). f other) is ∙ moved_other (old from)) passes
@@ -109,7 +110,8 @@ longer_none : (file : Option File) → option_map (longer_file []) file ≡ file
 longer_none None = refl
 longer_none (Some file) = ap (λ since. Some (record file { since = since })) (append-nil file.since)
 
-longer_twice : (bytes others : List ℕ) (file : Option File) → option_map (longer_file others) (option_map (longer_file bytes) file) ≡ option_map (longer_file (bytes ++ others)) file
+longer_twice : (bytes others : List ℕ) (file : Option File)
+    → option_map (longer_file others) (option_map (longer_file bytes) file) ≡ option_map (longer_file (bytes ++ others)) file
 longer_twice bytes others None = refl
 longer_twice bytes others (Some file) = ap (λ since. Some (record file { since = since })) (append_assoc file.since bytes others)
 
@@ -138,7 +140,18 @@ Appending-first name bytes others old files (inr part) =
     inr (count, part.1 ∙ ap (λ b. extended name b old) (sym (take-append-le count bytes others fits ∙ take_min part.0 bytes)))
 
 -- what the second of two appends passes
-pub Appending-second : (name bytes others : List ℕ) (old files : Files) → Appending name others (extended name bytes old) files → Appending name (bytes ++ others) old files
+pub Appending-second : (name bytes others : List ℕ) (old files : Files) → Appending name others (extended name bytes old) files
+    → Appending name (bytes ++ others) old files
 Appending-second name bytes others old files (inl is) = inr (length bytes, is ∙ ap (λ b. extended name b old) (sym (take-append_seam bytes others)))
 Appending-second name bytes others old files (inr part) =
     inr (length bytes + part.0, part.1 ∙ extended-append name bytes (take part.0 others) old ∙ ap (λ b. extended name b old) (sym (take-append-add bytes others part.0)))
+
+-- ---- what a crash leaves of it
+
+no_longer : (tail : List ℕ) → length tail ≤ 0 → tail ≡ []
+no_longer [] short = refl
+no_longer (byte ∷ tail) short = absurd (omega arith)
+
+-- a file whose bytes are all kept stays as it is
+pub LeavesFile-kept : (bytes : List ℕ) (left : Option File) → LeavesFile (Some (kept_file bytes)) left → left ≡ Some (kept_file bytes)
+LeavesFile-kept bytes left leaves = leaves.3 ∙ ap (λ tail. Some (kept_file (bytes ++ tail))) (no_longer leaves.0 leaves.2) ∙ ap (λ all. Some (kept_file all)) (append-nil bytes)

@@ -16,4 +16,5 @@ pub mod Mem
 pub mod Journal
 pub mod Record
 pub mod Picks
+pub mod Filters
 pub mod RecordLaws

@@ -12,14 +12,12 @@ use Rattle.leveldb_env.specs.Times.{Told}
 use Rattle.leveldb_env.specs.Calls.{Does, Appending, NoMemory, IsMissing, IsGone}
 use Rattle.leveldb_env.specs.Bytes.{Draws, Fails}
 use Rattle.leveldb_env.specs.FileLaws.{at_same, extended-nil, extended-append, Appending-first, Appending-second}
-use Rattle.leveldb_env.specs.Runs.{begun, call, Run-trans, Within-trans, Within-mono, cause_after, cause_same}
-use Rattle.leveldb_env.specs.Sinks.{PutsEach, PutsAll, BreaksOff}
-use Rattle.leveldb_env.specs.SinkLaws.{PutsAll-seen, PutsAll-same, BreaksOff-seen, BreaksOff-same}
+use Rattle.leveldb_env.specs.Runs.{begun, call, Run-call, Run-trans, Within-trans, Within-mono, cause_after, cause_same, cause_refused}
+use Rattle.leveldb_env.specs.Sinks.{PutsEach, PutsAll, PutsPart}
+use Rattle.leveldb_env.specs.SinkLaws.{PutsAll-seen, PutsAll-same, PutsPart-seen, PutsPart-same}
 use Rattle.leveldb_env.specs.Sources.{GivesSome, GivesAll, GivesUp}
 use Rattle.leveldb_env.specs.SourceLaws.{GivesSome-seen, GivesSome-same, GivesAll-seen, GivesAll-same, GivesUp-seen, GivesUp-same}
-use Rattle.leveldb_env.specs.OpenFiles.{Opened, opened, ChangesOpened, ComesNextAt, Appends, AppendsLent, IsLonger, IsBrokenOff, Reads, ReadsLent, IsFurther, IsReadOut, IsGivenUp, refused}
-
--- ---- helpers
+use Rattle.leveldb_env.specs.OpenFiles.{Opened, opened, ChangesOpened, ComesNextAt, Appends, AppendsLent, IsLonger, IsPartlyPut, Reads, ReadsLent, IsFurther, IsReadOut, IsGivenUp, standing}
 
 -- one append, and then another of the same file
 appends_join : {T U : Type 0} {x : T} {tells_disk : Bool} {old mid new : Told} {result : Result U Status} (name bytes others : List ℕ) → IsTrue tells_disk
@@ -60,7 +58,8 @@ next_append (Some file) place bytes others first second =
     let further : place + length bytes + length others ≡ place + length (bytes ++ others) = omega (arith, length-append bytes others) in
     first ∙ ap (λ b. bytes ++ b) (second ∙ ap (λ n. others ++ drop n all) further) ∙ sym (append_assoc bytes others (drop (place + length (bytes ++ others)) all))
 
-next_all : (at : Option File) (place room : ℕ) (bytes : List ℕ) → 0 < room → Next at place bytes → ComesNextAt at (place + length bytes) room [] → IfSome at (λ file. bytes ≡ drop place (bytes_of file))
+next_all : (at : Option File) (place room : ℕ) (bytes : List ℕ) → 0 < room → Next at place bytes → ComesNextAt at (place + length bytes) room []
+    → IfSome at (λ file. bytes ≡ drop place (bytes_of file))
 next_all None place room bytes some next read = tt
 next_all (Some file) place room bytes some next read =
     let ended : drop (place + length bytes) (bytes_of file) ≡ [] = ⊎_elim (λ none. absurd (omega arith)) (λ none. none) (read.none refl) in
@@ -86,14 +85,16 @@ module _ {E F : Type 0} (env : Ghosts E F) where
   IsLonger-put put = record { does = λ tells. put.does; locks = put.locks; file = put.file; counted = put.cause.ok }
 
   -- what stands under the file's name then
-  under_name : {from to : Opened E F} {bytes : List ℕ} → IsLonger env from bytes to → IsTrue env.tells_disk → (env.tells to.env).disk.files (env.name_of to.file) ≡ option_map (longer_file bytes) ((env.tells from.env).disk.files (env.name_of from.file))
+  under_name : {from to : Opened E F} {bytes : List ℕ} → IsLonger env from bytes to → IsTrue env.tells_disk
+      → standing env to ≡ option_map (longer_file bytes) (standing env from)
   under_name {from} {to} {bytes} longer tells =
       let name = env.name_of from.file in
       let files = (env.tells from.env).disk.files in
       ap (env.tells to.env).disk.files (longer.file tells) ∙ ap (λ (now : Files). now name) ((longer.does tells).ok tells) ∙ at_same name (option_map (longer_file bytes) (files name)) files
 
   -- puts, and then others
-  pub IsLonger-trans : {from mid to : Opened E F} {bytes others : List ℕ} → IsLonger env from bytes mid → IsLonger env mid others to → IsLonger env from (bytes ++ others) to
+  pub IsLonger-trans : {from mid to : Opened E F} {bytes others : List ℕ} → IsLonger env from bytes mid → IsLonger env mid others to
+      → IsLonger env from (bytes ++ others) to
   IsLonger-trans {from} {mid} {to} {bytes} {others} first second = record {
     does = λ tells. appends_join (env.name_of from.file) bytes others tells (first.does tells) (rw (first.file tells) at (second.does tells));
     locks = λ tells. second.locks tells ∙ first.locks tells;
@@ -110,28 +111,30 @@ module _ {E F : Type 0} (env : Ghosts E F) where
   IsLonger-all {from} {to} all = subst (λ b. IsLonger env from b to) (sym all.joined) (longer_each from all.pieces to all.put)
 
   -- the file's name is gone as it was before
-  gone_same : {from to : Opened E F} {bytes : List ℕ} → IsLonger env from bytes to → (e : Status) → IsGone env.tells_disk (env.name_of to.file) (env.tells to.env) e → IsGone env.tells_disk (env.name_of from.file) (env.tells from.env) e
+  gone_same : {from to : Opened E F} {bytes : List ℕ} → IsLonger env from bytes to → (e : Status) → IsGone env.tells_disk (env.name_of to.file) (env.tells to.env) e
+      → IsGone env.tells_disk (env.name_of from.file) (env.tells from.env) e
   gone_same {from} {to} {bytes} longer e gone = ⊎_elim (λ memory. inl memory)
-      (λ none. inr (none.0, none.1, gone_before ((env.tells from.env).disk.files (env.name_of from.file)) bytes (sym (under_name longer none.1) ∙ none.2))) gone
+      (λ none. inr (none.0, none.1, gone_before (standing env from) bytes (sym (under_name longer none.1) ∙ none.2))) gone
 
-  gone_still : {from to : Opened E F} {bytes : List ℕ} → IsLonger env from bytes to → (e : Status) → IsGone env.tells_disk (env.name_of from.file) (env.tells from.env) e → IsGone env.tells_disk (env.name_of to.file) (env.tells to.env) e
+  gone_still : {from to : Opened E F} {bytes : List ℕ} → IsLonger env from bytes to → (e : Status)
+      → IsGone env.tells_disk (env.name_of from.file) (env.tells from.env) e → IsGone env.tells_disk (env.name_of to.file) (env.tells to.env) e
   gone_still {from} {to} {bytes} longer e gone = ⊎_elim (λ memory. inl memory)
       (λ none. inr (none.0, none.1, under_name longer none.1 ∙ ap (option_map (longer_file bytes)) none.2)) gone
 
   -- a refused put after others
-  IsBrokenOff-put : {from mid to : Opened E F} {bytes piece : List ℕ} {status : Status} → IsLonger env from bytes mid → Appends env mid piece (Err status) to → IsBrokenOff env from (bytes ++ piece) status to
-  IsBrokenOff-put {from} {mid} {to} {bytes} {piece} {status} first put = record {
-    passes = λ tells.
-        let does = appends_join (env.name_of from.file) bytes piece tells (first.does tells) (rw (first.file tells) at put.does) in
-        record { has = does.now tells; time = does.time };
+  IsPartlyPut-put : {from mid to : Opened E F} {bytes piece : List ℕ} {status : Status} → IsLonger env from bytes mid → Appends env mid piece (Err status) to
+      → IsPartlyPut env from (bytes ++ piece) status to
+  IsPartlyPut-put {from} {mid} {to} {bytes} {piece} {status} first put = record {
+    passes = λ tells. Run-call tells (appends_join (env.name_of from.file) bytes piece tells (first.does tells) (rw (first.file tells) at put.does));
     locks = λ tells. put.locks tells ∙ first.locks tells;
     file = λ tells. put.file tells ∙ first.file tells;
     cause = cause_after first.counted (cause_same (Err status) (gone_same first) (gone_still first) put.cause);
   }
 
   -- puts that break off
-  pub IsBrokenOff-any : {from to : Opened E F} {bytes : List ℕ} {status : Status} → BreaksOff (Appends env) from bytes status to → IsBrokenOff env from bytes status to
-  IsBrokenOff-any {from} {to} {bytes} {status} broken = subst (λ b. IsBrokenOff env from b status to) (sym broken.joined) (IsBrokenOff-put (IsLonger-all broken.put_before) broken.failed)
+  pub IsPartlyPut-any : {from to : Opened E F} {bytes : List ℕ} {status : Status} → PutsPart (Appends env) from bytes status to
+      → IsPartlyPut env from bytes status to
+  IsPartlyPut-any {from} {to} {bytes} {status} broken = subst (λ b. IsPartlyPut env from b status to) (sym broken.joined) (IsPartlyPut-put (IsLonger-all broken.put_before) broken.failed)
 
   -- ---- reading
 
@@ -140,7 +143,7 @@ module _ {E F : Type 0} (env : Ghosts E F) where
   IsFurther-none from = record {
     still = λ tells. begun (env.tells from.env) refl;
     locks = λ tells. refl;
-    next = λ tells. next_none ((env.tells from.env).disk.files (env.name_of from.file)) (env.place_of from.file);
+    next = λ tells. next_none (standing env from) (env.place_of from.file);
     place = λ tells. omega arith;
     file = λ tells. refl;
     counted = refl;
@@ -151,22 +154,23 @@ module _ {E F : Type 0} (env : Ghosts E F) where
   IsFurther-read {from} {to} {room} {piece} read = record {
     still = λ tells. call tells (begun (env.tells from.env) refl) (λ files still. still) read.does;
     locks = read.locks;
-    next = λ tells. next_read ((env.tells from.env).disk.files (env.name_of from.file)) (env.place_of from.file) room piece (read.bytes tells);
+    next = λ tells. next_read (standing env from) (env.place_of from.file) room piece (read.bytes tells);
     place = read.place;
     file = read.file;
     counted = read.cause.ok;
   }
 
   -- what stands under the file's name, further on
-  same_file : {from to : Opened E F} {bytes : List ℕ} → IsTrue env.tells_disk → IsFurther env from bytes to → (env.tells to.env).disk.files (env.name_of to.file) ≡ (env.tells from.env).disk.files (env.name_of from.file)
+  same_file : {from to : Opened E F} {bytes : List ℕ} → IsTrue env.tells_disk → IsFurther env from bytes to → standing env to ≡ standing env from
   same_file {from} {to} tells further = ap (env.tells to.env).disk.files (further.file tells) ∙ ap (λ files. files (env.name_of from.file)) ((further.still tells).has)
 
   -- further and further
-  pub IsFurther-trans : {from mid to : Opened E F} {bytes others : List ℕ} → IsFurther env from bytes mid → IsFurther env mid others to → IsFurther env from (bytes ++ others) to
+  pub IsFurther-trans : {from mid to : Opened E F} {bytes others : List ℕ} → IsFurther env from bytes mid → IsFurther env mid others to
+      → IsFurther env from (bytes ++ others) to
   IsFurther-trans {from} {mid} {to} {bytes} {others} first second = record {
     still = λ tells. Run-trans (first.still tells) (λ files still. still ∙ (first.still tells).has) (second.still tells);
     locks = λ tells. second.locks tells ∙ first.locks tells;
-    next = λ tells. next_append ((env.tells from.env).disk.files (env.name_of from.file)) (env.place_of from.file) bytes others (first.next tells) (rw (same_file tells first, first.place tells) at (second.next tells));
+    next = λ tells. next_append (standing env from) (env.place_of from.file) bytes others (first.next tells) (rw (same_file tells first, first.place tells) at (second.next tells));
     place = λ tells. omega (arith, first.place tells, second.place tells, length-append bytes others);
     file = λ tells. second.file tells ∙ first.file tells;
     counted = second.counted ∙ first.counted;
@@ -187,23 +191,26 @@ module _ {E F : Type 0} (env : Ghosts E F) where
       let last = all.at_end.2 in
       record {
         further = subst (λ b. IsFurther env from b to) (append-nil bytes) (IsFurther-trans first (IsFurther-read last));
-        all = λ tells. next_all ((env.tells from.env).disk.files (env.name_of from.file)) (env.place_of from.file) all.at_end.0 bytes all.at_end.1 (first.next tells) (rw (same_file tells first, first.place tells) at (last.bytes tells));
+        all = λ tells. next_all (standing env from) (env.place_of from.file) all.at_end.0 bytes all.at_end.1 (first.next tells) (rw (same_file tells first, first.place tells) at (last.bytes tells));
       }
 
   -- the name is missing as it was before
-  same_missing : {from to : Opened E F} {bytes : List ℕ} → IsFurther env from bytes to → (e : Status) → IsMissing env.tells_disk (env.name_of to.file) (env.tells to.env) e → IsMissing env.tells_disk (env.name_of from.file) (env.tells from.env) e
+  same_missing : {from to : Opened E F} {bytes : List ℕ} → IsFurther env from bytes to → (e : Status)
+      → IsMissing env.tells_disk (env.name_of to.file) (env.tells to.env) e → IsMissing env.tells_disk (env.name_of from.file) (env.tells from.env) e
   same_missing further e missing = ⊎_elim (λ memory. inl memory) (λ none. inr (none.0, λ tells. sym (same_file tells further) ∙ none.1 tells)) missing
 
-  missing_still : {from to : Opened E F} {bytes : List ℕ} → IsFurther env from bytes to → (e : Status) → IsMissing env.tells_disk (env.name_of from.file) (env.tells from.env) e → IsMissing env.tells_disk (env.name_of to.file) (env.tells to.env) e
+  missing_still : {from to : Opened E F} {bytes : List ℕ} → IsFurther env from bytes to → (e : Status)
+      → IsMissing env.tells_disk (env.name_of from.file) (env.tells from.env) e → IsMissing env.tells_disk (env.name_of to.file) (env.tells to.env) e
   missing_still further e missing = ⊎_elim (λ memory. inl memory) (λ none. inr (none.0, λ tells. same_file tells further ∙ none.1 tells)) missing
 
   -- a refused read
-  IsGivenUp-read : {from mid to : Opened E F} {bytes : List ℕ} {room : ℕ} {status : Status} → IsFurther env from bytes mid → Reads env mid room (Err status) to → IsGivenUp env from status to
+  IsGivenUp-read : {from mid to : Opened E F} {bytes : List ℕ} {room : ℕ} {status : Status} → IsFurther env from bytes mid → Reads env mid room (Err status) to
+      → IsGivenUp env from status to
   IsGivenUp-read {from} {mid} {to} {bytes} {room} {status} first read = record {
     still = λ tells. call tells (first.still tells) (λ files still. still ∙ (first.still tells).has) read.does;
     locks = λ tells. read.locks tells ∙ first.locks tells;
     file = λ tells. read.file tells ∙ first.file tells;
-    cause = cause_after first.counted (cause_same (refused status) (same_missing first) (missing_still first) read.cause);
+    cause = cause_after first.counted (cause_refused (cause_same (Err status) (same_missing first) (missing_still first) read.cause));
   }
 
   -- want of memory
@@ -228,7 +235,8 @@ module _ {E F : Type 0} (env : Ghosts E F) where
   seen lent = opened lent.env.now lent.file.now
 
   -- all that is put stands behind the file's bytes
-  pub IsLonger-lent : {from to : EnvFile E F} {bytes : List ℕ} → PutsAll (AppendsLent env) from bytes to → ChangesOpened (λ old new. IsLonger env old bytes new) from to
+  pub IsLonger-lent : {from to : EnvFile E F} {bytes : List ℕ} → PutsAll (AppendsLent env) from bytes to
+      → ChangesOpened (λ old new. IsLonger env old bytes new) from to
   IsLonger-lent all = record {
     changes = IsLonger-all (PutsAll-seen (AppendsLent env) (Appends env) seen (λ old bytes result new put. put.changes) all);
     same_env = PutsAll-same (AppendsLent env) (λ lent. lent.env.ghost_name) (λ old bytes result new put. put.same_env) all;
@@ -236,15 +244,17 @@ module _ {E F : Type 0} (env : Ghosts E F) where
   }
 
   -- puts that break off
-  pub IsBrokenOff-lent : {from to : EnvFile E F} {bytes : List ℕ} {status : Status} → BreaksOff (AppendsLent env) from bytes status to → ChangesOpened (λ old new. IsBrokenOff env old bytes status new) from to
-  IsBrokenOff-lent broken = record {
-    changes = IsBrokenOff-any (BreaksOff-seen (AppendsLent env) (Appends env) seen (λ old bytes result new put. put.changes) broken);
-    same_env = BreaksOff-same (AppendsLent env) (λ lent. lent.env.ghost_name) (λ old bytes result new put. put.same_env) broken;
-    same_file = BreaksOff-same (AppendsLent env) (λ lent. lent.file.ghost_name) (λ old bytes result new put. put.same_file) broken;
+  pub IsPartlyPut-lent : {from to : EnvFile E F} {bytes : List ℕ} {status : Status} → PutsPart (AppendsLent env) from bytes status to
+      → ChangesOpened (λ old new. IsPartlyPut env old bytes status new) from to
+  IsPartlyPut-lent broken = record {
+    changes = IsPartlyPut-any (PutsPart-seen (AppendsLent env) (Appends env) seen (λ old bytes result new put. put.changes) broken);
+    same_env = PutsPart-same (AppendsLent env) (λ lent. lent.env.ghost_name) (λ old bytes result new put. put.same_env) broken;
+    same_file = PutsPart-same (AppendsLent env) (λ lent. lent.file.ghost_name) (λ old bytes result new put. put.same_file) broken;
   }
 
   -- reads go on in the file
-  pub IsFurther-lent : {from to : EnvFile E F} {bytes : List ℕ} → GivesSome (ReadsLent env) from bytes to → ChangesOpened (λ old new. IsFurther env old bytes new) from to
+  pub IsFurther-lent : {from to : EnvFile E F} {bytes : List ℕ} → GivesSome (ReadsLent env) from bytes to
+      → ChangesOpened (λ old new. IsFurther env old bytes new) from to
   IsFurther-lent some = record {
     changes = IsFurther-given (GivesSome-seen (ReadsLent env) (Reads env) seen (λ old room result new read. read.changes) some);
     same_env = GivesSome-same (ReadsLent env) (λ lent. lent.env.ghost_name) (λ old room result new read. read.same_env) some;
@@ -252,7 +262,8 @@ module _ {E F : Type 0} (env : Ghosts E F) where
   }
 
   -- at its end the file is read out
-  pub IsReadOut-lent : {from to : EnvFile E F} {bytes : List ℕ} → GivesAll (ReadsLent env) from bytes to → ChangesOpened (λ old new. IsReadOut env old bytes new) from to
+  pub IsReadOut-lent : {from to : EnvFile E F} {bytes : List ℕ} → GivesAll (ReadsLent env) from bytes to
+      → ChangesOpened (λ old new. IsReadOut env old bytes new) from to
   IsReadOut-lent all = record {
     changes = IsReadOut-given (GivesAll-seen (ReadsLent env) (Reads env) seen (λ old room result new read. read.changes) all);
     same_env = GivesAll-same (ReadsLent env) (λ lent. lent.env.ghost_name) (λ old room result new read. read.same_env) all;
@@ -260,7 +271,8 @@ module _ {E F : Type 0} (env : Ghosts E F) where
   }
 
   -- a refused read gives the reading up
-  pub IsGivenUp-lent : {from to : EnvFile E F} {status : Status} → GivesUp (ReadsLent env) from status to → ChangesOpened (λ old new. IsGivenUp env old status new) from to
+  pub IsGivenUp-lent : {from to : EnvFile E F} {status : Status} → GivesUp (ReadsLent env) from status to
+      → ChangesOpened (λ old new. IsGivenUp env old status new) from to
   IsGivenUp-lent up = record {
     changes = IsGivenUp-given (GivesUp-seen (ReadsLent env) (Reads env) seen (λ old room result new read. read.changes) up);
     same_env = GivesUp-same (ReadsLent env) (λ lent. lent.env.ghost_name) (λ old room result new read. read.same_env) up;

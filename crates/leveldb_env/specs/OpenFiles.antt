@@ -32,13 +32,20 @@ abbrev pub ComesNextAt : Option File → ℕ → ℕ → List ℕ → Type 0
 ComesNextAt None place room piece = ⊥
 ComesNextAt (Some file) place room piece = ComesNext place room piece (bytes_of file)
 
--- a refused read
-abbrev pub refused : Status → Result (List ℕ) Status
+-- what a call answers that was done, and one that was refused
+abbrev pub done : Result (Unit {0}) Status
+done = Ok tt
+
+abbrev pub refused : Status → Result (Unit {0}) Status
 refused status = Err status
 
 -- ---- what a call does
 
 module _ {E F : Type 0} (env : Ghosts E F) where
+  -- what stands under the file's name
+  abbrev pub standing : Opened E F → Option File
+  standing state = (env.tells state.env).disk.files (env.name_of state.file)
+
   -- a put is one append
   pub record Appends (old : Opened E F) (bytes : List ℕ) (result : Result (Unit {0}) Status) (new : Opened E F) : Type 0 where
     pub does : Does env.tells_disk (extended (env.name_of old.file) bytes) (Appending (env.name_of old.file) bytes) (env.tells old.env) (env.tells new.env) result
@@ -64,23 +71,23 @@ module _ {E F : Type 0} (env : Ghosts E F) where
 
   -- these bytes were put behind the file's
   pub record IsLonger (old : Opened E F) (bytes : List ℕ) (new : Opened E F) : Type 0 where
-    pub does : IsTrue env.tells_disk → Does {T = Unit {0}} env.tells_disk (extended (env.name_of old.file) bytes) (Appending (env.name_of old.file) bytes) (env.tells old.env) (env.tells new.env) (Ok tt)
+    pub does : IsTrue env.tells_disk → Does env.tells_disk (extended (env.name_of old.file) bytes) (Appending (env.name_of old.file) bytes) (env.tells old.env) (env.tells new.env) done
     pub locks : SameLocks env.tells_disk (env.tells old.env) (env.tells new.env)
     pub file : IsTrue env.tells_disk → env.name_of new.file ≡ env.name_of old.file
     pub counted : env.failures new.env ≡ env.failures old.env
 
   -- a put of these bytes was broken off for this status: any beginning of them may stand
-  pub record IsBrokenOff (old : Opened E F) (bytes : List ℕ) (status : Status) (new : Opened E F) : Type 0 where
+  pub record IsPartlyPut (old : Opened E F) (bytes : List ℕ) (status : Status) (new : Opened E F) : Type 0 where
     pub passes : IsTrue env.tells_disk → Run (Appending (env.name_of old.file) bytes (env.tells old.env).disk.files) (env.tells old.env) (env.tells new.env)
     pub locks : SameLocks env.tells_disk (env.tells old.env) (env.tells new.env)
     pub file : IsTrue env.tells_disk → env.name_of new.file ≡ env.name_of old.file
-    pub cause : HasCause {T = Unit {0}} (IsGone env.tells_disk (env.name_of old.file) (env.tells old.env)) (env.failures old.env) (env.failures new.env) (Err status)
+    pub cause : HasCause (IsGone env.tells_disk (env.name_of old.file) (env.tells old.env)) (env.failures old.env) (env.failures new.env) (refused status)
 
   -- a read is one read of the file
   pub record Reads (old : Opened E F) (room : ℕ) (result : Result (List ℕ) Status) (new : Opened E F) : Type 0 where
     pub does : Does env.tells_disk same Still (env.tells old.env) (env.tells new.env) result
     pub locks : SameLocks env.tells_disk (env.tells old.env) (env.tells new.env)
-    pub bytes : IfOk result (λ piece. IsTrue env.tells_disk → ComesNextAt ((env.tells old.env).disk.files (env.name_of old.file)) (env.place_of old.file) room piece)
+    pub bytes : IfOk result (λ piece. IsTrue env.tells_disk → ComesNextAt (standing old) (env.place_of old.file) room piece)
     pub place : IfOk result (λ piece. IsTrue env.tells_disk → env.place_of new.file ≡ env.place_of old.file + length piece)
     pub file : IsTrue env.tells_disk → env.name_of new.file ≡ env.name_of old.file
     pub cause : HasCause (IsMissing env.tells_disk (env.name_of old.file) (env.tells old.env)) (env.failures old.env) (env.failures new.env) result
@@ -93,7 +100,7 @@ module _ {E F : Type 0} (env : Ghosts E F) where
   pub record IsFurther (old : Opened E F) (bytes : List ℕ) (new : Opened E F) : Type 0 where
     pub still : IsTrue env.tells_disk → Run (Still (env.tells old.env).disk.files) (env.tells old.env) (env.tells new.env)
     pub locks : SameLocks env.tells_disk (env.tells old.env) (env.tells new.env)
-    pub next : IsTrue env.tells_disk → IfSome ((env.tells old.env).disk.files (env.name_of old.file)) (λ file. drop (env.place_of old.file) (bytes_of file) ≡ bytes ++ drop (env.place_of old.file + length bytes) (bytes_of file))
+    pub next : IsTrue env.tells_disk → IfSome (standing old) (λ file. drop (env.place_of old.file) (bytes_of file) ≡ bytes ++ drop (env.place_of old.file + length bytes) (bytes_of file))
     pub place : IsTrue env.tells_disk → env.place_of new.file ≡ env.place_of old.file + length bytes
     pub file : IsTrue env.tells_disk → env.name_of new.file ≡ env.name_of old.file
     pub counted : env.failures new.env ≡ env.failures old.env
@@ -101,7 +108,7 @@ module _ {E F : Type 0} (env : Ghosts E F) where
   -- the same, and the bytes are all that the file had from its place on
   pub record IsReadOut (old : Opened E F) (bytes : List ℕ) (new : Opened E F) : Type 0 where
     pub further : IsFurther old bytes new
-    pub all : IsTrue env.tells_disk → IfSome ((env.tells old.env).disk.files (env.name_of old.file)) (λ file. bytes ≡ drop (env.place_of old.file) (bytes_of file))
+    pub all : IsTrue env.tells_disk → IfSome (standing old) (λ file. bytes ≡ drop (env.place_of old.file) (bytes_of file))
 
   -- A reading of the file was given up for this status: the disk stayed as it was, and the cause is that of a read, or want of memory.
   pub record IsGivenUp (old : Opened E F) (status : Status) (new : Opened E F) : Type 0 where

@@ -17,6 +17,10 @@ use Rattle.leveldb_env.specs.Disk.{Files, kept_file, AreBytes, Leaves}
 abbrev pub Tails : Type 0
 Tails = List (List ℕ × List ℕ)
 
+-- tails as a program gives them
+abbrev pub tails_of : List (String Global × Vec ℕ Global) → Tails
+tails_of tails = map (λ pick. (string_bytes pick.0, pick.1.items)) tails
+
 -- the tail picked for a name; none where none is picked
 abbrev pub tail_for : Tails → List ℕ → List ℕ
 tail_for tails name = unwrap_or (lookup (bytes_eq name) tails) []
@@ -34,10 +38,6 @@ pub record IsTailOf (files : Files) (pick : List ℕ × List ℕ) : Type 0 where
 pub record IsAllowed (files : Files) (tails : Tails) : Type 0 where
   pub each : All (IsTailOf files) tails
   pub once : IsDistinct bytes_eq (keys_of tails)
-
--- the same as a program gives them
-abbrev pub tails_of : List (String Global × Vec ℕ Global) → Tails
-tails_of tails = map (λ pick. (string_bytes pick.0, pick.1.items)) tails
 
 -- in order of name what the files have past their kept bytes, where they have any
 pub record ListsTails (files : Files) (tails : Tails) : Type 0 where

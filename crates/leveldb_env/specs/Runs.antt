@@ -65,6 +65,11 @@ since_start {P} {first} {now} run only m files from until stood = ⊎_elim
     subst P (sym (only files (subst (λ n. now.stood n files) last stood))) run.has)
     (cases_lt m now.moment)
 
+-- the run of one call
+pub Run-call : {T : Type 0} {tells_disk : Bool} {old new : Told} {change : Files → Files} {Passes : Files → Files → Type 0} {result : Result T Status}
+    → IsTrue tells_disk → Does tells_disk change Passes old new result → Run (Passes old.disk.files) old new
+Run-call tells does = record { has = does.now tells; time = does.time }
+
 -- where less is said of the files
 pub Run-mono : {P Q : Files → Type 0} {first now : Told} → ((files : Files) → P files → Q files) → Run P first now → Run Q first now
 Run-mono so run = record { has = so _ run.has; time = Within-mono so run.time }
@@ -74,7 +79,8 @@ pub Run-trans : {P Q : Files → Type 0} {first old new : Told} → Run P first 
 Run-trans run keeps others = record { has = keeps _ others.has; time = Within-trans run.time (Within-mono keeps others.time) }
 
 -- a refused call, by the run that it made
-pub Does-refused : {T : Type 0} {tells_disk : Bool} {change : Files → Files} {Passes : Files → Files → Type 0} {old new : Told} {result : Result T Status} → IsErr result → Run (Passes old.disk.files) old new → Does tells_disk change Passes old new result
+pub Does-refused : {T : Type 0} {tells_disk : Bool} {change : Files → Files} {Passes : Files → Files → Type 0} {old new : Told} {result : Result T Status}
+    → IsErr result → Run (Passes old.disk.files) old new → Does tells_disk change Passes old new result
 Does-refused {change = change} {old = old} {new = new} {result = result} refused run = record {
   ok = λ tells. IfOk-from_err result (λ done. new.disk.files ≡ change old.disk.files) refused;
   now = λ tells. run.has;
@@ -86,14 +92,21 @@ ok_always (Ok x) p = p
 ok_always (Err status) p = tt
 
 -- what leaves the files alone is as a call that does
-pub Does-still : {T : Type 0} {tells_disk : Bool} {old new : Told} {result : Result T Status} → Run (Still old.disk.files) old new → Does tells_disk same Still old new result
+pub Does-still : {T : Type 0} {tells_disk : Bool} {old new : Told} {result : Result T Status} → Run (Still old.disk.files) old new
+    → Does tells_disk same Still old new result
 Does-still {result = result} run = record { ok = λ tells. ok_always result run.has; now = λ tells. run.has; time = run.time }
 
 -- ---- causes
 
 -- a call after ones that counted nothing
-pub cause_after : {T : Type 0} {Excused : Status → Type 0} {before mid now : ℕ} {result : Result T Status} → mid ≡ before → HasCause Excused mid now result → HasCause Excused before now result
+pub cause_after : {T : Type 0} {Excused : Status → Type 0} {before mid now : ℕ} {result : Result T Status} → mid ≡ before → HasCause Excused mid now result
+    → HasCause Excused before now result
 cause_after {Excused = Excused} {now = now} {result = result} same_count cause = subst (λ count. HasCause Excused count now result) same_count cause
+
+-- a refusal of one type of answer and of another
+pub cause_refused : {T U : Type 0} {Excused : Status → Type 0} {before now : ℕ} {status : Status} → HasCause {T = T} Excused before now (Err status)
+    → HasCause {T = U} Excused before now (Err status)
+cause_refused cause = record { later = cause.later; ok = tt; uncounted = cause.uncounted; cause = cause.cause }
 
 -- the same excuses in other words
 pub cause_same : {T : Type 0} {P Q : Status → Type 0} {before now : ℕ} (result : Result T Status) → ((e : Status) → P e → Q e) → ((e : Status) → Q e → P e)

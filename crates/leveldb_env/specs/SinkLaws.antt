@@ -5,7 +5,7 @@ use Rattle.std.specs.Borrow.{MutBor}
 use Rattle.std.proofs.lemmas.List.{append-nil}
 use Rattle.std.proofs.lemmas.List.Folds.{concat-append}
 use Rattle.leveldb_base.specs.declared.error.Status.{Status}
-use Rattle.leveldb_env.specs.Sinks.{PutsEach, PutsAll, BreaksOff, PutsBehind, ChangesLent}
+use Rattle.leveldb_env.specs.Sinks.{PutsEach, PutsAll, PutsPart, PutsBehind, ChangesLent}
 
 -- ---- any sink
 
@@ -18,7 +18,8 @@ module _ {S : Type 0} (puts : S → List ℕ → Result (Unit {0}) Status → S 
   pub PutsAll-one : {from to : S} {bytes : List ℕ} → puts from bytes (Ok tt) to → PutsAll puts from bytes to
   PutsAll-one {from} {to} {bytes} put = record { pieces = bytes ∷ []; put = (to, put, refl); joined = sym (append-nil bytes) }
 
-  each_append : (from : S) (pieces : List (List ℕ)) (mid : S) (others : List (List ℕ)) (to : S) → PutsEach puts from pieces mid → PutsEach puts mid others to → PutsEach puts from (pieces ++ others) to
+  each_append : (from : S) (pieces : List (List ℕ)) (mid : S) (others : List (List ℕ)) (to : S) → PutsEach puts from pieces mid → PutsEach puts mid others to
+      → PutsEach puts from (pieces ++ others) to
   each_append from [] mid others to first second = subst (λ s. PutsEach puts s others to) first second
   each_append from (piece ∷ pieces) mid others to first second = (first.0, first.1, each_append first.0 pieces mid others to first.2 second)
 
@@ -31,12 +32,13 @@ module _ {S : Type 0} (puts : S → List ℕ → Result (Unit {0}) Status → S 
   }
 
   -- the first put is refused
-  pub BreaksOff-one : {from to : S} {bytes : List ℕ} {status : Status} → puts from bytes (Err status) to → BreaksOff puts from bytes status to
-  BreaksOff-one {from} {to} {bytes} {status} failed = record { mid = from; done = []; piece = bytes; put_before = PutsAll-none from; failed = failed; joined = refl }
+  pub PutsPart-one : {from to : S} {bytes : List ℕ} {status : Status} → puts from bytes (Err status) to → PutsPart puts from bytes status to
+  PutsPart-one {from} {to} {bytes} {status} failed = record { mid = from; done = []; piece = bytes; put_before = PutsAll-none from; failed = failed; joined = refl }
 
   -- puts, and then some that break off
-  pub BreaksOff-trans : {from mid to : S} {bytes others : List ℕ} {status : Status} → PutsAll puts from bytes mid → BreaksOff puts mid others status to → BreaksOff puts from (bytes ++ others) status to
-  BreaksOff-trans {from} {mid} {to} {bytes} {others} {status} first second = record {
+  pub PutsPart-trans : {from mid to : S} {bytes others : List ℕ} {status : Status} → PutsAll puts from bytes mid → PutsPart puts mid others status to
+      → PutsPart puts from (bytes ++ others) status to
+  PutsPart-trans {from} {mid} {to} {bytes} {others} {status} first second = record {
     mid = second.mid;
     done = bytes ++ second.done;
     piece = second.piece;
@@ -56,8 +58,8 @@ module _ {S T : Type 0} (puts : S → List ℕ → Result (Unit {0}) Status → 
   pub PutsAll-seen : {from to : S} {bytes : List ℕ} → PutsAll puts from bytes to → PutsAll seen_puts (seen from) bytes (seen to)
   PutsAll-seen {from} {to} all = record { pieces = all.pieces; put = each_seen from all.pieces to all.put; joined = all.joined }
 
-  pub BreaksOff-seen : {from to : S} {bytes : List ℕ} {status : Status} → BreaksOff puts from bytes status to → BreaksOff seen_puts (seen from) bytes status (seen to)
-  BreaksOff-seen {from} {to} {bytes} {status} broken = record {
+  pub PutsPart-seen : {from to : S} {bytes : List ℕ} {status : Status} → PutsPart puts from bytes status to → PutsPart seen_puts (seen from) bytes status (seen to)
+  PutsPart-seen {from} {to} {bytes} {status} broken = record {
     mid = seen broken.mid;
     done = broken.done;
     piece = broken.piece;
@@ -76,8 +78,8 @@ module _ {S N : Type 0} (puts : S → List ℕ → Result (Unit {0}) Status → 
   pub PutsAll-same : {from to : S} {bytes : List ℕ} → PutsAll puts from bytes to → name to ≡ name from
   PutsAll-same {from} {to} all = each_same from all.pieces to all.put
 
-  pub BreaksOff-same : {from to : S} {bytes : List ℕ} {status : Status} → BreaksOff puts from bytes status to → name to ≡ name from
-  BreaksOff-same {from} {to} {bytes} {status} broken = so broken.mid broken.piece (Err status) to broken.failed ∙ PutsAll-same broken.put_before
+  pub PutsPart-same : {from to : S} {bytes : List ℕ} {status : Status} → PutsPart puts from bytes status to → name to ≡ name from
+  PutsPart-same {from} {to} {bytes} {status} broken = so broken.mid broken.piece (Err status) to broken.failed ∙ PutsAll-same broken.put_before
 
 -- what is put into a sink that is lent is put into what is lent
 pub PutsAll-lent : {S : Type 0} (puts : S → List ℕ → Result (Unit {0}) Status → S → Type 0) {from to : MutBor S} {bytes : List ℕ}
@@ -96,7 +98,8 @@ each_behind from [] to put = put ∙ sym (append-nil from)
 each_behind from (piece ∷ pieces) to put = each_behind put.0 pieces to put.2 ∙ ap (λ b. b ++ concat pieces) put.1.ok ∙ append_assoc from piece (concat pieces)
 
 -- all that was put stands behind what was there
-pub PutsAll-behind : {S : Type 0} (items : S → List ℕ) {from to : S} {bytes : List ℕ} → PutsAll (λ old put result new. PutsBehind (items old) put result (items new)) from bytes to → items to ≡ items from ++ bytes
+pub PutsAll-behind : {S : Type 0} (items : S → List ℕ) {from to : S} {bytes : List ℕ}
+    → PutsAll (λ old put result new. PutsBehind (items old) put result (items new)) from bytes to → items to ≡ items from ++ bytes
 PutsAll-behind {S} items {from} {to} all =
     let seen = PutsAll-seen (λ (old : S) put result (new : S). PutsBehind (items old) put result (items new)) PutsBehind items (λ old put result new behind. behind) all in
     each_behind (items from) seen.pieces (items to) seen.put ∙ ap (λ b. items from ++ b) (sym seen.joined)

@@ -18,7 +18,7 @@ module _ {S : Type 0} (puts : S → List ℕ → Result (Unit {0}) Status → S 
     pub joined : bytes ≡ concat pieces
 
   -- of these bytes some were put, and then the put of a piece was refused
-  pub record BreaksOff (from : S) (bytes : List ℕ) (status : Status) (to : S) : Type 0 where
+  pub record PutsPart (from : S) (bytes : List ℕ) (status : Status) (to : S) : Type 0 where
     pub mid : S
     pub done : List ℕ
     pub piece : List ℕ

@@ -13,7 +13,8 @@ use Rattle.leveldb_env.specs.Sources.{GivesSome, GivesAll, GivesUp, GivesFirst}
 
 module _ {S : Type 0} (gives : S → ℕ → Result (List ℕ) Status → S → Type 0) where
   -- one read more
-  pub Draws-append : (from : S) (pieces : List (List ℕ)) (mid : S) (room : ℕ) (piece : List ℕ) (to : S) → Draws gives from pieces mid → 0 < length piece → gives mid room (Ok piece) to → Draws gives from (pieces ++ piece ∷ []) to
+  pub Draws-append : (from : S) (pieces : List (List ℕ)) (mid : S) (room : ℕ) (piece : List ℕ) (to : S) → Draws gives from pieces mid → 0 < length piece
+      → gives mid room (Ok piece) to → Draws gives from (pieces ++ piece ∷ []) to
   Draws-append from [] mid room piece to drawn some last = (room, to, some, subst (λ s. gives s room (Ok piece) to) drawn last, refl)
   Draws-append from (first ∷ others) mid room piece to drawn some last =
       (drawn.0, drawn.1, drawn.2, drawn.3, Draws-append drawn.1 others mid room piece to drawn.4 some last)
@@ -23,7 +24,8 @@ module _ {S : Type 0} (gives : S → ℕ → Result (List ℕ) Status → S → 
   GivesSome-none from = record { pieces = []; drawn = refl; joined = refl }
 
   -- one read more
-  pub GivesSome-more : {from mid to : S} {bytes : List ℕ} {room : ℕ} {piece : List ℕ} → GivesSome gives from bytes mid → 0 < length piece → gives mid room (Ok piece) to → GivesSome gives from (bytes ++ piece) to
+  pub GivesSome-more : {from mid to : S} {bytes : List ℕ} {room : ℕ} {piece : List ℕ} → GivesSome gives from bytes mid → 0 < length piece
+      → gives mid room (Ok piece) to → GivesSome gives from (bytes ++ piece) to
   GivesSome-more {from} {mid} {to} {bytes} {room} {piece} before some last = record {
     pieces = before.pieces ++ piece ∷ [];
     drawn = Draws-append from before.pieces mid room piece to before.drawn some last;

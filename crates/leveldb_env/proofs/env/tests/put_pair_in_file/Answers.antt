@@ -1,6 +1,6 @@
 use Rattle.std.proofs.Common.{rules}
 use Rattle.std.proofs.lemmas.Result.{MatchResult-weaker}
-use Rattle.leveldb_env.specs.OpenFileLaws.{IsLonger-lent, IsBrokenOff-lent, ends_as}
+use Rattle.leveldb_env.specs.OpenFileLaws.{IsLonger-lent, IsPartlyPut-lent, ends_as}
 use Rattle.leveldb_env.proofs.env.tests.put_pair_in_file.Goals as goal
 
 pub returns-clause-ok : goal.returns-clause-ok
@@ -9,4 +9,4 @@ returns-clause-ok g c = MatchResult-weaker c.put_pair.result c.put_pair.ensures.
 
 pub returns-clause-err : goal.returns-clause-err
 returns-clause-err g c = MatchResult-weaker c.put_pair.result c.put_pair.ensures.err
-    (λ done none. tt) (λ status broken. (broken.0, ends_as (IsBrokenOff-lent g.E.Env broken.1) (search rules) (search rules)))
+    (λ done none. tt) (λ status broken. (broken.0, ends_as (IsPartlyPut-lent g.E.Env broken.1) (search rules) (search rules)))

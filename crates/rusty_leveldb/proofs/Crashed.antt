@@ -1,0 +1,87 @@
+-- After a crash the disk that is left holds what it carries, all of it covered; and so on through later crashes.
+use Rattle.std.proofs.Common.{◌≡◌, ◌≤◌, ◌+◌, inl, ℕ, List, [], ◌∷◌, ◌++◌, length, refl, sym, ◌∙◌, ap, subst, arith, false, Option, Some, None, append-nil}
+use Rattle.std.proofs.lemmas.List.{take_all}
+use Rattle.leveldb_base.specs.History.{Entry, History, IsHistory, entries_of, greatest, joined, count_of}
+use Rattle.leveldb_base.specs.ViewLaws.Elements.{in_none}
+use Rattle.leveldb_env.specs.Disk.{File, Files, Disk, LeavesFile, Leaves, kept_file}
+use Rattle.rusty_leveldb.specs.Names.{lock_path}
+use Rattle.rusty_leveldb.specs.Contents.{Contents}
+use Rattle.rusty_leveldb.specs.Holds.{Carries, CarriesBeginning, IsSafe, Holds, IsHonest, KeepsStore}
+use Rattle.rusty_leveldb.specs.State.{State, closed}
+use Rattle.rusty_leveldb.specs.Machine.{Crashes}
+use Rattle.rusty_leveldb.specs.Serves.{StandsFor}
+use Rattle.rusty_leveldb.proofs.Bounds.{carries_more}
+use Rattle.rusty_leveldb.proofs.Histories.{history_part, greatest_part}
+
+no_bytes : (tail : List ℕ) → length tail ≤ 0 → tail ≡ []
+no_bytes [] le = refl
+no_bytes (b ∷ tail) le = absurd (let never : ⊥ = omega arith in never)
+
+-- what a crash left, a second crash leaves as it is
+left_again : (f g h : Option File) → LeavesFile f g → LeavesFile g h → g ≡ h
+left_again None g h first second = first ∙ sym (subst (λ x. LeavesFile x h) first second)
+left_again (Some f) g h first second =
+    let again : LeavesFile (Some (kept_file (f.kept ++ first.0))) h = subst (λ x. LeavesFile x h) first.3 second in
+    let same : f.kept ++ first.0 ≡ (f.kept ++ first.0) ++ again.0 = sym (append-nil (f.kept ++ first.0)) ∙ ap (λ t. (f.kept ++ first.0) ++ t) (sym (no_bytes again.0 again.2)) in
+    first.3 ∙ ap (λ bytes. Some (kept_file bytes)) same ∙ sym again.3
+
+pub files_again : (files left again : Files) → Leaves files left → Leaves left again → left ≡ again
+files_again files left again first second = λ i name. left_again (files name) (left name) (again name) (first name) (second name) i
+
+module _ (store : List ℕ) (reads : Files → Contents → Type 0) where
+  -- the disk that is left holds what it carries
+  pub crash_holds : (files left : Files) (bound covered : ℕ) (history : History) → IsSafe store reads bound covered history files → Leaves files left → IsHonest store files left
+      → (c : CarriesBeginning store reads bound covered history left) × Holds store reads left c.part bound (length c.part) None
+  crash_holds files left bound covered history safe leaves honest =
+      let c = safe left leaves honest in
+      let now = carries_more store reads bound (bound + 0) (omega arith) c.part left c.carries in (
+        c,
+        record {
+          now = inl now;
+          crash = λ again leaves2 honest2. record {
+            part = c.part;
+            beginning = record { count = length c.part; enough = omega arith; there = omega arith; first = sym (take_all (length c.part) c.part (omega arith)) };
+            carries = subst (λ x. Carries store reads (bound + 0) c.part x) (files_again files left again leaves leaves2) now;
+          };
+        },
+      )
+
+  module _ (one : (files : Files) (these those : Contents) → reads files these → reads files those → these ≡ those) where
+    -- the crash row
+    pub crash_row : (old : State) (batch : Option (List Entry)) (files : Files) (left : Disk)
+        → IsHistory (joined old.history batch) → greatest (entries_of (joined old.history batch)) ≤ old.last + count_of batch
+        → IsSafe store reads (old.last + count_of batch) old.covered (joined old.history batch) files → KeepsStore store reads old.store files
+        → Leaves files left.files → IsHonest store files left.files → ((name : List ℕ) → left.locked name ≡ false)
+        → (then : State) × Crashes old batch then × StandsFor store reads left then
+    crash_row old batch files left is reached safe keeps leaves honest free =
+        let found = crash_holds files left.files (old.last + count_of batch) old.covered (joined old.history batch) safe leaves honest in
+        let c = found.0 in
+        let low = greatest_part old.covered (joined old.history batch) c.part c.beginning in
+        let then : State = record {
+          history = c.part;
+          last = old.last + count_of batch;
+          covered = length c.part;
+          held = [];
+          given = [];
+          pending = None;
+          mode = closed;
+          opening = None;
+          locked = false;
+          store = c.carries.contents.store;
+        } in (
+          then,
+          record { beginning = c.beginning; stays = keeps left.files c.carries.contents leaves c.carries.read; state = refl },
+          record {
+            is_state = record {
+              history = history_part old.covered (joined old.history batch) c.part is c.beginning;
+              reached = omega arith;
+              pending = omega arith;
+              covered = omega arith;
+              held = λ one' there. absurd (in_none one' there);
+              mode = record { held = refl; given = refl; opening = refl };
+            };
+            holds = found.1;
+            has_store = λ contents read. ap (λ (x : Contents). x.store) (one left.files contents c.carries.contents read c.carries.read);
+            locked = free (lock_path store);
+          },
+        )

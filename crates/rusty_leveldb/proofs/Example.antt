@@ -1,0 +1,105 @@
+-- Two lives with a crash between: what was written with a sync is found.
+use Rattle.std.proofs.Common.{◌≡◌, ◌≤◌, ◌<◌, inl, inr, ℕ, true, false, List, [], ◌∷◌, refl, arith, Some, None, IsTrue}
+use Rattle.std.proofs.lemmas.List.Elements.{All-nil, All-cons}
+use Rattle.std.specs.declared.cmp.Ordering.{Ordering}
+use Rattle.leveldb_base.specs.History.{Entry}
+use Rattle.leveldb_base.specs.View.{Shows}
+use Rattle.leveldb_base.specs.ViewLaws.Elements.{in_front}
+use Rattle.rusty_leveldb.specs.Contents.{made}
+use Rattle.rusty_leveldb.specs.State.{State, Opening, open_store, write, get, done, found, open_mode, closed}
+use Rattle.rusty_leveldb.specs.Causes.{Faults}
+use Rattle.rusty_leveldb.specs.Machine.{Step}
+use Rattle.rusty_leveldb.specs.Runs.{Event, StopsAt, Lives, new_state}
+use Rattle.rusty_leveldb.specs.Laws.{SyncedIsFound, told_at, written_and_found}
+
+abbrev quiet : Faults
+quiet = record { before = 0; after = 0; coders = [] }
+
+module _ (cmp : List ℕ → List ℕ → Ordering) (opening : Opening) (key value : List ℕ) (fits : IsTrue opening.fits) (compresses : IsTrue opening.compresses) (create : IsTrue opening.create_if_missing) (there : opening.error_if_exists ≡ false) where
+  abbrev entry : Entry
+  entry = record { sequence = 1; key = key; value = Some value }
+
+  abbrev opened : State
+  opened = record new_state { mode = open_mode; opening = Some opening; locked = true; store = made None }
+
+  abbrev written : State
+  written = record opened { history = (entry ∷ []) ∷ []; last = 1; covered = 1 }
+
+  abbrev left : State
+  left = record written { mode = closed; opening = None; locked = false }
+
+  shown : Shows (entry ∷ []) 1 key value
+  shown = record { entry = entry; newest = record { there = in_front entry []; seen = omega arith; newest = λ other c k seen. seen }; key_is = refl; value_is = refl }
+
+  opens_first : Step cmp quiet new_state (open_store opening) done opened
+  opens_first = record {
+    later = omega arith;
+    step = record {
+      fits = (fits, compresses);
+      free = refl;
+      may = create;
+      stays = tt;
+      store = tt;
+      joins = inl refl;
+      reached = omega arith;
+      bounded = omega arith;
+      covered = inl refl;
+      state = refl;
+    };
+  }
+
+  writes : Step cmp quiet opened (write (record { key = key; value = Some value } ∷ []) true) done written
+  writes = record { later = omega arith; step = record { state = refl; covered = inr refl; synced = λ t. refl } }
+
+  opens_again : Step cmp quiet left (open_store opening) done written
+  opens_again = record {
+    later = omega arith;
+    step = record {
+      fits = (fits, compresses);
+      free = refl;
+      may = there;
+      stays = refl;
+      store = tt;
+      joins = inl refl;
+      reached = omega arith;
+      bounded = omega arith;
+      covered = inl refl;
+      state = refl;
+    };
+  }
+
+  finds : Step cmp quiet written (get None key) (found (Some value)) written
+  finds = record { later = omega arith; step = (record { sequence = 1; at_is = refl; looks = shown }, refl) }
+
+  abbrev opening_then : ℕ × Event
+  opening_then = told_at 1 (open_store opening) done
+
+  abbrev writing_then : ℕ × Event
+  writing_then = told_at 2 (write (record { key = key; value = Some value } ∷ []) true) done
+
+  abbrev reading_then : ℕ × Event
+  reading_then = told_at 3 (get None key) (found (Some value))
+
+  stops : StopsAt cmp 0 new_state (opening_then ∷ writing_then ∷ reading_then ∷ []) 2 left
+  stops = record {
+    done = opening_then ∷ writing_then ∷ [];
+    undone = reading_then ∷ [];
+    split = refl;
+    by_then = All-cons (λ one. one.0 ≤ 2) opening_then (writing_then ∷ []) (omega arith) (All-cons (λ one. one.0 ≤ 2) writing_then [] (omega arith) (All-nil (λ one. one.0 ≤ 2)));
+    not_yet = All-cons (λ one. 2 < one.0) reading_then [] (omega arith) (All-nil (λ one. 2 < one.0));
+    failures = 0;
+    state = written;
+    run = (opened, opens_first, (written, writes, (refl, refl)));
+    crash = record { beginning = record { count = 1; enough = omega arith; there = omega arith; first = refl }; stays = refl; state = refl };
+  }
+
+  lives : Lives cmp 0 new_state (written_and_found opening key value) 0 written
+  lives = (
+    0,
+    left,
+    ((0, written, (opened, opens_first, (written, writes, (written, finds, (refl, refl))))), stops, refl),
+    (0, written, (written, opens_again, (written, finds, (refl, refl))), (refl, refl)),
+  )
+
+pub synced_is_found : SyncedIsFound
+synced_is_found cmp opening key value fits compresses create there = (written cmp opening key value fits compresses create there, lives cmp opening key value fits compresses create there)

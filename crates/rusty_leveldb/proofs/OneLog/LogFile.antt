@@ -1,0 +1,175 @@
+-- What the one log's file says: what it carries, and when a crash of it is safe. The rest of the disk has no part in it.
+use Rattle.std.proofs.Common.{◌≡◌, ◌≤◌, inl, ℕ, zero, suc, Bool, true, false, List, [], ◌++◌, refl, sym, ◌∙◌, ap, subst, arith, Option, Some, None, append-nil, append_assoc}
+use Rattle.std.specs.Prelude.{codes, All}
+use Rattle.std.specs.Char.{IsAsciiDigit}
+use Rattle.std.specs.Str.{bytes_eq}
+use Rattle.std.specs.Cmp.Lexicographic.{bytes_decides}
+use Rattle.leveldb_base.specs.History.{History, IsBeginning}
+use Rattle.leveldb_env.specs.Disk.{File, Files, bytes_of, kept_file, with_file, AreBytes, LeavesFile, Leaves}
+use Rattle.leveldb_env.specs.FileLaws.{at_same, at_other}
+use Rattle.leveldb_mem.specs.Log.{log_block_size, End, IsLogFile}
+use Rattle.leveldb_mem.specs.Honest.{HonestTail}
+use Rattle.leveldb_mem.specs.LogLaws.{log_laws, cut_is_honest}
+use Rattle.leveldb_mem.specs.Batch.{Batch}
+use Rattle.leveldb_mem.specs.BatchLaws.{BatchOf-one}
+use Rattle.rusty_leveldb.specs.Contents.{Contents}
+use Rattle.rusty_leveldb.specs.OneLog.{log_path, Each, IsRecordOf, AreInOrder, IsLogOf, contents_of, IsRead, IsOneLog}
+use Rattle.rusty_leveldb.specs.Names.{IsJournal}
+use Rattle.rusty_leveldb.specs.Holds.{IsHonest, Tells, Carries, IsSafe}
+use Rattle.rusty_leveldb.proofs.OneLog.Batches.{each_one}
+
+-- ---- reading
+
+one_batch : (record' : List ℕ) (these those : Batch) → IsRecordOf record' these → IsRecordOf record' those → these ≡ those
+one_batch record' these those p q =
+    let same = BatchOf-one record' these.first those.first these.items those.items p q in
+    λ i. record { first = same.0 i; items = same.1 i }
+
+-- records are one list of batches
+pub one_batches : (records : List (List ℕ)) (these those : List Batch) → Each IsRecordOf records these → Each IsRecordOf records those → these ≡ those
+one_batches records these those p q = each_one IsRecordOf one_batch records these those p q
+
+-- bytes are a log of one list of batches
+pub one_log : (bytes : List ℕ) (these those : List Batch) → IsLogOf bytes these → IsLogOf bytes those → these ≡ those
+one_log bytes these those p q =
+    let same = log_laws.one bytes p.records q.records p.end q.end p.read q.read in
+    one_batches q.records these those (subst (λ rs. Each IsRecordOf rs these) same.0 p.each) q.each
+
+-- two readings of one file are one
+pub one_reading : (file : Option File) (these those : Contents) → IsRead file these → IsRead file those → these ≡ those
+one_reading None these those p q = p ∙ sym q
+one_reading (Some file) these those p q = p.2 ∙ ap contents_of (one_log (bytes_of file) p.0 q.0 p.1 q.1) ∙ sym q.2
+
+-- two readings of one disk are one
+pub one_contents : (name : List ℕ) (files : Files) (these those : Contents) → IsOneLog name files these → IsOneLog name files those → these ≡ those
+one_contents name files these those p q = one_reading (files name) these those p q
+
+-- a log whose records are batches in order is read as these batches
+pub log_read : (name : List ℕ) (files : Files) (file : File) (records : List (List ℕ)) (end : End) (batches : List Batch) → files name ≡ Some file → IsLogFile (bytes_of file) records end
+    → Each IsRecordOf records batches → AreInOrder 0 batches → IsOneLog name files (contents_of batches)
+log_read name files file records end batches there read each order =
+    let is : IsRead (Some file) (contents_of batches) = (batches, record { records = records; end = end; read = read; each = each; order = order }, refl) in
+    subst (λ f. IsRead f (contents_of batches)) (sym there) is
+
+-- ---- what a file carries
+
+-- the file's contents tell the history
+pub record Carried (bound : ℕ) (history : History) (file : Option File) : Type 0 where
+  pub contents : Contents
+  pub read : IsRead file contents
+  pub tells : Tells bound contents history
+
+-- the file carries a beginning of the history that has at least so many batches
+pub record CarriedBeginning (bound covered : ℕ) (history : History) (file : Option File) : Type 0 where
+  pub part : History
+  pub beginning : IsBeginning covered history part
+  pub carried : Carried bound part file
+
+-- a crash left no record that was never written
+abbrev pub Honest : Option File → Option File → Type 0
+Honest file left = (was is : File) → file ≡ Some was → left ≡ Some is → HonestTail log_block_size (bytes_of was) (bytes_of is)
+
+-- whatever an honest crash leaves of the file carries such a beginning
+abbrev pub Safe : ℕ → ℕ → History → Option File → Type 0
+Safe bound covered history file = (left : Option File) → LeavesFile file left → Honest file left → CarriedBeginning bound covered history left
+
+-- a bound that is greater
+pub carried_more : (bound more : ℕ) (history : History) (file : Option File) → bound ≤ more → Carried bound history file → Carried more history file
+carried_more bound more history file most c = record {
+  contents = c.contents;
+  read = c.read;
+  tells = record { same = c.tells.same; reached = c.tells.reached; bounded = omega (arith, c.tells.bounded, most) };
+}
+
+pub some_is : {A : Type 0} (a b : A) → Some a ≡ Some b → a ≡ b
+some_is a b e = ap (λ o. elim o [ Some x ↦ x | None ↦ a ]) e
+
+-- ---- a file's own crashes
+
+-- nothing of what was appended since is left
+abbrev cut : Option File → Option File
+cut None = None
+cut (Some file) = Some (kept_file (file.kept ++ []))
+
+no_bytes : AreBytes []
+no_bytes i = omega arith
+
+cut_leaves : (file : Option File) → LeavesFile file (cut file)
+cut_leaves None = refl
+cut_leaves (Some file) = ([], no_bytes, omega arith, refl)
+
+-- bytes that are a front of the file's are honest
+pub front_honest : (file : File) (front rest : List ℕ) → file.since ≡ front ++ rest → Honest (Some file) (Some (kept_file (file.kept ++ front)))
+front_honest file front rest e was is same_was same_is =
+    let whole : ((file.kept ++ front) ++ []) ++ rest ≡ bytes_of file = ap (λ b. b ++ rest) (append-nil (file.kept ++ front)) ∙ append_assoc file.kept front rest ∙ ap (λ b. file.kept ++ b) (sym e) in
+    let here : HonestTail log_block_size (bytes_of file) ((file.kept ++ front) ++ []) = subst (λ b. HonestTail log_block_size b ((file.kept ++ front) ++ [])) whole (cut_is_honest log_block_size ((file.kept ++ front) ++ []) rest) in
+    subst (λ f. HonestTail log_block_size (bytes_of f) (bytes_of is)) (some_is file was same_was)
+    (subst (λ f. HonestTail log_block_size (bytes_of file) (bytes_of f)) (some_is (kept_file (file.kept ++ front)) is same_is) here)
+
+cut_honest : (file : Option File) → Honest file (cut file)
+cut_honest None = λ was is same_was same_is. absurd (cc)
+cut_honest (Some file) = front_honest file [] file.since refl
+
+-- the digits of the log's number
+zero_or_three : All IsAsciiDigit (codes "000003")
+zero_or_three zero d below = (omega arith, omega arith)
+zero_or_three (suc zero) d below = (omega arith, omega arith)
+zero_or_three (suc (suc zero)) d below = (omega arith, omega arith)
+zero_or_three (suc (suc (suc zero))) d below = (omega arith, omega arith)
+zero_or_three (suc (suc (suc (suc zero)))) d below = (omega arith, omega arith)
+zero_or_three (suc (suc (suc (suc (suc zero))))) d below = (omega arith, omega arith)
+zero_or_three (suc (suc (suc (suc (suc (suc k)))))) d below = absurd (let never : ⊥ = omega (arith, below) in never)
+
+module _ (store : List ℕ) where
+  abbrev name : List ℕ
+  name = log_path store
+
+  abbrev reads : Files → Contents → Type 0
+  reads = IsOneLog (log_path store)
+
+  pub carried : (bound : ℕ) (history : History) (files : Files) → Carries store reads bound history files → Carried bound history (files name)
+  carried bound history files c = record { contents = c.contents; read = c.read; tells = c.tells }
+
+  pub carries : (bound : ℕ) (history : History) (files : Files) → Carried bound history (files name) → Carries store reads bound history files
+  carries bound history files c = record { contents = c.contents; read = c.read; tells = c.tells }
+
+  -- the log's name is a journal's
+  pub is_journal : IsJournal store name
+  is_journal = inl (codes "000003", record { some = λ e. cc; digits = λ k d below. zero_or_three k d below; fits = omega arith }, refl)
+
+  -- where a crash of the log is safe, one of the disk is
+  pub is_safe : (bound covered : ℕ) (history : History) (files : Files) → Safe bound covered history (files name) → IsSafe store reads bound covered history files
+  is_safe bound covered history files safe left leaves honest =
+      let c = safe (left name) (leaves name) (λ was is same_was same_is. honest name was is is_journal same_was same_is) in
+      record { part = c.part; beginning = c.beginning; carries = carries bound c.part left c.carried }
+
+  -- and where one of the disk is, one of the log is
+  pub safe_of : (bound covered : ℕ) (history : History) (files : Files) → IsSafe store reads bound covered history files → Safe bound covered history (files name)
+  safe_of bound covered history files safe left leaves honest =
+      let c = safe others all_leaves all_honest in
+      record { part = c.part; beginning = c.beginning; carried = subst (Carried bound c.part) here (carried bound c.part others c.carries) }
+    where
+      others : Files
+      others = with_file name left (λ other. cut (files other))
+
+      here : others name ≡ left
+      here = at_same name left (λ other. cut (files other))
+
+      elsewhere : (other : List ℕ) → bytes_eq name other ≡ false → others other ≡ cut (files other)
+      elsewhere other apart = at_other name left (λ q. cut (files q)) other apart
+
+      all_leaves : Leaves files others
+      all_leaves other = by_name (bytes_eq name other) refl
+        where
+          by_name : (b : Bool) → bytes_eq name other ≡ b → LeavesFile (files other) (others other)
+          by_name true e = subst (λ q. LeavesFile (files q) (others q)) ((bytes_decides name other).0 e) (subst (LeavesFile (files name)) (sym here) leaves)
+          by_name false e = subst (LeavesFile (files other)) (sym (elsewhere other e)) (cut_leaves (files other))
+
+      all_honest : IsHonest store files others
+      all_honest other was is journal same_was same_is = by_name (bytes_eq name other) refl
+        where
+          by_name : (b : Bool) → bytes_eq name other ≡ b → HonestTail log_block_size (bytes_of was) (bytes_of is)
+          by_name true e =
+              let same = (bytes_decides name other).0 e in
+              honest was is (ap files same ∙ same_was) (sym here ∙ ap others same ∙ same_is)
+          by_name false e = cut_honest (files other) was is same_was (sym (elsewhere other e) ∙ same_is)

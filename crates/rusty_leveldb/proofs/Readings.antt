@@ -1,0 +1,54 @@
+-- A log of a store has one reading.
+use Rattle.std.proofs.Common.{◌≡◌, ℕ, zero, suc, List, [], ◌∷◌, ◌++◌, take, refl, sym, ◌∙◌, ap, subst, Option, Some, None}
+use Rattle.leveldb_env.specs.Disk.{File, bytes_of}
+use Rattle.leveldb_mem.specs.Batch.{Batch}
+use Rattle.leveldb_mem.specs.BatchLaws.{BatchOf-one}
+use Rattle.leveldb_mem.specs.LogLaws.{log_laws}
+use Rattle.rusty_leveldb.specs.Contents.{Contents}
+use Rattle.rusty_leveldb.specs.OneLog.{Each, IsRecordOf, IsLogOf, IsRead, contents_of}
+use Rattle.rusty_leveldb.specs.Laws.{OneReading}
+
+-- ---- lists in step
+
+pub each_take : {A B : Type 0} (R : A → B → Type 0) (n : ℕ) (xs : List A) (ys : List B) → Each R xs ys → Each R (take n xs) (take n ys)
+each_take R zero xs ys e = tt
+each_take R (suc n) [] [] e = tt
+each_take R (suc n) (x ∷ xs) (y ∷ ys) e = (e.0, each_take R n xs ys e.1)
+each_take R (suc n) [] (y ∷ ys) e = absurd e
+each_take R (suc n) (x ∷ xs) [] e = absurd e
+
+pub each_more : {A B : Type 0} (R : A → B → Type 0) (xs : List A) (ys : List B) (x : A) (y : B) → Each R xs ys → R x y → Each R (xs ++ x ∷ []) (ys ++ y ∷ [])
+each_more R [] [] x y e r = (r, tt)
+each_more R (a ∷ xs) (b ∷ ys) x y e r = (e.0, each_more R xs ys x y e.1 r)
+each_more R [] (b ∷ ys) x y e r = absurd e
+each_more R (a ∷ xs) [] x y e r = absurd e
+
+pub each_one : {A B : Type 0} (R : A → B → Type 0) → ((a : A) (b c : B) → R a b → R a c → b ≡ c) → (xs : List A) (ys zs : List B) → Each R xs ys → Each R xs zs → ys ≡ zs
+each_one R one [] [] [] e f = refl
+each_one R one (x ∷ xs) (y ∷ ys) (z ∷ zs) e f =
+    let head = one x y z e.0 f.0 in
+    let rest = each_one R one xs ys zs e.1 f.1 in
+    λ i. head i ∷ rest i
+each_one R one [] (y ∷ ys) zs e f = absurd e
+each_one R one [] [] (z ∷ zs) e f = absurd f
+each_one R one (x ∷ xs) [] zs e f = absurd e
+each_one R one (x ∷ xs) (y ∷ ys) [] e f = absurd f
+
+-- ---- one reading
+
+pub one_record : (bytes : List ℕ) (a b : Batch) → IsRecordOf bytes a → IsRecordOf bytes b → a ≡ b
+one_record bytes a b p q =
+    let e = BatchOf-one bytes a.first b.first a.items b.items p q in
+    λ i. record { first = e.0 i; items = e.1 i }
+
+pub one_log : (bytes : List ℕ) (these those : List Batch) → IsLogOf bytes these → IsLogOf bytes those → these ≡ those
+one_log bytes these those a b =
+    let records = (log_laws.one bytes b.records a.records b.end a.end b.read a.read).0 in
+    each_one IsRecordOf one_record a.records these those a.each (subst (λ rs. Each IsRecordOf rs those) records b.each)
+
+one_read : (file : Option File) (these those : Contents) → IsRead file these → IsRead file those → these ≡ those
+one_read None these those a b = a ∙ sym b
+one_read (Some file) these those a b = a.2 ∙ ap contents_of (one_log (bytes_of file) a.0 b.0 a.1 b.1) ∙ sym b.2
+
+pub one_reading : OneReading
+one_reading store files these those a b = one_read _ these those a b

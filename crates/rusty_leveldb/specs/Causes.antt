@@ -1,0 +1,131 @@
+-- Why a request may be refused.
+use Rattle.std.specs.Prelude.{◌≡◌, ◌≢◌, ◌<◌, ◌+◌, ◌-◌, ◌^◌, ◌⊎◌, ℕ, false, List, [], Option, Some, None, length, max, Contains, codes, IsTrue}
+use Rattle.leveldb_base.specs.declared.error.StatusCode.{StatusCode}
+use Rattle.leveldb_base.specs.declared.error.StatusCode.TheVariants.{OutOfMemory, LockError, InvalidArgument, AlreadyExists, NotSupported, IOError}
+use Rattle.leveldb_base.specs.History.{Item}
+use Rattle.leveldb_mem.specs.Batch.{batch_bytes}
+use Rattle.rusty_leveldb.specs.Contents.{Store, missing, made}
+use Rattle.rusty_leveldb.specs.OneLog.{max_sequence}
+use Rattle.rusty_leveldb.specs.State.{State, Opening, Snapshot, Refusal, Request, open_store, write, get, walk, get_snapshot, release_snapshot, compact_range, abandon, Move, seek}
+
+-- a cause of a refusal, beside the mode of the store
+pub data Cause : Type 0 where
+  out_of_memory : Cause
+  device_failed : Cause
+  lock_is_held : Cause
+  bad_operand : Cause
+  store_exists : Cause
+  used_up : Cause
+  coder_failed : Cause
+
+-- what befell a call: how many calls of the device had failed before it and by its end, and the codes that coders answered in it
+pub record Faults : Type 0 where
+  pub before : ℕ
+  pub after : ℕ
+  pub coders : List StatusCode
+
+-- a call of the device failed, or the count of those that did stands at its greatest
+abbrev pub DeviceFailed : Faults → Type 0
+DeviceFailed faults = (faults.before < faults.after) ⊎ (faults.before ≡ 2 ^ 64 - 1)
+
+-- ---- operands
+
+-- the greatest length of a key, a value and a batch
+abbrev pub max_length : ℕ
+max_length = 2 ^ 30
+
+-- the batch of these items would be too long
+abbrev pub IsLongBatch : List Item → Type 0
+IsLongBatch items = max_length < length (batch_bytes 0 items)
+
+abbrev pub IsLongKey : List ℕ → Type 0
+IsLongKey key = max_length < length key
+
+-- a snapshot is named that isn't held
+abbrev pub IsNotHeld : State → Option Snapshot → Type 0
+IsNotHeld old None = ⊥
+IsNotHeld old (Some named) = Contains old.held named → ⊥
+
+-- the store may not be opened so: it is missing and isn't to be made, or it has another comparator
+abbrev pub Disagrees : Opening → Store → Type 0
+Disagrees opening missing = opening.create_if_missing ≡ false
+Disagrees opening (made None) = ⊥
+Disagrees opening (made (Some name)) = name ≢ opening.comparator
+
+-- an operand, an option or a name is one that is refused
+abbrev pub Misfits : State → Request → Type 0
+Misfits old (open_store opening) = (opening.fits ≡ false) ⊎ Disagrees opening old.store
+Misfits old (write items sync) = IsLongBatch items
+Misfits old (get at key) = IsNotHeld old at ⊎ IsLongKey key
+Misfits old (walk at moves) = IsNotHeld old at
+Misfits old (release_snapshot one) = IsNotHeld old (Some one)
+Misfits old (compact_range from to) = IsLongKey from ⊎ IsLongKey to
+Misfits old _ = ⊥
+
+-- the operand of a move is one that is refused
+abbrev pub MoveMisfits : Move → Type 0
+MoveMisfits (seek key) = IsLongKey key
+MoveMisfits _ = ⊥
+
+-- a store is there that must not be
+abbrev pub Exists : State → Request → Type 0
+Exists old (open_store opening) = IsTrue opening.error_if_exists × (old.store ≢ missing)
+Exists old _ = ⊥
+
+-- numbers are used up, or the compressor that is asked for isn't set; an empty batch needs a number that fits, too
+abbrev pub IsUsedUp : State → Request → Type 0
+IsUsedUp old (open_store opening) = opening.compresses ≡ false
+IsUsedUp old (write items sync) = max_sequence < old.last + max 1 (length items)
+IsUsedUp old get_snapshot = Contains old.given (2 ^ 64 - 1)
+IsUsedUp old _ = ⊥
+
+-- ---- causes
+
+-- requests that take the store's lock
+abbrev pub TakesLock : Request → Type 0
+TakesLock (open_store opening) = Unit {0}
+TakesLock _ = ⊥
+
+-- requests that take memory
+abbrev pub TakesMemory : Request → Type 0
+TakesMemory (release_snapshot one) = ⊥
+TakesMemory abandon = ⊥
+TakesMemory _ = Unit {0}
+
+-- requests that reach the device
+abbrev pub ReachesDevice : Request → Type 0
+ReachesDevice get_snapshot = ⊥
+ReachesDevice (release_snapshot one) = ⊥
+ReachesDevice _ = Unit {0}
+
+-- requests that read or write blocks of tables
+abbrev pub ReachesBlocks : Request → Type 0
+ReachesBlocks (open_store opening) = Unit {0}
+ReachesBlocks (write items sync) = Unit {0}
+ReachesBlocks (get at key) = Unit {0}
+ReachesBlocks (walk at moves) = Unit {0}
+ReachesBlocks (compact_range from to) = Unit {0}
+ReachesBlocks _ = ⊥
+
+-- When a cause comes, and which code and text it has; damage is no cause, since the disk is whole.
+abbrev pub Comes : Faults → State → Request → Refusal → Cause → Type 0
+Comes faults old request refusal out_of_memory = TakesMemory request × (refusal.code ≡ OutOfMemory) × (refusal.text ≡ [])
+Comes faults old request refusal device_failed = ReachesDevice request × DeviceFailed faults
+Comes faults old request refusal lock_is_held = TakesLock request × (refusal.code ≡ LockError) × IsTrue old.locked
+Comes faults old request refusal bad_operand = (refusal.code ≡ InvalidArgument) × Misfits old request
+Comes faults old request refusal store_exists = (refusal.code ≡ AlreadyExists) × Exists old request
+Comes faults old request refusal used_up = (refusal.code ≡ NotSupported) × IsUsedUp old request
+Comes faults old request refusal coder_failed = ReachesBlocks request × Contains faults.coders refusal.code
+
+-- the same of a move of a walk, which has an operand of its own
+abbrev pub MoveComes : Faults → State → Request → Move → Refusal → Cause → Type 0
+MoveComes faults old request move refusal bad_operand = (refusal.code ≡ InvalidArgument) × MoveMisfits move
+MoveComes faults old request move refusal cause = Comes faults old request refusal cause
+
+-- the store is closed
+abbrev pub IsClosedRefusal : Refusal → Type 0
+IsClosedRefusal refusal = refusal.code ≡ InvalidArgument
+
+-- the store broke earlier; there may be no memory for the text
+abbrev pub IsBrokenRefusal : Refusal → Type 0
+IsBrokenRefusal refusal = (refusal.code ≡ IOError) × ((refusal.text ≡ []) ⊎ (refusal.text ≡ codes "IOError: reopen the store"))

@@ -1,0 +1,59 @@
+-- What holds of the machine and of disks that hold its history, in the format of this store.
+use Rattle.std.specs.Prelude.{◌≡◌, ◌⊎◌, ℕ, List, [], ◌∷◌, Some, None, true, false, IsTrue}
+use Rattle.std.specs.declared.cmp.Ordering.{Ordering}
+use Rattle.leveldb_env.specs.Disk.{Files, Disk, Leaves, LeavesDisk}
+use Rattle.rusty_leveldb.specs.Names.{lock_path}
+use Rattle.rusty_leveldb.specs.Contents.{Contents}
+use Rattle.rusty_leveldb.specs.OneLog.{log_path}
+use Rattle.rusty_leveldb.specs.Holds.{IsHonest}
+use Rattle.rusty_leveldb.specs.State.{State, IsState, Opening, Request, open_store, write, get, Answer, done, found, Refusal, refused}
+use Rattle.rusty_leveldb.specs.Causes.{Faults, Cause, Comes, IsClosedRefusal, IsBrokenRefusal}
+use Rattle.rusty_leveldb.specs.Machine.{Step, Crashes, in_hand}
+use Rattle.rusty_leveldb.specs.Runs.{Event, Life, goes_on, crashes, Lives, new_state}
+use Rattle.rusty_leveldb.specs.Serves.{Reads, StandsFor, IsSpared, risk_of}
+
+-- files have one reading
+abbrev pub OneReading : Type 0
+OneReading = (store : List ℕ) (files : Files) (these those : Contents) → Reads store files these → Reads store files those → these ≡ those
+
+-- where neither a log nor a lock is, a new store stands
+abbrev pub NothingStands : Type 0
+NothingStands = (store : List ℕ) (disk : Disk) → disk.files (log_path store) ≡ None → disk.locked (lock_path store) ≡ false → StandsFor store (Reads store) disk new_state
+
+-- an honest crash between two requests leaves a state of the crash row, for which the disk that is left stands
+abbrev pub CrashBetween : Type 0
+CrashBetween = (store : List ℕ) (old : State) (disk left : Disk) → StandsFor store (Reads store) disk old → LeavesDisk disk left → IsHonest store disk.files left.files
+    → (then : State) × Crashes old old.pending then × StandsFor store (Reads store) left then
+
+-- And so does one at a moment inside a request, whatever the request then led to.
+abbrev pub CrashInside : Type 0
+CrashInside = (store : List ℕ) (cmp : List ℕ → List ℕ → Ordering) (faults : Faults) (old new : State) (request : Request) (answer : Answer) (files : Files) (left : Disk)
+    → IsState old → Step cmp faults old request answer new → IsSpared store (Reads store) old (risk_of request old new) files
+    → Leaves files left.files → IsHonest store files left.files → ((name : List ℕ) → left.locked name ≡ false)
+    → (then : State) × Crashes old (in_hand old request) then × StandsFor store (Reads store) left then
+
+-- a refusal has one of the causes, or the mode of the store
+abbrev pub RefusalHasCause : Type 0
+RefusalHasCause = (cmp : List ℕ → List ℕ → Ordering) (faults : Faults) (old new : State) (request : Request) (refusal : Refusal) → Step cmp faults old request (refused refusal) new
+    → ((cause : Cause) × Comes faults old request refusal cause) ⊎ IsClosedRefusal refusal ⊎ IsBrokenRefusal refusal
+
+-- ---- an example
+
+-- an answer that came at this moment, with no failure
+abbrev pub told_at : ℕ → Request → Answer → ℕ × Event
+told_at moment request answer = (moment, record { request = request; answer = answer; failures = 0; coders = [] })
+
+-- a life that makes a store and writes a value with a sync, cut short right behind that, and one that finds the value
+abbrev pub written_and_found : Opening → List ℕ → List ℕ → List Life
+written_and_found opening key value =
+    record {
+      answered = told_at 1 (open_store opening) done ∷ told_at 2 (write (record { key = key; value = Some value } ∷ []) true) done ∷ told_at 3 (get None key) (found (Some value)) ∷ [];
+      ending = crashes 2 0;
+    }
+    ∷ record { answered = told_at 1 (open_store opening) done ∷ told_at 2 (get None key) (found (Some value)) ∷ []; ending = goes_on }
+    ∷ []
+
+-- these lives may be
+abbrev pub SyncedIsFound : Type 0
+SyncedIsFound = (cmp : List ℕ → List ℕ → Ordering) (opening : Opening) (key value : List ℕ) → IsTrue opening.fits → IsTrue opening.compresses → IsTrue opening.create_if_missing → opening.error_if_exists ≡ false
+    → (last : State) × Lives cmp 0 new_state (written_and_found opening key value) 0 last

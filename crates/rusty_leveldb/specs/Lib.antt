@@ -1,0 +1,10 @@
+pub mod Names
+pub mod Contents
+pub mod OneLog
+pub mod Holds
+pub mod State
+pub mod Causes
+pub mod Machine
+pub mod Runs
+pub mod Serves
+pub mod Laws

@@ -1,0 +1,144 @@
+-- What the engine's clauses say: from every state that memory and disk stand for, a step of the machine.
+-- `store` is the store's path, `reads files contents` says that the files are a whole store with these contents,
+-- and `Recalls memory disk state` what the engine's memory has to do with them.
+use Rattle.std.specs.Prelude.{◌≡◌, ◌+◌, ℕ, List, [], Option, Some, None, IsSome, Result, Ok, Err, All, map}
+use Rattle.std.specs.declared.cmp.Ordering.{Ordering}
+use Rattle.leveldb_base.specs.declared.error.Status.{Status}
+use Rattle.leveldb_base.specs.Status.{text_of}
+use Rattle.leveldb_base.specs.History.{History, joined, count_of}
+use Rattle.leveldb_env.specs.Disk.{Files, Disk}
+use Rattle.leveldb_env.specs.Times.{Told, Within}
+use Rattle.rusty_leveldb.specs.Names.{lock_path}
+use Rattle.rusty_leveldb.specs.Contents.{Contents}
+use Rattle.rusty_leveldb.specs.OneLog.{IsOneLog, log_path}
+use Rattle.rusty_leveldb.specs.Holds.{IsSafe, Holds, HasStore, KeepsStore}
+use Rattle.rusty_leveldb.specs.State.{State, IsState, broken, closed, Request, open_store, get, walk, get_snapshot, release_snapshot, Refusal, Answer, done, found, refused}
+use Rattle.rusty_leveldb.specs.Causes.{Faults}
+use Rattle.rusty_leveldb.specs.Machine.{Step}
+use Rattle.rusty_leveldb.specs.Runs.{Event, Run}
+
+-- how the store's files are read
+abbrev pub Reads : List ℕ → Files → Contents → Type 0
+Reads store = IsOneLog (log_path store)
+
+-- ---- results as answers
+
+-- a refusal as a call answers it; no text is the empty text
+abbrev pub refusal_of : Status → Refusal
+refusal_of status = record { code = status.code; text = text_of status.err }
+
+-- done, or refused
+abbrev pub done_or : {T : Type 0} → Result T Status → Answer
+done_or (Ok value) = done
+done_or (Err status) = refused (refusal_of status)
+
+-- what a look-up found, or refused
+abbrev pub found_or : Result (Option (List ℕ)) Status → Answer
+found_or (Ok value) = found value
+found_or (Err status) = refused (refusal_of status)
+
+-- the engine that an opening gave, or none
+abbrev pub given_engine : {M : Type 0} → Result M Status → Option M
+given_engine (Ok memory) = Some memory
+given_engine (Err status) = None
+
+-- ---- around a call
+
+-- what stands around a call: the engine's memory, where there is one, what the environment tells, and how many of its calls have failed
+abbrev pub Scene : Type 0 → Type 1
+Scene M = Option M × Told × ℕ
+
+-- the faults of a call in which no coder took part
+abbrev pub faults_between : ℕ → ℕ → Faults
+faults_between before after = record { before = before; after = after; coders = [] }
+
+-- these requests had these answers, and no coder took part
+pub record IsConversation (requests : List Request) (answers : List Answer) (events : List Event) : Type 0 where
+  pub requests_are : map (λ event. event.request) events ≡ requests
+  pub answers_are : map (λ event. event.answer) events ≡ answers
+  pub no_coder : All (λ event. event.coders ≡ []) events
+
+-- ---- what befalls the files
+
+-- a request that only reads
+abbrev pub IsReading : Request → Type 0
+IsReading (get at key) = Unit {0}
+IsReading (walk at moves) = Unit {0}
+IsReading get_snapshot = Unit {0}
+IsReading (release_snapshot one) = Unit {0}
+IsReading request = ⊥
+
+-- a request that only reads leaves the files as they are, and a store that is broken takes no file away
+pub record SparesFiles (request : Request) (new : State) (before after : Files) : Type 0 where
+  pub reading : IsReading request → after ≡ before
+  pub broken : new.mode ≡ broken → (name : List ℕ) → IsSome (before name) → IsSome (after name)
+
+-- a history of which a crash may leave a beginning, and a number that nothing left may pass
+pub record Risk : Type 0 where
+  pub history : History
+  pub bound : ℕ
+
+-- What a crash at a moment of a request may leave: a beginning of the history after it, with what is pending then.
+-- While a store is opened it is the history before it, since what was pending may yet be found.
+abbrev pub risk_of : Request → State → State → Risk
+risk_of (open_store opening) old new = record { history = joined old.history old.pending; bound = old.last + count_of old.pending }
+risk_of request old new = record { history = joined new.history new.pending; bound = new.last + count_of new.pending }
+
+module _ (store : List ℕ) (reads : Files → Contents → Type 0) where
+  -- the disk stands for a state: it holds the history, and store and lock are as said
+  pub record StandsFor (disk : Disk) (state : State) : Type 0 where
+    pub is_state : IsState state
+    pub holds : Holds store reads disk.files state.history state.last state.covered state.pending
+    pub has_store : HasStore store reads state.store disk.files
+    pub locked : disk.locked (lock_path store) ≡ state.locked
+
+  -- a crash now leaves a beginning with at least what was covered before the request, and the store that was there
+  pub record IsSpared (old : State) (risk : Risk) (files : Files) : Type 0 where
+    pub carries : IsSafe store reads risk.bound old.covered risk.history files
+    pub stays : KeepsStore store reads old.store files
+
+  -- the same at each moment of a request
+  abbrev pub AtEachMoment : Request → State → State → Told → Told → Type 0
+  AtEachMoment request old new before after = Within (IsSpared old (risk_of request old new)) before after
+
+  module _ {M : Type 0} (Recalls : M → Disk → State → Type 0) where
+    -- what memory there is stands for the state; of a store that is closed there may be none
+    abbrev pub Remembers : Option M → Disk → State → Type 0
+    Remembers None disk state = state.mode ≡ closed
+    Remembers (Some memory) disk state = Recalls memory disk state
+
+    -- memory and disk stand for the state
+    pub record Represents (memory : Option M) (disk : Disk) (state : State) : Type 0 where
+      pub disk_is : StandsFor disk state
+      pub memory_is : Remembers memory disk state
+
+    module _ (cmp : List ℕ → List ℕ → Ordering) where
+      -- from this state, a step to one for which memory and disk stand then
+      pub record Goes (from : Scene M) (request : Request) (answer : Answer) (to : Scene M) (old : State) : Type 0 where
+        pub new : State
+        pub represents : Represents to.0 to.1.disk new
+        pub step : Step cmp (faults_between from.2 to.2) old request answer new
+        pub files : SparesFiles request new from.1.disk.files to.1.disk.files
+
+      -- the same, safe at each moment
+      pub record GoesSafely (from : Scene M) (request : Request) (answer : Answer) (to : Scene M) (old : State) : Type 0 where
+        pub goes : Goes from request answer to old
+        pub moments : AtEachMoment request old goes.new from.1 to.1
+
+      -- from every state that memory and disk stand for
+      abbrev pub Serves : Scene M → Request → Answer → Scene M → Type 0
+      Serves from request answer to = (old : State) → Represents from.0 from.1.disk old → Goes from request answer to old
+
+      abbrev pub ServesSafely : Scene M → Request → Answer → Scene M → Type 0
+      ServesSafely from request answer to = (old : State) → Represents from.0 from.1.disk old → GoesSafely from request answer to old
+
+      -- a run of these requests with these answers, to a state for which memory and disk stand then
+      pub record Runs (from : Scene M) (requests : List Request) (answers : List Answer) (to : Scene M) (old : State) : Type 0 where
+        pub events : List Event
+        pub asked : IsConversation requests answers events
+        pub new : State
+        pub run : Run cmp from.2 old events to.2 new
+        pub represents : Represents to.0 to.1.disk new
+
+      abbrev pub ServesAll : Scene M → List Request → List Answer → Scene M → Type 0
+      ServesAll from requests answers to = (old : State) → Represents from.0 from.1.disk old → Runs from requests answers to old

@@ -1,0 +1,111 @@
+-- The store as a machine: its state, what is asked of it and what it answers.
+use Rattle.std.specs.Prelude.{◌≡◌, ◌≤◌, ◌+◌, ℕ, Bool, List, [], Option, None, Contains, length, IsTrue}
+use Rattle.leveldb_base.specs.declared.error.StatusCode.{StatusCode}
+use Rattle.leveldb_base.specs.History.{Item, Entry, History, IsHistory, entries_of, greatest, joined, count_of}
+use Rattle.leveldb_base.specs.Places.{Pair}
+use Rattle.rusty_leveldb.specs.Contents.{Store}
+
+-- ---- the state
+
+-- open; open for reading alone, since a write to its files failed; closed
+pub data Mode : Type 0 where
+  open_mode : Mode
+  broken : Mode
+  closed : Mode
+
+-- a snapshot as it was given out: its number, and the sequence at which it reads
+pub record Snapshot : Type 0 where
+  pub number : ℕ
+  pub sequence : ℕ
+
+-- the options of an opening, as far as they decide what is answered
+pub record Opening : Type 0 where
+  -- the comparator's name
+  pub comparator : List ℕ
+  pub create_if_missing : Bool
+  pub error_if_exists : Bool
+  -- the store's name and each number are within their limits
+  pub fits : Bool
+  -- the compressor that new blocks ask for is set
+  pub compresses : Bool
+
+pub record State : Type 0 where
+  pub history : History
+  -- the last number, at or above the history's
+  pub last : ℕ
+  -- how many batches are covered by a sync
+  pub covered : ℕ
+  -- the snapshots that are held, and the numbers that this opening gave out
+  pub held : List Snapshot
+  pub given : List ℕ
+  -- a batch whose append began and was refused: the files may have it
+  pub pending : Option (List Entry)
+  pub mode : Mode
+  -- the options of the opening, until it is closed
+  pub opening : Option Opening
+  -- whether the store's lock is held
+  pub locked : Bool
+  -- whether the store is there
+  pub store : Store
+
+-- nothing is held or was given out by a store that is closed
+pub record IsAtRest (state : State) : Type 0 where
+  pub held : state.held ≡ []
+  pub given : state.given ≡ []
+  pub opening : state.opening ≡ None
+
+-- by the mode: an open store has nothing pending, and a closed one is at rest
+abbrev pub SuitsMode : Mode → State → Type 0
+SuitsMode open_mode state = (state.pending ≡ None) × IsTrue state.locked
+SuitsMode broken state = IsTrue state.locked
+SuitsMode closed state = IsAtRest state
+
+-- what holds of every state: its numbers fit together
+pub record IsState (state : State) : Type 0 where
+  pub history : IsHistory (joined state.history state.pending)
+  pub reached : greatest (entries_of state.history) ≤ state.last
+  pub pending : greatest (entries_of (joined state.history state.pending)) ≤ state.last + count_of state.pending
+  pub covered : state.covered ≤ length state.history
+  pub held : (one : Snapshot) → Contains state.held one → (one.sequence ≤ state.last) × Contains state.given one.number
+  pub mode : SuitsMode state.mode state
+
+-- ---- requests and answers
+
+-- a move of an iterator
+pub data Move : Type 0 where
+  seek_to_first : Move
+  advance : Move
+  prev : Move
+  seek : List ℕ → Move
+  reset : Move
+
+-- a read is asked for now, or at a snapshot
+pub data Request : Type 0 where
+  open_store : Opening → Request
+  write : List Item → Bool → Request
+  get : Option Snapshot → List ℕ → Request
+  walk : Option Snapshot → List Move → Request
+  get_snapshot : Request
+  release_snapshot : Snapshot → Request
+  flush : Request
+  compact_range : List ℕ → List ℕ → Request
+  close : Request
+  abandon : Request
+
+-- a code and a text, which may be missing
+pub record Refusal : Type 0 where
+  pub code : StatusCode
+  pub text : List ℕ
+
+-- where a move of an iterator led
+pub data Landing : Type 0 where
+  stands_on : Pair → Landing
+  nowhere : Landing
+  move_refused : Refusal → Landing
+
+pub data Answer : Type 0 where
+  done : Answer
+  found : Option (List ℕ) → Answer
+  walked : List Landing → Answer
+  snapshot : Snapshot → Answer
+  refused : Refusal → Answer

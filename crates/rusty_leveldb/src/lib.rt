@@ -1,0 +1,4 @@
+//! The store: a machine over a history, on a disk that holds it.
+#![tactic(auto)]
+
+pub mod promises;

@@ -1,0 +1,28 @@
+//! The laws of the store's machine, as contracts of functions that do nothing.
+
+ghost use Rattle.rusty_leveldb.specs.Laws.{OneReading, NothingStands, CrashBetween, CrashInside, RefusalHasCause, SyncedIsFound};
+
+/// What a store's files hold is determined, so a store can't choose what it recovers. And a disk on which no store is yet is one
+/// from which a store's life may begin.
+pub fn files_have_one_reading()
+    ensures one { OneReading }
+    ensures none { NothingStands }
+{}
+
+/// Wherever a crash comes, between two requests or at a moment inside one, what it leaves is a store from which the next life
+/// begins: a beginning of the batches handed on, whole ones only, with all that was covered; and so again if the next life is
+/// cut short.
+pub fn crashes_leave_a_beginning()
+    ensures between { CrashBetween }
+    ensures inside { CrashInside }
+{}
+
+/// A refused request has one of the causes, each with its condition, or the store was closed, or it broke earlier.
+pub fn refusals_have_causes()
+    ensures { RefusalHasCause }
+{}
+
+/// The machine's rows can be met: a value that was written with a sync before a crash is found behind it.
+pub fn synced_write_is_found()
+    ensures { SyncedIsFound }
+{}
