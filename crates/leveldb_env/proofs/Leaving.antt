@@ -18,7 +18,7 @@ abbrev pub Entries : Type 0
 Entries = List (String Global × File)
 
 -- what a look-up of the name finds
-abbrev found_in : Entries → List ℕ → Option File
+abbrev pub found_in : Entries → List ℕ → Option File
 found_in entries name = lookup (is_at (λ k. slice_cmp nat_cmp name (string_bytes k))) entries
 
 -- each entry stands in the map

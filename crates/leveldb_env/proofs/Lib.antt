@@ -5,6 +5,9 @@ pub mod Names
 pub mod Folders
 pub mod Moments
 pub mod Recording
+pub mod Copies
+pub mod TailLists
+pub mod Crashing
 pub mod Locks
 pub mod Appends
 pub mod Picks

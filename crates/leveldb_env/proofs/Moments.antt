@@ -1,14 +1,14 @@
 -- A run of calls goes on by one.
-use Rattle.std.proofs.Common.{◌≡◌, inl, inr, ℕ, Bool, true, false, cond, ◌+◌, ◌*◌, ◌/◌, ◌%◌, ◌<◌, ◌≤◌, ◌&&◌, ◌==◌, nat_le, List, [], ◌∷◌, ◌++◌, Option, None, Some, filter, fold, refl, sym, ◌∙◌, ap, subst, arith, append-nil}
+use Rattle.std.proofs.Common.{◌≡◌, inl, inr, ℕ, Bool, true, false, cond, ◌+◌, ◌*◌, ◌/◌, ◌%◌, ◌<◌, ◌≤◌, ◌&&◌, ◌==◌, nat_le, List, [], ◌∷◌, ◌++◌, Option, None, Some, filter, fold, refl, sym, ◌∙◌, ap, subst, arith, append-nil, length, take, get_or}
 use Rattle.std.specs.List.{find}
 use Rattle.std.specs.Option.{option_or}
 use Rattle.std.proofs.lemmas.Bool.Decides.{nat_tests}
-use Rattle.std.proofs.lemmas.List.Elements.{filter-append}
+use Rattle.std.proofs.lemmas.List.Elements.{filter-append, filter_more}
 use Rattle.std.proofs.lemmas.List.Folds.{find-append}
 use Rattle.std.proofs.lemmas.List.Sums.{fold_push}
 use Rattle.leveldb_env.specs.declared.mem_env.journal.Call.{Call}
 use Rattle.leveldb_env.specs.Disk.{Files, Disk}
-use Rattle.leveldb_env.specs.Journal.{after, files_after, cut_off, cut_off_if, files_inside, Stood, are_within}
+use Rattle.leveldb_env.specs.Journal.{after, files_after, cut_off, cut_off_if, files_inside, where_done, call_behind, side_of, files_at, Stood, are_within}
 use Rattle.leveldb_env.specs.Times.{Told, Within}
 
 -- ---- the numbers of the calls
@@ -170,3 +170,38 @@ module _ (first files : Files) (calls : List Call) (n : ℕ) (within : are_withi
 
     pub noted_inside : Stood first new (2 * n + 1) (cut_off call.change files)
     noted_inside = let half : (2 * n + 1) / 2 ≡ n = omega arith in inr (omega arith, sym noted_cut ∙ ap (files_inside first new) (sym half))
+
+-- ---- the calls once more
+
+pub after_more : (first : Files) (calls : List Call) (n i : ℕ) (call : Call) → i < length calls → call ≡ get_or calls i call
+    → where_done (nat_le call.number n) (λ files. after files call) (files_after first (take i calls) n) ≡ files_after first (take (i + 1) calls) n
+after_more first calls n i call below is =
+    by (nat_le call.number n)
+    ∙ ap (λ (c : Call). fold after first (filter among (take i calls) ++ cond (among c) (c ∷ []) [])) is
+    ∙ ap (fold after first) (sym (filter_more among calls i call below))
+  where
+    among : Call → Bool
+    among call = nat_le call.number n
+
+    by : (b : Bool) → where_done b (λ files. after files call) (fold after first (filter among (take i calls))) ≡ fold after first (filter among (take i calls) ++ cond b (call ∷ []) [])
+    by true = sym (fold_push after first (filter among (take i calls)) call)
+    by false = ap (fold after first) (sym (append-nil (filter among (take i calls))))
+
+-- ---- one side of a moment
+
+pub odd_from_test : (moment : ℕ) → (moment % 2 ≡ 0 → ⊥) → (moment % 2 == 1) ≡ true
+odd_from_test moment odd = let is : moment % 2 ≡ 1 = omega arith in grind (arith, nat_tests)
+
+pub files_at_odd : (first : Files) (calls : List Call) (moment : ℕ) (side : Bool) (o : Option Call) → (moment % 2 == 1) ≡ true → o ≡ call_behind calls (moment / 2) → side_of side o (files_after first calls (moment / 2)) ≡ files_at first calls moment side
+files_at_odd first calls moment side o odd is =
+    ap (λ (o : Option Call). side_of side o (files_after first calls (moment / 2))) is
+    ∙ ap (λ b. where_done b (side_of side (call_behind calls (moment / 2))) (files_after first calls (moment / 2))) (sym odd)
+
+pub files_at_even : (first : Files) (calls : List Call) (moment : ℕ) (side : Bool) → moment % 2 ≡ 0 → files_after first calls (moment / 2) ≡ files_at first calls moment side
+files_at_even first calls moment side even =
+    let test : (moment % 2 == 1) ≡ false = grind (arith, nat_tests) in
+    ap (λ b. where_done b (side_of side (call_behind calls (moment / 2))) (files_after first calls (moment / 2))) (sym test)
+
+pub done_both : (a b : Bool) (change : Files → Files) (files : Files) → where_done (a && b) change files ≡ where_done a (where_done b change) files
+done_both true b change files = refl
+done_both false b change files = refl

@@ -1,8 +1,8 @@
 -- The names that are there, as a list of them, each once.
-use Rattle.std.proofs.Common.{◌≡◌, ◌↔◌, ◌||◌, Bool, true, false, cond, ℕ, List, [], ◌∷◌, map, Option, Some, IsSome, is_some, refl, sym, ◌∙◌, ap, subst, ◌⊎◌, inl, inr, ⊎_elim, String, string_bytes}
+use Rattle.std.proofs.Common.{◌≡◌, ◌↔◌, ◌||◌, Bool, true, false, cond, ℕ, List, [], ◌∷◌, map, Option, Some, None, IsSome, is_some, refl, sym, ◌∙◌, ap, subst, ◌⊎◌, inl, inr, ⊎_elim, String, string_bytes}
 use Rattle.std.specs.BTreeMap.{is_at, keys, IsOrdered}
 use Rattle.std.specs.Cmp.Lexicographic.{slice_cmp, bytes_decides}
-use Rattle.std.specs.List.{Contains, IsDistinct, AllByRecursion}
+use Rattle.std.specs.List.{Contains, IsDistinct, AllByRecursion, filter_map}
 use Rattle.std.specs.Map.{lookup, keys_of}
 use Rattle.std.specs.Ordering.{nat_cmp, eq_by_cmp}
 use Rattle.std.specs.Set.{is_member, unique_keys}
@@ -16,7 +16,7 @@ use Rattle.std.proofs.lemmas.Slice.Eq.{bytes_eq-Decides}
 use Rattle.std.specs.declared.alloc.Global.{Global}
 use Rattle.leveldb_env.specs.Disk.{File, Files}
 use Rattle.leveldb_env.specs.Mem.{files_of}
-use Rattle.leveldb_env.proofs.Elements.{all_among, Contains-cons, Contains-head, Contains-tail}
+use Rattle.leveldb_env.proofs.Elements.{all_among, Contains-cons, Contains-head, Contains-tail, filter_map_source, Contains-filter_map, IsDistinct-filter_map}
 use Rattle.leveldb_env.proofs.Files.{FileMap}
 
 pub record AreNames (files : Files) (names : List (List ℕ)) : Type 0 where
@@ -95,4 +95,29 @@ unique_names files = record {
       let member = is_member-Decides bytes_eq-Decides (names_of files) name in
       let found = names_found name files.entries in
       (λ among. sym found ∙ member.1 (from_unique (names_of files) name among), λ there. among_unique (names_of files) name (member.0 (found ∙ there)));
+}
+
+-- ---- the names that are there, of some among which all of them are
+
+abbrev there_name : Files → List ℕ → Option (List ℕ)
+there_name files name = cond (is_some (files name)) (Some name) None
+
+name_there : (files : Files) (name found : List ℕ) → there_name files name ≡ Some found → (name ≡ found) × IsSome (files name)
+name_there files name found is = by (is_some (files name)) refl is
+  where
+    by : (b : Bool) → is_some (files name) ≡ b → cond b (Some name) None ≡ Some found → (name ≡ found) × IsSome (files name)
+    by true e is = (cc is, e)
+    by false e is = absurd (cc is)
+
+pub AreNames-there : (files : Files) (names : List (List ℕ)) → ((name : List ℕ) → IsSome (files name) → Contains names name) → AreNames files (filter_map (there_name files) (unique_keys bytes_eq names))
+AreNames-there files names all = record {
+  once = IsDistinct-filter_map (there_name files) bytes_eq bytes_eq
+      (λ x x2 y y2 is is2 apart. (λ i. bytes_eq (sym (name_there files x y is).0 i) (sym (name_there files x2 y2 is2).0 i)) ∙ apart) (unique_keys bytes_eq names) (unique_once names);
+  there = λ name. (
+    λ among.
+        let s = filter_map_source (there_name files) (unique_keys bytes_eq names) name among in
+        let at = name_there files s.0 name s.2 in
+        subst (λ (n : List ℕ). IsSome (files n)) at.0 at.1,
+    λ there. Contains-filter_map (there_name files) (unique_keys bytes_eq names) name name (among_unique names name (all name there)) (ap (λ b. cond b (Some name) None) there),
+  );
 }

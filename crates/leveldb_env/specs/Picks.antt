@@ -1,6 +1,9 @@
 -- What a crash leaves of files by choice: which bytes follow those that it keeps.
-use Rattle.std.specs.Prelude.{◌≡◌, ◌⊎◌, ◌≤◌, ℕ, List, [], ◌++◌, length, All, IsSomeAnd, unwrap_or, map, String, string_bytes, Vec}
+use Rattle.std.specs.Prelude.{◌≡◌, ◌⊎◌, ◌↔◌, ◌≤◌, ◌<◌, Contains, ℕ, List, [], ◌++◌, length, All, IsSomeAnd, unwrap_or, map, String, string_bytes, Vec}
+use Rattle.std.specs.Cmp.Lexicographic.{slice_cmp}
 use Rattle.std.specs.List.{IsDistinct}
+use Rattle.std.specs.List.Sorted.{IsStrictlySortedBy}
+use Rattle.std.specs.Ordering.{nat_cmp}
 use Rattle.std.specs.Map.{lookup, keys_of}
 use Rattle.std.specs.Option.{option_map}
 use Rattle.std.specs.Str.{bytes_eq}
@@ -35,6 +38,11 @@ pub record IsTailOf (files : Files) (pick : List ℕ × List ℕ) : Type 0 where
 pub record IsAllowed (files : Files) (tails : Tails) : Type 0 where
   pub each : All (IsTailOf files) tails
   pub once : IsDistinct bytes_eq (keys_of tails)
+
+-- in order of name what the files have past their kept bytes, where they have any
+pub record ListsTails (files : Files) (tails : Tails) : Type 0 where
+  pub each : (name tail : List ℕ) → Contains tails (name, tail) ↔ IsSomeAnd (files name) (λ file. (file.since ≡ tail) × (0 < length tail))
+  pub in_order : IsStrictlySortedBy (slice_cmp nat_cmp) (keys_of tails)
 
 -- whatever a crash leaves, it leaves by tails that are allowed
 abbrev pub LeavesByTails : Files → Type 0

@@ -1,14 +1,15 @@
 -- What an environment that records its calls tells, and what its calls do.
-use Rattle.std.specs.Prelude.{◌≡◌, ◌⊎◌, ◌+◌, ◌-◌, ◌*◌, ◌^◌, ◌==◌, ◌&&◌, ◌||◌, ◌↔◌, min, not, ℕ, Bool, true, false, List, nat_le, if◌then◌else◌, Result, OnOk, IfErr, MatchResult}
+use Rattle.std.specs.Prelude.{◌≡◌, ◌⊎◌, ◌+◌, ◌-◌, ◌*◌, ◌^◌, ◌==◌, ◌&&◌, ◌||◌, ◌↔◌, ◌≤◌, min, not, ℕ, Bool, true, false, List, nat_le, if◌then◌else◌, Result, OnOk, IfErr, MatchResult}
 use Rattle.std.specs.BTreeSet.{contains_text}
 use Rattle.leveldb_base.specs.declared.error.Status.{Status}
 use Rattle.leveldb_base.specs.declared.error.StatusCode.TheVariants.{IOError}
 use Rattle.leveldb_env.specs.declared.mem_env.journal.Journal.{Journal}
 use Rattle.leveldb_env.specs.declared.mem_env.record.RecordEnv.{RecordEnv}
 use Rattle.leveldb_env.specs.Calls.{EitherSide, Still, NoMemory}
-use Rattle.leveldb_env.specs.Disk.{Files}
-use Rattle.leveldb_env.specs.Journal.{Stood, where_done}
+use Rattle.leveldb_env.specs.Disk.{Files, Leaves}
+use Rattle.leveldb_env.specs.Journal.{Stood, where_done, files_at}
 use Rattle.leveldb_env.specs.Mem.{files_of}
+use Rattle.leveldb_env.specs.Picks.{Tails, IsAllowed, picked}
 use Rattle.leveldb_env.specs.Times.{Told, Within}
 
 -- ---- a journal
@@ -126,3 +127,25 @@ pub record Asks {T : Type 0} (change : Files → Files) (may_stand : Bool) (old 
   pub err : IfErr result (λ e. (NoMemory e × (files_in new ≡ files_in old)) ⊎ (files_in new ≡ where_done (may_stand && stands old) change (files_in old)))
   pub time : Within (EitherSide change (files_in old)) (told_of old) (told_of new)
   pub inside : let at_last = where_done may_stand change (files_in old) in MatchResult result (λ _. StoodInside at_last old new) (λ e. NoMemory e ⊎ (is_past old ≡ true) ⊎ StoodInside at_last old new)
+
+-- ---- what a crash leaves of a moment
+
+-- the files at a moment, on this side of a change in flight; an append in flight is whole
+abbrev pub files_then : RecordEnv → ℕ → Bool → Files
+files_then env moment side = files_at (files_of env.journal.first) env.journal.calls.items moment side
+
+-- a crash at a moment that has come may leave these tails of the files on this side
+pub record CanLeave (env : RecordEnv) (moment : ℕ) (side : Bool) (tails : Tails) : Type 0 where
+  pub come : moment ≤ moment_of env
+  pub allowed : IsAllowed (files_then env moment side) tails
+
+-- whatever a crash at a moment that has come leaves, it leaves by such a choice
+abbrev pub LeavesByChoice : RecordEnv → ℕ → Type 0
+LeavesByChoice env moment = (files left : Files) → moment ≤ moment_of env → (told_of env).stood moment files → Leaves files left → (side : Bool) × (tails : Tails) × CanLeave env moment side tails × (left ≡ picked tails (files_then env moment side))
+
+-- a disk of which no call was made yet
+pub record IsFresh (env : RecordEnv) : Type 0 where
+  pub moment : moment_of env ≡ 0
+  pub free : (name : List ℕ) → locked_in env name ≡ false
+  pub failures : failures_of env ≡ 0
+  pub fails_in : fails_in env ≡ 0

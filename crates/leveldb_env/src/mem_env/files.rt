@@ -83,6 +83,13 @@ impl MemFile {
         self.kept = self.bytes.len();
     }
 
+    /// The bytes that were appended since.
+    pub fn since(&self) -> &[u8]
+        ensures { result.now ≡ self.now.since }
+    {
+        &self.bytes[self.kept..]
+    }
+
     /// The file that a crash leaves: the kept bytes and behind them this tail, all kept.
     pub fn left(&self, alloc: Global, tail: &[u8]) -> Result<MemFile, AllocError>
         ensures { IfOk result (λ left. left ≡ kept_file (self.now.kept ++ tail.now)) }
@@ -95,8 +102,26 @@ impl MemFile {
     }
 }
 
+impl Clone for MemFile {
+    ghost is_clone = { λ file copy. copy ≡ file };
+
+    fn clone(&self) -> Result<MemFile, AllocError> {
+        Ok(MemFile {
+            bytes: self.bytes.clone()?,
+            kept: self.kept,
+        })
+    }
+}
+
 /// Files by their names.
 pub type FileMap = BTreeMap<String, MemFile>;
+
+/// The same files once more.
+pub fn copy_files(files: &FileMap) -> Result<FileMap, AllocError>
+    ensures { IfOk result (λ copy. files_of copy ≡ files_of files.now) }
+{
+    files.clone()
+}
 
 /// Puts a file under the name, in place of what stood there.
 pub fn put_file(

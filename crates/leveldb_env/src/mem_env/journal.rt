@@ -1,8 +1,9 @@
 //! Files in memory, with a journal that tells what they were at each moment of a run of calls.
-ghost use Rattle.std.specs.Prelude.{◌≡◌, ◌+◌, ◌*◌, ◌<◌, ◌^◌, true, false, Bool, ℕ, List, OnOk, OnErr, IfOk, Ok, None, vec_len, vec_capacity, nat_le};
+ghost use Rattle.std.specs.Prelude.{◌≡◌, ◌+◌, ◌*◌, ◌<◌, ◌^◌, ◌&&◌, ◌||◌, true, false, Bool, ℕ, List, OnOk, OnErr, IfOk, Ok, None, vec_len, vec_capacity, nat_le};
+ghost use Rattle.std.specs.Option.{option_copied};
 ghost use Rattle.leveldb_env.specs.Disk.{same};
 ghost use Rattle.leveldb_env.specs.Calls.{EitherSide, Still};
-ghost use Rattle.leveldb_env.specs.Journal.{asked, noted, name_in, may_stand, finds, where_done, files_after, are_within};
+ghost use Rattle.leveldb_env.specs.Journal.{asked, noted, name_in, may_stand, is_append, finds, files_at, call_behind, after, where_done, files_after, are_within};
 ghost use Rattle.leveldb_env.specs.Mem.{files_of};
 
 use super::files;
@@ -136,6 +137,53 @@ impl Journal {
         }
     }
 
+    /// A journal that begins with these files.
+    pub fn begin(alloc: Global, files: FileMap) -> Result<Journal, AllocError>
+        ensures count { IfOk result (λ journal. journal.count ≡ 0) }
+        ensures files { IfOk result (λ journal. files_of journal.files ≡ files_of files) }
+    {
+        Ok(Journal {
+            first: files::copy_files(&files)?,
+            files,
+            calls: Vec::new(alloc),
+            count: 0,
+        })
+    }
+
+    /// The files at a moment, on this side of a change in flight; an append in flight is whole.
+    pub fn files_at(&self, alloc: Global, moment: u64, side: bool) -> Result<FileMap, AllocError>
+        ensures { IfOk result (λ files. files_of files ≡ files_at (files_of self.now.first) self.now.calls.items moment side) }
+    {
+        let mut files = self.files_after(alloc, moment / 2)?;
+        if moment % 2 == 0 {
+            return Ok(files);
+        }
+        if let Some(call) = self.call_behind(moment / 2) {
+            let change = lend_change(&call.change);
+            make_change(&mut files, alloc, &change, stands_inside(&change, side))?;
+        }
+        Ok(files)
+    }
+
+    // The call behind the first n, if it asked for a change.
+    fn call_behind(&self, n: u64) -> Option<&Call>
+        requires { n + 1 < 2 ^ 64 }
+        ensures { option_copied result ≡ call_behind self.now.calls.items n }
+    {
+        self.calls.iter().find(|call| call.number == n + 1)
+    }
+
+    // The files after the first n calls.
+    fn files_after(&self, alloc: Global, n: u64) -> Result<FileMap, AllocError>
+        ensures { IfOk result (λ files. files_of files ≡ files_after (files_of self.now.first) self.now.calls.items n) }
+    {
+        let mut files = files::copy_files(&self.first)?;
+        for call in &self.calls {
+            replay_call(&mut files, alloc, call, n)?;
+        }
+        Ok(files)
+    }
+
     /// The files now.
     pub fn files(&self) -> &FileMap
         ensures { result.now ≡ self.now.files }
@@ -194,6 +242,45 @@ impl Journal {
         };
         self.calls.push(call).unwrap();
         Ok(there)
+    }
+}
+
+// The same change, with its names and bytes lent.
+fn lend_change(change: &Noted) -> Asked<'_>
+    ensures change { asked result ≡ noted change.now }
+    ensures may { may_stand result ≡ may_stand change.now }
+    ensures append { is_append result ≡ is_append change.now }
+{
+    match change {
+        Change::Emptied(name) => Change::Emptied(name.as_str()),
+        Change::Created(name) => Change::Created(name.as_str()),
+        Change::Extended(name, bytes) => Change::Extended(name.as_str(), bytes.as_slice()),
+        Change::Synced(name) => Change::Synced(name.as_str()),
+        Change::Deleted(name) => Change::Deleted(name.as_str()),
+        Change::Renamed(from, to) => Change::Renamed(from.as_str(), to.as_str()),
+        Change::Cleared(folder) => Change::Cleared(folder.as_str()),
+    }
+}
+
+// Makes the change of a call once more, where it was done and is among the first n.
+fn replay_call(files: &mut FileMap, alloc: Global, call: &Call, n: u64) -> Result<(), AllocError>
+    ensures { OnOk result (files_of files.new ≡ where_done (nat_le call.now.number n) (λ files. after files call.now) (files_of files.old)) }
+{
+    if call.number > n {
+        return Ok(());
+    }
+    make_change(files, alloc, &lend_change(&call.change), call.done)?;
+    Ok(())
+}
+
+// Whether a change in flight stands on this side: an append does, a sync doesn't.
+fn stands_inside(change: &Asked<'_>, side: bool) -> bool
+    ensures { result ≡ ((side || is_append change.now) && may_stand change.now) }
+{
+    match change {
+        Change::Extended(_name, _bytes) => true,
+        Change::Synced(_name) => false,
+        _ => side,
     }
 }
 

@@ -4,7 +4,7 @@ ghost use Rattle.std.specs.Map.{lookup};
 ghost use Rattle.std.specs.Option.{option_copied};
 ghost use Rattle.std.specs.Str.{bytes_eq};
 ghost use Rattle.leveldb_env.specs.Mem.{files_of};
-ghost use Rattle.leveldb_env.specs.Picks.{IsAllowed, IsTailOf, picked, tail_for, tails_of};
+ghost use Rattle.leveldb_env.specs.Picks.{IsAllowed, IsTailOf, ListsTails, picked, tail_for, tails_of};
 
 use crate::mem_env::files::{FileMap, put_file};
 use std::alloc::{AllocError, Global};
@@ -75,4 +75,17 @@ pub fn left_files(
         put_file(&mut left, alloc, name, file)?;
     }
     Ok(left)
+}
+
+/// In order of name what the files have past their kept bytes, where they have any.
+pub fn list_tails(files: &FileMap, alloc: Global) -> Result<Vec<(String, Vec<u8>)>, AllocError>
+    ensures { IfOk result (λ tails. ListsTails (files_of files.now) (tails_of tails.items)) }
+{
+    let mut tails = Vec::new(alloc);
+    for (name, file) in files.iter() {
+        if file.since_len() > 0 {
+            tails.push((name.clone()?, file.since().to_vec(alloc)?))?;
+        }
+    }
+    Ok(tails)
 }

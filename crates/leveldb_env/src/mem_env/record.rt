@@ -1,10 +1,13 @@
 //! A disk in memory that tells what its files were at each moment.
 ghost use Rattle.std.specs.Prelude.{◌≡◌, ◌<◌, ◌+◌, ◌-◌, ◌^◌, ◌==◌, ◌&&◌, ◌||◌, min, true, false, Bool, ℕ, List, None, Some, if◌then◌else◌, not, IsErr, IsErrAnd, OnOk};
 
+#[cfg(test)]
+mod tests;
+
 use crate::env::Env;
 use crate::mem_env::journal::{Asked, Change, Journal, may_stand, name_in};
-use crate::mem_env::{MemHandle, files, missing, put_lock, refuse, take_lock};
-use leveldb_base::error::{Result, Status, StatusCode};
+use crate::mem_env::{MemHandle, Pick, files, missing, picks, put_lock, refuse, take_lock};
+use leveldb_base::error::{Result, Status, StatusCode, err};
 use std::alloc::{AllocError, Global};
 use std::collections::BTreeSet;
 
@@ -22,21 +25,23 @@ pub struct RecordEnv {
     ghost counted: { failures < 2 ^ 64 },
 }
 
+const STILL_TO_COME: &str = "that moment is still to come";
+
+const NO_CRASH_LEAVES: &str = "no crash leaves these tails";
+
 impl RecordEnv {
-    ghost use Rattle.std.specs.Prelude.{nat_eq, IfOk, IfErr, OnErr};
+    ghost use Rattle.std.specs.Prelude.{◌⊎◌, ◌≤◌, nat_eq, IfOk, IfErr, OnErr};
     ghost use Rattle.leveldb_env.specs.Mem.{CopiesFrom, IsNoSuchFile};
     ghost use Rattle.leveldb_env.specs.Calls.{NoMemory};
-    ghost use Rattle.leveldb_env.specs.Disk.{Files};
+    ghost use Rattle.leveldb_env.specs.Disk.{Files, Leaves};
+    ghost use Rattle.leveldb_env.specs.Picks.{ListsTails, picked, tails_of};
     ghost use Rattle.leveldb_env.specs.Journal.{asked, finds, may_stand, IsNotMade};
-    ghost use Rattle.leveldb_env.specs.Record.{told_of, files_in, locked_in, moment_of, failures_of, fails_in, fails_done, TellsTheSame, is_past, is_chosen, one_more, SameButFailures, Turns, Looks, Asks};
+    ghost use Rattle.leveldb_env.specs.Record.{told_of, files_in, locked_in, moment_of, failures_of, fails_in, fails_done, TellsTheSame, is_past, is_chosen, one_more, SameButFailures, Turns, Looks, Asks, files_then, CanLeave, LeavesByChoice, IsFresh};
 
     /// A disk without a name or a lock, at moment 0. No call is chosen to fail.
     pub fn new(alloc: Global) -> RecordEnv
         ensures files { (name : List ℕ) → files_in result name ≡ None }
-        ensures locks { (name : List ℕ) → locked_in result name ≡ false }
-        ensures moment { moment_of result ≡ 0 }
-        ensures failures { failures_of result ≡ 0 }
-        ensures fails { fails_in result ≡ 0 }
+        ensures fresh { IsFresh result }
     {
         RecordEnv {
             alloc,
@@ -64,6 +69,54 @@ impl RecordEnv {
     {
         self.fails_in = nth;
         self.fails_done = done;
+    }
+
+    /// In order of name what the files at a moment have past their kept bytes, where they have any.
+    /// `after` says which side of a name change in flight they are on; an append in flight is whole.
+    ///
+    /// `InvalidArgument` for a moment that is still to come.
+    pub fn tails(&self, alloc: Global, moment: u64, after: bool) -> Result<Vec<(String, Vec<u8>)>>
+        ensures tails { IfOk result (λ tails. ListsTails (files_then self.now moment after) (tails_of tails.items)) }
+        ensures come { OnOk result (moment ≤ moment_of self.now) }
+        ensures refused { IfErr result (λ e. NoMemory e ⊎ ((e.code ≡ StatusCode.InvalidArgument) × (moment_of self.now < moment))) }
+    {
+        if moment > self.moment() {
+            return err(alloc, StatusCode::InvalidArgument, STILL_TO_COME);
+        }
+        let files = self.journal.files_at(alloc, moment, after)?;
+        Ok(picks::list_tails(&files, alloc)?)
+    }
+
+    /// The disk that a crash at a moment leaves by this choice: of each file the kept bytes and the
+    /// tail picked for it, then all kept. It begins at moment 0, with no name locked and no call chosen.
+    ///
+    /// `InvalidArgument` for a moment that is still to come, for a name given twice or not there, and
+    /// for a tail that is too long. Each disk that a crash may leave is left by some choice.
+    pub fn disk_at(&self, alloc: Global, moment: u64, pick: &Pick) -> Result<RecordEnv>
+        ensures left { IfOk result (λ left. files_in left ≡ picked (tails_of pick.now.tails.items) (files_then self.now moment pick.now.after)) }
+        ensures leaves { IfOk result (λ left. Leaves (files_then self.now moment pick.now.after) (files_in left)) }
+        ensures fresh { IfOk result IsFresh }
+        ensures stood { (told_of self.now).stood moment (files_then self.now moment pick.now.after) }
+        ensures allowed { OnOk result (CanLeave self.now moment pick.now.after (tails_of pick.now.tails.items)) }
+        ensures refused { IfErr result (λ e. NoMemory e ⊎ ((e.code ≡ StatusCode.InvalidArgument) × (CanLeave self.now moment pick.now.after (tails_of pick.now.tails.items) → ⊥))) }
+        ensures every { LeavesByChoice self.now moment }
+    {
+        if moment > self.moment() {
+            return err(alloc, StatusCode::InvalidArgument, STILL_TO_COME);
+        }
+        let files = self.journal.files_at(alloc, moment, pick.after)?;
+        if !picks::is_allowed(&files, pick.tails.as_slice()) {
+            return err(alloc, StatusCode::InvalidArgument, NO_CRASH_LEAVES);
+        }
+        let left = picks::left_files(&files, alloc, pick.tails.as_slice())?;
+        Ok(RecordEnv {
+            journal: Journal::begin(alloc, left)?,
+            alloc,
+            locks: BTreeSet::new(alloc),
+            fails_in: 0,
+            fails_done: false,
+            failures: 0,
+        })
     }
 
     // Copies bytes of the name's file from a place on to the front of the target.
