@@ -155,11 +155,21 @@ mod tests {
     // The expected keys are those of LevelDB's rules, worked by hand.
     #[test]
     fn separators(rt: HostRuntime) -> Result<()> {
-        let rows: [(&[u8], u64, &[u8], u64, &[u8], u64); 4] = [
+        let rows: [(&[u8], u64, &[u8], u64, &[u8], u64); 7] = [
             (b"abc", 1, b"zzz", 2, b"b", MAX_SEQUENCE_NUMBER),
             (b"abcd", 1, b"abce", 2, b"abcd\0", 1),
             (b"", 2, b"", 1, b"", 2),
             (b"key", 3, b"key", 3, b"key", 3),
+            (b"abcd", 1, b"abcf", 2, b"abce", 1),
+            (b"abc", 5, b"acd", 4, b"abd", 5),
+            (
+                b"abcdefghi",
+                9,
+                b"abcffghi",
+                8,
+                b"abce",
+                MAX_SEQUENCE_NUMBER,
+            ),
         ];
         for (user_a, number_a, user_b, number_b, user, number) in rows {
             let a = LookupKey::new(rt.alloc(), user_a, number_a)?;
