@@ -24,15 +24,14 @@ fn records_of(alloc: Global, bytes: &[u8]) -> Result<(Vec<Vec<u8>>, bool)>
 
 /// Records of 9, 12 and 22 bytes in blocks of 17: they end at 16, 43 and 93, and a byte of filler stands at 16.
 fn small_log(rt: &(impl Abort + AllocGlobal)) -> Result<Vec<u8>> {
-    let mut log = Vec::new(rt.alloc());
-    let mut writer = LogWriter::sized(rt.alloc(), &mut log, 17);
+    let mut writer = LogWriter::sized(rt.alloc(), Vec::new(rt.alloc()), 17);
     assert_eq!(rt; writer.add_record(NINE)?, 16);
     assert_eq!(rt; writer.add_record(b"")?, 0);
     assert_eq!(rt; writer.add_record(TWELVE)?, 27);
     assert_eq!(rt; writer.add_record(TWENTY_TWO)?, 50);
     writer.flush()?;
-    assert_eq!(rt; log.len(), 93);
-    Ok(log)
+    assert_eq!(rt; writer.sink.len(), 93);
+    Ok(writer.sink)
 }
 
 fn assert_read<R: Source>(
@@ -102,8 +101,8 @@ impl Sink for Refusing {
 #[test]
 fn log_of_one_batch_has_24_bytes(rt: HostRuntime) -> Result<()> {
     let mut log = Vec::new(rt.alloc());
-    let mut writer = LogWriter::new(rt.alloc(), &mut log);
-    let written = writer.add_record(b"\x01\0\0\0\0\0\0\0\x01\0\0\0\x01\x01a\x011")?;
+    let mut core = WriterCore::new(rt.alloc());
+    let written = core.add_record(&mut log, b"\x01\0\0\0\0\0\0\0\x01\0\0\0\x01\x01a\x011")?;
     assert_eq!(rt; written, 24);
     assert_eq!(rt; log.len(), 24);
     assert!(rt; log.as_slice().get(4..8) == Some([17, 0, 1, 1].as_slice()));
@@ -216,17 +215,22 @@ fn cut_anywhere(rt: HostRuntime) -> Result<()> {
     Ok(())
 }
 
+fn assert_damage_at(rt: &(impl Abort + AllocGlobal), log: &[u8], place: usize) -> Result<()> {
+    let mut record = Vec::new(rt.alloc());
+    let mut reader = LogReader::sized(rt.alloc(), log, true, 17);
+    assert_first_records(rt, &mut reader, &mut record, whole_before(place))?;
+    assert_corruption(rt, &mut reader, &mut record);
+    Ok(())
+}
+
 #[test]
 fn each_byte_raised(rt: HostRuntime) -> Result<()> {
     let mut log = small_log(&rt)?;
-    let mut record = Vec::new(rt.alloc());
     for place in 0..93 {
         if let Some(byte) = log.get_mut(place) {
             *byte = byte.wrapping_add(1);
         }
-        let mut reader = LogReader::sized(rt.alloc(), log.as_slice(), true, 17);
-        assert_first_records(&rt, &mut reader, &mut record, whole_before(place))?;
-        assert_corruption(&rt, &mut reader, &mut record);
+        assert_damage_at(&rt, &log, place)?;
         if let Some(byte) = log.get_mut(place) {
             *byte = byte.wrapping_sub(1);
         }
