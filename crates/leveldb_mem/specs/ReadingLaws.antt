@@ -1,12 +1,19 @@
 -- How readings of one record after another make up the reading of a log.
+use Rattle.std.specs.Prelude.{Option, None, Some, IfSome, IsTrue, drop}
 use Rattle.std.proofs.Common.{ℕ, ◌+◌, ◌<◌, Bool, true, false, List, [], ◌∷◌, ◌++◌, length, Result, refl, sym, subst, ◌∙◌, ap, arith, append_assoc, append-nil}
 use Rattle.std.proofs.Math.Nat.{mod-lt}
 use Rattle.leveldb_base.specs.declared.error.Status.{Status}
-use Rattle.leveldb_env.specs.Sources.{GivesSome, GivesAll, GivesUp}
+use Rattle.leveldb_env.specs.Sources.{GivesSome, GivesAll, GivesUp, GivesFirst}
+use Rattle.leveldb_env.specs.declared.env.Env.{Ghosts}
+use Rattle.leveldb_env.specs.declared.env.env_file.EnvFile.{EnvFile}
+use Rattle.leveldb_env.specs.Disk.{bytes_of}
+use Rattle.leveldb_env.specs.SourceLaws.{GivesSome-first, GivesAll-first}
+use Rattle.leveldb_env.specs.OpenFiles.{opened, standing, ChangesOpened, ReadsLent, IsFurther}
+use Rattle.leveldb_env.specs.OpenFileLaws.{IsFurther-lent, IsReadOut-lent}
 use Rattle.leveldb_mem.specs.Log.{IsBlockSize, behind, IsRecord, clean, bad, Ends, LogOf, BreaksOff}
 use Rattle.leveldb_mem.specs.LogLaws.Framing.{behind_both, behind_none, log_append}
 use Rattle.leveldb_mem.specs.LogLaws.Breaks.{breaks_bad}
-use Rattle.leveldb_mem.specs.Reading.{Reading, Comes, Shows, whatever_follows, IsTorn, FindsRecord, FindsEnd, FindsWrongChecksum, ReadSoFar}
+use Rattle.leveldb_mem.specs.Reading.{Reading, Comes, Shows, at_end, whatever_follows, IsTorn, FindsRecord, FindsEnd, FindsWrongChecksum, ReadSoFar}
 use Rattle.leveldb_mem.specs.Comings.{Comes-none, Comes-behind, ComesAll-behind, Shows-behind, GivesUp-behind}
 
 -- bytes that come where none was there were given
@@ -78,3 +85,33 @@ module _ {S : Type 0} (gives : S → ℕ → Result (List ℕ) Status → S → 
     -- a reading that is given up
     pub ReadSoFar-given_up : (status : Status) → GivesUp gives at status to → GivesUp gives from status to
     ReadSoFar-given_up status up = GivesUp-behind gives (given_all (GivesSome gives) from at (front ++ now.unread) has.come) up
+
+-- ---- what shows of a source
+
+-- a source of bytes in memory
+abbrev pub first_given : {S : Type 0} → (S → List ℕ) → S → ℕ → Result (List ℕ) Status → S → Type 0
+first_given left old room result new = GivesFirst (left old) room result (left new)
+
+-- of bytes in memory
+pub Shows-first : {S : Type 0} (left : S → List ℕ) {P : List ℕ → Type 0} {from to : S} → Shows (first_given left) P [] from to → P (left from)
+Shows-first left {P = P} {from = from} {to = to} (at_end bytes come holds) = subst P (GivesAll-first left (given_all (GivesAll (first_given left)) from to bytes come)).0 holds
+Shows-first left {P = P} {from = from} {to = to} (whatever_follows bytes come holds) = subst P (sym (GivesSome-first left (given_all (GivesSome (first_given left)) from to bytes come))) (holds (left to))
+
+if_some : {A : Type 0} {P Q : A → Type 0} (o : Option A) → ((x : A) → P x → Q x) → IfSome o P → IfSome o Q
+if_some None so is = tt
+if_some (Some x) so is = so x is
+
+module _ {E F : Type 0} (env : Ghosts E F) where
+  -- of a file that is lent, from its place on
+  pub Shows-lent : {P : List ℕ → Type 0} {from to : EnvFile E F} → Shows (ReadsLent env) P [] from to
+      → (bytes : List ℕ) × ChangesOpened (λ old new. IsFurther env old bytes new) from to
+      × (IsTrue env.tells_disk → IfSome (standing env (opened from.env.now from.file.now)) (λ file. P (drop (env.place_of from.file.now) (bytes_of file))))
+  Shows-lent {P = P} {from = from} {to = to} (at_end bytes come holds) =
+      let read = IsReadOut-lent env (given_all (GivesAll (ReadsLent env)) from to bytes come) in (
+        bytes,
+        record { changes = read.changes.further; same_env = read.same_env; same_file = read.same_file },
+        λ tells. if_some (standing env (opened from.env.now from.file.now)) (λ file is. subst P is holds) (read.changes.all tells),
+      )
+  Shows-lent {P = P} {from = from} {to = to} (whatever_follows bytes come holds) =
+      let read = IsFurther-lent env (given_all (GivesSome (ReadsLent env)) from to bytes come) in
+      (bytes, read, λ tells. if_some (standing env (opened from.env.now from.file.now)) (λ file is. subst P (sym is) (holds (drop (env.place_of from.file.now + length bytes) (bytes_of file)))) (read.changes.next tells))
