@@ -6,6 +6,7 @@ pub mod BatchLaws
 pub mod Writing
 pub mod Reading
 pub mod Comings
+pub mod LogFiles
 pub mod ReadingLaws
 pub mod ReaderKept
 pub mod ReadingSteps

@@ -10,7 +10,8 @@ use Rattle.leveldb_env.specs.Disk.{bytes_of}
 use Rattle.leveldb_env.specs.SourceLaws.{GivesSome-first, GivesAll-first}
 use Rattle.leveldb_env.specs.OpenFiles.{opened, standing, ChangesOpened, ReadsLent, IsFurther}
 use Rattle.leveldb_env.specs.OpenFileLaws.{IsFurther-lent, IsReadOut-lent}
-use Rattle.leveldb_mem.specs.Log.{IsBlockSize, behind, IsRecord, clean, bad, Ends, LogOf, BreaksOff}
+use Rattle.leveldb_mem.specs.Log.{IsBlockSize, log_block_size, behind, IsRecord, End, clean, bad, Ends, LogOf, BreaksOff}
+use Rattle.leveldb_mem.specs.LogFiles.{IsReadAsLog}
 use Rattle.leveldb_mem.specs.LogLaws.Framing.{behind_both, behind_none, log_append}
 use Rattle.leveldb_mem.specs.LogLaws.Breaks.{breaks_bad}
 use Rattle.leveldb_mem.specs.Reading.{Reading, Comes, Shows, at_end, whatever_follows, IsTorn, FindsRecord, FindsEnd, FindsWrongChecksum, ReadSoFar}
@@ -57,21 +58,19 @@ module _ {S : Type 0} (gives : S → ℕ → Result (List ℕ) Status → S → 
               ∙ ap (λ place. record { checked = checked; size = size; place = place; unread = new.unread; failed = false }) (behind_both size 0 front part (front ++ part) refl);
         }
 
-    -- at a clean end all bytes are a log of these records
-    pub ReadSoFar-clean : FindsEnd gives now at new to → (bytes : List ℕ) × GivesAll gives from bytes to × LogOf checked size records clean 0 bytes
-    ReadSoFar-clean finds =
-        let whole = given_all (GivesAll gives) from to (front ++ []) (ComesAll-behind gives front has.come finds.come) in
-        (front, subst (λ z. GivesAll gives from z to) (append-nil front) whole, has.log)
+    -- at the end what comes is a log of these records with a clean end
+    pub ReadSoFar-clean : FindsEnd gives now at new to → Shows gives (LogOf checked size records clean 0) [] from to
+    ReadSoFar-clean finds = at_end (front ++ []) (ComesAll-behind gives front has.come finds.come) (subst (LogOf checked size records clean 0) (sym (append-nil front)) has.log)
 
     -- a log that ends badly behind these records
     ends_badly : (rest : List ℕ) → Ends checked size bad (behind size 0 front) rest → LogOf checked size records bad 0 (front ++ rest)
     ends_badly rest ends = subst (λ z. LogOf checked size z bad 0 (front ++ rest)) (append-nil records) (log_append size block.least checked 0 start records [] front rest bad has.log ends)
 
-    -- at damage they are a log of these records with a bad end
+    -- at damage it is a log of these records with a bad end
     pub ReadSoFar-torn : Shows gives (IsTorn now.checked now.size now.place) now.unread at to → Shows gives (LogOf checked size records bad 0) [] from to
     ReadSoFar-torn shows = Shows-behind gives front now.unread has.come (λ bytes torn. ends_badly bytes (at_place (λ checked size place. Ends checked size bad place bytes) torn.ends)) shows
 
-    -- and so they are at a wrong checksum
+    -- and so it is at a wrong checksum
     pub ReadSoFar-wrong : FindsWrongChecksum gives now at new to → Shows gives (LogOf checked size records bad 0) [] from to
     ReadSoFar-wrong finds =
         let part = finds.front in
@@ -115,3 +114,10 @@ module _ {E F : Type 0} (env : Ghosts E F) where
   Shows-lent {P = P} {from = from} {to = to} (whatever_follows bytes come holds) =
       let read = IsFurther-lent env (given_all (GivesSome (ReadsLent env)) from to bytes come) in
       (bytes, read, λ tells. if_some (standing env (opened from.env.now from.file.now)) (λ file is. subst P (sym is) (holds (drop (env.place_of from.file.now + length bytes) (bytes_of file)))) (read.changes.next tells))
+
+  -- which is a log
+  pub IsReadAsLog-lent : {records : List (List ℕ)} {end : End} {from to : EnvFile E F} → Shows (ReadsLent env) (LogOf true log_block_size records end 0) [] from to
+      → ChangesOpened (λ old new. IsReadAsLog env old records end new) from to
+  IsReadAsLog-lent shows =
+      let read = Shows-lent shows in
+      record { changes = record { bytes = read.0; further = read.1.changes; log = read.2 }; same_env = read.1.same_env; same_file = read.1.same_file }

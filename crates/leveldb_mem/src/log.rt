@@ -4,11 +4,13 @@
 ghost use Rattle.std.specs.Prelude.{◌≡◌};
 ghost use Rattle.leveldb_mem.specs.Log.{record_type};
 
+mod files;
 mod reader;
 #[cfg(test)]
 mod tests;
 mod writer;
 
+pub use files::read_log_file;
 pub use reader::{Found, LogReader, ReaderCore, read_records};
 pub use writer::{LogWriter, WriterCore};
 

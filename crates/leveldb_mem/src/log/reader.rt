@@ -1,5 +1,5 @@
 //! The reader of a log: it joins fragments to records.
-ghost use Rattle.std.specs.Prelude.{◌≡◌, ◌≢◌, ◌↔◌, ℕ, ◌+◌, ◌-◌, ◌*◌, ◌%◌, ◌≤◌, ◌<◌, true, false, [], take, drop, length, slice_index, slice_range, vec_len, IfOk, OnOk, IfErr, IfSome, IsErrAnd, IsTrue, MatchOption, List, All, Ok, string_bytes, map};
+ghost use Rattle.std.specs.Prelude.{◌≡◌, ◌≢◌, ◌↔◌, ℕ, ◌+◌, ◌-◌, ◌*◌, ◌%◌, ◌≤◌, ◌<◌, true, false, [], take, drop, length, slice_index, slice_range, vec_len, IfOk, OnOk, IfErr, IfSome, IsErrAnd, IsTrue, MatchOption, List, All, Ok, string_bytes, map, if◌then◌else◌};
 ghost use Rattle.leveldb_base.specs.Status.{status_text};
 ghost use Rattle.leveldb_base.specs.declared.error.StatusCode.TheVariants.{Corruption};
 ghost use Rattle.leveldb_env.specs.Sources.{GivesSome, GivesAll, GivesUp};
@@ -452,10 +452,8 @@ pub fn read_records<S: Source>(
     source: &mut S,
     check_crcs: bool,
 ) -> Result<(Vec<Vec<u8>>, bool)>
-    ensures clean { IfOk result (λ found. found.1 ≡ true → (bytes : List ℕ) × GivesAll S.gives source.old bytes source.new
-        × LogOf check_crcs log_block_size (map (λ v. v.items) found.0.items) clean 0 bytes) }
-    ensures bad { IfOk result (λ found. found.1 ≡ false
-        → Shows S.gives (LogOf check_crcs log_block_size (map (λ v. v.items) found.0.items) bad 0) [] source.old source.new) }
+    ensures log { IfOk result (λ found. Shows S.gives
+        (LogOf check_crcs log_block_size (map (λ v. v.items) found.0.items) (if found.1 then clean else bad) 0) [] source.old source.new) }
     ensures err { IfErr result (λ status. GivesUp S.gives source.old status source.new) }
 {
     let mut core = ReaderCore::new(alloc, check_crcs);

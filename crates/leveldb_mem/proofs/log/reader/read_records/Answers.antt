@@ -29,17 +29,17 @@ returns-in_err-push-in-Record-clause-err g c =
     rw p.1 (ReadSoFar-given_up g.S.Source.gives c.args.check_crcs log_block_size usual_size c.args.source.now _ c.next_record.new.self c.next_record.new.source more c.next_record.new.self c.next_record.new.source p.0
     (wants_memory g.S.Source.gives c.next_record.new.source p.0 p.2))
 
-pub returns-in-End-clause-clean : goal.returns-in-End-clause-clean
-returns-in-End-clause-clean g c = λ ends.
+pub returns-in-End-clause-log : goal.returns-in-End-clause-log
+returns-in-End-clause-log g c =
     let found = rw c.in-End.is at c.in_ok-next_record.ensures.found in
     ReadSoFar-clean g.S.Source.gives c.args.check_crcs log_block_size usual_size c.args.source.now _ c.loop-record.core c.loop-record.source c.loop-record.invariant c.next_record.new.self c.next_record.new.source found.0
 
-pub returns-in-WrongChecksum-clause-bad : goal.returns-in-WrongChecksum-clause-bad
-returns-in-WrongChecksum-clause-bad g c = λ ends.
+pub returns-in-WrongChecksum-clause-log : goal.returns-in-WrongChecksum-clause-log
+returns-in-WrongChecksum-clause-log g c =
     let found = rw c.in-WrongChecksum.is at c.in_ok-next_record.ensures.found in
     ReadSoFar-wrong g.S.Source.gives c.args.check_crcs log_block_size usual_size c.args.source.now _ c.loop-record.core c.loop-record.source c.loop-record.invariant c.next_record.new.self c.next_record.new.source found
 
-pub returns-in-Damage-clause-bad : goal.returns-in-Damage-clause-bad
-returns-in-Damage-clause-bad g c = λ ends.
+pub returns-in-Damage-clause-log : goal.returns-in-Damage-clause-log
+returns-in-Damage-clause-log g c =
     let found = rw c.in-Damage.is at c.in_ok-next_record.ensures.found in
     ReadSoFar-torn g.S.Source.gives c.args.check_crcs log_block_size usual_size c.args.source.now _ c.loop-record.core c.loop-record.source c.loop-record.invariant c.next_record.new.self c.next_record.new.source found
