@@ -24,7 +24,11 @@ pub fn read_log_file<E: Env>(alloc: Global, env: &mut E, name: &str) -> Result<(
 }
 
 // The records of what an open file has from its place on.
-fn records_of_rest<E: Env>(alloc: Global, env: &mut E, file: &mut E::File) -> Result<(Vec<Vec<u8>>, bool)>
+fn records_of_rest<E: Env>(
+    alloc: Global,
+    env: &mut E,
+    file: &mut E::File,
+) -> Result<(Vec<Vec<u8>>, bool)>
     ensures ok { IfOk result (λ found. IsReadAsLog E.Env (opened env.old file.old)
         (map (λ v. v.items) found.0.items) (if found.1 then clean else bad) (opened env.new file.new)) }
     ensures err { IfErr result (λ status. IsGivenUp E.Env (opened env.old file.old) status (opened env.new file.new)) }
