@@ -10,3 +10,4 @@ pub mod LogFiles
 pub mod ReadingLaws
 pub mod ReaderKept
 pub mod ReadingSteps
+pub mod Entries

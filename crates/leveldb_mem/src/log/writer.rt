@@ -108,6 +108,13 @@ impl WriterCore {
         flushed
     }
 
+    /// Whether the sink has refused a call.
+    pub fn is_broken(&self) -> bool
+        ensures { result ≡ self.now.broken }
+    {
+        self.broken
+    }
+
     fn check_unbroken(&self) -> Result<()>
         ensures ok { OnOk result (self.now.broken ≡ false) }
         ensures err { IfErr result (λ status. (self.now.broken ≡ true) × IsBroken status) }
