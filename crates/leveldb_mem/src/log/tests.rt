@@ -4,7 +4,8 @@ ghost use Rattle.leveldb_mem.specs.Log.{IsLogFile, clean, bad};
 
 use super::*;
 use leveldb_base::error::{Result, StatusCode, err};
-use leveldb_env::env::{Sink, Source};
+use leveldb_env::env::{Env, Sink, Source};
+use leveldb_env::mem_env::MemEnv;
 use std::alloc::Global;
 use std::process::Abort;
 
@@ -275,6 +276,31 @@ fn whole_logs(rt: HostRuntime) -> Result<()> {
     assert!(rt; !is_whole);
     assert_eq!(rt; records.len(), 1);
     assert_eq!(rt; records[0].as_slice(), NINE);
+    Ok(())
+}
+
+#[test]
+fn files_of_logs(rt: HostRuntime) -> Result<()> {
+    let mut writer = LogWriter::new(rt.alloc(), Vec::new(rt.alloc()));
+    for record in [NINE, TWELVE] {
+        writer.add_record(record)?;
+    }
+    let mut env = MemEnv::new(rt.alloc());
+    for (name, length, count) in [("empty", 0, 0), ("torn", 34, 1), ("clean", 35, 2)] {
+        let bytes = writer.sink.as_slice().get(..length).unwrap_or_default();
+        let mut file = env.open_writable_file(name)?;
+        env.append(&mut file, bytes)?;
+        let (records, is_whole) = read_log_file(rt.alloc(), &mut env, name)?;
+        assert_eq!(rt; is_whole, name != "torn", "the {name} log");
+        assert_eq!(rt; records.len(), count, "the {name} log");
+        for (record, wanted) in records.iter().zip([NINE, TWELVE]) {
+            assert_eq!(rt; record.as_slice(), wanted);
+        }
+    }
+    match read_log_file(rt.alloc(), &mut env, "missing") {
+        Ok(_) => assert!(rt; false, "a missing file is read"),
+        Err(status) => assert_eq!(rt; status.code, StatusCode::NotFound),
+    }
     Ok(())
 }
 
