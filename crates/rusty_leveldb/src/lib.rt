@@ -1,4 +1,5 @@
 //! The store: a machine over a history, on a disk that holds it.
 #![tactic(auto)]
 
+pub mod db_impl;
 pub mod promises;

@@ -1,0 +1,57 @@
+//! What a store has in memory while it is open. Each call is given the environment.
+ghost use Rattle.std.specs.Prelude.{◌≡◌, ◌⊎◌, false, OnOk, IfErr};
+ghost use Rattle.rusty_leveldb.specs.Engine.{IsShut, ShutOut, ShutDown};
+
+use super::recent::Recent;
+use leveldb_base::error::{Result, StatusCode, err};
+use leveldb_env::env::Env;
+use leveldb_env::options::Options;
+use leveldb_mem::log::WriterCore;
+use std::alloc::Global;
+
+/// Whether a store may be read and written to.
+#[derive(Clone, Copy, Debug, PartialEq, Eq)]
+pub enum Mode {
+    /// It may be read and written to.
+    Open,
+    /// A write to its log failed: it may be read, and is to be opened again for any other call.
+    Broken,
+    /// It is to be opened again.
+    Closed,
+}
+
+/// A store that was opened, without its environment. Its lock stays held until `close` or `abandon` gives it back.
+#[derive(Drop)]
+pub struct Engine<E: Env, C, FP> {
+    pub(crate) alloc: Global,
+    pub(crate) options: Options<C, FP>,
+    // The name of the lock.
+    pub(crate) lock: String,
+    pub(crate) log: E::File,
+    pub(crate) writer: WriterCore,
+    pub(crate) recent: Recent,
+    pub(crate) mode: Mode,
+}
+
+/// A closed store answers no call.
+pub(crate) fn check_not_closed(alloc: Global, mode: Mode) -> Result<()>
+    ensures ok { OnOk result (IsShut mode → ⊥) }
+    ensures cause { IfErr result (ShutOut mode) }
+{
+    if mode == Mode::Closed {
+        return err(alloc, StatusCode::InvalidArgument, "the store is closed");
+    }
+    Ok(())
+}
+
+/// A store that broke answers no call that writes.
+pub(crate) fn check_open(alloc: Global, mode: Mode, writer: &WriterCore) -> Result<()>
+    ensures ok { OnOk result ((mode ≡ Mode.Open) × (writer.now.broken ≡ false)) }
+    ensures cause { IfErr result (λ status. ShutOut mode status ⊎ ShutDown mode writer.now status) }
+{
+    check_not_closed(alloc, mode)?;
+    if mode == Mode::Broken || writer.is_broken() {
+        return err(alloc, StatusCode::IOError, "reopen the store");
+    }
+    Ok(())
+}
