@@ -7,3 +7,5 @@ pub mod Causes
 pub mod Example
 pub mod OneLog
 pub mod Replays
+pub mod Texts
+pub mod Frames
