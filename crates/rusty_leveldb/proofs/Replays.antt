@@ -3,6 +3,8 @@ use Rattle.std.proofs.Common.{◌≡◌, ◌≤◌, ◌<◌, ◌+◌, ◌⊎◌,
 use Rattle.std.specs.Prelude.{◌↔◌, Contains, max, Result, Ok, Err, IsErrAnd, IfErr}
 use Rattle.leveldb_base.specs.declared.error.Status.{Status}
 use Rattle.leveldb_base.specs.declared.error.StatusCode.{StatusCode}
+use Rattle.leveldb_base.specs.declared.error.StatusCode.TheVariants.{Corruption}
+use Rattle.leveldb_base.specs.Status.{IsOutOfMemory}
 use Rattle.std.proofs.lemmas.List.Elements.{Contains-append_left, Contains-append_right, Contains-append_cases}
 use Rattle.leveldb_base.specs.History.{Item, Entry, placed, greatest}
 use Rattle.leveldb_mem.specs.Batch.{Batch, IsBatch}
@@ -10,7 +12,7 @@ use Rattle.leveldb_mem.specs.BatchLaws.{BatchOf-one}
 use Rattle.leveldb_mem.specs.Entries.{Gains}
 use Rattle.rusty_leveldb.specs.OneLog.{Each, IsRecordOf, AreInOrder, entries_in, all_entries, max_sequence}
 use Rattle.rusty_leveldb.specs.Recent.{Numbered, Follows, Inserts}
-use Rattle.rusty_leveldb.specs.Replay.{AreBatches, IsReplayed}
+use Rattle.rusty_leveldb.specs.Replay.{AreBatches, IsReplayed, IsDamaged}
 use Rattle.rusty_leveldb.proofs.OneLog.Batches.{each_more, greatest_append, all_more, order_more}
 use Rattle.rusty_leveldb.proofs.OneLog.LogFile.{one_batches}
 
@@ -124,3 +126,20 @@ replayed_none recent entries last = record {
 pub refused : {T : Type 0} (result : Result T Status) (code : StatusCode) (Why : Type 0) → IsErrAnd result (λ status. status.code ≡ code) → Why → IfErr result (λ status. (status.code ≡ code) × Why)
 refused (Ok x) code Why is why = tt
 refused (Err status) code Why is why = (is, why)
+
+-- ---- damage
+
+-- a record that is no batch
+pub not_batches : (all front : List (List ℕ)) (text : List ℕ) (rest : List (List ℕ)) (status : Status) → all ≡ front ++ text ∷ rest
+    → IsOutOfMemory status ⊎ ((status.code ≡ Corruption) × (IsBatch text → ⊥)) → IsOutOfMemory status ⊎ IsDamaged all status
+not_batches all front text rest status split why =
+    ⊎_elim
+    (λ (memory : IsOutOfMemory status). inl memory)
+    (λ (bad : (status.code ≡ Corruption) × (IsBatch text → ⊥)). inr (record { code = bad.0; none = λ are. bad.1 (each_is_batch front text rest (subst AreBatches split are)) }))
+    why
+
+-- a batch that doesn't follow those before it
+pub not_in_order : (all front : List (List ℕ)) (text : List ℕ) (rest : List (List ℕ)) (status : Status) (recent : Numbered) (last : ℕ) (batch : Batch) → all ≡ front ++ text ∷ rest
+    → IsReplayed front recent → last ≡ recent.last → IsRecordOf text batch → (status.code ≡ Corruption) × (Follows last batch → ⊥) → IsDamaged all status
+not_in_order all front text rest status recent last batch split was same is bad =
+    record { code = bad.0; none = λ are. bad.1 (subst (λ n. Follows n batch) (sym same) (each_follows front text rest recent batch was is (subst AreBatches split are))) }
