@@ -84,14 +84,14 @@ each_follows front text rest recent batch was is are =
 just_more : (kept : List Entry) (all : List Entry) (more : List Entry) (new : List Entry) → ((entry : Entry) → Contains kept entry ↔ Contains all entry) → Gains kept more new → (entry : Entry) → Contains new entry ↔ Contains (all ++ more) entry
 just_more kept all more new just gains entry = (
   λ c. ⊎_elim
-  (λ (old : Contains kept entry). Contains-append_left all more entry ((just entry).0 old))
-  (λ (come : Contains more entry). Contains-append_right all more entry come)
-  (Contains-append_cases kept more entry ((gains entry).0 c)),
+      (λ (old : Contains kept entry). Contains-append_left all more entry ((just entry).0 old))
+      (λ (come : Contains more entry). Contains-append_right all more entry come)
+      (Contains-append_cases kept more entry ((gains entry).0 c)),
   λ c. (gains entry).1
-  (⊎_elim
-  (λ (old : Contains all entry). Contains-append_left kept more entry ((just entry).1 old))
-  (λ (come : Contains more entry). Contains-append_right kept more entry come)
-  (Contains-append_cases all more entry c)),
+      (⊎_elim
+      (λ (old : Contains all entry). Contains-append_left kept more entry ((just entry).1 old))
+      (λ (come : Contains more entry). Contains-append_right kept more entry come)
+      (Contains-append_cases all more entry c)),
 )
 
 -- a record more, whose batch follows and is inserted

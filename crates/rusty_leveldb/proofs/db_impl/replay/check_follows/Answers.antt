@@ -1,7 +1,6 @@
 -- A batch whose numbers fit follows, and one that follows has numbers that fit.
-use Rattle.std.proofs.Common.{arith, ◌≤◌, ◌<◌, ◌+◌, length}
+use Rattle.std.proofs.Common.{arith}
 use Rattle.leveldb_base.specs.declared.error.StatusCode.TheVariants.{Corruption}
-use Rattle.rusty_leveldb.specs.OneLog.{max_sequence}
 use Rattle.rusty_leveldb.specs.Recent.{Follows}
 use Rattle.rusty_leveldb.proofs.Replays.{all_fit, none_fit, refused}
 use Rattle.rusty_leveldb.proofs.db_impl.replay.check_follows.Goals as goal
@@ -12,7 +11,7 @@ pub returns-then-first-gt-MAX_SEQUENCE_NUMBER-clause-cause :
 returns-then-first-gt-MAX_SEQUENCE_NUMBER-clause-cause c =
     refused c.err-then-first-gt-MAX_SEQUENCE_NUMBER.result Corruption (Follows c.args.last c.args.batch.now → ⊥) c.err-then-first-gt-MAX_SEQUENCE_NUMBER.ensures.code
     (elim c.then-first-gt-MAX_SEQUENCE_NUMBER.branch [
-      then-first-gt-MAX_SEQUENCE_NUMBER-via-then-first-gt-MAX_SEQUENCE_NUMBER w ↦ λ follows. omega (arith, follows.first_fits)
+      | then-first-gt-MAX_SEQUENCE_NUMBER-via-then-first-gt-MAX_SEQUENCE_NUMBER w ↦ λ follows. omega (arith, follows.first_fits)
       | then-first-gt-MAX_SEQUENCE_NUMBER-via-else-first-gt-MAX_SEQUENCE_NUMBER+then-first-from w ↦ λ follows. none_fit c.args.batch.now.first c.args.batch.now.items (omega (arith, follows.first_fits)) (omega arith) follows.all_fit
     ])
 

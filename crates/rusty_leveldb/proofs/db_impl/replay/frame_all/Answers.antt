@@ -1,5 +1,5 @@
 -- Each record's frame is put behind the others.
-use Rattle.std.proofs.Common.{◌≡◌, ◌∷◌, ◌++◌, [], List, ℕ, take, sym, ◌∙◌, ap, Vec}
+use Rattle.std.proofs.Common.{ℕ, take, sym, ◌∙◌, ap, Vec}
 use Rattle.std.specs.Global.{Global}
 use Rattle.leveldb_mem.specs.Log.{log_block_size, framed}
 use Rattle.rusty_leveldb.proofs.Texts.{texts, texts_more}
