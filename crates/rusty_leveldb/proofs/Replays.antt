@@ -19,7 +19,7 @@ use Rattle.rusty_leveldb.proofs.OneLog.LogFile.{one_batches}
 -- ---- a batch's numbers
 
 -- the greatest number of a batch with items is the last
-pub greatest_placed : (first : ℕ) (item : Item) (items : List Item) → greatest (placed first (item ∷ items)) ≡ first + length items
+greatest_placed : (first : ℕ) (item : Item) (items : List Item) → greatest (placed first (item ∷ items)) ≡ first + length items
 greatest_placed first item [] = omega arith
 greatest_placed first item (next ∷ items) = let rest = greatest_placed (first + 1) next items in omega arith
 
@@ -36,7 +36,7 @@ none_fit first (item ∷ items) fits more all = let is = greatest_placed first i
 -- ---- a batch in the midst of others
 
 -- the partners of a list's front, of the next and of the rest
-pub record SplitsAt {A B : Type 0} (R : A → B → Type 0) (xs : List A) (x : A) (zs : List B) : Type 0 where
+record SplitsAt {A B : Type 0} (R : A → B → Type 0) (xs : List A) (x : A) (zs : List B) : Type 0 where
   pub front : List B
   pub here : B
   pub rest : List B
@@ -44,7 +44,7 @@ pub record SplitsAt {A B : Type 0} (R : A → B → Type 0) (xs : List A) (x : A
   pub each : Each R xs front
   pub is : R x here
 
-pub each_splits : {A B : Type 0} (R : A → B → Type 0) (xs : List A) (x : A) (ys : List A) (zs : List B) → Each R (xs ++ x ∷ ys) zs → SplitsAt R xs x zs
+each_splits : {A B : Type 0} (R : A → B → Type 0) (xs : List A) (x : A) (ys : List A) (zs : List B) → Each R (xs ++ x ∷ ys) zs → SplitsAt R xs x zs
 each_splits R [] x ys [] e = absurd e
 each_splits R [] x ys (z ∷ zs) e = record { front = []; here = z; rest = zs; whole = refl; each = tt; is = e.0 }
 each_splits R (w ∷ xs) x ys [] e = absurd e
@@ -53,7 +53,7 @@ each_splits R (w ∷ xs) x ys (z ∷ zs) e =
     record { front = z ∷ s.front; here = s.here; rest = s.rest; whole = ap (λ bs. z ∷ bs) s.whole; each = (e.0, s.each); is = s.is }
 
 -- a batch in the midst of others in order follows those before it
-pub follows_at : (low : ℕ) (front : List Batch) (batch : Batch) (rest : List Batch) → AreInOrder low (front ++ batch ∷ rest) → Follows (max low (greatest (all_entries front))) batch
+follows_at : (low : ℕ) (front : List Batch) (batch : Batch) (rest : List Batch) → AreInOrder low (front ++ batch ∷ rest) → Follows (max low (greatest (all_entries front))) batch
 follows_at low [] batch rest order = record { above = omega (arith, order.0); first_fits = order.1; all_fit = order.2 }
 follows_at low (first ∷ front) batch rest order =
     let later = follows_at (max low (greatest (entries_in first))) front batch rest order.3 in
@@ -63,11 +63,11 @@ follows_at low (first ∷ front) batch rest order =
 -- ---- records
 
 -- among records that are batches each is one
-pub each_is_batch : (front : List (List ℕ)) (text : List ℕ) (rest : List (List ℕ)) → AreBatches (front ++ text ∷ rest) → IsBatch text
+each_is_batch : (front : List (List ℕ)) (text : List ℕ) (rest : List (List ℕ)) → AreBatches (front ++ text ∷ rest) → IsBatch text
 each_is_batch front text rest are = let s = each_splits IsRecordOf front text rest are.batches are.each in (s.here, s.is)
 
 -- among records that are batches in order each follows those before it
-pub each_follows : (front : List (List ℕ)) (text : List ℕ) (rest : List (List ℕ)) (recent : Numbered) (batch : Batch) → IsReplayed front recent → IsRecordOf text batch → AreBatches (front ++ text ∷ rest) → Follows recent.last batch
+each_follows : (front : List (List ℕ)) (text : List ℕ) (rest : List (List ℕ)) (recent : Numbered) (batch : Batch) → IsReplayed front recent → IsRecordOf text batch → AreBatches (front ++ text ∷ rest) → Follows recent.last batch
 each_follows front text rest recent batch was is are =
     let s = each_splits IsRecordOf front text rest are.batches are.each in
     let order : AreInOrder 0 (s.front ++ s.here ∷ s.rest) = subst (AreInOrder 0) s.whole are.order in
