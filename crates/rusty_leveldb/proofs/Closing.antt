@@ -266,3 +266,10 @@ module _ {E C FP F : Type 0} (env : Ghosts E F) (cmp : List ℕ → List ℕ →
           files = record { reading = λ never. absurd never; refused = λ never. absurd never; broken = λ stuck name some. subst (λ (files : Files). IsSome (files name)) (sym (does.now told)) some };
           others = λ name apart. ap (λ (locked : List ℕ → Bool). locked name) (relocks told) ∙ freed_other lock name (env.tells at).disk.locked (λ e. apart (e ∙ same_lock));
         }
+
+    -- either
+    pub abandon_answers : (result : Result (Unit {0}) Status) → Does env.tells_disk same Still (env.tells at) (env.tells now) result
+        → Relocks env.tells_disk (lock_set lock false) (env.tells at) (env.tells now) result → HasCause (λ _. ⊥) (env.failures at) (env.failures now) result
+        → Answers env cmp (Some before) at abandon (done_or result) None now
+    abandon_answers (Ok nothing) does relocks caused = abandoned does relocks caused
+    abandon_answers (Err status) does relocks caused = abandon_refused status does relocks caused

@@ -1,11 +1,8 @@
-use Rattle.std.proofs.Common.{rules, Some, None, false, ◌≡◌, ℕ, ◌+◌, ◌-◌, ◌*◌, ◌<◌, ◌≤◌, length, ◌/◌, ◌%◌, Bool, true, nat_eq, nat_lt, List, [], ◌∷◌, ◌++◌, slice_index_or, slice_set, bit_and, bit_or, Fits, w8, w32, w64, Bor, MutBor}
-use Rattle.leveldb_env.specs.Disk.{lock_set, same}
-use Rattle.leveldb_env.specs.Calls.{Does, Still, Relocks, HasCause}
-use Rattle.rusty_leveldb.specs.State.{close, abandon}
-use Rattle.rusty_leveldb.specs.Serves.{done_or}
-use Rattle.rusty_leveldb.specs.Engine.{Answers, CloseExcused}
+use Rattle.std.proofs.Common.{arith}
+use Rattle.rusty_leveldb.proofs.Closing.{abandon_answers}
 use Rattle.rusty_leveldb.proofs.db_impl.engine.Engine.abandon.Goals as goal
 
--- src/db_impl/close.rt:32:5
 pub returns-clause-step : goal.returns-clause-step
-returns-clause-step g c = ?
+returns-clause-step g c =
+    abandon_answers g.E.Env (g.C.Cmp.cmp c.args.self.options.cmp) c.args.self c.args.env.now c.give_back.new.env (λ is. grind arith)
+    c.deref.result.now c.deref.ensures c.give_back.result c.give_back.ensures.does c.give_back.ensures.locks c.give_back.ensures.cause
