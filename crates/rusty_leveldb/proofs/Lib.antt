@@ -9,3 +9,5 @@ pub mod OneLog
 pub mod Replays
 pub mod Texts
 pub mod Frames
+pub mod Ended
+pub mod Closing

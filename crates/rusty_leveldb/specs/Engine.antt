@@ -97,6 +97,10 @@ module _ {E C FP F : Type 0} (env : Ghosts E F) where
   abbrev pub SyncExcused : Engine E C FP F → E → Status → Type 0
   SyncExcused engine at e = ShutOut engine.mode e ⊎ ShutDown engine.mode engine.writer e ⊎ LogExcused engine at e
 
+  -- as a sync, where nothing was counted: giving back the lock may be refused with the same code, and that is counted
+  abbrev pub CloseExcused : Engine E C FP F → E → E → Status → Type 0
+  CloseExcused engine at now e = SyncExcused engine at e × (env.failures now ≡ env.failures at)
+
 abbrev pub GetExcused : Mode → List ℕ → Status → Type 0
 GetExcused mode key e = ShutOut mode e ⊎ ((e.code ≡ InvalidArgument) × IsLongKey key) ⊎ NoMemory e
 
