@@ -13,3 +13,4 @@ pub mod Recent
 pub mod Replay
 pub mod Engine
 pub mod Shell
+pub mod Language
