@@ -11,3 +11,4 @@ pub mod Texts
 pub mod Frames
 pub mod Ended
 pub mod Closing
+pub mod Playing
