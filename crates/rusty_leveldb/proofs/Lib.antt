@@ -12,3 +12,4 @@ pub mod Frames
 pub mod Ended
 pub mod Closing
 pub mod Playing
+pub mod Batching

@@ -91,7 +91,7 @@ module _ {E F : Type 0} (C FP : Type 0) (env : Ghosts E F) (cmp : List ℕ → L
       → PlaysSoFar from create_if_missing (commands ++ command ∷ []) (given ++ reply ∷ []) after to
   play_more from mid to create_if_missing commands given engine after command reply plays answers_so tells opening is old represents =
       let led = one_more env cmp store tells from mid to (open_store opening ∷ map request_of commands) (done ∷ map answer_of given) (Some engine) (Some after) (request_of command) (answer_of reply) old
-          (plays tells opening is old represents) answers_so in
+      (plays tells opening is old represents) answers_so in
       subst (λ as'. Leads C FP env cmp store from (open_store opening ∷ map request_of (commands ++ command ∷ [])) (done ∷ as') (Some after) to old) (sym (map-append answer_of given (reply ∷ [])))
       (subst (λ rs. Leads C FP env cmp store from (open_store opening ∷ rs) (done ∷ (map answer_of given ++ answer_of reply ∷ [])) (Some after) to old) (sym (map-append request_of commands (command ∷ []))) led)
 

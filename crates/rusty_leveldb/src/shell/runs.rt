@@ -1,6 +1,9 @@
 //! Runs of commands.
-ghost use Rattle.std.specs.Prelude.{◌≡◌, ◌≤◌, ◌⊎◌, ◌++◌, List, Some, length, drop, map, OnOk, IfErr};
+ghost use Rattle.std.specs.Prelude.{◌≡◌, ◌≤◌, ◌⊎◌, ◌++◌, List, Some, length, drop, map, IfOk, OnOk, IfErr};
+ghost use Rattle.leveldb_base.specs.Status.{IsOutOfMemory};
 ghost use Rattle.leveldb_env.specs.Calls.{NoMemory};
+ghost use Rattle.leveldb_mem.specs.Batch.{with_item, IsTooLong};
+ghost use Rattle.rusty_leveldb.specs.Causes.{IsLongBatch};
 ghost use Rattle.rusty_leveldb.specs.Engine.{Answers, OpenExcused};
 ghost use Rattle.rusty_leveldb.specs.Serves.{done_or};
 ghost use Rattle.rusty_leveldb.specs.State as machine;
@@ -9,7 +12,7 @@ ghost use Rattle.rusty_leveldb.specs.Shell.{PlaysAlways, HasFailed, request_of, 
 use super::commands::{Command, Item, Reply};
 use crate::db_impl::Engine;
 use leveldb_base::cmp::UserCmp;
-use leveldb_base::error::Result;
+use leveldb_base::error::{Result, StatusCode};
 use leveldb_env::env::Env;
 use leveldb_env::filter::FilterPolicy;
 use leveldb_env::options::Options;
@@ -92,12 +95,29 @@ fn write<E: Env, C: UserCmp + Copy, FP: FilterPolicy + Copy>(
     ensures later { E.failures env.old ≤ E.failures env.new }
 {
     engine.check_writable()?;
+    let batch = batch_of(alloc, items)?;
+    engine.write(env, batch, sync)
+}
+
+// These changes as a batch.
+fn batch_of(alloc: Global, items: &[Item]) -> Result<WriteBatch>
+    ensures ok { IfOk result (λ batch. batch.items ≡ map change_of items.now) }
+    ensures cause { IfErr result (λ status. IsOutOfMemory status ⊎ ((status.code ≡ StatusCode.InvalidArgument) × IsLongBatch (map change_of items.now))) }
+{
     let mut batch = WriteBatch::new(alloc)?;
     for item in items {
-        match item {
-            Item::Put(key, value) => batch.put(key, value)?,
-            Item::Delete(key) => batch.delete(key)?,
-        }
+        add(&mut batch, item)?;
     }
-    engine.write(env, batch, sync)
+    Ok(batch)
+}
+
+// Adds one change.
+fn add(batch: &mut WriteBatch, item: &Item) -> Result<()>
+    ensures ok { OnOk result (batch.new ≡ with_item batch.old (change_of item.now)) }
+    ensures cause { IfErr result (λ status. IsOutOfMemory status ⊎ ((status.code ≡ StatusCode.InvalidArgument) × IsTooLong (with_item batch.old (change_of item.now)))) }
+{
+    match item {
+        Item::Put(key, value) => batch.put(key, value),
+        Item::Delete(key) => batch.delete(key),
+    }
 }

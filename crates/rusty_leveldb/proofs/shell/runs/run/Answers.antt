@@ -14,8 +14,12 @@ returns-in_err-engine-clause-plays g c =
 
 pub loop-command-init : goal.loop-command-init
 loop-command-init g c = (
-  search rules, search rules, search rules,
-  [], search rules, refl,
+  search rules,
+  search rules,
+  search rules,
+  [],
+  search rules,
+  refl,
   play_first g.row.C.Denot g.row.FP.Denot g.E.Env (g.C.Cmp.cmp c.args.opt.cmp) c.args.name.now c.args.env.now c.open.new.env c.args.opt.create_if_missing c.in_ok-engine.engine c.in_ok-engine.ensures.step,
 )
 
@@ -31,9 +35,11 @@ loop-command-preserved g c =
     let same : g.C.Cmp.cmp c.loop-command.engine.options.cmp ≡ g.C.Cmp.cmp c.args.opt.cmp = rw so_far.0 refl in
     let step = in_order same c.answer.ensures.step in
     let more = play_more g.row.C.Denot g.row.FP.Denot g.E.Env (g.C.Cmp.cmp c.args.opt.cmp) c.args.name.now c.args.env.now c.loop-command.env c.answer.new.env c.args.opt.create_if_missing
-        (take c.loop-command.command-index c.args.commands.now) so_far.3 c.loop-command.engine c.answer.new.engine command reply so_far.6 step in
+    (take c.loop-command.command-index c.args.commands.now) so_far.3 c.loop-command.engine c.answer.new.engine command reply so_far.6 step in
     let behind = commands_up_to c.args.commands.now c.loop-command.command-index command c.loop-command-test.true c.command-item.is in (
-      search rules, search rules, search rules,
+      search rules,
+      search rules,
+      search rules,
       so_far.3 ++ reply ∷ [],
       pushed ∙ ap (λ items. items ++ reply ∷ []) so_far.4 ∙ append_assoc c.args.replies.now.items so_far.3 (reply ∷ []),
       omega (arith, length-append so_far.3 (reply ∷ []), so_far.5),
