@@ -6,3 +6,5 @@ pub mod Crashes
 pub mod Causes
 pub mod Example
 pub mod OneLog
+pub mod EntryOrder
+pub mod NodeSteps
