@@ -8,3 +8,4 @@ pub mod Example
 pub mod OneLog
 pub mod EntryOrder
 pub mod NodeSteps
+pub mod Insertions
