@@ -9,3 +9,4 @@ pub mod OneLog
 pub mod EntryOrder
 pub mod NodeSteps
 pub mod Insertions
+pub mod GetSteps
