@@ -13,3 +13,7 @@ pub mod Ended
 pub mod Closing
 pub mod Playing
 pub mod Batching
+pub mod EntryOrder
+pub mod NodeSteps
+pub mod Insertions
+pub mod GetSteps
