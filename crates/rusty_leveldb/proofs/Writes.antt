@@ -1,0 +1,4 @@
+-- The steps of writes and flushes, an exit each.
+pub mod Stands
+pub mod Shut
+pub mod Flush
