@@ -7,3 +7,4 @@ pub mod Causes
 pub mod Example
 pub mod OneLog
 pub mod Writes
+pub mod FrameBytes

@@ -2,3 +2,6 @@
 pub mod Stands
 pub mod Shut
 pub mod Flush
+pub mod Batches
+pub mod Append
+pub mod Done
