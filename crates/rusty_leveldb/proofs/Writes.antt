@@ -5,3 +5,7 @@ pub mod Flush
 pub mod Batches
 pub mod Append
 pub mod Done
+pub mod Kept
+pub mod Exits
+pub mod Causes
+pub mod Write
