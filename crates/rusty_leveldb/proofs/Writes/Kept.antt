@@ -1,12 +1,13 @@
 -- A write that is refused before its append, which leaves the store as it was.
-use Rattle.std.proofs.Common.{◌≡◌, ◌≤◌, ◌<◌, ◌+◌, inl, inr, ℕ, List, length, refl, sym, ◌∙◌, ap, subst, arith, Some, Bool}
+use Rattle.std.proofs.Common.{◌≡◌, ◌≤◌, ◌<◌, ◌+◌, ◌⊎◌, inl, inr, ⊎_elim, ℕ, List, [], ◌∷◌, length, refl, sym, ◌∙◌, ap, subst, arith, Some, Bool}
 use Rattle.std.specs.Prelude.{max}
 use Rattle.std.specs.declared.cmp.Ordering.{Ordering}
 use Rattle.leveldb_base.specs.declared.error.Status.{Status}
-use Rattle.leveldb_base.specs.declared.error.StatusCode.TheVariants.{NotSupported}
+use Rattle.leveldb_base.specs.declared.error.StatusCode.TheVariants.{InvalidArgument, NotSupported}
 use Rattle.leveldb_base.specs.Status.{IsOutOfMemory, text_of}
 use Rattle.leveldb_base.specs.History.{Item}
 use Rattle.leveldb_env.specs.declared.env.Env.{Ghosts}
+use Rattle.leveldb_mem.specs.Batch.{Batch, batch_of, with_item, IsTooLong}
 use Rattle.rusty_leveldb.specs.declared.db_impl.engine.Mode.TheVariants.{Open}
 use Rattle.rusty_leveldb.specs.declared.db_impl.engine.Engine.{Engine}
 use Rattle.rusty_leveldb.specs.Recent.{Numbered, AreUsedUp}
@@ -63,3 +64,10 @@ module _ {E C FP F : Type 0} (env : Ghosts E F) (store : List ℕ) (engine : Eng
     pub memory_goes : (after : Engine E C FP F) → Was env store after from old → IsOutOfMemory status
         → Goes store (Reads store) (Recalls env store) cmp (scene env cmp (Some engine) from) (write items sync) (refused (refusal_of status)) (scene env cmp (Some after) from) old
     memory_goes after now memory = kept_goes after now out_of_memory (tt, memory.0, ap text_of memory.1)
+
+    -- the batch is too long, or want of memory
+    pub unmade_goes : (batch : Batch) (item : Item) → batch ≡ batch_of 0 [] → items ≡ item ∷ [] → (status.code ≡ InvalidArgument) ⊎ IsOutOfMemory status → (status.code ≡ InvalidArgument → IsTooLong (with_item batch item))
+        → Goes store (Reads store) (Recalls env store) cmp (scene env cmp (Some engine) from) (write items sync) (refused (refusal_of status)) (scene env cmp (Some engine) from) old
+    unmade_goes batch item is one why long = ⊎_elim
+        (λ code. kept_goes engine was bad_operand (code, rw one (let past : IsTooLong (with_item (batch_of 0 []) item) = subst (λ (b : Batch). IsTooLong (with_item b item)) is (long code) in past)))
+        (λ memory. memory_goes engine was memory) why
