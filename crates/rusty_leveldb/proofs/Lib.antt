@@ -8,3 +8,7 @@ pub mod Example
 pub mod OneLog
 pub mod Writes
 pub mod FrameBytes
+pub mod EntryOrder
+pub mod NodeSteps
+pub mod Insertions
+pub mod GetSteps
