@@ -1,5 +1,5 @@
 -- The framing of bytes is bytes.
-use Rattle.std.proofs.Common.{◌-◌, ◌+◌, ◌<◌, ℕ, zero, suc, Bool, true, false, nat_lt, nat_le, List, [], ◌∷◌, ◌++◌, length, take, drop, arith}
+use Rattle.std.proofs.Common.{◌-◌, ◌<◌, ℕ, zero, suc, Bool, true, false, nat_lt, nat_le, List, [], ◌∷◌, ◌++◌, length, take, drop, arith}
 use Rattle.std.specs.Prelude.{replicate}
 use Rattle.std.specs.Int.{byte_at, bytes_low_first}
 use Rattle.leveldb_base.specs.Crc.{crc_of, masked}

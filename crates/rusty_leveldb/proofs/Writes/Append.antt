@@ -1,28 +1,26 @@
 -- An append of a batch's record to the log of an open store: what disk and machine are then.
-use Rattle.std.proofs.Common.{◌≡◌, ◌≤◌, ◌+◌, ◌%◌, ◌⊎◌, inl, inr, ⊎_elim, ℕ, List, [], ◌∷◌, ◌++◌, length, take, refl, sym, ◌∙◌, ap, subst, arith, Some, None, Bool, IsTrue, false}
-use Rattle.std.specs.Prelude.{max, string_bytes}
+use Rattle.std.proofs.Common.{◌≡◌, ◌≤◌, ◌+◌, inl, inr, ℕ, List, [], ◌∷◌, ◌++◌, length, take, refl, sym, ◌∙◌, ap, subst, arith, Some, Bool}
 use Rattle.std.specs.declared.cmp.Ordering.{Ordering}
 use Rattle.leveldb_base.specs.declared.error.Status.{Status}
 use Rattle.leveldb_base.specs.Status.{text_of}
-use Rattle.leveldb_base.specs.History.{Item, Entry, History, IsHistory, placed, entries_of, greatest, joined, count_of}
+use Rattle.leveldb_base.specs.History.{Item, Entry, History, IsHistory, entries_of, greatest, joined}
 use Rattle.leveldb_env.specs.declared.env.Env.{Ghosts}
-use Rattle.leveldb_env.specs.Disk.{File, Files, bytes_of, longer_file, extended, AreBytes}
+use Rattle.leveldb_env.specs.Disk.{File, Files, bytes_of, longer_file, AreBytes}
 use Rattle.leveldb_env.specs.Calls.{Appending}
 use Rattle.leveldb_env.specs.FileLaws.{extended-same}
-use Rattle.leveldb_mem.specs.Log.{log_block_size, frame_at}
+use Rattle.leveldb_mem.specs.Log.{frame_at}
 use Rattle.leveldb_mem.specs.Batch.{BatchOf}
-use Rattle.rusty_leveldb.specs.declared.db_impl.engine.Mode.TheVariants.{Open, Broken}
+use Rattle.rusty_leveldb.specs.declared.db_impl.engine.Mode.TheVariants.{Broken}
 use Rattle.rusty_leveldb.specs.declared.db_impl.engine.Engine.{Engine}
 use Rattle.rusty_leveldb.specs.OneLog.{log_path, max_sequence}
-use Rattle.rusty_leveldb.specs.Holds.{Holds}
-use Rattle.rusty_leveldb.specs.State.{State, open_mode, broken, Request, write, Answer, done, refused, Refusal}
-use Rattle.rusty_leveldb.specs.Causes.{Faults, Cause, out_of_memory, device_failed, Comes}
+use Rattle.rusty_leveldb.specs.State.{State, open_mode, broken, write, refused}
+use Rattle.rusty_leveldb.specs.Causes.{Faults, out_of_memory, device_failed}
 use Rattle.rusty_leveldb.specs.Machine.{batch_of, Breaks, StepIn, Responds}
-use Rattle.rusty_leveldb.specs.Serves.{Reads, Represents, Goes, faults_between, refusal_of}
+use Rattle.rusty_leveldb.specs.Serves.{Reads, Goes, faults_between, refusal_of}
 use Rattle.rusty_leveldb.specs.Engine.{scene, Recalls}
 use Rattle.rusty_leveldb.proofs.Histories.{entries_more, greatest_append, placed_greatest, placed_length, history_more}
 use Rattle.rusty_leveldb.proofs.OneLog.Writing.{appending_holds}
-use Rattle.rusty_leveldb.proofs.Writes.Stands.{Fails, Was, IsOpen, IsStill, broken_with, Broke, broken_is}
+use Rattle.rusty_leveldb.proofs.Writes.Stands.{Fails, IsOpen, IsStill, broken_with, Broke, broken_is}
 
 -- a batch that may follow, and its record
 pub record IsNext (last : ℕ) (items : List Item) (bytes : List ℕ) : Type 0 where

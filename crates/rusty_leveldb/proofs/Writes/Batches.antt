@@ -1,10 +1,10 @@
 -- The numbers and the entries of a batch that a write adds.
-use Rattle.std.proofs.Common.{◌≡◌, ◌≤◌, ◌<◌, ◌+◌, ◌^◌, ℕ, zero, suc, List, [], ◌∷◌, ◌++◌, length, flat_map, refl, sym, ◌∙◌, ap, subst, arith, length-append}
+use Rattle.std.proofs.Common.{◌≡◌, ◌+◌, ℕ, zero, suc, List, [], ◌∷◌, length, refl, ap, arith, length-append}
 use Rattle.std.specs.Prelude.{Contains, ◌↔◌, max}
 use Rattle.std.specs.Int.{bytes_low_first}
 use Rattle.leveldb_base.specs.History.{Item, Entry, placed, greatest}
 use Rattle.leveldb_base.specs.View.{Shows, SameView}
-use Rattle.leveldb_mem.specs.Batch.{BatchOf, entry_bytes, batch_bytes}
+use Rattle.leveldb_mem.specs.Batch.{BatchOf, batch_bytes}
 use Rattle.rusty_leveldb.specs.Causes.{IsLongBatch}
 
 -- the last number behind a batch that takes the next ones

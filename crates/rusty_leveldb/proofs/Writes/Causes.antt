@@ -1,10 +1,10 @@
 -- Why a write is refused behind its preparation: each failure of the device is counted, and nothing else.
-use Rattle.std.proofs.Common.{◌≡◌, ◌≢◌, ◌≤◌, ◌<◌, ◌+◌, ◌⊎◌, inl, inr, ⊎_elim, ℕ, List, [], length, refl, sym, ◌∙◌, ap, subst, arith, Option, Some, None, Result, Ok, Err, IsTrue, true, false}
+use Rattle.std.proofs.Common.{◌≡◌, ◌+◌, inl, inr, ⊎_elim, ℕ, List, refl, sym, ◌∙◌, ap, arith, Option, Some, None, Ok, Err, IsTrue, true, false}
 use Rattle.std.specs.Option.{option_map}
 use Rattle.leveldb_base.specs.declared.error.Status.{Status}
 use Rattle.leveldb_base.specs.History.{Item}
 use Rattle.leveldb_env.specs.declared.env.Env.{Ghosts}
-use Rattle.leveldb_env.specs.Disk.{File, Files, longer_file, extended}
+use Rattle.leveldb_env.specs.Disk.{File, Files, longer_file}
 use Rattle.leveldb_env.specs.Calls.{HasCause, IsGone}
 use Rattle.leveldb_env.specs.FileLaws.{at_same}
 use Rattle.leveldb_env.specs.OpenFiles.{opened, Appends, Syncs}

@@ -1,8 +1,8 @@
 -- A write that was done: what memory, disk and machine are then.
-use Rattle.std.proofs.Common.{◌≡◌, ◌≤◌, ◌+◌, ◌%◌, ◌⊎◌, inl, inr, ⊎_elim, ℕ, List, [], ◌∷◌, ◌++◌, length, refl, sym, ◌∙◌, ap, subst, arith, append_assoc, append-nil, length-append, Some, None, Bool, IsTrue, true, false}
+use Rattle.std.proofs.Common.{◌≡◌, ◌≤◌, ◌+◌, ◌%◌, ◌⊎◌, inl, inr, ℕ, List, [], ◌∷◌, ◌++◌, length, refl, sym, ◌∙◌, ap, subst, arith, append_assoc, append-nil, length-append, Some, None, Bool, IsTrue, false}
 use Rattle.std.specs.Prelude.{max, string_bytes}
 use Rattle.std.specs.declared.cmp.Ordering.{Ordering}
-use Rattle.leveldb_base.specs.History.{Item, Entry, History, IsHistory, placed, entries_of, greatest, joined, count_of}
+use Rattle.leveldb_base.specs.History.{Item, Entry, History, IsHistory, entries_of, greatest, joined, count_of}
 use Rattle.leveldb_base.specs.View.{SameView}
 use Rattle.leveldb_base.specs.ViewLaws.{AreUpTo, same_with_more}
 use Rattle.leveldb_env.specs.declared.env.Env.{Ghosts}
@@ -15,14 +15,13 @@ use Rattle.leveldb_mem.specs.Batch.{batch_of}
 use Rattle.rusty_leveldb.specs.declared.db_impl.engine.Mode.TheVariants.{Open}
 use Rattle.rusty_leveldb.specs.declared.db_impl.engine.Engine.{Engine}
 use Rattle.rusty_leveldb.specs.Names.{lock_path}
-use Rattle.rusty_leveldb.specs.OneLog.{log_path, max_sequence}
+use Rattle.rusty_leveldb.specs.OneLog.{log_path}
 use Rattle.rusty_leveldb.specs.Holds.{Holds}
 use Rattle.rusty_leveldb.specs.Recent.{Inserts}
-use Rattle.rusty_leveldb.specs.State.{State, IsState, SuitsMode, open_mode, broken, Request, write, Answer, done}
-use Rattle.rusty_leveldb.specs.Causes.{Faults}
-use Rattle.rusty_leveldb.specs.Machine.{Writes, MayCover, StepIn, Responds}
-use Rattle.rusty_leveldb.specs.Serves.{Reads, StandsFor, Represents, Goes, faults_between}
-use Rattle.rusty_leveldb.specs.Engine.{scene, WritesOn, Remembers, Recalls, mode_of}
+use Rattle.rusty_leveldb.specs.State.{State, IsState, SuitsMode, open_mode, broken, write, done}
+use Rattle.rusty_leveldb.specs.Machine.{MayCover, StepIn}
+use Rattle.rusty_leveldb.specs.Serves.{Reads, StandsFor, Goes, faults_between}
+use Rattle.rusty_leveldb.specs.Engine.{scene, Recalls, mode_of}
 use Rattle.rusty_leveldb.proofs.FrameBytes.{frame_bytes}
 use Rattle.rusty_leveldb.proofs.Histories.{entries_more, placed_above, up_to, greatest_append}
 use Rattle.rusty_leveldb.proofs.OneLog.Appending.{bytes_append, batch_some}

@@ -1,28 +1,28 @@
 -- A write is a step of the machine, at each of its exits behind the preparation.
-use Rattle.std.proofs.Common.{◌≡◌, ◌≢◌, ◌≤◌, ◌<◌, ◌+◌, ◌%◌, ◌⊎◌, inl, inr, ⊎_elim, ℕ, List, [], ◌∷◌, ◌++◌, length, refl, sym, ◌∙◌, ap, subst, arith, Option, Some, None, Result, Ok, Err, Bool, IsTrue, true, false}
-use Rattle.std.specs.Prelude.{if◌then◌else◌, OnOk, OnErr}
+use Rattle.std.proofs.Common.{◌≡◌, ◌+◌, ⊎_elim, ℕ, List, refl, sym, ◌∙◌, ap, subst, Option, Some, Ok, Err, Bool, IsTrue, false}
+use Rattle.std.specs.Prelude.{if◌then◌else◌}
 use Rattle.std.specs.declared.cmp.Ordering.{Ordering}
 use Rattle.leveldb_base.specs.declared.error.Status.{Status}
 use Rattle.leveldb_base.specs.History.{Item}
 use Rattle.leveldb_base.specs.ViewLaws.{AreUpTo}
 use Rattle.leveldb_env.specs.declared.env.Env.{Ghosts}
-use Rattle.leveldb_env.specs.Disk.{File, Files, bytes_of, longer_file, extended, synced, AreBytes}
-use Rattle.leveldb_env.specs.Calls.{Appending, HasCause}
+use Rattle.leveldb_env.specs.Disk.{Files, longer_file, extended, synced}
+use Rattle.leveldb_env.specs.Calls.{Appending}
 use Rattle.leveldb_env.specs.FileLaws.{extended-same, appended}
-use Rattle.leveldb_env.specs.OpenFiles.{Opened, opened, Appends, Syncs}
+use Rattle.leveldb_env.specs.OpenFiles.{opened, Appends, Syncs}
 use Rattle.leveldb_env.specs.Runs.{cause_after}
-use Rattle.leveldb_mem.specs.Batch.{Batch, BatchOf, batch_of}
+use Rattle.leveldb_mem.specs.Batch.{batch_of}
 use Rattle.leveldb_mem.specs.Writing.{Writing, Adds, Refuses, Flushes, behind_frame}
 use Rattle.leveldb_mem.specs.Writing as writing
 use Rattle.rusty_leveldb.specs.declared.db_impl.engine.Mode.TheVariants.{Open, Broken}
 use Rattle.rusty_leveldb.specs.declared.db_impl.engine.Engine.{Engine}
-use Rattle.rusty_leveldb.specs.OneLog.{log_path, max_sequence}
+use Rattle.rusty_leveldb.specs.OneLog.{log_path}
 use Rattle.rusty_leveldb.specs.Recent.{Numbered, Inserts}
 use Rattle.rusty_leveldb.specs.State.{State, Request, write, Answer, done, refused}
 use Rattle.rusty_leveldb.specs.Serves.{Reads, Goes, refusal_of}
 use Rattle.rusty_leveldb.specs.Engine.{scene, Recalls}
 use Rattle.rusty_leveldb.proofs.OneLog.Appending.{batch_some}
-use Rattle.rusty_leveldb.proofs.Writes.Stands.{Fails, fails, Was, IsOpen, is_open, IsStill}
+use Rattle.rusty_leveldb.proofs.Writes.Stands.{fails, Was, IsOpen, is_open, IsStill}
 use Rattle.rusty_leveldb.proofs.Writes.Kept.{memory_goes}
 use Rattle.rusty_leveldb.proofs.Writes.Append.{IsNext, frame, write_broke}
 use Rattle.rusty_leveldb.proofs.Writes.Done.{Added, wrote_goes, unsynced, synced_then}

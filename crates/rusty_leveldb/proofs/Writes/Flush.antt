@@ -1,9 +1,8 @@
 -- A flush is a step of the machine, at each of its exits.
-use Rattle.std.proofs.Common.{◌≡◌, ◌≤◌, ◌+◌, ◌%◌, ◌⊎◌, inl, inr, ℕ, zero, suc, List, [], ◌++◌, length, refl, sym, ◌∙◌, ap, subst, arith, append-nil, Some, None, Result, Ok, Err, IsTrue, false}
+use Rattle.std.proofs.Common.{◌≡◌, ◌≤◌, ◌%◌, inl, inr, ℕ, List, length, refl, sym, ◌∙◌, ap, subst, arith, append-nil, Some, None, Result, Ok, Err, IsTrue, false}
 use Rattle.std.specs.Prelude.{OnOk, OnErr, string_bytes}
 use Rattle.std.specs.declared.cmp.Ordering.{Ordering}
 use Rattle.leveldb_base.specs.declared.error.Status.{Status}
-use Rattle.leveldb_base.specs.declared.error.StatusCode.TheVariants.{InvalidArgument, IOError}
 use Rattle.leveldb_base.specs.Status.{text_of}
 use Rattle.leveldb_base.specs.History.{IsHistory, joined}
 use Rattle.leveldb_env.specs.declared.env.Env.{Ghosts}
@@ -17,11 +16,11 @@ use Rattle.rusty_leveldb.specs.declared.db_impl.engine.Engine.{Engine}
 use Rattle.rusty_leveldb.specs.Names.{lock_path}
 use Rattle.rusty_leveldb.specs.OneLog.{log_path}
 use Rattle.rusty_leveldb.specs.Holds.{Holds}
-use Rattle.rusty_leveldb.specs.State.{State, SuitsMode, open_mode, broken, Request, flush, Answer, done, refused}
-use Rattle.rusty_leveldb.specs.Causes.{Faults, Cause, out_of_memory, device_failed, Comes}
-use Rattle.rusty_leveldb.specs.Machine.{Breaks, Covers, StepIn, Responds}
-use Rattle.rusty_leveldb.specs.Serves.{Reads, StandsFor, Represents, Goes, faults_between, refusal_of, done_or}
-use Rattle.rusty_leveldb.specs.Engine.{scene, WritesOn, Remembers, Recalls, Answers, mode_of}
+use Rattle.rusty_leveldb.specs.State.{State, SuitsMode, open_mode, broken, flush, Answer, done, refused}
+use Rattle.rusty_leveldb.specs.Causes.{Faults, out_of_memory, device_failed}
+use Rattle.rusty_leveldb.specs.Machine.{Breaks, StepIn, Responds}
+use Rattle.rusty_leveldb.specs.Serves.{Reads, StandsFor, Goes, faults_between, refusal_of, done_or}
+use Rattle.rusty_leveldb.specs.Engine.{scene, Recalls, mode_of}
 use Rattle.rusty_leveldb.proofs.OneLog.Writing.{synced_holds}
 use Rattle.rusty_leveldb.proofs.Writes.Stands.{Fails, fails, IsStored, stored, Was, IsOpen, is_open, IsStill, remembers_still, broken_with, Broke, broken_is}
 

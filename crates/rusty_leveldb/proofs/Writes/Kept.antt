@@ -1,5 +1,5 @@
 -- A write that is refused before its append, which leaves the store as it was.
-use Rattle.std.proofs.Common.{◌≡◌, ◌≤◌, ◌<◌, ◌+◌, ◌⊎◌, inl, inr, ⊎_elim, ℕ, List, [], ◌∷◌, length, refl, sym, ◌∙◌, ap, subst, arith, Some, Bool}
+use Rattle.std.proofs.Common.{◌≡◌, ◌<◌, ◌+◌, ◌⊎◌, inl, ⊎_elim, ℕ, List, [], ◌∷◌, length, refl, sym, ap, subst, arith, Some, Bool}
 use Rattle.std.specs.Prelude.{max}
 use Rattle.std.specs.declared.cmp.Ordering.{Ordering}
 use Rattle.leveldb_base.specs.declared.error.Status.{Status}
@@ -12,12 +12,12 @@ use Rattle.rusty_leveldb.specs.declared.db_impl.engine.Mode.TheVariants.{Open}
 use Rattle.rusty_leveldb.specs.declared.db_impl.engine.Engine.{Engine}
 use Rattle.rusty_leveldb.specs.Recent.{Numbered, AreUsedUp}
 use Rattle.rusty_leveldb.specs.OneLog.{max_sequence}
-use Rattle.rusty_leveldb.specs.State.{State, open_mode, broken, Request, write, Answer, refused}
+use Rattle.rusty_leveldb.specs.State.{State, write, refused}
 use Rattle.rusty_leveldb.specs.Causes.{Faults, Cause, out_of_memory, used_up, bad_operand, Comes}
 use Rattle.rusty_leveldb.specs.Machine.{StepIn, Responds}
 use Rattle.rusty_leveldb.specs.Serves.{Reads, Goes, faults_between, refusal_of}
 use Rattle.rusty_leveldb.specs.Engine.{scene, Recalls}
-use Rattle.rusty_leveldb.proofs.Writes.Stands.{Was, IsOpen, is_open, IsStill, remembers_still}
+use Rattle.rusty_leveldb.proofs.Writes.Stands.{Was, is_open, remembers_still}
 
 module _ {E C FP F : Type 0} (env : Ghosts E F) (store : List ℕ) (engine : Engine E C FP F) (from : E) (old : State) (was : Was env store engine from old) where
   -- more room changes nothing of what memory stands for

@@ -7,16 +7,15 @@ use Rattle.leveldb_base.specs.declared.error.Status.{Status}
 use Rattle.leveldb_base.specs.declared.error.StatusCode.TheVariants.{IOError}
 use Rattle.leveldb_base.specs.Status.{text_of}
 use Rattle.leveldb_env.specs.declared.env.Env.{Ghosts}
-use Rattle.leveldb_mem.specs.Writing.{IsBroken}
 use Rattle.rusty_leveldb.specs.declared.db_impl.engine.Mode.{Mode}
 use Rattle.rusty_leveldb.specs.declared.db_impl.engine.Mode.TheVariants.{Open, Broken, Closed}
 use Rattle.rusty_leveldb.specs.declared.db_impl.engine.Engine.{Engine}
-use Rattle.rusty_leveldb.specs.State.{State, broken, closed, Request, write, flush, Answer, refused, Refusal}
+use Rattle.rusty_leveldb.specs.State.{State, broken, closed, Request, write, flush, refused, Refusal}
 use Rattle.rusty_leveldb.specs.Causes.{Faults, IsClosedRefusal, IsBrokenRefusal}
 use Rattle.rusty_leveldb.specs.Machine.{StepIn}
 use Rattle.rusty_leveldb.specs.Serves.{Reads, Goes, IsReading, IsLogging, faults_between, refusal_of}
 use Rattle.rusty_leveldb.specs.Engine.{scene, Recalls, IsShut, ShutOut, ShutDown, mode_of}
-use Rattle.rusty_leveldb.proofs.Writes.Stands.{Was, IsOpen, is_open}
+use Rattle.rusty_leveldb.proofs.Writes.Stands.{Was, is_open}
 
 broken_text : (err : Option (String Global)) → IfSome err (λ text. string_bytes text ≡ codes "IOError: reopen the store") → (text_of err ≡ []) ⊎ (text_of err ≡ codes "IOError: reopen the store")
 broken_text None is = inl refl

@@ -1,22 +1,20 @@
 -- An open store for which memory and disk stand, and what it stands for once its log has refused a call.
-use Rattle.std.proofs.Common.{◌≡◌, ◌≢◌, ◌≤◌, ◌<◌, ◌+◌, ◌-◌, ◌^◌, ◌⊎◌, inl, inr, ⊎_elim, ℕ, List, length, refl, sym, ◌∙◌, ap, subst, arith, Option, Some, None, Result, Ok, Err, IsTrue, true, false}
+use Rattle.std.proofs.Common.{◌≡◌, ◌≤◌, ◌+◌, ◌⊎◌, inl, inr, ⊎_elim, ℕ, List, refl, sym, ◌∙◌, ap, subst, arith, Option, Some, None, Err, IsTrue}
 use Rattle.std.specs.Prelude.{string_bytes}
-use Rattle.std.specs.declared.cmp.Ordering.{Ordering}
 use Rattle.leveldb_base.specs.declared.error.Status.{Status}
-use Rattle.leveldb_base.specs.declared.error.StatusCode.TheVariants.{OutOfMemory}
 use Rattle.leveldb_base.specs.History.{Entry, History, IsHistory, entries_of, greatest, joined, count_of}
 use Rattle.leveldb_base.specs.View.{SameView}
 use Rattle.leveldb_env.specs.declared.env.Env.{Ghosts}
-use Rattle.leveldb_env.specs.Disk.{File, Files, Disk}
+use Rattle.leveldb_env.specs.Disk.{File, Files}
 use Rattle.leveldb_env.specs.Times.{Told}
-use Rattle.leveldb_env.specs.Calls.{HasCause, NoMemory, IsGone, SameLocks}
+use Rattle.leveldb_env.specs.Calls.{HasCause, NoMemory, IsGone}
 use Rattle.rusty_leveldb.specs.declared.db_impl.engine.Mode.TheVariants.{Open, Broken}
 use Rattle.rusty_leveldb.specs.declared.db_impl.engine.Engine.{Engine}
 use Rattle.rusty_leveldb.specs.Names.{lock_path}
 use Rattle.rusty_leveldb.specs.Contents.{Store, made}
 use Rattle.rusty_leveldb.specs.OneLog.{log_path}
 use Rattle.rusty_leveldb.specs.Holds.{Carries, Holds, HasStore, KeepsStore}
-use Rattle.rusty_leveldb.specs.State.{State, IsState, SuitsMode, open_mode, broken, closed}
+use Rattle.rusty_leveldb.specs.State.{State, SuitsMode, open_mode, broken, closed}
 use Rattle.rusty_leveldb.specs.Causes.{DeviceFailed}
 use Rattle.rusty_leveldb.specs.Serves.{Reads, StandsFor, Represents, faults_between}
 use Rattle.rusty_leveldb.specs.Engine.{mode_of, WritesOn, Remembers, Recalls}

@@ -1,9 +1,9 @@
 -- A write is a step of the machine, at each of its exits, from the engine as it was before the preparation.
-use Rattle.std.proofs.Common.{◌≡◌, ◌≤◌, ◌<◌, ◌+◌, ℕ, List, length, refl, sym, ◌∙◌, ap, subst, arith, Some, Ok, Err, Bool, IsTrue, true, false}
-use Rattle.std.specs.Prelude.{if◌then◌else◌, max}
+use Rattle.std.proofs.Common.{◌≡◌, ◌≤◌, ◌+◌, ℕ, List, length, sym, ◌∙◌, ap, subst, arith, Some, Ok, Err, Bool, IsTrue, false}
+use Rattle.std.specs.Prelude.{if◌then◌else◌}
 use Rattle.std.specs.declared.cmp.Ordering.{Ordering}
 use Rattle.leveldb_base.specs.declared.error.Status.{Status}
-use Rattle.leveldb_base.specs.History.{Item, placed, greatest}
+use Rattle.leveldb_base.specs.History.{Item}
 use Rattle.leveldb_base.specs.ViewLaws.{AreUpTo}
 use Rattle.leveldb_env.specs.declared.env.Env.{Ghosts}
 use Rattle.leveldb_env.specs.Disk.{AreBytes}

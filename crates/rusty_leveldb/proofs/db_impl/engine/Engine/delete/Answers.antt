@@ -1,4 +1,5 @@
-use Rattle.std.proofs.Common.{◌∷◌, [], Some, None, false, refl}
+-- Refused for want of memory or a batch that is too long; the write of the one change is proved by search.
+use Rattle.std.proofs.Common.{◌∷◌, [], None, false, refl}
 use Rattle.std.proofs.lemmas.Result.{err_from_is_err_and}
 use Rattle.leveldb_mem.specs.Batch.{item_of}
 use Rattle.rusty_leveldb.proofs.Writes.Kept.{memory_goes, unmade_goes}

@@ -1,3 +1,4 @@
+-- Refused by the mode, or what the sync answered.
 use Rattle.std.proofs.lemmas.Result.{err_from_is_err_and}
 use Rattle.rusty_leveldb.specs.State.{flush}
 use Rattle.rusty_leveldb.proofs.Writes.Shut.{shut}
