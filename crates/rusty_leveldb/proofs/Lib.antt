@@ -13,6 +13,8 @@ pub mod Ended
 pub mod Closing
 pub mod Playing
 pub mod Batching
+pub mod Writes
+pub mod FrameBytes
 pub mod EntryOrder
 pub mod NodeSteps
 pub mod Insertions

@@ -1,6 +1,7 @@
 //! Writing to a store: batches, and syncs of its log.
 ghost use Rattle.std.specs.Prelude.{◌≡◌, ◌∷◌, [], ℕ, if◌then◌else◌, Some, None, false, IfOk, IfErr, OnOk, OnErr};
 ghost use Rattle.leveldb_env.specs.Calls.{HasCause};
+ghost use Rattle.leveldb_env.specs.Disk.{AreBytes};
 ghost use Rattle.leveldb_env.specs.OpenFiles.{opened, Appends, Syncs};
 ghost use Rattle.leveldb_mem.specs.Batch.{item_of};
 ghost use Rattle.leveldb_mem.specs.Writing.{Adds, Refuses, Flushes};
@@ -77,14 +78,15 @@ impl<E: Env, C: UserCmp + Copy, FP: FilterPolicy + Copy> Engine<E, C, FP> {
     }
 
     // Appends a record to the log. A failed append breaks the store.
-    fn append(&mut self, env: &mut E, record: &[u8]) -> Result<()>
+    fn append(&mut self, env: &mut E, text: &[u8]) -> Result<()>
         ensures rest { self.new ≡ record self.old { log = self.new.log; writer = self.new.writer; mode = self.new.mode } }
+        ensures bytes { AreBytes text.now }
         ensures mode { self.new.mode ≡ (if self.new.writer.broken then Mode.Broken else self.old.mode) }
-        ensures ok { OnOk result ((count : ℕ) × Adds (Appends E.Env) self.old.writer (opened env.old self.old.log) record.now count self.new.writer (opened env.new self.new.log)) }
+        ensures ok { OnOk result ((count : ℕ) × Adds (Appends E.Env) self.old.writer (opened env.old self.old.log) text.now count self.new.writer (opened env.new self.new.log)) }
         ensures err { self.old.writer.broken ≡ false
-            → IfErr result (λ status. Refuses (Appends E.Env) self.old.writer (opened env.old self.old.log) record.now status self.new.writer (opened env.new self.new.log)) }
+            → IfErr result (λ status. Refuses (Appends E.Env) self.old.writer (opened env.old self.old.log) text.now status self.new.writer (opened env.new self.new.log)) }
     {
-        let appended = append_record(&mut self.writer, env, &mut self.log, record);
+        let appended = append_record(&mut self.writer, env, &mut self.log, text);
         if self.writer.is_broken() {
             self.mode = Mode::Broken;
         }
@@ -113,13 +115,13 @@ fn append_record<E: Env>(
     writer: &mut WriterCore,
     env: &mut E,
     log: &mut E::File,
-    record: &[u8],
+    text: &[u8],
 ) -> Result<usize>
-    ensures ok { IfOk result (λ count. Adds (Appends E.Env) writer.old (opened env.old log.old) record.now count writer.new (opened env.new log.new)) }
+    ensures ok { IfOk result (λ count. Adds (Appends E.Env) writer.old (opened env.old log.old) text.now count writer.new (opened env.new log.new)) }
     ensures err { writer.old.broken ≡ false
-        → IfErr result (λ status. Refuses (Appends E.Env) writer.old (opened env.old log.old) record.now status writer.new (opened env.new log.new)) }
+        → IfErr result (λ status. Refuses (Appends E.Env) writer.old (opened env.old log.old) text.now status writer.new (opened env.new log.new)) }
 {
-    writer.add_record(&mut EnvFile { env, file: log }, record)
+    writer.add_record(&mut EnvFile { env, file: log }, text)
 }
 
 // Syncs a log's file.
