@@ -8,6 +8,8 @@ mod open;
 mod read;
 mod recent;
 mod replay;
+mod store;
 mod write;
 
 pub use engine::{Engine, Mode};
+pub use store::{DB, Store};
