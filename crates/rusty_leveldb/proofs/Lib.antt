@@ -6,5 +6,9 @@ pub mod Crashes
 pub mod Causes
 pub mod Example
 pub mod OneLog
+pub mod Replays
+pub mod Texts
+pub mod Frames
 pub mod Ended
 pub mod Closing
+pub mod Playing

@@ -12,3 +12,5 @@ pub mod Nodes
 pub mod Recent
 pub mod Replay
 pub mod Engine
+pub mod Shell
+pub mod Language

@@ -3,3 +3,4 @@
 
 pub mod db_impl;
 pub mod promises;
+pub mod shell;

@@ -1,5 +1,5 @@
 //! The end of a store's work: giving back its lock.
-ghost use Rattle.std.specs.Prelude.{Some, None, false};
+ghost use Rattle.std.specs.Prelude.{◌≡◌, Some, None, false};
 ghost use Rattle.leveldb_env.specs.Disk.{lock_set, same};
 ghost use Rattle.leveldb_env.specs.Calls.{Does, Still, Relocks, HasCause};
 ghost use Rattle.rusty_leveldb.specs.State.{close, abandon};
@@ -15,6 +15,7 @@ use leveldb_env::filter::FilterPolicy;
 impl<E: Env, C: UserCmp + Copy, FP: FilterPolicy + Copy> Engine<E, C, FP> {
     /// Makes a crash keep all batches and gives back the lock. A store that is refused this is broken, and keeps its lock.
     pub fn close(&mut self, env: &mut E) -> Result<()>
+        ensures options { self.new.options ≡ self.old.options }
         ensures step { Answers E.Env (C.cmp self.old.options.cmp) (Some self.old) env.old close (done_or result) (Some self.new) env.new }
         ensures cause { HasCause (CloseExcused E.Env self.old env.old env.new) (E.failures env.old) (E.failures env.new) result }
     {

@@ -1,5 +1,5 @@
 //! Opening a store: its lock is taken, its log is read, and replaced where it ends badly.
-ghost use Rattle.std.specs.Prelude.{None};
+ghost use Rattle.std.specs.Prelude.{◌≡◌, None, IfOk};
 ghost use Rattle.leveldb_env.specs.Calls.{HasCause};
 ghost use Rattle.rusty_leveldb.specs.State.{Opening, open_store};
 ghost use Rattle.rusty_leveldb.specs.Serves.{done_or, given_engine};
@@ -29,6 +29,7 @@ impl<E: Env, C: UserCmp + Copy, FP: FilterPolicy + Copy> Engine<E, C, FP> {
         env: &mut E,
         options: Options<C, FP>,
     ) -> Result<Engine<E, C, FP>>
+        ensures options { IfOk result (λ engine. engine.options ≡ options) }
         ensures step { (opening : Opening) → IsOpening name.now options.create_if_missing opening
             → Answers E.Env (C.cmp options.cmp) None env.old (open_store opening) (done_or result) (given_engine result) env.new }
         ensures cause { HasCause (OpenExcused E.tells_disk name.now options.create_if_missing (E.tells env.old)) (E.failures env.old) (E.failures env.new) result }

@@ -19,6 +19,7 @@ use leveldb_mem::write_batch::WriteBatch;
 impl<E: Env, C: UserCmp + Copy, FP: FilterPolicy + Copy> Engine<E, C, FP> {
     /// Gives the key this value, without a sync.
     pub fn put(&mut self, env: &mut E, key: &[u8], value: &[u8]) -> Result<()>
+        ensures options { self.new.options ≡ self.old.options }
         ensures step { Answers E.Env (C.cmp self.old.options.cmp) (Some self.old) env.old
             (write (item_of key.now (Some value.now) ∷ []) false) (done_or result) (Some self.new) env.new }
         ensures cause { HasCause (WriteExcused E.Env self.old env.old (item_of key.now (Some value.now) ∷ []))
@@ -32,6 +33,7 @@ impl<E: Env, C: UserCmp + Copy, FP: FilterPolicy + Copy> Engine<E, C, FP> {
 
     /// Deletes the key, without a sync.
     pub fn delete(&mut self, env: &mut E, key: &[u8]) -> Result<()>
+        ensures options { self.new.options ≡ self.old.options }
         ensures step { Answers E.Env (C.cmp self.old.options.cmp) (Some self.old) env.old
             (write (item_of key.now None ∷ []) false) (done_or result) (Some self.new) env.new }
         ensures cause { HasCause (WriteExcused E.Env self.old env.old (item_of key.now None ∷ []))
@@ -46,6 +48,7 @@ impl<E: Env, C: UserCmp + Copy, FP: FilterPolicy + Copy> Engine<E, C, FP> {
     /// Makes the batch's changes together, behind all others; with `sync` a crash keeps them from then on.
     /// A failed append or sync breaks the store: the batch isn't seen, and may be there when the store is opened again.
     pub fn write(&mut self, env: &mut E, batch: WriteBatch, sync: bool) -> Result<()>
+        ensures options { self.new.options ≡ self.old.options }
         ensures step { Answers E.Env (C.cmp self.old.options.cmp) (Some self.old) env.old
             (write batch.items sync) (done_or result) (Some self.new) env.new }
         ensures cause { HasCause (WriteExcused E.Env self.old env.old batch.items) (E.failures env.old) (E.failures env.new) result }
@@ -65,6 +68,7 @@ impl<E: Env, C: UserCmp + Copy, FP: FilterPolicy + Copy> Engine<E, C, FP> {
 
     /// Makes a crash keep all batches.
     pub fn flush(&mut self, env: &mut E) -> Result<()>
+        ensures options { self.new.options ≡ self.old.options }
         ensures step { Answers E.Env (C.cmp self.old.options.cmp) (Some self.old) env.old flush (done_or result) (Some self.new) env.new }
         ensures cause { HasCause (SyncExcused E.Env self.old env.old) (E.failures env.old) (E.failures env.new) result }
     {
