@@ -12,3 +12,5 @@ pub mod Frames
 pub mod Ended
 pub mod Closing
 pub mod Playing
+pub mod Writes
+pub mod FrameBytes

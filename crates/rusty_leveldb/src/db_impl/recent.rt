@@ -1,6 +1,7 @@
 //! The entries of a store in memory, and the number of the last.
 ghost use Rattle.std.specs.Prelude.{◌≡◌, ◌≤◌, ◌+◌, [], OnOk, IfOk, IfErr};
 ghost use Rattle.leveldb_base.specs.Status.{IsOutOfMemory};
+ghost use Rattle.leveldb_base.specs.ViewLaws.{AreUpTo};
 ghost use Rattle.leveldb_base.specs.declared.error.StatusCode.TheVariants.{NotSupported};
 ghost use Rattle.leveldb_mem.specs.Entries.{HasRoom, FindsNewest};
 ghost use Rattle.rusty_leveldb.specs.Recent.{Follows, Inserts, AreUsedUp, lent_newest};
@@ -57,6 +58,7 @@ impl Recent {
     pub fn next(&self, alloc: Global, count: u32) -> Result<SequenceNumber>
         ensures ok { IfOk result (λ first. (first ≡ self.now.last + 1) × (first ≤ max_sequence) × (self.now.last + count ≤ max_sequence)) }
         ensures cause { IfErr result (λ status. (status.code ≡ NotSupported) × AreUsedUp self.now.last count) }
+        ensures numbered { AreUpTo self.now.last self.now.kept.entries }
     {
         let first = self.last + 1;
         if first > MAX_SEQUENCE_NUMBER || self.last + u64::from(count) > MAX_SEQUENCE_NUMBER {

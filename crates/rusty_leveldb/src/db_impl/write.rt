@@ -1,6 +1,7 @@
 //! Writing to a store: batches, and syncs of its log.
 ghost use Rattle.std.specs.Prelude.{◌≡◌, ◌∷◌, [], ℕ, if◌then◌else◌, Some, None, false, IfOk, IfErr, OnOk, OnErr};
 ghost use Rattle.leveldb_env.specs.Calls.{HasCause};
+ghost use Rattle.leveldb_env.specs.Disk.{AreBytes};
 ghost use Rattle.leveldb_env.specs.OpenFiles.{opened, Appends, Syncs};
 ghost use Rattle.leveldb_mem.specs.Batch.{item_of};
 ghost use Rattle.leveldb_mem.specs.Writing.{Adds, Refuses, Flushes};
@@ -79,6 +80,7 @@ impl<E: Env, C: UserCmp + Copy, FP: FilterPolicy + Copy> Engine<E, C, FP> {
     // Appends a record to the log. A failed append breaks the store.
     fn append(&mut self, env: &mut E, record: &[u8]) -> Result<()>
         ensures rest { self.new ≡ record self.old { log = self.new.log; writer = self.new.writer; mode = self.new.mode } }
+        ensures bytes { AreBytes record.now }
         ensures mode { self.new.mode ≡ (if self.new.writer.broken then Mode.Broken else self.old.mode) }
         ensures ok { OnOk result ((count : ℕ) × Adds (Appends E.Env) self.old.writer (opened env.old self.old.log) record.now count self.new.writer (opened env.new self.new.log)) }
         ensures err { self.old.writer.broken ≡ false
