@@ -14,3 +14,7 @@ pub mod Closing
 pub mod Playing
 pub mod Writes
 pub mod FrameBytes
+pub mod EntryOrder
+pub mod NodeSteps
+pub mod Insertions
+pub mod GetSteps
