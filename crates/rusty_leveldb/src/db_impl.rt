@@ -8,6 +8,10 @@ mod open;
 mod read;
 mod recent;
 mod replay;
+mod store;
+#[cfg(test)]
+mod tests;
 mod write;
 
 pub use engine::{Engine, Mode};
+pub use store::{DB, Store};
