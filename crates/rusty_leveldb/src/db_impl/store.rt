@@ -59,6 +59,7 @@ impl<'e, E: Env, C: UserCmp + Copy, FP: FilterPolicy + Copy> Store<'e, E, Engine
         options: Options<C, FP>,
     ) -> Result<DB<'e, E, C, FP>>
         ensures same_reference { IfOk result (λ db. db.env.ghost_name ≡ env.entry.ghost_name) }
+        ensures options { IfOk result (λ db. db.state.options ≡ options) }
         ensures step { IfOk result (λ db. (opening : Opening) → IsOpening name.now options.create_if_missing opening
             → Answers E.Env (C.cmp options.cmp) None env.old (open_store opening) done (Some db.state) db.env.now) }
         ensures cause { IfOk result (λ db. E.failures db.env.now ≡ E.failures env.old) }
@@ -70,6 +71,7 @@ impl<'e, E: Env, C: UserCmp + Copy, FP: FilterPolicy + Copy> Store<'e, E, Engine
     /// Gives the key this value, without a sync.
     pub fn put(&mut self, key: &[u8], value: &[u8]) -> Result<()>
         ensures same_reference { self.new.env.ghost_name ≡ self.old.env.ghost_name }
+        ensures options { self.new.state.options ≡ self.old.state.options }
         ensures step { Answers E.Env (C.cmp self.old.state.options.cmp) (Some self.old.state) self.old.env.now
             (write (item_of key.now (Some value.now) ∷ []) false) (done_or result) (Some self.new.state) self.new.env.now }
         ensures cause { HasCause (WriteExcused E.Env self.old.state self.old.env.now (item_of key.now (Some value.now) ∷ []))
@@ -81,6 +83,7 @@ impl<'e, E: Env, C: UserCmp + Copy, FP: FilterPolicy + Copy> Store<'e, E, Engine
     /// Deletes the key, without a sync.
     pub fn delete(&mut self, key: &[u8]) -> Result<()>
         ensures same_reference { self.new.env.ghost_name ≡ self.old.env.ghost_name }
+        ensures options { self.new.state.options ≡ self.old.state.options }
         ensures step { Answers E.Env (C.cmp self.old.state.options.cmp) (Some self.old.state) self.old.env.now
             (write (item_of key.now None ∷ []) false) (done_or result) (Some self.new.state) self.new.env.now }
         ensures cause { HasCause (WriteExcused E.Env self.old.state self.old.env.now (item_of key.now None ∷ []))
@@ -93,6 +96,7 @@ impl<'e, E: Env, C: UserCmp + Copy, FP: FilterPolicy + Copy> Store<'e, E, Engine
     /// A failed append or sync breaks the store: the batch isn't seen, and may be there when the store is opened again.
     pub fn write(&mut self, batch: WriteBatch, sync: bool) -> Result<()>
         ensures same_reference { self.new.env.ghost_name ≡ self.old.env.ghost_name }
+        ensures options { self.new.state.options ≡ self.old.state.options }
         ensures step { Answers E.Env (C.cmp self.old.state.options.cmp) (Some self.old.state) self.old.env.now
             (write batch.items sync) (done_or result) (Some self.new.state) self.new.env.now }
         ensures cause { HasCause (WriteExcused E.Env self.old.state self.old.env.now batch.items)
@@ -104,6 +108,7 @@ impl<'e, E: Env, C: UserCmp + Copy, FP: FilterPolicy + Copy> Store<'e, E, Engine
     /// Makes a crash keep all batches.
     pub fn flush(&mut self) -> Result<()>
         ensures same_reference { self.new.env.ghost_name ≡ self.old.env.ghost_name }
+        ensures options { self.new.state.options ≡ self.old.state.options }
         ensures step { Answers E.Env (C.cmp self.old.state.options.cmp) (Some self.old.state) self.old.env.now
             flush (done_or result) (Some self.new.state) self.new.env.now }
         ensures cause { HasCause (SyncExcused E.Env self.old.state self.old.env.now)
@@ -115,6 +120,7 @@ impl<'e, E: Env, C: UserCmp + Copy, FP: FilterPolicy + Copy> Store<'e, E, Engine
     /// The key's value, or none where it has none.
     pub fn get(&mut self, key: &[u8]) -> Result<Option<Bytes>>
         ensures same_reference { self.new.env.ghost_name ≡ self.old.env.ghost_name }
+        ensures options { self.new.state.options ≡ self.old.state.options }
         ensures step { Answers E.Env (C.cmp self.old.state.options.cmp) (Some self.old.state) self.old.env.now
             (get None key.now) (found_or result) (Some self.new.state) self.new.env.now }
         ensures cause { IfErr result (GetExcused self.old.state.mode key.now) }
@@ -126,6 +132,7 @@ impl<'e, E: Env, C: UserCmp + Copy, FP: FilterPolicy + Copy> Store<'e, E, Engine
     /// Makes a crash keep all batches and gives back the lock. A store that is refused this is broken, and keeps its lock.
     pub fn close(&mut self) -> Result<()>
         ensures same_reference { self.new.env.ghost_name ≡ self.old.env.ghost_name }
+        ensures options { self.new.state.options ≡ self.old.state.options }
         ensures step { Answers E.Env (C.cmp self.old.state.options.cmp) (Some self.old.state) self.old.env.now
             close (done_or result) (Some self.new.state) self.new.env.now }
         ensures cause { HasCause (CloseExcused E.Env self.old.state self.old.env.now self.new.env.now)
