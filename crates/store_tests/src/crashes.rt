@@ -27,8 +27,8 @@ const BATCHES: [Batch; 12] = [
     (true, &[("b", Some((b'2', 1)))]),
     (false, &[("a", None)]),
     (false, &[]),
-    (true, &[("c", Some((b'3', 32_400)))]),
-    (false, &[("d", Some((b'4', 300)))]),
+    (true, &[("c", Some((b'3', 32_634)))]),
+    (false, &[("d", Some((b'4', 20)))]),
     (false, &[("b", None), ("a", Some((b'5', 2)))]),
     (true, &[("b", Some((b'6', 1)))]),
     (true, &[]),
@@ -157,7 +157,7 @@ fn crash_and_go_on(
     let mut again = left.crashed(alloc, &pick(alloc, b"")?)?;
     let mut later = look_up_all(alloc, &mut again)?;
     let last = later.pop();
-    assert!(rt; matches!(&last, Some(Reply::Value(value)) if value.as_slice() == b"xxx"));
+    assert!(rt; matches!(&last, Some(Reply::Value(value)) if value.as_slice() == b"xxx".as_slice()));
     for (before, after) in found.iter().zip(&later) {
         match (before, after) {
             (Reply::Value(before), Reply::Value(after)) => assert!(rt; before == after),
