@@ -105,7 +105,7 @@ module _ {E C FP F : Type 0} (env : Ghosts E F) (cmp : List ℕ → List ℕ →
     found_answer newest short finds = in_use (found (value_found newest)) usable
         (λ faults store old is remembers. (
           fits old,
-          (record { sequence = old.last; at_is = refl; looks = found_now newest finds store old is remembers }, refl)
+          (record { sequence = old.last; at_is = refl; looks = found_now newest finds store old is remembers }, refl),
         ))
       where
         fits : (old : State) → Misfits old (get None key) → ⊥

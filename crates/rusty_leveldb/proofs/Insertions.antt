@@ -14,7 +14,7 @@ use Rattle.std.proofs.lemmas.List.Elements.{Contains-append_left, Contains-appen
 same_gained : (entries : List Entry) → Gains entries [] entries
 same_gained entries = λ x. (
   (λ there. Contains-append_left entries [] x there),
-  (λ there. subst (λ (all : List Entry). Contains all x) (append-nil entries) there)
+  (λ there. subst (λ (all : List Entry). Contains all x) (append-nil entries) there),
 )
 
 gained_before : (these those final more : List Entry) (entry : Entry) → Gains these (entry ∷ []) those → Gains those more final → Gains these (entry ∷ more) final

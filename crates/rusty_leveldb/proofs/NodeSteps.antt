@@ -108,7 +108,7 @@ place_of_entry value met = record { there = met.there; before = met.before; behi
 pub gains_one : (entries : List Entry) (place : ℕ) (entry : Entry) → Gains entries (entry ∷ []) (insert entries place entry)
 gains_one entries place entry = λ x. (
   (λ there. Contains-permutation _ _ x (IsPermutation-sym _ _ moved) there),
-  (λ there. Contains-permutation _ _ x moved there)
+  (λ there. Contains-permutation _ _ x moved there),
 )
   where
     moved : IsPermutation (entries ++ entry ∷ []) (insert entries place entry)
@@ -163,9 +163,9 @@ module _ (arena : List ℕ) (nodes : List Node) (order : List ℕ) (more : List 
     entries_more =
         let f : ℕ → Entry = λ (at : ℕ). entry_of (arena ++ more) (node_at (nodes ++ node ∷ []) at) in
         let whole : entries_at (arena ++ more) (nodes ++ node ∷ []) (insert order place last) ≡ insert (map f order) place (f last) =
-            map-append f (take place order) (last ∷ drop place order)
-            ∙ ap (λ (front : List Entry). front ++ f last ∷ map f (drop place order)) (sym (take-map f place order))
-            ∙ ap (λ (rest : List Entry). take place (map f order) ++ f last ∷ rest) (sym (drop-map f place order)) in
+        map-append f (take place order) (last ∷ drop place order)
+        ∙ ap (λ (front : List Entry). front ++ f last ∷ map f (drop place order)) (sym (take-map f place order))
+        ∙ ap (λ (rest : List Entry). take place (map f order) ++ f last ∷ rest) (sym (drop-map f place order)) in
         whole ∙ ap (λ (es : List Entry). insert es place (f last)) same_entries
         ∙ ap (λ (n : Node). insert (entries_at arena nodes order) place (entry_of (arena ++ more) n)) last_node
 
