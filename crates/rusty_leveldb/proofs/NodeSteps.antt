@@ -1,12 +1,12 @@
 -- Entries that are kept as nodes: what they are in order, and one more of them.
-use Rattle.std.proofs.Common.{◌≡◌, ◌≤◌, ◌<◌, ◌+◌, ◌-◌, ◌⊎◌, inl, inr, ⊎_elim, ℕ, Bool, true, false, cond, List, [], ◌∷◌, ◌++◌, length, get_or, take, drop, map, min, refl, sym, ◌∙◌, ap, subst, arith, rules, Option, Some, None, length-append, append_assoc, append-nil}
-use Rattle.std.specs.Prelude.{is_none, Contains, ◌↔◌, vec_len, vec_capacity, slice_range, flat_map}
+use Rattle.std.proofs.Common.{◌≡◌, ◌≤◌, ◌<◌, ◌+◌, ◌-◌, ◌⊎◌, inl, inr, ℕ, List, [], ◌∷◌, ◌++◌, length, get_or, take, drop, map, refl, sym, ◌∙◌, ap, subst, arith, Option, Some, None, length-append, append_assoc, append-nil}
+use Rattle.std.specs.Prelude.{vec_len, vec_capacity, slice_range, flat_map}
 use Rattle.std.specs.Global.{Vec}
 use Rattle.std.specs.List.{All, insert}
 use Rattle.std.specs.List.Sorted.{IsPermutation}
 use Rattle.std.proofs.lemmas.List.{map-append, length-map, take-map, drop-map, get_or-map, get_or_append_left, get_or_at, take-append-le, take_at, drop_at, same_lists}
 use Rattle.std.proofs.lemmas.List.Edits.{length-insert, get_or-insert_below, get_or-insert_at, get_or-insert_above}
-use Rattle.std.proofs.lemmas.List.Elements.{All-append, All-cons, All-take, All-drop, All-weaker, Contains-get_or, Contains-push}
+use Rattle.std.proofs.lemmas.List.Elements.{All-append, All-cons, All-take, All-drop, All-weaker, Contains-get_or}
 use Rattle.std.proofs.lemmas.List.Sorted.{IsPermutation-insert, IsPermutation-to_front, IsPermutation-trans, IsPermutation-sym, Contains-permutation}
 use Rattle.std.proofs.lemmas.Bool.{cases_order}
 use Rattle.std.proofs.lemmas.Slice.{between_is}
