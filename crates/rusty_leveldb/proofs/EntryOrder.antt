@@ -1,12 +1,11 @@
 -- The order in which entries are searched.
-use Rattle.std.proofs.Common.{◌≡◌, ◌≤◌, ◌<◌, ◌+◌, ◌⊎◌, inl, inr, ℕ, List, length, get_or, refl, sym, ◌∙◌, ap, subst, arith, rules, false, Option, Some, None, []}
+use Rattle.std.proofs.Common.{◌≡◌, ◌≤◌, ◌<◌, ◌+◌, ◌⊎◌, inl, inr, ℕ, List, length, get_or, refl, sym, ◌∙◌, ap, subst, arith, rules, false, None}
 use Rattle.std.specs.Prelude.{Contains, ◌↔◌, IsTrue, nat_lt}
 use Rattle.std.proofs.lemmas.Bool.{cases_lt}
 use Rattle.std.proofs.lemmas.Bool.Decides.{nat_tests}
 use Rattle.std.specs.declared.cmp.Ordering.{Ordering}
 use Rattle.std.specs.declared.cmp.Ordering.TheVariants.{Less, Equal, Greater}
 use Rattle.std.specs.Ordering.{ordering_reverse}
-use Rattle.leveldb_base.specs.Order.{IsPreorderOn}
 use Rattle.leveldb_base.specs.OrderLaws.{itself_equal}
 use Rattle.leveldb_base.specs.Bytewise.{bytewise}
 use Rattle.leveldb_base.specs.BytewiseLaws.{bytewise_preorder, bytewise_exact}

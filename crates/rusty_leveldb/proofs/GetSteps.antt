@@ -1,12 +1,12 @@
 -- A look-up is a step of the machine that leaves the state as it is.
-use Rattle.std.proofs.Common.{◌≡◌, ◌≤◌, ◌<◌, ◌⊎◌, inl, inr, ℕ, List, [], length, Option, Some, None, refl, sym, ◌∙◌, ap, subst, arith}
-use Rattle.std.specs.Prelude.{◌↔◌, IsTrue, IsErrAnd, Result, Ok, Err}
+use Rattle.std.proofs.Common.{◌≡◌, ◌≤◌, inl, inr, ℕ, List, length, Option, Some, None, refl, sym, ◌∙◌, ap, subst, arith}
+use Rattle.std.specs.Prelude.{IsErrAnd, Result, Ok, Err}
 use Rattle.std.specs.declared.cmp.Ordering.{Ordering}
 use Rattle.leveldb_base.specs.declared.error.Status.{Status}
-use Rattle.leveldb_base.specs.declared.error.StatusCode.TheVariants.{InvalidArgument, OutOfMemory}
+use Rattle.leveldb_base.specs.declared.error.StatusCode.TheVariants.{InvalidArgument}
 use Rattle.leveldb_base.specs.Status.{text_of}
 use Rattle.leveldb_base.specs.History.{Entry, entries_of}
-use Rattle.leveldb_base.specs.View.{Shows, LooksUp, SameView}
+use Rattle.leveldb_base.specs.View.{LooksUp, SameView}
 use Rattle.leveldb_env.specs.declared.env.Env.{Ghosts}
 use Rattle.leveldb_env.specs.Disk.{Disk}
 use Rattle.leveldb_env.specs.Calls.{NoMemory}
@@ -17,8 +17,8 @@ use Rattle.rusty_leveldb.specs.declared.db_impl.engine.Engine.{Engine}
 use Rattle.rusty_leveldb.specs.State as machine
 use Rattle.rusty_leveldb.specs.State.{State, IsState, Request, get, Refusal, Answer, found, refused}
 use Rattle.rusty_leveldb.specs.Causes.{Faults, max_length, bad_operand, out_of_memory, Misfits, IsLongKey}
-use Rattle.rusty_leveldb.specs.Machine.{Step, StepIn, Responds, Gets}
-use Rattle.rusty_leveldb.specs.Serves.{Reads, Represents, Goes, IsReading, refusal_of, found_or}
+use Rattle.rusty_leveldb.specs.Machine.{StepIn, Responds}
+use Rattle.rusty_leveldb.specs.Serves.{refusal_of, found_or}
 use Rattle.rusty_leveldb.specs.Engine.{IsShut, mode_of, Remembers, Recalls, AnswersStill}
 
 -- ---- what is found
@@ -105,7 +105,7 @@ module _ {E C FP F : Type 0} (env : Ghosts E F) (cmp : List ℕ → List ℕ →
     found_answer newest short finds = in_use (found (value_found newest)) usable
         (λ faults store old is remembers. (
           fits old,
-          (record { sequence = old.last; at_is = refl; looks = found_now newest finds store old is remembers }, refl)
+          (record { sequence = old.last; at_is = refl; looks = found_now newest finds store old is remembers }, refl),
         ))
       where
         fits : (old : State) → Misfits old (get None key) → ⊥

@@ -1,20 +1,20 @@
 -- The entries of a batch come one after another.
-use Rattle.std.proofs.Common.{◌≡◌, ◌≤◌, ◌<◌, ◌+◌, ◌⊎◌, inl, inr, ⊎_elim, ℕ, List, [], ◌∷◌, ◌++◌, length, max, refl, sym, ◌∙◌, ap, subst, arith, append-nil, append_assoc}
-use Rattle.std.specs.Prelude.{Contains, ◌↔◌}
+use Rattle.std.proofs.Common.{◌≡◌, ◌≤◌, ◌<◌, ◌+◌, ⊎_elim, ℕ, List, [], ◌∷◌, ◌++◌, max, refl, sym, ap, subst, arith, append-nil, append_assoc}
+use Rattle.std.specs.Prelude.{Contains}
 use Rattle.leveldb_base.specs.History.{Item, Entry, placed, greatest}
 use Rattle.leveldb_base.specs.ViewLaws.{AreUpTo}
 use Rattle.leveldb_mem.specs.Batch.{Batch}
-use Rattle.leveldb_mem.specs.Entries.{Kept, HasRoom, Gains, Adds, bytes_in, value_length}
+use Rattle.leveldb_mem.specs.Entries.{Kept, HasRoom, Gains, Adds}
 use Rattle.rusty_leveldb.specs.OneLog.{max_sequence}
 use Rattle.rusty_leveldb.specs.Recent.{Numbered, entry_at, Follows, Inserts}
-use Rattle.std.proofs.lemmas.List.Elements.{Contains-append_left, Contains-append_right, Contains-append_cases, Contains-push_cases, Contains-push}
+use Rattle.std.proofs.lemmas.List.Elements.{Contains-append_left, Contains-append_right, Contains-append_cases, Contains-push_cases}
 
 -- ---- sets that grow
 
 same_gained : (entries : List Entry) → Gains entries [] entries
 same_gained entries = λ x. (
   (λ there. Contains-append_left entries [] x there),
-  (λ there. subst (λ (all : List Entry). Contains all x) (append-nil entries) there)
+  (λ there. subst (λ (all : List Entry). Contains all x) (append-nil entries) there),
 )
 
 gained_before : (these those final more : List Entry) (entry : Entry) → Gains these (entry ∷ []) those → Gains those more final → Gains these (entry ∷ more) final

@@ -1,12 +1,12 @@
 -- Entries that are kept as nodes: what they are in order, and one more of them.
-use Rattle.std.proofs.Common.{◌≡◌, ◌≤◌, ◌<◌, ◌+◌, ◌-◌, ◌⊎◌, inl, inr, ⊎_elim, ℕ, Bool, true, false, cond, List, [], ◌∷◌, ◌++◌, length, get_or, take, drop, map, min, refl, sym, ◌∙◌, ap, subst, arith, rules, Option, Some, None, length-append, append_assoc, append-nil}
-use Rattle.std.specs.Prelude.{is_none, Contains, ◌↔◌, vec_len, vec_capacity, slice_range, flat_map}
+use Rattle.std.proofs.Common.{◌≡◌, ◌≤◌, ◌<◌, ◌+◌, ◌-◌, ◌⊎◌, inl, inr, ℕ, List, [], ◌∷◌, ◌++◌, length, get_or, take, drop, map, refl, sym, ◌∙◌, ap, subst, arith, Option, Some, None, length-append, append_assoc, append-nil}
+use Rattle.std.specs.Prelude.{vec_len, vec_capacity, slice_range, flat_map}
 use Rattle.std.specs.Global.{Vec}
 use Rattle.std.specs.List.{All, insert}
 use Rattle.std.specs.List.Sorted.{IsPermutation}
 use Rattle.std.proofs.lemmas.List.{map-append, length-map, take-map, drop-map, get_or-map, get_or_append_left, get_or_at, take-append-le, take_at, drop_at, same_lists}
 use Rattle.std.proofs.lemmas.List.Edits.{length-insert, get_or-insert_below, get_or-insert_at, get_or-insert_above}
-use Rattle.std.proofs.lemmas.List.Elements.{All-append, All-cons, All-take, All-drop, All-weaker, Contains-get_or, Contains-push}
+use Rattle.std.proofs.lemmas.List.Elements.{All-append, All-cons, All-take, All-drop, All-weaker, Contains-get_or}
 use Rattle.std.proofs.lemmas.List.Sorted.{IsPermutation-insert, IsPermutation-to_front, IsPermutation-trans, IsPermutation-sym, Contains-permutation}
 use Rattle.std.proofs.lemmas.Bool.{cases_order}
 use Rattle.std.proofs.lemmas.Slice.{between_is}
@@ -108,7 +108,7 @@ place_of_entry value met = record { there = met.there; before = met.before; behi
 pub gains_one : (entries : List Entry) (place : ℕ) (entry : Entry) → Gains entries (entry ∷ []) (insert entries place entry)
 gains_one entries place entry = λ x. (
   (λ there. Contains-permutation _ _ x (IsPermutation-sym _ _ moved) there),
-  (λ there. Contains-permutation _ _ x moved there)
+  (λ there. Contains-permutation _ _ x moved there),
 )
   where
     moved : IsPermutation (entries ++ entry ∷ []) (insert entries place entry)
@@ -163,9 +163,9 @@ module _ (arena : List ℕ) (nodes : List Node) (order : List ℕ) (more : List 
     entries_more =
         let f : ℕ → Entry = λ (at : ℕ). entry_of (arena ++ more) (node_at (nodes ++ node ∷ []) at) in
         let whole : entries_at (arena ++ more) (nodes ++ node ∷ []) (insert order place last) ≡ insert (map f order) place (f last) =
-            map-append f (take place order) (last ∷ drop place order)
-            ∙ ap (λ (front : List Entry). front ++ f last ∷ map f (drop place order)) (sym (take-map f place order))
-            ∙ ap (λ (rest : List Entry). take place (map f order) ++ f last ∷ rest) (sym (drop-map f place order)) in
+        map-append f (take place order) (last ∷ drop place order)
+        ∙ ap (λ (front : List Entry). front ++ f last ∷ map f (drop place order)) (sym (take-map f place order))
+        ∙ ap (λ (rest : List Entry). take place (map f order) ++ f last ∷ rest) (sym (drop-map f place order)) in
         whole ∙ ap (λ (es : List Entry). insert es place (f last)) same_entries
         ∙ ap (λ (n : Node). insert (entries_at arena nodes order) place (entry_of (arena ++ more) n)) last_node
 

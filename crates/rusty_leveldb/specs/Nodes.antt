@@ -1,5 +1,5 @@
 -- Entries as nodes over one arena of bytes, and the order in which they are searched.
-use Rattle.std.specs.Prelude.{◌≡◌, ◌≤◌, ◌<◌, ◌-◌, ◌+◌, ◌^◌, ◌⊎◌, ℕ, Bool, true, false, if◌then◌else◌, is_none, List, [], map, length, All, Option, Some, None, slice_range, slice_index_or, vec_len, vec_capacity, min, option_copied}
+use Rattle.std.specs.Prelude.{◌≡◌, ◌≤◌, ◌<◌, ◌-◌, ◌+◌, ◌^◌, ◌⊎◌, ℕ, false, if◌then◌else◌, is_none, List, [], map, length, All, Option, Some, None, slice_range, slice_index_or, vec_len, vec_capacity, min, option_copied}
 use Rattle.std.specs.Borrow.{Bor}
 use Rattle.std.specs.Global.{Vec}
 use Rattle.std.specs.declared.cmp.Ordering.TheVariants.{Less}

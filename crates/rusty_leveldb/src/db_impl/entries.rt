@@ -8,6 +8,9 @@ ghost use Rattle.leveldb_mem.specs.Entries.{HasRoom, IsNewTo, Adds, FindsNewest}
 ghost use Rattle.rusty_leveldb.specs.Recent.{entry_at, lent_newest};
 ghost use Rattle.rusty_leveldb.specs.Nodes.{bytes_of, node_from, most_nodes, ComesBefore, IsPlaceFor, lent_entry};
 
+#[cfg(test)]
+mod tests;
+
 use leveldb_base::error::Result;
 use leveldb_base::types::SequenceNumber;
 use leveldb_mem::write_batch::WriteBatch;

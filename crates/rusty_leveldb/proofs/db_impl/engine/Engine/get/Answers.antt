@@ -1,4 +1,4 @@
-use Rattle.std.proofs.Common.{ℕ, List, Option, Some, ap, subst}
+use Rattle.std.proofs.Common.{ℕ, List, Option, ap, subst}
 use Rattle.std.specs.Prelude.{option_copied}
 use Rattle.std.specs.Borrow.{Bor}
 use Rattle.leveldb_mem.specs.Entries.{FindsNewest}

@@ -1,5 +1,4 @@
-use Rattle.std.proofs.Common.{arith, ◌≤◌, ◌-◌}
-use Rattle.std.proofs.lemmas.Grind.{common_steps}
+use Rattle.std.proofs.Common.{arith}
 use Rattle.rusty_leveldb.proofs.NodeSteps.{room_made, bytes_in_batch}
 use Rattle.rusty_leveldb.proofs.db_impl.entries.Entries.prepare.Goals as goal
 
