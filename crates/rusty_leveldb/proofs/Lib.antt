@@ -6,3 +6,4 @@ pub mod Crashes
 pub mod Causes
 pub mod Example
 pub mod OneLog
+pub mod Openings

@@ -12,3 +12,4 @@ pub mod Nodes
 pub mod Recent
 pub mod Replay
 pub mod Engine
+pub mod Recovery
