@@ -1,6 +1,6 @@
 -- What the calls before the log's did, at each exit of an opening.
 use Rattle.std.proofs.Common.{◌≡◌, ◌≢◌, ◌⊎◌, ◌<◌, ◌≤◌, ◌+◌, ◌∷◌, [], ◌++◌, inl, inr, ⊎_elim, ℕ, Bool, false, true, cond, List, refl, sym, ◌∙◌, ap, subst, arith, Option, Some, None, Result, Ok, Err}
-use Rattle.std.specs.Prelude.{◌-◌, ◌^◌, IsTrue, codes}
+use Rattle.std.specs.Prelude.{◌-◌, ◌^◌, IsTrue, codes, if◌then◌else◌, is_ok}
 use Rattle.std.specs.Str.{bytes_eq}
 use Rattle.std.proofs.lemmas.List.{append_cancel_left}
 use Rattle.leveldb_base.specs.declared.error.Status.{Status}
@@ -12,8 +12,10 @@ use Rattle.leveldb_env.specs.FileLaws.{bytes_eq-same, bytes_eq-apart, SameBut-cr
 use Rattle.rusty_leveldb.specs.OneLog.{log_path, IsRead}
 use Rattle.rusty_leveldb.specs.Names.{lock_path}
 use Rattle.rusty_leveldb.specs.Serves.{Reads, IsUnreadable}
-use Rattle.rusty_leveldb.specs.Recovery.{IsFoundAs, SparesLog, HasCauses, IsNoLog}
+use Rattle.rusty_leveldb.specs.Engine.{OpenExcused}
+use Rattle.rusty_leveldb.specs.Recovery.{IsFoundAs, SparesLog, HasCauses}
 use Rattle.rusty_leveldb.proofs.OneLog.Disks.{log_as_it_was}
+use Rattle.rusty_leveldb.proofs.Openings.Calls.{RecoveryExcused}
 use Rattle.rusty_leveldb.proofs.Openings.Refused.{IsEarlyWhy, IsGivenUp}
 
 -- ---- before the lock is taken
@@ -34,7 +36,7 @@ given_up_early name create from to before after e near counts causes = record {
   lock = inl (ap (λ (l : List ℕ → Bool). l (lock_path name)) near.locks);
   others = λ other apart. ap (λ (l : List ℕ → Bool). l other) near.locks;
   later = causes.later;
-  then = omega arith;
+  ends = omega arith;
   counts = counts;
   why = ⊎_elim (λ why. ⊎_elim (λ m. inl m) (λ early. inr (inl (early, near.log))) why) (λ counted. inr (inr (inr counted))) causes.cause;
 }
@@ -101,8 +103,8 @@ still_taken name from taken to is locks =
 
 -- The log isn't recovered, and the lock is given back, or that fails.
 module _ (name lock : List ℕ) (create : Bool) (from taken kept to : Disk) (before mid after : ℕ) (e : Status) (is : lock ≡ lock_path name) (took : IsTaken name from taken) (locks : kept.locked ≡ taken.locked)
-    (log : SparesLog create (taken.files (log_path name)) (kept.files (log_path name))) (files : to.files ≡ kept.files) (counts : after < 2 ^ 64) (later : before ≤ mid) (then : mid ≤ after)
-    (why : (NoMemory e ⊎ ((e.code ≡ InvalidArgument) × (create ≡ false) × (taken.files (log_path name) ≡ None)) ⊎ IsNoLog true (taken.files (log_path name)) e) ⊎ (before < mid) ⊎ (before ≡ 2 ^ 64 - 1)) where
+    (log : SparesLog create (taken.files (log_path name)) (kept.files (log_path name))) (files : to.files ≡ kept.files) (counts : after < 2 ^ 64) (ended : mid ≤ after)
+    (tells_disk : Bool) (tells : IsTrue tells_disk) {T : Type 0} (causes : HasCauses {T = T} (RecoveryExcused tells_disk create (taken.files (log_path name))) before mid (Err e)) where
   spares : SparesLog create (from.files (log_path name)) (to.files (log_path name))
   spares = subst (λ w. SparesLog create w (to.files (log_path name))) took.log (subst (λ (f : Files). SparesLog create (taken.files (log_path name)) (f (log_path name))) (sym files) log)
 
@@ -114,24 +116,44 @@ module _ (name lock : List ℕ) (create : Bool) (from taken kept to : Disk) (bef
   reasons : NoMemory e ⊎ (IsEarlyWhy name create from e × (to.files (log_path name) ≡ from.files (log_path name))) ⊎ ((e.code ≡ Corruption) × IsUnreadable (Reads name) from.files)
       ⊎ (before < mid) ⊎ (before ≡ 2 ^ 64 - 1)
   reasons = ⊎_elim (λ excused. ⊎_elim (λ m. inl m) (λ others. ⊎_elim
-      (λ unmade. inr (inl (inr (inl (unmade.0, unmade.1, sym took.log ∙ unmade.2)), same_log unmade.1 unmade.2)))
-      (λ damage. inr (inr (inl (damage.0, λ contents read. damage.1 refl contents (subst (λ w. IsRead w contents) (sym took.log) read))))) others) excused)
-      (λ counted. inr (inr (inr counted))) why
+      (λ unmade. inr (inl (inr (inl (unmade.0, unmade.1, sym took.log ∙ unmade.2 tells)), same_log unmade.1 (unmade.2 tells))))
+      (λ damage. inr (inr (inl (damage.0, λ contents read. damage.1 tells contents (subst (λ w. IsRead w contents) (sym took.log) read))))) others) excused)
+      (λ counted. inr (inr (inr counted))) causes.cause
 
-  pub given_back : to.locked ≡ lock_set lock false kept.locked → IsGivenUp name create from to before mid after e
+  given_back : to.locked ≡ lock_set lock false kept.locked → IsGivenUp name create from to before mid after e
   given_back set =
       let set_it : to.locked ≡ lock_set (lock_path name) false kept.locked = subst (λ l. to.locked ≡ lock_set l false kept.locked) is set in
       record {
         log = spares;
         lock = inl (ap (λ (l : List ℕ → Bool). l (lock_path name)) set_it ∙ set_same (lock_path name) false kept.locked ∙ sym took.was_free);
         others = λ other apart. ap (λ (l : List ℕ → Bool). l other) set_it ∙ set_other (lock_path name) false kept.locked other apart ∙ (still_taken name from taken kept took locks).1 other apart;
-        later = later;
-        then = then;
+        later = causes.later;
+        ends = ended;
         counts = counts;
         why = reasons;
       }
 
-  pub not_given_back : to.locked ≡ kept.locked → (mid < after) ⊎ (after ≡ 2 ^ 64 - 1) → IsGivenUp name create from to before mid after e
+  not_given_back : to.locked ≡ kept.locked → (mid < after) ⊎ (after ≡ 2 ^ 64 - 1) → IsGivenUp name create from to before mid after e
   not_given_back same failed =
       let held = still_taken name from taken to took (same ∙ locks) in
-      record { log = spares; lock = inr (held.0, failed); others = held.1; later = later; then = then; counts = counts; why = reasons }
+      record { log = spares; lock = inr (held.0, failed); others = held.1; later = causes.later; ends = ended; counts = counts; why = reasons }
+
+  -- whether the lock was given back
+  pub given_up_late : (result : Result (Unit {0}) Status) → to.locked ≡ (if is_ok result then lock_set lock false kept.locked else kept.locked) → HasCause (λ _. ⊥) mid after result
+      → IsGivenUp name create from to before mid after e
+  given_up_late (Ok value) set cause = given_back set
+  given_up_late (Err status) set cause = not_given_back set
+      (⊎_elim (λ never. absurd never) (λ counted. ⊎_elim (λ (one : after ≡ mid + 1). inl (omega (arith, one))) (λ full. inr (full.1 ∙ full.0)) counted) cause.cause)
+
+-- the same refusal, whatever the disk tells
+pub late_causes : {T U : Type 0} (name : List ℕ) (create tells_disk : Bool) (from taken : Told) {before start mid after : ℕ} {e : Status} → (IsTrue tells_disk → taken.disk.files (log_path name) ≡ from.disk.files (log_path name))
+    → start ≡ before → mid ≤ after → HasCauses {T = T} (RecoveryExcused tells_disk create (taken.disk.files (log_path name))) start mid (Err e)
+    → HasCauses {T = U} (OpenExcused tells_disk name create from) before after (Err e)
+late_causes name create tells_disk from taken {before = before} {start = start} {mid = mid} {after = after} same_log counted ended causes = record {
+  later = omega (arith, counted, causes.later, ended);
+  ok = tt;
+  cause = ⊎_elim (λ excused. inl (⊎_elim (λ m. inl m) (λ others. ⊎_elim
+      (λ unmade. inr (inr (inl (unmade.0, unmade.1, λ tells. sym (same_log tells) ∙ unmade.2 tells))))
+      (λ damage. inr (inr (inr (inr (damage.0, λ tells contents read. damage.1 tells contents (subst (λ w. IsRead w contents) (sym (same_log tells)) read)))))) others) excused))
+      (λ others. inr (⊎_elim (λ (more : start < mid). inl (omega (arith, counted, more, ended))) (λ full. inr (sym counted ∙ full)) others)) causes.cause;
+}

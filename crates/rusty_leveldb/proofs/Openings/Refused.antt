@@ -32,7 +32,7 @@ pub record IsGivenUp (name : List ℕ) (create : Bool) (from to : Disk) (before 
   pub lock : (to.locked (lock_path name) ≡ from.locked (lock_path name)) ⊎ ((to.locked (lock_path name) ≡ true) × ((mid < after) ⊎ (after ≡ 2 ^ 64 - 1)))
   pub others : (other : List ℕ) → other ≢ lock_path name → to.locked other ≡ from.locked other
   pub later : before ≤ mid
-  pub then : mid ≤ after
+  pub ends : mid ≤ after
   pub counts : after < 2 ^ 64
   pub why : NoMemory e ⊎ (IsEarlyWhy name create from e × (to.files (log_path name) ≡ from.files (log_path name))) ⊎ ((e.code ≡ Corruption) × IsUnreadable (Reads name) from.files)
       ⊎ (before < mid) ⊎ (before ≡ 2 ^ 64 - 1)
@@ -48,10 +48,10 @@ not_true false never = refl
 -- this cause's failures, and the lock's beside them
 unlock_failed : (before mid after : ℕ) (cause : Cause) → before ≤ mid → mid ≤ after → after < 2 ^ 64 → (cause ≡ device_failed → (before < mid) ⊎ (before ≡ 2 ^ 64 - 1)) → (mid < after) ⊎ (after ≡ 2 ^ 64 - 1)
     → UnlockFailed (faults_between before after) cause
-unlock_failed before mid after device_failed later then counts device failed = ⊎_elim
+unlock_failed before mid after device_failed later ended counts device failed = ⊎_elim
     (λ (counted : before < mid). ⊎_elim (λ (more : mid < after). inl (omega (arith, counted, more))) (λ full. inr full) failed)
-    (λ (full : before ≡ 2 ^ 64 - 1). inr (omega (arith, full, later, then, counts))) (device refl)
-unlock_failed before mid after other later then counts device failed = ⊎_elim (λ (more : mid < after). inl (omega (arith, later, more))) (λ full. inr full) failed
+    (λ (full : before ≡ 2 ^ 64 - 1). inr (omega (arith, full, later, ended, counts))) (device refl)
+unlock_failed before mid after other later ended counts device failed = ⊎_elim (λ (more : mid < after). inl (omega (arith, later, more))) (λ full. inr full) failed
 
 module _ {E C FP F : Type 0} (env : Ghosts E F) (name : List ℕ) (cmp : List ℕ → List ℕ → Ordering) (opening : Opening) (create : Bool) (is : IsOpening name create opening)
     (from to : Told) (before mid after : ℕ) (e : Status) (up : IsGivenUp name create from.disk to.disk before mid after e)
@@ -88,14 +88,14 @@ module _ {E C FP F : Type 0} (env : Ghosts E F) (name : List ℕ) (cmp : List �
       memory_is = represents.memory_is;
     };
     step = record {
-      later = omega (arith, up.later, up.then);
+      later = omega (arith, up.later, up.ends);
       step = subst (λ m. StepIn cmp m (faults_between before after) old (open_store opening) (refused (refusal_of e)) (left there)) (sym represents.memory_is)
           (cause, comes, record {
             state = refl;
             covered = inl refl;
             stays = survives.stays;
             early = early;
-            lock = ⊎_elim (λ same. inl (same ∙ represents.disk_is.locked)) (λ held. inr (held.0, unlock_failed before mid after cause up.later up.then up.counts device held.1)) up.lock;
+            lock = ⊎_elim (λ same. inl (same ∙ represents.disk_is.locked)) (λ held. inr (held.0, unlock_failed before mid after cause up.later up.ends up.counts device held.1)) up.lock;
           });
     };
     files = record { reading = λ never. absurd never; refused = λ never. absurd never; broken = λ never. absurd (cc (sym never ∙ represents.memory_is)) };
@@ -127,4 +127,4 @@ module _ {E C FP F : Type 0} (env : Ghosts E F) (name : List ℕ) (cmp : List �
           none c.0 c.1
 
       counted : (before < mid) ⊎ (before ≡ 2 ^ 64 - 1) → Refuses
-      counted which = goes left_over.0 left_over.1 device_failed (tt, ⊎_elim (λ (less : before < mid). inl (omega (arith, less, up.then))) (λ full. inr full) which) (λ never. absurd never) (λ _. which)
+      counted which = goes left_over.0 left_over.1 device_failed (tt, ⊎_elim (λ (less : before < mid). inl (omega (arith, less, up.ends))) (λ full. inr full) which) (λ never. absurd never) (λ _. which)
