@@ -68,7 +68,7 @@ module _ {E C FP F : Type 0} (env : Ghosts E F) (name : List ℕ) (cmp : List �
   tells : Tells (old.last + count_of old.pending) (contents_of got.replayed.read.batches) found.part
   tells =
       let c = carried_over create (from.disk.files (log_path name)) (to.disk.files (log_path name)) got.records got.end (old.last + count_of old.pending) found.part got.was_found kept
-          (carried name (old.last + count_of old.pending) found.part from.disk.files found.carries) in
+      (carried name (old.last + count_of old.pending) found.part from.disk.files found.carries) in
       subst (λ x. Tells (old.last + count_of old.pending) x found.part) (one_reading (to.disk.files (log_path name)) c.contents (contents_of got.replayed.read.batches) c.read read_now) c.tells
 
   reached : greatest (entries_of found.part) ≤ engine.recent.last
@@ -122,8 +122,10 @@ module _ {E C FP F : Type 0} (env : Ghosts E F) (name : List ℕ) (cmp : List �
   remembers : Remembers env name engine now
   remembers = record {
     last = refl;
-    same = λ t most key value. (λ s. (tells.same t most key value).0 (shows_same engine.recent.kept.entries (all_entries got.replayed.read.batches) t key value got.replayed.just s),
-        λ s. shows_same (all_entries got.replayed.read.batches) engine.recent.kept.entries t key value (λ entry. ((got.replayed.just entry).1, (got.replayed.just entry).0)) ((tells.same t most key value).1 s));
+    same = λ t most key value. (
+      λ s. (tells.same t most key value).0 (shows_same engine.recent.kept.entries (all_entries got.replayed.read.batches) t key value got.replayed.just s),
+      λ s. shows_same (all_entries got.replayed.read.batches) engine.recent.kept.entries t key value (λ entry. ((got.replayed.just entry).1, (got.replayed.just entry).0)) ((tells.same t most key value).1 s),
+    );
   }
 
   writes : WritesOn env name engine to.disk

@@ -89,14 +89,17 @@ module _ {E C FP F : Type 0} (env : Ghosts E F) (name : List ℕ) (cmp : List �
     };
     step = record {
       later = omega (arith, up.later, up.ends);
-      step = subst (λ m. StepIn cmp m (faults_between before after) old (open_store opening) (refused (refusal_of e)) (left there)) (sym represents.memory_is)
-          (cause, comes, record {
-            state = refl;
-            covered = inl refl;
-            stays = survives.stays;
-            early = early;
-            lock = ⊎_elim (λ same. inl (same ∙ represents.disk_is.locked)) (λ held. inr (held.0, unlock_failed before mid after cause up.later up.ends up.counts device held.1)) up.lock;
-          });
+      step = subst (λ m. StepIn cmp m (faults_between before after) old (open_store opening) (refused (refusal_of e)) (left there)) (sym represents.memory_is) (
+        cause,
+        comes,
+        record {
+          state = refl;
+          covered = inl refl;
+          stays = survives.stays;
+          early = early;
+          lock = ⊎_elim (λ same. inl (same ∙ represents.disk_is.locked)) (λ held. inr (held.0, unlock_failed before mid after cause up.later up.ends up.counts device held.1)) up.lock;
+        },
+      );
     };
     files = record { reading = λ never. absurd never; refused = λ never. absurd never; broken = λ never. absurd (cc (sym never ∙ represents.memory_is)) };
     others = up.others;
