@@ -7,3 +7,6 @@ pub mod Causes
 pub mod Example
 pub mod OneLog
 pub mod Openings
+pub mod Replays
+pub mod Texts
+pub mod Frames

@@ -11,10 +11,10 @@ pub(crate) fn check_name(alloc: Global, name: &str) -> Result<()>
     ensures ok { OnOk result (IsStoreName name.now) }
     ensures cause { IfErr result (λ status. (status.code ≡ StatusCode.InvalidArgument) × (IsStoreName name.now → ⊥)) }
 {
-    if name.is_empty() || name.as_bytes().last() == Some(&b'/') {
-        return err(alloc, StatusCode::InvalidArgument, "not a store's name");
+    match name.as_bytes() {
+        [] | [.., b'/'] => err(alloc, StatusCode::InvalidArgument, "not a store's name"),
+        _ => Ok(()),
     }
-    Ok(())
 }
 
 /// The name of a file in a store's folder.

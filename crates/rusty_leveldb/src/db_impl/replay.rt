@@ -1,7 +1,11 @@
 //! What the records of a store's log say.
-ghost use Rattle.std.specs.Prelude.{◌≡◌, ◌⊎◌, IfOk, IfErr, map};
+ghost use Rattle.std.specs.Prelude.{◌≡◌, ◌⊎◌, OnOk, IfOk, IfErr, map};
 ghost use Rattle.leveldb_base.specs.Status.{IsOutOfMemory};
+ghost use Rattle.leveldb_base.specs.declared.error.StatusCode.TheVariants.{Corruption};
+ghost use Rattle.leveldb_mem.specs.Batch.{IsBatch};
 ghost use Rattle.leveldb_mem.specs.Log.{log_block_size, framed};
+ghost use Rattle.rusty_leveldb.specs.OneLog.{IsRecordOf};
+ghost use Rattle.rusty_leveldb.specs.Recent.{Follows};
 ghost use Rattle.rusty_leveldb.specs.Replay.{IsReplayed, IsDamaged};
 
 use super::recent::Recent;
@@ -18,8 +22,8 @@ pub(crate) fn replay(alloc: Global, records: &[Vec<u8>]) -> Result<Recent>
 {
     let mut recent = Recent::new(alloc);
     let mut batch = WriteBatch::new(alloc)?;
-    for record in records {
-        read_batch(alloc, &mut batch, record)?;
+    for bytes in records {
+        read_batch(alloc, &mut batch, bytes)?;
         check_follows(alloc, recent.last(), &batch)?;
         recent.prepare(&batch)?;
         recent.insert(&batch);
@@ -28,8 +32,11 @@ pub(crate) fn replay(alloc: Global, records: &[Vec<u8>]) -> Result<Recent>
 }
 
 // The batch that a record is.
-fn read_batch(alloc: Global, batch: &mut WriteBatch, record: &[u8]) -> Result<()> {
-    match batch.set_contents(record) {
+fn read_batch(alloc: Global, batch: &mut WriteBatch, bytes: &[u8]) -> Result<()>
+    ensures ok { OnOk result (IsRecordOf bytes.now batch.new) }
+    ensures cause { IfErr result (λ status. IsOutOfMemory status ⊎ ((status.code ≡ Corruption) × (IsBatch bytes.now → ⊥))) }
+{
+    match batch.set_contents(bytes) {
         Err(status) if status.code == StatusCode::InvalidArgument => {
             err(
                 alloc,
@@ -42,7 +49,10 @@ fn read_batch(alloc: Global, batch: &mut WriteBatch, record: &[u8]) -> Result<()
 }
 
 // A batch begins above all entries before it, and its numbers fit.
-fn check_follows(alloc: Global, last: SequenceNumber, batch: &WriteBatch) -> Result<()> {
+fn check_follows(alloc: Global, last: SequenceNumber, batch: &WriteBatch) -> Result<()>
+    ensures ok { OnOk result (Follows last batch.now) }
+    ensures cause { IfErr result (λ status. (status.code ≡ Corruption) × (Follows last batch.now → ⊥)) }
+{
     let first = batch.sequence();
     if first <= last {
         return err(
@@ -67,8 +77,8 @@ pub(crate) fn frame_all(alloc: Global, records: &[Vec<u8>]) -> Result<Vec<u8>>
     ensures memory { IfErr result IsOutOfMemory }
 {
     let mut writer = LogWriter::new(alloc, Vec::new(alloc));
-    for record in records {
-        writer.add_record(record)?;
+    for bytes in records {
+        writer.add_record(bytes)?;
     }
     Ok(writer.sink)
 }
