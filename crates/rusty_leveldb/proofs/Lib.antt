@@ -10,3 +10,7 @@ pub mod Openings
 pub mod Replays
 pub mod Texts
 pub mod Frames
+pub mod EntryOrder
+pub mod NodeSteps
+pub mod Insertions
+pub mod GetSteps

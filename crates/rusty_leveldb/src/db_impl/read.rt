@@ -28,7 +28,10 @@ impl<E: Env, C: UserCmp + Copy, FP: FilterPolicy + Copy> Engine<E, C, FP> {
                 "a key has at most 2^30 bytes",
             );
         }
-        let Some(Some(value)) = self.recent.newest(key) else {
+        let Some(newest) = self.recent.newest(key) else {
+            return Ok(None);
+        };
+        let Some(value) = newest else {
             return Ok(None);
         };
         Ok(Some(Bytes::copy_from_slice(self.alloc, value)?))

@@ -6,6 +6,9 @@ ghost use Rattle.leveldb_mem.specs.Entries.{HasRoom, FindsNewest};
 ghost use Rattle.rusty_leveldb.specs.Recent.{Follows, Inserts, AreUsedUp, lent_newest};
 ghost use Rattle.rusty_leveldb.specs.OneLog.{max_sequence};
 
+#[cfg(test)]
+mod tests;
+
 use super::entries::Entries;
 use leveldb_base::error::{Result, StatusCode, err};
 use leveldb_base::types::{MAX_SEQUENCE_NUMBER, SequenceNumber};
