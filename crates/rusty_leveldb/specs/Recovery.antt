@@ -1,10 +1,8 @@
 -- What an opening finds of a store's log, what it leaves of it, and why one of its steps is refused.
 use Rattle.std.specs.Prelude.{◌≡◌, ◌≢◌, ◌≤◌, ◌<◌, ◌-◌, ◌%◌, ◌^◌, ◌⊎◌, ℕ, Bool, false, List, [], length, Option, Some, None, Result, Ok, Err, OnOk, IfErr, IsErrAnd, IsTrue}
 use Rattle.leveldb_base.specs.declared.error.Status.{Status}
-use Rattle.leveldb_base.specs.declared.error.StatusCode.TheVariants.{InvalidArgument, NotFound, Corruption, LockError}
-use Rattle.leveldb_env.specs.declared.env.Env.{Ghosts}
+use Rattle.leveldb_base.specs.declared.error.StatusCode.TheVariants.{InvalidArgument, NotFound, Corruption}
 use Rattle.leveldb_env.specs.Disk.{File, bytes_of, kept_file, file_kept}
-use Rattle.leveldb_env.specs.Times.{Told}
 use Rattle.leveldb_env.specs.Calls.{NoMemory}
 use Rattle.leveldb_mem.specs.Log.{log_block_size, End, clean, IsLogFile, framed}
 use Rattle.leveldb_mem.specs.Writing.{Writing}

@@ -1,10 +1,10 @@
 -- What the calls before the log's did, at each exit of an opening.
-use Rattle.std.proofs.Common.{◌≡◌, ◌≢◌, ◌⊎◌, ◌<◌, ◌≤◌, ◌+◌, ◌∷◌, [], ◌++◌, inl, inr, ⊎_elim, ℕ, Bool, false, true, cond, List, refl, sym, ◌∙◌, ap, subst, arith, Option, Some, None, Result, Ok, Err}
+use Rattle.std.proofs.Common.{◌≡◌, ◌≢◌, ◌⊎◌, ◌<◌, ◌≤◌, ◌+◌, ◌∷◌, inl, inr, ⊎_elim, ℕ, Bool, false, true, cond, List, sym, ◌∙◌, ap, subst, arith, None, Result, Ok, Err}
 use Rattle.std.specs.Prelude.{◌-◌, ◌^◌, IsTrue, codes, if◌then◌else◌, is_ok}
 use Rattle.std.specs.Str.{bytes_eq}
 use Rattle.std.proofs.lemmas.List.{append_cancel_left}
 use Rattle.leveldb_base.specs.declared.error.Status.{Status}
-use Rattle.leveldb_base.specs.declared.error.StatusCode.TheVariants.{InvalidArgument, Corruption, LockError}
+use Rattle.leveldb_base.specs.declared.error.StatusCode.TheVariants.{Corruption}
 use Rattle.leveldb_env.specs.Disk.{Files, Disk, created, lock_set, same}
 use Rattle.leveldb_env.specs.Times.{Told}
 use Rattle.leveldb_env.specs.Calls.{Does, EitherSide, Still, SameLocks, Relocks, HasCause, NoMemory, IsLocked}

@@ -2,11 +2,11 @@
 use Rattle.std.proofs.Common.{◌≡◌, ◌≢◌, ◌⊎◌, ◌≤◌, ◌+◌, inl, inr, ⊎_elim, ℕ, Bool, false, true, List, [], length, refl, sym, ◌∙◌, ap, subst, arith, Option, Some, None}
 use Rattle.std.specs.Prelude.{IsTrue, Contains, ◌↔◌, string_bytes}
 use Rattle.std.specs.declared.cmp.Ordering.{Ordering}
-use Rattle.leveldb_base.specs.History.{Entry, History, entries_of, greatest, joined, count_of}
-use Rattle.leveldb_base.specs.View.{Shows, SameView}
+use Rattle.leveldb_base.specs.History.{Entry, entries_of, greatest, joined, count_of}
+use Rattle.leveldb_base.specs.View.{Shows}
 use Rattle.leveldb_base.specs.ViewLaws.Elements.{in_none}
 use Rattle.leveldb_env.specs.declared.env.Env.{Ghosts}
-use Rattle.leveldb_env.specs.Disk.{File, AreBytes, bytes_of}
+use Rattle.leveldb_env.specs.Disk.{File, AreBytes}
 use Rattle.leveldb_env.specs.Times.{Told}
 use Rattle.leveldb_mem.specs.Log.{clean}
 use Rattle.rusty_leveldb.specs.Contents.{Store, missing, made, Contents}
@@ -21,7 +21,7 @@ use Rattle.rusty_leveldb.specs.Engine.{IsStoreName, IsOpening, Recalls, Remember
 use Rattle.rusty_leveldb.specs.declared.db_impl.engine.Engine.{Engine}
 use Rattle.rusty_leveldb.specs.Recovery.{IsFoundAs, IsKeptLog, IsRecovered}
 use Rattle.rusty_leveldb.proofs.Histories.{history_part}
-use Rattle.rusty_leveldb.proofs.OneLog.LogFile.{Carried, carried, one_reading}
+use Rattle.rusty_leveldb.proofs.OneLog.LogFile.{carried, one_reading}
 use Rattle.rusty_leveldb.proofs.OneLog.Disks.{log_is_store, store_stays, kept_holds}
 use Rattle.rusty_leveldb.proofs.OneLog.Opening as opening
 use Rattle.rusty_leveldb.proofs.Openings.Logs.{carried_over, kept_is_kept}

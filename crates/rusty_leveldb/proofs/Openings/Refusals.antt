@@ -1,8 +1,7 @@
 -- Why the steps of an opening are refused.
-use Rattle.std.proofs.Common.{◌≡◌, ◌⊎◌, ◌+◌, ◌<◌, ◌≤◌, ◌∙◌, inl, inr, ⊎_elim, ℕ, Bool, List, refl, sym, subst, arith, Option, Result, Ok, Err}
+use Rattle.std.proofs.Common.{◌≡◌, ◌⊎◌, ◌+◌, ◌<◌, ◌∙◌, inl, inr, ⊎_elim, ℕ, Bool, List, sym, arith, Option, Result, Ok, Err}
 use Rattle.std.specs.Prelude.{IsTrue}
 use Rattle.leveldb_base.specs.declared.error.Status.{Status}
-use Rattle.leveldb_base.specs.Status.{IsOutOfMemory}
 use Rattle.leveldb_env.specs.Disk.{File}
 use Rattle.leveldb_env.specs.Calls.{HasCause, NoMemory}
 use Rattle.leveldb_mem.specs.Log.{End}

@@ -1,5 +1,5 @@
 -- A refused opening is a step that leaves the store closed.
-use Rattle.std.proofs.Common.{◌≡◌, ◌≢◌, ◌⊎◌, ◌<◌, ◌≤◌, ◌+◌, inl, inr, ⊎_elim, ℕ, Bool, false, true, List, length, refl, sym, ◌∙◌, ap, subst, arith, Option, Some, None}
+use Rattle.std.proofs.Common.{◌≡◌, ◌≢◌, ◌⊎◌, ◌<◌, ◌≤◌, inl, inr, ⊎_elim, ℕ, Bool, false, true, List, refl, sym, ◌∙◌, ap, subst, arith, Option, None}
 use Rattle.std.specs.Prelude.{◌-◌, ◌^◌, IsTrue}
 use Rattle.std.specs.declared.cmp.Ordering.{Ordering}
 use Rattle.leveldb_base.specs.declared.error.Status.{Status}
@@ -9,15 +9,14 @@ use Rattle.leveldb_env.specs.declared.env.Env.{Ghosts}
 use Rattle.leveldb_env.specs.Disk.{File, Disk}
 use Rattle.leveldb_env.specs.Times.{Told}
 use Rattle.leveldb_env.specs.Calls.{NoMemory}
-use Rattle.rusty_leveldb.specs.Contents.{Store, missing, made, Contents, nothing_there}
+use Rattle.rusty_leveldb.specs.Contents.{Store, made, Contents, nothing_there}
 use Rattle.rusty_leveldb.specs.OneLog.{log_path, IsRead}
 use Rattle.rusty_leveldb.specs.Names.{lock_path}
-use Rattle.rusty_leveldb.specs.State.{State, IsState, IsAtRest, SuitsMode, Opening, open_store, closed, refused}
+use Rattle.rusty_leveldb.specs.State.{State, IsState, IsAtRest, SuitsMode, Opening, open_store, refused}
 use Rattle.rusty_leveldb.specs.Causes.{Cause, Comes, Disagrees, out_of_memory, device_failed, lock_is_held, bad_operand}
 use Rattle.rusty_leveldb.specs.Machine.{IsEarly, UnlockFailed, StepIn}
 use Rattle.rusty_leveldb.specs.Serves.{Reads, Represents, Goes, IsUnreadable, faults_between, refusal_of}
 use Rattle.rusty_leveldb.specs.Engine.{IsStoreName, IsOpening, Recalls}
-use Rattle.rusty_leveldb.specs.declared.db_impl.engine.Engine.{Engine}
 use Rattle.rusty_leveldb.specs.Recovery.{SparesLog}
 use Rattle.rusty_leveldb.proofs.Openings.Survives.{Survives, survives_now, survives_same, survives_kept, some_contents}
 

@@ -1,5 +1,5 @@
 //! Opening a store: its lock is taken, its log is read, and replaced where it ends badly.
-ghost use Rattle.std.specs.Prelude.{◌≡◌, ◌⊎◌, if◌then◌else◌, length, map, string_bytes, Some, None, IsTrue, IfOk, OnOk};
+ghost use Rattle.std.specs.Prelude.{◌≡◌, ◌⊎◌, if◌then◌else◌, length, map, Some, None, IsTrue, IfOk, OnOk};
 ghost use Rattle.leveldb_env.specs.Disk.{bytes_of};
 ghost use Rattle.leveldb_env.specs.Calls.{HasCause, NoMemory, SameLocks};
 ghost use Rattle.leveldb_mem.specs.Log.{clean, bad};
