@@ -1,9 +1,13 @@
 //! Opening a store: its lock is taken, its log is read, and replaced where it ends badly.
-ghost use Rattle.std.specs.Prelude.{◌≡◌, None, IfOk};
-ghost use Rattle.leveldb_env.specs.Calls.{HasCause};
+ghost use Rattle.std.specs.Prelude.{◌≡◌, ◌⊎◌, if◌then◌else◌, length, map, Some, None, IsTrue, IfOk, OnOk};
+ghost use Rattle.leveldb_env.specs.Disk.{bytes_of};
+ghost use Rattle.leveldb_env.specs.Calls.{HasCause, NoMemory, SameLocks};
+ghost use Rattle.leveldb_mem.specs.Log.{clean, bad};
+ghost use Rattle.rusty_leveldb.specs.OneLog.{log_path};
 ghost use Rattle.rusty_leveldb.specs.State.{Opening, open_store};
-ghost use Rattle.rusty_leveldb.specs.Serves.{done_or, given_engine};
-ghost use Rattle.rusty_leveldb.specs.Engine.{IsOpening, Answers, OpenExcused};
+ghost use Rattle.rusty_leveldb.specs.Serves.{Reads, Serves, done_or, given_engine};
+ghost use Rattle.rusty_leveldb.specs.Engine.{IsOpening, Recalls, scene, Answers, OpenExcused};
+ghost use Rattle.rusty_leveldb.specs.Recovery.{IsFoundAs, framed_file, kept_log, SparesLog, IsRecovered, HasCauses, IsFoundOr, IsUntold, IsNotMade, IsNoLog};
 
 use super::close::give_back;
 use super::engine::{Engine, Mode};
@@ -34,6 +38,20 @@ impl<E: Env, C: UserCmp + Copy, FP: FilterPolicy + Copy> Engine<E, C, FP> {
             → Answers E.Env (C.cmp options.cmp) None env.old (open_store opening) (done_or result) (given_engine result) env.new }
         ensures cause { HasCause (OpenExcused E.tells_disk name.now options.create_if_missing (E.tells env.old)) (E.failures env.old) (E.failures env.new) result }
     {
+        Engine::open_named(alloc, name, env, options)
+    }
+
+    // Opens the store under this name.
+    fn open_named(
+        alloc: Global,
+        name: &str,
+        env: &mut E,
+        options: Options<C, FP>,
+    ) -> Result<Engine<E, C, FP>>
+        ensures step { (opening : Opening) → IsOpening name.now options.create_if_missing opening → IsTrue E.tells_disk
+            → Serves name.now (Reads name.now) (Recalls E.Env name.now) (C.cmp options.cmp) (scene E.Env (C.cmp options.cmp) None env.old) (open_store opening) (done_or result) (scene E.Env (C.cmp options.cmp) (given_engine result) env.new) }
+        ensures cause { HasCauses (OpenExcused E.tells_disk name.now options.create_if_missing (E.tells env.old)) (E.failures env.old) (E.failures env.new) result }
+    {
         check_name(alloc, name)?;
         let lock = file_name(alloc, name, "LOCK")?;
         env.mkdir(name)?;
@@ -62,18 +80,21 @@ fn recover<E: Env>(
     name: &str,
     env: &mut E,
     create_if_missing: bool,
-) -> Result<(E::File, WriterCore, Recent)> {
-    let log_name = file_name(alloc, name, "000003.log")?;
-    let (records, is_clean) = read_log(alloc, env, &log_name, create_if_missing)?;
-    let recent = replay(alloc, &records)?;
-    if !is_clean {
-        let temp_name = file_name(alloc, name, "000003.dbtmp")?;
-        let framed = frame_all(alloc, &records)?;
-        found(alloc, replace_file(env, &temp_name, &log_name, &framed))?;
-    }
-    let mut log = env.open_appendable_file(&log_name)?;
-    found(alloc, env.sync(&mut log))?;
-    let size = found(alloc, env.size_of(&log_name))?;
+) -> Result<(E::File, WriterCore, Recent)>
+    ensures locks { SameLocks E.tells_disk (E.tells env.old) (E.tells env.new) }
+    ensures spares { IsTrue E.tells_disk → SparesLog create_if_missing ((E.tells env.old).disk.files (log_path name.now)) ((E.tells env.new).disk.files (log_path name.now)) }
+    ensures ok { IfOk result (λ got. IsTrue E.tells_disk → IsRecovered create_if_missing ((E.tells env.old).disk.files (log_path name.now)) ((E.tells env.new).disk.files (log_path name.now)) got.1 got.2) }
+    ensures log { IfOk result (λ got. IsTrue E.tells_disk → E.name_of got.0 ≡ log_path name.now) }
+    ensures cause { HasCauses (λ e. NoMemory e ⊎ IsNotMade E.tells_disk create_if_missing ((E.tells env.old).disk.files (log_path name.now)) e ⊎ IsNoLog E.tells_disk ((E.tells env.old).disk.files (log_path name.now)) e)
+        (E.failures env.old) (E.failures env.new) result }
+{
+    let full_name = file_name(alloc, name, "000003.log")?;
+    let log_name = full_name.as_str();
+    let (read, is_clean) = read_log(alloc, env, log_name, create_if_missing)?;
+    let records = read.as_slice();
+    let recent = replay(alloc, records)?;
+    mend(alloc, name, env, log_name, records, is_clean)?;
+    let (log, size) = open_log(alloc, env, log_name)?;
     Ok((log, WriterCore::new_with_off(alloc, size), recent))
 }
 
@@ -83,9 +104,17 @@ fn read_log<E: Env>(
     env: &mut E,
     log_name: &str,
     create_if_missing: bool,
-) -> Result<(Vec<Vec<u8>>, bool)> {
+) -> Result<(Vec<Vec<u8>>, bool)>
+    ensures still { IsTrue E.tells_disk → (E.tells env.new).disk.files ≡ (E.tells env.old).disk.files }
+    ensures locks { SameLocks E.tells_disk (E.tells env.old) (E.tells env.new) }
+    ensures log { IfOk result (λ found. IsTrue E.tells_disk → IsFoundAs create_if_missing ((E.tells env.old).disk.files log_name.now)
+        (map (λ v. v.items) found.0.items) (if found.1 then clean else bad)) }
+    ensures cause { HasCauses (λ e. IsUntold E.tells_disk e ⊎ IsNotMade E.tells_disk create_if_missing ((E.tells env.old).disk.files log_name.now) e)
+        (E.failures env.old) (E.failures env.new) result }
+{
     if env.exists(log_name)? {
-        return found(alloc, read_log_file(alloc, env, log_name));
+        let read = read_log_file(alloc, env, log_name);
+        return found(alloc, read);
     }
     if !create_if_missing {
         return err(alloc, StatusCode::InvalidArgument, "there is no store");
@@ -93,8 +122,54 @@ fn read_log<E: Env>(
     Ok((Vec::new(alloc), true))
 }
 
+// Where the log ends badly, puts the framing of its records in its place.
+fn mend<E: Env>(
+    alloc: Global,
+    name: &str,
+    env: &mut E,
+    log_name: &str,
+    records: &[Vec<u8>],
+    is_clean: bool,
+) -> Result<()>
+    requires { log_name.now ≡ log_path name.now }
+    ensures locks { SameLocks E.tells_disk (E.tells env.old) (E.tells env.new) }
+    ensures either { IsTrue E.tells_disk → ((E.tells env.new).disk.files log_name.now ≡ (E.tells env.old).disk.files log_name.now)
+        ⊎ ((E.tells env.new).disk.files log_name.now ≡ Some (framed_file (map (λ v. v.items) records.now))) }
+    ensures ok { OnOk result (IsTrue E.tells_disk → (E.tells env.new).disk.files log_name.now
+        ≡ (if is_clean then (E.tells env.old).disk.files log_name.now else Some (framed_file (map (λ v. v.items) records.now)))) }
+    ensures cause { HasCauses (IsUntold E.tells_disk) (E.failures env.old) (E.failures env.new) result }
+{
+    if is_clean {
+        return Ok(());
+    }
+    let temp_name = file_name(alloc, name, "000003.dbtmp")?;
+    let framed = frame_all(alloc, records)?;
+    let replaced = replace_file(env, &temp_name, log_name, &framed);
+    found(alloc, replaced)
+}
+
+// The log, which is made where it is missing, all its bytes kept, and how many it has.
+fn open_log<E: Env>(alloc: Global, env: &mut E, log_name: &str) -> Result<(E::File, usize)>
+    ensures locks { SameLocks E.tells_disk (E.tells env.old) (E.tells env.new) }
+    ensures either { IsTrue E.tells_disk → ((E.tells env.new).disk.files log_name.now ≡ (E.tells env.old).disk.files log_name.now)
+        ⊎ ((E.tells env.new).disk.files log_name.now ≡ Some (kept_log ((E.tells env.old).disk.files log_name.now))) }
+    ensures there { OnOk result (IsTrue E.tells_disk → (E.tells env.new).disk.files log_name.now ≡ Some (kept_log ((E.tells env.old).disk.files log_name.now))) }
+    ensures name { IfOk result (λ got. IsTrue E.tells_disk → E.name_of got.0 ≡ log_name.now) }
+    ensures size { IfOk result (λ got. IsTrue E.tells_disk → got.1 ≡ length (bytes_of (kept_log ((E.tells env.old).disk.files log_name.now)))) }
+    ensures cause { HasCauses (IsUntold E.tells_disk) (E.failures env.old) (E.failures env.new) result }
+{
+    let mut log = env.open_appendable_file(log_name)?;
+    let synced = env.sync(&mut log);
+    found(alloc, synced)?;
+    let measured = env.size_of(log_name);
+    let size = found(alloc, measured)?;
+    Ok((log, size))
+}
+
 // A file of the store that is missing is damage.
-fn found<T>(alloc: Global, answer: Result<T>) -> Result<T> {
+fn found<T>(alloc: Global, answer: Result<T>) -> Result<T>
+    ensures { IsFoundOr answer result }
+{
     match answer {
         Err(status) if status.code == StatusCode::NotFound => {
             err(
