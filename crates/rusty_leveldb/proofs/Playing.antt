@@ -14,7 +14,7 @@ use Rattle.rusty_leveldb.specs.State.{State, Opening, Request, open_store, aband
 use Rattle.rusty_leveldb.specs.Machine.{Step}
 use Rattle.rusty_leveldb.specs.Runs.{Event, Run, faults_of}
 use Rattle.rusty_leveldb.specs.Serves.{Reads, Represents, Goes, Runs, IsConversation, done_or, refusal_of}
-use Rattle.rusty_leveldb.specs.Engine.{Recalls, Answers, IsOpening, scene}
+use Rattle.rusty_leveldb.specs.Engine.{Recalls, Answers, AnswersAs, IsOpening, scene}
 use Rattle.rusty_leveldb.specs.Shell.{Leads, LeadsThrough, Plays, PlaysAlways, request_of, answer_of}
 
 -- an answer in which no coder took part
@@ -53,10 +53,10 @@ module _ {E F C FP : Type 0} (env : Ghosts E F) (cmp : List ℕ → List ℕ →
       }
 
   pub first_one : (from to : E) (after : Option (Engine E C FP F)) (request : Request) (answer : Answer) (old : State)
-      → Represents store (Reads store) (Recalls {C = C} {FP = FP} env store) None (env.tells from).disk old → Answers env cmp None from request answer after to
+      → Represents store (Reads store) (Recalls {C = C} {FP = FP} env store) None (env.tells from).disk old → AnswersAs env cmp store None from request answer after to
       → Leads C FP env cmp store from (request ∷ []) (answer ∷ []) after to old
   first_one from to after request answer old is answers_so =
-      let goes = answers_so tells store old is in
+      let goes = answers_so tells old is in
       record {
         events = event_of request answer (env.failures to) ∷ [];
         asked = record { requests_are = refl; answers_are = refl; no_coder = All-cons (λ (event : Event). event.coders ≡ []) (event_of request answer (env.failures to)) [] refl (All-nil (λ (event : Event). event.coders ≡ [])) };
@@ -81,7 +81,7 @@ module _ {E F : Type 0} (C FP : Type 0) (env : Ghosts E F) (cmp : List ℕ → L
 
   -- what an opening of the store answers
   abbrev pub OpensAs : E → Bool → Answer → Option (Engine E C FP F) → E → Type 0
-  OpensAs from create_if_missing answer engine to = (opening : Opening) → IsOpening store create_if_missing opening → Answers env cmp None from (open_store opening) answer engine to
+  OpensAs from create_if_missing answer engine to = (opening : Opening) → IsOpening store create_if_missing opening → AnswersAs env cmp store None from (open_store opening) answer engine to
 
   pub play_first : (from to : E) (create_if_missing : Bool) (engine : Engine E C FP F) → OpensAs from create_if_missing done (Some engine) to → PlaysSoFar from create_if_missing [] [] engine to
   play_first from to create_if_missing engine opens tells opening is old represents = first_one env cmp store tells from to (Some engine) (open_store opening) done old represents (opens opening is)

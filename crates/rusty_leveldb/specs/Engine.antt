@@ -66,7 +66,11 @@ module _ {E C FP F : Type 0} (env : Ghosts E F) (cmp : List ℕ → List ℕ →
   abbrev pub scene : Option (Engine E C FP F) → E → Scene (Engine E C FP F)
   scene memory at = (memory, env.tells at, env.failures at)
 
-  -- where the disk is told, the call is a step of the machine, whatever store engine and disk stand for
+  -- where the disk is told, the call is a step of the machine, for the store under this name
+  abbrev pub AnswersAs : List ℕ → Option (Engine E C FP F) → E → Request → Answer → Option (Engine E C FP F) → E → Type 0
+  AnswersAs store before from request answer after to = IsTrue env.tells_disk → Serves store (Reads store) (Recalls env store) cmp (scene before from) request answer (scene after to)
+
+  -- the same, whatever store engine and disk stand for
   abbrev pub Answers : Option (Engine E C FP F) → E → Request → Answer → Option (Engine E C FP F) → E → Type 0
   Answers before from request answer after to = IsTrue env.tells_disk → (store : List ℕ)
       → Serves store (Reads store) (Recalls env store) cmp (scene before from) request answer (scene after to)

@@ -5,8 +5,8 @@ ghost use Rattle.leveldb_env.specs.Calls.{HasCause, NoMemory, SameLocks};
 ghost use Rattle.leveldb_mem.specs.Log.{clean, bad};
 ghost use Rattle.rusty_leveldb.specs.OneLog.{log_path};
 ghost use Rattle.rusty_leveldb.specs.State.{Opening, open_store};
-ghost use Rattle.rusty_leveldb.specs.Serves.{Reads, Serves, done_or, given_engine};
-ghost use Rattle.rusty_leveldb.specs.Engine.{IsOpening, Recalls, scene, Answers, OpenExcused};
+ghost use Rattle.rusty_leveldb.specs.Serves.{done_or, given_engine};
+ghost use Rattle.rusty_leveldb.specs.Engine.{IsOpening, AnswersAs, OpenExcused};
 ghost use Rattle.rusty_leveldb.specs.Recovery.{IsFoundAs, framed_file, kept_log, SparesLog, IsRecovered, HasCauses, IsFoundOr, IsUntold, IsNotMade, IsNoLog};
 
 use super::close::give_back;
@@ -35,21 +35,7 @@ impl<E: Env, C: UserCmp + Copy, FP: FilterPolicy + Copy> Engine<E, C, FP> {
     ) -> Result<Engine<E, C, FP>>
         ensures options { IfOk result (λ engine. engine.options ≡ options) }
         ensures step { (opening : Opening) → IsOpening name.now options.create_if_missing opening
-            → Answers E.Env (C.cmp options.cmp) None env.old (open_store opening) (done_or result) (given_engine result) env.new }
-        ensures cause { HasCause (OpenExcused E.tells_disk name.now options.create_if_missing (E.tells env.old)) (E.failures env.old) (E.failures env.new) result }
-    {
-        Engine::open_named(alloc, name, env, options)
-    }
-
-    // Opens the store under this name.
-    fn open_named(
-        alloc: Global,
-        name: &str,
-        env: &mut E,
-        options: Options<C, FP>,
-    ) -> Result<Engine<E, C, FP>>
-        ensures step { (opening : Opening) → IsOpening name.now options.create_if_missing opening → IsTrue E.tells_disk
-            → Serves name.now (Reads name.now) (Recalls E.Env name.now) (C.cmp options.cmp) (scene E.Env (C.cmp options.cmp) None env.old) (open_store opening) (done_or result) (scene E.Env (C.cmp options.cmp) (given_engine result) env.new) }
+            → AnswersAs E.Env (C.cmp options.cmp) name.now None env.old (open_store opening) (done_or result) (given_engine result) env.new }
         ensures cause { HasCauses (OpenExcused E.tells_disk name.now options.create_if_missing (E.tells env.old)) (E.failures env.old) (E.failures env.new) result }
     {
         check_name(alloc, name)?;

@@ -4,7 +4,7 @@ ghost use Rattle.leveldb_env.specs.Calls.{HasCause};
 ghost use Rattle.leveldb_mem.specs.Batch.{item_of};
 ghost use Rattle.rusty_leveldb.specs.State.{Opening, open_store, write, get, flush, close, abandon, done};
 ghost use Rattle.rusty_leveldb.specs.Serves.{done_or, found_or};
-ghost use Rattle.rusty_leveldb.specs.Engine.{IsOpening, Answers, WriteExcused, SyncExcused, CloseExcused, GetExcused};
+ghost use Rattle.rusty_leveldb.specs.Engine.{IsOpening, AnswersAs, Answers, WriteExcused, SyncExcused, CloseExcused, GetExcused};
 
 use super::engine::Engine;
 use bytes::Bytes;
@@ -61,7 +61,7 @@ impl<'e, E: Env, C: UserCmp + Copy, FP: FilterPolicy + Copy> Store<'e, E, Engine
         ensures same_reference { IfOk result (λ db. db.env.ghost_name ≡ env.entry.ghost_name) }
         ensures options { IfOk result (λ db. db.state.options ≡ options) }
         ensures step { IfOk result (λ db. (opening : Opening) → IsOpening name.now options.create_if_missing opening
-            → Answers E.Env (C.cmp options.cmp) None env.old (open_store opening) done (Some db.state) db.env.now) }
+            → AnswersAs E.Env (C.cmp options.cmp) name.now None env.old (open_store opening) done (Some db.state) db.env.now) }
         ensures cause { IfOk result (λ db. E.failures db.env.now ≡ E.failures env.old) }
     {
         let engine = Engine::open(alloc, name, &mut *env, options)?;

@@ -8,7 +8,7 @@ use Rattle.rusty_leveldb.proofs.Openings.Refusals.{causes_of, causes_after, excu
 use Rattle.rusty_leveldb.proofs.Openings.Refused.{given_up}
 use Rattle.rusty_leveldb.proofs.Openings.Opened.{opened}
 use Rattle.rusty_leveldb.proofs.Openings.Exits.{given_up_early, folder_made, lock_refused, lock_excused, lock_taken, still_taken, given_up_late, late_causes}
-use Rattle.rusty_leveldb.proofs.db_impl.engine.Engine.open_named.Goals as goal
+use Rattle.rusty_leveldb.proofs.db_impl.engine.Engine.open.Goals as goal
 
 pub returns-in_err-check_name-clause-step : goal.returns-in_err-check_name-clause-step
 returns-in_err-check_name-clause-step g c =
