@@ -33,9 +33,9 @@ pub too_long_among : (batch : Batch) (items : List item.Item) (i : ℕ) (one : i
     → IsTooLong (with_item batch (change_of one)) → IsLongBatch (map change_of items)
 too_long_among batch items i one below is so_far long =
     let front : map change_of (take (i + 1) items) ≡ batch.items ++ change_of one ∷ [] =
-        ap (map change_of) (take_more items i one below ∙ ap (λ (x : item.Item). take i items ++ x ∷ []) (sym is)) ∙ map-append change_of (take i items) (one ∷ []) ∙ ap (λ xs. xs ++ change_of one ∷ []) (sym so_far) in
+    ap (map change_of) (take_more items i one below ∙ ap (λ (x : item.Item). take i items ++ x ∷ []) (sym is)) ∙ map-append change_of (take i items) (one ∷ []) ∙ ap (λ xs. xs ++ change_of one ∷ []) (sym so_far) in
     let all : map change_of items ≡ (batch.items ++ change_of one ∷ []) ++ map change_of (drop (i + 1) items) =
-        ap (map change_of) (sym (take-append-drop (i + 1) items)) ∙ map-append change_of (take (i + 1) items) (drop (i + 1) items) ∙ ap (λ xs. xs ++ map change_of (drop (i + 1) items)) front in
+    ap (map change_of) (sym (take-append-drop (i + 1) items)) ∙ map-append change_of (take (i + 1) items) (drop (i + 1) items) ∙ ap (λ xs. xs ++ map change_of (drop (i + 1) items)) front in
     subst IsLongBatch (sym all) (longer_too batch.first (batch.items ++ change_of one ∷ []) (map change_of (drop (i + 1) items)) long)
 
 -- ---- a batch that isn't written
