@@ -144,7 +144,10 @@ fn a_failed_close_breaks_the_store(rt: HostRuntime) -> Result<()> {
         let mut engine = Engine::open(alloc, "db", &mut env, Options::default())?;
         env.fail(nth, false);
         assert_eq!(rt; code_of(engine.close(&mut env)), StatusCode::IOError);
-        assert_eq!(rt; code_of(engine.put(&mut env, b"a", b"1")), StatusCode::IOError);
+        assert_eq!(rt;
+            code_of(engine.put(&mut env, b"a", b"1")),
+            StatusCode::IOError
+        );
         assert_eq!(rt; code_of(env.lock("db/LOCK")), StatusCode::LockError);
         env.fail(1, false);
         assert_eq!(rt; code_of(engine.abandon(&mut env)), StatusCode::IOError);
