@@ -1,7 +1,6 @@
 -- The steps by which a store that is one log is closed or abandoned: one for each way in which the calls end.
-use Rattle.std.proofs.Common.{◌≡◌, ◌≢◌, ◌≤◌, ◌<◌, ◌+◌, ◌-◌, ◌^◌, ◌⊎◌, cond, ⊎_elim, inl, inr, ℕ, Bool, true, false, List, length, refl, sym, ◌∙◌, ap, subst, arith, Option, Some, None, Ok, Err}
+use Rattle.std.proofs.Common.{◌≡◌, ◌≢◌, ◌+◌, ◌-◌, ◌^◌, ◌⊎◌, cond, ⊎_elim, inl, inr, ℕ, Bool, false, List, length, refl, sym, ◌∙◌, ap, subst, arith, Some, None, Ok, Err}
 use Rattle.std.specs.Prelude.{IsTrue, IsSome, Result, string_bytes}
-use Rattle.std.specs.Str.{bytes_eq}
 use Rattle.std.specs.declared.cmp.Ordering.{Ordering}
 use Rattle.leveldb_base.specs.declared.error.Status.{Status}
 use Rattle.leveldb_base.specs.Status.{text_of}
@@ -22,10 +21,10 @@ use Rattle.rusty_leveldb.specs.OneLog.{log_path}
 use Rattle.rusty_leveldb.specs.State as machine
 use Rattle.rusty_leveldb.specs.State.{State, Request, close, abandon, Answer, done, refused, open_mode, broken, closed}
 use Rattle.rusty_leveldb.specs.Causes.{Faults, Cause, out_of_memory, device_failed, Comes, ReachesDevice}
-use Rattle.rusty_leveldb.specs.Machine.{Step, StepIn, Responds}
-use Rattle.rusty_leveldb.specs.Serves.{Reads, StandsFor, Represents, SparesFiles, Goes, done_or, refusal_of, faults_between}
-use Rattle.rusty_leveldb.specs.Engine.{Recalls, Remembers, WritesOn, mode_of, scene, Answers}
-use Rattle.rusty_leveldb.proofs.Ended.{broke, ended, when_open, broke_still, ended_still, broke_covered, ended_covered}
+use Rattle.rusty_leveldb.specs.Machine.{StepIn, Responds}
+use Rattle.rusty_leveldb.specs.Serves.{Reads, StandsFor, Represents, done_or, refusal_of, faults_between}
+use Rattle.rusty_leveldb.specs.Engine.{Recalls, WritesOn, mode_of, Answers}
+use Rattle.rusty_leveldb.proofs.Ended.{broke, ended, broke_still, ended_still, broke_covered, ended_covered}
 
 -- ---- causes
 

@@ -1,10 +1,10 @@
 -- What disk and state are when a store broke at a sync or at its close, or was closed.
-use Rattle.std.proofs.Common.{◌≡◌, ◌≤◌, ◌+◌, ⊎_elim, inl, inr, ℕ, Bool, true, false, List, length, refl, sym, ◌∙◌, ap, subst, arith, Option, Some, None}
+use Rattle.std.proofs.Common.{◌≡◌, ◌≤◌, ◌+◌, ⊎_elim, ℕ, Bool, List, length, refl, sym, ◌∙◌, ap, subst, arith, Some, None}
 use Rattle.leveldb_base.specs.History.{Entry, IsHistory, joined, greatest, entries_of, count_of}
 use Rattle.leveldb_base.specs.ViewLaws.Elements.{in_none}
 use Rattle.leveldb_env.specs.Disk.{File, Files, Disk, synced, file_kept}
 use Rattle.leveldb_env.specs.FileLaws.{synced-same}
-use Rattle.rusty_leveldb.specs.Contents.{Contents, Store, made}
+use Rattle.rusty_leveldb.specs.Contents.{made}
 use Rattle.rusty_leveldb.specs.Names.{lock_path}
 use Rattle.rusty_leveldb.specs.OneLog.{log_path}
 use Rattle.rusty_leveldb.specs.Holds.{Holds, HasStore, KeepsStore, Carries}
