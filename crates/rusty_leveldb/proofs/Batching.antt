@@ -1,6 +1,6 @@
 -- Changes that are put together to a batch, and a batch that is refused before it is written.
-use Rattle.std.proofs.Common.{◌≡◌, ◌≤◌, ◌<◌, ◌+◌, ◌^◌, ◌⊎◌, inl, inr, ⊎_elim, ℕ, List, [], ◌∷◌, ◌++◌, length, take, drop, flat_map, refl, sym, ◌∙◌, ap, subst, arith, Option, Some, None, Bool, Result, Ok, Err, IsTrue, length-append}
-use Rattle.std.specs.Prelude.{map, OnOk}
+use Rattle.std.proofs.Common.{◌≡◌, ◌<◌, ◌+◌, ◌^◌, ◌⊎◌, inl, ⊎_elim, ℕ, List, [], ◌∷◌, ◌++◌, length, take, drop, flat_map, refl, sym, ◌∙◌, ap, subst, arith, Bool, length-append}
+use Rattle.std.specs.Prelude.{map}
 use Rattle.std.specs.declared.cmp.Ordering.{Ordering}
 use Rattle.std.proofs.Math.ListN.{get_or}
 use Rattle.std.proofs.lemmas.List.{map-append, take_more, take-append-drop}
@@ -19,8 +19,8 @@ use Rattle.rusty_leveldb.specs.Shell.{change_of}
 use Rattle.rusty_leveldb.specs.State.{State, open_mode, write, refused}
 use Rattle.rusty_leveldb.specs.Causes.{Faults, out_of_memory, bad_operand, IsLongBatch}
 use Rattle.rusty_leveldb.specs.Machine.{Keeps, StepIn}
-use Rattle.rusty_leveldb.specs.Serves.{Reads, Represents, Goes, faults_between, refusal_of}
-use Rattle.rusty_leveldb.specs.Engine.{Recalls, Answers, AnswersStill, scene}
+use Rattle.rusty_leveldb.specs.Serves.{faults_between, refusal_of}
+use Rattle.rusty_leveldb.specs.Engine.{Recalls, AnswersStill}
 
 -- a batch whose front is too long is too long
 pub longer_too : (first : ℕ) (front more : List Item) → 2 ^ 30 < length (batch_bytes first front) → IsLongBatch (front ++ more)

@@ -1,6 +1,6 @@
 -- Runs of commands, one request after another.
 use Rattle.std.proofs.Common.{◌≡◌, ◌<◌, ◌+◌, inl, inr, ℕ, Bool, List, [], ◌∷◌, ◌++◌, length, take, refl, sym, ◌∙◌, ap, subst, Option, Some, None, Result, Ok, Err, IsTrue}
-use Rattle.std.specs.Prelude.{map, All}
+use Rattle.std.specs.Prelude.{map}
 use Rattle.std.proofs.Math.ListN.{get_or}
 use Rattle.std.specs.declared.cmp.Ordering.{Ordering}
 use Rattle.std.proofs.lemmas.List.{map-append, take_more}
@@ -13,8 +13,8 @@ use Rattle.rusty_leveldb.specs.declared.shell.commands.Reply.{Reply}
 use Rattle.rusty_leveldb.specs.State.{State, Opening, Request, open_store, abandon, Answer, done, refused}
 use Rattle.rusty_leveldb.specs.Machine.{Step}
 use Rattle.rusty_leveldb.specs.Runs.{Event, Run, faults_of}
-use Rattle.rusty_leveldb.specs.Serves.{Reads, Represents, Goes, Runs, IsConversation, done_or, refusal_of}
-use Rattle.rusty_leveldb.specs.Engine.{Recalls, Answers, AnswersAs, IsOpening, scene}
+use Rattle.rusty_leveldb.specs.Serves.{Reads, Represents, IsConversation, done_or, refusal_of}
+use Rattle.rusty_leveldb.specs.Engine.{Recalls, Answers, AnswersAs, IsOpening}
 use Rattle.rusty_leveldb.specs.Shell.{Leads, LeadsThrough, Plays, PlaysAlways, request_of, answer_of}
 
 -- an answer in which no coder took part

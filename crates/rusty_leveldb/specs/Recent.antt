@@ -1,10 +1,10 @@
 -- The entries that a store has in memory, and the number of the last.
-use Rattle.std.specs.Prelude.{◌≡◌, ◌≤◌, ◌<◌, ◌+◌, ◌⊎◌, ℕ, List, [], ◌∷◌, length, Option, Some, None, max, option_copied}
+use Rattle.std.specs.Prelude.{◌≡◌, ◌≤◌, ◌<◌, ◌+◌, ℕ, List, Option, max, option_copied}
 use Rattle.std.specs.Option.{option_map}
 use Rattle.std.specs.Borrow.{Bor}
 use Rattle.leveldb_base.specs.History.{Item, Entry, placed, greatest}
 use Rattle.leveldb_mem.specs.Batch.{Batch}
-use Rattle.leveldb_mem.specs.Entries.{Kept, HasRoom, Gains}
+use Rattle.leveldb_mem.specs.Entries.{Kept, Gains}
 use Rattle.rusty_leveldb.specs.OneLog.{max_sequence}
 
 -- an item's entry at a number

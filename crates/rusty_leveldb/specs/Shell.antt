@@ -1,5 +1,5 @@
 -- Commands and replies as requests and answers, and what a run of commands is.
-use Rattle.std.specs.Prelude.{◌≡◌, ◌⊎◌, ◌<◌, ◌≤◌, ◌^◌, ◌-◌, ℕ, Bool, true, false, List, [], ◌∷◌, ◌++◌, length, map, Option, Some, None, Result, Ok, Err, IsTrue, OnOk, IfErr}
+use Rattle.std.specs.Prelude.{◌≡◌, ◌⊎◌, ◌<◌, ◌^◌, ◌-◌, ℕ, Bool, false, List, [], ◌∷◌, ◌++◌, map, Option, Some, None, Result, Ok, Err, IsTrue}
 use Rattle.std.specs.declared.cmp.Ordering.{Ordering}
 use Rattle.leveldb_base.specs.declared.error.Status.{Status}
 use Rattle.leveldb_base.specs.History as history
@@ -14,7 +14,7 @@ use Rattle.rusty_leveldb.specs.declared.shell.commands.Reply.{Reply}
 use Rattle.rusty_leveldb.specs.declared.shell.commands.Reply.TheVariants as reply
 use Rattle.rusty_leveldb.specs.declared.db_impl.engine.Engine.{Engine}
 use Rattle.rusty_leveldb.specs.State.{State, Opening, Request, open_store, write, get, flush, close, abandon, Answer, done, found, refused}
-use Rattle.rusty_leveldb.specs.Serves.{Reads, Represents, Runs, ServesAll, refusal_of, done_or}
+use Rattle.rusty_leveldb.specs.Serves.{Reads, Represents, Runs, refusal_of}
 use Rattle.rusty_leveldb.specs.Engine.{Recalls, scene, IsOpening}
 
 -- the change that an item asks for

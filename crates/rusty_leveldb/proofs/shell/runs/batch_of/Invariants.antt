@@ -1,4 +1,4 @@
-use Rattle.std.proofs.Common.{◌≡◌, List, take, map}
+use Rattle.std.proofs.Common.{◌≡◌, take, map}
 use Rattle.rusty_leveldb.specs.Shell.{change_of}
 use Rattle.rusty_leveldb.proofs.shell.runs.batch_of.Given as goal
 
