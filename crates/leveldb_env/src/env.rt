@@ -167,11 +167,12 @@ pub trait Env {
         ensures was_free { OnOk result (IsTrue tells_disk → (tells self.old).disk.locked name.now ≡ false) }
         ensures cause { HasCause (IsLocked tells_disk name.now (tells self.old)) (failures self.old) (failures self.new) result };
 
-    /// Frees a locked name; `LockError` where it is free. It takes no memory.
+    /// Frees a locked name; `LockError` where it is free, and nowhere else. It takes no memory.
     fn unlock(&mut self, name: &str) -> Result<()>
         ensures does { Does tells_disk same Still (tells self.old) (tells self.new) result }
         ensures locks { Relocks tells_disk (lock_set name.now false) (tells self.old) (tells self.new) result }
         ensures was_locked { OnOk result (IsTrue tells_disk → (tells self.old).disk.locked name.now ≡ true) }
+        ensures was_free { IfErr result (λ e. e.code ≡ StatusCode.LockError → LockIs tells_disk false name.now (tells self.old) e) }
         ensures memory { IfErr result (λ e. e.code ≢ StatusCode.OutOfMemory) }
         ensures cause { HasCause (LockIs tells_disk false name.now (tells self.old)) (failures self.old) (failures self.new) result };
 

@@ -6,3 +6,17 @@ pub mod Crashes
 pub mod Causes
 pub mod Example
 pub mod OneLog
+pub mod Openings
+pub mod Replays
+pub mod Texts
+pub mod Frames
+pub mod Ended
+pub mod Closing
+pub mod Playing
+pub mod Batching
+pub mod Writes
+pub mod FrameBytes
+pub mod EntryOrder
+pub mod NodeSteps
+pub mod Insertions
+pub mod GetSteps

@@ -8,3 +8,10 @@ pub mod Machine
 pub mod Runs
 pub mod Serves
 pub mod Laws
+pub mod Nodes
+pub mod Recent
+pub mod Replay
+pub mod Engine
+pub mod Shell
+pub mod Language
+pub mod Recovery

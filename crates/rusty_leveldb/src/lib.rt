@@ -1,4 +1,18 @@
 //! The store: a machine over a history, on a disk that holds it.
 #![tactic(auto)]
 
+pub mod db_impl;
 pub mod promises;
+pub mod shell;
+
+pub use db_impl::DB;
+pub use leveldb_base::cmp::{Cmp, DefaultCmp};
+pub use leveldb_base::error::{Result, Status, StatusCode};
+pub use leveldb_base::types::LdbIterator;
+pub use leveldb_base::{blockhandle, cmp, crc, error, history, key_types, types, varint};
+pub use leveldb_env::filter::FilterPolicy;
+pub use leveldb_env::mem_env::MemEnv;
+pub use leveldb_env::options::Options;
+pub use leveldb_env::{env, filter, mem_env, options};
+pub use leveldb_mem::write_batch::WriteBatch;
+pub use leveldb_mem::{log, log_laws, write_batch};

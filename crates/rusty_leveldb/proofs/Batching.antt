@@ -1,0 +1,71 @@
+-- Changes that are put together to a batch, and a batch that is refused before it is written.
+use Rattle.std.proofs.Common.{◌≡◌, ◌<◌, ◌+◌, ◌^◌, ◌⊎◌, inl, ⊎_elim, ℕ, List, [], ◌∷◌, ◌++◌, length, take, drop, flat_map, refl, sym, ◌∙◌, ap, subst, arith, Bool, length-append}
+use Rattle.std.specs.Prelude.{map}
+use Rattle.std.specs.declared.cmp.Ordering.{Ordering}
+use Rattle.std.proofs.Math.ListN.{get_or}
+use Rattle.std.proofs.lemmas.List.{map-append, take_more, take-append-drop}
+use Rattle.std.proofs.lemmas.List.Concat.{flat_map-append}
+use Rattle.leveldb_base.specs.declared.error.Status.{Status}
+use Rattle.leveldb_base.specs.declared.error.StatusCode.TheVariants.{InvalidArgument}
+use Rattle.leveldb_base.specs.Status.{IsOutOfMemory, text_of}
+use Rattle.leveldb_base.specs.History.{Item}
+use Rattle.leveldb_env.specs.declared.env.Env.{Ghosts}
+use Rattle.leveldb_env.specs.Disk.{Disk}
+use Rattle.leveldb_mem.specs.Batch.{Batch, with_item, entry_bytes, batch_bytes, IsTooLong}
+use Rattle.leveldb_mem.specs.BatchLaws.{length-batch_bytes}
+use Rattle.rusty_leveldb.specs.declared.db_impl.engine.Engine.{Engine}
+use Rattle.rusty_leveldb.specs.declared.shell.commands.Item as item
+use Rattle.rusty_leveldb.specs.Shell.{change_of}
+use Rattle.rusty_leveldb.specs.State.{State, open_mode, write, refused}
+use Rattle.rusty_leveldb.specs.Causes.{Faults, out_of_memory, bad_operand, IsLongBatch}
+use Rattle.rusty_leveldb.specs.Machine.{Keeps, StepIn}
+use Rattle.rusty_leveldb.specs.Serves.{faults_between, refusal_of}
+use Rattle.rusty_leveldb.specs.Engine.{Recalls, AnswersStill}
+
+-- a batch whose front is too long is too long
+pub longer_too : (first : ℕ) (front more : List Item) → 2 ^ 30 < length (batch_bytes first front) → IsLongBatch (front ++ more)
+longer_too first front more long =
+    let both = ap length (flat_map-append entry_bytes front more) in
+    omega (arith, long, length-batch_bytes first front, length-batch_bytes 0 (front ++ more), both, length-append (flat_map entry_bytes front) (flat_map entry_bytes more))
+
+-- a change with which a batch is too long, among others
+pub too_long_among : (batch : Batch) (items : List item.Item) (i : ℕ) (one : item.Item) → i < length items → one ≡ get_or items i one → batch.items ≡ map change_of (take i items)
+    → IsTooLong (with_item batch (change_of one)) → IsLongBatch (map change_of items)
+too_long_among batch items i one below is so_far long =
+    let front : map change_of (take (i + 1) items) ≡ batch.items ++ change_of one ∷ [] =
+    ap (map change_of) (take_more items i one below ∙ ap (λ (x : item.Item). take i items ++ x ∷ []) (sym is)) ∙ map-append change_of (take i items) (one ∷ []) ∙ ap (λ xs. xs ++ change_of one ∷ []) (sym so_far) in
+    let all : map change_of items ≡ (batch.items ++ change_of one ∷ []) ++ map change_of (drop (i + 1) items) =
+    ap (map change_of) (sym (take-append-drop (i + 1) items)) ∙ map-append change_of (take (i + 1) items) (drop (i + 1) items) ∙ ap (λ xs. xs ++ map change_of (drop (i + 1) items)) front in
+    subst IsLongBatch (sym all) (longer_too batch.first (batch.items ++ change_of one ∷ []) (map change_of (drop (i + 1) items)) long)
+
+-- ---- a batch that isn't written
+
+-- why the batch of these changes isn't put together
+abbrev pub IsUnmade : List Item → Status → Type 0
+IsUnmade items status = IsOutOfMemory status ⊎ ((status.code ≡ InvalidArgument) × IsLongBatch items)
+
+module _ {E C FP F : Type 0} (env : Ghosts E F) (cmp : List ℕ → List ℕ → Ordering) (engine : Engine E C FP F)
+    (is_open : (store : List ℕ) (disk : Disk) (state : State) → Recalls env store engine disk state → state.mode ≡ open_mode) (items : List Item) (sync : Bool) (status : Status) (why : IsUnmade items status) where
+  pub not_written : AnswersStill env cmp engine (write items sync) (refused (refusal_of status))
+  not_written at tells store old represents = record {
+    new = old;
+    represents = represents;
+    step = record { later = omega arith; step = subst (λ mode. StepIn cmp mode faults old (write items sync) (refused (refusal_of status)) old) (sym (is_open store disk old represents.memory_is)) (⊎_elim for_memory for_length why) };
+    files = record { reading = λ reads. refl; refused = λ logs is_refused mode. refl; broken = λ broke name there. there };
+    others = λ name other. refl;
+  }
+    where
+      disk : Disk
+      disk = (env.tells at).disk
+
+      faults : Faults
+      faults = faults_between (env.failures at) (env.failures at)
+
+      kept : Keeps old old
+      kept = record { state = refl; covered = inl refl }
+
+      for_memory : IsOutOfMemory status → StepIn cmp open_mode faults old (write items sync) (refused (refusal_of status)) old
+      for_memory none = (out_of_memory, (tt, none.0, ap text_of none.1), inl (refl, kept))
+
+      for_length : (status.code ≡ InvalidArgument) × IsLongBatch items → StepIn cmp open_mode faults old (write items sync) (refused (refusal_of status)) old
+      for_length long = (bad_operand, long, inl (refl, kept))

@@ -1,0 +1,274 @@
+-- The steps by which a store that is one log is closed or abandoned: one for each way in which the calls end.
+use Rattle.std.proofs.Common.{◌≡◌, ◌≢◌, ◌+◌, ◌-◌, ◌^◌, ◌⊎◌, cond, ⊎_elim, inl, inr, ℕ, Bool, false, List, length, refl, sym, ◌∙◌, ap, subst, arith, Some, None, Ok, Err}
+use Rattle.std.specs.Prelude.{IsTrue, IsSome, Result, string_bytes}
+use Rattle.std.specs.declared.cmp.Ordering.{Ordering}
+use Rattle.leveldb_base.specs.declared.error.Status.{Status}
+use Rattle.leveldb_base.specs.Status.{text_of}
+use Rattle.leveldb_base.specs.History.{entries_of}
+use Rattle.leveldb_base.specs.View.{SameView}
+use Rattle.leveldb_env.specs.declared.env.Env.{Ghosts}
+use Rattle.leveldb_env.specs.Disk.{File, Files, Disk, lock_set, synced, same}
+use Rattle.leveldb_env.specs.Times.{Told}
+use Rattle.leveldb_env.specs.Calls.{Does, Still, Relocks, HasCause, IsGone}
+use Rattle.leveldb_env.specs.FileLaws.{bytes_eq-same, bytes_eq-apart}
+use Rattle.leveldb_env.specs.OpenFiles.{opened, Syncs}
+use Rattle.leveldb_mem.specs.Writing.{Flushes}
+use Rattle.rusty_leveldb.specs.declared.db_impl.engine.Mode.{Mode}
+use Rattle.rusty_leveldb.specs.declared.db_impl.engine.Mode.TheVariants.{Open, Broken, Closed}
+use Rattle.rusty_leveldb.specs.declared.db_impl.engine.Engine.{Engine}
+use Rattle.rusty_leveldb.specs.Names.{lock_path}
+use Rattle.rusty_leveldb.specs.OneLog.{log_path}
+use Rattle.rusty_leveldb.specs.State as machine
+use Rattle.rusty_leveldb.specs.State.{State, Request, close, abandon, Answer, done, refused, open_mode, broken, closed}
+use Rattle.rusty_leveldb.specs.Causes.{Faults, Cause, out_of_memory, device_failed, Comes, ReachesDevice}
+use Rattle.rusty_leveldb.specs.Machine.{StepIn, Responds}
+use Rattle.rusty_leveldb.specs.Serves.{Reads, StandsFor, Represents, done_or, refusal_of, faults_between}
+use Rattle.rusty_leveldb.specs.Engine.{Recalls, WritesOn, mode_of, Answers}
+use Rattle.rusty_leveldb.proofs.Ended.{broke, ended, broke_still, ended_still, broke_covered, ended_covered}
+
+-- ---- causes
+
+none_some : {A : Type 0} {x : A} → None ≡ Some x → ⊥
+none_some e = cc
+
+-- why a sync of a log that is there was refused
+sync_cause : (tells_disk : Bool) (name : List ℕ) (told : Told) (file : File) (before now : ℕ) (old : State) (status : Status) → told.disk.files name ≡ Some file
+    → HasCause {T = Unit {0}} (IsGone tells_disk name told) before now (Err status) → (cause : Cause) × Comes (faults_between before now) old close (refusal_of status) cause
+sync_cause tells_disk name told file before now old status there cause = ⊎_elim
+    (λ gone. ⊎_elim (λ memory. (out_of_memory, (tt, memory.0, ap text_of memory.1))) (λ missing. absurd (none_some (sym missing.2 ∙ there))) gone)
+    (λ counted. (device_failed, (tt, ⊎_elim (λ more. inl (omega arith)) (λ full. inr full.0) counted)))
+    cause.cause
+
+-- why a lock wasn't given back
+unlock_cause : (before mid now : ℕ) (old : State) (request : Request) (status : Status) → ReachesDevice request → mid ≡ before
+    → HasCause {T = Unit {0}} (λ _. ⊥) mid now (Err status) → (cause : Cause) × Comes (faults_between before now) old request (refusal_of status) cause
+unlock_cause before mid now old request status reaches same_count cause = ⊎_elim
+    (λ (never : ⊥). absurd never)
+    (λ counted. (device_failed, (reaches, ⊎_elim (λ more. inl (omega arith)) (λ full. inr (sym same_count ∙ full.0)) counted)))
+    cause.cause
+
+-- a refusal that is counted, behind calls that weren't
+pub counted_refusal : {Excused : Status → Type 0} (before mid now : ℕ) (status : Status) → mid ≡ before → HasCause {T = Unit {0}} (λ _. ⊥) mid now (Err status)
+    → HasCause {T = Unit {0}} (λ e. Excused e × (now ≡ before)) before now (Err status)
+counted_refusal before mid now status same_count cause = record {
+  later = omega (arith, cause.later);
+  ok = tt;
+  uncounted = λ excused. excused.1;
+  cause = ⊎_elim (λ (never : ⊥). absurd never) (λ counted. inr (subst (λ n. (now ≡ n + 1) ⊎ ((n ≡ 2 ^ 64 - 1) × (now ≡ n))) same_count counted)) cause.cause;
+}
+
+-- ---- locks
+
+freed : (lock : List ℕ) (locked : List ℕ → Bool) → lock_set lock false locked lock ≡ false
+freed lock locked = ap (λ b. cond b false (locked lock)) (bytes_eq-same lock)
+
+freed_other : (lock name : List ℕ) (locked : List ℕ → Bool) → name ≢ lock → lock_set lock false locked name ≡ locked name
+freed_other lock name locked differs = ap (λ b. cond b false (locked name)) (bytes_eq-apart lock name (λ e. differs (sym e)))
+
+-- ---- modes
+
+not_both : (mode : machine.Mode) → mode ≡ open_mode → mode ≡ broken → ⊥
+not_both mode a b = cc
+
+-- an engine that isn't closed responds to an abandon
+abandons : (cmp : List ℕ → List ℕ → Ordering) (faults : Faults) (old new : State) (answer : Answer) (mode : Mode) → (mode ≡ Closed → ⊥) → Responds cmp faults old abandon answer new
+    → StepIn cmp (mode_of mode) faults old abandon answer new
+abandons cmp faults old new answer Open differs responds = responds
+abandons cmp faults old new answer Broken differs responds = responds
+abandons cmp faults old new answer Closed differs responds = absurd (differs refl)
+
+-- ---- the exits
+
+module _ {E C FP F : Type 0} (env : Ghosts E F) (cmp : List ℕ → List ℕ → Ordering) where
+  -- only the engine's log, its writer and its mode changed
+  abbrev pub OnlyLog : Engine E C FP F → Engine E C FP F → Type 0
+  OnlyLog before after = after ≡ record before { log = after.log; writer = after.writer; mode = after.mode }
+
+  -- an engine that broke remembers what it did
+  recalls_broke : (store : List ℕ) (before after : Engine E C FP F) (disk now : Disk) (old : State) (covered : ℕ) → Recalls env store before disk old → old.mode ≡ open_mode
+      → OnlyLog before after → after.mode ≡ Broken → Recalls env store after now (broke old covered)
+  recalls_broke store before after disk now old covered recalls opened only is_broken =
+      let shown = recalls.shows (λ is. absurd (not_closed old.mode opened is)) in
+      record {
+        mode = ap mode_of is_broken;
+        lock = ap (λ (e : Engine E C FP F). string_bytes e.lock) only ∙ recalls.lock;
+        shows = λ not. record {
+          last = ap (λ (e : Engine E C FP F). e.recent.last) only ∙ shown.last;
+          same = λ t most. subst (λ entries. SameView entries (entries_of old.history) t) (sym (ap (λ (e : Engine E C FP F). e.recent.kept.entries) only)) (shown.same t most);
+        };
+        writes = λ is. absurd (cc);
+      }
+    where
+      not_closed : (mode : machine.Mode) → mode ≡ open_mode → mode ≡ closed → ⊥
+      not_closed mode a b = cc
+
+  -- the sync was refused: the store is broken
+  pub sync_refused : (before after : Engine E C FP F) (at now : E) (status : Status) → before.mode ≡ Open → OnlyLog before after → after.mode ≡ Broken
+      → Flushes (Syncs env) before.writer (opened at before.log) (Err status) after.writer (opened now after.log)
+      → Answers env cmp (Some before) at close (refused (refusal_of status)) (Some after) now
+  sync_refused before after at now status is_open only is_broken flushed told store old represents =
+      let syncs = flushed.flushed in
+      let mode : old.mode ≡ open_mode = sym represents.memory_is.mode ∙ ap mode_of is_open in
+      let writes = represents.memory_is.writes mode in
+      let cause = sync_cause env.tells_disk (env.name_of before.log) (env.tells at) writes.file (env.failures at) (env.failures now) old status (ap (env.tells at).disk.files writes.name ∙ writes.there) syncs.cause in
+      record {
+        new = broke old old.covered;
+        represents = record {
+          disk_is = broke_still store (env.tells at).disk (env.tells now).disk old represents.disk_is (syncs.undone told) mode (ap (λ (locked : List ℕ → Bool). locked (lock_path store)) (syncs.locks told) ∙ represents.disk_is.locked);
+          memory_is = recalls_broke store before after (env.tells at).disk (env.tells now).disk old old.covered represents.memory_is mode only is_broken;
+        };
+        step = record {
+          later = syncs.cause.later;
+          step = subst (λ m. StepIn cmp m (faults_between (env.failures at) (env.failures now)) old close (refused (refusal_of status)) (broke old old.covered)) (sym mode) (cause.0, cause.1, record { state = refl; covered = inl refl });
+        };
+        files = record { reading = λ never. absurd never; refused = λ never. absurd never; broken = λ is. absurd (not_both old.mode mode is) };
+        others = λ name differs. ap (λ (locked : List ℕ → Bool). locked name) (syncs.locks told);
+      }
+
+  -- an engine that was closed remembers that alone
+  recalls_ended : (store : List ℕ) (before after : Engine E C FP F) (disk now : Disk) (old : State) (covered : ℕ) (locked : Bool) → Recalls env store before disk old
+      → OnlyLog before after → after.mode ≡ Closed → Recalls env store after now (ended old covered locked)
+  recalls_ended store before after disk now old covered locked recalls only is_closed = record {
+    mode = ap mode_of is_closed;
+    lock = ap (λ (e : Engine E C FP F). string_bytes e.lock) only ∙ recalls.lock;
+    shows = λ not. absurd (not refl);
+    writes = λ is. absurd (cc);
+  }
+
+  -- ---- the sync was done, and the lock was to be given back
+
+  module _ (before after : Engine E C FP F) (at mid now : E) (is_open : before.mode ≡ Open) (only : OnlyLog before after)
+      (flushed : Flushes (Syncs env) before.writer (opened at before.log) (Ok tt) after.writer (opened mid after.log)) (lock : List ℕ) (lock_is : lock ≡ string_bytes after.lock) where
+    module _ (told : IsTrue env.tells_disk) (store : List ℕ) (old : State) (represents : Represents store (Reads store) (Recalls env store) (Some before) (env.tells at).disk old)
+        (still : (env.tells now).disk.files ≡ (env.tells mid).disk.files) where
+      mode : old.mode ≡ open_mode
+      mode = sym represents.memory_is.mode ∙ ap mode_of is_open
+
+      writes : WritesOn env store before (env.tells at).disk
+      writes = represents.memory_is.writes mode
+
+      all : (env.tells now).disk.files ≡ synced (log_path store) (env.tells at).disk.files
+      all = still ∙ flushed.flushed.does.ok told ∙ ap (λ name. synced name (env.tells at).disk.files) writes.name
+
+      same_lock : lock ≡ lock_path store
+      same_lock = lock_is ∙ ap (λ (e : Engine E C FP F). string_bytes e.lock) only ∙ represents.memory_is.lock
+
+      -- broken, with all covered, where the lock is as it was
+      broke_now : (env.tells now).disk.locked ≡ (env.tells mid).disk.locked → StandsFor store (Reads store) (env.tells now).disk (broke old (length old.history))
+      broke_now same_locks = broke_covered store (env.tells at).disk (env.tells now).disk old represents.disk_is writes.file writes.there mode all
+          (ap (λ (locked : List ℕ → Bool). locked (lock_path store)) (same_locks ∙ flushed.flushed.locks told) ∙ represents.disk_is.locked)
+
+      -- closed, with all covered, where the lock is free
+      ended_now : (env.tells now).disk.locked ≡ lock_set lock false (env.tells mid).disk.locked → StandsFor store (Reads store) (env.tells now).disk (ended old (length old.history) false)
+      ended_now relocked = ended_covered store (env.tells at).disk (env.tells now).disk old represents.disk_is writes.file writes.there mode all false
+          (ap (λ (locked : List ℕ → Bool). locked (lock_path store)) relocked ∙ ap (λ l. lock_set l false (env.tells mid).disk.locked (lock_path store)) same_lock ∙ freed (lock_path store) (env.tells mid).disk.locked)
+
+    -- it was refused: the store is broken
+    pub unlock_refused : (status : Status) → Does {T = Unit {0}} env.tells_disk same Still (env.tells mid) (env.tells now) (Err status)
+        → Relocks {T = Unit {0}} env.tells_disk (lock_set lock false) (env.tells mid) (env.tells now) (Err status) → HasCause {T = Unit {0}} (λ _. ⊥) (env.failures mid) (env.failures now) (Err status)
+        → Answers env cmp (Some before) at close (refused (refusal_of status)) (Some (record after { mode = Broken })) now
+    unlock_refused status does relocks caused told store old represents =
+        let is = mode told store old represents (does.now told) in
+        let counted : env.failures mid ≡ env.failures at = flushed.flushed.cause.ok in
+        let cause = unlock_cause (env.failures at) (env.failures mid) (env.failures now) old close status tt counted caused in
+        record {
+          new = broke old (length old.history);
+          represents = record {
+            disk_is = broke_now told store old represents (does.now told) (relocks told);
+            memory_is = recalls_broke store before (record after { mode = Broken }) (env.tells at).disk (env.tells now).disk old (length old.history) represents.memory_is is (ap (λ (e : Engine E C FP F). record e { mode = Broken }) only) refl;
+          };
+          step = record {
+            later = omega (arith, caused.later);
+            step = subst (λ m. StepIn cmp m (faults_between (env.failures at) (env.failures now)) old close (refused (refusal_of status)) (broke old (length old.history))) (sym is) (cause.0, cause.1, record { state = refl; covered = inr refl });
+          };
+          files = record { reading = λ never. absurd never; refused = λ never. absurd never; broken = λ stuck. absurd (not_both old.mode is stuck) };
+          others = λ name differs. ap (λ (locked : List ℕ → Bool). locked name) (relocks told ∙ flushed.flushed.locks told);
+        }
+
+    -- it was done: the store is closed
+    pub unlocked : Does {T = Unit {0}} env.tells_disk same Still (env.tells mid) (env.tells now) (Ok tt)
+        → Relocks {T = Unit {0}} env.tells_disk (lock_set lock false) (env.tells mid) (env.tells now) (Ok tt) → HasCause {T = Unit {0}} (λ _. ⊥) (env.failures mid) (env.failures now) (Ok tt)
+        → Answers env cmp (Some before) at close done (Some (record after { mode = Closed })) now
+    unlocked does relocks caused told store old represents =
+        let is = mode told store old represents (does.now told) in
+        let counted : env.failures mid ≡ env.failures at = flushed.flushed.cause.ok in
+        record {
+          new = ended old (length old.history) false;
+          represents = record {
+            disk_is = ended_now told store old represents (does.now told) (relocks told);
+            memory_is = recalls_ended store before (record after { mode = Closed }) (env.tells at).disk (env.tells now).disk old (length old.history) false represents.memory_is (ap (λ (e : Engine E C FP F). record e { mode = Closed }) only) refl;
+          };
+          step = record {
+            later = omega (arith, caused.later);
+            step = subst (λ m. StepIn cmp m (faults_between (env.failures at) (env.failures now)) old close done (ended old (length old.history) false)) (sym is) (λ never. never, record { state = refl });
+          };
+          files = record { reading = λ never. absurd never; refused = λ never. absurd never; broken = λ stuck. absurd (not_both old.mode is stuck) };
+          others = λ name differs. ap (λ (locked : List ℕ → Bool). locked name) (relocks told)
+              ∙ freed_other lock name (env.tells mid).disk.locked (λ e. differs (e ∙ same_lock told store old represents (does.now told)))
+              ∙ ap (λ (locked : List ℕ → Bool). locked name) (flushed.flushed.locks told);
+        }
+
+  -- ---- a store that is abandoned
+
+  -- it was closed before
+  pub abandoned_closed : (before : Engine E C FP F) (at : E) → before.mode ≡ Closed → Answers env cmp (Some before) at abandon done None at
+  abandoned_closed before at is_closed told store old represents =
+      let is : old.mode ≡ closed = sym represents.memory_is.mode ∙ ap mode_of is_closed in
+      record {
+        new = old;
+        represents = record { disk_is = represents.disk_is; memory_is = is };
+        step = record { later = omega arith; step = subst (λ m. StepIn cmp m (faults_between (env.failures at) (env.failures at)) old abandon done old) (sym is) (refl, refl) };
+        files = record { reading = λ never. absurd never; refused = λ never. absurd never; broken = λ stuck name some. some };
+        others = λ name differs. refl;
+      }
+
+  module _ (before : Engine E C FP F) (at now : E) (differs : before.mode ≡ Closed → ⊥) (lock : List ℕ) (lock_is : lock ≡ string_bytes before.lock) where
+    -- the lock wasn't given back
+    pub abandon_refused : (status : Status) → Does {T = Unit {0}} env.tells_disk same Still (env.tells at) (env.tells now) (Err status)
+        → Relocks {T = Unit {0}} env.tells_disk (lock_set lock false) (env.tells at) (env.tells now) (Err status) → HasCause {T = Unit {0}} (λ _. ⊥) (env.failures at) (env.failures now) (Err status)
+        → Answers env cmp (Some before) at abandon (refused (refusal_of status)) None now
+    abandon_refused status does relocks caused told store old represents =
+        let cause = unlock_cause (env.failures at) (env.failures at) (env.failures now) old abandon status tt refl caused in
+        record {
+          new = ended old old.covered old.locked;
+          represents = record {
+            disk_is = ended_still store (env.tells at).disk (env.tells now).disk old represents.disk_is (does.now told) old.locked (ap (λ (locked : List ℕ → Bool). locked (lock_path store)) (relocks told) ∙ represents.disk_is.locked);
+            memory_is = refl;
+          };
+          step = record {
+            later = caused.later;
+            step = subst (λ m. StepIn cmp m (faults_between (env.failures at) (env.failures now)) old abandon (refused (refusal_of status)) (ended old old.covered old.locked)) represents.memory_is.mode
+                (abandons cmp (faults_between (env.failures at) (env.failures now)) old (ended old old.covered old.locked) (refused (refusal_of status)) before.mode differs (cause.0, cause.1, record { state = refl }));
+          };
+          files = record { reading = λ never. absurd never; refused = λ never. absurd never; broken = λ stuck name some. subst (λ (files : Files). IsSome (files name)) (sym (does.now told)) some };
+          others = λ name differs. ap (λ (locked : List ℕ → Bool). locked name) (relocks told);
+        }
+
+    -- the lock is free
+    pub abandoned : Does {T = Unit {0}} env.tells_disk same Still (env.tells at) (env.tells now) (Ok tt)
+        → Relocks {T = Unit {0}} env.tells_disk (lock_set lock false) (env.tells at) (env.tells now) (Ok tt) → HasCause {T = Unit {0}} (λ _. ⊥) (env.failures at) (env.failures now) (Ok tt)
+        → Answers env cmp (Some before) at abandon done None now
+    abandoned does relocks caused told store old represents =
+        let same_lock : lock ≡ lock_path store = lock_is ∙ represents.memory_is.lock in
+        record {
+          new = ended old old.covered false;
+          represents = record {
+            disk_is = ended_still store (env.tells at).disk (env.tells now).disk old represents.disk_is (does.now told) false
+                (ap (λ (locked : List ℕ → Bool). locked (lock_path store)) (relocks told) ∙ ap (λ l. lock_set l false (env.tells at).disk.locked (lock_path store)) same_lock ∙ freed (lock_path store) (env.tells at).disk.locked);
+            memory_is = refl;
+          };
+          step = record {
+            later = caused.later;
+            step = subst (λ m. StepIn cmp m (faults_between (env.failures at) (env.failures now)) old abandon done (ended old old.covered false)) represents.memory_is.mode
+                (abandons cmp (faults_between (env.failures at) (env.failures now)) old (ended old old.covered false) done before.mode differs (λ never. never, record { state = refl }));
+          };
+          files = record { reading = λ never. absurd never; refused = λ never. absurd never; broken = λ stuck name some. subst (λ (files : Files). IsSome (files name)) (sym (does.now told)) some };
+          others = λ name apart. ap (λ (locked : List ℕ → Bool). locked name) (relocks told) ∙ freed_other lock name (env.tells at).disk.locked (λ e. apart (e ∙ same_lock));
+        }
+
+    -- either
+    pub abandon_answers : (result : Result (Unit {0}) Status) → Does env.tells_disk same Still (env.tells at) (env.tells now) result
+        → Relocks env.tells_disk (lock_set lock false) (env.tells at) (env.tells now) result → HasCause (λ _. ⊥) (env.failures at) (env.failures now) result
+        → Answers env cmp (Some before) at abandon (done_or result) None now
+    abandon_answers (Ok nothing) does relocks caused = abandoned does relocks caused
+    abandon_answers (Err status) does relocks caused = abandon_refused status does relocks caused

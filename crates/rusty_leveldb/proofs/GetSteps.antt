@@ -1,0 +1,135 @@
+-- A look-up is a step of the machine that leaves the state as it is.
+use Rattle.std.proofs.Common.{◌≡◌, ◌≤◌, inl, inr, ℕ, List, length, Option, Some, None, refl, sym, ◌∙◌, ap, subst, arith}
+use Rattle.std.specs.Prelude.{IsErrAnd, Result, Ok, Err}
+use Rattle.std.specs.declared.cmp.Ordering.{Ordering}
+use Rattle.leveldb_base.specs.declared.error.Status.{Status}
+use Rattle.leveldb_base.specs.declared.error.StatusCode.TheVariants.{InvalidArgument}
+use Rattle.leveldb_base.specs.Status.{text_of}
+use Rattle.leveldb_base.specs.History.{Entry, entries_of}
+use Rattle.leveldb_base.specs.View.{LooksUp, SameView}
+use Rattle.leveldb_env.specs.declared.env.Env.{Ghosts}
+use Rattle.leveldb_env.specs.Disk.{Disk}
+use Rattle.leveldb_env.specs.Calls.{NoMemory}
+use Rattle.leveldb_mem.specs.Entries.{FindsNewest}
+use Rattle.rusty_leveldb.specs.declared.db_impl.engine.Mode.{Mode}
+use Rattle.rusty_leveldb.specs.declared.db_impl.engine.Mode.TheVariants.{Open, Broken, Closed}
+use Rattle.rusty_leveldb.specs.declared.db_impl.engine.Engine.{Engine}
+use Rattle.rusty_leveldb.specs.State as machine
+use Rattle.rusty_leveldb.specs.State.{State, IsState, Request, get, Refusal, Answer, found, refused}
+use Rattle.rusty_leveldb.specs.Causes.{Faults, max_length, bad_operand, out_of_memory, Misfits, IsLongKey}
+use Rattle.rusty_leveldb.specs.Machine.{StepIn, Responds}
+use Rattle.rusty_leveldb.specs.Serves.{refusal_of, found_or}
+use Rattle.rusty_leveldb.specs.Engine.{IsShut, mode_of, Remembers, Recalls, AnswersStill}
+
+-- ---- what is found
+
+-- what is looked up, of what the newest entry is
+abbrev pub value_found : Option (Option (List ℕ)) → Option (List ℕ)
+value_found None = None
+value_found (Some value) = value
+
+newest_looks_up : (entries : List Entry) (s : ℕ) (key : List ℕ) (found : Option (Option (List ℕ))) → FindsNewest entries s key found → LooksUp entries s key (value_found found)
+newest_looks_up entries s key None none = λ value shows. none shows.entry shows.newest.there shows.key_is shows.newest.seen
+newest_looks_up entries s key (Some None) has = λ value shows.
+    let one : shows.entry ≡ has.entry = has.only shows.entry shows.newest shows.key_is in
+    let clash : Some value ≡ None = sym shows.value_is ∙ ap (λ (e : Entry). e.value) one ∙ has.value_is in
+    cc
+newest_looks_up entries s key (Some (Some value)) has = record { entry = has.entry; newest = has.newest; key_is = has.key_is; value_is = has.value_is }
+
+same_looks_up : (these those : List Entry) (s : ℕ) (key : List ℕ) (value : Option (List ℕ)) → SameView these those s → LooksUp these s key value → LooksUp those s key value
+same_looks_up these those s key None same none = λ value shows. none value ((same key value).1 shows)
+same_looks_up these those s key (Some value) same shows = (same key value).0 shows
+
+-- ---- a call that leaves all as it is
+
+shut_mode : (mode : Mode) → mode_of mode ≡ machine.closed → IsShut mode
+shut_mode Open e = absurd (cc)
+shut_mode Broken e = absurd (cc)
+shut_mode Closed e = refl
+
+module _ {E C FP F : Type 0} (env : Ghosts E F) (cmp : List ℕ → List ℕ → Ordering) (engine : Engine E C FP F) (key : List ℕ) where
+  -- the state answers so and stays
+  abbrev Stays : Answer → State → Type 0
+  Stays answer old = (faults : Faults) → StepIn cmp old.mode faults old (get None key) answer old
+
+  still : (answer : Answer) → ((store : List ℕ) (disk : Disk) (old : State) → IsState old → Recalls env store engine disk old → Stays answer old)
+      → AnswersStill env cmp engine (get None key) answer
+  still answer stays at told store old represents = record {
+    new = old;
+    represents = represents;
+    step = record { later = omega arith; step = stays store (env.tells at).disk old represents.disk_is.is_state represents.memory_is _ };
+    files = record { reading = λ reading. refl; refused = λ logging answer usable. refl; broken = λ is name there. there };
+    others = λ name other. refl;
+  }
+
+  -- a store that isn't closed responds in either mode
+  responds_in : (mode : machine.Mode) (faults : Faults) (old : State) (answer : Answer) → (mode ≡ machine.closed → ⊥) → Responds cmp faults old (get None key) answer old
+      → StepIn cmp mode faults old (get None key) answer old
+  responds_in machine.open_mode faults old answer usable responds = responds
+  responds_in machine.broken faults old answer usable responds = responds
+  responds_in machine.closed faults old answer usable responds = absurd (usable refl)
+
+  in_use : (answer : Answer) → (IsShut engine.mode → ⊥)
+      → ((faults : Faults) (store : List ℕ) (old : State) → IsState old → Remembers env store engine old → Responds cmp faults old (get None key) answer old)
+      → AnswersStill env cmp engine (get None key) answer
+  in_use answer usable responds = still answer
+      (λ store disk old is recalls faults.
+      let not_closed : old.mode ≡ machine.closed → ⊥ = λ e. usable (shut_mode engine.mode (recalls.mode ∙ e)) in
+      responds_in old.mode faults old answer not_closed (responds faults store old is (recalls.shows not_closed)))
+
+  module _ (usable : IsShut engine.mode → ⊥) where
+    long_refused : (status : Status) → status.code ≡ InvalidArgument → IsLongKey key → AnswersStill env cmp engine (get None key) (refused (refusal_of status))
+    long_refused status code long = in_use (refused (refusal_of status)) usable (λ faults store old is remembers. (bad_operand, (code, inr long), refl))
+
+    pub get_long : (result : Result (Option (List ℕ)) Status) → IsErrAnd result (λ status. status.code ≡ InvalidArgument) → IsLongKey key
+        → AnswersStill env cmp engine (get None key) (found_or result)
+    get_long (Ok value) fails long = absurd fails
+    get_long (Err status) code long = long_refused status code long
+
+    starved_refused : (status : Status) → NoMemory status → AnswersStill env cmp engine (get None key) (refused (refusal_of status))
+    starved_refused status (code, none) = in_use (refused (refusal_of status)) usable (λ faults store old is remembers. (out_of_memory, (tt, code, ap text_of none), refl))
+
+    pub get_starved : (result : Result (Option (List ℕ)) Status) → IsErrAnd result NoMemory → AnswersStill env cmp engine (get None key) (found_or result)
+    get_starved (Ok value) fails = absurd fails
+    get_starved (Err status) starved = starved_refused status starved
+
+    found_now : (newest : Option (Option (List ℕ))) → FindsNewest engine.recent.kept.entries engine.recent.last key newest
+        → (store : List ℕ) (old : State) → IsState old → Remembers env store engine old → LooksUp (entries_of old.history) old.last key (value_found newest)
+    found_now newest finds store old is remembers =
+        same_looks_up engine.recent.kept.entries (entries_of old.history) old.last key (value_found newest) (remembers.same old.last is.reached)
+        (newest_looks_up engine.recent.kept.entries old.last key newest
+        (subst (λ (last : ℕ). FindsNewest engine.recent.kept.entries last key newest) remembers.last finds))
+
+    found_answer : (newest : Option (Option (List ℕ))) → (IsLongKey key → ⊥) → FindsNewest engine.recent.kept.entries engine.recent.last key newest
+        → AnswersStill env cmp engine (get None key) (found (value_found newest))
+    found_answer newest short finds = in_use (found (value_found newest)) usable
+        (λ faults store old is remembers. (
+          fits old,
+          (record { sequence = old.last; at_is = refl; looks = found_now newest finds store old is remembers }, refl),
+        ))
+      where
+        fits : (old : State) → Misfits old (get None key) → ⊥
+        fits old (inl held) = held
+        fits old (inr long) = short long
+
+    module _ (short : IsLongKey key → ⊥) where
+      -- no entry of the key
+      pub get_missing : FindsNewest engine.recent.kept.entries engine.recent.last key None → AnswersStill env cmp engine (get None key) (found None)
+      get_missing finds = found_answer None short finds
+
+      -- a deletion
+      pub get_deleted : (value : Option (List ℕ)) → value ≡ None → FindsNewest engine.recent.kept.entries engine.recent.last key (Some value)
+          → AnswersStill env cmp engine (get None key) (found None)
+      get_deleted value none finds =
+          found_answer (Some None) short (subst (λ (v : Option (List ℕ)). FindsNewest engine.recent.kept.entries engine.recent.last key (Some v)) none finds)
+
+      -- a value, and a copy of it is answered
+      pub get_value : (newest : Option (List ℕ)) (value copy : List ℕ) → newest ≡ Some value → copy ≡ value
+          → FindsNewest engine.recent.kept.entries engine.recent.last key (Some newest) → AnswersStill env cmp engine (get None key) (found (Some copy))
+      get_value newest value copy is same finds =
+          found_answer (Some (Some copy)) short
+          (subst (λ (v : Option (List ℕ)). FindsNewest engine.recent.kept.entries engine.recent.last key (Some v)) (is ∙ ap (λ (v : List ℕ). Some v) (sym same)) finds)
+
+-- a key up to the limit
+pub within : (key : List ℕ) → length key ≤ max_length → IsLongKey key → ⊥
+within key short long = omega arith

@@ -1,0 +1,88 @@
+-- What the calls of an opening make of the log's file, and why they are refused.
+use Rattle.std.proofs.Common.{◌≡◌, ◌⊎◌, ◌%◌, inl, inr, ⊎_elim, ℕ, Bool, false, List, length, refl, sym, ◌∙◌, ap, subst, Option, Some, None, Result, Ok, Err}
+use Rattle.std.specs.Prelude.{if◌then◌else◌, IsTrue, OnOk}
+use Rattle.std.specs.Option.{option_map}
+use Rattle.leveldb_base.specs.declared.error.Status.{Status}
+use Rattle.leveldb_base.specs.Status.{IsOutOfMemory}
+use Rattle.leveldb_env.specs.Disk.{File, Files, bytes_of, file_kept, or_empty, created, synced}
+use Rattle.leveldb_env.specs.Times.{Told}
+use Rattle.leveldb_env.specs.Calls.{Does, EitherSide, NoMemory}
+use Rattle.leveldb_env.specs.FileLaws.{at_same}
+use Rattle.leveldb_mem.specs.Log.{log_block_size, End, clean, bad}
+use Rattle.leveldb_mem.specs.Writing.{Writing}
+use Rattle.rusty_leveldb.specs.Recent.{Numbered}
+use Rattle.rusty_leveldb.specs.Replay.{AreBatches, IsReplayed, IsDamaged}
+use Rattle.rusty_leveldb.specs.Recovery.{IsFoundAs, framed_file, kept_log, SparesLog, IsRecovered, HasCauses, IsFoundOr, IsUntold, IsNotMade, IsNoLog}
+use Rattle.rusty_leveldb.proofs.Openings.Logs.{mending_spares, opening_spares, opened_recovers}
+use Rattle.rusty_leveldb.proofs.Openings.Refusals.{causes_after, causes_refused, excused, damaged, untold}
+
+-- ---- the log is opened
+
+-- what is Ok was so before
+pub found_ok : {T : Type 0} (answer : Result T Status) (value : T) → IsFoundOr answer (Ok value) → answer ≡ Ok value
+found_ok (Ok other) value is = sym is
+found_ok (Err status) value is = ⊎_elim (λ never. absurd (cc (never.1))) (λ never. absurd never.1) is
+
+kept_of_made : (was : Option File) → option_map file_kept (or_empty was) ≡ Some (kept_log was)
+kept_of_made None = refl
+kept_of_made (Some file) = refl
+
+-- made where it was missing and synced, all its bytes are kept
+pub opened_there : {U : Type 0} {tells_disk : Bool} {T : Type 0} {log : T} {before made kept : Told} (name named : List ℕ) (now : Files) (answer : Result U Status) (value : U) → IsTrue tells_disk → named ≡ name
+    → Does tells_disk (created name) (EitherSide (created name)) before made (Ok log) → IsFoundOr answer (Ok value) → Does tells_disk (synced named) (EitherSide (synced named)) made kept answer
+    → now ≡ kept.disk.files → now name ≡ Some (kept_log (before.disk.files name))
+opened_there {before = before} {made = made} {kept = kept} name named now answer value tells same creates found syncs still =
+    let is_ok = subst (λ r. OnOk r (kept.disk.files ≡ synced named made.disk.files)) (found_ok answer value found) (syncs.ok tells) in
+    let after : kept.disk.files ≡ synced name made.disk.files = subst (λ n. kept.disk.files ≡ synced n made.disk.files) same is_ok in
+    let was : made.disk.files name ≡ or_empty (before.disk.files name) = ap (λ (f : Files). f name) (creates.ok tells) ∙ at_same name (or_empty (before.disk.files name)) before.disk.files in
+    ap (λ (f : Files). f name) (still ∙ after) ∙ at_same name (option_map file_kept (made.disk.files name)) made.disk.files ∙ ap (option_map file_kept) was ∙ kept_of_made (before.disk.files name)
+
+-- ---- the log is recovered
+
+-- the log was read as these records, which are batches
+module _ (create : Bool) (first read mid now : Files) (name path : List ℕ) (texts records : List (List ℕ)) (is_clean : Bool) (named : name ≡ path) (still : read ≡ first) (same : records ≡ texts)
+    (found : IsFoundAs create (first name) texts (if is_clean then clean else bad)) (are : AreBatches records) where
+  has : IsFoundAs create (first name) records (if is_clean then clean else bad)
+  has = subst (λ rs. IsFoundAs create (first name) rs (if is_clean then clean else bad)) (sym same) found
+
+  since_first : mid name ≡ (if is_clean then read name else Some (framed_file records)) → mid name ≡ (if is_clean then first name else Some (framed_file records))
+  since_first is = subst (λ (f : Files). mid name ≡ (if is_clean then f name else Some (framed_file records))) still is
+
+  -- while it is mended
+  pub mend_spares : (mid name ≡ read name) ⊎ (mid name ≡ Some (framed_file records)) → SparesLog create (first path) (mid path)
+  mend_spares either = subst (λ p. SparesLog create (first p) (mid p)) named
+      (mending_spares create (first name) records is_clean has are (mid name) (⊎_elim (λ s. inl (s ∙ ap (λ (f : Files). f name) still)) (λ k. inr k) either))
+
+  -- while it is opened
+  pub open_spares : mid name ≡ (if is_clean then read name else Some (framed_file records)) → (now name ≡ mid name) ⊎ (now name ≡ Some (kept_log (mid name))) → SparesLog create (first path) (now path)
+  open_spares is either = subst (λ p. SparesLog create (first p) (now p)) named (opening_spares create (first name) records is_clean has are (mid name) (now name) (since_first is) either)
+
+  -- when it is open
+  pub open_recovers : (size : ℕ) (writer : Writing) (recent : Numbered) → mid name ≡ (if is_clean then read name else Some (framed_file records)) → now name ≡ Some (kept_log (mid name))
+      → size ≡ length (bytes_of (kept_log (mid name))) → writer ≡ record { size = log_block_size; place = size % log_block_size; broken = false } → IsReplayed records recent
+      → IsRecovered create (first path) (now path) writer recent
+  open_recovers size writer recent is there sized stands replayed = subst (λ p. IsRecovered create (first p) (now p) writer recent) named
+      (opened_recovers create (first name) records is_clean has are (mid name) (now name) size writer recent (since_first is) there sized stands replayed)
+
+-- ---- refusals
+
+-- why the log is not recovered
+abbrev pub RecoveryExcused : Bool → Bool → Option File → Status → Type 0
+RecoveryExcused tells_disk create was e = NoMemory e ⊎ IsNotMade tells_disk create was e ⊎ IsNoLog tells_disk was e
+
+-- a reading that is refused
+pub read_refused : {T U : Type 0} (tells_disk create : Bool) (files : Files) {before now : ℕ} {status : Status} (name path : List ℕ) → name ≡ path
+    → HasCauses {T = T} (λ e. IsUntold tells_disk e ⊎ IsNotMade tells_disk create (files name) e) before now (Err status) → HasCauses {T = U} (RecoveryExcused tells_disk create (files path)) before now (Err status)
+read_refused {U = U} tells_disk create files {before = before} {now = now} {status = status} name path named causes =
+    subst (λ p. HasCauses {T = U} (RecoveryExcused tells_disk create (files p)) before now (Err status)) named
+    (causes_refused (causes_after (Err status) refl
+    (λ e why. ⊎_elim (λ u. ⊎_elim (λ m. inl m) (λ n. inr (inr n)) (untold tells_disk (files name) e u)) (λ n. inr (inl n)) why) causes))
+
+-- a replay that is refused
+pub replay_refused : {T : Type 0} (tells_disk create : Bool) (files : Files) {before now : ℕ} {status : Status} (name path : List ℕ) (texts records : List (List ℕ)) (end : End) → name ≡ path → now ≡ before
+    → records ≡ texts → (IsTrue tells_disk → IsFoundAs create (files name) texts end) → IsOutOfMemory status ⊎ IsDamaged records status
+    → HasCauses {T = T} (RecoveryExcused tells_disk create (files path)) before now (Err status)
+replay_refused {T = T} tells_disk create files {before = before} {now = now} {status = status} name path texts records end named counted same found why =
+    subst (λ p. HasCauses {T = T} (RecoveryExcused tells_disk create (files p)) before now (Err status)) named
+    (excused counted (⊎_elim (λ m. inl m)
+    (λ is. inr (inr (damaged tells_disk create (files name) texts end status found (subst (λ rs. IsDamaged rs status) same is)))) why))

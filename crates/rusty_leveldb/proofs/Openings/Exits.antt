@@ -1,0 +1,159 @@
+-- What the calls before the log's did, at each exit of an opening.
+use Rattle.std.proofs.Common.{◌≡◌, ◌≢◌, ◌⊎◌, ◌<◌, ◌≤◌, ◌+◌, ◌∷◌, inl, inr, ⊎_elim, ℕ, Bool, false, true, cond, List, sym, ◌∙◌, ap, subst, arith, None, Result, Ok, Err}
+use Rattle.std.specs.Prelude.{◌-◌, ◌^◌, IsTrue, codes, if◌then◌else◌, is_ok}
+use Rattle.std.specs.Str.{bytes_eq}
+use Rattle.std.proofs.lemmas.List.{append_cancel_left}
+use Rattle.leveldb_base.specs.declared.error.Status.{Status}
+use Rattle.leveldb_base.specs.declared.error.StatusCode.TheVariants.{Corruption}
+use Rattle.leveldb_env.specs.Disk.{Files, Disk, created, lock_set, same}
+use Rattle.leveldb_env.specs.Times.{Told}
+use Rattle.leveldb_env.specs.Calls.{Does, EitherSide, Still, SameLocks, Relocks, HasCause, NoMemory, IsLocked}
+use Rattle.leveldb_env.specs.FileLaws.{bytes_eq-same, bytes_eq-apart, SameBut-created}
+use Rattle.rusty_leveldb.specs.OneLog.{log_path, IsRead}
+use Rattle.rusty_leveldb.specs.Names.{lock_path}
+use Rattle.rusty_leveldb.specs.Serves.{Reads, IsUnreadable}
+use Rattle.rusty_leveldb.specs.Engine.{OpenExcused}
+use Rattle.rusty_leveldb.specs.Recovery.{IsFoundAs, SparesLog, HasCauses}
+use Rattle.rusty_leveldb.proofs.OneLog.Disks.{log_as_it_was}
+use Rattle.rusty_leveldb.proofs.Openings.Calls.{RecoveryExcused}
+use Rattle.rusty_leveldb.proofs.Openings.Refused.{IsEarlyWhy, IsGivenUp}
+
+-- ---- before the lock is taken
+
+-- log and locks are as they were
+pub record IsNear (name : List ℕ) (from to : Disk) : Type 0 where
+  pub log : to.files (log_path name) ≡ from.files (log_path name)
+  pub locks : to.locked ≡ from.locked
+
+-- a refusal there
+abbrev pub EarlyExcused : List ℕ → Bool → Disk → Status → Type 0
+EarlyExcused name create from e = NoMemory e ⊎ IsEarlyWhy name create from e
+
+pub given_up_early : (name : List ℕ) (create : Bool) (from to : Disk) (before after : ℕ) (e : Status) {T : Type 0} → IsNear name from to → after < 2 ^ 64 → HasCauses {T = T} (EarlyExcused name create from) before after (Err e)
+    → IsGivenUp name create from to before after after e
+given_up_early name create from to before after e near counts causes = record {
+  log = inl near.log;
+  lock = inl (ap (λ (l : List ℕ → Bool). l (lock_path name)) near.locks);
+  others = λ other apart. ap (λ (l : List ℕ → Bool). l other) near.locks;
+  later = causes.later;
+  ends = omega arith;
+  counts = counts;
+  why = ⊎_elim (λ why. ⊎_elim (λ m. inl m) (λ early. inr (inl (early, near.log))) why) (λ counted. inr (inr (inr counted))) causes.cause;
+}
+
+-- the folder is made
+pub folder_made : (name : List ℕ) {tells_disk : Bool} {T : Type 0} {result : Result T Status} (from to : Told) → IsTrue tells_disk → Does tells_disk same Still from to result → SameLocks tells_disk from to
+    → IsNear name from.disk to.disk
+folder_made name from to tells does locks = record { log = ap (λ (f : Files). f (log_path name)) (does.now tells); locks = locks tells }
+
+-- the lock's name isn't the log's
+lock_apart : (name : List ℕ) → bytes_eq (lock_path name) (log_path name) ≡ false
+lock_apart name = bytes_eq-apart (lock_path name) (log_path name) (λ e. absurd (differ (append_cancel_left name (47 ∷ codes "LOCK") (47 ∷ codes "000003.log") e)))
+  where
+    differ : 47 ∷ codes "LOCK" ≡ 47 ∷ codes "000003.log" → ⊥
+    differ e = cc
+
+-- the lock's file may be made
+pub lock_made : (name lock : List ℕ) (old files : Files) → lock ≡ lock_path name → EitherSide (created lock) old files → files (log_path name) ≡ old (log_path name)
+lock_made name lock old files is passes = log_as_it_was name lock old files (subst (λ l. bytes_eq l (log_path name) ≡ false) (sym is) (lock_apart name)) (SameBut-created lock old files passes)
+
+-- the lock is refused
+pub lock_refused : (name lock : List ℕ) {tells_disk : Bool} {T : Type 0} {e : Status} (from made to : Told) → IsTrue tells_disk → lock ≡ lock_path name → IsNear name from.disk made.disk
+    → Does {T = T} tells_disk (created lock) (EitherSide (created lock)) made to (Err e) → Relocks {T = T} tells_disk (lock_set lock true) made to (Err e) → IsNear name from.disk to.disk
+lock_refused name lock from made to tells is near does locks = record {
+  log = lock_made name lock made.disk.files to.disk.files is (does.now tells) ∙ near.log;
+  locks = locks tells ∙ near.locks;
+}
+
+pub lock_excused : (name lock : List ℕ) (create tells_disk : Bool) (from made : Told) (e : Status) → IsTrue tells_disk → lock ≡ lock_path name → IsNear name from.disk made.disk → IsLocked tells_disk lock made e
+    → EarlyExcused name create from.disk e
+lock_excused name lock create tells_disk from made e tells is near why = ⊎_elim (λ m. inl m)
+    (λ held. inr (inr (inr (held.0, sym (ap (λ (l : List ℕ → Bool). l (lock_path name)) near.locks) ∙ subst (λ l. made.disk.locked l ≡ true) is (held.1 tells))))) why
+
+-- ---- under the lock
+
+-- the lock was free and is taken, and the log is as it was
+pub record IsTaken (name : List ℕ) (from to : Disk) : Type 0 where
+  pub log : to.files (log_path name) ≡ from.files (log_path name)
+  pub was_free : from.locked (lock_path name) ≡ false
+  pub held : to.locked (lock_path name) ≡ true
+  pub others : (other : List ℕ) → other ≢ lock_path name → to.locked other ≡ from.locked other
+
+set_same : (name : List ℕ) (b : Bool) (locked : List ℕ → Bool) → lock_set name b locked name ≡ b
+set_same name b locked = ap (λ x. cond x b (locked name)) (bytes_eq-same name)
+
+set_other : (name : List ℕ) (b : Bool) (locked : List ℕ → Bool) (other : List ℕ) → other ≢ name → lock_set name b locked other ≡ locked other
+set_other name b locked other apart = ap (λ x. cond x b (locked other)) (bytes_eq-apart name other (λ e. apart (sym e)))
+
+pub lock_taken : (name lock : List ℕ) {tells_disk : Bool} {T : Type 0} {value : T} (from made to : Told) → IsTrue tells_disk → lock ≡ lock_path name → IsNear name from.disk made.disk
+    → Does tells_disk (created lock) (EitherSide (created lock)) made to (Ok value) → Relocks tells_disk (lock_set lock true) made to (Ok value) → made.disk.locked lock ≡ false → IsTaken name from.disk to.disk
+lock_taken name lock from made to tells is near does locks was_free =
+    let set : to.disk.locked ≡ lock_set (lock_path name) true made.disk.locked = subst (λ l. to.disk.locked ≡ lock_set l true made.disk.locked) is (locks tells) in
+    record {
+      log = lock_made name lock made.disk.files to.disk.files is (does.now tells) ∙ near.log;
+      was_free = sym (ap (λ (l : List ℕ → Bool). l (lock_path name)) near.locks) ∙ subst (λ l. made.disk.locked l ≡ false) is was_free;
+      held = ap (λ (l : List ℕ → Bool). l (lock_path name)) set ∙ set_same (lock_path name) true made.disk.locked;
+      others = λ other apart. ap (λ (l : List ℕ → Bool). l other) set ∙ set_other (lock_path name) true made.disk.locked other apart ∙ ap (λ (l : List ℕ → Bool). l other) near.locks;
+    }
+
+-- nothing else of the locks changes while the log is recovered
+pub still_taken : (name : List ℕ) (from taken to : Disk) → IsTaken name from taken → to.locked ≡ taken.locked → (to.locked (lock_path name) ≡ true) × ((other : List ℕ) → other ≢ lock_path name → to.locked other ≡ from.locked other)
+still_taken name from taken to is locks =
+    (ap (λ (l : List ℕ → Bool). l (lock_path name)) locks ∙ is.held, λ other apart. ap (λ (l : List ℕ → Bool). l other) locks ∙ is.others other apart)
+
+-- The log isn't recovered, and the lock is given back, or that fails.
+module _ (name lock : List ℕ) (create : Bool) (from taken kept to : Disk) (before mid after : ℕ) (e : Status) (is : lock ≡ lock_path name) (took : IsTaken name from taken) (locks : kept.locked ≡ taken.locked)
+    (log : SparesLog create (taken.files (log_path name)) (kept.files (log_path name))) (files : to.files ≡ kept.files) (counts : after < 2 ^ 64) (ended : mid ≤ after)
+    (tells_disk : Bool) (tells : IsTrue tells_disk) {T : Type 0} (causes : HasCauses {T = T} (RecoveryExcused tells_disk create (taken.files (log_path name))) before mid (Err e)) where
+  spares : SparesLog create (from.files (log_path name)) (to.files (log_path name))
+  spares = subst (λ w. SparesLog create w (to.files (log_path name))) took.log (subst (λ (f : Files). SparesLog create (taken.files (log_path name)) (f (log_path name))) (sym files) log)
+
+  -- a log that isn't made stays so
+  same_log : create ≡ false → taken.files (log_path name) ≡ None → to.files (log_path name) ≡ from.files (log_path name)
+  same_log makes_none gone = ap (λ (f : Files). f (log_path name)) files ∙ ⊎_elim (λ s. s ∙ took.log)
+      (λ made. absurd (cc (sym (subst (λ w. IsFoundAs create w made.0 made.1) gone made.2).0 ∙ makes_none))) log
+
+  reasons : NoMemory e ⊎ (IsEarlyWhy name create from e × (to.files (log_path name) ≡ from.files (log_path name))) ⊎ ((e.code ≡ Corruption) × IsUnreadable (Reads name) from.files)
+      ⊎ (before < mid) ⊎ (before ≡ 2 ^ 64 - 1)
+  reasons = ⊎_elim (λ excused. ⊎_elim (λ m. inl m) (λ others. ⊎_elim
+      (λ unmade. inr (inl (inr (inl (unmade.0, unmade.1, sym took.log ∙ unmade.2 tells)), same_log unmade.1 (unmade.2 tells))))
+      (λ damage. inr (inr (inl (damage.0, λ contents read. damage.1 tells contents (subst (λ w. IsRead w contents) (sym took.log) read))))) others) excused)
+      (λ counted. inr (inr (inr counted))) causes.cause
+
+  given_back : to.locked ≡ lock_set lock false kept.locked → IsGivenUp name create from to before mid after e
+  given_back set =
+      let set_it : to.locked ≡ lock_set (lock_path name) false kept.locked = subst (λ l. to.locked ≡ lock_set l false kept.locked) is set in
+      record {
+        log = spares;
+        lock = inl (ap (λ (l : List ℕ → Bool). l (lock_path name)) set_it ∙ set_same (lock_path name) false kept.locked ∙ sym took.was_free);
+        others = λ other apart. ap (λ (l : List ℕ → Bool). l other) set_it ∙ set_other (lock_path name) false kept.locked other apart ∙ (still_taken name from taken kept took locks).1 other apart;
+        later = causes.later;
+        ends = ended;
+        counts = counts;
+        why = reasons;
+      }
+
+  not_given_back : to.locked ≡ kept.locked → (mid < after) ⊎ (after ≡ 2 ^ 64 - 1) → IsGivenUp name create from to before mid after e
+  not_given_back same failed =
+      let held = still_taken name from taken to took (same ∙ locks) in
+      record { log = spares; lock = inr (held.0, failed); others = held.1; later = causes.later; ends = ended; counts = counts; why = reasons }
+
+  -- whether the lock was given back
+  pub given_up_late : (result : Result (Unit {0}) Status) → to.locked ≡ (if is_ok result then lock_set lock false kept.locked else kept.locked) → HasCause (λ _. ⊥) mid after result
+      → IsGivenUp name create from to before mid after e
+  given_up_late (Ok value) set cause = given_back set
+  given_up_late (Err status) set cause = not_given_back set
+      (⊎_elim (λ never. absurd never) (λ counted. ⊎_elim (λ (one : after ≡ mid + 1). inl (omega (arith, one))) (λ full. inr (full.1 ∙ full.0)) counted) cause.cause)
+
+-- the same refusal, whatever the disk tells
+pub late_causes : {T U : Type 0} (name : List ℕ) (create tells_disk : Bool) (from taken : Told) {before start mid after : ℕ} {e : Status} → (IsTrue tells_disk → taken.disk.files (log_path name) ≡ from.disk.files (log_path name))
+    → start ≡ before → mid ≤ after → HasCauses {T = T} (RecoveryExcused tells_disk create (taken.disk.files (log_path name))) start mid (Err e)
+    → HasCauses {T = U} (OpenExcused tells_disk name create from) before after (Err e)
+late_causes name create tells_disk from taken {before = before} {start = start} {mid = mid} {after = after} same_log counted ended causes = record {
+  later = omega (arith, counted, causes.later, ended);
+  ok = tt;
+  cause = ⊎_elim (λ excused. inl (⊎_elim (λ m. inl m) (λ others. ⊎_elim
+      (λ unmade. inr (inr (inl (unmade.0, unmade.1, λ tells. sym (same_log tells) ∙ unmade.2 tells))))
+      (λ damage. inr (inr (inr (inr (damage.0, λ tells contents read. damage.1 tells contents (subst (λ w. IsRead w contents) (sym (same_log tells)) read)))))) others) excused))
+      (λ others. inr (⊎_elim (λ (more : start < mid). inl (omega (arith, counted, more, ended))) (λ full. inr (sym counted ∙ full)) others)) causes.cause;
+}

@@ -1,0 +1,90 @@
+-- The log's file as an opening reads, mends and keeps it.
+use Rattle.std.proofs.Common.{◌≡◌, ◌⊎◌, ◌%◌, inl, inr, ⊎_elim, ℕ, Bool, true, false, List, [], length, refl, sym, ◌∙◌, ap, subst, Option, Some, None, append-nil}
+use Rattle.std.specs.Prelude.{if◌then◌else◌}
+use Rattle.leveldb_base.specs.History.{History}
+use Rattle.leveldb_env.specs.Disk.{File, bytes_of, kept_file, file_kept}
+use Rattle.leveldb_mem.specs.Log.{log_block_size, End, clean, bad, IsLogFile, framed}
+use Rattle.leveldb_mem.specs.LogLaws.{log_laws}
+use Rattle.leveldb_mem.specs.Writing.{Writing}
+use Rattle.rusty_leveldb.specs.Contents.{Contents}
+use Rattle.rusty_leveldb.specs.OneLog.{IsRead}
+use Rattle.rusty_leveldb.specs.Recent.{Numbered}
+use Rattle.rusty_leveldb.specs.Replay.{AreBatches, IsReplayed}
+use Rattle.rusty_leveldb.specs.Recovery.{IsFoundAs, framed_file, kept_log, IsKeptLog, SparesLog, IsRecovered}
+use Rattle.rusty_leveldb.proofs.OneLog.LogFile.{Carried}
+use Rattle.rusty_leveldb.proofs.OneLog.Kept.{IsKept, created_carries, same_records, no_records, framed_log}
+
+-- ---- a log that is kept
+
+-- all its bytes kept, a file reads as it did
+pub kept_reads : (file : File) (records : List (List ℕ)) (end : End) → IsLogFile (bytes_of file) records end → IsLogFile (bytes_of (file_kept file)) records end
+kept_reads file records end read = subst (λ b. IsLogFile b records end) (sym (append-nil (bytes_of file))) read
+
+pub kept_since : (was : Option File) → (kept_log was).since ≡ []
+kept_since None = refl
+kept_since (Some file) = refl
+
+-- the framing of batches is a log of them
+pub framed_reads : (records : List (List ℕ)) → AreBatches records → IsLogFile (bytes_of (framed_file records)) records clean
+framed_reads records are = subst (λ b. IsLogFile b records clean) (sym (append-nil (framed log_block_size records 0))) (framed_log records are.batches are.each)
+
+pub kept_is_kept : (records : List (List ℕ)) (now : Option File) → IsKeptLog records now → IsKept now
+kept_is_kept records now k = subst IsKept (sym k.there) k.since
+
+-- what was carried is carried by a log of the records that were found
+pub carried_over : (create : Bool) (was now : Option File) (records : List (List ℕ)) (end : End) (bound : ℕ) (history : History) → IsFoundAs create was records end → IsKeptLog records now
+    → Carried bound history was → Carried bound history now
+carried_over create None now records end bound history found k c =
+    let none : IsLogFile (bytes_of (kept_file [])) records clean = subst (λ rs. IsLogFile [] rs clean) (sym found.1) no_records in
+    subst (Carried bound history) (sym k.there) (same_records bound history (kept_file []) k.file records clean k.end none k.read (created_carries bound history c))
+carried_over create (Some file) now records end bound history found k c =
+    subst (Carried bound history) (sym k.there) (same_records bound history file k.file records end k.end found k.read c)
+
+-- the records that were found are batches where the log can be read
+pub found_batches : (create : Bool) (was : Option File) (records : List (List ℕ)) (end : End) (contents : Contents) → IsFoundAs create was records end → IsRead was contents → AreBatches records
+found_batches create None records end contents found read = subst AreBatches (sym found.1) (record { batches = []; each = tt; order = tt })
+found_batches create (Some file) records end contents found read =
+    let same = (log_laws.one (bytes_of file) read.1.records records read.1.end end read.1.read found).0 in
+    subst AreBatches same (record { batches = read.0; each = read.1.each; order = read.1.order })
+
+-- ---- the steps of an opening
+
+module _ (create : Bool) (was : Option File) (records : List (List ℕ)) (is_clean : Bool) (found : IsFoundAs create was records (if is_clean then clean else bad)) (are : AreBatches records) where
+  -- mended, the log ends cleanly
+  pub mended_reads : (mid : Option File) → mid ≡ (if is_clean then was else Some (framed_file records)) → IsLogFile (bytes_of (kept_log mid)) records clean
+  mended_reads mid is = subst (λ m. IsLogFile (bytes_of (kept_log m)) records clean) (sym is) (by_end is_clean was found)
+    where
+      by_end : (b : Bool) (o : Option File) → IsFoundAs create o records (if b then clean else bad) → IsLogFile (bytes_of (kept_log (if b then o else Some (framed_file records)))) records clean
+      by_end true None f = subst (λ rs. IsLogFile [] rs clean) (sym f.1) no_records
+      by_end true (Some file) f = kept_reads file records clean f
+      by_end false o f = kept_reads (framed_file records) records clean (framed_reads records are)
+
+  -- mending spares the log
+  pub mending_spares : (mid : Option File) → (mid ≡ was) ⊎ (mid ≡ Some (framed_file records)) → SparesLog create was mid
+  mending_spares mid either = ⊎_elim (λ same. inl same)
+      (λ is. inr (records, (if is_clean then clean else bad), found, record { file = framed_file records; there = is; since = refl; end = clean; read = framed_reads records are })) either
+
+  mended_either : (b : Bool) (mid : Option File) → mid ≡ (if b then was else Some (framed_file records)) → (mid ≡ was) ⊎ (mid ≡ Some (framed_file records))
+  mended_either true mid is = inl is
+  mended_either false mid is = inr is
+
+  -- and so does opening it then
+  pub opening_spares : (mid now : Option File) → mid ≡ (if is_clean then was else Some (framed_file records)) → (now ≡ mid) ⊎ (now ≡ Some (kept_log mid)) → SparesLog create was now
+  opening_spares mid now is either = ⊎_elim
+      (λ same. subst (SparesLog create was) (sym same) (mending_spares mid (mended_either is_clean mid is)))
+      (λ kept. inr (records, (if is_clean then clean else bad), found, record { file = kept_log mid; there = kept; since = kept_since mid; end = clean; read = mended_reads mid is })) either
+
+  -- an opened log is recovered
+  pub opened_recovers : (mid now : Option File) (size : ℕ) (writer : Writing) (recent : Numbered) → mid ≡ (if is_clean then was else Some (framed_file records)) → now ≡ Some (kept_log mid)
+      → size ≡ length (bytes_of (kept_log mid)) → writer ≡ record { size = log_block_size; place = size % log_block_size; broken = false } → IsReplayed records recent → IsRecovered create was now writer recent
+  opened_recovers mid now size writer recent is there sized stands replayed = record {
+    records = records;
+    end = if is_clean then clean else bad;
+    was_found = found;
+    replayed = replayed;
+    file = kept_log mid;
+    there = there;
+    since = kept_since mid;
+    read = mended_reads mid is;
+    stands = stands ∙ ap (λ n. record { size = log_block_size; place = n % log_block_size; broken = false }) sized;
+  }

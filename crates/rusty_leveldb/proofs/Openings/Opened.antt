@@ -1,0 +1,179 @@
+-- An opening that is answered with a store is a step that opens it.
+use Rattle.std.proofs.Common.{◌≡◌, ◌≢◌, ◌⊎◌, ◌≤◌, ◌+◌, inl, inr, ⊎_elim, ℕ, Bool, false, true, List, [], length, refl, sym, ◌∙◌, ap, subst, arith, Option, Some, None}
+use Rattle.std.specs.Prelude.{IsTrue, Contains, ◌↔◌, string_bytes}
+use Rattle.std.specs.declared.cmp.Ordering.{Ordering}
+use Rattle.leveldb_base.specs.History.{Entry, entries_of, greatest, joined, count_of}
+use Rattle.leveldb_base.specs.View.{Shows}
+use Rattle.leveldb_base.specs.ViewLaws.Elements.{in_none}
+use Rattle.leveldb_env.specs.declared.env.Env.{Ghosts}
+use Rattle.leveldb_env.specs.Disk.{File, AreBytes}
+use Rattle.leveldb_env.specs.Times.{Told}
+use Rattle.leveldb_mem.specs.Log.{clean}
+use Rattle.rusty_leveldb.specs.Contents.{Store, missing, made, Contents}
+use Rattle.rusty_leveldb.specs.OneLog.{log_path, IsRead, all_entries, contents_of}
+use Rattle.rusty_leveldb.specs.Names.{lock_path}
+use Rattle.rusty_leveldb.specs.Holds.{Tells, Carries}
+use Rattle.rusty_leveldb.specs.State.{State, IsState, Opening, open_store, open_mode, done}
+use Rattle.rusty_leveldb.specs.Causes.{Misfits, Disagrees}
+use Rattle.rusty_leveldb.specs.Machine.{MayOpen, Opens, StepIn}
+use Rattle.rusty_leveldb.specs.Serves.{Reads, StandsFor, Represents, Goes, faults_between}
+use Rattle.rusty_leveldb.specs.Engine.{IsStoreName, IsOpening, Recalls, Remembers, WritesOn, mode_of}
+use Rattle.rusty_leveldb.specs.declared.db_impl.engine.Engine.{Engine}
+use Rattle.rusty_leveldb.specs.Recovery.{IsFoundAs, IsKeptLog, IsRecovered}
+use Rattle.rusty_leveldb.proofs.Histories.{history_part}
+use Rattle.rusty_leveldb.proofs.OneLog.LogFile.{carried, one_reading}
+use Rattle.rusty_leveldb.proofs.OneLog.Disks.{log_is_store, store_stays, kept_holds}
+use Rattle.rusty_leveldb.proofs.OneLog.Opening as opening
+use Rattle.rusty_leveldb.proofs.Openings.Logs.{carried_over, kept_is_kept}
+use Rattle.rusty_leveldb.proofs.Openings.Survives.{some_contents, stays_made}
+
+-- sets of the same entries show the same
+shows_same : (these those : List Entry) (t : ℕ) (key value : List ℕ) → ((entry : Entry) → Contains these entry ↔ Contains those entry) → Shows these t key value → Shows those t key value
+shows_same these those t key value just shows = record {
+  entry = shows.entry;
+  newest = record {
+    there = (just shows.entry).0 shows.newest.there;
+    seen = shows.newest.seen;
+    newest = λ other c same_key seen. shows.newest.newest other ((just other).1 c) same_key seen;
+  };
+  key_is = shows.key_is;
+  value_is = shows.value_is;
+}
+
+-- no store was there, and one may be made, or a log was there
+store_found : (create : Bool) (file : Option File) (records : List (List ℕ)) (end : _) (s : Store) → IsFoundAs create file records end → (contents : Contents) → IsRead file contents → contents.store ≡ s
+    → ((s ≡ missing) × IsTrue create) ⊎ (s ≡ made None)
+store_found create None records end s found contents read is = inl (sym is ∙ ap (λ (c : Contents). c.store) read, found.0)
+store_found create (Some file) records end s found contents read is = inr (sym is ∙ ap (λ (c : Contents). c.store) read.2)
+
+no_bytes : AreBytes []
+no_bytes i = omega arith
+
+module _ {E C FP F : Type 0} (env : Ghosts E F) (name : List ℕ) (cmp : List ℕ → List ℕ → Ordering) (opening_is : Opening) (create : Bool) (is : IsOpening name create opening_is) (is_name : IsStoreName name)
+    (from to : Told) (before after : ℕ) (engine : Engine E C FP F) (got : IsRecovered create (from.disk.files (log_path name)) (to.disk.files (log_path name)) engine.writer engine.recent)
+    (mode : mode_of engine.mode ≡ open_mode) (lock : string_bytes engine.lock ≡ lock_path name) (log : env.name_of engine.log ≡ log_path name)
+    (was_free : from.disk.locked (lock_path name) ≡ false) (held : to.disk.locked (lock_path name) ≡ true) (others : (other : List ℕ) → other ≢ lock_path name → to.disk.locked other ≡ from.disk.locked other)
+    (counted : after ≡ before) (old : State) (represents : Represents name (Reads name) (Recalls {E = E} {C = C} {FP = FP} {F = F} env name) None from.disk old) where
+  found : opening.Found name from.disk.files old.history (old.last + count_of old.pending) old.covered old.pending
+  found = opening.found name from.disk.files old.history old.last old.covered old.pending represents.disk_is.is_state.covered represents.disk_is.holds
+
+  kept : IsKeptLog got.records (to.disk.files (log_path name))
+  kept = record { file = got.file; there = got.there; since = got.since; end = clean; read = got.read }
+
+  -- what is read of the log now
+  read_now : IsRead (to.disk.files (log_path name)) (contents_of got.replayed.read.batches)
+  read_now = subst (λ f. IsRead f (contents_of got.replayed.read.batches)) (sym got.there)
+      (got.replayed.read.batches, record { records = got.records; end = clean; read = got.read; each = got.replayed.read.each; order = got.replayed.read.order }, refl)
+
+  tells : Tells (old.last + count_of old.pending) (contents_of got.replayed.read.batches) found.part
+  tells =
+      let c = carried_over create (from.disk.files (log_path name)) (to.disk.files (log_path name)) got.records got.end (old.last + count_of old.pending) found.part got.was_found kept
+      (carried name (old.last + count_of old.pending) found.part from.disk.files found.carries) in
+      subst (λ x. Tells (old.last + count_of old.pending) x found.part) (one_reading (to.disk.files (log_path name)) c.contents (contents_of got.replayed.read.batches) c.read read_now) c.tells
+
+  reached : greatest (entries_of found.part) ≤ engine.recent.last
+  reached = omega (arith, tells.reached, got.replayed.last)
+
+  bounded : engine.recent.last ≤ old.last + count_of old.pending
+  bounded = omega (arith, tells.bounded, got.replayed.last)
+
+  -- the store is open
+  abbrev now : State
+  now = record {
+    history = found.part;
+    last = engine.recent.last;
+    covered = length found.part;
+    held = [];
+    given = [];
+    pending = None;
+    mode = open_mode;
+    locked = true;
+    store = made None;
+  }
+
+  now_is_state : IsState now
+  now_is_state = record {
+    history = history_part old.covered (joined old.history old.pending) found.part represents.disk_is.is_state.history found.beginning;
+    reached = reached;
+    pending = omega (arith, reached);
+    covered = omega arith;
+    held = λ one c. absurd (in_none one c);
+    mode = (refl, refl);
+  }
+
+  carries_now : Carries name (Reads name) engine.recent.last found.part to.disk.files
+  carries_now = record {
+    contents = contents_of got.replayed.read.batches;
+    read = read_now;
+    tells = record { same = tells.same; reached = tells.reached; bounded = omega (arith, got.replayed.last) };
+  }
+
+  stands : StandsFor name (Reads name) to.disk now
+  stands =
+      let has = log_is_store name got.file to.disk.files got.there in
+      record {
+        is_state = now_is_state;
+        holds = kept_holds name to.disk.files found.part engine.recent.last (kept_is_kept got.records (to.disk.files (log_path name)) kept) carries_now;
+        has_store = has;
+        keeps = store_stays name (made None) to.disk.files (contents_of got.replayed.read.batches) read_now (has (contents_of got.replayed.read.batches) read_now);
+        locked = held;
+      }
+
+  remembers : Remembers env name engine now
+  remembers = record {
+    last = refl;
+    same = λ t most key value. (
+      λ s. (tells.same t most key value).0 (shows_same engine.recent.kept.entries (all_entries got.replayed.read.batches) t key value got.replayed.just s),
+      λ s. shows_same (all_entries got.replayed.read.batches) engine.recent.kept.entries t key value (λ entry. ((got.replayed.just entry).1, (got.replayed.just entry).0)) ((tells.same t most key value).1 s),
+    );
+  }
+
+  writes : WritesOn env name engine to.disk
+  writes = record {
+    file = got.file;
+    there = got.there;
+    since = subst AreBytes (sym got.since) no_bytes;
+    records = got.records;
+    ends = got.read;
+    name = log;
+    writer = got.stands;
+  }
+
+  which : ((old.store ≡ missing) × IsTrue create) ⊎ (old.store ≡ made None)
+  which =
+      let c = some_contents name from.disk.files old.history old.last old.covered old.pending represents.disk_is.holds in
+      store_found create (from.disk.files (log_path name)) got.records got.end old.store got.was_found c.0 c.1 (represents.disk_is.has_store c.0 c.1)
+
+  opens : Opens old opening_is now
+  opens =
+      let c = some_contents name from.disk.files old.history old.last old.covered old.pending represents.disk_is.holds in
+      record {
+        fits = (is.fits.1 is_name, is.compresses);
+        free = sym represents.disk_is.locked ∙ was_free;
+        may = ⊎_elim (λ none. subst (MayOpen opening_is) (sym none.0) (is.create ∙ none.1)) (λ there. subst (MayOpen opening_is) (sym there) is.exists) which;
+        stays = stays_made (from.disk.files (log_path name)) c.0 old.store c.1 (represents.disk_is.has_store c.0 c.1);
+        store = tt;
+        joins = found.which;
+        reached = reached;
+        bounded = bounded;
+        covered = inr refl;
+        state = refl;
+      }
+
+  misfits : Misfits old (open_store opening_is) → ⊥
+  misfits (inl misfit) = let fits : opening_is.fits ≡ true = is.fits.1 is_name in cc
+  misfits (inr misfit) = ⊎_elim (λ none. let makes_none : opening_is.create_if_missing ≡ false = subst (Disagrees opening_is) none.0 misfit in absurd (cc (sym makes_none ∙ is.create ∙ none.1)))
+      (λ there. subst (Disagrees opening_is) there misfit) which
+
+  -- the step
+  pub opened : Goes name (Reads name) (Recalls {E = E} {C = C} {FP = FP} {F = F} env name) cmp (None, from, before) (open_store opening_is) done (Some engine, to, after) old
+  opened = record {
+    new = now;
+    represents = record { disk_is = stands; memory_is = record { mode = mode; lock = lock; shows = λ never. remembers; writes = λ open_is. writes } };
+    step = record {
+      later = omega (arith, counted);
+      step = subst (λ m. StepIn cmp m (faults_between before after) old (open_store opening_is) done now) (sym represents.memory_is) (misfits, opens);
+    };
+    files = record { reading = λ never. absurd never; refused = λ never. absurd never; broken = λ never. absurd (cc (sym never ∙ represents.memory_is)) };
+    others = others;
+  }

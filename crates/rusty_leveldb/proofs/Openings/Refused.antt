@@ -1,0 +1,132 @@
+-- A refused opening is a step that leaves the store closed.
+use Rattle.std.proofs.Common.{◌≡◌, ◌≢◌, ◌⊎◌, ◌<◌, ◌≤◌, inl, inr, ⊎_elim, ℕ, Bool, false, true, List, refl, sym, ◌∙◌, ap, subst, arith, Option, None}
+use Rattle.std.specs.Prelude.{◌-◌, ◌^◌, IsTrue}
+use Rattle.std.specs.declared.cmp.Ordering.{Ordering}
+use Rattle.leveldb_base.specs.declared.error.Status.{Status}
+use Rattle.leveldb_base.specs.declared.error.StatusCode.TheVariants.{InvalidArgument, Corruption, LockError}
+use Rattle.leveldb_base.specs.Status.{text_of}
+use Rattle.leveldb_env.specs.declared.env.Env.{Ghosts}
+use Rattle.leveldb_env.specs.Disk.{File, Disk}
+use Rattle.leveldb_env.specs.Times.{Told}
+use Rattle.leveldb_env.specs.Calls.{NoMemory}
+use Rattle.rusty_leveldb.specs.Contents.{Store, made, Contents, nothing_there}
+use Rattle.rusty_leveldb.specs.OneLog.{log_path, IsRead}
+use Rattle.rusty_leveldb.specs.Names.{lock_path}
+use Rattle.rusty_leveldb.specs.State.{State, IsState, IsAtRest, SuitsMode, Opening, open_store, refused}
+use Rattle.rusty_leveldb.specs.Causes.{Cause, Comes, Disagrees, out_of_memory, device_failed, lock_is_held, bad_operand}
+use Rattle.rusty_leveldb.specs.Machine.{IsEarly, UnlockFailed, StepIn}
+use Rattle.rusty_leveldb.specs.Serves.{Reads, Represents, Goes, IsUnreadable, faults_between, refusal_of}
+use Rattle.rusty_leveldb.specs.Engine.{IsStoreName, IsOpening, Recalls}
+use Rattle.rusty_leveldb.specs.Recovery.{SparesLog}
+use Rattle.rusty_leveldb.proofs.Openings.Survives.{Survives, survives_now, survives_same, survives_kept, some_contents}
+
+-- why an opening is refused before anything is made
+abbrev pub IsEarlyWhy : List ℕ → Bool → Disk → Status → Type 0
+IsEarlyWhy name create disk e = ((e.code ≡ InvalidArgument) × (IsStoreName name → ⊥)) ⊎ ((e.code ≡ InvalidArgument) × (create ≡ false) × (disk.files (log_path name) ≡ None))
+    ⊎ ((e.code ≡ LockError) × (disk.locked (lock_path name) ≡ true))
+
+-- What a refused opening did: up to this count of failures it was at work, and then it gave the lock back.
+pub record IsGivenUp (name : List ℕ) (create : Bool) (from to : Disk) (before mid after : ℕ) (e : Status) : Type 0 where
+  pub log : SparesLog create (from.files (log_path name)) (to.files (log_path name))
+  pub lock : (to.locked (lock_path name) ≡ from.locked (lock_path name)) ⊎ ((to.locked (lock_path name) ≡ true) × ((mid < after) ⊎ (after ≡ 2 ^ 64 - 1)))
+  pub others : (other : List ℕ) → other ≢ lock_path name → to.locked other ≡ from.locked other
+  pub later : before ≤ mid
+  pub ends : mid ≤ after
+  pub counts : after < 2 ^ 64
+  pub why : NoMemory e ⊎ (IsEarlyWhy name create from e × (to.files (log_path name) ≡ from.files (log_path name))) ⊎ ((e.code ≡ Corruption) × IsUnreadable (Reads name) from.files)
+      ⊎ (before < mid) ⊎ (before ≡ 2 ^ 64 - 1)
+
+-- a store that is missing disagrees with an opening that makes none
+disagrees : (file : Option File) (there : Store) (opening : Opening) → file ≡ None → opening.create_if_missing ≡ false → ((contents : Contents) → IsRead file contents → contents.store ≡ there) → Disagrees opening there
+disagrees file there opening gone create has = subst (Disagrees opening) (has nothing_there (subst (λ f. IsRead f nothing_there) (sym gone) refl)) create
+
+not_true : (b : Bool) → (IsTrue b → ⊥) → b ≡ false
+not_true true never = absurd (never refl)
+not_true false never = refl
+
+-- this cause's failures, and the lock's beside them
+unlock_failed : (before mid after : ℕ) (cause : Cause) → before ≤ mid → mid ≤ after → after < 2 ^ 64 → (cause ≡ device_failed → (before < mid) ⊎ (before ≡ 2 ^ 64 - 1)) → (mid < after) ⊎ (after ≡ 2 ^ 64 - 1)
+    → UnlockFailed (faults_between before after) cause
+unlock_failed before mid after device_failed later ended counts device failed = ⊎_elim
+    (λ (counted : before < mid). ⊎_elim (λ (more : mid < after). inl (omega (arith, counted, more))) (λ full. inr full) failed)
+    (λ (full : before ≡ 2 ^ 64 - 1). inr (omega (arith, full, later, ended, counts))) (device refl)
+unlock_failed before mid after other later ended counts device failed = ⊎_elim (λ (more : mid < after). inl (omega (arith, later, more))) (λ full. inr full) failed
+
+module _ {E C FP F : Type 0} (env : Ghosts E F) (name : List ℕ) (cmp : List ℕ → List ℕ → Ordering) (opening : Opening) (create : Bool) (is : IsOpening name create opening)
+    (from to : Told) (before mid after : ℕ) (e : Status) (up : IsGivenUp name create from.disk to.disk before mid after e)
+    (old : State) (represents : Represents name (Reads name) (Recalls {E = E} {C = C} {FP = FP} {F = F} env name) None from.disk old) where
+  -- the store is closed, and this store is there
+  abbrev left : Store → State
+  left there = record old { store = there; locked = to.disk.locked (lock_path name) }
+
+  rest : IsAtRest old
+  rest = subst (λ m. SuitsMode m old) represents.memory_is represents.disk_is.is_state.mode
+
+  left_is_state : (there : Store) → IsState (left there)
+  left_is_state there =
+      let s = represents.disk_is.is_state in
+      record {
+        history = s.history;
+        reached = s.reached;
+        pending = s.pending;
+        covered = s.covered;
+        held = s.held;
+        mode = subst (λ m. SuitsMode m (left there)) (sym represents.memory_is) (record { held = rest.held; given = rest.given });
+      }
+
+  abbrev Refuses : Type 0
+  Refuses = Goes name (Reads name) (Recalls {E = E} {C = C} {FP = FP} {F = F} env name) cmp (None, from, before) (open_store opening) (refused (refusal_of e)) (None, to, after) old
+
+  -- refused for this cause
+  goes : (there : Store) → Survives name old there to.disk.files → (cause : Cause) → Comes (faults_between before after) old (open_store opening) (refusal_of e) cause
+      → (IsEarly cause → there ≡ old.store) → (cause ≡ device_failed → (before < mid) ⊎ (before ≡ 2 ^ 64 - 1)) → Refuses
+  goes there survives cause comes early device = record {
+    new = left there;
+    represents = record {
+      disk_is = record { is_state = left_is_state there; holds = survives.holds; has_store = survives.has; keeps = survives.keeps; locked = refl };
+      memory_is = represents.memory_is;
+    };
+    step = record {
+      later = omega (arith, up.later, up.ends);
+      step = subst (λ m. StepIn cmp m (faults_between before after) old (open_store opening) (refused (refusal_of e)) (left there)) (sym represents.memory_is) (
+        cause,
+        comes,
+        record {
+          state = refl;
+          covered = inl refl;
+          stays = survives.stays;
+          early = early;
+          lock = ⊎_elim (λ same. inl (same ∙ represents.disk_is.locked)) (λ held. inr (held.0, unlock_failed before mid after cause up.later up.ends up.counts device held.1)) up.lock;
+        },
+      );
+    };
+    files = record { reading = λ never. absurd never; refused = λ never. absurd never; broken = λ never. absurd (cc (sym never ∙ represents.memory_is)) };
+    others = up.others;
+  }
+
+  -- what is left of the files
+  left_over : (there : Store) × Survives name old there to.disk.files
+  left_over = ⊎_elim (λ same. (old.store, survives_same name old from.disk.files to.disk.files old.store same (survives_now name old from.disk represents.disk_is)))
+      (λ kept. (made None, survives_kept name old from.disk.files to.disk.files create kept.0 kept.1 kept.2 kept.3 represents.disk_is.is_state.covered (survives_now name old from.disk represents.disk_is))) up.log
+
+  early : IsEarlyWhy name create from.disk e → to.disk.files (log_path name) ≡ from.disk.files (log_path name) → Refuses
+  early why same =
+      let was = survives_same name old from.disk.files to.disk.files old.store same (survives_now name old from.disk represents.disk_is) in
+      ⊎_elim (λ badly. goes old.store was bad_operand (badly.0, inl (not_true opening.fits (λ fits. badly.1 (is.fits.0 fits)))) (λ _. refl) (λ never. absurd (cc)))
+      (λ others. ⊎_elim
+      (λ not. goes old.store was bad_operand (not.0, inr (disagrees (from.disk.files (log_path name)) old.store opening not.2 (is.create ∙ not.1) represents.disk_is.has_store)) (λ _. refl) (λ never. absurd (cc)))
+      (λ held. goes old.store was lock_is_held (tt, held.0, sym represents.disk_is.locked ∙ held.1) (λ _. refl) (λ never. absurd (cc))) others) why
+
+  -- the step
+  pub given_up : Refuses
+  given_up = ⊎_elim (λ m. goes left_over.0 left_over.1 out_of_memory (tt, m.0, ap text_of m.1) (λ never. absurd never) (λ never. absurd (cc)))
+      (λ others. ⊎_elim (λ why. early why.0 why.1)
+      (λ others. ⊎_elim (λ damage. absurd (unreadable damage.1)) counted others) others) up.why
+    where
+      unreadable : IsUnreadable (Reads name) from.disk.files → ⊥
+      unreadable none =
+          let c = some_contents name from.disk.files old.history old.last old.covered old.pending represents.disk_is.holds in
+          none c.0 c.1
+
+      counted : (before < mid) ⊎ (before ≡ 2 ^ 64 - 1) → Refuses
+      counted which = goes left_over.0 left_over.1 device_failed (tt, ⊎_elim (λ (less : before < mid). inl (omega (arith, less, up.ends))) (λ full. inr full) which) (λ never. absurd never) (λ _. which)

@@ -1,0 +1,108 @@
+-- An append of a batch's record to the log of an open store: what disk and machine are then.
+use Rattle.std.proofs.Common.{◌≡◌, ◌≤◌, ◌+◌, inl, inr, ℕ, List, [], ◌∷◌, ◌++◌, length, take, refl, sym, ◌∙◌, ap, subst, arith, Some, Bool}
+use Rattle.std.specs.declared.cmp.Ordering.{Ordering}
+use Rattle.leveldb_base.specs.declared.error.Status.{Status}
+use Rattle.leveldb_base.specs.Status.{text_of}
+use Rattle.leveldb_base.specs.History.{Item, Entry, History, IsHistory, entries_of, greatest, joined}
+use Rattle.leveldb_env.specs.declared.env.Env.{Ghosts}
+use Rattle.leveldb_env.specs.Disk.{File, Files, bytes_of, longer_file, AreBytes}
+use Rattle.leveldb_env.specs.Calls.{Appending}
+use Rattle.leveldb_env.specs.FileLaws.{extended-same}
+use Rattle.leveldb_mem.specs.Log.{frame_at}
+use Rattle.leveldb_mem.specs.Batch.{BatchOf}
+use Rattle.rusty_leveldb.specs.declared.db_impl.engine.Mode.TheVariants.{Broken}
+use Rattle.rusty_leveldb.specs.declared.db_impl.engine.Engine.{Engine}
+use Rattle.rusty_leveldb.specs.OneLog.{log_path, max_sequence}
+use Rattle.rusty_leveldb.specs.State.{State, open_mode, broken, write, refused}
+use Rattle.rusty_leveldb.specs.Causes.{Faults, out_of_memory, device_failed}
+use Rattle.rusty_leveldb.specs.Machine.{batch_of, Breaks, StepIn, Responds}
+use Rattle.rusty_leveldb.specs.Serves.{Reads, Goes, faults_between, refusal_of}
+use Rattle.rusty_leveldb.specs.Engine.{scene, Recalls}
+use Rattle.rusty_leveldb.proofs.Histories.{entries_more, greatest_append, placed_greatest, placed_length, history_more}
+use Rattle.rusty_leveldb.proofs.OneLog.Writing.{appending_holds}
+use Rattle.rusty_leveldb.proofs.Writes.Stands.{Fails, IsOpen, IsStill, broken_with, Broke, broken_is}
+
+-- a batch that may follow, and its record
+pub record IsNext (last : ℕ) (items : List Item) (bytes : List ℕ) : Type 0 where
+  pub is_batch : BatchOf bytes (last + 1) items
+  pub first_fits : last + 1 ≤ max_sequence
+  pub all_fit : last + length items ≤ max_sequence
+  pub are : AreBytes bytes
+
+module _ {E C FP F : Type 0} (env : Ghosts E F) (store : List ℕ) (engine : Engine E C FP F) (from : E) (old : State) (was : IsOpen env store engine from old)
+    (items : List Item) (bytes : List ℕ) (next : IsNext old.last items bytes) where
+  abbrev pub batch : List Entry
+  batch = batch_of old items
+
+  abbrev pub longer : History
+  longer = old.history ++ batch ∷ []
+
+  abbrev pub frame : List ℕ
+  frame = frame_at (length (bytes_of was.writes.file)) bytes
+
+  abbrev pub name : List ℕ
+  name = log_path store
+
+  -- ---- the history with the batch
+
+  pub old_history : IsHistory old.history
+  old_history = subst (λ p. IsHistory (joined old.history p)) was.none was.disk_is.is_state.history
+
+  pub longer_history : IsHistory longer
+  longer_history = history_more old.history old.last items was.disk_is.is_state.reached old_history
+
+  pub longer_reached : greatest (entries_of longer) ≤ old.last + length items
+  longer_reached =
+      let split = ap greatest (entries_more old.history batch) ∙ greatest_append (entries_of old.history) batch in
+      let low = was.disk_is.is_state.reached in
+      let high = placed_greatest old.last items in
+      omega arith
+
+  -- ---- an append that was refused, or whose sync was
+
+  passed_file : (files : Files) → Appending name frame (env.tells from).disk.files files → (file : File) × (files name ≡ Some file)
+  passed_file files (inl same) = (was.writes.file, ap (λ (f : Files). f name) same ∙ was.writes.there)
+  passed_file files (inr part) = (longer_file (take part.0 frame) was.writes.file, ap (λ (f : Files). f name) part.1 ∙ extended-same name (take part.0 frame) (env.tells from).disk.files was.writes.file was.writes.there)
+
+  module _ (cmp : List ℕ → List ℕ → Ordering) (sync : Bool) (after : Engine E C FP F) (to : E) where
+    abbrev faults : Faults
+    faults = faults_between (env.failures from) (env.failures to)
+
+    breaks : Breaks old (Some batch) (broken_with old (Some batch))
+    breaks = record { state = refl; covered = inl refl }
+
+    refuses : (status : Status) → Fails status (env.failures from) (env.failures to) → Responds cmp faults old (write items sync) (refused (refusal_of status)) (broken_with old (Some batch))
+    refuses status (inl memory) = (out_of_memory, (tt, memory.0, ap text_of memory.1), inr (tt, breaks))
+    refuses status (inr device) = (device_failed, (tt, device), inr (tt, breaks))
+
+    -- the log refused the append or the sync behind it, so the store is broken with the batch pending
+    pub write_broke : (status : Status) → env.failures from ≤ env.failures to → Fails status (env.failures from) (env.failures to) → Appending name frame (env.tells from).disk.files (env.tells to).disk.files
+        → (env.tells to).disk.locked ≡ (env.tells from).disk.locked → IsStill env store engine after → after.mode ≡ Broken
+        → Goes store (Reads store) (Recalls env store) cmp (scene env cmp (Some engine) from) (write items sync) (refused (refusal_of status)) (scene env cmp (Some after) to) old
+    write_broke status later why passes locks still mode = record {
+      new = new;
+      represents = broken_is env store engine after from to old (Some batch) was broke;
+      step = record { later = later; step = subst (λ m. StepIn cmp m faults old (write items sync) (refused (refusal_of status)) new) (sym was.mode) (refuses status why) };
+      files = record {
+        reading = λ reads. absurd reads;
+        refused = λ logging is_refused opened. absurd (let never : broken ≡ open_mode = opened in cc);
+        broken = λ broken_then. absurd (let never : broken ≡ open_mode = sym broken_then ∙ was.mode in cc);
+      };
+      others = λ other apart. ap (λ locked. locked other) locks;
+    }
+      where
+        new : State
+        new = broken_with old (Some batch)
+
+        broke : Broke env store engine after from to old (Some batch)
+        broke = record {
+          still = still;
+          mode = mode;
+          history = longer_history;
+          reached = omega (arith, longer_reached, placed_length (old.last + 1) items);
+          holds = appending_holds store (env.tells from).disk.files was.writes.file was.writes.there was.writes.since old.history old.last old.covered was.holds was.disk_is.is_state.covered was.disk_is.is_state.reached
+              was.writes.records was.writes.ends items bytes next.is_batch next.first_fits next.all_fit (env.tells to).disk.files passes;
+          file = (passed_file (env.tells to).disk.files passes).0;
+          there = (passed_file (env.tells to).disk.files passes).1;
+          locks = locks;
+        }

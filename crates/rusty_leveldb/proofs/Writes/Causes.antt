@@ -1,0 +1,89 @@
+-- Why a write is refused behind its preparation: each failure of the device is counted, and nothing else.
+use Rattle.std.proofs.Common.{◌≡◌, ◌+◌, inl, inr, ⊎_elim, ℕ, List, refl, sym, ◌∙◌, ap, arith, Option, Some, None, Ok, Err, IsTrue, true, false}
+use Rattle.std.specs.Option.{option_map}
+use Rattle.leveldb_base.specs.declared.error.Status.{Status}
+use Rattle.leveldb_base.specs.History.{Item}
+use Rattle.leveldb_env.specs.declared.env.Env.{Ghosts}
+use Rattle.leveldb_env.specs.Disk.{File, Files, longer_file}
+use Rattle.leveldb_env.specs.Calls.{HasCause, IsGone}
+use Rattle.leveldb_env.specs.FileLaws.{at_same}
+use Rattle.leveldb_env.specs.OpenFiles.{opened, Appends, Syncs}
+use Rattle.leveldb_env.specs.Runs.{cause_after, cause_same}
+use Rattle.leveldb_mem.specs.Writing.{Adds, Refuses, Flushes}
+use Rattle.leveldb_mem.specs.Writing as writing
+use Rattle.rusty_leveldb.specs.declared.db_impl.engine.Mode.TheVariants.{Open, Broken, Closed}
+use Rattle.rusty_leveldb.specs.declared.db_impl.engine.Engine.{Engine}
+use Rattle.rusty_leveldb.specs.Engine.{WriteExcused, LogExcused}
+use Rattle.rusty_leveldb.proofs.OneLog.Appending.{batch_some}
+use Rattle.rusty_leveldb.proofs.Writes.Batches.{not_long}
+use Rattle.rusty_leveldb.proofs.Writes.Append.{IsNext}
+
+none_before : (file : Option File) (bytes : List ℕ) → option_map (longer_file bytes) file ≡ None → file ≡ None
+none_before None bytes gone = refl
+none_before (Some file) bytes gone = cc
+
+module _ {E C FP F : Type 0} (env : Ghosts E F) (engine : Engine E C FP F) (from : E) (open_now : engine.mode ≡ Open) (sound : engine.writer.broken ≡ false) (items : List Item) (bytes : List ℕ)
+    (next : IsNext engine.recent.last items bytes) where
+  -- the log's own excuses are the only ones that are left
+  to_write : (e : Status) → LogExcused env engine from e → WriteExcused env engine from items e
+  to_write e gone = inr (inr (inr (inr gone)))
+
+  to_log : (e : Status) → WriteExcused env engine from items e → LogExcused env engine from e
+  to_log e (inl out) = absurd (let never : Open ≡ Closed = sym open_now ∙ out.0 in cc)
+  to_log e (inr (inl down)) = ⊎_elim
+      (λ broke. absurd (let never : Open ≡ Broken = sym open_now ∙ broke in cc))
+      (λ broke. absurd (let never : false ≡ true = sym sound ∙ broke in cc)) down.0
+  to_log e (inr (inr (inl long))) = absurd (not_long bytes (engine.recent.last + 1) items next.is_batch long.1)
+  to_log e (inr (inr (inr (inl past)))) = absurd (let first = next.first_fits in let all = next.all_fit in let used = past.1 in omega arith)
+  to_log e (inr (inr (inr (inr gone)))) = gone
+
+  write_cause : (before after : ℕ) (status : Status) → HasCause {T = Unit {0}} (LogExcused env engine from) before after (Err status) → HasCause {T = Unit {0}} (WriteExcused env engine from items) before after (Err status)
+  write_cause before after status cause = cause_same (Err status) to_write to_log cause
+
+  -- a refused append
+  pub append_cause : (status : Status) (writer : writing.Writing) (log : F) (to : E) → Refuses (Appends env) engine.writer (opened from engine.log) bytes status writer (opened to log)
+      → HasCause {T = Unit {0}} (WriteExcused env engine from items) (env.failures from) (env.failures to) (Err status)
+  append_cause status writer log to refusal = ⊎_elim
+      (λ kept.
+      let same : env.failures to ≡ env.failures from = ap (λ o. env.failures o.env) kept.1.same_sink in
+      record { later = omega (arith, same); ok = tt; uncounted = λ excused. same; cause = inl (to_write status (inl kept.0)) })
+      (λ put. write_cause (env.failures from) (env.failures to) status put.0.cause) refusal.why
+
+  -- ---- behind an append that was done
+
+  module _ (writer : writing.Writing) (log : F) (mid : E) (count : ℕ) (adds : Adds (Appends env) engine.writer (opened from engine.log) bytes count writer (opened mid log)) where
+    put : Appends env (opened from engine.log) (writing.frame engine.writer bytes) (Ok tt) (opened mid log)
+    put = adds.put (batch_some bytes (engine.recent.last + 1) items next.is_batch)
+
+    pub append_counted : env.failures mid ≡ env.failures from
+    append_counted = put.cause.ok
+
+    pub still_sound : writer.broken ≡ false
+    still_sound = ap (λ w. w.broken) adds.writer ∙ sound
+
+    -- the log's name is gone as it was before
+    under_name : IsTrue env.tells_disk → (env.tells mid).disk.files (env.name_of log) ≡ option_map (longer_file (writing.frame engine.writer bytes)) ((env.tells from).disk.files (env.name_of engine.log))
+    under_name tells = ap (env.tells mid).disk.files (put.file tells) ∙ ap (λ (f : Files). f (env.name_of engine.log)) (put.does.ok tells)
+        ∙ at_same (env.name_of engine.log) (option_map (longer_file (writing.frame engine.writer bytes)) ((env.tells from).disk.files (env.name_of engine.log))) (env.tells from).disk.files
+
+    gone_before : (e : Status) → IsGone env.tells_disk (env.name_of log) (env.tells mid) e → LogExcused env engine from e
+    gone_before e (inl memory) = inl memory
+    gone_before e (inr none) = inr (none.0, none.1, none_before ((env.tells from).disk.files (env.name_of engine.log)) (writing.frame engine.writer bytes) (sym (under_name none.1) ∙ none.2))
+
+    gone_still : (e : Status) → LogExcused env engine from e → IsGone env.tells_disk (env.name_of log) (env.tells mid) e
+    gone_still e (inl memory) = inl memory
+    gone_still e (inr none) = inr (none.0, none.1, under_name none.1 ∙ ap (option_map (longer_file (writing.frame engine.writer bytes))) none.2)
+
+    -- a refused sync
+    pub sync_cause : (status : Status) (then : writing.Writing) (log_then : F) (to : E) → Flushes (Syncs env) writer (opened mid log) (Err status) then (opened to log_then)
+        → HasCause {T = Unit {0}} (WriteExcused env engine from items) (env.failures from) (env.failures to) (Err status)
+    sync_cause status then log_then to flushed = write_cause (env.failures from) (env.failures to) status
+        (cause_after append_counted (cause_same (Err status) gone_before gone_still flushed.flushed.cause))
+
+    -- a sync that was done
+    pub sync_counted : (then : writing.Writing) (log_then : F) (to : E) → Flushes (Syncs env) writer (opened mid log) (Ok tt) then (opened to log_then) → env.failures to ≡ env.failures from
+    sync_counted then log_then to flushed = flushed.flushed.cause.ok ∙ append_counted
+
+  -- a write that was done
+  pub done_cause : (to : E) → env.failures to ≡ env.failures from → HasCause {T = Unit {0}} (WriteExcused env engine from items) (env.failures from) (env.failures to) (Ok tt)
+  done_cause to counted = record { later = omega (arith, counted); ok = counted; uncounted = tt; cause = tt }

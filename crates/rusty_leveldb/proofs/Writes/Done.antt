@@ -1,0 +1,191 @@
+-- A write that was done: what memory, disk and machine are then.
+use Rattle.std.proofs.Common.{◌≡◌, ◌≤◌, ◌+◌, ◌%◌, ◌⊎◌, inl, inr, ℕ, List, [], ◌∷◌, ◌++◌, length, refl, sym, ◌∙◌, ap, subst, arith, append_assoc, append-nil, length-append, Some, None, Bool, IsTrue, false}
+use Rattle.std.specs.Prelude.{max, string_bytes}
+use Rattle.std.specs.declared.cmp.Ordering.{Ordering}
+use Rattle.leveldb_base.specs.History.{Item, Entry, History, IsHistory, entries_of, greatest, joined, count_of}
+use Rattle.leveldb_base.specs.View.{SameView}
+use Rattle.leveldb_base.specs.ViewLaws.{AreUpTo, same_with_more}
+use Rattle.leveldb_env.specs.declared.env.Env.{Ghosts}
+use Rattle.leveldb_env.specs.Disk.{File, Files, bytes_of, longer_file, file_kept, extended, synced, AreBytes}
+use Rattle.leveldb_env.specs.FileLaws.{extended-same, synced-same}
+use Rattle.leveldb_mem.specs.Log.{log_block_size, clean, IsLogFile}
+use Rattle.leveldb_mem.specs.LogLaws.{log_laws}
+use Rattle.leveldb_mem.specs.Writing.{behind_frame}
+use Rattle.leveldb_mem.specs.Batch.{batch_of}
+use Rattle.rusty_leveldb.specs.declared.db_impl.engine.Mode.TheVariants.{Open}
+use Rattle.rusty_leveldb.specs.declared.db_impl.engine.Engine.{Engine}
+use Rattle.rusty_leveldb.specs.Names.{lock_path}
+use Rattle.rusty_leveldb.specs.OneLog.{log_path}
+use Rattle.rusty_leveldb.specs.Holds.{Holds}
+use Rattle.rusty_leveldb.specs.Recent.{Inserts}
+use Rattle.rusty_leveldb.specs.State.{State, IsState, SuitsMode, open_mode, broken, write, done}
+use Rattle.rusty_leveldb.specs.Machine.{MayCover, StepIn}
+use Rattle.rusty_leveldb.specs.Serves.{Reads, StandsFor, Goes, faults_between}
+use Rattle.rusty_leveldb.specs.Engine.{scene, Recalls, mode_of}
+use Rattle.rusty_leveldb.proofs.FrameBytes.{frame_bytes}
+use Rattle.rusty_leveldb.proofs.Histories.{entries_more, placed_above, up_to, greatest_append}
+use Rattle.rusty_leveldb.proofs.OneLog.Appending.{bytes_append, batch_some}
+use Rattle.rusty_leveldb.proofs.OneLog.Writing.{appended_holds, synced_holds}
+use Rattle.rusty_leveldb.proofs.Writes.Stands.{IsStored, stored, IsOpen}
+use Rattle.rusty_leveldb.proofs.Writes.Batches.{placed_last, not_long, same_set, same_by}
+use Rattle.rusty_leveldb.proofs.Writes.Append.{IsNext, batch, longer, frame, longer_history, longer_reached}
+
+module _ {E C FP F : Type 0} (env : Ghosts E F) (store : List ℕ) (engine : Engine E C FP F) (from : E) (old : State) (was : IsOpen env store engine from old)
+    (items : List Item) (bytes : List ℕ) (next : IsNext old.last items bytes) (after : Engine E C FP F) (to : E) where
+  abbrev the_batch : List Entry
+  the_batch = batch env store engine from old was items bytes next
+
+  abbrev the_longer : History
+  the_longer = longer env store engine from old was items bytes next
+
+  abbrev the_frame : List ℕ
+  the_frame = frame env store engine from old was items bytes next
+
+  -- what the engine has behind the write, and what it left alone
+  pub record Added : Type 0 where
+    pub locks : (env.tells to).disk.locked ≡ (env.tells from).disk.locked
+    pub lock : after.lock ≡ engine.lock
+    pub mode : after.mode ≡ Open
+    pub writer : after.writer ≡ behind_frame engine.writer bytes
+    pub log : env.name_of after.log ≡ env.name_of engine.log
+    pub inserts : Inserts engine.recent (batch_of (old.last + 1) items) after.recent
+    pub up_to_last : AreUpTo engine.recent.last engine.recent.kept.entries
+    pub counted : env.failures to ≡ env.failures from
+
+  -- the log's file behind the append, and so many batches that are covered
+  pub record Wrote (sync : Bool) : Type 0 where
+    pub covered : ℕ
+    pub covers : MayCover old.covered old.history covered ⊎ (covered ≡ length the_longer)
+    pub synced_is : IsTrue sync → covered ≡ length the_longer
+    pub within : covered ≤ length the_longer
+    pub file : File
+    pub there : (env.tells to).disk.files (log_path store) ≡ Some file
+    pub since : AreBytes file.since
+    pub bytes_are : bytes_of file ≡ bytes_of was.writes.file ++ the_frame
+    pub holds : Holds store (Reads store) (env.tells to).disk.files the_longer (old.last + length items) covered None
+
+  -- memory has the batch
+  shows_more : Inserts engine.recent (batch_of (old.last + 1) items) after.recent → AreUpTo engine.recent.last engine.recent.kept.entries → (t : ℕ) → greatest (entries_of the_longer) ≤ t
+      → SameView after.recent.kept.entries (entries_of the_longer) t
+  shows_more inserts below t most =
+      subst (λ es. SameView after.recent.kept.entries es t) (sym split)
+      (same_by after.recent.kept.entries (engine.recent.kept.entries ++ the_batch) (entries_of old.history ++ the_batch) t (same_set after.recent.kept.entries (engine.recent.kept.entries ++ the_batch) t inserts.gains)
+      (same_with_more engine.recent.kept.entries (entries_of old.history) the_batch old.last t (subst (λ n. AreUpTo n engine.recent.kept.entries) was.memory_is.last below)
+      (up_to old.last (entries_of old.history) was.disk_is.is_state.reached) (placed_above (old.last + 1) items old.last (omega arith)) (was.memory_is.same t less)))
+    where
+      split : entries_of the_longer ≡ entries_of old.history ++ the_batch
+      split = entries_more old.history the_batch
+
+      less : greatest (entries_of old.history) ≤ t
+      less = omega (arith, most, ap greatest split, greatest_append (entries_of old.history) the_batch)
+
+  module _ (cmp : List ℕ → List ℕ → Ordering) (sync : Bool) (wrote : Wrote sync) (added : Added) where
+    -- the state with the batch
+    abbrev new : State
+    new = record old { history = the_longer; last = old.last + length items; covered = wrote.covered }
+
+    is_state : IsState new
+    is_state = record {
+      history = subst (λ p. IsHistory (joined the_longer p)) (sym was.none) (longer_history env store engine from old was items bytes next);
+      reached = longer_reached env store engine from old was items bytes next;
+      pending = subst (λ p. greatest (entries_of (joined the_longer p)) ≤ old.last + length items + count_of p) (sym was.none) (omega (arith, longer_reached env store engine from old was items bytes next));
+      covered = wrote.within;
+      held = λ one there. (omega (arith, (was.disk_is.is_state.held one there).0), (was.disk_is.is_state.held one there).1);
+      mode = subst (λ m. SuitsMode m new) (sym was.mode) (was.none, was.held);
+    }
+
+    here : IsStored store old.store (env.tells to).disk.files
+    here = stored store old.store (env.tells to).disk.files wrote.file the_longer (old.last + length items) wrote.covered None was.made_is wrote.there wrote.holds
+
+    stands : StandsFor store (Reads store) (env.tells to).disk new
+    stands = record {
+      is_state = is_state;
+      holds = subst (λ p. Holds store (Reads store) (env.tells to).disk.files the_longer (old.last + length items) wrote.covered p) (sym was.none) wrote.holds;
+      has_store = here.has;
+      keeps = here.keeps;
+      locked = ap (λ locked. locked (lock_path store)) added.locks ∙ was.disk_is.locked;
+    }
+
+    writer_is : after.writer ≡ record { size = log_block_size; place = length (bytes_of wrote.file) % log_block_size; broken = false }
+    writer_is = added.writer ∙ ap (λ w. behind_frame w bytes) was.writes.writer ∙ ap (λ n. record { size = log_block_size; place = n; broken = false }) place
+      where
+        place : (length (bytes_of was.writes.file) % log_block_size + length the_frame) % log_block_size ≡ length (bytes_of wrote.file) % log_block_size
+        place = let all = ap length wrote.bytes_are ∙ length-append (bytes_of was.writes.file) the_frame in omega arith
+
+    recalls : Recalls env store after (env.tells to).disk new
+    recalls = record {
+      mode = ap mode_of added.mode ∙ sym was.mode;
+      lock = ap (λ lock. string_bytes lock) added.lock ∙ was.lock;
+      shows = λ opened. record {
+        last = added.inserts.last ∙ ap (λ n. max n (greatest the_batch)) was.memory_is.last ∙ placed_last old.last items;
+        same = shows_more added.inserts added.up_to_last;
+      };
+      writes = λ opened. record {
+        file = wrote.file;
+        there = wrote.there;
+        since = wrote.since;
+        records = was.writes.records ++ bytes ∷ [];
+        ends = subst (λ b. IsLogFile b (was.writes.records ++ bytes ∷ []) clean) (sym wrote.bytes_are)
+            (log_laws.more (bytes_of was.writes.file) was.writes.records bytes (batch_some bytes (old.last + 1) items next.is_batch) was.writes.ends);
+        name = added.log ∙ was.writes.name;
+        writer = writer_is;
+      };
+    }
+
+    -- the write is done
+    pub wrote_goes : Goes store (Reads store) (Recalls env store) cmp (scene env cmp (Some engine) from) (write items sync) done (scene env cmp (Some after) to) old
+    wrote_goes = record {
+      new = new;
+      represents = record { disk_is = stands; memory_is = recalls };
+      step = record {
+        later = omega (arith, added.counted);
+        step = subst (λ m. StepIn cmp m (faults_between (env.failures from) (env.failures to)) old (write items sync) done new) (sym was.mode)
+            (not_long bytes (old.last + 1) items next.is_batch, record { state = refl; covered = wrote.covers; synced = wrote.synced_is });
+      };
+      files = record { reading = λ reads. absurd reads; refused = λ logging is_refused. absurd is_refused; broken = λ broken_then. absurd (let never : broken ≡ open_mode = sym broken_then ∙ was.mode in cc) };
+      others = λ name other. ap (λ locked. locked name) added.locks;
+    }
+
+  -- ---- the log's file
+
+  abbrev grown : File
+  grown = longer_file the_frame was.writes.file
+
+  one_more : length the_longer ≡ length old.history + 1
+  one_more = length-append old.history (the_batch ∷ [])
+
+  -- where nothing was synced
+  pub unsynced : (env.tells to).disk.files ≡ extended (log_path store) the_frame (env.tells from).disk.files → Wrote false
+  unsynced files = record {
+    covered = old.covered;
+    covers = inl (inl refl);
+    synced_is = λ never. absurd (cc);
+    within = let all = was.disk_is.is_state.covered in let more = one_more in omega arith;
+    file = grown;
+    there = ap (λ (f : Files). f (log_path store)) files ∙ extended-same (log_path store) the_frame (env.tells from).disk.files was.writes.file was.writes.there;
+    since = bytes_append was.writes.file.since the_frame was.writes.since (frame_bytes log_block_size (length (bytes_of was.writes.file) % log_block_size) bytes next.are);
+    bytes_are = sym (append_assoc was.writes.file.kept was.writes.file.since the_frame);
+    holds = appended_holds store (env.tells from).disk.files was.writes.file was.writes.there was.writes.since old.history old.last old.covered was.holds was.disk_is.is_state.covered was.disk_is.is_state.reached
+        was.writes.records was.writes.ends items bytes next.is_batch next.first_fits next.all_fit (env.tells to).disk.files files;
+  }
+
+  -- where the log was synced behind the append
+  pub synced_then : (mid : Files) → mid ≡ extended (log_path store) the_frame (env.tells from).disk.files → (env.tells to).disk.files ≡ synced (log_path store) mid → (sync : Bool) → Wrote sync
+  synced_then mid first files sync = record {
+    covered = length the_longer;
+    covers = inr refl;
+    synced_is = λ asked. refl;
+    within = omega arith;
+    file = file_kept grown;
+    there = ap (λ (f : Files). f (log_path store)) files ∙ synced-same (log_path store) mid grown mid_there;
+    since = λ i. omega arith;
+    bytes_are = append-nil (bytes_of grown) ∙ sym (append_assoc was.writes.file.kept was.writes.file.since the_frame);
+    holds = synced_holds store mid the_longer (old.last + length items) old.covered mid_holds (let all = was.disk_is.is_state.covered in let more = one_more in omega arith) (env.tells to).disk.files files;
+  }
+    where
+      mid_there : mid (log_path store) ≡ Some grown
+      mid_there = ap (λ (f : Files). f (log_path store)) first ∙ extended-same (log_path store) the_frame (env.tells from).disk.files was.writes.file was.writes.there
+
+      mid_holds : Holds store (Reads store) mid the_longer (old.last + length items) old.covered None
+      mid_holds = appended_holds store (env.tells from).disk.files was.writes.file was.writes.there was.writes.since old.history old.last old.covered was.holds was.disk_is.is_state.covered was.disk_is.is_state.reached
+          was.writes.records was.writes.ends items bytes next.is_batch next.first_fits next.all_fit mid first

@@ -1,0 +1,155 @@
+-- A write is a step of the machine, at each of its exits behind the preparation.
+use Rattle.std.proofs.Common.{◌≡◌, ◌+◌, ⊎_elim, ℕ, List, refl, sym, ◌∙◌, ap, subst, Option, Some, Ok, Err, Bool, IsTrue, false}
+use Rattle.std.specs.Prelude.{if◌then◌else◌}
+use Rattle.std.specs.declared.cmp.Ordering.{Ordering}
+use Rattle.leveldb_base.specs.declared.error.Status.{Status}
+use Rattle.leveldb_base.specs.History.{Item}
+use Rattle.leveldb_base.specs.ViewLaws.{AreUpTo}
+use Rattle.leveldb_env.specs.declared.env.Env.{Ghosts}
+use Rattle.leveldb_env.specs.Disk.{Files, longer_file, extended, synced}
+use Rattle.leveldb_env.specs.Calls.{Appending}
+use Rattle.leveldb_env.specs.FileLaws.{extended-same, appended}
+use Rattle.leveldb_env.specs.OpenFiles.{opened, Appends, Syncs}
+use Rattle.leveldb_env.specs.Runs.{cause_after}
+use Rattle.leveldb_mem.specs.Batch.{batch_of}
+use Rattle.leveldb_mem.specs.Writing.{Writing, Adds, Refuses, Flushes, behind_frame}
+use Rattle.leveldb_mem.specs.Writing as writing
+use Rattle.rusty_leveldb.specs.declared.db_impl.engine.Mode.TheVariants.{Open, Broken}
+use Rattle.rusty_leveldb.specs.declared.db_impl.engine.Engine.{Engine}
+use Rattle.rusty_leveldb.specs.OneLog.{log_path}
+use Rattle.rusty_leveldb.specs.Recent.{Numbered, Inserts}
+use Rattle.rusty_leveldb.specs.State.{State, Request, write, Answer, done, refused}
+use Rattle.rusty_leveldb.specs.Serves.{Reads, Goes, refusal_of}
+use Rattle.rusty_leveldb.specs.Engine.{scene, Recalls}
+use Rattle.rusty_leveldb.proofs.OneLog.Appending.{batch_some}
+use Rattle.rusty_leveldb.proofs.Writes.Stands.{fails, Was, IsOpen, is_open, IsStill}
+use Rattle.rusty_leveldb.proofs.Writes.Kept.{memory_goes}
+use Rattle.rusty_leveldb.proofs.Writes.Append.{IsNext, frame, write_broke}
+use Rattle.rusty_leveldb.proofs.Writes.Done.{Added, wrote_goes, unsynced, synced_then}
+
+-- the same step, whatever memory it began with
+pub begun_with : {M : Type 0} (store : List ℕ) (Recalls : M → _ → State → Type 0) (cmp : List ℕ → List ℕ → Ordering) (one other : Option M) (told : _) (failures : ℕ) (request : Request) (answer : Answer) (to : _) (old : State)
+    → Goes store (Reads store) Recalls cmp (one, told, failures) request answer to old → Goes store (Reads store) Recalls cmp (other, told, failures) request answer to old
+begun_with store Recalls cmp one other told failures request answer to old goes = record { new = goes.new; represents = goes.represents; step = goes.step; files = goes.files; others = goes.others }
+
+module _ {E C FP F : Type 0} (env : Ghosts E F) (tells : IsTrue env.tells_disk) (store : List ℕ) (engine : Engine E C FP F) (from : E) (old : State) (stood : Was env store engine from old) (open_now : engine.mode ≡ Open)
+    (items : List Item) (bytes : List ℕ) (ready : IsNext engine.recent.last items bytes) where
+  was : IsOpen env store engine from old
+  was = is_open env store engine from old open_now stood
+
+  next : IsNext old.last items bytes
+  next = subst (λ n. IsNext n items bytes) was.memory_is.last ready
+
+  abbrev the_frame : List ℕ
+  the_frame = frame env store engine from old was items bytes next
+
+  frame_is : writing.frame engine.writer bytes ≡ the_frame
+  frame_is = ap (λ w. writing.frame w bytes) was.writes.writer
+
+  sound : engine.writer.broken ≡ false
+  sound = ap (λ w. w.broken) was.writes.writer
+
+  passes : (files : Files) → Appending (env.name_of engine.log) (writing.frame engine.writer bytes) (env.tells from).disk.files files → Appending (log_path store) the_frame (env.tells from).disk.files files
+  passes files some = subst (λ n. Appending n the_frame (env.tells from).disk.files files) was.writes.name (subst (λ b. Appending (env.name_of engine.log) b (env.tells from).disk.files files) frame_is some)
+
+  -- ---- a refused append
+
+  module _ (cmp : List ℕ → List ℕ → Ordering) (sync : Bool) (after : Engine E C FP F) (to : E) (rest : after ≡ record engine { log = after.log; writer = after.writer; mode = after.mode })
+      (mode : after.mode ≡ (if after.writer.broken then Broken else engine.mode)) where
+    abbrev Refused : Status → Type 0
+    Refused status = Goes store (Reads store) (Recalls env store) cmp (scene env cmp (Some engine) from) (write items sync) (refused (refusal_of status)) (scene env cmp (Some after) to) old
+
+    still : IsStill env store engine after
+    still = record { lock = ap (λ e. e.lock) rest; entries = ap (λ e. e.recent.kept.entries) rest; last = ap (λ e. e.recent.last) rest }
+
+    same_memory : after.writer ≡ engine.writer → after.log ≡ engine.log → after ≡ engine
+    same_memory writer log = rest ∙ (λ i. record engine { log = log i; writer = writer i; mode = same_mode i })
+      where
+        same_mode : after.mode ≡ engine.mode
+        same_mode = mode ∙ ap (λ (b : Bool). if b then Broken else engine.mode) (ap (λ w. w.broken) writer ∙ sound)
+
+    pub append_refused : (status : Status) → Refuses (Appends env) engine.writer (opened from engine.log) bytes status after.writer (opened to after.log) → Refused status
+    append_refused status refusal = ⊎_elim
+        (λ kept.
+        let same_env : to ≡ from = ap (λ o. o.env) kept.1.same_sink in
+        let same : after ≡ engine = same_memory kept.1.same_writer (ap (λ o. o.file) kept.1.same_sink) in
+        subst (λ e. Goes store (Reads store) (Recalls env store) cmp (scene env cmp (Some engine) from) (write items sync) (refused (refusal_of status)) (scene env cmp (Some after) e) old) (sym same_env)
+        (subst (λ m. Goes store (Reads store) (Recalls env store) cmp (scene env cmp (Some engine) from) (write items sync) (refused (refusal_of status)) (scene env cmp (Some m) from) old) (sym same)
+        (memory_goes env store engine from old stood cmp open_now items sync status engine stood kept.0)))
+        (λ put.
+        let does = put.0 in
+        write_broke env store engine from old was items bytes next cmp sync after to status does.cause.later
+        (fails env.tells_disk (env.name_of engine.log) (env.tells from) was.writes.file (env.failures from) (env.failures to) status (ap (env.tells from).disk.files was.writes.name ∙ was.writes.there) does.cause)
+        (passes (env.tells to).disk.files (does.does.now tells)) (does.locks tells) still (mode ∙ ap (λ w. if w.broken then Broken else engine.mode) put.1))
+        refusal.why
+
+  -- ---- an append that was done
+
+  module _ (middle : Engine E C FP F) (mid : E) (rest : middle ≡ record engine { log = middle.log; writer = middle.writer; mode = middle.mode })
+      (mode : middle.mode ≡ (if middle.writer.broken then Broken else engine.mode)) (count : ℕ) (adds : Adds (Appends env) engine.writer (opened from engine.log) bytes count middle.writer (opened mid middle.log)) where
+    put : Appends env (opened from engine.log) (writing.frame engine.writer bytes) (Ok tt) (opened mid middle.log)
+    put = adds.put (batch_some bytes (old.last + 1) items next.is_batch)
+
+    files_then : (env.tells mid).disk.files ≡ extended (log_path store) the_frame (env.tells from).disk.files
+    files_then = put.does.ok tells ∙ ap (λ n. extended n (writing.frame engine.writer bytes) (env.tells from).disk.files) was.writes.name ∙ ap (λ b. extended (log_path store) b (env.tells from).disk.files) frame_is
+
+    there_then : (env.tells mid).disk.files (log_path store) ≡ Some (longer_file the_frame was.writes.file)
+    there_then = ap (λ (f : Files). f (log_path store)) files_then ∙ extended-same (log_path store) the_frame (env.tells from).disk.files was.writes.file was.writes.there
+
+    name_then : env.name_of middle.log ≡ log_path store
+    name_then = put.file tells ∙ was.writes.name
+
+    sound_then : middle.writer.broken ≡ false
+    sound_then = ap (λ w. w.broken) adds.writer ∙ sound
+
+    open_then : middle.mode ≡ Open
+    open_then = mode ∙ ap (λ (b : Bool). if b then Broken else engine.mode) sound_then ∙ open_now
+
+    added : (after : Engine E C FP F) (to : E) → (env.tells to).disk.locked ≡ (env.tells mid).disk.locked → after.lock ≡ middle.lock → after.mode ≡ middle.mode → after.writer ≡ middle.writer → env.name_of after.log ≡ env.name_of middle.log
+        → env.failures to ≡ env.failures mid → Inserts engine.recent (batch_of (old.last + 1) items) after.recent → AreUpTo engine.recent.last engine.recent.kept.entries → Added env store engine from old was items bytes next after to
+    added after to locks lock same_mode writer log counted inserts below = record {
+      locks = locks ∙ put.locks tells;
+      lock = lock ∙ ap (λ e. e.lock) rest;
+      mode = same_mode ∙ open_then;
+      writer = writer ∙ adds.writer;
+      log = log ∙ name_then ∙ sym was.writes.name;
+      inserts = inserts;
+      up_to_last = below;
+      counted = counted ∙ put.cause.ok;
+    }
+
+    module _ (cmp : List ℕ → List ℕ → Ordering) (sync : Bool) where
+      abbrev Done : Engine E C FP F → E → Type 0
+      Done after to = Goes store (Reads store) (Recalls env store) cmp (scene env cmp (Some engine) from) (write items sync) done (scene env cmp (Some after) to) old
+
+      -- done with no sync
+      pub done_unsynced : sync ≡ false → (recent : Numbered) → Inserts engine.recent (batch_of (old.last + 1) items) recent → AreUpTo engine.recent.last engine.recent.kept.entries → Done (record middle { recent = recent }) mid
+      done_unsynced plain recent inserts below = subst (λ s. Goes store (Reads store) (Recalls env store) cmp (scene env cmp (Some engine) from) (write items s) done (scene env cmp (Some (record middle { recent = recent })) mid) old) (sym plain)
+          (wrote_goes env store engine from old was items bytes next (record middle { recent = recent }) mid cmp false
+          (unsynced env store engine from old was items bytes next (record middle { recent = recent }) mid files_then)
+          (added (record middle { recent = recent }) mid refl refl refl refl refl refl inserts below))
+
+      -- ---- the sync behind it
+
+      module _ (after : Engine E C FP F) (to : E) (rest_after : after ≡ record middle { log = after.log; writer = after.writer; mode = after.mode }) where
+        -- done with a sync
+        pub done_synced : after.mode ≡ middle.mode → Flushes (Syncs env) middle.writer (opened mid middle.log) (Ok tt) after.writer (opened to after.log) → (recent : Numbered) → Inserts engine.recent (batch_of (old.last + 1) items) recent
+            → AreUpTo engine.recent.last engine.recent.kept.entries → Done (record after { recent = recent }) to
+        done_synced same_mode flushed recent inserts below =
+            let s = flushed.flushed in
+            wrote_goes env store engine from old was items bytes next (record after { recent = recent }) to cmp sync
+            (synced_then env store engine from old was items bytes next (record after { recent = recent }) to (env.tells mid).disk.files files_then (s.does.ok tells ∙ ap (λ n. synced n (env.tells mid).disk.files) name_then) sync)
+            (added (record after { recent = recent }) to (s.locks tells) (ap (λ e. e.lock) rest_after) same_mode flushed.ok (s.file tells) s.cause.ok inserts below)
+
+        -- a refused sync breaks the store
+        pub sync_refused : (status : Status) → after.mode ≡ Broken → Flushes (Syncs env) middle.writer (opened mid middle.log) (Err status) after.writer (opened to after.log)
+            → Goes store (Reads store) (Recalls env store) cmp (scene env cmp (Some engine) from) (write items sync) (refused (refusal_of status)) (scene env cmp (Some after) to) old
+        sync_refused status broke flushed =
+            let s = flushed.flushed in
+            let cause = cause_after put.cause.ok s.cause in
+            let same = s.undone tells ∙ files_then in
+            write_broke env store engine from old was items bytes next cmp sync after to status cause.later
+            (fails env.tells_disk (env.name_of middle.log) (env.tells mid) (longer_file the_frame was.writes.file) (env.failures from) (env.failures to) status (ap (env.tells mid).disk.files name_then ∙ there_then) cause)
+            (subst (λ f. Appending (log_path store) the_frame (env.tells from).disk.files f) (sym same) (appended (log_path store) the_frame (env.tells from).disk.files)) (s.locks tells ∙ put.locks tells)
+            (record { lock = ap (λ e. e.lock) rest_after ∙ ap (λ e. e.lock) rest; entries = ap (λ e. e.recent.kept.entries) rest_after ∙ ap (λ e. e.recent.kept.entries) rest; last = ap (λ e. e.recent.last) rest_after ∙ ap (λ e. e.recent.last) rest })
+            broke

@@ -1,0 +1,150 @@
+-- A flush is a step of the machine, at each of its exits.
+use Rattle.std.proofs.Common.{◌≡◌, ◌≤◌, ◌%◌, inl, inr, ℕ, List, length, refl, sym, ◌∙◌, ap, subst, arith, append-nil, Some, None, Result, Ok, Err, IsTrue, false}
+use Rattle.std.specs.Prelude.{OnOk, OnErr, string_bytes}
+use Rattle.std.specs.declared.cmp.Ordering.{Ordering}
+use Rattle.leveldb_base.specs.declared.error.Status.{Status}
+use Rattle.leveldb_base.specs.Status.{text_of}
+use Rattle.leveldb_base.specs.History.{IsHistory, joined}
+use Rattle.leveldb_env.specs.declared.env.Env.{Ghosts}
+use Rattle.leveldb_env.specs.Disk.{File, Files, bytes_of, file_kept, synced}
+use Rattle.leveldb_env.specs.FileLaws.{synced-same}
+use Rattle.leveldb_env.specs.OpenFiles.{opened, Syncs}
+use Rattle.leveldb_mem.specs.Log.{log_block_size, clean, IsLogFile}
+use Rattle.leveldb_mem.specs.Writing.{Flushes}
+use Rattle.rusty_leveldb.specs.declared.db_impl.engine.Mode.TheVariants.{Open, Broken}
+use Rattle.rusty_leveldb.specs.declared.db_impl.engine.Engine.{Engine}
+use Rattle.rusty_leveldb.specs.Names.{lock_path}
+use Rattle.rusty_leveldb.specs.OneLog.{log_path}
+use Rattle.rusty_leveldb.specs.Holds.{Holds}
+use Rattle.rusty_leveldb.specs.State.{State, SuitsMode, open_mode, broken, flush, Answer, done, refused}
+use Rattle.rusty_leveldb.specs.Causes.{Faults, out_of_memory, device_failed}
+use Rattle.rusty_leveldb.specs.Machine.{Breaks, StepIn, Responds}
+use Rattle.rusty_leveldb.specs.Serves.{Reads, StandsFor, Goes, faults_between, refusal_of, done_or}
+use Rattle.rusty_leveldb.specs.Engine.{scene, Recalls, mode_of}
+use Rattle.rusty_leveldb.proofs.OneLog.Writing.{synced_holds}
+use Rattle.rusty_leveldb.proofs.Writes.Stands.{Fails, fails, IsStored, stored, Was, IsOpen, is_open, IsStill, remembers_still, broken_with, Broke, broken_is}
+
+module _ {E C FP F : Type 0} (env : Ghosts E F) (cmp : List ℕ → List ℕ → Ordering) (store : List ℕ) (engine after : Engine E C FP F) (from to : E) (old : State) (was : IsOpen env store engine from old) where
+  abbrev Flushed : Answer → Type 0
+  Flushed answer = Goes store (Reads store) (Recalls env store) cmp (scene env cmp (Some engine) from) flush answer (scene env cmp (Some after) to) old
+
+  abbrev faults : Faults
+  faults = faults_between (env.failures from) (env.failures to)
+
+  breaks : Breaks old None (broken_with old None)
+  breaks = record { state = refl; covered = inl refl }
+
+  refuses : (status : Status) → Fails status (env.failures from) (env.failures to) → Responds cmp faults old flush (refused (refusal_of status)) (broken_with old None)
+  refuses status (inl memory) = (out_of_memory, (tt, memory.0, ap text_of memory.1), inr (tt, breaks))
+  refuses status (inr device) = (device_failed, (tt, device), breaks)
+
+  -- a refused sync breaks the store
+  pub flush_refused : (status : Status) → env.failures from ≤ env.failures to → Fails status (env.failures from) (env.failures to) → Broke env store engine after from to old None → Flushed (refused (refusal_of status))
+  flush_refused status later why broke = record {
+    new = new;
+    represents = broken_is env store engine after from to old None was broke;
+    step = record { later = later; step = subst (λ m. StepIn cmp m faults old flush (refused (refusal_of status)) new) (sym was.mode) (refuses status why) };
+    files = record {
+      reading = λ reads. absurd reads;
+      refused = λ logging is_refused opened. absurd (let never : broken ≡ open_mode = opened in cc);
+      broken = λ broken_then. absurd (let never : broken ≡ open_mode = sym broken_then ∙ was.mode in cc);
+    };
+    others = λ name other. ap (λ locked. locked name) broke.locks;
+  }
+    where
+      new : State
+      new = broken_with old None
+
+  -- a sync that was done covers all
+  pub flush_done : (env.tells to).disk.files ≡ synced (log_path store) (env.tells from).disk.files → (env.tells to).disk.locked ≡ (env.tells from).disk.locked
+      → env.failures to ≡ env.failures from → IsStill env store engine after → after.mode ≡ Open → after.writer ≡ engine.writer → env.name_of after.log ≡ env.name_of engine.log → Flushed done
+  flush_done files locks counted still mode writer log = record {
+    new = new;
+    represents = record { disk_is = stands; memory_is = recalls };
+    step = record { later = omega (arith, counted); step = subst (λ m. StepIn cmp m faults old flush done new) (sym was.mode) (λ no. no, record { state = refl }) };
+    files = record { reading = λ reads. absurd reads; refused = λ logging is_refused. absurd is_refused; broken = λ broken_then. absurd (let never : broken ≡ open_mode = sym broken_then ∙ was.mode in cc) };
+    others = λ name other. ap (λ locked. locked name) locks;
+  }
+    where
+      new : State
+      new = record old { covered = length old.history }
+
+      file : File
+      file = file_kept was.writes.file
+
+      there : (env.tells to).disk.files (log_path store) ≡ Some file
+      there = ap (λ (f : Files). f (log_path store)) files ∙ synced-same (log_path store) (env.tells from).disk.files was.writes.file was.writes.there
+
+      same_bytes : bytes_of file ≡ bytes_of was.writes.file
+      same_bytes = append-nil (bytes_of was.writes.file)
+
+      holds : Holds store (Reads store) (env.tells to).disk.files old.history old.last (length old.history) None
+      holds = synced_holds store (env.tells from).disk.files old.history old.last old.covered was.holds was.disk_is.is_state.covered (env.tells to).disk.files files
+
+      here : IsStored store old.store (env.tells to).disk.files
+      here = stored store old.store (env.tells to).disk.files file old.history old.last (length old.history) None was.made_is there holds
+
+      stands : StandsFor store (Reads store) (env.tells to).disk new
+      stands = record {
+        is_state = record {
+          history = was.disk_is.is_state.history;
+          reached = was.disk_is.is_state.reached;
+          pending = was.disk_is.is_state.pending;
+          covered = omega arith;
+          held = was.disk_is.is_state.held;
+          mode = subst (λ m. SuitsMode m new) (sym was.mode) (was.none, was.held);
+        };
+        holds = subst (λ p. Holds store (Reads store) (env.tells to).disk.files old.history old.last (length old.history) p) (sym was.none) holds;
+        has_store = here.has;
+        keeps = here.keeps;
+        locked = ap (λ locked. locked (lock_path store)) locks ∙ was.disk_is.locked;
+      }
+
+      recalls : Recalls env store after (env.tells to).disk new
+      recalls = record {
+        mode = ap mode_of mode ∙ sym was.mode;
+        lock = ap (λ lock. string_bytes lock) still.lock ∙ was.lock;
+        shows = λ opened. remembers_still env store engine after old new refl refl still was.memory_is;
+        writes = λ opened. record {
+          file = file;
+          there = there;
+          since = λ i. omega arith;
+          records = was.writes.records;
+          ends = subst (λ b. IsLogFile b was.writes.records clean) (sym same_bytes) was.writes.ends;
+          name = log ∙ was.writes.name;
+          writer = writer ∙ was.writes.writer ∙ ap (λ b. record { size = log_block_size; place = length b % log_block_size; broken = false }) (sym same_bytes);
+        };
+      }
+
+-- what the sync answered and did is a step of the machine
+module _ {E C FP F : Type 0} (env : Ghosts E F) (cmp : List ℕ → List ℕ → Ordering) (engine after : Engine E C FP F) (from to : E) (open_now : engine.mode ≡ Open)
+    (rest : after ≡ record engine { log = after.log; writer = after.writer; mode = after.mode }) (tells : IsTrue env.tells_disk) (store : List ℕ) (old : State) (stood : Was env store engine from old) where
+  was : IsOpen env store engine from old
+  was = is_open env store engine from old open_now stood
+
+  still : IsStill env store engine after
+  still = record { lock = ap (λ e. e.lock) rest; entries = ap (λ e. e.recent.kept.entries) rest; last = ap (λ e. e.recent.last) rest }
+
+  pub flush_step : (result : Result (Unit {0}) Status) → OnOk result (after.mode ≡ engine.mode) → OnErr result (after.mode ≡ Broken)
+      → Flushes (Syncs env) engine.writer (opened from engine.log) result after.writer (opened to after.log)
+      → Goes store (Reads store) (Recalls env store) cmp (scene env cmp (Some engine) from) flush (done_or result) (scene env cmp (Some after) to) old
+  flush_step (Ok unit) same_mode broke_mode synced_now =
+      let sync = synced_now.flushed in
+      flush_done env cmp store engine after from to old was (sync.does.ok tells ∙ ap (λ name. synced name (env.tells from).disk.files) was.writes.name) (sync.locks tells) sync.cause.ok still
+      (same_mode ∙ open_now) synced_now.ok (sync.file tells)
+  flush_step (Err status) same_mode broke_mode synced_now =
+      let sync = synced_now.flushed in
+      let same = sync.undone tells in
+      let there : (env.tells to).disk.files (log_path store) ≡ Some was.writes.file = ap (λ (f : Files). f (log_path store)) same ∙ was.writes.there in
+      flush_refused env cmp store engine after from to old was status sync.cause.later
+      (fails env.tells_disk (env.name_of engine.log) (env.tells from) was.writes.file (env.failures from) (env.failures to) status (ap (env.tells from).disk.files was.writes.name ∙ was.writes.there) sync.cause)
+      (record {
+        still = still;
+        mode = broke_mode;
+        history = subst (λ p. IsHistory (joined old.history p)) was.none was.disk_is.is_state.history;
+        reached = omega (arith, was.disk_is.is_state.reached);
+        holds = subst (λ f. Holds store (Reads store) f old.history old.last old.covered None) (sym same) was.holds;
+        file = was.writes.file;
+        there = there;
+        locks = sync.locks tells;
+      })

@@ -1,0 +1,76 @@
+-- A write or a flush that the mode refuses.
+use Rattle.std.proofs.Common.{◌≡◌, ◌⊎◌, inl, inr, ⊎_elim, ℕ, List, [], refl, sym, ◌∙◌, ap, subst, arith, Option, Some, None, IsTrue, false, true}
+use Rattle.std.specs.Prelude.{codes, IfSome, string_bytes, String}
+use Rattle.std.specs.declared.alloc.Global.{Global}
+use Rattle.std.specs.declared.cmp.Ordering.{Ordering}
+use Rattle.leveldb_base.specs.declared.error.Status.{Status}
+use Rattle.leveldb_base.specs.declared.error.StatusCode.TheVariants.{IOError}
+use Rattle.leveldb_base.specs.Status.{text_of}
+use Rattle.leveldb_env.specs.declared.env.Env.{Ghosts}
+use Rattle.rusty_leveldb.specs.declared.db_impl.engine.Mode.{Mode}
+use Rattle.rusty_leveldb.specs.declared.db_impl.engine.Mode.TheVariants.{Open, Broken, Closed}
+use Rattle.rusty_leveldb.specs.declared.db_impl.engine.Engine.{Engine}
+use Rattle.rusty_leveldb.specs.State.{State, broken, closed, Request, write, flush, refused, Refusal}
+use Rattle.rusty_leveldb.specs.Causes.{Faults, IsClosedRefusal, IsBrokenRefusal}
+use Rattle.rusty_leveldb.specs.Machine.{StepIn}
+use Rattle.rusty_leveldb.specs.Serves.{Reads, Goes, IsReading, IsLogging, faults_between, refusal_of}
+use Rattle.rusty_leveldb.specs.Engine.{scene, Recalls, IsShut, ShutOut, ShutDown, mode_of}
+use Rattle.rusty_leveldb.proofs.Writes.Stands.{Was, is_open}
+
+broken_text : (err : Option (String Global)) → IfSome err (λ text. string_bytes text ≡ codes "IOError: reopen the store") → (text_of err ≡ []) ⊎ (text_of err ≡ codes "IOError: reopen the store")
+broken_text None is = inl refl
+broken_text (Some text) is = inr is
+
+module _ (cmp : List ℕ → List ℕ → Ordering) (faults : Faults) (old : State) where
+  closed_step : (request : Request) → IsLogging request → (refusal : Refusal) → IsClosedRefusal refusal → StepIn cmp closed faults old request (refused refusal) old
+  closed_step (write items sync) logs refusal says = (says, refl)
+  closed_step flush logs refusal says = (says, refl)
+  closed_step request logs refusal says = absurd logs
+
+  broken_step : (request : Request) → IsLogging request → (refusal : Refusal) → IsBrokenRefusal refusal → StepIn cmp broken faults old request (refused refusal) old
+  broken_step (write items sync) logs refusal says = (says, refl)
+  broken_step flush logs refusal says = (says, refl)
+  broken_step request logs refusal says = absurd logs
+
+only_logs : (request : Request) → IsLogging request → IsReading request → ⊥
+only_logs (write items sync) logs reads = reads
+only_logs flush logs reads = reads
+only_logs request logs reads = logs
+
+module _ {E C FP F : Type 0} (env : Ghosts E F) (cmp : List ℕ → List ℕ → Ordering) (store : List ℕ) (engine : Engine E C FP F) (at : E) (old : State) (was : Was env store engine at old)
+    (request : Request) (logs : IsLogging request) (status : Status) where
+  abbrev faults : Faults
+  faults = faults_between (env.failures at) (env.failures at)
+
+  abbrev Refused : Type 0
+  Refused = Goes store (Reads store) (Recalls env store) cmp (scene env cmp (Some engine) at) request (refused (refusal_of status)) (scene env cmp (Some engine) at) old
+
+  stays : StepIn cmp old.mode faults old request (refused (refusal_of status)) old → Refused
+  stays step = record {
+    new = old;
+    represents = was;
+    step = record { later = omega arith; step = step };
+    files = record { reading = λ reads. refl; refused = λ l r m. refl; broken = λ b name there. there };
+    others = λ name other. refl;
+  }
+
+  -- the store is closed
+  pub shut_out : ShutOut engine.mode status → Refused
+  shut_out shut = stays (subst (λ m. StepIn cmp m faults old request (refused (refusal_of status)) old) (ap mode_of (sym shut.0) ∙ was.memory_is.mode) (closed_step cmp faults old request logs (refusal_of status) shut.1))
+
+  -- the store broke earlier
+  pub shut_down : ShutDown engine.mode engine.writer status → (IsShut engine.mode → ⊥) → Refused
+  shut_down down not_shut = by_mode engine.mode refl
+    where
+      by_mode : (mode : Mode) → engine.mode ≡ mode → Refused
+      by_mode Open is =
+          let sound : engine.writer.broken ≡ false = ap (λ w. w.broken) (is_open env store engine at old is was).writes.writer in
+          ⊎_elim (λ (broke : engine.mode ≡ Broken). absurd (let never : Open ≡ Broken = sym is ∙ broke in cc))
+          (λ (broke : IsTrue engine.writer.broken). absurd (let never : false ≡ true = sym sound ∙ broke in cc)) down.0
+      by_mode Broken is = stays (subst (λ m. StepIn cmp m faults old request (refused (refusal_of status)) old) (ap mode_of (sym is) ∙ was.memory_is.mode)
+          (broken_step cmp faults old request logs (refusal_of status) (down.1.code, broken_text status.err down.1.text)))
+      by_mode Closed is = absurd (not_shut is)
+
+  -- refused by the mode, one way or the other
+  pub shut : ShutOut engine.mode status ⊎ ShutDown engine.mode engine.writer status → (status.code ≡ IOError → IsShut engine.mode → ⊥) → Refused
+  shut why stuck = ⊎_elim (λ out. shut_out out) (λ down. shut_down down (stuck down.1.code)) why

@@ -1,0 +1,153 @@
+-- An open store for which memory and disk stand, and what it stands for once its log has refused a call.
+use Rattle.std.proofs.Common.{◌≡◌, ◌≤◌, ◌+◌, ◌⊎◌, inl, inr, ⊎_elim, ℕ, List, refl, sym, ◌∙◌, ap, subst, arith, Option, Some, None, Err, IsTrue}
+use Rattle.std.specs.Prelude.{string_bytes}
+use Rattle.leveldb_base.specs.declared.error.Status.{Status}
+use Rattle.leveldb_base.specs.History.{Entry, History, IsHistory, entries_of, greatest, joined, count_of}
+use Rattle.leveldb_base.specs.View.{SameView}
+use Rattle.leveldb_env.specs.declared.env.Env.{Ghosts}
+use Rattle.leveldb_env.specs.Disk.{File, Files}
+use Rattle.leveldb_env.specs.Times.{Told}
+use Rattle.leveldb_env.specs.Calls.{HasCause, NoMemory, IsGone}
+use Rattle.rusty_leveldb.specs.declared.db_impl.engine.Mode.TheVariants.{Open, Broken}
+use Rattle.rusty_leveldb.specs.declared.db_impl.engine.Engine.{Engine}
+use Rattle.rusty_leveldb.specs.Names.{lock_path}
+use Rattle.rusty_leveldb.specs.Contents.{Store, made}
+use Rattle.rusty_leveldb.specs.OneLog.{log_path}
+use Rattle.rusty_leveldb.specs.Holds.{Carries, Holds, HasStore, KeepsStore}
+use Rattle.rusty_leveldb.specs.State.{State, SuitsMode, open_mode, broken, closed}
+use Rattle.rusty_leveldb.specs.Causes.{DeviceFailed}
+use Rattle.rusty_leveldb.specs.Serves.{Reads, StandsFor, Represents, faults_between}
+use Rattle.rusty_leveldb.specs.Engine.{mode_of, WritesOn, Remembers, Recalls}
+use Rattle.rusty_leveldb.proofs.OneLog.Disks.{log_is_store, store_stays}
+
+-- why a log refused a call
+abbrev pub Fails : Status → ℕ → ℕ → Type 0
+Fails status before after = NoMemory status ⊎ DeviceFailed (faults_between before after)
+
+-- the log's file is there, so it is want of memory or the device
+pub fails : (tells_disk : _) (name : List ℕ) (told : Told) (file : File) (before after : ℕ) (status : Status) → told.disk.files name ≡ Some file
+    → HasCause {T = Unit {0}} (IsGone tells_disk name told) before after (Err status) → Fails status before after
+fails tells_disk name told file before after status there cause = ⊎_elim
+    (λ gone. ⊎_elim (λ memory. inl memory) (λ none. let never : Some file ≡ None = sym there ∙ none.2 in absurd (cc)) gone)
+    (λ counted. inr (⊎_elim (λ one. inl (omega (arith, one))) (λ most. inr most.0) counted)) cause.cause
+
+-- the store that is there, in these files and behind a crash of them
+pub record IsStored (store : List ℕ) (there : Store) (files : Files) : Type 0 where
+  pub has : HasStore store (Reads store) there files
+  pub keeps : KeepsStore store (Reads store) there files
+
+-- a log that is there is the store
+pub stored : (store : List ℕ) (there : Store) (files : Files) (file : File) (history : History) (last covered : ℕ) (pending : Option (List Entry)) → there ≡ made None
+    → files (log_path store) ≡ Some file → Holds store (Reads store) files history last covered pending → IsStored store there files
+stored store there files file history last covered pending is at holds = record {
+  has = has;
+  keeps = ⊎_elim (λ c. store_stays store there files c.contents c.read (has c.contents c.read)) (λ c. store_stays store there files c.contents c.read (has c.contents c.read)) holds.now;
+}
+  where
+    has : HasStore store (Reads store) there files
+    has = subst (λ s. HasStore store (Reads store) s files) (sym is) (log_is_store store file files at)
+
+-- broken, with this batch pending
+abbrev pub broken_with : State → Option (List Entry) → State
+broken_with old batch = record old { pending = batch; mode = broken }
+
+module _ {E C FP F : Type 0} (env : Ghosts E F) (store : List ℕ) where
+  abbrev pub Was : Engine E C FP F → E → State → Type 0
+  Was engine at old = Represents store (Reads store) (Recalls env store) (Some engine) (env.tells at).disk old
+
+  -- ---- an open store
+
+  -- the store is open, and the engine's memory and the disk stand for it
+  pub record IsOpen (engine : Engine E C FP F) (at : E) (old : State) : Type 0 where
+    pub mode : old.mode ≡ open_mode
+    pub none : old.pending ≡ None
+    pub held : IsTrue old.locked
+    pub disk_is : StandsFor store (Reads store) (env.tells at).disk old
+    pub holds : Holds store (Reads store) (env.tells at).disk.files old.history old.last old.covered None
+    pub lock : string_bytes engine.lock ≡ lock_path store
+    pub memory_is : Remembers env store engine old
+    pub writes : WritesOn env store engine (env.tells at).disk
+    pub made_is : old.store ≡ made None
+
+  pub is_open : (engine : Engine E C FP F) (at : E) (old : State) → engine.mode ≡ Open → Was engine at old → IsOpen engine at old
+  is_open engine at old open_now was = record {
+    mode = mode;
+    none = suits.0;
+    held = suits.1;
+    disk_is = was.disk_is;
+    holds = holds;
+    lock = was.memory_is.lock;
+    memory_is = was.memory_is.shows (λ shut. let never : open_mode ≡ closed = sym mode ∙ shut in cc);
+    writes = writes;
+    made_is = ⊎_elim there there holds.now;
+  }
+    where
+      mode : old.mode ≡ open_mode
+      mode = sym was.memory_is.mode ∙ ap mode_of open_now
+
+      suits : (old.pending ≡ None) × IsTrue old.locked
+      suits = subst (λ m. SuitsMode m old) mode was.disk_is.is_state.mode
+
+      holds : Holds store (Reads store) (env.tells at).disk.files old.history old.last old.covered None
+      holds = subst (λ p. Holds store (Reads store) (env.tells at).disk.files old.history old.last old.covered p) suits.0 was.disk_is.holds
+
+      writes : WritesOn env store engine (env.tells at).disk
+      writes = was.memory_is.writes mode
+
+      there : {history : History} → Carries store (Reads store) (old.last + 0) history (env.tells at).disk.files → old.store ≡ made None
+      there c = sym (was.disk_is.has_store c.contents c.read) ∙ log_is_store store writes.file (env.tells at).disk.files writes.there c.contents c.read
+
+  -- ---- memory
+
+  -- the entries, their last number and the lock's name are as they were
+  pub record IsStill (engine after : Engine E C FP F) : Type 0 where
+    pub lock : after.lock ≡ engine.lock
+    pub entries : after.recent.kept.entries ≡ engine.recent.kept.entries
+    pub last : after.recent.last ≡ engine.recent.last
+
+  pub remembers_still : (engine after : Engine E C FP F) (old new : State) → new.history ≡ old.history → new.last ≡ old.last → IsStill engine after → Remembers env store engine old → Remembers env store after new
+  remembers_still engine after old new history last still memory = record {
+    last = still.last ∙ memory.last ∙ sym last;
+    same = λ t most. subst (λ h. SameView after.recent.kept.entries (entries_of h) t) (sym history)
+        (subst (λ es. SameView es (entries_of old.history) t) (sym still.entries) (memory.same t (subst (λ h. greatest (entries_of h) ≤ t) history most)));
+  }
+
+  -- ---- a broken store
+
+  -- the log refused a call, and the disk holds what it did, with this batch pending
+  pub record Broke (engine after : Engine E C FP F) (from to : E) (old : State) (batch : Option (List Entry)) : Type 0 where
+    pub still : IsStill engine after
+    pub mode : after.mode ≡ Broken
+    pub history : IsHistory (joined old.history batch)
+    pub reached : greatest (entries_of (joined old.history batch)) ≤ old.last + count_of batch
+    pub holds : Holds store (Reads store) (env.tells to).disk.files old.history old.last old.covered batch
+    pub file : File
+    pub there : (env.tells to).disk.files (log_path store) ≡ Some file
+    pub locks : (env.tells to).disk.locked ≡ (env.tells from).disk.locked
+
+  pub broken_is : (engine after : Engine E C FP F) (from to : E) (old : State) (batch : Option (List Entry)) → IsOpen engine from old → Broke engine after from to old batch → Was after to (broken_with old batch)
+  broken_is engine after from to old batch was broke = record {
+    disk_is = record {
+      is_state = record {
+        history = broke.history;
+        reached = was.disk_is.is_state.reached;
+        pending = broke.reached;
+        covered = was.disk_is.is_state.covered;
+        held = was.disk_is.is_state.held;
+        mode = was.held;
+      };
+      holds = broke.holds;
+      has_store = here.has;
+      keeps = here.keeps;
+      locked = ap (λ locked. locked (lock_path store)) broke.locks ∙ was.disk_is.locked;
+    };
+    memory_is = record {
+      mode = ap mode_of broke.mode;
+      lock = ap (λ lock. string_bytes lock) broke.still.lock ∙ was.lock;
+      shows = λ open_or_broken. remembers_still engine after old (broken_with old batch) refl refl broke.still was.memory_is;
+      writes = λ opened. absurd (cc);
+    };
+  }
+    where
+      here : IsStored store old.store (env.tells to).disk.files
+      here = stored store old.store (env.tells to).disk.files broke.file old.history old.last old.covered batch was.made_is broke.there broke.holds

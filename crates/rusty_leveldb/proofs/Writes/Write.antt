@@ -1,0 +1,127 @@
+-- A write is a step of the machine, at each of its exits, from the engine as it was before the preparation.
+use Rattle.std.proofs.Common.{◌≡◌, ◌≤◌, ◌+◌, ℕ, List, length, sym, ◌∙◌, ap, subst, arith, Some, Ok, Err, Bool, IsTrue, false}
+use Rattle.std.specs.Prelude.{if◌then◌else◌}
+use Rattle.std.specs.declared.cmp.Ordering.{Ordering}
+use Rattle.leveldb_base.specs.declared.error.Status.{Status}
+use Rattle.leveldb_base.specs.History.{Item}
+use Rattle.leveldb_base.specs.ViewLaws.{AreUpTo}
+use Rattle.leveldb_env.specs.declared.env.Env.{Ghosts}
+use Rattle.leveldb_env.specs.Disk.{AreBytes}
+use Rattle.leveldb_env.specs.OpenFiles.{opened, Appends, Syncs}
+use Rattle.leveldb_mem.specs.Batch.{Batch, BatchOf, batch_of}
+use Rattle.leveldb_mem.specs.Writing.{Adds, Refuses, Flushes}
+use Rattle.rusty_leveldb.specs.declared.db_impl.engine.Mode.TheVariants.{Open, Broken}
+use Rattle.rusty_leveldb.specs.declared.db_impl.engine.Engine.{Engine}
+use Rattle.rusty_leveldb.specs.OneLog.{max_sequence}
+use Rattle.rusty_leveldb.specs.Recent.{Numbered, Follows, Inserts}
+use Rattle.rusty_leveldb.specs.State.{State, open_mode, closed, write, Answer, done, refused}
+use Rattle.rusty_leveldb.specs.Serves.{Reads, Goes, refusal_of}
+use Rattle.rusty_leveldb.specs.Engine.{scene, Recalls, mode_of}
+use Rattle.rusty_leveldb.proofs.Histories.{placed_greatest}
+use Rattle.rusty_leveldb.proofs.Writes.Stands.{Was}
+use Rattle.rusty_leveldb.proofs.Writes.Kept.{prepared_was}
+use Rattle.rusty_leveldb.proofs.Writes.Append.{IsNext}
+use Rattle.rusty_leveldb.proofs.Writes.Exits.{begun_with, append_refused, done_unsynced, done_synced, sync_refused}
+
+-- ---- the batch
+
+-- a batch at the first number behind the last
+pub batch_behind : (last first : ℕ) (items : List Item) (batch : Batch) → first ≡ last + 1 → batch ≡ batch_of first items → batch ≡ batch_of (last + 1) items
+batch_behind last first items batch first_is is = is ∙ ap (λ n. batch_of n items) first_is
+
+-- its record may be appended
+pub is_next : (last first count : ℕ) (items : List Item) (batch : Batch) (bytes : List ℕ) → first ≡ last + 1 → first ≤ max_sequence → last + count ≤ max_sequence → count ≡ length items → batch ≡ batch_of first items
+    → BatchOf bytes batch.first batch.items → AreBytes bytes → IsNext last items bytes
+is_next last first count items batch bytes first_is first_fits all_fit count_is is is_batch are = record {
+  is_batch = subst (λ (b : Batch). BatchOf bytes b.first b.items) (batch_behind last first items batch first_is is) is_batch;
+  first_fits = omega (arith, first_is, first_fits);
+  all_fit = omega (arith, all_fit, count_is);
+  are = are;
+}
+
+-- its entries may be inserted
+pub follows : (last now : ℕ) (items : List Item) (batch : Batch) (bytes : List ℕ) → IsNext last items bytes → batch ≡ batch_of (last + 1) items → now ≡ last → Follows now batch
+follows last now items batch bytes next is same = subst (λ b. Follows now b) (sym is) (record {
+  above = omega arith;
+  first_fits = next.first_fits;
+  all_fit = let most = placed_greatest last items in let fits = next.all_fit in omega arith;
+})
+
+-- ---- the exits
+
+module _ {E C FP F : Type 0} (env : Ghosts E F) (store : List ℕ) (cmp : List ℕ → List ℕ → Ordering) (engine : Engine E C FP F) (from : E) (old : State) (items : List Item) (sync : Bool) (after : Engine E C FP F) (to : E) where
+  abbrev pub Wrote : Answer → Type 0
+  Wrote answer = Goes store (Reads store) (Recalls env store) cmp (scene env cmp (Some engine) from) (write items sync) answer (scene env cmp (Some after) to) old
+
+module _ {E C FP F : Type 0} (env : Ghosts E F) (tells : IsTrue env.tells_disk) (store : List ℕ) (cmp : List ℕ → List ℕ → Ordering) (engine : Engine E C FP F) (from : E) (old : State) (stood : Was env store engine from old)
+    (open_now : engine.mode ≡ Open) (recent : Numbered) (entries : recent.kept.entries ≡ engine.recent.kept.entries) (last : recent.last ≡ engine.recent.last) (items : List Item) (sync : Bool) (bytes : List ℕ)
+    (next : IsNext engine.recent.last items bytes) where
+  -- the engine behind the preparation
+  abbrev prepared : Engine E C FP F
+  prepared = record engine { recent = recent }
+
+  now : Was env store prepared from old
+  now = prepared_was env store engine from old stood recent entries last
+
+  next_now : IsNext recent.last items bytes
+  next_now = subst (λ n. IsNext n items bytes) (sym last) next
+
+  from_prepared : (answer : Answer) (after : Engine E C FP F) (to : E) → Wrote env store cmp prepared from old items sync after to answer → Wrote env store cmp engine from old items sync after to answer
+  from_prepared answer after to goes = begun_with store (Recalls env store) cmp (Some prepared) (Some engine) (env.tells from) (env.failures from) (write items sync) answer (scene env cmp (Some after) to) old goes
+
+  -- the append was refused
+  pub refused_append : (after : Engine E C FP F) (to : E) (status : Status) → after ≡ record prepared { log = after.log; writer = after.writer; mode = after.mode } → after.mode ≡ (if after.writer.broken then Broken else engine.mode)
+      → Refuses (Appends env) engine.writer (opened from engine.log) bytes status after.writer (opened to after.log) → Wrote env store cmp engine from old items sync after to (refused (refusal_of status))
+  refused_append after to status rest mode refusal = from_prepared (refused (refusal_of status)) after to (append_refused env tells store prepared from old now open_now items bytes next_now cmp sync after to rest mode status refusal)
+
+  -- it was done
+  module _ (middle : Engine E C FP F) (mid : E) (rest : middle ≡ record prepared { log = middle.log; writer = middle.writer; mode = middle.mode }) (mode : middle.mode ≡ (if middle.writer.broken then Broken else engine.mode))
+      (count : ℕ) (adds : Adds (Appends env) engine.writer (opened from engine.log) bytes count middle.writer (opened mid middle.log)) where
+    -- and the sync was refused
+    pub refused_sync : (after : Engine E C FP F) (to : E) (status : Status) → after ≡ record middle { log = after.log; writer = after.writer; mode = after.mode } → after.mode ≡ Broken
+        → Flushes (Syncs env) middle.writer (opened mid middle.log) (Err status) after.writer (opened to after.log) → Wrote env store cmp engine from old items sync after to (refused (refusal_of status))
+    refused_sync after to status rest_after broke flushed = from_prepared (refused (refusal_of status)) after to
+        (sync_refused env tells store prepared from old now open_now items bytes next_now middle mid rest mode count adds cmp sync after to rest_after status broke flushed)
+
+    module _ (batch : Batch) (batch_is : batch ≡ batch_of (engine.recent.last + 1) items) (below : AreUpTo engine.recent.last engine.recent.kept.entries) (inserted : Numbered) (self : Engine E C FP F) (inserts : Inserts self.recent batch inserted) (at : E) where
+      last_is : engine.recent.last ≡ old.last
+      last_is = sym last ∙ last_now
+        where
+          last_now : recent.last ≡ old.last
+          last_now = (now.memory_is.shows (λ shut. never shut)).last
+            where
+              never : old.mode ≡ closed → ⊥
+              never shut = let e : open_mode ≡ closed = ap mode_of (sym open_now) ∙ stood.memory_is.mode ∙ shut in cc
+
+      inserts_now : self.recent ≡ recent → Inserts recent (batch_of (old.last + 1) items) inserted
+      inserts_now same = subst (λ n. Inserts recent (batch_of (n + 1) items) inserted) last_is (subst (λ b. Inserts recent b inserted) batch_is (subst (λ r. Inserts r batch inserted) same inserts))
+
+      below_now : AreUpTo recent.last recent.kept.entries
+      below_now = subst (λ n. AreUpTo n recent.kept.entries) (sym last) (subst (λ es. AreUpTo engine.recent.last es) (sym entries) below)
+
+      -- it was all that was asked for
+      pub done_plain : sync ≡ false → self ≡ middle → at ≡ mid → Wrote env store cmp engine from old items sync (record self { recent = inserted }) at done
+      done_plain plain self_is at_is = subst (λ (e : E). Wrote env store cmp engine from old items sync (record self { recent = inserted }) e done) (sym at_is)
+          (subst (λ (m : Engine E C FP F). Wrote env store cmp engine from old items sync (record m { recent = inserted }) mid done) (sym self_is)
+          (from_prepared done (record middle { recent = inserted }) mid
+          (done_unsynced env tells store prepared from old now open_now items bytes next_now middle mid rest mode count adds cmp sync plain inserted
+          (inserts_now (ap (λ (m : Engine E C FP F). m.recent) self_is ∙ ap (λ (m : Engine E C FP F). m.recent) rest)) below_now)))
+
+      -- the sync was done too
+      pub done_with_sync : (after : Engine E C FP F) (to : E) → after ≡ record middle { log = after.log; writer = after.writer; mode = after.mode } → after.mode ≡ middle.mode
+          → Flushes (Syncs env) middle.writer (opened mid middle.log) (Ok tt) after.writer (opened to after.log) → self ≡ after → at ≡ to → Wrote env store cmp engine from old items sync (record self { recent = inserted }) at done
+      done_with_sync after to rest_after same_mode flushed self_is at_is = subst (λ (e : E). Wrote env store cmp engine from old items sync (record self { recent = inserted }) e done) (sym at_is)
+          (subst (λ (m : Engine E C FP F). Wrote env store cmp engine from old items sync (record m { recent = inserted }) to done) (sym self_is)
+          (from_prepared done (record after { recent = inserted }) to
+          (done_synced env tells store prepared from old now open_now items bytes next_now middle mid rest mode count adds cmp sync after to rest_after same_mode flushed inserted
+          (inserts_now (ap (λ (m : Engine E C FP F). m.recent) self_is ∙ ap (λ (m : Engine E C FP F). m.recent) rest_after ∙ ap (λ (m : Engine E C FP F). m.recent) rest)) below_now)))
+
+-- the last number is the engine's, before the insertion
+pub last_plain : {E C FP F : Type 0} (engine : Engine E C FP F) (recent : Numbered) → recent.last ≡ engine.recent.last → (middle self : Engine E C FP F)
+    → middle ≡ record engine { recent = recent; log = middle.log; writer = middle.writer; mode = middle.mode } → self ≡ middle → self.recent.last ≡ engine.recent.last
+last_plain engine recent last middle self rest self_is = ap (λ m. m.recent.last) self_is ∙ ap (λ m. m.recent.last) rest ∙ last
+
+pub last_synced : {E C FP F : Type 0} (engine : Engine E C FP F) (recent : Numbered) → recent.last ≡ engine.recent.last → (middle after self : Engine E C FP F)
+    → middle ≡ record engine { recent = recent; log = middle.log; writer = middle.writer; mode = middle.mode } → after ≡ record middle { log = after.log; writer = after.writer; mode = after.mode } → self ≡ after
+    → self.recent.last ≡ engine.recent.last
+last_synced engine recent last middle after self rest rest_after self_is = ap (λ m. m.recent.last) self_is ∙ ap (λ m. m.recent.last) rest_after ∙ ap (λ m. m.recent.last) rest ∙ last

@@ -1,0 +1,81 @@
+-- A write at each of its exits: no number is left, no memory, a refused append, a refused sync, and done with a sync or without.
+use Rattle.std.proofs.Common.{◌≡◌, ◌+◌, ◌∙◌, ap}
+use Rattle.std.proofs.lemmas.Result.{err_from_is_err_and}
+use Rattle.leveldb_mem.specs.Batch.{batch_of}
+use Rattle.rusty_leveldb.proofs.Writes.Kept.{prepared_was, used_up_goes, memory_goes}
+use Rattle.rusty_leveldb.proofs.Writes.Append.{IsNext}
+use Rattle.rusty_leveldb.proofs.Writes.Causes.{append_cause, append_counted, still_sound, sync_cause, sync_counted, done_cause}
+use Rattle.rusty_leveldb.proofs.Writes.Write.{batch_behind, is_next, follows, refused_append, refused_sync, done_plain, done_with_sync, last_plain, last_synced}
+use Rattle.rusty_leveldb.proofs.db_impl.engine.Engine.write.Goals as goal
+use Rattle.rusty_leveldb.proofs.db_impl.engine.Engine.write.Goals.{then-sync+in_ok-sync, else-sync}
+
+pub returns-in_err-first-clause-step : goal.returns-in_err-first-clause-step
+returns-in_err-first-clause-step g c tells store old was =
+    let p = err_from_is_err_and c.from_residual-in_err-first.result c.from_residual-in_err-first.ensures.1 in
+    rw (p.1, p.2) (used_up_goes g.E.Env store c.args.self.now c.args.env.now old was (g.C.Cmp.cmp c.args.self.now.options.cmp) c.in_ok-check_open.ensures.ok.0 c.args.batch.items c.args.sync c.in_err-first.field-0.0 c.count.result c.count.ensures
+    c.in_err-first.ensures.cause.0 c.in_err-first.ensures.cause.1)
+
+pub returns-in_err-prepare-clause-step : goal.returns-in_err-prepare-clause-step
+returns-in_err-prepare-clause-step g c tells store old was =
+    let p = err_from_is_err_and c.from_residual-in_err-prepare.result c.from_residual-in_err-prepare.ensures.1 in
+    rw (p.1, p.2) (memory_goes g.E.Env store c.args.self.now c.args.env.now old was (g.C.Cmp.cmp c.args.self.now.options.cmp) c.in_ok-check_open.ensures.ok.0 c.args.batch.items c.args.sync c.in_err-prepare.field-0.0
+    (record c.args.self.now { recent = c.prepare.new.self }) (prepared_was g.E.Env store c.args.self.now c.args.env.now old was c.prepare.new.self c.prepare.ensures.entries c.prepare.ensures.last) c.in_err-prepare.ensures.memory)
+
+pub returns-in_err-append-clause-step : goal.returns-in_err-append-clause-step
+returns-in_err-append-clause-step g c tells store old was =
+    let next : IsNext c.args.self.now.recent.last c.args.batch.items c.contents.result.now = is_next c.args.self.now.recent.last c.in_ok-first.first c.count.result c.args.batch.items c.set_sequence.new.self c.contents.result.now c.in_ok-first.ensures.ok.0 c.in_ok-first.ensures.ok.1 c.in_ok-first.ensures.ok.2 c.count.ensures c.set_sequence.ensures c.contents.ensures c.append.ensures.bytes in
+    let p = err_from_is_err_and c.from_residual-in_err-append.result c.from_residual-in_err-append.ensures.1 in
+    rw (p.1, p.2) (refused_append g.E.Env tells store (g.C.Cmp.cmp c.args.self.now.options.cmp) c.args.self.now c.args.env.now old was c.in_ok-check_open.ensures.ok.0 c.prepare.new.self c.prepare.ensures.entries c.prepare.ensures.last c.args.batch.items c.args.sync c.contents.result.now next c.append.new.self c.append.new.env c.in_err-append.field-0.0
+    c.append.ensures.rest c.append.ensures.mode (c.in_err-append.ensures.err c.in_ok-check_open.ensures.ok.1))
+
+pub returns-in_err-append-clause-cause : goal.returns-in_err-append-clause-cause
+returns-in_err-append-clause-cause g c =
+    let next : IsNext c.args.self.now.recent.last c.args.batch.items c.contents.result.now = is_next c.args.self.now.recent.last c.in_ok-first.first c.count.result c.args.batch.items c.set_sequence.new.self c.contents.result.now c.in_ok-first.ensures.ok.0 c.in_ok-first.ensures.ok.1 c.in_ok-first.ensures.ok.2 c.count.ensures c.set_sequence.ensures c.contents.ensures c.append.ensures.bytes in
+    let p = err_from_is_err_and c.from_residual-in_err-append.result c.from_residual-in_err-append.ensures.1 in
+    rw (p.1, p.2) (append_cause g.E.Env c.args.self.now c.args.env.now c.in_ok-check_open.ensures.ok.0 c.in_ok-check_open.ensures.ok.1 c.args.batch.items c.contents.result.now next c.in_err-append.field-0.0
+    c.append.new.self.writer c.append.new.self.log c.append.new.env (c.in_err-append.ensures.err c.in_ok-check_open.ensures.ok.1))
+
+pub returns-in_err-sync-clause-step : goal.returns-in_err-sync-clause-step
+returns-in_err-sync-clause-step g c tells store old was =
+    let next : IsNext c.args.self.now.recent.last c.args.batch.items c.contents.result.now = is_next c.args.self.now.recent.last c.in_ok-first.first c.count.result c.args.batch.items c.set_sequence.new.self c.contents.result.now c.in_ok-first.ensures.ok.0 c.in_ok-first.ensures.ok.1 c.in_ok-first.ensures.ok.2 c.count.ensures c.set_sequence.ensures c.contents.ensures c.append.ensures.bytes in
+    let p = err_from_is_err_and c.from_residual-in_err-sync.result c.from_residual-in_err-sync.ensures.1 in
+    rw (p.1, p.2) (refused_sync g.E.Env tells store (g.C.Cmp.cmp c.args.self.now.options.cmp) c.args.self.now c.args.env.now old was c.in_ok-check_open.ensures.ok.0 c.prepare.new.self c.prepare.ensures.entries c.prepare.ensures.last c.args.batch.items c.args.sync c.contents.result.now next c.append.new.self c.append.new.env c.append.ensures.rest c.append.ensures.mode c.in_ok-append.ensures.ok.0 c.in_ok-append.ensures.ok.1
+    c.sync.new.self c.sync.new.env c.in_err-sync.field-0.0 c.sync.ensures.rest c.in_err-sync.ensures.mode_err
+    (c.in_err-sync.ensures.synced (still_sound g.E.Env c.args.self.now c.args.env.now c.in_ok-check_open.ensures.ok.0 c.in_ok-check_open.ensures.ok.1 c.args.batch.items c.contents.result.now next c.append.new.self.writer c.append.new.self.log c.append.new.env c.in_ok-append.ensures.ok.0 c.in_ok-append.ensures.ok.1)))
+
+pub returns-in_err-sync-clause-cause : goal.returns-in_err-sync-clause-cause
+returns-in_err-sync-clause-cause g c =
+    let next : IsNext c.args.self.now.recent.last c.args.batch.items c.contents.result.now = is_next c.args.self.now.recent.last c.in_ok-first.first c.count.result c.args.batch.items c.set_sequence.new.self c.contents.result.now c.in_ok-first.ensures.ok.0 c.in_ok-first.ensures.ok.1 c.in_ok-first.ensures.ok.2 c.count.ensures c.set_sequence.ensures c.contents.ensures c.append.ensures.bytes in
+    let p = err_from_is_err_and c.from_residual-in_err-sync.result c.from_residual-in_err-sync.ensures.1 in
+    rw (p.1, p.2) (sync_cause g.E.Env c.args.self.now c.args.env.now c.in_ok-check_open.ensures.ok.0 c.in_ok-check_open.ensures.ok.1 c.args.batch.items c.contents.result.now next c.append.new.self.writer c.append.new.self.log c.append.new.env c.in_ok-append.ensures.ok.0 c.in_ok-append.ensures.ok.1 c.in_err-sync.field-0.0
+    c.sync.new.self.writer c.sync.new.self.log c.sync.new.env
+    (c.in_err-sync.ensures.synced (still_sound g.E.Env c.args.self.now c.args.env.now c.in_ok-check_open.ensures.ok.0 c.in_ok-check_open.ensures.ok.1 c.args.batch.items c.contents.result.now next c.append.new.self.writer c.append.new.self.log c.append.new.env c.in_ok-append.ensures.ok.0 c.in_ok-append.ensures.ok.1)))
+
+pub insert-requires-clause-follows : goal.insert-requires-clause-follows
+insert-requires-clause-follows g c =
+    let next : IsNext c.args.self.now.recent.last c.args.batch.items c.contents.result.now = is_next c.args.self.now.recent.last c.in_ok-first.first c.count.result c.args.batch.items c.set_sequence.new.self c.contents.result.now c.in_ok-first.ensures.ok.0 c.in_ok-first.ensures.ok.1 c.in_ok-first.ensures.ok.2 c.count.ensures c.set_sequence.ensures c.contents.ensures c.append.ensures.bytes in
+    let batch_is : c.set_sequence.new.self ≡ batch_of (c.args.self.now.recent.last + 1) c.args.batch.items = batch_behind c.args.self.now.recent.last c.in_ok-first.first c.args.batch.items c.set_sequence.new.self c.in_ok-first.ensures.ok.0 c.set_sequence.ensures in
+    elim c.if-sync.branch [
+      | then-sync+in_ok-sync w ↦ follows c.args.self.now.recent.last c.if-sync.self.recent.last c.args.batch.items c.set_sequence.new.self c.contents.result.now next batch_is (last_synced c.args.self.now c.prepare.new.self c.prepare.ensures.last c.append.new.self w.sync.new.self c.if-sync.self c.append.ensures.rest w.sync.ensures.rest w.self-is)
+      | else-sync w ↦ follows c.args.self.now.recent.last c.if-sync.self.recent.last c.args.batch.items c.set_sequence.new.self c.contents.result.now next batch_is (last_plain c.args.self.now c.prepare.new.self c.prepare.ensures.last c.append.new.self c.if-sync.self c.append.ensures.rest w.self-is)
+    ]
+
+pub returns-clause-step : goal.returns-clause-step
+returns-clause-step g c tells store old was =
+    let next : IsNext c.args.self.now.recent.last c.args.batch.items c.contents.result.now = is_next c.args.self.now.recent.last c.in_ok-first.first c.count.result c.args.batch.items c.set_sequence.new.self c.contents.result.now c.in_ok-first.ensures.ok.0 c.in_ok-first.ensures.ok.1 c.in_ok-first.ensures.ok.2 c.count.ensures c.set_sequence.ensures c.contents.ensures c.append.ensures.bytes in
+    let batch_is : c.set_sequence.new.self ≡ batch_of (c.args.self.now.recent.last + 1) c.args.batch.items = batch_behind c.args.self.now.recent.last c.in_ok-first.first c.args.batch.items c.set_sequence.new.self c.in_ok-first.ensures.ok.0 c.set_sequence.ensures in
+    elim c.if-sync.branch [
+      | then-sync+in_ok-sync w ↦ done_with_sync g.E.Env tells store (g.C.Cmp.cmp c.args.self.now.options.cmp) c.args.self.now c.args.env.now old was c.in_ok-check_open.ensures.ok.0 c.prepare.new.self c.prepare.ensures.entries c.prepare.ensures.last c.args.batch.items c.args.sync c.contents.result.now next c.append.new.self c.append.new.env c.append.ensures.rest c.append.ensures.mode c.in_ok-append.ensures.ok.0 c.in_ok-append.ensures.ok.1 c.set_sequence.new.self batch_is c.next.ensures.numbered c.insert.new.self c.if-sync.self c.insert.ensures c.if-sync.env
+          w.sync.new.self w.sync.new.env w.sync.ensures.rest w.in_ok-sync.ensures.mode_ok
+          (w.in_ok-sync.ensures.synced (still_sound g.E.Env c.args.self.now c.args.env.now c.in_ok-check_open.ensures.ok.0 c.in_ok-check_open.ensures.ok.1 c.args.batch.items c.contents.result.now next c.append.new.self.writer c.append.new.self.log c.append.new.env c.in_ok-append.ensures.ok.0 c.in_ok-append.ensures.ok.1)) w.self-is w.env-is
+      | else-sync w ↦ done_plain g.E.Env tells store (g.C.Cmp.cmp c.args.self.now.options.cmp) c.args.self.now c.args.env.now old was c.in_ok-check_open.ensures.ok.0 c.prepare.new.self c.prepare.ensures.entries c.prepare.ensures.last c.args.batch.items c.args.sync c.contents.result.now next c.append.new.self c.append.new.env c.append.ensures.rest c.append.ensures.mode c.in_ok-append.ensures.ok.0 c.in_ok-append.ensures.ok.1 c.set_sequence.new.self batch_is c.next.ensures.numbered c.insert.new.self c.if-sync.self c.insert.ensures c.if-sync.env w.if-sync.false w.self-is w.env-is
+    ]
+
+pub returns-clause-cause : goal.returns-clause-cause
+returns-clause-cause g c =
+    let next : IsNext c.args.self.now.recent.last c.args.batch.items c.contents.result.now = is_next c.args.self.now.recent.last c.in_ok-first.first c.count.result c.args.batch.items c.set_sequence.new.self c.contents.result.now c.in_ok-first.ensures.ok.0 c.in_ok-first.ensures.ok.1 c.in_ok-first.ensures.ok.2 c.count.ensures c.set_sequence.ensures c.contents.ensures c.append.ensures.bytes in
+    elim c.if-sync.branch [
+      | then-sync+in_ok-sync w ↦ done_cause g.E.Env c.args.self.now c.args.env.now c.in_ok-check_open.ensures.ok.0 c.in_ok-check_open.ensures.ok.1 c.args.batch.items c.contents.result.now next c.if-sync.env (ap g.E.Env.failures w.env-is ∙ sync_counted g.E.Env c.args.self.now c.args.env.now c.in_ok-check_open.ensures.ok.0 c.in_ok-check_open.ensures.ok.1 c.args.batch.items c.contents.result.now next c.append.new.self.writer c.append.new.self.log c.append.new.env c.in_ok-append.ensures.ok.0 c.in_ok-append.ensures.ok.1
+          w.sync.new.self.writer w.sync.new.self.log w.sync.new.env (w.in_ok-sync.ensures.synced (still_sound g.E.Env c.args.self.now c.args.env.now c.in_ok-check_open.ensures.ok.0 c.in_ok-check_open.ensures.ok.1 c.args.batch.items c.contents.result.now next c.append.new.self.writer c.append.new.self.log c.append.new.env c.in_ok-append.ensures.ok.0 c.in_ok-append.ensures.ok.1)))
+      | else-sync w ↦ done_cause g.E.Env c.args.self.now c.args.env.now c.in_ok-check_open.ensures.ok.0 c.in_ok-check_open.ensures.ok.1 c.args.batch.items c.contents.result.now next c.if-sync.env (ap g.E.Env.failures w.env-is ∙ append_counted g.E.Env c.args.self.now c.args.env.now c.in_ok-check_open.ensures.ok.0 c.in_ok-check_open.ensures.ok.1 c.args.batch.items c.contents.result.now next c.append.new.self.writer c.append.new.self.log c.append.new.env c.in_ok-append.ensures.ok.0 c.in_ok-append.ensures.ok.1)
+    ]

@@ -1,0 +1,54 @@
+use Rattle.std.proofs.Common.{◌∙◌, ap}
+use Rattle.std.specs.Prelude.{map, if◌then◌else◌}
+use Rattle.std.proofs.lemmas.Result.{err_from_is_err_and}
+use Rattle.leveldb_mem.specs.Log.{clean, bad}
+use Rattle.rusty_leveldb.specs.OneLog.{log_path}
+use Rattle.rusty_leveldb.proofs.Openings.Calls.{mend_spares, open_spares, open_recovers, read_refused, replay_refused}
+use Rattle.rusty_leveldb.proofs.db_impl.open.recover.Goals as goal
+
+pub returns-in_err-read-clause-cause : goal.returns-in_err-read-clause-cause
+returns-in_err-read-clause-cause g c =
+    let p = err_from_is_err_and c.from_residual-in_err-read.result c.from_residual-in_err-read.ensures.1 in
+    rw (p.1, p.2) (read_refused g.E.Env.tells_disk c.args.create_if_missing (g.E.Env.tells c.args.env.now).disk.files c.as_str-log_name.result.now (log_path c.args.name.now)
+    (c.as_str-log_name.ensures.value ∙ c.in_ok-full_name.ensures.ok) c.in_err-read.ensures.cause)
+
+pub returns-in_err-recent-clause-cause : goal.returns-in_err-recent-clause-cause
+returns-in_err-recent-clause-cause g c =
+    let p = err_from_is_err_and c.from_residual-in_err-recent.result c.from_residual-in_err-recent.ensures.1 in
+    rw (p.1, p.2) (replay_refused g.E.Env.tells_disk c.args.create_if_missing (g.E.Env.tells c.args.env.now).disk.files c.as_str-log_name.result.now (log_path c.args.name.now)
+    (map (λ v. v.items) c.in_ok-read.read.items) (map (λ v. v.items) c.as_slice-records.result.now) (if c.in_ok-read.is_clean then clean else bad)
+    (c.as_str-log_name.ensures.value ∙ c.in_ok-full_name.ensures.ok) c.in_ok-read.ensures.cause.ok (ap (map (λ v. v.items)) c.as_slice-records.ensures.value) c.in_ok-read.ensures.log c.in_err-recent.ensures.cause)
+
+pub mend-requires : goal.mend-requires
+mend-requires g c = c.as_str-log_name.ensures.value ∙ c.in_ok-full_name.ensures.ok
+
+pub returns-in_err-mend-clause-spares : goal.returns-in_err-mend-clause-spares
+returns-in_err-mend-clause-spares g c = λ tells.
+    mend_spares c.args.create_if_missing (g.E.Env.tells c.args.env.now).disk.files (g.E.Env.tells c.read_log.new.env).disk.files (g.E.Env.tells c.mend.new.env).disk.files (g.E.Env.tells c.mend.new.env).disk.files
+    c.as_str-log_name.result.now (log_path c.args.name.now) (map (λ v. v.items) c.in_ok-read.read.items) (map (λ v. v.items) c.as_slice-records.result.now) c.in_ok-read.is_clean
+    (c.as_str-log_name.ensures.value ∙ c.in_ok-full_name.ensures.ok) (c.in_ok-read.ensures.still tells) (ap (map (λ v. v.items)) c.as_slice-records.ensures.value) (c.in_ok-read.ensures.log tells) c.in_ok-recent.ensures.ok.read
+    (c.mend.ensures.either tells)
+
+pub returns-in_err-log-clause-spares : goal.returns-in_err-log-clause-spares
+returns-in_err-log-clause-spares g c = λ tells.
+    open_spares c.args.create_if_missing (g.E.Env.tells c.args.env.now).disk.files (g.E.Env.tells c.read_log.new.env).disk.files (g.E.Env.tells c.mend.new.env).disk.files (g.E.Env.tells c.open_log.new.env).disk.files
+    c.as_str-log_name.result.now (log_path c.args.name.now) (map (λ v. v.items) c.in_ok-read.read.items) (map (λ v. v.items) c.as_slice-records.result.now) c.in_ok-read.is_clean
+    (c.as_str-log_name.ensures.value ∙ c.in_ok-full_name.ensures.ok) (c.in_ok-read.ensures.still tells) (ap (map (λ v. v.items)) c.as_slice-records.ensures.value) (c.in_ok-read.ensures.log tells) c.in_ok-recent.ensures.ok.read
+    (c.in_ok-mend.ensures.ok tells) (c.open_log.ensures.either tells)
+
+pub returns-clause-spares : goal.returns-clause-spares
+returns-clause-spares g c = λ tells.
+    open_spares c.args.create_if_missing (g.E.Env.tells c.args.env.now).disk.files (g.E.Env.tells c.read_log.new.env).disk.files (g.E.Env.tells c.mend.new.env).disk.files (g.E.Env.tells c.open_log.new.env).disk.files
+    c.as_str-log_name.result.now (log_path c.args.name.now) (map (λ v. v.items) c.in_ok-read.read.items) (map (λ v. v.items) c.as_slice-records.result.now) c.in_ok-read.is_clean
+    (c.as_str-log_name.ensures.value ∙ c.in_ok-full_name.ensures.ok) (c.in_ok-read.ensures.still tells) (ap (map (λ v. v.items)) c.as_slice-records.ensures.value) (c.in_ok-read.ensures.log tells) c.in_ok-recent.ensures.ok.read
+    (c.in_ok-mend.ensures.ok tells) (c.open_log.ensures.either tells)
+
+pub returns-clause-ok : goal.returns-clause-ok
+returns-clause-ok g c = λ tells.
+    open_recovers c.args.create_if_missing (g.E.Env.tells c.args.env.now).disk.files (g.E.Env.tells c.read_log.new.env).disk.files (g.E.Env.tells c.mend.new.env).disk.files (g.E.Env.tells c.open_log.new.env).disk.files
+    c.as_str-log_name.result.now (log_path c.args.name.now) (map (λ v. v.items) c.in_ok-read.read.items) (map (λ v. v.items) c.as_slice-records.result.now) c.in_ok-read.is_clean
+    (c.as_str-log_name.ensures.value ∙ c.in_ok-full_name.ensures.ok) (c.in_ok-read.ensures.still tells) (ap (map (λ v. v.items)) c.as_slice-records.ensures.value) (c.in_ok-read.ensures.log tells) c.in_ok-recent.ensures.ok.read
+    c.in_ok-log.size c.new_with_off.result c.in_ok-recent.recent (c.in_ok-mend.ensures.ok tells) (c.in_ok-log.ensures.there tells) (c.in_ok-log.ensures.size tells) c.new_with_off.ensures c.in_ok-recent.ensures.ok
+
+pub returns-clause-log : goal.returns-clause-log
+returns-clause-log g c = λ tells. c.in_ok-log.ensures.name tells ∙ c.as_str-log_name.ensures.value ∙ c.in_ok-full_name.ensures.ok

@@ -1,0 +1,68 @@
+use Rattle.std.proofs.Common.{rules, ◌≡◌, ◌++◌, ◌∷◌, [], length, take, drop, refl, ◌∙◌, ap, arith, append_assoc, length-append}
+use Rattle.std.proofs.Math.Seq.{drop-length, drop-append_seam}
+use Rattle.std.proofs.lemmas.List.{take_all}
+use Rattle.std.proofs.lemmas.Result.{err_from_is_err_and}
+use Rattle.rusty_leveldb.proofs.Playing.{in_order, play_first, play_more, play_end, not_opened, commands_up_to}
+use Rattle.rusty_leveldb.proofs.shell.runs.run.Goals as goal
+
+pub returns-in_err-engine-clause-plays : goal.returns-in_err-engine-clause-plays
+returns-in_err-engine-clause-plays g c =
+    let failed = err_from_is_err_and c.from_residual-in_err-engine.result c.from_residual-in_err-engine.ensures.1 in
+    let none : drop (length c.args.replies.now.items) c.reserve.new.self.items ≡ [] = rw c.reserve.ensures.items (drop-length c.args.replies.now.items) in
+    rw failed.1 (not_opened g.row.C.Denot g.row.FP.Denot g.E.Env (g.C.Cmp.cmp c.args.opt.cmp) c.args.name.now c.args.env.now c.open.new.env c.args.opt.create_if_missing c.args.commands.now
+    (drop (length c.args.replies.now.items) c.reserve.new.self.items) failed.0 none (rw failed.2 c.in_err-engine.ensures.step))
+
+pub loop-command-init : goal.loop-command-init
+loop-command-init g c = (
+  search rules,
+  search rules,
+  search rules,
+  [],
+  search rules,
+  refl,
+  play_first g.row.C.Denot g.row.FP.Denot g.E.Env (g.C.Cmp.cmp c.args.opt.cmp) c.args.name.now c.args.env.now c.open.new.env c.args.opt.create_if_missing c.in_ok-engine.engine c.in_ok-engine.ensures.step,
+)
+
+pub unwrap-requires : goal.unwrap-requires
+unwrap-requires g c = search rules
+
+pub loop-command-preserved : goal.loop-command-preserved
+loop-command-preserved g c =
+    let so_far = c.loop-command.invariant in
+    let command = c.command-item.result in
+    let reply = c.answer.result in
+    let pushed : c.push.new.self.items ≡ c.loop-command.replies.items ++ reply ∷ [] = search rules in
+    let same : g.C.Cmp.cmp c.loop-command.engine.options.cmp ≡ g.C.Cmp.cmp c.args.opt.cmp = rw so_far.0 refl in
+    let step = in_order same c.answer.ensures.step in
+    let more = play_more g.row.C.Denot g.row.FP.Denot g.E.Env (g.C.Cmp.cmp c.args.opt.cmp) c.args.name.now c.args.env.now c.loop-command.env c.answer.new.env c.args.opt.create_if_missing
+    (take c.loop-command.command-index c.args.commands.now) so_far.3 c.loop-command.engine c.answer.new.engine command reply so_far.6 step in
+    let behind = commands_up_to c.args.commands.now c.loop-command.command-index command c.loop-command-test.true c.command-item.is in (
+      search rules,
+      search rules,
+      search rules,
+      so_far.3 ++ reply ∷ [],
+      pushed ∙ ap (λ items. items ++ reply ∷ []) so_far.4 ∙ append_assoc c.args.replies.now.items so_far.3 (reply ∷ []),
+      omega (arith, length-append so_far.3 (reply ∷ []), so_far.5),
+      rw behind more,
+    )
+
+pub returns-clause-plays : goal.returns-clause-plays
+returns-clause-plays g c =
+    let so_far = c.loop-command.invariant in
+    let given : drop (length c.args.replies.now.items) c.loop-command.replies.items ≡ so_far.3 = rw so_far.4 (drop-append_seam c.args.replies.now.items so_far.3) in
+    let all : take c.loop-command.command-index c.args.commands.now ≡ c.args.commands.now = take_all c.loop-command.command-index c.args.commands.now c.loop-command-test.false in
+    let same : g.C.Cmp.cmp c.loop-command.engine.options.cmp ≡ g.C.Cmp.cmp c.args.opt.cmp = rw so_far.0 refl in
+    let step = in_order same c.abandon.ensures.step in
+    rw given (play_end g.row.C.Denot g.row.FP.Denot g.E.Env (g.C.Cmp.cmp c.args.opt.cmp) c.args.name.now c.args.env.now c.loop-command.env c.abandon.new.env c.args.opt.create_if_missing
+    c.args.commands.now so_far.3 c.loop-command.engine c.abandon.result (rw all at so_far.6) step)
+
+pub returns-clause-behind : goal.returns-clause-behind
+returns-clause-behind g c =
+    let so_far = c.loop-command.invariant in
+    (so_far.3, so_far.4, search rules)
+
+pub returns-clause-later : goal.returns-clause-later
+returns-clause-later g c = search rules
+
+pub returns-clause-cause : goal.returns-clause-cause
+returns-clause-cause g c = search rules

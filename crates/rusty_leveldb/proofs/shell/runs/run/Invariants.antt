@@ -1,0 +1,11 @@
+use Rattle.std.proofs.Common.{◌≡◌, ◌≤◌, ◌++◌, ◌+◌, ◌-◌, List, length, take, vec_len, vec_capacity}
+use Rattle.rusty_leveldb.specs.declared.shell.commands.Reply.{Reply}
+use Rattle.rusty_leveldb.proofs.Playing.{PlaysSoFar}
+use Rattle.rusty_leveldb.proofs.shell.runs.run.Given as goal
+
+abbrev pub invariant-loop-command : goal.invariant-loop-command
+invariant-loop-command g l =
+    (l.engine.options ≡ l.fn.opt) × (g.E.Env.failures l.fn.env ≤ g.E.Env.failures l.env)
+    × (vec_len l.replies + (length l.commands - l.command-index) ≤ vec_capacity l.replies)
+    × (given : List Reply) × (l.replies.items ≡ l.fn.replies.items ++ given) × (length given ≡ l.command-index)
+    × PlaysSoFar g.row.C.Denot g.row.FP.Denot g.E.Env (g.C.Cmp.cmp l.fn.opt.cmp) l.name l.fn.env l.fn.opt.create_if_missing (take l.command-index l.commands) given l.engine l.env

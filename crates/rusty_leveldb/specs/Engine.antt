@@ -1,0 +1,130 @@
+-- What the engine of a store that is one log has in memory, what that has to do with the disk, and what its calls answer.
+use Rattle.std.specs.Prelude.{◌≡◌, ◌≢◌, ◌≤◌, ◌%◌, ◌⊎◌, ◌↔◌, ℕ, Bool, true, false, List, [], ◌∷◌, ◌++◌, length, Option, Some, None, IsTrue, string_bytes}
+use Rattle.std.specs.declared.cmp.Ordering.{Ordering}
+use Rattle.leveldb_base.specs.declared.error.Status.{Status}
+use Rattle.leveldb_base.specs.declared.error.StatusCode.TheVariants.{InvalidArgument, NotSupported, Corruption, LockError}
+use Rattle.leveldb_base.specs.History.{Item, entries_of, greatest}
+use Rattle.leveldb_base.specs.View.{SameView}
+use Rattle.leveldb_env.specs.declared.env.Env.{Ghosts}
+use Rattle.leveldb_env.specs.Disk.{File, Disk, bytes_of, AreBytes}
+use Rattle.leveldb_env.specs.Times.{Told}
+use Rattle.leveldb_env.specs.Calls.{NoMemory, IsGone}
+use Rattle.leveldb_mem.specs.Log.{log_block_size, clean, IsLogFile}
+use Rattle.leveldb_mem.specs.Writing.{Writing, IsBroken}
+use Rattle.rusty_leveldb.specs.declared.db_impl.engine.Mode.{Mode}
+use Rattle.rusty_leveldb.specs.declared.db_impl.engine.Mode.TheVariants.{Open, Broken, Closed}
+use Rattle.rusty_leveldb.specs.declared.db_impl.engine.Engine.{Engine}
+use Rattle.rusty_leveldb.specs.Names.{lock_path}
+use Rattle.rusty_leveldb.specs.OneLog.{log_path}
+use Rattle.rusty_leveldb.specs.Recent.{AreUsedUp}
+use Rattle.rusty_leveldb.specs.State as machine
+use Rattle.rusty_leveldb.specs.State.{State, Opening, Request, Answer, open_mode, closed}
+use Rattle.rusty_leveldb.specs.Causes.{IsLongKey, IsLongBatch}
+use Rattle.rusty_leveldb.specs.Serves.{Reads, Serves, Scene, IsUnreadable}
+
+-- the store is closed: every call is refused
+abbrev pub IsShut : Mode → Type 0
+IsShut mode = mode ≡ Closed
+
+-- it broke, or the writer of its log did: every call that writes is refused
+abbrev pub IsStuck : Mode → Writing → Type 0
+IsStuck mode writer = (mode ≡ Broken) ⊎ IsTrue writer.broken
+
+-- the machine's mode
+abbrev pub mode_of : Mode → machine.Mode
+mode_of Open = machine.open_mode
+mode_of Broken = machine.broken
+mode_of Closed = machine.closed
+
+module _ {E C FP F : Type 0} (env : Ghosts E F) (store : List ℕ) where
+  -- the log ends cleanly, and the engine's writer stands at its end
+  pub record WritesOn (engine : Engine E C FP F) (disk : Disk) : Type 0 where
+    pub file : File
+    pub there : disk.files (log_path store) ≡ Some file
+    pub since : AreBytes file.since
+    pub records : List (List ℕ)
+    pub ends : IsLogFile (bytes_of file) records clean
+    pub name : env.name_of engine.log ≡ log_path store
+    pub writer : engine.writer ≡ record { size = log_block_size; place = length (bytes_of file) % log_block_size; broken = false }
+
+  -- memory shows what the history shows, from its end on
+  pub record Remembers (engine : Engine E C FP F) (state : State) : Type 0 where
+    pub last : engine.recent.last ≡ state.last
+    pub same : (t : ℕ) → greatest (entries_of state.history) ≤ t → SameView engine.recent.kept.entries (entries_of state.history) t
+
+  -- what the engine's memory has to do with the disk and the state
+  pub record Recalls (engine : Engine E C FP F) (disk : Disk) (state : State) : Type 0 where
+    pub mode : mode_of engine.mode ≡ state.mode
+    pub lock : string_bytes engine.lock ≡ lock_path store
+    pub shows : (state.mode ≡ closed → ⊥) → Remembers engine state
+    pub writes : state.mode ≡ open_mode → WritesOn engine disk
+
+-- ---- what the calls answer
+
+module _ {E C FP F : Type 0} (env : Ghosts E F) (cmp : List ℕ → List ℕ → Ordering) where
+  -- what stands around a call
+  abbrev pub scene : Option (Engine E C FP F) → E → Scene (Engine E C FP F)
+  scene memory at = (memory, env.tells at, env.failures at)
+
+  -- where the disk is told, the call is a step of the machine, for the store under this name
+  abbrev pub AnswersAs : List ℕ → Option (Engine E C FP F) → E → Request → Answer → Option (Engine E C FP F) → E → Type 0
+  AnswersAs store before from request answer after to = IsTrue env.tells_disk → Serves store (Reads store) (Recalls env store) cmp (scene before from) request answer (scene after to)
+
+  -- the same, whatever store engine and disk stand for
+  abbrev pub Answers : Option (Engine E C FP F) → E → Request → Answer → Option (Engine E C FP F) → E → Type 0
+  Answers before from request answer after to = IsTrue env.tells_disk → (store : List ℕ)
+      → Serves store (Reads store) (Recalls env store) cmp (scene before from) request answer (scene after to)
+
+  -- the same of a call that leaves engine and environment as they are
+  abbrev pub AnswersStill : Engine E C FP F → Request → Answer → Type 0
+  AnswersStill engine request answer = (at : E) → Answers (Some engine) at request answer (Some engine) at
+
+-- ---- why a call may be refused with no failure of the device
+
+-- the store is closed
+abbrev pub ShutOut : Mode → Status → Type 0
+ShutOut mode e = IsShut mode × (e.code ≡ InvalidArgument)
+
+-- the store broke earlier
+abbrev pub ShutDown : Mode → Writing → Status → Type 0
+ShutDown mode writer e = IsStuck mode writer × IsBroken e
+
+module _ {E C FP F : Type 0} (env : Ghosts E F) where
+  -- an append to the log and a sync of it: for want of memory, or where a told disk has lost the log's name
+  abbrev pub LogExcused : Engine E C FP F → E → Status → Type 0
+  LogExcused engine at e = IsGone env.tells_disk (env.name_of engine.log) (env.tells at) e
+
+  abbrev pub WriteExcused : Engine E C FP F → E → List Item → Status → Type 0
+  WriteExcused engine at items e = ShutOut engine.mode e ⊎ ShutDown engine.mode engine.writer e
+      ⊎ ((e.code ≡ InvalidArgument) × IsLongBatch items) ⊎ ((e.code ≡ NotSupported) × AreUsedUp engine.recent.last (length items)) ⊎ LogExcused engine at e
+
+  abbrev pub SyncExcused : Engine E C FP F → E → Status → Type 0
+  SyncExcused engine at e = ShutOut engine.mode e ⊎ ShutDown engine.mode engine.writer e ⊎ LogExcused engine at e
+
+  -- as a sync, where nothing was counted: giving back the lock may be refused with the same code, and that is counted
+  abbrev pub CloseExcused : Engine E C FP F → E → E → Status → Type 0
+  CloseExcused engine at now e = SyncExcused engine at e × (env.failures now ≡ env.failures at)
+
+abbrev pub GetExcused : Mode → List ℕ → Status → Type 0
+GetExcused mode key e = ShutOut mode e ⊎ ((e.code ≡ InvalidArgument) × IsLongKey key) ⊎ NoMemory e
+
+-- ---- opening
+
+-- the name is not empty and doesn't end in a slash
+abbrev pub IsStoreName : List ℕ → Type 0
+IsStoreName name = (name ≢ []) × ((front : List ℕ) → name ≡ front ++ 47 ∷ [] → ⊥)
+
+-- the request that an opening is; a store that is one log keeps no comparator's name, so any will do
+pub record IsOpening (name : List ℕ) (create_if_missing : Bool) (opening : Opening) : Type 0 where
+  pub create : opening.create_if_missing ≡ create_if_missing
+  pub exists : opening.error_if_exists ≡ false
+  pub fits : IsTrue opening.fits ↔ IsStoreName name
+  pub compresses : opening.compresses ≡ true
+
+-- why an opening may be refused with no failure of the device: damage, where nothing can be read of the files
+abbrev pub OpenExcused : Bool → List ℕ → Bool → Told → Status → Type 0
+OpenExcused tells_disk name create_if_missing told e = NoMemory e
+    ⊎ ((e.code ≡ InvalidArgument) × (IsStoreName name → ⊥))
+    ⊎ ((e.code ≡ InvalidArgument) × (create_if_missing ≡ false) × (IsTrue tells_disk → told.disk.files (log_path name) ≡ None))
+    ⊎ ((e.code ≡ LockError) × (IsTrue tells_disk → told.disk.locked (lock_path name) ≡ true))
+    ⊎ ((e.code ≡ Corruption) × (IsTrue tells_disk → IsUnreadable (Reads name) told.disk.files))

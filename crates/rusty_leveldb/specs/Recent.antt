@@ -1,0 +1,36 @@
+-- The entries that a store has in memory, and the number of the last.
+use Rattle.std.specs.Prelude.{◌≡◌, ◌≤◌, ◌<◌, ◌+◌, ℕ, List, Option, max, option_copied}
+use Rattle.std.specs.Option.{option_map}
+use Rattle.std.specs.Borrow.{Bor}
+use Rattle.leveldb_base.specs.History.{Item, Entry, placed, greatest}
+use Rattle.leveldb_mem.specs.Batch.{Batch}
+use Rattle.leveldb_mem.specs.Entries.{Kept, Gains}
+use Rattle.rusty_leveldb.specs.OneLog.{max_sequence}
+
+-- an item's entry at a number
+abbrev pub entry_at : ℕ → Item → Entry
+entry_at sequence item = record { sequence = sequence; key = item.key; value = item.value }
+
+-- what a look-up lends: a value or a deletion, or that there is none
+abbrev pub lent_newest : Option (Option (Bor (List ℕ))) → Option (Option (List ℕ))
+lent_newest found = option_map option_copied found
+
+-- entries, and the last number, which none of them is past
+pub record Numbered : Type 0 where
+  pub kept : Kept
+  pub last : ℕ
+
+-- a batch may come: it begins above the last number, and all its numbers fit
+pub record Follows (last : ℕ) (batch : Batch) : Type 0 where
+  pub above : last < batch.first
+  pub first_fits : batch.first ≤ max_sequence
+  pub all_fit : greatest (placed batch.first batch.items) ≤ max_sequence
+
+-- the batch's entries have come, and the last number is the last of them, if it has any
+pub record Inserts (old : Numbered) (batch : Batch) (new : Numbered) : Type 0 where
+  pub gains : Gains old.kept.entries (placed batch.first batch.items) new.kept.entries
+  pub last : new.last ≡ max old.last (greatest (placed batch.first batch.items))
+
+-- so many entries don't fit behind the last number, or not even an empty batch's first number does
+abbrev pub AreUsedUp : ℕ → ℕ → Type 0
+AreUsedUp last count = max_sequence < last + max 1 count

@@ -1,0 +1,17 @@
+//! The store of one log: an engine, and `DB`, which is an engine beside a borrow of its environment.
+
+mod close;
+mod engine;
+mod entries;
+mod names;
+mod open;
+mod read;
+mod recent;
+mod replay;
+mod store;
+#[cfg(test)]
+mod tests;
+mod write;
+
+pub use engine::{Engine, Mode};
+pub use store::{DB, Store};

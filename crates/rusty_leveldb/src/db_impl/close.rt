@@ -1,0 +1,54 @@
+//! The end of a store's work: giving back its lock.
+ghost use Rattle.std.specs.Prelude.{◌≡◌, Some, None, false};
+ghost use Rattle.leveldb_env.specs.Disk.{lock_set, same};
+ghost use Rattle.leveldb_env.specs.Calls.{Does, Still, Relocks, HasCause};
+ghost use Rattle.rusty_leveldb.specs.State.{close, abandon};
+ghost use Rattle.rusty_leveldb.specs.Serves.{done_or};
+ghost use Rattle.rusty_leveldb.specs.Engine.{Answers, CloseExcused};
+
+use super::engine::{Engine, Mode, check_open};
+use leveldb_base::cmp::UserCmp;
+use leveldb_base::error::{Result, StatusCode};
+use leveldb_env::env::Env;
+use leveldb_env::filter::FilterPolicy;
+
+impl<E: Env, C: UserCmp + Copy, FP: FilterPolicy + Copy> Engine<E, C, FP> {
+    /// Makes a crash keep all batches and gives back the lock. A store that is refused this is broken, and keeps its lock.
+    pub fn close(&mut self, env: &mut E) -> Result<()>
+        ensures options { self.new.options ≡ self.old.options }
+        ensures step { Answers E.Env (C.cmp self.old.options.cmp) (Some self.old) env.old close (done_or result) (Some self.new) env.new }
+        ensures cause { HasCause (CloseExcused E.Env self.old env.old env.new) (E.failures env.old) (E.failures env.new) result }
+    {
+        check_open(self.alloc, self.mode, &self.writer)?;
+        self.sync(env)?;
+        if let Err(status) = give_back(env, &self.lock) {
+            self.mode = Mode::Broken;
+            return Err(status);
+        }
+        self.mode = Mode::Closed;
+        Ok(())
+    }
+
+    /// Gives back the lock, where `close` hasn't. Nothing is synced.
+    pub fn abandon(self, env: &mut E) -> Result<()>
+        ensures step { Answers E.Env (C.cmp self.options.cmp) (Some self) env.old abandon (done_or result) None env.new }
+        ensures cause { HasCause (λ _. ⊥) (E.failures env.old) (E.failures env.new) result }
+    {
+        if self.mode == Mode::Closed {
+            return Ok(());
+        }
+        give_back(env, &self.lock)
+    }
+}
+
+/// Frees a lock, which may be free already.
+pub(crate) fn give_back<E: Env>(env: &mut E, lock: &str) -> Result<()>
+    ensures does { Does E.tells_disk same Still (E.tells env.old) (E.tells env.new) result }
+    ensures locks { Relocks E.tells_disk (lock_set lock.now false) (E.tells env.old) (E.tells env.new) result }
+    ensures cause { HasCause (λ _. ⊥) (E.failures env.old) (E.failures env.new) result }
+{
+    match env.unlock(lock) {
+        Err(status) if status.code == StatusCode::LockError => Ok(()),
+        other => other,
+    }
+}

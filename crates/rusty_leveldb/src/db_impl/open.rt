@@ -1,0 +1,169 @@
+//! Opening a store: its lock is taken, its log is read, and replaced where it ends badly.
+ghost use Rattle.std.specs.Prelude.{◌≡◌, ◌⊎◌, if◌then◌else◌, length, map, Some, None, IsTrue, IfOk, OnOk};
+ghost use Rattle.leveldb_env.specs.Disk.{bytes_of};
+ghost use Rattle.leveldb_env.specs.Calls.{HasCause, NoMemory, SameLocks};
+ghost use Rattle.leveldb_mem.specs.Log.{clean, bad};
+ghost use Rattle.rusty_leveldb.specs.OneLog.{log_path};
+ghost use Rattle.rusty_leveldb.specs.State.{Opening, open_store};
+ghost use Rattle.rusty_leveldb.specs.Serves.{done_or, given_engine};
+ghost use Rattle.rusty_leveldb.specs.Engine.{IsOpening, AnswersAs, OpenExcused};
+ghost use Rattle.rusty_leveldb.specs.Recovery.{IsFoundAs, framed_file, kept_log, SparesLog, IsRecovered, HasCauses, IsFoundOr, IsUntold, IsNotMade, IsNoLog};
+
+use super::close::give_back;
+use super::engine::{Engine, Mode};
+use super::names::{check_name, file_name};
+use super::recent::Recent;
+use super::replay::{frame_all, replay};
+use leveldb_base::cmp::UserCmp;
+use leveldb_base::error::{Result, StatusCode, err};
+use leveldb_env::env::Env;
+use leveldb_env::env::whole_files::replace_file;
+use leveldb_env::filter::FilterPolicy;
+use leveldb_env::options::Options;
+use leveldb_mem::log::{WriterCore, read_log_file};
+use std::alloc::Global;
+
+impl<E: Env, C: UserCmp + Copy, FP: FilterPolicy + Copy> Engine<E, C, FP> {
+    /// Opens the store under this name, which isn't empty and doesn't end in a slash.
+    /// A missing store is made, or `InvalidArgument` where the options say so; a locked one is `LockError`.
+    /// A refused opening gives back the lock that it took.
+    pub fn open(
+        alloc: Global,
+        name: &str,
+        env: &mut E,
+        options: Options<C, FP>,
+    ) -> Result<Engine<E, C, FP>>
+        ensures options { IfOk result (λ engine. engine.options ≡ options) }
+        ensures step { (opening : Opening) → IsOpening name.now options.create_if_missing opening
+            → AnswersAs E.Env (C.cmp options.cmp) name.now None env.old (open_store opening) (done_or result) (given_engine result) env.new }
+        ensures cause { HasCauses (OpenExcused E.tells_disk name.now options.create_if_missing (E.tells env.old)) (E.failures env.old) (E.failures env.new) result }
+    {
+        check_name(alloc, name)?;
+        let lock = file_name(alloc, name, "LOCK")?;
+        env.mkdir(name)?;
+        env.lock(&lock)?;
+        match recover(alloc, name, env, options.create_if_missing) {
+            Ok((log, writer, recent)) => Ok(Engine {
+                alloc,
+                options,
+                lock,
+                log,
+                writer,
+                recent,
+                mode: Mode::Open,
+            }),
+            Err(status) => {
+                let _ = give_back(env, &lock);
+                Err(status)
+            }
+        }
+    }
+}
+
+// The store's log with all that its batches say, ready to be written to.
+fn recover<E: Env>(
+    alloc: Global,
+    name: &str,
+    env: &mut E,
+    create_if_missing: bool,
+) -> Result<(E::File, WriterCore, Recent)>
+    ensures locks { SameLocks E.tells_disk (E.tells env.old) (E.tells env.new) }
+    ensures spares { IsTrue E.tells_disk → SparesLog create_if_missing ((E.tells env.old).disk.files (log_path name.now)) ((E.tells env.new).disk.files (log_path name.now)) }
+    ensures ok { IfOk result (λ got. IsTrue E.tells_disk → IsRecovered create_if_missing ((E.tells env.old).disk.files (log_path name.now)) ((E.tells env.new).disk.files (log_path name.now)) got.1 got.2) }
+    ensures log { IfOk result (λ got. IsTrue E.tells_disk → E.name_of got.0 ≡ log_path name.now) }
+    ensures cause { HasCauses (λ e. NoMemory e ⊎ IsNotMade E.tells_disk create_if_missing ((E.tells env.old).disk.files (log_path name.now)) e ⊎ IsNoLog E.tells_disk ((E.tells env.old).disk.files (log_path name.now)) e)
+        (E.failures env.old) (E.failures env.new) result }
+{
+    let full_name = file_name(alloc, name, "000003.log")?;
+    let log_name = full_name.as_str();
+    let (read, is_clean) = read_log(alloc, env, log_name, create_if_missing)?;
+    let records = read.as_slice();
+    let recent = replay(alloc, records)?;
+    mend(alloc, name, env, log_name, records, is_clean)?;
+    let (log, size) = open_log(alloc, env, log_name)?;
+    Ok((log, WriterCore::new_with_off(alloc, size), recent))
+}
+
+// The records of the log, and whether it ends cleanly. A missing log has none, where it may be made.
+fn read_log<E: Env>(
+    alloc: Global,
+    env: &mut E,
+    log_name: &str,
+    create_if_missing: bool,
+) -> Result<(Vec<Vec<u8>>, bool)>
+    ensures still { IsTrue E.tells_disk → (E.tells env.new).disk.files ≡ (E.tells env.old).disk.files }
+    ensures locks { SameLocks E.tells_disk (E.tells env.old) (E.tells env.new) }
+    ensures log { IfOk result (λ found. IsTrue E.tells_disk → IsFoundAs create_if_missing ((E.tells env.old).disk.files log_name.now)
+        (map (λ v. v.items) found.0.items) (if found.1 then clean else bad)) }
+    ensures cause { HasCauses (λ e. IsUntold E.tells_disk e ⊎ IsNotMade E.tells_disk create_if_missing ((E.tells env.old).disk.files log_name.now) e)
+        (E.failures env.old) (E.failures env.new) result }
+{
+    if env.exists(log_name)? {
+        let read = read_log_file(alloc, env, log_name);
+        return found(alloc, read);
+    }
+    if !create_if_missing {
+        return err(alloc, StatusCode::InvalidArgument, "there is no store");
+    }
+    Ok((Vec::new(alloc), true))
+}
+
+// Where the log ends badly, puts the framing of its records in its place.
+fn mend<E: Env>(
+    alloc: Global,
+    name: &str,
+    env: &mut E,
+    log_name: &str,
+    records: &[Vec<u8>],
+    is_clean: bool,
+) -> Result<()>
+    requires { log_name.now ≡ log_path name.now }
+    ensures locks { SameLocks E.tells_disk (E.tells env.old) (E.tells env.new) }
+    ensures either { IsTrue E.tells_disk → ((E.tells env.new).disk.files log_name.now ≡ (E.tells env.old).disk.files log_name.now)
+        ⊎ ((E.tells env.new).disk.files log_name.now ≡ Some (framed_file (map (λ v. v.items) records.now))) }
+    ensures ok { OnOk result (IsTrue E.tells_disk → (E.tells env.new).disk.files log_name.now
+        ≡ (if is_clean then (E.tells env.old).disk.files log_name.now else Some (framed_file (map (λ v. v.items) records.now)))) }
+    ensures cause { HasCauses (IsUntold E.tells_disk) (E.failures env.old) (E.failures env.new) result }
+{
+    if is_clean {
+        return Ok(());
+    }
+    let temp_name = file_name(alloc, name, "000003.dbtmp")?;
+    let framed = frame_all(alloc, records)?;
+    let replaced = replace_file(env, &temp_name, log_name, &framed);
+    found(alloc, replaced)
+}
+
+// The log, which is made where it is missing, all its bytes kept, and how many it has.
+fn open_log<E: Env>(alloc: Global, env: &mut E, log_name: &str) -> Result<(E::File, usize)>
+    ensures locks { SameLocks E.tells_disk (E.tells env.old) (E.tells env.new) }
+    ensures either { IsTrue E.tells_disk → ((E.tells env.new).disk.files log_name.now ≡ (E.tells env.old).disk.files log_name.now)
+        ⊎ ((E.tells env.new).disk.files log_name.now ≡ Some (kept_log ((E.tells env.old).disk.files log_name.now))) }
+    ensures there { OnOk result (IsTrue E.tells_disk → (E.tells env.new).disk.files log_name.now ≡ Some (kept_log ((E.tells env.old).disk.files log_name.now))) }
+    ensures name { IfOk result (λ got. IsTrue E.tells_disk → E.name_of got.0 ≡ log_name.now) }
+    ensures size { IfOk result (λ got. IsTrue E.tells_disk → got.1 ≡ length (bytes_of (kept_log ((E.tells env.old).disk.files log_name.now)))) }
+    ensures cause { HasCauses (IsUntold E.tells_disk) (E.failures env.old) (E.failures env.new) result }
+{
+    let mut log = env.open_appendable_file(log_name)?;
+    let synced = env.sync(&mut log);
+    found(alloc, synced)?;
+    let measured = env.size_of(log_name);
+    let size = found(alloc, measured)?;
+    Ok((log, size))
+}
+
+// A file of the store that is missing is damage.
+fn found<T>(alloc: Global, answer: Result<T>) -> Result<T>
+    ensures { IsFoundOr answer result }
+{
+    match answer {
+        Err(status) if status.code == StatusCode::NotFound => {
+            err(
+                alloc,
+                StatusCode::Corruption,
+                "a file of the store is missing",
+            )
+        }
+        other => other,
+    }
+}

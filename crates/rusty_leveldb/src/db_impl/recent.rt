@@ -1,0 +1,107 @@
+//! The entries of a store in memory, and the number of the last.
+ghost use Rattle.std.specs.Prelude.{◌≡◌, ◌≤◌, ◌+◌, [], OnOk, IfOk, IfErr};
+ghost use Rattle.leveldb_base.specs.Status.{IsOutOfMemory};
+ghost use Rattle.leveldb_base.specs.ViewLaws.{AreUpTo};
+ghost use Rattle.leveldb_base.specs.declared.error.StatusCode.TheVariants.{NotSupported};
+ghost use Rattle.leveldb_mem.specs.Entries.{HasRoom, FindsNewest};
+ghost use Rattle.rusty_leveldb.specs.Recent.{Follows, Inserts, AreUsedUp, lent_newest};
+ghost use Rattle.rusty_leveldb.specs.OneLog.{max_sequence};
+
+#[cfg(test)]
+mod tests;
+
+use super::entries::Entries;
+use leveldb_base::error::{Result, StatusCode, err};
+use leveldb_base::types::{MAX_SEQUENCE_NUMBER, SequenceNumber};
+use leveldb_mem::write_batch::WriteBatch;
+use std::alloc::Global;
+use std::marker::Model;
+
+/// The entries of a store, and the number of the last.
+#[derive(Drop)]
+pub struct Recent {
+    entries: Entries,
+    last: SequenceNumber,
+}
+
+impl Model for Recent {
+    ghost use Rattle.std.specs.Prelude.{◌≤◌};
+    ghost use Rattle.leveldb_base.specs.ViewLaws.{AreUpTo};
+    ghost use Rattle.rusty_leveldb.specs.Recent.{Numbered};
+    ghost use Rattle.rusty_leveldb.specs.OneLog.{max_sequence};
+
+    ghost Value = { Numbered };
+
+    ghost view = { λ recent. record { kept = recent.entries; last = recent.last } };
+
+    ghost invariant = { λ recent. AreUpTo recent.last recent.entries.entries × (recent.last ≤ max_sequence) };
+}
+
+impl Recent {
+    /// No entry yet.
+    pub fn new(alloc: Global) -> Recent
+        ensures entries { result.kept.entries ≡ [] }
+        ensures last { result.last ≡ 0 }
+    {
+        Recent {
+            entries: Entries::new(alloc),
+            last: 0,
+        }
+    }
+
+    /// The number of the last entry.
+    pub fn last(&self) -> SequenceNumber
+        ensures { result ≡ self.now.last }
+    {
+        self.last
+    }
+
+    /// The first number of a batch of so many entries behind the last.
+    /// `NotSupported` where they don't fit.
+    pub fn next(&self, alloc: Global, count: u32) -> Result<SequenceNumber>
+        ensures ok { IfOk result (λ first. (first ≡ self.now.last + 1) × (first ≤ max_sequence) × (self.now.last + count ≤ max_sequence)) }
+        ensures cause { IfErr result (λ status. (status.code ≡ NotSupported) × AreUsedUp self.now.last count) }
+        ensures numbered { AreUpTo self.now.last self.now.kept.entries }
+    {
+        let first = self.last + 1;
+        if first > MAX_SEQUENCE_NUMBER || self.last + u64::from(count) > MAX_SEQUENCE_NUMBER {
+            return err(
+                alloc,
+                StatusCode::NotSupported,
+                "the sequence numbers are used up",
+            );
+        }
+        Ok(first)
+    }
+
+    /// Takes all the memory that the batch's entries need.
+    pub fn prepare(&mut self, batch: &WriteBatch) -> Result<()>
+        ensures entries { self.new.kept.entries ≡ self.old.kept.entries }
+        ensures last { self.new.last ≡ self.old.last }
+        ensures room { OnOk result (HasRoom self.new.kept batch.now.items) }
+        ensures memory { IfErr result IsOutOfMemory }
+    {
+        self.entries.prepare(batch)
+    }
+
+    /// Puts the batch's entries to the others. It takes no memory.
+    pub fn insert(&mut self, batch: &WriteBatch)
+        requires room { HasRoom self.old.kept batch.now.items }
+        requires follows { Follows self.old.last batch.now }
+        ensures { Inserts self.old batch.now self.new }
+    {
+        let mut sequence = batch.sequence();
+        for (key, value) in batch.iter() {
+            self.entries.add_prepared(sequence, key, value);
+            self.last = sequence;
+            sequence += 1;
+        }
+    }
+
+    /// The newest entry of the key: its value, or that it is deleted, or nothing.
+    pub fn newest(&self, key: &[u8]) -> Option<Option<&[u8]>>
+        ensures { FindsNewest self.now.kept.entries self.now.last key.now (lent_newest result) }
+    {
+        self.entries.newest(key, self.last)
+    }
+}

@@ -1,0 +1,153 @@
+//! The public store: an engine beside a borrow of its environment. Its calls lend the environment to the engine.
+ghost use Rattle.std.specs.Prelude.{◌≡◌, ◌∷◌, [], Some, None, true, false, IfOk, IfErr};
+ghost use Rattle.leveldb_env.specs.Calls.{HasCause};
+ghost use Rattle.leveldb_mem.specs.Batch.{item_of};
+ghost use Rattle.rusty_leveldb.specs.State.{Opening, open_store, write, get, flush, close, abandon, done};
+ghost use Rattle.rusty_leveldb.specs.Serves.{done_or, found_or};
+ghost use Rattle.rusty_leveldb.specs.Engine.{IsOpening, AnswersAs, Answers, WriteExcused, SyncExcused, CloseExcused, GetExcused};
+
+use super::engine::Engine;
+use bytes::Bytes;
+use leveldb_base::cmp::UserCmp;
+use leveldb_base::error::Result;
+use leveldb_env::env::Env;
+use leveldb_env::filter::FilterPolicy;
+use leveldb_env::options::Options;
+use leveldb_mem::write_batch::WriteBatch;
+use std::alloc::Global;
+
+/// A store's state beside a borrow of its environment, for as long as the store is used.
+/// To use the state alone, call the engine with the environment.
+pub struct Store<'e, E: Env, S: Drop> {
+    env: &'e mut E,
+    state: S,
+}
+
+/// A store that was opened. Its lock stays held until `close` or `abandon` gives it back.
+pub type DB<'e, E, C, FP> = Store<'e, E, Engine<E, C, FP>>;
+
+impl<E: Env, S: Drop> Drop for Store<'_, E, S> {
+    /// A store that is dropped leaves its environment as it is: its lock stays held.
+    fn drop(self)
+        ensures { self.exit.0.now ≡ self.entry.env.now }
+    {
+        let Store { env, state } = self;
+        let _ = env;
+        drop(state);
+    }
+}
+
+impl<'e, E: Env, S: Drop> Store<'e, E, S> {
+    /// A state beside its environment, as an engine that was opened there.
+    pub fn around(env: &'e mut E, state: S) -> Store<'e, E, S>
+        ensures same_reference { result.env.ghost_name ≡ env.entry.ghost_name }
+        ensures env { result.env.now ≡ env.old }
+        ensures state { result.state ≡ state }
+    {
+        Store { env, state }
+    }
+}
+
+impl<'e, E: Env, C: UserCmp + Copy, FP: FilterPolicy + Copy> Store<'e, E, Engine<E, C, FP>> {
+    /// Opens the store under this name, which isn't empty and doesn't end in a slash.
+    /// A missing store is made, or `InvalidArgument` where the options say so; a locked one is `LockError`.
+    /// A refused opening gives back the lock that it took.
+    pub fn open(
+        alloc: Global,
+        name: &str,
+        env: &'e mut E,
+        options: Options<C, FP>,
+    ) -> Result<DB<'e, E, C, FP>>
+        ensures same_reference { IfOk result (λ db. db.env.ghost_name ≡ env.entry.ghost_name) }
+        ensures options { IfOk result (λ db. db.state.options ≡ options) }
+        ensures step { IfOk result (λ db. (opening : Opening) → IsOpening name.now options.create_if_missing opening
+            → AnswersAs E.Env (C.cmp options.cmp) name.now None env.old (open_store opening) done (Some db.state) db.env.now) }
+        ensures cause { IfOk result (λ db. E.failures db.env.now ≡ E.failures env.old) }
+    {
+        let engine = Engine::open(alloc, name, &mut *env, options)?;
+        Ok(Store::around(env, engine))
+    }
+
+    /// Gives the key this value, without a sync.
+    pub fn put(&mut self, key: &[u8], value: &[u8]) -> Result<()>
+        ensures same_reference { self.new.env.ghost_name ≡ self.old.env.ghost_name }
+        ensures options { self.new.state.options ≡ self.old.state.options }
+        ensures step { Answers E.Env (C.cmp self.old.state.options.cmp) (Some self.old.state) self.old.env.now
+            (write (item_of key.now (Some value.now) ∷ []) false) (done_or result) (Some self.new.state) self.new.env.now }
+        ensures cause { HasCause (WriteExcused E.Env self.old.state self.old.env.now (item_of key.now (Some value.now) ∷ []))
+            (E.failures self.old.env.now) (E.failures self.new.env.now) result }
+    {
+        self.state.put(&mut *self.env, key, value)
+    }
+
+    /// Deletes the key, without a sync.
+    pub fn delete(&mut self, key: &[u8]) -> Result<()>
+        ensures same_reference { self.new.env.ghost_name ≡ self.old.env.ghost_name }
+        ensures options { self.new.state.options ≡ self.old.state.options }
+        ensures step { Answers E.Env (C.cmp self.old.state.options.cmp) (Some self.old.state) self.old.env.now
+            (write (item_of key.now None ∷ []) false) (done_or result) (Some self.new.state) self.new.env.now }
+        ensures cause { HasCause (WriteExcused E.Env self.old.state self.old.env.now (item_of key.now None ∷ []))
+            (E.failures self.old.env.now) (E.failures self.new.env.now) result }
+    {
+        self.state.delete(&mut *self.env, key)
+    }
+
+    /// Makes the batch's changes together, behind all others; with `sync` a crash keeps them from then on.
+    /// A failed append or sync breaks the store: the batch isn't seen, and may be there when the store is opened again.
+    pub fn write(&mut self, batch: WriteBatch, sync: bool) -> Result<()>
+        ensures same_reference { self.new.env.ghost_name ≡ self.old.env.ghost_name }
+        ensures options { self.new.state.options ≡ self.old.state.options }
+        ensures step { Answers E.Env (C.cmp self.old.state.options.cmp) (Some self.old.state) self.old.env.now
+            (write batch.items sync) (done_or result) (Some self.new.state) self.new.env.now }
+        ensures cause { HasCause (WriteExcused E.Env self.old.state self.old.env.now batch.items)
+            (E.failures self.old.env.now) (E.failures self.new.env.now) result }
+    {
+        self.state.write(&mut *self.env, batch, sync)
+    }
+
+    /// Makes a crash keep all batches.
+    pub fn flush(&mut self) -> Result<()>
+        ensures same_reference { self.new.env.ghost_name ≡ self.old.env.ghost_name }
+        ensures options { self.new.state.options ≡ self.old.state.options }
+        ensures step { Answers E.Env (C.cmp self.old.state.options.cmp) (Some self.old.state) self.old.env.now
+            flush (done_or result) (Some self.new.state) self.new.env.now }
+        ensures cause { HasCause (SyncExcused E.Env self.old.state self.old.env.now)
+            (E.failures self.old.env.now) (E.failures self.new.env.now) result }
+    {
+        self.state.flush(&mut *self.env)
+    }
+
+    /// The key's value, or none where it has none.
+    pub fn get(&mut self, key: &[u8]) -> Result<Option<Bytes>>
+        ensures same_reference { self.new.env.ghost_name ≡ self.old.env.ghost_name }
+        ensures options { self.new.state.options ≡ self.old.state.options }
+        ensures step { Answers E.Env (C.cmp self.old.state.options.cmp) (Some self.old.state) self.old.env.now
+            (get None key.now) (found_or result) (Some self.new.state) self.new.env.now }
+        ensures cause { IfErr result (GetExcused self.old.state.mode key.now) }
+        ensures count { E.failures self.new.env.now ≡ E.failures self.old.env.now }
+    {
+        self.state.get(key)
+    }
+
+    /// Makes a crash keep all batches and gives back the lock. A store that is refused this is broken, and keeps its lock.
+    pub fn close(&mut self) -> Result<()>
+        ensures same_reference { self.new.env.ghost_name ≡ self.old.env.ghost_name }
+        ensures options { self.new.state.options ≡ self.old.state.options }
+        ensures step { Answers E.Env (C.cmp self.old.state.options.cmp) (Some self.old.state) self.old.env.now
+            close (done_or result) (Some self.new.state) self.new.env.now }
+        ensures cause { HasCause (CloseExcused E.Env self.old.state self.old.env.now self.new.env.now)
+            (E.failures self.old.env.now) (E.failures self.new.env.now) result }
+    {
+        self.state.close(&mut *self.env)
+    }
+
+    /// Gives back the lock, where `close` hasn't. Nothing is synced.
+    pub fn abandon(self) -> Result<()>
+        ensures step { Answers E.Env (C.cmp self.entry.state.options.cmp) (Some self.entry.state) self.entry.env.now
+            abandon (done_or result) None self.exit.0.now }
+        ensures cause { HasCause (λ _. ⊥) (E.failures self.entry.env.now) (E.failures self.exit.0.now) result }
+    {
+        let Store { env, state } = self;
+        state.abandon(env)
+    }
+}

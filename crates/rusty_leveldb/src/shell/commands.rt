@@ -1,0 +1,39 @@
+//! What is asked of a store, and what it answers.
+
+use bytes::Bytes;
+use leveldb_base::error::Status;
+
+/// What is asked of a store.
+#[derive(Debug, Drop)]
+pub enum Command {
+    /// Give a key a value, without a sync.
+    Put(Vec<u8>, Vec<u8>),
+    /// Delete a key, without a sync.
+    Delete(Vec<u8>),
+    /// Make these changes together.
+    Write { sync: bool, items: Vec<Item> },
+    /// Look up a key.
+    Get(Vec<u8>),
+    /// Sync all that was written.
+    Flush,
+    /// Sync, and give back the lock; then every command is refused.
+    Close,
+}
+
+/// A change of one key.
+#[derive(Debug, Drop)]
+pub enum Item {
+    Put(Vec<u8>, Vec<u8>),
+    Delete(Vec<u8>),
+}
+
+/// What a command is answered.
+#[derive(Debug, Drop)]
+pub enum Reply {
+    Done,
+    /// The key's value.
+    Value(Bytes),
+    /// The key has no value.
+    Nothing,
+    Refused(Status),
+}

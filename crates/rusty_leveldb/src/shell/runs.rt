@@ -1,0 +1,123 @@
+//! Runs of commands.
+ghost use Rattle.std.specs.Prelude.{◌≡◌, ◌≤◌, ◌⊎◌, ◌++◌, List, Some, length, drop, map, IfOk, OnOk, IfErr};
+ghost use Rattle.leveldb_base.specs.Status.{IsOutOfMemory};
+ghost use Rattle.leveldb_env.specs.Calls.{NoMemory};
+ghost use Rattle.leveldb_mem.specs.Batch.{with_item, IsTooLong};
+ghost use Rattle.rusty_leveldb.specs.Causes.{IsLongBatch};
+ghost use Rattle.rusty_leveldb.specs.Engine.{Answers, OpenExcused};
+ghost use Rattle.rusty_leveldb.specs.Serves.{done_or};
+ghost use Rattle.rusty_leveldb.specs.State as machine;
+ghost use Rattle.rusty_leveldb.specs.Shell.{PlaysAlways, HasFailed, request_of, answer_of, change_of};
+
+use super::commands::{Command, Item, Reply};
+use crate::db_impl::Engine;
+use leveldb_base::cmp::UserCmp;
+use leveldb_base::error::{Result, StatusCode};
+use leveldb_env::env::Env;
+use leveldb_env::filter::FilterPolicy;
+use leveldb_env::options::Options;
+use leveldb_mem::write_batch::WriteBatch;
+use std::alloc::Global;
+
+/// Opens a store, answers the commands one after another, and gives back its lock where no command did. A refused command is
+/// answered, and the run goes on. The replies stand behind those that are there; those given stand also where the run is refused: for
+/// want of memory before it begins, or where the store isn't opened or its lock isn't given back.
+pub fn run<E: Env, C: UserCmp + Copy, FP: FilterPolicy + Copy>(
+    env: &mut E,
+    name: &str,
+    opt: Options<C, FP>,
+    commands: &[Command],
+    replies: &mut Vec<Reply>,
+) -> Result<()>
+    ensures plays { PlaysAlways C FP E.Env (C.cmp opt.cmp) name.now env.old opt.create_if_missing commands.now
+        (drop (length replies.old.items) replies.new.items) result env.new }
+    ensures behind { (given : List Reply) × (replies.new.items ≡ replies.old.items ++ given) × OnOk result (length given ≡ length commands.now) }
+    ensures later { E.failures env.old ≤ E.failures env.new }
+    ensures cause { IfErr result (λ status. NoMemory status ⊎ OpenExcused E.tells_disk name.now opt.create_if_missing (E.tells env.old) status
+        ⊎ HasFailed (E.failures env.old) (E.failures env.new)) }
+{
+    let alloc = *replies.allocator();
+    replies.reserve(commands.len())?;
+    let mut engine = Engine::open(alloc, name, env, opt)?;
+    for command in commands {
+        replies
+            .push(answer(alloc, &mut engine, env, command))
+            .unwrap();
+    }
+    engine.abandon(env)
+}
+
+// What a command is answered.
+fn answer<E: Env, C: UserCmp + Copy, FP: FilterPolicy + Copy>(
+    alloc: Global,
+    engine: &mut Engine<E, C, FP>,
+    env: &mut E,
+    command: &Command,
+) -> Reply
+    ensures step { Answers E.Env (C.cmp engine.old.options.cmp) (Some engine.old) env.old (request_of command.now) (answer_of result) (Some engine.new) env.new }
+    ensures options { engine.new.options ≡ engine.old.options }
+    ensures later { E.failures env.old ≤ E.failures env.new }
+{
+    match command {
+        Command::Put(key, value) => reply_of(engine.put(env, key, value)),
+        Command::Delete(key) => reply_of(engine.delete(env, key)),
+        Command::Write { sync, items } => reply_of(write(alloc, engine, env, items, *sync)),
+        Command::Get(key) => match engine.get(key) {
+            Ok(Some(value)) => Reply::Value(value),
+            Ok(None) => Reply::Nothing,
+            Err(status) => Reply::Refused(status),
+        },
+        Command::Flush => reply_of(engine.flush(env)),
+        Command::Close => reply_of(engine.close(env)),
+    }
+}
+
+// Done, or refused.
+fn reply_of(answer: Result<()>) -> Reply
+    ensures { answer_of result ≡ done_or answer }
+{
+    match answer {
+        Ok(()) => Reply::Done,
+        Err(status) => Reply::Refused(status),
+    }
+}
+
+// Makes these changes together.
+fn write<E: Env, C: UserCmp + Copy, FP: FilterPolicy + Copy>(
+    alloc: Global,
+    engine: &mut Engine<E, C, FP>,
+    env: &mut E,
+    items: &[Item],
+    sync: bool,
+) -> Result<()>
+    ensures step { Answers E.Env (C.cmp engine.old.options.cmp) (Some engine.old) env.old (machine.write (map change_of items.now) sync) (done_or result) (Some engine.new) env.new }
+    ensures options { engine.new.options ≡ engine.old.options }
+    ensures later { E.failures env.old ≤ E.failures env.new }
+{
+    engine.check_writable()?;
+    let batch = batch_of(alloc, items)?;
+    engine.write(env, batch, sync)
+}
+
+// These changes as a batch.
+fn batch_of(alloc: Global, items: &[Item]) -> Result<WriteBatch>
+    ensures ok { IfOk result (λ batch. batch.items ≡ map change_of items.now) }
+    ensures cause { IfErr result (λ status. IsOutOfMemory status ⊎ ((status.code ≡ StatusCode.InvalidArgument) × IsLongBatch (map change_of items.now))) }
+{
+    let mut batch = WriteBatch::new(alloc)?;
+    for item in items {
+        add(&mut batch, item)?;
+    }
+    Ok(batch)
+}
+
+// Adds one change.
+fn add(batch: &mut WriteBatch, item: &Item) -> Result<()>
+    ensures ok { OnOk result (batch.new ≡ with_item batch.old (change_of item.now)) }
+    ensures cause { IfErr result (λ status. IsOutOfMemory status ⊎ ((status.code ≡ StatusCode.InvalidArgument) × IsTooLong (with_item batch.old (change_of item.now)))) }
+{
+    match item {
+        Item::Put(key, value) => batch.put(key, value),
+        Item::Delete(key) => batch.delete(key),
+    }
+}
