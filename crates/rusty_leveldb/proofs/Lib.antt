@@ -7,3 +7,5 @@ pub mod Causes
 pub mod Example
 pub mod OneLog
 pub mod Playing
+pub mod Words
+pub mod Lines

@@ -14,3 +14,4 @@ pub mod Replay
 pub mod Engine
 pub mod Shell
 pub mod Language
+pub mod Spelling

@@ -1,7 +1,13 @@
-//! The store's commands as values: what is asked of a store, and what it answers.
+//! The store's commands as values: what is asked of a store, and what it answers; and as text.
 
 mod commands;
+mod language;
+mod lines;
+mod replies;
 mod runs;
+mod words;
 
 pub use commands::{Command, Item, Reply};
+pub use language::{Script, parse};
+pub use replies::put_replies;
 pub use runs::run;
