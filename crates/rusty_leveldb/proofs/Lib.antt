@@ -9,3 +9,5 @@ pub mod OneLog
 pub mod Playing
 pub mod Words
 pub mod Lines
+pub mod Inputs
+pub mod Answering

@@ -15,3 +15,4 @@ pub mod Engine
 pub mod Shell
 pub mod Language
 pub mod Spelling
+pub mod Program

@@ -3,11 +3,13 @@
 mod commands;
 mod language;
 mod lines;
+mod program;
 mod replies;
 mod runs;
 mod words;
 
 pub use commands::{Command, Item, Reply};
 pub use language::{Script, parse};
+pub use program::ldb_main;
 pub use replies::put_replies;
 pub use runs::run;
