@@ -13,7 +13,16 @@ use Rattle.rusty_leveldb.specs.declared.shell.commands.Command.{Command}
 use Rattle.rusty_leveldb.specs.declared.shell.commands.Reply.{Reply}
 use Rattle.rusty_leveldb.specs.Language.{reply_lines}
 use Rattle.rusty_leveldb.specs.Shell.{PlaysAlways}
-use Rattle.rusty_leveldb.specs.Program.{IsPlayed}
+use Rattle.rusty_leveldb.specs.declared.shell.program.Fault.{Fault}
+use Rattle.rusty_leveldb.specs.declared.shell.program.Fault.TheVariants as fault
+use Rattle.rusty_leveldb.specs.Program.{status_of, IsPlayed}
+
+-- a fault's status isn't 0
+pub some_status : (one : Fault) → (1 ≤ status_of one) × (status_of one ≤ 2)
+some_status fault.Usage = (omega arith, omega arith)
+some_status (fault.BadLine number) = (omega arith, omega arith)
+some_status fault.TooLong = (omega arith, omega arith)
+some_status (fault.Refused status) = (omega arith, omega arith)
 
 -- a list of one element
 pub one_word : (words : List (String Global)) (word : String Global) → 1 ≤ length words → length words < 2 → word ≡ get_or words 0 word → words ≡ word ∷ []
