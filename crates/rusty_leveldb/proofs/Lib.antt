@@ -20,3 +20,7 @@ pub mod EntryOrder
 pub mod NodeSteps
 pub mod Insertions
 pub mod GetSteps
+pub mod Words
+pub mod Lines
+pub mod Inputs
+pub mod Answering

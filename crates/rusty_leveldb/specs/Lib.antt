@@ -15,3 +15,5 @@ pub mod Engine
 pub mod Shell
 pub mod Language
 pub mod Recovery
+pub mod Spelling
+pub mod Program

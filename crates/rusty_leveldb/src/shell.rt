@@ -1,7 +1,15 @@
-//! The store's commands as values: what is asked of a store, and what it answers.
+//! The store's commands as values: what is asked of a store, and what it answers; and as text.
 
 mod commands;
+mod language;
+mod lines;
+mod program;
+mod replies;
 mod runs;
+mod words;
 
 pub use commands::{Command, Item, Reply};
+pub use language::{Script, parse};
+pub use program::ldb_main;
+pub use replies::put_replies;
 pub use runs::run;

@@ -1,0 +1,14 @@
+use Rattle.std.proofs.Common.{arith, ◌≡◌, ◌<◌, ◌≤◌, ℕ, List, length, subst}
+use Rattle.rusty_leveldb.specs.declared.shell.commands.Command.{Command}
+use Rattle.rusty_leveldb.specs.Program.{IsPlayed}
+use Rattle.rusty_leveldb.proofs.Answering.{one_word}
+use Rattle.rusty_leveldb.proofs.shell.program.serve.Goals as goal
+
+pub returns-clause-answered : goal.returns-clause-answered
+returns-clause-answered g c =
+    let folder = c.folder-item.result in
+    let some : 1 ≤ length c.args.args.now = omega (arith, c.in-len1.len_at_least) in
+    let few : length c.args.args.now < 2 = omega (arith, c.in-len1.len_below) in
+    let P : List ℕ → Type 0 = λ name. IsPlayed g.E.Env name c.deref.result.now c.args.env.now c.play.new.env (g.O.Write.contents c.args.out.now) (g.O.Write.contents c.play.new.out) in
+    let named = subst P c.as_str.ensures.value c.in_ok-play.ensures in
+    (folder, one_word c.args.args.now folder some few c.folder-item.is, c.in_ok-commands.commands.items, c.in_ok-commands.ensures, rw c.deref.ensures.value at named)

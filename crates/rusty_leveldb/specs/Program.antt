@@ -1,0 +1,36 @@
+-- What the program does: it reads commands, runs them, and writes the replies.
+use Rattle.std.specs.Prelude.{◌≡◌, ℕ, List, [], ◌∷◌, length, Option, Result, Ok, IfSome, true, String, string_bytes}
+use Rattle.std.specs.Io.KnownBytes.{Appends}
+use Rattle.std.specs.declared.alloc.Global.{Global}
+use Rattle.leveldb_base.specs.Bytewise.{bytewise}
+use Rattle.leveldb_base.specs.declared.cmp.DefaultCmp.{DefaultCmp}
+use Rattle.leveldb_env.specs.declared.env.Env.{Ghosts}
+use Rattle.leveldb_env.specs.declared.filter.NoFilterPolicy.{NoFilterPolicy}
+use Rattle.rusty_leveldb.specs.declared.shell.commands.Command.{Command}
+use Rattle.rusty_leveldb.specs.declared.shell.commands.Reply.{Reply}
+use Rattle.rusty_leveldb.specs.declared.shell.program.Fault.{Fault}
+use Rattle.rusty_leveldb.specs.declared.shell.program.Fault.TheVariants as fault
+use Rattle.rusty_leveldb.specs.Language.{IsScript, reply_lines}
+use Rattle.rusty_leveldb.specs.Shell.{PlaysAlways}
+
+-- the status that a fault ends the program with
+abbrev pub status_of : Fault → ℕ
+status_of fault.Usage = 2
+status_of (fault.BadLine number) = 2
+status_of fault.TooLong = 2
+status_of (fault.Refused status) = 1
+
+-- the input spells these commands, where its bytes are known
+abbrev pub IsInput : Option (List ℕ) → List Command → Type 0
+IsInput input commands = (text : List ℕ) × IfSome input (λ bytes. text ≡ bytes) × IsScript text commands
+
+module _ {E F : Type 0} (env : Ghosts E F) where
+  -- the commands were run in a folder, each was replied to, and the output grew by the replies' lines
+  abbrev pub IsPlayed : List ℕ → List Command → E → E → Option (List ℕ) → Option (List ℕ) → Type 0
+  IsPlayed folder commands from to held holds = (given : List Reply) × (length given ≡ length commands)
+      × PlaysAlways DefaultCmp NoFilterPolicy env bytewise folder from true commands given (Ok tt) to × Appends held holds (reply_lines given)
+
+  -- the one argument is a folder, and the commands that the input spells were run in it
+  abbrev pub IsAnswered : List (String Global) → E → E → Option (List ℕ) → Option (List ℕ) → Option (List ℕ) → Type 0
+  IsAnswered args from to input held holds = (folder : String Global) × (args ≡ folder ∷ []) × (commands : List Command) × IsInput input commands
+      × IsPlayed (string_bytes folder) commands from to held holds

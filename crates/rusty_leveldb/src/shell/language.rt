@@ -1,0 +1,45 @@
+//! Texts of commands.
+ghost use Rattle.std.specs.Prelude.{◌≡◌, ◌⊎◌, ◌∷◌, ◌++◌, [], Contains, IfOk};
+ghost use Rattle.rusty_leveldb.specs.Language.{IsReading};
+
+use super::commands::Command;
+use super::lines::read_line;
+use super::words::split_once;
+use std::alloc::{AllocError, Global};
+
+/// What a text was read as.
+#[derive(Debug, Drop)]
+pub enum Script {
+    /// Its commands, one a line.
+    Commands(Vec<Command>),
+    /// The number, from 1, of its first line that is no command.
+    BadLine(usize),
+}
+
+/// Reads a text of commands, one a line; the last newline may be missing. It is refused for want of memory.
+pub fn parse(alloc: Global, text: &[u8]) -> Result<Script, AllocError>
+    ensures { IfOk result (IsReading text.now) }
+{
+    let mut commands = Vec::new(alloc);
+    let mut rest = text;
+    while !rest.is_empty() {
+        let (line, behind) = next_line(rest);
+        let Some(command) = read_line(alloc, line)? else {
+            return Ok(Script::BadLine(commands.len() + 1));
+        };
+        commands.push(command)?;
+        rest = behind;
+    }
+    Ok(Script::Commands(commands))
+}
+
+// The first line of a text, without its newline, and what stands behind that.
+fn next_line(text: &[u8]) -> (&[u8], &[u8])
+    ensures one_line { Contains result.0.now 10 → ⊥ }
+    ensures parts { (text.now ≡ result.0.now ++ 10 ∷ result.1.now) ⊎ ((text.now ≡ result.0.now) × (result.1.now ≡ [])) }
+{
+    match split_once(text, b'\n') {
+        (line, Some(behind)) => (line, behind),
+        (line, None) => (line, &[]),
+    }
+}

@@ -1,0 +1,174 @@
+//! The program: commands in, their replies out.
+ghost use Rattle.std.specs.Prelude.{◌≡◌, ◌≤◌, IfOk, IfErr, IfSome, OnOk};
+ghost use Rattle.std.specs.Io.KnownBytes.{Appends};
+ghost use Rattle.rusty_leveldb.specs.Language.{reply_lines};
+ghost use Rattle.rusty_leveldb.specs.Program.{status_of, IsInput, IsPlayed, IsAnswered};
+
+use super::commands::{Command, Reply};
+use super::language::{Script, parse};
+use super::replies::put_replies;
+use super::runs::run;
+use leveldb_base::error::Status;
+use leveldb_env::env::Env;
+use leveldb_env::options::Options;
+use std::alloc::{AllocError, Global};
+use std::fmt;
+use std::io::{self, Read, Write};
+
+#[cfg(test)]
+mod tests;
+
+/// How many bytes of commands are read at most.
+const MOST_INPUT: u64 = 1 << 26;
+
+// Why the program stopped.
+#[derive(Drop)]
+enum Fault {
+    /// It was not given one folder.
+    Usage,
+    /// The line of this number, from 1, is no command.
+    BadLine(usize),
+    /// There were more bytes of commands than are read.
+    TooLong,
+    /// A call was refused.
+    Refused(Status),
+}
+
+impl fmt::Display for Fault {
+    fn fmt<W: fmt::Write>(&self, f: &mut fmt::Formatter<W>) -> fmt::Result {
+        match self {
+            Fault::Usage => f.write_str("usage: ldb DIR"),
+            Fault::BadLine(number) => write!(f, "bad command in line {number}"),
+            Fault::TooLong => f.write_str("input too long"),
+            Fault::Refused(status) => match &status.err {
+                Some(text) => write!(f, "ldb: {text}"),
+                None => write!(f, "ldb: {}", status.code),
+            },
+        }
+    }
+}
+
+/// Runs the commands of `input` over the store in the folder that is the one argument, and writes their replies to `out`; a fault is told
+/// on `err`. The status is 0 where all was answered and written, 2 where it was not asked rightly, and 1 where it was refused.
+pub fn ldb_main<E: Env, I: Read, O: Write, F: Write>(
+    alloc: Global,
+    env: &mut E,
+    args: &[String],
+    input: &mut I,
+    out: &mut O,
+    err: &mut F,
+) -> u8
+    ensures answered { result ≡ 0 → IsAnswered E.Env args.now env.old env.new (I.remaining input.old) (O.contents out.old) (O.contents out.new) }
+    ensures untouched { result ≡ 2 → (env.new ≡ env.old) × (out.new ≡ out.old) }
+    ensures statuses { result ≤ 2 }
+{
+    match serve(alloc, env, args, input, out) {
+        Ok(()) => 0,
+        Err(fault) => tell_fault(err, fault),
+    }
+}
+
+// Tells a fault in a line, as far as it can be written, and answers its status.
+fn tell_fault<F: Write>(err: &mut F, fault: Fault) -> u8
+    ensures { result ≡ status_of fault }
+{
+    let _ = writeln!(err, "{fault}");
+    let _ = err.flush();
+    match fault {
+        Fault::Refused(_) => 1,
+        _ => 2,
+    }
+}
+
+// Does what the arguments and the input ask for.
+fn serve<E: Env, I: Read, O: Write>(
+    alloc: Global,
+    env: &mut E,
+    args: &[String],
+    input: &mut I,
+    out: &mut O,
+) -> Result<(), Fault>
+    ensures answered { OnOk result (IsAnswered E.Env args.now env.old env.new (I.remaining input.old) (O.contents out.old) (O.contents out.new)) }
+    ensures untouched { IfErr result (λ fault. status_of fault ≡ 2 → (env.new ≡ env.old) × (out.new ≡ out.old)) }
+{
+    let [folder] = args else {
+        return Err(Fault::Usage);
+    };
+    let commands = read_commands(alloc, input)?;
+    Ok(play(alloc, env, folder.as_str(), &commands, out)?)
+}
+
+// Runs the commands, and writes the replies that were given.
+fn play<E: Env, O: Write>(
+    alloc: Global,
+    env: &mut E,
+    folder: &str,
+    commands: &[Command],
+    out: &mut O,
+) -> Result<(), Status>
+    ensures { OnOk result (IsPlayed E.Env folder.now commands.now env.old env.new (O.contents out.old) (O.contents out.new)) }
+{
+    let mut replies = Vec::new(alloc);
+    let played = run(env, folder, Options::default(), commands, &mut replies);
+    let printed = print(alloc, out, &replies);
+    played?;
+    printed
+}
+
+// Writes the lines that tell these replies; where memory is refused, those that it has.
+fn print<O: Write>(alloc: Global, out: &mut O, replies: &[Reply]) -> Result<(), Status>
+    ensures { OnOk result (Appends (O.contents out.old) (O.contents out.new) (reply_lines replies.now)) }
+{
+    let mut text = Vec::new(alloc);
+    let told = put_replies(&mut text, replies);
+    out.write_all(&text)?;
+    out.flush()?;
+    Ok(told?)
+}
+
+// The commands that the input spells.
+fn read_commands<I: Read>(alloc: Global, input: &mut I) -> Result<Vec<Command>, Fault>
+    ensures { IfOk result (λ commands. IsInput (I.remaining input.old) commands.items) }
+{
+    let text = read_input(alloc, input)?;
+    match parse(alloc, &text)? {
+        Script::Commands(commands) => Ok(commands),
+        Script::BadLine(number) => Err(Fault::BadLine(number)),
+    }
+}
+
+// All bytes of the input, where there aren't too many.
+fn read_input<I: Read>(alloc: Global, input: &mut I) -> Result<Vec<u8>, Fault>
+    ensures { IfOk result (λ text. IfSome (I.remaining input.old) (λ known. text.items ≡ known)) }
+{
+    let mut text = Vec::new(alloc);
+    input
+        .take(MOST_INPUT + 1)
+        .read_to_end(&mut text)?;
+    if text.len() as u64 > MOST_INPUT {
+        return Err(Fault::TooLong);
+    }
+    Ok(text)
+}
+
+impl From<Status> for Fault {
+    ghost use Rattle.rusty_leveldb.specs.declared.shell.program.Fault.TheVariants.{Refused};
+
+    ghost from_gives = { λ status fault. fault ≡ Refused status };
+
+    fn from(status: Status) -> Fault {
+        Fault::Refused(status)
+    }
+}
+
+impl From<AllocError> for Fault {
+    fn from(error: AllocError) -> Fault {
+        Fault::Refused(error.into())
+    }
+}
+
+impl From<io::Error> for Fault {
+    fn from(error: io::Error) -> Fault {
+        Fault::Refused(error.into())
+    }
+}

@@ -1,0 +1,77 @@
+//! The words of the command language: bytes as pairs of lower case digits, and a full stop for none.
+ghost use Rattle.std.specs.Prelude.{◌≡◌, ◌∷◌, ◌++◌, [], List, ℕ, IfOk, OnOk, MatchOption, Contains};
+ghost use Rattle.hex.specs.Hex.{encode_lower, IsBytes};
+ghost use Rattle.rusty_leveldb.specs.Language.{hex_word, Appends};
+ghost use Rattle.rusty_leveldb.specs.Spelling.{IsWord, IsWordReading};
+
+use hex::FromHexError;
+use std::alloc::{AllocError, Global};
+
+const DIGITS: &[u8; 16] = b"0123456789abcdef";
+
+/// Writes bytes as a word behind the text. Where it is refused, for want of memory, part of the word may stand there.
+pub(super) fn put_word(out: &mut Vec<u8>, bytes: &[u8]) -> Result<(), AllocError>
+    ensures { Appends out.old.items out.new.items result (hex_word bytes.now) }
+{
+    if bytes.is_empty() {
+        return out.extend_from_slice(b".");
+    }
+    for byte in bytes {
+        out.extend_from_slice(&digits(*byte))?;
+    }
+    Ok(())
+}
+
+// A byte's two digits.
+fn digits(byte: u8) -> [u8; 2]
+    ensures { result ≡ encode_lower (byte ∷ []) }
+{
+    [DIGITS[(byte / 16) as usize], DIGITS[(byte % 16) as usize]]
+}
+
+/// The bytes that a word spells; none where it spells none. It is refused for want of memory.
+pub(super) fn read_word(alloc: Global, word: &[u8]) -> Result<Option<Vec<u8>>, AllocError>
+    ensures { IfOk result (IsWordReading word.now) }
+{
+    let Some(bytes) = read_digits(alloc, word)? else {
+        return Ok(None);
+    };
+    let mut again = Vec::new(alloc);
+    put_word(&mut again, &bytes)?;
+    if again.as_slice() == word {
+        Ok(Some(bytes))
+    } else {
+        Ok(None)
+    }
+}
+
+// The bytes of a word, whichever the case of its digits; where it is one, those that it spells.
+fn read_digits(alloc: Global, word: &[u8]) -> Result<Option<Vec<u8>>, AllocError>
+    ensures { IfOk result (λ found. MatchOption found
+        ((bytes : List ℕ) → IsWord word.now bytes → ⊥)
+        (λ read. IsBytes read.items × ((bytes : List ℕ) → IsWord word.now bytes → read.items ≡ bytes))) }
+{
+    if word == b".".as_slice() {
+        return Ok(Some(Vec::new(alloc)));
+    }
+    match hex::decode(alloc, word) {
+        Ok(bytes) => Ok(Some(bytes)),
+        Err(error) => match error {
+            FromHexError::OutOfMemory => Err(AllocError),
+            _ => Ok(None),
+        },
+    }
+}
+
+/// What stands before the first of these bytes in a text, and what stands behind it, where there is one.
+pub(super) fn split_once(text: &[u8], separator: u8) -> (&[u8], Option<&[u8]>)
+    ensures before { Contains result.0.now separator → ⊥ }
+    ensures parts { MatchOption result.1 (result.0.now ≡ text.now) (λ behind. text.now ≡ result.0.now ++ separator ∷ behind.now) }
+{
+    for (place, byte) in text.iter().enumerate() {
+        if *byte == separator {
+            return (&text[..place], Some(&text[place + 1..]));
+        }
+    }
+    (text, None)
+}
