@@ -3,4 +3,5 @@
 
 pub mod log;
 pub mod log_laws;
+pub mod skipmap;
 pub mod write_batch;
