@@ -6,8 +6,8 @@ use Rattle.std.specs.declared.cmp.Ordering.{Ordering}
 use Rattle.std.specs.Ordering.{ordering_then, nat_cmp}
 use Rattle.byteorder.specs.Numbers.{length-bytes_low_first}
 use Rattle.leveldb_base.specs.History.{Item, Entry}
-use Rattle.leveldb_base.specs.Varint.{little, varint, sized}
-use Rattle.leveldb_base.specs.VarintLaws.{varint_lengths}
+use Rattle.leveldb_base.specs.Varint.{little, varint, sized, ReadsSized}
+use Rattle.leveldb_base.specs.VarintLaws.{length-varint_64, one_sized}
 use Rattle.leveldb_base.specs.Keys.{tag, internal_key, user_part, sequence_part, type_part, lookup_key, memtable_key, inner_key, internal_accepts, memtable_accepts, internal_cmp, memtable_cmp}
 use Rattle.leveldb_base.specs.KeyLaws.{length-internal_key, user_part-internal_key, sequence_part-internal_key, type_part-internal_key, internal_accepts-internal_key, inner_key-sized, inner_key-memtable_key}
 use Rattle.leveldb_base.specs.declared.key_types.ValueType.{ValueType}
@@ -88,8 +88,40 @@ module _ (h u t s b : List ℕ) (sequence : ℕ) (kind : ValueType) (value : Opt
       ∙ ap (λ z. varint (length u + 8) ++ u ++ little 8 (tag sequence kind) ++ z ++ b) size_is
       ∙ whole_key u sequence kind b ∙ ap (λ k. memtable_key u sequence k b) kind_is ∙ ap (λ z. memtable_key u sequence (type_of value) z) bytes_are
 
-  pub length-parts : length u + value_length value < 2 ^ 63 → length h + length u + length t + length s + length b ≤ 28 + (length u + value_length value)
-  length-parts fits =
+  pub length-parts : length u + 8 < 2 ^ 64 → length b < 2 ^ 64 → length h + length u + length t + length s + length b ≤ 28 + (length u + value_length value)
+  length-parts fits short =
       let bytes = ap length bytes_are ∙ length-value value in
       let eight = ap length tag_is ∙ length-bytes_low_first 0 8 (tag sequence kind) in
-      omega (arith, bytes, eight, fits, ap length head_is, ap length size_is, varint_lengths)
+      let head : length h ≤ 10 = omega (arith, ap length head_is, length-varint_64 (length u + 8) fits) in
+      let size : length s ≤ 10 = omega (arith, ap length size_is, length-varint_64 (length b) short) in
+      omega (arith, bytes, eight, head, size)
+
+-- an internal key of an entry has its tag
+pub length-inner_key : (key : List ℕ) → key ≡ entry_key (entry_from key) → 8 ≤ length (inner_key key)
+unfolding entry_key
+length-inner_key key e =
+    let entry = entry_from key in
+    let kind = type_of entry.value in
+    let inner = ap inner_key e ∙ inner_key-memtable_key entry.key entry.sequence kind (bytes_of_value entry.value) in
+    omega (arith, ap length inner, length-internal_key entry.key entry.sequence kind)
+
+-- what stands behind the internal key of an entry's memtable key, as it is read
+pub read_value : (key internal rest : List ℕ) → key ≡ sized internal ++ rest → inner_value key ≡ inner_key rest
+read_value key internal rest e =
+    let inner : inner_key key ≡ internal = ap inner_key e ∙ inner_key-sized internal rest in
+    ap (λ z. inner_key (drop (length (sized z)) key)) inner ∙ ap (λ z. inner_key (drop (length (sized internal)) z)) e
+    ∙ ap inner_key (drop_at (sized internal) rest (length (sized internal)) refl)
+
+-- an entry's memtable key begins with a sized text, and so does what follows that
+pub first_there : (key : List ℕ) → key ≡ entry_key (entry_from key) → (internal : List ℕ) × (value : List ℕ) × (key ≡ sized internal ++ sized value)
+unfolding entry_key
+first_there key e = let entry = entry_from key in (internal_key entry.key entry.sequence (type_of entry.value), bytes_of_value entry.value, e)
+
+pub text_fits : (text rest whole : List ℕ) → whole ≡ sized text ++ rest → length whole < 2 ^ 64 → length text < 2 ^ 64
+text_fits text rest whole e h = omega (arith, h, ap length e, length-append (sized text) rest, length-append (varint (length text)) text)
+
+pub second_there : (key internal rest : List ℕ) → key ≡ entry_key (entry_from key) → key ≡ sized internal ++ rest → (text : List ℕ) × (more : List ℕ) × (rest ≡ sized text ++ more)
+second_there key internal rest e f =
+    let there = first_there key e in
+    let same = one_sized internal there.0 rest (sized there.1) (sym f ∙ there.2) in
+    (there.1, [], same.1 ∙ sym (append-nil (sized there.1)))

@@ -1,6 +1,6 @@
 -- What comes of a memtable key that comes to a map, or finds its entry there.
-use Rattle.std.proofs.Common.{◌≡◌, ◌≢◌, ℕ, ◌+◌, ◌*◌, ◌-◌, ◌^◌, ◌<◌, ◌≤◌, Bool, true, List, [], ◌∷◌, ◌++◌, length, get_or, length-append, map, Option, refl, sym, ◌∙◌, ap, subst, arith, ◌⊎◌, inl, inr, ⊎_elim}
-use Rattle.std.specs.Prelude.{Contains, ◌↔◌, All, sum_by}
+use Rattle.std.proofs.Common.{◌≡◌, ◌≢◌, ℕ, ◌+◌, ◌*◌, ◌-◌, ◌^◌, ◌<◌, ◌≤◌, Bool, true, List, [], ◌∷◌, ◌++◌, length, get_or, length-append, map, Option, Result, Ok, Err, refl, sym, ◌∙◌, ap, subst, arith, ◌⊎◌, inl, inr, ⊎_elim}
+use Rattle.std.specs.Prelude.{Contains, ◌↔◌, All, IsErrAnd, IfErr}
 use Rattle.std.proofs.lemmas.Cmp.{ranked}
 use Rattle.std.proofs.lemmas.List.{map-append, get_or_append_left}
 use Rattle.std.proofs.lemmas.List.Elements.{All-append, All-cons, All-take, All-drop, All-tail, Contains-append_left, Contains-append_right, Contains-append_cases, Contains-push, at_from_Contains, Contains-get_or}
@@ -107,3 +107,8 @@ module _ {accepts : List ℕ → Bool} {cmp : List ℕ → List ℕ → Ordering
       let equal : memtable_cmp cmp (key_at pairs found.0) key ≡ Equal =
       entry_order cmp (key_at pairs found.0) key ∙ ap (λ r. ordering_then r (nat_cmp mine.sequence his.sequence)) tied ∙ numbers in
       absent (get_or pairs found.0 ([], []), Contains-get_or pairs found.0 ([], []) found.1, equal)
+
+-- an error with a cause that goes with a fact
+pub caused : {T E : Type 0} (P R : E → Type 0) (Q : Type 0) (r : Result T E) → IsErrAnd r P → Q → IfErr r (λ status. (P status × Q) ⊎ R status)
+caused P R Q (Ok x) h q = tt
+caused P R Q (Err e) h q = inl (h, q)

@@ -11,14 +11,14 @@ use Rattle.std.specs.Ordering.{is_lt, ordering_then, nat_cmp}
 use Rattle.leveldb_base.specs.History.{Entry}
 use Rattle.leveldb_base.specs.Order.{IsPreorderOn}
 use Rattle.leveldb_base.specs.OrderLaws.{itself_equal}
-use Rattle.leveldb_base.specs.Keys.{user_part, sequence_part, memtable_accepts, memtable_cmp}
+use Rattle.leveldb_base.specs.Keys.{user_part, sequence_part, type_part, inner_key, memtable_accepts, memtable_cmp}
 use Rattle.leveldb_base.specs.Places.{Pair, count_before}
 use Rattle.leveldb_base.specs.Varint.{sized}
 use Rattle.leveldb_base.specs.View.{IsNewest}
 use Rattle.leveldb_mem.specs.Searching.{key_at, count_while}
 use Rattle.leveldb_mem.specs.SkipMap.{IsSorted}
 use Rattle.leveldb_mem.specs.Entries.{HasNewest, FindsNewest}
-use Rattle.leveldb_mem.specs.MemTable.{entry_from, entries_in}
+use Rattle.leveldb_mem.specs.MemTable.{entry_from, entries_in, value_of, inner_value}
 use Rattle.leveldb_mem.proofs.Halving.{before_count, at_count, count_before-is}
 use Rattle.leveldb_mem.proofs.Rising.{is_less, not_less, rising_at}
 use Rattle.leveldb_mem.proofs.EntryKeys.{entry_order, lookup_order}
@@ -169,3 +169,21 @@ module _ {accepts : List ℕ → Bool} {cmp : List ℕ → List ℕ → Ordering
         (λ (equal : cmp (entry place).key (entry i).key ≡ Equal). other within (exact (entry place).key (entry i).key equal ∙ key_is))
         (first_not_greater (cmp (entry place).key (entry i).key) _ (ordered place i gt found.1))) w)
         (cases_order i place)
+
+    module _ (n : ℕ) (n_is : n ≡ place) (key : List ℕ) (u : List ℕ) (u_is : u ≡ user_part (inner_key key)) where
+      -- the entry that was read there, of the key that is looked for
+      pub finds_read : n < length pairs → key ≡ key_at pairs n → u ≡ user → (value : Option (List ℕ)) → value ≡ value_of (type_part (inner_key key)) (inner_value key)
+          → HasNewest (entries_in pairs) limit user value
+      unfolding entry_from
+      finds_read within key_is same value value_is =
+          let key' : key ≡ key_at pairs place = key_is ∙ ap (λ i. key_at pairs i) n_is in
+          let there : (entry place).key ≡ user = ap (λ k. user_part (inner_key k)) (sym key') ∙ sym u_is ∙ same in
+          let gives : (entry place).value ≡ value = ap (λ k. value_of (type_part (inner_key k)) (inner_value k)) (sym key') ∙ sym value_is in
+          subst (λ v. HasNewest (entries_in pairs) limit user v) gives (finds_entry (omega (arith, within, n_is)) there)
+
+      -- an entry of another key
+      pub misses_read : key ≡ key_at pairs n → (u ≡ user → ⊥) → FindsNewest (entries_in pairs) limit user None
+      unfolding entry_from
+      misses_read key_is other =
+          let key' : key ≡ key_at pairs place = key_is ∙ ap (λ i. key_at pairs i) n_is in
+          finds_none (λ h same. other (u_is ∙ ap (λ k. user_part (inner_key k)) key' ∙ same))

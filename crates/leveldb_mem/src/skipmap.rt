@@ -46,6 +46,7 @@ impl<C: Cmp> SkipMap<C> {
     pub fn new(alloc: Global, cmp: C) -> SkipMap<C>
         ensures cmp { result.cmp ≡ cmp }
         ensures pairs { result.pairs ≡ [] }
+        ensures places { result.places ≡ 0 }
     {
         SkipMap {
             cmp,
@@ -221,6 +222,7 @@ impl<C: Cmp> SkipMap<MemtableKeyCmp<C>> {
     pub fn new_memtable_map(alloc: Global, user_cmp: C) -> SkipMap<MemtableKeyCmp<C>>
         ensures cmp { result.cmp.0 ≡ user_cmp }
         ensures pairs { result.pairs ≡ [] }
+        ensures places { result.places ≡ 0 }
     {
         SkipMap::new(alloc, MemtableKeyCmp(user_cmp))
     }
