@@ -1,6 +1,14 @@
 mod Rows
 mod Batches
 mod Entries
+mod Laying
+mod Halving
+mod Rising
+mod EntryKeys
+mod Newest
+mod Gaining
+mod Walking
+mod Memories
 pub mod WriterSteps
 pub mod Ranges
 pub mod ReaderSteps
