@@ -1,0 +1,4 @@
+//! Tables: sorted files of key-value pairs, from their blocks up.
+#![tactic(auto)]
+
+pub mod block;
