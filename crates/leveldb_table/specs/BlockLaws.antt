@@ -47,7 +47,7 @@ one_entry a b x y e = one_spelling a.shared b.shared a.rest b.rest a.value b.val
 abbrev pub entry_of : Bool → ℕ → List ℕ → List ℕ → Entry
 entry_of restart shared rest value = record { restart = restart; shared = shared; rest = rest; value = value }
 
-same_parts : (a b : Entry) → a.restart ≡ b.restart → a.shared ≡ b.shared → a.rest ≡ b.rest → a.value ≡ b.value → a ≡ b
+pub same_parts : (a b : Entry) → a.restart ≡ b.restart → a.shared ≡ b.shared → a.rest ≡ b.rest → a.value ≡ b.value → a ≡ b
 same_parts a b e f g h =
     let made : Bool → ℕ → List ℕ → List ℕ → Entry = λ k l m n. record { restart = k; shared = l; rest = m; value = n } in
     ap (λ z. made z a.shared a.rest a.value) e ∙ ap (λ z. made b.restart z a.rest a.value) f ∙ ap (λ z. made b.restart b.shared z a.value) g ∙ ap (λ z. made b.restart b.shared b.rest z) h

@@ -1,2 +1,5 @@
 pub mod Block
 pub mod BlockLaws
+pub mod Reading
+pub mod Walk
+pub mod WalkLaws
