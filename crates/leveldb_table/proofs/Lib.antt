@@ -5,3 +5,4 @@ pub mod Tails
 pub mod Walks
 pub mod Moves
 pub mod Points
+pub mod Builds

@@ -131,7 +131,8 @@ pub length-points : (points : List ℕ) → length (flat_map (little 4) points) 
 length-points [] = refl
 length-points (point ∷ points) = let rest = length-points points in omega (arith, rest)
 
-one_whole : (xs ys : List Entry) → flat_map entry_bytes xs ≡ flat_map entry_bytes ys → restart_points xs ≡ restart_points ys → xs ≡ ys
+-- the same bytes and restart points are the same entries
+pub one_whole : (xs ys : List Entry) → flat_map entry_bytes xs ≡ flat_map entry_bytes ys → restart_points xs ≡ restart_points ys → xs ≡ ys
 one_whole [] [] e p = refl
 one_whole [] (y ∷ ys) e p =
     absurd (omega (arith, ap length e, length-append (entry_bytes y) (flat_map entry_bytes ys), length-entry_bytes-ge y))
@@ -161,11 +162,12 @@ SharesFrom-prop : (last : Option (List ℕ)) (entry : Entry) → IsProp (SharesF
 SharesFrom-prop None entry = hlevel props
 SharesFrom-prop (Some last) entry = hlevel props
 
-AreEntries-prop : (last : Option (List ℕ)) (entries : List Entry) → IsProp (AreEntries last entries)
+-- and in one way
+pub AreEntries-prop : (last : Option (List ℕ)) (entries : List Entry) → IsProp (AreEntries last entries)
 AreEntries-prop last [] = hlevel props
 AreEntries-prop last (entry ∷ entries) = hlevel (props, SharesFrom-prop last entry, AreEntries-prop (Some (key_of last entry)) entries)
 
-RiseBehind-prop : (cmp : List ℕ → List ℕ → Ordering) (last : Option (List ℕ)) (pairs : List Pair) → IsProp (RiseBehind cmp last pairs)
+pub RiseBehind-prop : (cmp : List ℕ → List ℕ → Ordering) (last : Option (List ℕ)) (pairs : List Pair) → IsProp (RiseBehind cmp last pairs)
 RiseBehind-prop cmp last [] = hlevel props
 RiseBehind-prop cmp None (pair ∷ pairs) = RiseBehind-prop cmp (Some pair.0) pairs
 RiseBehind-prop cmp (Some last) (pair ∷ pairs) = hlevel (props, RiseBehind-prop cmp (Some pair.0) pairs)

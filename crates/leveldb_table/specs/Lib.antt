@@ -3,3 +3,5 @@ pub mod BlockLaws
 pub mod Reading
 pub mod Walk
 pub mod WalkLaws
+pub mod Built
+pub mod BuiltLaws

@@ -130,20 +130,20 @@ fn number(bytes: &[u8]) -> Option<(usize, &[u8])> {
 
 /// The three lengths of an entry, its texts, and what follows.
 #[derive(Clone, Copy)]
-struct Raw<'a> {
+struct RawEntry<'a> {
     shared: usize,
     rest: &'a [u8],
     value: &'a [u8],
     left: &'a [u8],
 }
 
-fn raw(bytes: &[u8]) -> Option<Raw<'_>> {
+fn read_raw(bytes: &[u8]) -> Option<RawEntry<'_>> {
     let (shared, bytes) = number(bytes)?;
     let (rest_length, bytes) = number(bytes)?;
     let (value_length, bytes) = number(bytes)?;
     let (rest, bytes) = bytes.split_at_checked(rest_length)?;
     let (value, left) = bytes.split_at_checked(value_length)?;
-    Some(Raw {
+    Some(RawEntry {
         shared,
         rest,
         value,
@@ -186,7 +186,7 @@ fn slow_pairs(alloc: Global, bytes: &[u8]) -> Result<Option<Pairs>> {
         if left.is_empty() {
             break;
         }
-        let Some(entry) = raw(left) else {
+        let Some(entry) = read_raw(left) else {
             return Ok(None);
         };
         if entry.shared == 0 {
