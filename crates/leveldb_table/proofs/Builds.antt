@@ -138,8 +138,8 @@ module _ {cmp : List ℕ → List ℕ → Ordering} {interval : ℕ} {bytes poin
         let counted = built.counted in
         let size = ap length built.spelled in
         let pointed = restarts_push entries new_entry points more built.pointed
-            (λ h. first_restart (zero_is (omega (arith, counted, h)))) (λ h. first_more (omega (arith, counted, h)))
-            (λ h. other_more (omega (arith, counted, h)) ∙ ap (λ z. points ++ points_more restart z) size) in
+        (λ h. first_restart (zero_is (omega (arith, counted, h)))) (λ h. first_more (omega (arith, counted, h)))
+        (λ h. other_more (omega (arith, counted, h)) ∙ ap (λ z. points ++ points_more restart z) size) in
         let whole = flat_map-append entry_bytes entries (new_entry ∷ []) ∙ ap (λ z. flat_map entry_bytes entries ++ z) (append-nil (entry_bytes new_entry)) in
         record {
           some_interval = built.some_interval;
@@ -156,10 +156,10 @@ module _ {cmp : List ℕ → List ℕ → Ordering} {interval : ℕ} {bytes poin
           begins = λ _. refl;
           points_fit = fit_by count more first_more other_more;
           count_fits =
-            let few = restarts_few (entries ++ new_entry ∷ []) in
-            let n = length_push entries new_entry in
-            let small = count_small entries in
-            omega (arith, few, n, small, size, offset_fits, ap length pointed);
+              let few = restarts_few (entries ++ new_entry ∷ []) in
+              let n = length_push entries new_entry in
+              let small = count_small entries in
+              omega (arith, few, n, small, size, offset_fits, ap length pointed);
         }
 
 -- how many bytes an entry takes at most
@@ -193,9 +193,9 @@ built_spelled {bytes = bytes} {points = points} {entries = entries} built whole 
     let size : length points + 1 ≡ length (restart_points entries) = omega (arith, ap length pointed) in
     record {
       spelled =
-        e ∙ ap (λ z. z ++ (flat_map (little 4) (0 ∷ points) ++ little 4 (length points + 1))) built.spelled
-        ∙ ap (λ z. flat_map entry_bytes entries ++ (flat_map (little 4) z ++ little 4 (length points + 1))) pointed
-        ∙ ap (λ z. flat_map entry_bytes entries ++ (flat_map (little 4) (restart_points entries) ++ little 4 z)) size;
+          e ∙ ap (λ z. z ++ (flat_map (little 4) (0 ∷ points) ++ little 4 (length points + 1))) built.spelled
+          ∙ ap (λ z. flat_map entry_bytes entries ++ (flat_map (little 4) z ++ little 4 (length points + 1))) pointed
+          ∙ ap (λ z. flat_map entry_bytes entries ++ (flat_map (little 4) (restart_points entries) ++ little 4 z)) size;
       allowed = built.allowed;
       sorted = built.sorted;
       points_fit = subst (λ z. All (λ offset. offset < 2 ^ 32) z) pointed (All-cons (λ offset. offset < 2 ^ 32) 0 points (omega arith) built.points_fit);
@@ -230,14 +230,14 @@ too_large entries bytes key value e h =
     elim (cases_lt (length bytes) (2 ^ 32)) [
       | inr a ↦ inl (omega (arith, a, ap length e))
       | inl a ↦
-        elim (cases_lt (length key) (2 ^ 32)) [
-          | inr b ↦ inr (inl b)
-          | inl b ↦
-            elim (cases_lt (length value) (2 ^ 32)) [
-              | inr d ↦ inr (inr d)
-              | inl d ↦ absurd (h (a, b, d))
-            ]
-        ]
+          elim (cases_lt (length key) (2 ^ 32)) [
+            | inr b ↦ inr (inl b)
+            | inl b ↦
+                elim (cases_lt (length value) (2 ^ 32)) [
+                  | inr d ↦ inr (inr d)
+                  | inl d ↦ absurd (h (a, b, d))
+                ]
+          ]
     ]
 
 pub not_too_large : (entries : List Entry) (bytes key value : List ℕ) → bytes ≡ flat_map entry_bytes entries → (length bytes < 2 ^ 32) × (length key < 2 ^ 32) × (length value < 2 ^ 32) → IsTooLarge entries key value → ⊥

@@ -152,16 +152,16 @@ module _ {accepts : List ℕ → Bool} {cmp : List ℕ → List ℕ → Ordering
           record {
             done = checked.done ++ entry ∷ [];
             sound = λ entries r.
-              subst (λ z. IsRest cmp None 0 bytes points z) (sym (append_assoc checked.done (entry ∷ []) entries))
-              (checked.sound (entry ∷ entries) (rest_more shared rest value behind read entries short shares rises r));
+                subst (λ z. IsRest cmp None 0 bytes points z) (sym (append_assoc checked.done (entry ∷ []) entries))
+                (checked.sound (entry ∷ entries) (rest_more shared rest value behind read entries short shares rises r));
             complete = λ entries r.
-              let more = the_rest entries r in
-              (more.0, (rest_tail shared rest value behind read more.0 more.1).2);
+                let more = the_rest entries r in
+                (more.0, (rest_tail shared rest value behind read more.0 more.1).2);
             each = λ e.
-              let both = accepts_it e in
-              subst (λ z. All (λ pair. accepts pair.0 ≡ true) z) (sym (pairs_of-append None checked.done (entry ∷ [])))
-              (All-push (λ pair. accepts pair.0 ≡ true) (pairs_of None checked.done) (key_of (last_key None checked.done) entry, value) (checked.each both.0)
-              (ap accepts reached_key ∙ both.1));
+                let both = accepts_it e in
+                subst (λ z. All (λ pair. accepts pair.0 ≡ true) z) (sym (pairs_of-append None checked.done (entry ∷ [])))
+                (All-push (λ pair. accepts pair.0 ≡ true) (pairs_of None checked.done) (key_of (last_key None checked.done) entry, value) (checked.each both.0)
+                (ap accepts reached_key ∙ both.1));
             reached = last_key-append None checked.done (entry ∷ []) ∙ ap (λ z. Some z) reached_key;
           }
 
@@ -225,16 +225,16 @@ module _ {accepts : List ℕ → Bool} {cmp : List ℕ → List ℕ → Ordering
             let flag = begins (length bytes - length left) (numbers_in points_left) in
             let entry = entry_of flag shared rest value in
             let here = checked_more now.checked shared rest value behind read short
-                (subst (λ z. SharesFrom (key_before first key) (entry_of z shared rest value)) told shares)
-                (subst (λ z. RiseBehind cmp (key_before first key) ((z, []) ∷ [])) key_is rises)
-                still (λ e. let both = accepts_it e in (both.0, subst (λ z. accepts z ≡ true) key_is both.1)) in
+            (subst (λ z. SharesFrom (key_before first key) (entry_of z shared rest value)) told shares)
+            (subst (λ z. RiseBehind cmp (key_before first key) ((z, []) ∷ [])) key_is rises)
+            still (λ e. let both = accepts_it e in (both.0, subst (λ z. accepts z ≡ true) key_is both.1)) in
             let moved : (length bytes - length left) + length (entry_bytes entry) ≡ length bytes - length behind = omega (arith, behind_shorter, now.within) in
             let pointed = ap (λ z. points_after z (numbers_in points_left)) (sym told) ∙ sym taken in
             record {
               checked =
-                subst (λ z. HasChecked accepts cmp bytes (numbers_in points) (Some next) (length bytes - length behind) behind z still) pointed
-                (subst (λ z. HasChecked accepts cmp bytes (numbers_in points) (Some next) z behind (points_after flag (numbers_in points_left)) still) moved
-                (subst (λ z. HasChecked accepts cmp bytes (numbers_in points) (Some z) ((length bytes - length left) + length (entry_bytes entry)) behind (points_after flag (numbers_in points_left)) still) (sym key_is) here));
+                  subst (λ z. HasChecked accepts cmp bytes (numbers_in points) (Some next) (length bytes - length behind) behind z still) pointed
+                  (subst (λ z. HasChecked accepts cmp bytes (numbers_in points) (Some next) z behind (points_after flag (numbers_in points_left)) still) moved
+                  (subst (λ z. HasChecked accepts cmp bytes (numbers_in points) (Some z) ((length bytes - length left) + length (entry_bytes entry)) behind (points_after flag (numbers_in points_left)) still) (sym key_is) here));
               within = omega (arith, now.within, left_shrinks);
             }
 

@@ -65,9 +65,9 @@ module _ (bytes : List ℕ) where
           reads_entry value left last fits_s fits_n fits_m = let size = last.3 in let fifth = split_whole last in (
             record { shared_fits = fits_s; rest_fits = omega (arith, fits, fits_n); value_fits = omega (arith, size, fits_m) },
             first ∙ ap (λ z. varint shared ++ z)
-            (second ∙ ap (λ z. varint z ++ b) (sym fits) ∙ ap (λ z. varint (length rest) ++ z)
-            (third ∙ ap (λ z. varint z ++ c) (sym size) ∙ ap (λ z. varint (length value) ++ z) (fourth ∙ ap (λ z. rest ++ z) fifth)))
-            ∙ sym (spread shared rest value left),
+                (second ∙ ap (λ z. varint z ++ b) (sym fits) ∙ ap (λ z. varint (length rest) ++ z)
+                (third ∙ ap (λ z. varint z ++ c) (sym size) ∙ ap (λ z. varint (length value) ++ z) (fourth ∙ ap (λ z. rest ++ z) fifth)))
+                ∙ sym (spread shared rest value left),
           )
 
 -- ---- numbers of four bytes
@@ -119,10 +119,10 @@ zero_point_only bytes e = (
   elim (cases_lt (length bytes) 8) [
     | inl short ↦ short
     | inr long ↦
-      let first = numbers_more bytes (omega (arith, long)) in
-      let second = numbers_more (drop 4 bytes) (omega (arith, long, length-drop 4 bytes)) in
-      let whole = ap length (sym e ∙ first ∙ ap (λ z. little_number 4 bytes ∷ z) second) in
-      absurd (omega (arith, whole))
+        let first = numbers_more bytes (omega (arith, long)) in
+        let second = numbers_more (drop 4 bytes) (omega (arith, long, length-drop 4 bytes)) in
+        let whole = ap length (sym e ∙ first ∙ ap (λ z. little_number 4 bytes ∷ z) second) in
+        absurd (omega (arith, whole))
   ],
 )
 

@@ -130,7 +130,7 @@ spot_loaded {bytes} {entries} {key} {start} {limit} {shared} {rest} {value} {lef
     let value_is : slice_range bytes spot.value spot.next ≡ value = ap (λ z. slice_range bytes z spot.next) v ∙ ap (λ z. slice_range bytes ((limit - length left) - length value) z) n ∙ at.value_is in
     record {
       pair =
-        ap (slice_get (pairs_of None entries)) here ∙ at.pair ∙ ap (λ z. Some (z, value)) (sym k) ∙ ap (λ z. Some (next_key, z)) (sym value_is);
+          ap (slice_get (pairs_of None entries)) here ∙ at.pair ∙ ap (λ z. Some (z, value)) (sym k) ∙ ap (λ z. Some (next_key, z)) (sym value_is);
       begins = s ∙ at.begins ∙ ap (start_of entries) (sym here);
       ends = n ∙ at.ends ∙ ap (λ z. start_of entries (suc z)) (sym here);
       ordered = omega (arith, n, v);
@@ -260,9 +260,9 @@ module _ {bytes : List ℕ} {limit : ℕ} {entries : List Entry} (f : Fronts byt
       elim (cases_lt n.index (length entries)) [
         | inl less ↦ n.loads less
         | inr more ↦
-          let w = n.within in let b = n.begins in
-          let same : n.index ≡ length entries = omega (arith, w, more) in
-          absurd (not_end (b ∙ ap (start_of entries) same ∙ start-end entries ∙ sym f.ends))
+            let w = n.within in let b = n.begins in
+            let same : n.index ≡ length entries = omega (arith, w, more) in
+            absurd (not_end (b ∙ ap (start_of entries) same ∙ start-end entries ∙ sym f.ends))
       ]
 
   -- at the end there is no place
@@ -277,12 +277,12 @@ module _ {bytes : List ℕ} {limit : ℕ} {entries : List Entry} (f : Fronts byt
   next_reached after next_key behind not_end h =
       elim (cases_lt n.index (length entries)) [
         | inl less ↦
-          place_at bytes entries next_key after next behind n.index h n.within n.begins
-          ∙ sym (n.place ∙ place_in (pairs_of None entries) n.index (omega (arith, less, length-pairs_of None entries)))
+            place_at bytes entries next_key after next behind n.index h n.within n.begins
+            ∙ sym (n.place ∙ place_in (pairs_of None entries) n.index (omega (arith, less, length-pairs_of None entries)))
         | inr more ↦
-          let w = n.within in let b = n.begins in
-          let same : n.index ≡ length entries = omega (arith, w, more) in
-          absurd (not_end (b ∙ ap (start_of entries) same ∙ start-end entries ∙ sym f.ends))
+            let w = n.within in let b = n.begins in
+            let same : n.index ≡ length entries = omega (arith, w, more) in
+            absurd (not_end (b ∙ ap (start_of entries) same ∙ start-end entries ∙ sym f.ends))
       ]
 
 -- ---- backward
@@ -315,8 +315,8 @@ is_here {bytes} {limit} {entries} f key (Some spot) start h e =
       begins = e ∙ h.begins;
       place = λ _. refl;
       none = λ zero_start.
-        let first : begun spot.start entries ≡ 0 = ap (λ z. begun z entries) (sym e ∙ zero_start) ∙ begun-zero entries in
-        ap (λ z. previous_place (Some z)) first;
+          let first : begun spot.start entries ≡ 0 = ap (λ z. begun z entries) (sym e ∙ zero_start) ∙ begun-zero entries in
+          ap (λ z. previous_place (Some z)) first;
     }
 
 module _ {bytes : List ℕ} {limit : ℕ} {entries : List Entry} (f : Fronts bytes limit entries) {spot : Option Spot} {start : ℕ} (h : IsHere entries spot start) (some : 0 < start) where
@@ -370,7 +370,6 @@ count_le : (cmp : List ℕ → List ℕ → Ordering) (target : List ℕ) (pairs
 count_le cmp target [] = omega arith
 count_le cmp target (pair ∷ pairs) = let rest = count_le cmp target pairs in count_if (is_lt (cmp pair.0 target)) (count_before cmp target pairs) (length pairs) rest
 
-
 if_true : (b : Bool) (n : ℕ) → b ≡ true → (if b then n + 1 else 0) ≡ n + 1
 if_true true n e = refl
 if_true false n e = cc
@@ -397,7 +396,6 @@ count_more cmp target (pair ∷ pairs) (suc i) key value h e less =
     let parts = if_pos (is_lt (cmp pair.0 target)) (count_before cmp target pairs) i h in
     let rest = count_more cmp target pairs i key value parts.1 e less in
     omega (arith, rest, if_true (is_lt (cmp pair.0 target)) (count_before cmp target pairs) parts.0)
-
 
 -- a key that isn't before the target ends the count
 count_stops : (cmp : List ℕ → List ℕ → Ordering) (target : List ℕ) (pairs : List Pair) (i : ℕ) (key value : List ℕ) → i ≤ count_before cmp target pairs → slice_get pairs i ≡ Some (key, value) → is_lt (cmp key target) ≡ false → count_before cmp target pairs ≡ i

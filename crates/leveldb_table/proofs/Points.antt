@@ -42,7 +42,11 @@ module _ {accepts : List ℕ → Bool} {cmp : List ℕ → List ℕ → Ordering
       let points = restart_points entries in
       let last : length (little 4 (length points)) ≡ 4 = refl in
       omega (
-        arith, ap length held.spelled.spelled, held.ends, length-points points, last,
+        arith,
+        ap length held.spelled.spelled,
+        held.ends,
+        length-points points,
+        last,
         length-append (flat_map entry_bytes entries) (flat_map (little 4) points ++ little 4 (length points)),
         length-append (flat_map (little 4) points) (little 4 (length points)),
       )

@@ -48,9 +48,9 @@ are_numbers (suc count) bytes e small =
     let first = little_from-lt 0 4 bytes (small_at bytes small) in
     record {
       written =
-        ap (flat_map (little 4)) more
-        ∙ ap (λ z. z ++ flat_map (little 4) (numbers_in (drop 4 bytes))) (little-little_number 4 bytes (omega (arith, e)) small)
-        ∙ ap (λ z. take 4 bytes ++ z) rest.written ∙ take-append-drop 4 bytes;
+          ap (flat_map (little 4)) more
+          ∙ ap (λ z. z ++ flat_map (little 4) (numbers_in (drop 4 bytes))) (little-little_number 4 bytes (omega (arith, e)) small)
+          ∙ ap (λ z. take 4 bytes ++ z) rest.written ∙ take-append-drop 4 bytes;
       fit = subst (λ z. All (λ offset. offset < 2 ^ 32) z) (sym more) (All-cons (λ offset. offset < 2 ^ 32) (little_number 4 bytes) (numbers_in (drop 4 bytes)) (omega (arith, first)) rest.fit);
       counted = let tail = rest.counted in omega (arith, tail, ap length more);
     }
@@ -96,9 +96,9 @@ module _ (bytes : List ℕ) (limit count : ℕ) (fits : limit + (4 * count + 4) 
         let counted = ap length (sym points) ∙ there.counted in
         record {
           spelled =
-            by_parts ∙ ap (λ z. z ++ (middle ++ drop (length bytes - 4) bytes)) parts.spelled
-            ∙ ap (λ z. flat_map entry_bytes entries ++ (z ++ drop (length bytes - 4) bytes)) (sym there.written ∙ ap (flat_map (little 4)) points)
-            ∙ ap (λ z. flat_map entry_bytes entries ++ (flat_map (little 4) (restart_points entries) ++ z)) (sym count_written ∙ ap (little 4) (sym counted));
+              by_parts ∙ ap (λ z. z ++ (middle ++ drop (length bytes - 4) bytes)) parts.spelled
+              ∙ ap (λ z. flat_map entry_bytes entries ++ (z ++ drop (length bytes - 4) bytes)) (sym there.written ∙ ap (flat_map (little 4)) points)
+              ∙ ap (λ z. flat_map entry_bytes entries ++ (flat_map (little 4) (restart_points entries) ++ z)) (sym count_written ∙ ap (little 4) (sym counted));
           allowed = parts.allowed;
           sorted = parts.sorted;
           points_fit = subst (λ z. All (λ offset. offset < 2 ^ 32) z) points there.fit;
@@ -131,8 +131,8 @@ has_parts {cmp} {bytes} {entries} spelled =
     let e = spelled.spelled in
     record {
       count =
-        ap (λ z. little_number 4 (drop (length z - 4) z)) e ∙ ap (little_number 4) r.3
-        ∙ ap (little_number 4) (sym (append-nil (little 4 (length points)))) ∙ little_number-reads_back 4 (length points) [] (omega (arith, spelled.count_fits));
+          ap (λ z. little_number 4 (drop (length z - 4) z)) e ∙ ap (little_number 4) r.3
+          ∙ ap (little_number 4) (sym (append-nil (little 4 (length points)))) ∙ little_number-reads_back 4 (length points) [] (omega (arith, spelled.count_fits));
       whole = ap length e ∙ r.0;
       front = ap (take (length (flat_map entry_bytes entries))) e ∙ r.1;
       middle_is = ap (λ z. take (4 * length points) (drop (length (flat_map entry_bytes entries)) z)) e ∙ r.2;
@@ -150,8 +150,8 @@ parts_from_spelled {cmp} {bytes} {entries} spelled limit count fits told =
       sorted = spelled.sorted;
       spelled = ap (λ z. take z bytes) m ∙ there.front;
       marked =
-        ap (λ z. numbers_in (take (4 * z) (drop limit bytes))) n ∙ ap (λ z. numbers_in (take (4 * length (restart_points entries)) (drop z bytes))) m
-        ∙ ap numbers_in there.middle_is ∙ numbers_written (restart_points entries) spelled.points_fit;
+          ap (λ z. numbers_in (take (4 * z) (drop limit bytes))) n ∙ ap (λ z. numbers_in (take (4 * length (restart_points entries)) (drop z bytes))) m
+          ∙ ap numbers_in there.middle_is ∙ numbers_written (restart_points entries) spelled.points_fit;
     }
 
 -- a block is long enough for the points that it counts
@@ -188,8 +188,8 @@ module _ (bytes again : List ℕ) (e : again ≡ bytes) (limit : ℕ) (fits : li
       → Held accepts cmp bytes limit accepted
   held_parts accepts cmp accepted small h =
       let parts = subst (λ z. AreParts cmp (take limit z) (numbers_in (take (4 * count_at_end bytes) (drop limit bytes))) h.0) e
-          (subst (λ z. AreParts cmp (take limit again) (numbers_in z) h.0) middle_again
-          (subst (λ z. AreParts cmp (take z again) (numbers_in (take (length again - 4 - limit) (drop limit again))) h.0) front_is h.1)) in
+      (subst (λ z. AreParts cmp (take limit again) (numbers_in z) h.0) middle_again
+      (subst (λ z. AreParts cmp (take z again) (numbers_in (take (length again - 4 - limit) (drop limit again))) h.0) front_is h.1)) in
       let front = parts.spelled in (
         h.0,
         record {

@@ -211,11 +211,11 @@ named_later offset point first entries n = record {
   within = let w = n.within in omega (arith, w);
   there = let t = n.there in omega (arith, t, start-cons first entries n.index);
   marked = λ entry tail at.
-    let parts = at.whole in
-    let rest : entries ≡ take n.index entries ++ entry ∷ tail = cc in
-    let with_parts = at.with_it in
-    let with_rest : take (suc n.index) entries ≡ take n.index entries ++ entry ∷ [] = cc in
-    n.marked entry tail (record { whole = rest; behind = at.behind; with_it = with_rest; after_it = at.after_it });
+      let parts = at.whole in
+      let rest : entries ≡ take n.index entries ++ entry ∷ tail = cc in
+      let with_parts = at.with_it in
+      let with_rest : take (suc n.index) entries ≡ take n.index entries ++ entry ∷ [] = cc in
+      n.marked entry tail (record { whole = rest; behind = at.behind; with_it = with_rest; after_it = at.after_it });
 }
 
 named_here : (offset : ℕ) (first : Entry) (entries : List Entry) → first.restart ≡ true → NamesEntry offset (first ∷ entries) offset
@@ -224,9 +224,9 @@ named_here offset first entries e = record {
   within = omega arith;
   there = omega arith;
   marked = λ entry tail at.
-    let same : first ∷ entries ≡ entry ∷ tail = at.behind in
-    let first_is : first ≡ entry = cc in
-    ap (λ z. z.restart) (sym first_is) ∙ e;
+      let same : first ∷ entries ≡ entry ∷ tail = at.behind in
+      let first_is : first ≡ entry = cc in
+      ap (λ z. z.restart) (sym first_is) ∙ e;
 }
 
 names_if : (b : Bool) (offset : ℕ) (first : Entry) (entries : List Entry) (points : List ℕ) → first.restart ≡ b → ((j : ℕ) → j < length points → NamesEntry (offset + length (entry_bytes first)) entries (get_or points j 0))

@@ -153,7 +153,7 @@ pub one_block : {cmp : List ℕ → List ℕ → Ordering} {bytes : List ℕ} {x
 unfolding block_bytes
 one_block {cmp} {bytes} {xs} {ys} f g =
     let parts = three_parts (flat_map entry_bytes xs) (flat_map entry_bytes ys) (flat_map (little 4) (restart_points xs)) (flat_map (little 4) (restart_points ys)) [] []
-        (length (restart_points xs)) (length (restart_points ys)) f.count_fits g.count_fits (length-points (restart_points xs)) (length-points (restart_points ys)) (sym f.spelled ∙ g.spelled) in
+    (length (restart_points xs)) (length (restart_points ys)) f.count_fits g.count_fits (length-points (restart_points xs)) (length-points (restart_points ys)) (sym f.spelled ∙ g.spelled) in
     one_whole xs ys parts.0 (one_points (restart_points xs) (restart_points ys) f.points_fit g.points_fit parts.1)
 
 -- ---- one proof

@@ -6,11 +6,10 @@ ghost use Rattle.leveldb_table.specs.Block.{Held, IsBlock, IsNoBlock, pairs_of};
 ghost use Rattle.leveldb_table.specs.BlockLaws.{Held-prop};
 
 use bytes::Bytes;
+use check::{check_parts, entries_end};
 use leveldb_base::cmp::Cmp;
 use leveldb_base::error::{Result, StatusCode, err};
 use std::alloc::{AllocError, Global};
-
-use check::{check_parts, entries_end};
 
 mod check;
 mod entry;

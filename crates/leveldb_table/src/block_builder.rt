@@ -7,15 +7,14 @@ ghost use Rattle.leveldb_table.specs.Block.{IsBlock, KeysRise, pairs_of, spellin
 ghost use Rattle.leveldb_table.specs.Built.{AreSpaced, last_added, IsTooLarge, Built, estimate, points_more};
 ghost use Rattle.leveldb_table.specs.BuiltLaws.{Built-prop};
 
+use crate::block::BlockContents;
 use byteorder::{ByteOrder, LittleEndian};
+use bytes::Bytes;
 use leveldb_base::cmp::Cmp;
 use leveldb_base::error::{Result, StatusCode, err};
 use leveldb_base::varint::encode_varint64;
 use leveldb_env::options::Options;
 use std::alloc::Global;
-
-use crate::block::BlockContents;
-use bytes::Bytes;
 
 /// Pairs in strictly rising order, put into the bytes of a block.
 #[derive(Drop)]
@@ -107,7 +106,11 @@ impl<C: Cmp> BlockBuilder<C> {
     {
         if !fits(self.buffer.len(), key, value) {
             let alloc = *self.buffer.allocator();
-            return err(alloc, StatusCode::NotSupported, "a block has offsets of 32 bits");
+            return err(
+                alloc,
+                StatusCode::NotSupported,
+                "a block has offsets of 32 bits",
+            );
         }
         let restart = self.count % self.interval == 0;
         let shared = shared_with(self.last_key.as_slice(), key, restart);

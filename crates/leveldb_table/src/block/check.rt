@@ -86,7 +86,12 @@ pub(crate) fn entries_end(bytes: &[u8]) -> Option<usize>
 
 /// Looks at the entries and the restart points of a block. `None` where they are none; else whether `cmp` accepts all
 /// their keys.
-pub(crate) fn check_parts<C: Cmp>(alloc: Global, cmp: &C, entries: &[u8], points: &[u8]) -> Result<Option<bool>>
+pub(crate) fn check_parts<C: Cmp>(
+    alloc: Global,
+    cmp: &C,
+    entries: &[u8],
+    points: &[u8],
+) -> Result<Option<bool>>
     ensures answer { IfOk result (Checks (C.accepts cmp.now) (C.cmp cmp.now) entries.now (numbers_in points.now)) }
     ensures memory { IfErr result IsOutOfMemory }
 {

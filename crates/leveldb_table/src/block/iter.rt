@@ -5,12 +5,11 @@ ghost use Rattle.leveldb_table.specs.Block.{pairs_of};
 ghost use Rattle.leveldb_table.specs.Walk.{IsWithin, place_of, last_place};
 ghost use Rattle.leveldb_table.specs.WalkLaws.{IsWithin-prop, IsWithin-place};
 
+use crate::block::{Block, BlockCore};
 use leveldb_base::cmp::Cmp;
 use leveldb_base::error::Result;
 use leveldb_base::types::LdbIterator;
 use std::alloc::Global;
-
-use crate::block::{Block, BlockCore};
 
 /// A walk over a block's pairs, lent from it.
 #[derive(Drop)]

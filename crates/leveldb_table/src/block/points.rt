@@ -3,11 +3,10 @@ ghost use Rattle.std.specs.Prelude.{◌≡◌, ◌<◌, length, slice_index};
 ghost use Rattle.leveldb_table.specs.Block.{restart_points};
 ghost use Rattle.leveldb_table.specs.Walk.{IsPoint, HasKeyAt, StartsBy};
 
-use byteorder::{ByteOrder, LittleEndian};
-use leveldb_base::cmp::Cmp;
-
 use crate::block::Block;
 use crate::block::entry::take_entry;
+use byteorder::{ByteOrder, LittleEndian};
+use leveldb_base::cmp::Cmp;
 
 impl<C: Cmp> Block<C> {
     // How many restart points there are.

@@ -5,12 +5,11 @@ ghost use Rattle.leveldb_base.specs.Status.{IsOutOfMemory};
 ghost use Rattle.leveldb_table.specs.Block.{pairs_of};
 ghost use Rattle.leveldb_table.specs.Walk.{last_place, start_of, IsPoint, Loads, IsWithin, place_of, StandsBetween, StandsBefore};
 
+use crate::block::Block;
+use crate::block::entry::take_entry;
 use leveldb_base::cmp::Cmp;
 use leveldb_base::error::Result;
 use std::alloc::Global;
-
-use crate::block::Block;
-use crate::block::entry::take_entry;
 
 /// Where an entry lies among a block's bytes: its first, the first of its value, and the first behind it.
 #[derive(Clone, Copy, Debug)]

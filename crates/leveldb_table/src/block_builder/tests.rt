@@ -32,10 +32,7 @@ fn sample(alloc: Global, interval: usize) -> Result<BlockBuilder<DefaultCmp>>
 {
     let mut builder = BlockBuilder::new(alloc, &spaced(interval));
     builder.add(b"key1", b"value1")?;
-    builder.add(
-        b"loooooooooooooooooooooooooooooooooooongerkey1",
-        b"shrtvl1",
-    )?;
+    builder.add(b"loooooooooooooooooooooooooooooooooongerkey1", b"shrtvl1")?;
     builder.add(b"medium length key 1", b"some value 2")?;
     builder.add(b"prefix_key1", b"value")?;
     builder.add(b"prefix_key2", b"value")?;
@@ -58,7 +55,10 @@ fn estimate(rt: HostRuntime) -> Result<()> {
     builder.add(b"a", b"")?;
     assert_eq!(rt; builder.size_estimate(), 12);
     let one = builder.finish()?;
-    assert_eq!(rt; one.as_slice(), [0, 1, 0, b'a', 0, 0, 0, 0, 1, 0, 0, 0].as_slice());
+    assert_eq!(rt;
+        one.as_slice(),
+        [0, 1, 0, b'a', 0, 0, 0, 0, 1, 0, 0, 0].as_slice()
+    );
     Ok(())
 }
 

@@ -20,7 +20,7 @@ pub loop-next-smaller : goal.loop-next-smaller
 loop-next-smaller g c =
     let order = c.cmp.ensures ∙ ap (λ z. g.C.Cmp.cmp c.args.block.now.cmp z c.args.key.now) c.as_slice.ensures.value in
     let more = seeks_more (fronts c.args.block.now.held.1) c.loop-next.invariant c.loop-next-test.true c.load.new.self.spot c.load.new.self.key.items c.in_ok-next.next c.in_ok-next.ensures.ok
-        (sym (c.is_lt.ensures ∙ ap is_lt order) ∙ c.if-not-is_lt.false) in
+    (sym (c.is_lt.ensures ∙ ap is_lt order) ∙ c.if-not-is_lt.false) in
     let on = more.1 in
     omega (arith, on, c.loop-next-test.true)
 
@@ -28,7 +28,7 @@ pub loop-next-preserved : goal.loop-next-preserved
 loop-next-preserved g c =
     let order = c.cmp.ensures ∙ ap (λ z. g.C.Cmp.cmp c.args.block.now.cmp z c.args.key.now) c.as_slice.ensures.value in
     let more = seeks_more (fronts c.args.block.now.held.1) c.loop-next.invariant c.loop-next-test.true c.load.new.self.spot c.load.new.self.key.items c.in_ok-next.next c.in_ok-next.ensures.ok
-        (sym (c.is_lt.ensures ∙ ap is_lt order) ∙ c.if-not-is_lt.false) in
+    (sym (c.is_lt.ensures ∙ ap is_lt order) ∙ c.if-not-is_lt.false) in
     more.0
 
 pub returns-clause-ok : goal.returns-clause-ok
