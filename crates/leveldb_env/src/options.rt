@@ -10,17 +10,22 @@ pub struct Options<C, FP> {
     pub cmp: C,
     pub filter_policy: FP,
     pub create_if_missing: bool,
+
+    /// How many entries of a block lie between the starts of two restart points, at least 1.
+    pub block_restart_interval: usize,
 }
 
-/// LevelDB's order of bytes and no filters; a missing store is created.
+/// LevelDB's order of bytes and no filters; a missing store is created, and every sixteenth entry of a block is a
+/// restart point.
 impl Default for Options<DefaultCmp, NoFilterPolicy> {
-    ghost is_default = { λ options. options.create_if_missing ≡ true };
+    ghost is_default = { λ options. (options.create_if_missing ≡ true) × (options.block_restart_interval ≡ 16) };
 
     fn default() -> Options<DefaultCmp, NoFilterPolicy> {
         Options {
             cmp: DefaultCmp,
             filter_policy: NoFilterPolicy::new(),
             create_if_missing: true,
+            block_restart_interval: 16,
         }
     }
 }
@@ -37,5 +42,6 @@ mod tests {
         assert_eq!(rt; options.cmp.id(), "leveldb.BytewiseComparator");
         assert_eq!(rt; options.filter_policy.name(), "_");
         assert!(rt; options.create_if_missing);
+        assert_eq!(rt; options.block_restart_interval, 16);
     }
 }

@@ -40,10 +40,7 @@ impl fmt::Display for Fault {
             Fault::Usage => f.write_str("usage: ldb DIR"),
             Fault::BadLine(number) => write!(f, "bad command in line {number}"),
             Fault::TooLong => f.write_str("input too long"),
-            Fault::Refused(status) => match &status.err {
-                Some(text) => write!(f, "ldb: {text}"),
-                None => write!(f, "ldb: {}", status.code),
-            },
+            Fault::Refused(status) => write!(f, "ldb: {status}"),
         }
     }
 }

@@ -1,0 +1,265 @@
+-- One more entry of a block builder.
+use Rattle.std.proofs.Common.{◌≡◌, ℕ, zero, suc, ◌+◌, ◌-◌, ◌*◌, ◌%◌, ◌^◌, ◌<◌, ◌≤◌, Bool, true, false, nat_eq, if◌then◌else◌, List, [], ◌∷◌, ◌++◌, length, take, drop, flat_map, Option, None, Some, refl, sym, ◌∙◌, ap, subst, arith, append_assoc, length-append, length-drop}
+use Rattle.std.specs.List.{All}
+use Rattle.std.specs.Prelude.{IsErrAnd, OnErr, unwrap_or}
+use Rattle.std.proofs.Common.{Result, Ok, Err, inl, inr}
+use Rattle.std.proofs.lemmas.Bool.{cases_lt, eqb-true, ne_eqb}
+use Rattle.leveldb_base.specs.Status.{IsOutOfMemory}
+use Rattle.leveldb_base.specs.declared.error.Status.{Status}
+use Rattle.leveldb_base.specs.declared.error.StatusCode.TheVariants.{NotSupported}
+use Rattle.std.proofs.lemmas.List.{append-nil, take-append-drop, length_push}
+use Rattle.std.proofs.lemmas.List.Concat.{flat_map-append}
+use Rattle.std.proofs.lemmas.List.Elements.{All-cons, All-push}
+use Rattle.std.specs.declared.cmp.Ordering.{Ordering}
+use Rattle.leveldb_base.specs.Places.{Pair}
+use Rattle.leveldb_base.specs.Varint.{little, varint}
+use Rattle.leveldb_base.specs.VarintLaws.{length-varint_32}
+use Rattle.leveldb_table.specs.Block.{Entry, spelling, entry_bytes, key_of, pairs_of, IsShort, SharesFrom, AreEntries, RiseBehind, KeysRise, points_from, restart_points, block_bytes, IsSpelled, IsBlock}
+use Rattle.leveldb_table.specs.BlockLaws.{entry_of, length-entry_bytes-ge, one_whole}
+use Rattle.leveldb_table.specs.Reading.{key_before}
+use Rattle.leveldb_table.specs.Walk.{last_key}
+use Rattle.leveldb_table.specs.Built.{AreSpaced, IsTooLarge, IsBuilt, Built, estimate, points_more, last_added}
+use Rattle.leveldb_table.proofs.Sequences.{last_key-append, pairs_of-append, AreEntries-append, rise_parts, rise_both}
+
+spaced_push : (interval i : ℕ) (entries : List Entry) (entry : Entry) → AreSpaced interval i entries → entry.restart ≡ nat_eq ((i + length entries) % interval) 0 → AreSpaced interval i (entries ++ entry ∷ [])
+spaced_push interval i [] entry h e = let same : i + 0 ≡ i = omega arith in (e ∙ ap (λ z. nat_eq (z % interval) 0) same, tt)
+spaced_push interval i (first ∷ entries) entry h e =
+    let same : i + suc (length entries) ≡ (i + 1) + length entries = omega arith in
+    (h.0, spaced_push interval (i + 1) entries entry h.1 (e ∙ ap (λ z. nat_eq (z % interval) 0) same))
+
+if_point : (b : Bool) (offset : ℕ) → (if b then offset ∷ [] else []) ≡ points_more b offset
+if_point true offset = refl
+if_point false offset = refl
+
+if_append : (b : Bool) (offset : ℕ) (points more : List ℕ) → (if b then offset ∷ (points ++ more) else (points ++ more)) ≡ (if b then offset ∷ points else points) ++ more
+if_append true offset points more = refl
+if_append false offset points more = refl
+
+points_push : (offset : ℕ) (entries : List Entry) (entry : Entry) → points_from offset (entries ++ entry ∷ []) ≡ points_from offset entries ++ points_more entry.restart (offset + length (flat_map entry_bytes entries))
+points_push offset [] entry = let same : offset ≡ offset + 0 = omega arith in if_point entry.restart offset ∙ ap (points_more entry.restart) same
+points_push offset (first ∷ entries) entry =
+    let size : (offset + length (entry_bytes first)) + length (flat_map entry_bytes entries) ≡ offset + length (entry_bytes first ++ flat_map entry_bytes entries) =
+    omega (arith, length-append (entry_bytes first) (flat_map entry_bytes entries)) in
+    ap (λ z. if first.restart then offset ∷ z else z)
+    (points_push (offset + length (entry_bytes first)) entries entry
+    ∙ ap (λ z. points_from (offset + length (entry_bytes first)) entries ++ points_more entry.restart z) size)
+    ∙ if_append first.restart offset (points_from (offset + length (entry_bytes first)) entries) (points_more entry.restart (offset + length (entry_bytes first ++ flat_map entry_bytes entries)))
+
+-- entries have three bytes each at least
+pub count_small : (entries : List Entry) → 3 * length entries ≤ length (flat_map entry_bytes entries)
+count_small [] = omega arith
+count_small (entry ∷ entries) = let rest = count_small entries in omega (arith, rest, length-append (entry_bytes entry) (flat_map entry_bytes entries), length-entry_bytes-ge entry)
+
+if_suc : (b : Bool) (points : List ℕ) (offset n : ℕ) → length points ≤ n → length (if b then offset ∷ points else points) ≤ suc n
+if_suc true points offset n h = omega (arith, h)
+if_suc false points offset n h = omega (arith, h)
+
+points_few : (offset : ℕ) (entries : List Entry) → length (points_from offset entries) ≤ length entries
+points_few offset [] = omega arith
+points_few offset (entry ∷ entries) = if_suc entry.restart (points_from (offset + length (entry_bytes entry)) entries) offset (length entries) (points_few (offset + length (entry_bytes entry)) entries)
+
+-- there are no more restart points than entries, or one
+pub restarts_few : (entries : List Entry) → length (restart_points entries) ≤ length entries + 1
+restarts_few [] = omega arith
+restarts_few (entry ∷ entries) = let few = points_few 0 (entry ∷ entries) in omega (arith, few)
+
+zero_plus : (n : ℕ) → n ≡ 0 + n
+zero_plus n = omega arith
+
+-- the restart points with one more entry; the first is at 0
+restarts_push : (entries : List Entry) (entry : Entry) (points more : List ℕ) → 0 ∷ points ≡ restart_points entries → (length entries ≡ 0 → entry.restart ≡ true) → (length entries ≡ 0 → more ≡ points)
+    → (0 < length entries → more ≡ points ++ points_more entry.restart (length (flat_map entry_bytes entries))) → 0 ∷ more ≡ restart_points (entries ++ entry ∷ [])
+restarts_push [] entry points more e f g h =
+    ap (λ z. 0 ∷ z) (g refl) ∙ e ∙ sym (if_point entry.restart 0 ∙ ap (λ z. points_more z 0) (f refl))
+restarts_push (first ∷ entries) entry points more e f g h =
+    ap (λ z. 0 ∷ z) (h (omega arith)) ∙ ap (λ z. z ++ points_more entry.restart (length (flat_map entry_bytes (first ∷ entries)))) e
+    ∙ ap (λ z. points_from 0 (first ∷ entries) ++ points_more entry.restart z) (zero_plus (length (flat_map entry_bytes (first ∷ entries))))
+    ∙ sym (points_push 0 (first ∷ entries) entry)
+
+key_shared : (none : Bool) (last key : List ℕ) (restart : Bool) (shared : ℕ) (value : List ℕ) → take shared last ≡ take shared key → (none ≡ true → shared ≡ 0)
+    → key_of (key_before none last) (entry_of restart shared (drop shared key) value) ≡ key
+key_shared true last key restart shared value e f = ap (λ z. drop z key) (f refl)
+key_shared false last key restart shared value e f = ap (λ z. z ++ drop shared key) e ∙ take-append-drop shared key
+
+shares_last : (none : Bool) (last rest : List ℕ) (restart : Bool) (shared : ℕ) (value : List ℕ) → shared ≤ length last → (none ≡ true → restart ≡ true) → (restart ≡ true → shared ≡ 0) → SharesFrom (key_before none last) (entry_of restart shared rest value)
+shares_last true last rest restart shared value h f g = (f refl, g (f refl))
+shares_last false last rest restart shared value h f g = (h, g)
+
+zero_test : (count : ℕ) → nat_eq count 0 ≡ true → count ≡ 0
+zero_test count e = eqb-true count 0 e
+
+suc_test : (count : ℕ) → nat_eq (suc count) 0 ≡ false
+suc_test count = ne_eqb (suc count) 0 (λ e. omega (arith, e))
+
+zero_rest : (count interval : ℕ) → 1 ≤ interval → count ≡ 0 → nat_eq (count % interval) 0 ≡ true
+zero_rest count interval some e =
+    let none : count % interval ≡ 0 = omega (arith, some, e) in ap (λ z. nat_eq z 0) none
+
+fit_push : (b : Bool) (points : List ℕ) (offset : ℕ) → offset < 2 ^ 32 → All (λ z. z < 2 ^ 32) points → All (λ z. z < 2 ^ 32) (points ++ points_more b offset)
+fit_push true points offset h all = All-push (λ z. z < 2 ^ 32) points offset all h
+fit_push false points offset h all = subst (λ z. All (λ z. z < 2 ^ 32) z) (sym (append-nil points)) all
+
+module _ {cmp : List ℕ → List ℕ → Ordering} {interval : ℕ} {bytes points last : List ℕ} {count : ℕ} {begun : Bool} {entries : List Entry} (built : IsBuilt cmp interval bytes points last count begun entries) where
+  module _ (restart : Bool) (key value : List ℕ) (shared : ℕ) (told : restart ≡ nat_eq (count % interval) 0) (within : shared ≤ length last) (shares : take shared last ≡ take shared key) (none : restart ≡ true → shared ≡ 0)
+      (key_fits : length key < 2 ^ 32) (value_fits : length value < 2 ^ 32) (within_key : shared ≤ length key) (offset_fits : length bytes < 2 ^ 32) (all_rise : KeysRise cmp (pairs_of None entries ++ (key, value) ∷ [])) where
+    abbrev pub new_entry : Entry
+    new_entry = entry_of restart shared (drop shared key) value
+
+    first_restart : nat_eq count 0 ≡ true → restart ≡ true
+    first_restart e = told ∙ zero_rest count interval built.some_interval (zero_test count e)
+
+    pub new_key : key_of (last_key None entries) new_entry ≡ key
+    new_key =
+        ap (λ z. key_of z new_entry) built.reached
+        ∙ key_shared (nat_eq count 0) last key restart shared value shares (λ e. none (first_restart e))
+
+    pub new_pairs : pairs_of None (entries ++ new_entry ∷ []) ≡ pairs_of None entries ++ (key, value) ∷ []
+    new_pairs = pairs_of-append None entries (new_entry ∷ []) ∙ ap (λ z. pairs_of None entries ++ (z, value) ∷ []) new_key
+
+    short : IsShort new_entry
+    short = record { shared_fits = omega (arith, within_key, key_fits); rest_fits = omega (arith, key_fits, length-drop shared key); value_fits = value_fits }
+
+    zero_is : count ≡ 0 → nat_eq count 0 ≡ true
+    zero_is e = ap (λ z. nat_eq z 0) e
+
+    after_zero : Some key ≡ key_before (nat_eq (count + 1) 0) key
+    after_zero =
+        let more : count + 1 ≡ suc count = omega arith in
+        sym (ap (λ z. key_before (nat_eq z 0) key) more ∙ ap (λ z. key_before z key) (suc_test count))
+
+    fit_by : (n : ℕ) (more : List ℕ) → (n ≡ 0 → more ≡ points) → (0 < n → more ≡ points ++ points_more restart (length bytes)) → All (λ offset. offset < 2 ^ 32) more
+    fit_by zero more f g = subst (λ z. All (λ offset. offset < 2 ^ 32) z) (sym (f refl)) built.points_fit
+    fit_by (suc n) more f g = subst (λ z. All (λ offset. offset < 2 ^ 32) z) (sym (g (omega arith))) (fit_push restart points (length bytes) offset_fits built.points_fit)
+
+    pub built_more : (more : List ℕ) → (count ≡ 0 → more ≡ points) → (0 < count → more ≡ points ++ points_more restart (length bytes)) → (after : List ℕ) → after ≡ bytes ++ spelling shared (drop shared key) value
+        → IsBuilt cmp interval after more key (count + 1) true (entries ++ new_entry ∷ [])
+    unfolding entry_bytes
+    built_more more first_more other_more after e =
+        let counted = built.counted in
+        let size = ap length built.spelled in
+        let pointed = restarts_push entries new_entry points more built.pointed
+        (λ h. first_restart (zero_is (omega (arith, counted, h)))) (λ h. first_more (omega (arith, counted, h)))
+        (λ h. other_more (omega (arith, counted, h)) ∙ ap (λ z. points ++ points_more restart z) size) in
+        let whole = flat_map-append entry_bytes entries (new_entry ∷ []) ∙ ap (λ z. flat_map entry_bytes entries ++ z) (append-nil (entry_bytes new_entry)) in
+        record {
+          some_interval = built.some_interval;
+          spelled = e ∙ ap (λ z. z ++ spelling shared (drop shared key) value) built.spelled ∙ sym whole;
+          pointed = pointed;
+          spaced = spaced_push interval 0 entries new_entry built.spaced
+              (told ∙ ap (λ z. nat_eq (z % interval) 0) (counted ∙ zero_plus (length entries)));
+          allowed = AreEntries-append None entries (new_entry ∷ []) built.allowed
+              (short, subst (λ z. SharesFrom z new_entry) (sym built.reached) (shares_last (nat_eq count 0) last (drop shared key) restart shared value within first_restart none), tt);
+          sorted = subst (λ z. KeysRise cmp z) (sym new_pairs) all_rise;
+          reached = last_key-append None entries (new_entry ∷ []) ∙ ap (λ z. Some z) new_key ∙ after_zero;
+          cleared = λ h. absurd (omega (arith, h));
+          counted = let n = length_push entries new_entry in omega (arith, n, counted);
+          begins = λ _. refl;
+          points_fit = fit_by count more first_more other_more;
+          count_fits =
+              let few = restarts_few (entries ++ new_entry ∷ []) in
+              let n = length_push entries new_entry in
+              let small = count_small entries in
+              omega (arith, few, n, small, size, offset_fits, ap length pointed);
+        }
+
+-- how many bytes an entry takes at most
+pub spelling_room : (shared : ℕ) (rest value : List ℕ) → shared < 2 ^ 32 → length rest < 2 ^ 32 → length value < 2 ^ 32 → length (spelling shared rest value) ≤ 15 + length rest + length value
+spelling_room shared rest value a b c =
+    omega (arith, length-varint_32 shared a, length-varint_32 (length rest) b, length-varint_32 (length value) c, length-append {A = ℕ})
+
+-- nothing has been added
+pub built_none : (cmp : List ℕ → List ℕ → Ordering) (interval : ℕ) (bytes points last : List ℕ) (begun : Bool) → 1 ≤ interval → bytes ≡ [] → points ≡ [] → last ≡ [] → IsBuilt cmp interval bytes points last 0 begun []
+built_none cmp interval bytes points last begun some e f l = record {
+  some_interval = some;
+  spelled = e;
+  pointed = ap (λ z. 0 ∷ z) f;
+  spaced = tt;
+  allowed = tt;
+  sorted = tt;
+  reached = refl;
+  cleared = λ _. l;
+  counted = refl;
+  begins = λ h. absurd (omega (arith, h));
+  points_fit = subst (λ z. All (λ offset. offset < 2 ^ 32) z) (sym f) (λ k d h. absurd (omega (arith, h)));
+  count_fits = let none = ap length f in omega (arith, none);
+}
+
+-- what is finished is a block of what was added
+pub built_spelled : {cmp : List ℕ → List ℕ → Ordering} {interval : ℕ} {bytes points last : List ℕ} {count : ℕ} {begun : Bool} {entries : List Entry} → IsBuilt cmp interval bytes points last count begun entries
+    → (whole : List ℕ) → whole ≡ bytes ++ (flat_map (little 4) (0 ∷ points) ++ little 4 (length points + 1)) → IsSpelled cmp whole entries
+unfolding block_bytes
+built_spelled {bytes = bytes} {points = points} {entries = entries} built whole e =
+    let pointed = built.pointed in
+    let size : length points + 1 ≡ length (restart_points entries) = omega (arith, ap length pointed) in
+    record {
+      spelled =
+          e ∙ ap (λ z. z ++ (flat_map (little 4) (0 ∷ points) ++ little 4 (length points + 1))) built.spelled
+          ∙ ap (λ z. flat_map entry_bytes entries ++ (flat_map (little 4) z ++ little 4 (length points + 1))) pointed
+          ∙ ap (λ z. flat_map entry_bytes entries ++ (flat_map (little 4) (restart_points entries) ++ little 4 z)) size;
+      allowed = built.allowed;
+      sorted = built.sorted;
+      points_fit = subst (λ z. All (λ offset. offset < 2 ^ 32) z) pointed (All-cons (λ offset. offset < 2 ^ 32) 0 points (omega arith) built.points_fit);
+      count_fits = let few = built.count_fits in omega (arith, few, size);
+    }
+
+pub built_block : {cmp : List ℕ → List ℕ → Ordering} {whole : List ℕ} {entries : List Entry} → IsSpelled cmp whole entries → IsBlock cmp whole (pairs_of None entries)
+built_block {entries = entries} spelled = record { entries = entries; spelled = spelled; stands_for = refl }
+
+same_last : (last : List ℕ) (entries : List Entry) (before : Pair) → before.0 ≡ last → last_added (before ∷ pairs_of (Some last) entries) ≡ unwrap_or (last_key (Some last) entries) []
+same_last last [] before e = e
+same_last last (entry ∷ entries) before e = same_last (key_of (Some last) entry) entries (key_of (Some last) entry, entry.value) refl
+
+last_pair : (entries : List Entry) → last_added (pairs_of None entries) ≡ unwrap_or (last_key None entries) []
+last_pair [] = refl
+last_pair (entry ∷ entries) = same_last (key_of None entry) entries (key_of None entry, entry.value) refl
+
+-- the key that was added last
+pub last_there : {cmp : List ℕ → List ℕ → Ordering} {interval : ℕ} {bytes points last : List ℕ} {begun : Bool} {entries : List Entry} (count : ℕ) → IsBuilt cmp interval bytes points last count begun entries → last ≡ last_added (pairs_of None entries)
+last_there {last = last} {entries = entries} zero built = built.cleared refl ∙ sym (last_pair entries ∙ ap (λ z. unwrap_or z []) built.reached)
+last_there {last = last} {entries = entries} (suc count) built = sym (last_pair entries ∙ ap (λ z. unwrap_or z []) built.reached ∙ ap (λ z. unwrap_or (key_before z last) []) (suc_test count))
+
+-- the estimate, with the first restart point set or not
+pub estimated : {cmp : List ℕ → List ℕ → Ordering} {interval : ℕ} {bytes points last : List ℕ} {count : ℕ} {entries : List Entry} (begun : Bool) → IsBuilt cmp interval bytes points last count begun entries
+    → (n : ℕ) → n ≡ (if begun then length points + 1 else 0) → length bytes + 4 * n + 4 ≡ estimate entries begun
+estimated true built n e = omega (arith, e, ap length built.pointed, ap length built.spelled)
+estimated false built n e = omega (arith, e, ap length built.spelled)
+
+-- what fits isn't too large, and what doesn't fit is
+pub too_large : (entries : List Entry) (bytes key value : List ℕ) → bytes ≡ flat_map entry_bytes entries → ((length bytes < 2 ^ 32) × (length key < 2 ^ 32) × (length value < 2 ^ 32) → ⊥) → IsTooLarge entries key value
+too_large entries bytes key value e h =
+    elim (cases_lt (length bytes) (2 ^ 32)) [
+      | inr a ↦ inl (omega (arith, a, ap length e))
+      | inl a ↦
+          elim (cases_lt (length key) (2 ^ 32)) [
+            | inr b ↦ inr (inl b)
+            | inl b ↦
+                elim (cases_lt (length value) (2 ^ 32)) [
+                  | inr d ↦ inr (inr d)
+                  | inl d ↦ absurd (h (a, b, d))
+                ]
+          ]
+    ]
+
+pub not_too_large : (entries : List Entry) (bytes key value : List ℕ) → bytes ≡ flat_map entry_bytes entries → (length bytes < 2 ^ 32) × (length key < 2 ^ 32) × (length value < 2 ^ 32) → IsTooLarge entries key value → ⊥
+not_too_large entries bytes key value e h (inl a) = omega (arith, a, h.0, ap length e)
+not_too_large entries bytes key value e h (inr (inl b)) = omega (arith, b, h.1)
+not_too_large entries bytes key value e h (inr (inr d)) = omega (arith, d, h.2)
+
+-- want of memory isn't that
+pub other_cause : {T : Type 0} (r : Result T Status) → IsErrAnd r IsOutOfMemory → IsErrAnd r (λ status. status.code ≡ NotSupported) → ⊥
+other_cause (Ok x) h g = absurd h
+other_cause (Err status) h g = let a = h.0 in cc
+
+-- what a builder has are the entries that its bytes and points are
+pub built_are : {cmp : List ℕ → List ℕ → Ordering} {interval : ℕ} {bytes points last : List ℕ} {count : ℕ} {begun : Bool} (built : Built cmp interval bytes points last count begun) (entries : List Entry)
+    → bytes ≡ flat_map entry_bytes entries → 0 ∷ points ≡ restart_points entries → built.0 ≡ entries
+built_are built entries e f = one_whole built.0 entries (sym built.1.spelled ∙ e) (sym built.1.pointed ∙ f)
+
+-- and their pairs
+pub pairs_are : {cmp : List ℕ → List ℕ → Ordering} {interval : ℕ} {bytes points last : List ℕ} {count : ℕ} {begun : Bool} (built : Built cmp interval bytes points last count begun) (entries : List Entry)
+    → bytes ≡ flat_map entry_bytes entries → 0 ∷ points ≡ restart_points entries → (pairs : List Pair) → pairs_of None entries ≡ pairs → pairs_of None built.0 ≡ pairs
+pairs_are built entries e f pairs g = ap (pairs_of None) (built_are built entries e f) ∙ g
+
+pub OnErr-always : {T E P : Type 0} (r : Result T E) → P → OnErr r P
+OnErr-always (Ok x) h = tt
+OnErr-always (Err e) h = h

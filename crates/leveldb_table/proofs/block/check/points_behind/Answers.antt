@@ -1,0 +1,11 @@
+use Rattle.std.proofs.Common.{sym, ap, ◌∙◌}
+use Rattle.std.proofs.lemmas.List.{take_rest}
+use Rattle.leveldb_table.specs.BlockLaws.{points_after}
+use Rattle.leveldb_table.specs.Reading.{numbers_in}
+use Rattle.leveldb_table.proofs.EntryReads.{numbers_behind}
+use Rattle.leveldb_table.proofs.block.check.points_behind.Goals as goal
+
+pub returns-then-restart : goal.returns-then-restart
+returns-then-restart c =
+    ap numbers_in (take_rest c.args.points.now 4) ∙ numbers_behind c.args.points.now (c.requires c.if-restart.true)
+    ∙ ap (λ z. points_after z (numbers_in c.args.points.now)) (sym c.if-restart.true)

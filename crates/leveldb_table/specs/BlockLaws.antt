@@ -1,0 +1,183 @@
+-- A block has one reading, and what is known of entries that stand one behind the other.
+use Rattle.std.proofs.Common.{◌≡◌, ℕ, zero, suc, ◌+◌, ◌*◌, ◌^◌, ◌<◌, ◌≤◌, Bool, true, false, nat_eq, if◌then◌else◌, List, [], ◌∷◌, ◌++◌, length, take, drop, flat_map, Option, None, Some, refl, sym, ◌∙◌, ap, arith, append_assoc, length-append}
+use Rattle.std.specs.List.{All}
+use Rattle.std.specs.Coded.{Coded-set, coded_list, coded_ℕ}
+use Rattle.std.proofs.Props.{props}
+use Rattle.std.proofs.lemmas.List.Elements.{All-head, All-tail}
+use Rattle.std.proofs.lemmas.Bool.Decides.{nat_tests}
+use Rattle.std.specs.declared.cmp.Ordering.{Ordering}
+use Rattle.byteorder.specs.Endian.{little_from}
+use Rattle.byteorder.specs.Numbers.{little_number-reads_back, length-bytes_low_first}
+use mathlib.Core.HLevel.{Σ_prop_path}
+use Rattle.leveldb_base.specs.Places.{Pair}
+use Rattle.leveldb_base.specs.Varint.{little, varint}
+use Rattle.leveldb_base.specs.VarintLaws.{apart, one_number, length-varint-pos}
+use Rattle.leveldb_table.specs.Block.{Entry, spelling, entry_bytes, key_of, pairs_of, IsShort, SharesFrom, AreEntries, RiseBehind, points_from, restart_points, block_bytes, IsSpelled, IsHeld, Held}
+
+-- ---- one entry
+
+length-spelling : (shared : ℕ) (rest value : List ℕ) → 3 + length rest + length value ≤ length (spelling shared rest value)
+length-spelling shared rest value =
+    omega (arith, length-varint-pos shared, length-varint-pos (length rest), length-varint-pos (length value), length-append {A = ℕ})
+
+-- an entry has three lengths at least
+pub length-entry_bytes-ge : (entry : Entry) → 3 + length entry.rest + length entry.value ≤ length (entry_bytes entry)
+unfolding entry_bytes
+length-entry_bytes-ge entry = length-spelling entry.shared entry.rest entry.value
+
+-- an entry's parts, with what follows
+pub spread : (shared : ℕ) (rest value x : List ℕ) → spelling shared rest value ++ x ≡ varint shared ++ (varint (length rest) ++ (varint (length value) ++ (rest ++ (value ++ x))))
+spread shared rest value x = simp append_assoc
+
+pub one_spelling : (s t : ℕ) (r q v w x y : List ℕ) → spelling s r v ++ x ≡ spelling t q w ++ y → (s ≡ t) × (r ≡ q) × (v ≡ w) × (x ≡ y)
+one_spelling s t r q v w x y e =
+    let one = one_number s t _ _ (sym (spread s r v x) ∙ e ∙ spread t q w y) in
+    let two = one_number (length r) (length q) _ _ one.1 in
+    let three = one_number (length v) (length w) _ _ two.1 in
+    let four = apart r q (v ++ x) (w ++ y) two.0 three.1 in
+    let five = apart v w x y three.0 four.1 in
+    (one.0, four.0, five.0, five.1)
+
+-- an entry at the front of a text, and what follows
+pub one_entry : (a b : Entry) (x y : List ℕ) → entry_bytes a ++ x ≡ entry_bytes b ++ y → (a.shared ≡ b.shared) × (a.rest ≡ b.rest) × (a.value ≡ b.value) × (x ≡ y)
+unfolding entry_bytes
+one_entry a b x y e = one_spelling a.shared b.shared a.rest b.rest a.value b.value x y e
+
+-- an entry of these parts
+abbrev pub entry_of : Bool → ℕ → List ℕ → List ℕ → Entry
+entry_of restart shared rest value = record { restart = restart; shared = shared; rest = rest; value = value }
+
+pub same_parts : (a b : Entry) → a.restart ≡ b.restart → a.shared ≡ b.shared → a.rest ≡ b.rest → a.value ≡ b.value → a ≡ b
+same_parts a b e f g h =
+    let made : Bool → ℕ → List ℕ → List ℕ → Entry = λ k l m n. record { restart = k; shared = l; rest = m; value = n } in
+    ap (λ z. made z a.shared a.rest a.value) e ∙ ap (λ z. made b.restart z a.rest a.value) f ∙ ap (λ z. made b.restart b.shared z a.value) g ∙ ap (λ z. made b.restart b.shared b.rest z) h
+
+-- ---- restart points
+
+-- whether the first of these points is this offset
+abbrev pub begins : ℕ → List ℕ → Bool
+begins offset [] = false
+begins offset (point ∷ points) = nat_eq point offset
+
+-- the points that are left behind an entry
+abbrev pub points_after : Bool → List ℕ → List ℕ
+points_after true [] = []
+points_after true (point ∷ points) = points
+points_after false points = points
+
+begins_if : (b : Bool) (offset point : ℕ) (points : List ℕ) → offset < point → begins offset points ≡ false → begins offset (if b then point ∷ points else points) ≡ false
+begins_if true offset point points h e = grind (arith, nat_tests)
+begins_if false offset point points h e = e
+
+begins_later : (offset later : ℕ) (entries : List Entry) → offset < later → begins offset (points_from later entries) ≡ false
+begins_later offset later [] h = refl
+begins_later offset later (entry ∷ entries) h =
+    begins_if entry.restart offset later (points_from (later + length (entry_bytes entry)) entries) h
+    (begins_later offset (later + length (entry_bytes entry)) entries (omega (arith, h)))
+
+begins_here : (b : Bool) (offset : ℕ) (points : List ℕ) → begins offset points ≡ false → begins offset (if b then offset ∷ points else points) ≡ b
+begins_here true offset points e = grind (arith, nat_tests)
+begins_here false offset points e = e
+
+-- the points tell whether the first entry is one
+pub restart_told : (offset : ℕ) (entry : Entry) (entries : List Entry) → begins offset (points_from offset (entry ∷ entries)) ≡ entry.restart
+restart_told offset entry entries =
+    begins_here entry.restart offset (points_from (offset + length (entry_bytes entry)) entries)
+    (begins_later offset (offset + length (entry_bytes entry)) entries (omega (arith, length-entry_bytes-ge entry)))
+
+after_here : (b : Bool) (offset : ℕ) (points : List ℕ) → points_after b (if b then offset ∷ points else points) ≡ points
+after_here true offset points = refl
+after_here false offset points = refl
+
+-- the points that are left are those of the entries behind
+pub points_left : (offset : ℕ) (entry : Entry) (entries : List Entry) → points_after entry.restart (points_from offset (entry ∷ entries)) ≡ points_from (offset + length (entry_bytes entry)) entries
+points_left offset entry entries = after_here entry.restart offset (points_from (offset + length (entry_bytes entry)) entries)
+
+-- entries have one reading
+one_list : (offset at : ℕ) (xs ys : List Entry) → offset ≡ at → flat_map entry_bytes xs ≡ flat_map entry_bytes ys → points_from offset xs ≡ points_from at ys → xs ≡ ys
+one_list offset at [] [] o e p = refl
+one_list offset at [] (y ∷ ys) o e p =
+    absurd (omega (arith, ap length e, length-append (entry_bytes y) (flat_map entry_bytes ys), length-entry_bytes-ge y))
+one_list offset at (x ∷ xs) [] o e p =
+    absurd (omega (arith, ap length e, length-append (entry_bytes x) (flat_map entry_bytes xs), length-entry_bytes-ge x))
+one_list offset at (x ∷ xs) (y ∷ ys) o e p =
+    let parts = one_entry x y (flat_map entry_bytes xs) (flat_map entry_bytes ys) e in
+    let restart = sym (restart_told offset x xs) ∙ ap (λ z. begins z (points_from offset (x ∷ xs))) o ∙ ap (begins at) p ∙ restart_told at y ys in
+    let first = same_parts x y restart parts.0 parts.1 parts.2 in
+    let left = sym (points_left offset x xs) ∙ ap (λ z. points_after z (points_from offset (x ∷ xs))) restart ∙ ap (points_after y.restart) p ∙ points_left at y ys in
+    let behind = ap (λ z. length (entry_bytes z)) first in
+    ap (λ z. z ∷ xs) first ∙ ap (λ z. y ∷ z) (one_list (offset + length (entry_bytes x)) (at + length (entry_bytes y)) xs ys (omega (arith, o, behind)) parts.3 left)
+
+one_fixed : (m n : ℕ) (x y : List ℕ) → m < 2 ^ 32 → n < 2 ^ 32 → little 4 m ++ x ≡ little 4 n ++ y → (m ≡ n) × (x ≡ y)
+one_fixed m n x y hm hn e = (
+  sym (little_number-reads_back 4 m x (omega (arith, hm))) ∙ ap (little_from 0 4) e ∙ little_number-reads_back 4 n y (omega (arith, hn)),
+  (apart (little 4 m) (little 4 n) x y refl e).1,
+)
+
+one_points : (ms ns : List ℕ) → All (λ offset. offset < 2 ^ 32) ms → All (λ offset. offset < 2 ^ 32) ns → flat_map (little 4) ms ≡ flat_map (little 4) ns → ms ≡ ns
+one_points [] [] hm hn e = refl
+one_points [] (n ∷ ns) hm hn e = absurd (omega (arith, ap length e))
+one_points (m ∷ ms) [] hm hn e = absurd (omega (arith, ap length e))
+one_points (m ∷ ms) (n ∷ ns) hm hn e =
+    let first = one_fixed m n (flat_map (little 4) ms) (flat_map (little 4) ns) (All-head (λ z. z < 2 ^ 32) m ms hm) (All-head (λ z. z < 2 ^ 32) n ns hn) e in
+    ap (λ z. z ∷ ms) first.0 ∙ ap (λ z. n ∷ z) (one_points ms ns (All-tail (λ z. z < 2 ^ 32) m ms hm) (All-tail (λ z. z < 2 ^ 32) n ns hn) first.1)
+
+-- backs of one length of one text are the same
+pub apart_right : (a b x y : List ℕ) → length x ≡ length y → a ++ x ≡ b ++ y → (a ≡ b) × (x ≡ y)
+apart_right a b x y l e = apart a b x y (omega (arith, l, length-append a x, length-append b y, ap length e)) e
+
+-- each restart point takes four bytes
+pub length-points : (points : List ℕ) → length (flat_map (little 4) points) ≡ 4 * length points
+length-points [] = refl
+length-points (point ∷ points) = let rest = length-points points in omega (arith, rest)
+
+-- the same bytes and restart points are the same entries
+pub one_whole : (xs ys : List Entry) → flat_map entry_bytes xs ≡ flat_map entry_bytes ys → restart_points xs ≡ restart_points ys → xs ≡ ys
+one_whole [] [] e p = refl
+one_whole [] (y ∷ ys) e p =
+    absurd (omega (arith, ap length e, length-append (entry_bytes y) (flat_map entry_bytes ys), length-entry_bytes-ge y))
+one_whole (x ∷ xs) [] e p =
+    absurd (omega (arith, ap length e, length-append (entry_bytes x) (flat_map entry_bytes xs), length-entry_bytes-ge x))
+one_whole (x ∷ xs) (y ∷ ys) e p = one_list 0 0 (x ∷ xs) (y ∷ ys) refl e p
+
+-- the three parts of a block
+pub three_parts : (a b x y c d : List ℕ) (m n : ℕ) → m < 2 ^ 32 → n < 2 ^ 32 → length x ≡ 4 * m → length y ≡ 4 * n → a ++ (x ++ little 4 m) ≡ b ++ (y ++ little 4 n) → (a ≡ b) × (x ≡ y) × (m ≡ n)
+three_parts a b x y c d m n hm hn lx ly e =
+    let last = apart_right (a ++ x) (b ++ y) (little 4 m) (little 4 n) refl (append_assoc a x (little 4 m) ∙ e ∙ sym (append_assoc b y (little 4 n))) in
+    let count = (one_fixed m n [] [] hm hn (ap (λ z. z ++ []) last.1)).0 in
+    let front = apart_right a b x y (omega (arith, lx, ly, count)) last.0 in
+    (front.0, front.1, count)
+
+-- a block has one reading
+pub one_block : {cmp : List ℕ → List ℕ → Ordering} {bytes : List ℕ} {xs ys : List Entry} → IsSpelled cmp bytes xs → IsSpelled cmp bytes ys → xs ≡ ys
+unfolding block_bytes
+one_block {cmp} {bytes} {xs} {ys} f g =
+    let parts = three_parts (flat_map entry_bytes xs) (flat_map entry_bytes ys) (flat_map (little 4) (restart_points xs)) (flat_map (little 4) (restart_points ys)) [] []
+    (length (restart_points xs)) (length (restart_points ys)) f.count_fits g.count_fits (length-points (restart_points xs)) (length-points (restart_points ys)) (sym f.spelled ∙ g.spelled) in
+    one_whole xs ys parts.0 (one_points (restart_points xs) (restart_points ys) f.points_fit g.points_fit parts.1)
+
+-- ---- one proof
+
+SharesFrom-prop : (last : Option (List ℕ)) (entry : Entry) → IsProp (SharesFrom last entry)
+SharesFrom-prop None entry = hlevel props
+SharesFrom-prop (Some last) entry = hlevel props
+
+-- and in one way
+pub AreEntries-prop : (last : Option (List ℕ)) (entries : List Entry) → IsProp (AreEntries last entries)
+AreEntries-prop last [] = hlevel props
+AreEntries-prop last (entry ∷ entries) = hlevel (props, SharesFrom-prop last entry, AreEntries-prop (Some (key_of last entry)) entries)
+
+pub RiseBehind-prop : (cmp : List ℕ → List ℕ → Ordering) (last : Option (List ℕ)) (pairs : List Pair) → IsProp (RiseBehind cmp last pairs)
+RiseBehind-prop cmp last [] = hlevel props
+RiseBehind-prop cmp None (pair ∷ pairs) = RiseBehind-prop cmp (Some pair.0) pairs
+RiseBehind-prop cmp (Some last) (pair ∷ pairs) = hlevel (props, RiseBehind-prop cmp (Some pair.0) pairs)
+
+IsSpelled-prop : (cmp : List ℕ → List ℕ → Ordering) (bytes : List ℕ) (entries : List Entry) → IsProp (IsSpelled cmp bytes entries)
+IsSpelled-prop cmp bytes entries = hlevel (props, AreEntries-prop None entries, RiseBehind-prop cmp None (pairs_of None entries))
+
+IsHeld-prop : (accepts : List ℕ → Bool) (cmp : List ℕ → List ℕ → Ordering) (bytes : List ℕ) (limit : ℕ) (accepted : Bool) (entries : List Entry) → IsProp (IsHeld accepts cmp bytes limit accepted entries)
+IsHeld-prop accepts cmp bytes limit accepted entries = hlevel (props, IsSpelled-prop cmp bytes entries)
+
+-- a block is held in one way
+pub Held-prop : (accepts : List ℕ → Bool) (cmp : List ℕ → List ℕ → Ordering) (bytes : List ℕ) (limit : ℕ) (accepted : Bool) → IsProp (Held accepts cmp bytes limit accepted)
+Held-prop accepts cmp bytes limit accepted = λ u v. Σ_prop_path (IsHeld-prop accepts cmp bytes limit accepted) (one_block u.1.spelled v.1.spelled)

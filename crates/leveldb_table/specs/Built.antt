@@ -1,0 +1,52 @@
+-- What a block builder has, and what it makes of it.
+use Rattle.std.specs.Prelude.{◌≡◌, ℕ, ◌+◌, ◌*◌, ◌%◌, ◌^◌, ◌<◌, ◌≤◌, ◌⊎◌, Bool, true, false, nat_eq, if◌then◌else◌, List, [], ◌∷◌, ◌++◌, length, flat_map, Option, None, Some}
+use Rattle.std.specs.List.{All}
+use Rattle.std.specs.declared.cmp.Ordering.{Ordering}
+use Rattle.leveldb_base.specs.Places.{Pair}
+use Rattle.leveldb_table.specs.Block.{Entry, entry_bytes, pairs_of, AreEntries, KeysRise, restart_points}
+use Rattle.leveldb_table.specs.Reading.{key_before}
+use Rattle.leveldb_table.specs.Walk.{last_key}
+
+-- every so many entries a restart point names one, the first having this number
+abbrev pub AreSpaced : ℕ → ℕ → List Entry → Type 0
+AreSpaced interval i [] = Unit {0}
+AreSpaced interval i (entry ∷ entries) = (entry.restart ≡ nat_eq (i % interval) 0) × AreSpaced interval (i + 1) entries
+
+-- the restart points that an entry at an offset brings
+abbrev pub points_more : Bool → ℕ → List ℕ
+points_more true offset = offset ∷ []
+points_more false offset = []
+
+-- the key of the last pair, or none
+abbrev pub last_added : List Pair → List ℕ
+last_added [] = []
+last_added (pair ∷ []) = pair.0
+last_added (pair ∷ next ∷ pairs) = last_added (next ∷ pairs)
+
+-- the bytes of the entries, four for each restart point that is set, and four for their count
+abbrev pub estimate : List Entry → Bool → ℕ
+estimate entries begun = length (flat_map entry_bytes entries) + 4 * (if begun then length (restart_points entries) else 0) + 4
+
+-- the entry would begin at an offset of more than 32 bits, or have a length of so many
+abbrev pub IsTooLarge : List Entry → List ℕ → List ℕ → Type 0
+IsTooLarge entries key value = (2 ^ 32 ≤ length (flat_map entry_bytes entries)) ⊎ (2 ^ 32 ≤ length key) ⊎ (2 ^ 32 ≤ length value)
+
+-- The bytes are these entries, a restart point every so many; the further points are the restart points behind the first,
+-- which is set where there are entries.
+pub record IsBuilt (cmp : List ℕ → List ℕ → Ordering) (interval : ℕ) (bytes points last : List ℕ) (count : ℕ) (begun : Bool) (entries : List Entry) : Type 0 where
+  pub some_interval : 1 ≤ interval
+  pub spelled : bytes ≡ flat_map entry_bytes entries
+  pub pointed : 0 ∷ points ≡ restart_points entries
+  pub spaced : AreSpaced interval 0 entries
+  pub allowed : AreEntries None entries
+  pub sorted : KeysRise cmp (pairs_of None entries)
+  pub reached : last_key None entries ≡ key_before (nat_eq count 0) last
+  pub cleared : count ≡ 0 → last ≡ []
+  pub counted : count ≡ length entries
+  pub begins : 0 < count → begun ≡ true
+  pub points_fit : All (λ offset. offset < 2 ^ 32) points
+  pub count_fits : length points + 1 < 2 ^ 32
+
+-- some entries have been added
+abbrev pub Built : (List ℕ → List ℕ → Ordering) → ℕ → List ℕ → List ℕ → List ℕ → ℕ → Bool → Type 0
+Built cmp interval bytes points last count begun = (entries : List Entry) × IsBuilt cmp interval bytes points last count begun entries

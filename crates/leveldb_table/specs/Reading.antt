@@ -1,0 +1,61 @@
+-- What reading and checking the bytes of a block gives.
+use Rattle.std.specs.Prelude.{◌≡◌, ℕ, zero, suc, ◌+◌, ◌-◌, ◌*◌, ◌/◌, ◌^◌, ◌<◌, ◌≤◌, Bool, true, false, nat_eq, List, [], ◌∷◌, ◌++◌, length, drop, flat_map, Option, None, Some}
+use Rattle.std.specs.List.{All}
+use Rattle.std.specs.Borrow.{Bor}
+use Rattle.std.specs.declared.cmp.Ordering.{Ordering}
+use Rattle.byteorder.specs.Endian.{little_number}
+use Rattle.leveldb_base.specs.Varint.{varint}
+use Rattle.leveldb_table.specs.Block.{Entry, spelling, entry_bytes, pairs_of, IsShort, AreEntries, RiseBehind, KeysRise, restart_points}
+use Rattle.leveldb_table.specs.BlockLaws.{entry_of}
+use Rattle.leveldb_table.specs.declared.block.entry.EntryParts.{EntryParts}
+
+-- the number, and the bytes behind it
+abbrev pub lent_number : Option (ℕ × Bor (List ℕ)) → Option (ℕ × List ℕ)
+lent_number None = None
+lent_number (Some read) = Some (read.0, read.1.now)
+
+-- what reading a number at the front of some bytes gives: the number and what follows it, or nothing where no spelling of
+-- a number of 32 bits stands there
+abbrev pub ReadsNumber : List ℕ → Option (ℕ × List ℕ) → Type 0
+ReadsNumber bytes (Some (n, left)) = (n < 2 ^ 32) × (bytes ≡ varint n ++ left)
+ReadsNumber bytes None = (n : ℕ) (left : List ℕ) → n < 2 ^ 32 → bytes ≡ varint n ++ left → ⊥
+
+-- the entry of these parts, named by a restart point or not
+abbrev pub entry_in : Bool → EntryParts → Entry
+entry_in restart parts = entry_of restart parts.shared parts.rest.now parts.value.now
+
+-- what reading an entry at the front of some bytes gives: its parts and what follows it, or nothing where none stands there
+abbrev pub ReadsEntry : List ℕ → Option (EntryParts × Bor (List ℕ)) → Type 0
+ReadsEntry bytes (Some read) = IsShort (entry_in false read.0) × (bytes ≡ spelling read.0.shared read.0.rest.now read.0.value.now ++ read.1.now)
+ReadsEntry bytes None = (entry : Entry) (left : List ℕ) → IsShort entry → bytes ≡ entry_bytes entry ++ left → ⊥
+
+-- so many numbers of four bytes each
+abbrev pub numbers : ℕ → List ℕ → List ℕ
+numbers zero bytes = []
+numbers (suc count) bytes = little_number 4 bytes ∷ numbers count (drop 4 bytes)
+
+-- all numbers of four bytes each
+unfoldable pub numbers_in : List ℕ → List ℕ
+numbers_in bytes = numbers (length bytes / 4) bytes
+
+-- the number in the last four bytes
+abbrev pub count_at_end : List ℕ → ℕ
+count_at_end bytes = little_number 4 (drop (length bytes - 4) bytes)
+
+-- the key before an entry, where the entry isn't the first
+abbrev pub key_before : Bool → List ℕ → Option (List ℕ)
+key_before true key = None
+key_before false key = Some key
+
+-- the bytes and the restart points are those of these entries, whose keys rise strictly
+pub record AreParts (cmp : List ℕ → List ℕ → Ordering) (bytes points : List ℕ) (entries : List Entry) : Type 0 where
+  pub allowed : AreEntries None entries
+  pub sorted : KeysRise cmp (pairs_of None entries)
+  pub spelled : bytes ≡ flat_map entry_bytes entries
+  pub marked : points ≡ restart_points entries
+
+-- What checking bytes of entries and restart points finds: that they fit, and perhaps that the comparator accepts all keys,
+-- or that they don't.
+abbrev pub Checks : (List ℕ → Bool) → (List ℕ → List ℕ → Ordering) → List ℕ → List ℕ → Option Bool → Type 0
+Checks accepts cmp bytes points (Some accepted) = (entries : List Entry) × AreParts cmp bytes points entries × (accepted ≡ true → All (λ pair. accepts pair.0 ≡ true) (pairs_of None entries))
+Checks accepts cmp bytes points None = (entries : List Entry) → AreParts cmp bytes points entries → ⊥

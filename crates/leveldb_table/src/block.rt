@@ -1,0 +1,102 @@
+//! Blocks: sorted pairs as bytes, checked once and then walked both ways.
+ghost use Rattle.std.specs.Prelude.{◌≡◌, ◌⊎◌, None, IfOk, IfErr, IsErrAnd};
+ghost use Rattle.leveldb_base.specs.Status.{IsOutOfMemory};
+ghost use Rattle.leveldb_base.specs.declared.error.StatusCode.TheVariants.{Corruption};
+ghost use Rattle.leveldb_table.specs.Block.{Held, IsBlock, IsNoBlock, pairs_of};
+ghost use Rattle.leveldb_table.specs.BlockLaws.{Held-prop};
+
+use bytes::Bytes;
+use check::{check_parts, entries_end};
+use leveldb_base::cmp::Cmp;
+use leveldb_base::error::{Result, StatusCode, err};
+use std::alloc::{AllocError, Global};
+
+mod check;
+mod entry;
+mod iter;
+mod points;
+mod walk;
+
+pub use iter::BlockIter;
+pub use walk::{BlockCore, Spot};
+
+/// The bytes of a block, shared with no copy.
+pub type BlockContents = Bytes;
+
+/// Pairs sorted under a comparator, held as the bytes of a block.
+#[derive(Drop)]
+pub struct Block<C: Cmp> {
+    cmp: C,
+    contents: BlockContents,
+
+    // where the entries end
+    limit: usize,
+
+    // whether it is known that the comparator accepts all keys
+    accepted: bool,
+    pub ghost held: { Held (C.accepts cmp) (C.cmp cmp) contents limit accepted } by { Held-prop (C.accepts cmp) (C.cmp cmp) contents limit accepted },
+}
+
+impl<C: Cmp + Drop> Block<C> {
+    /// The block that these bytes are under `cmp`.
+    /// `Corruption` where they are none.
+    pub fn new(alloc: Global, cmp: C, contents: BlockContents) -> Result<Block<C>>
+        ensures ok { IfOk result (λ block. IsBlock (C.cmp cmp) contents (pairs_of None block.held.0)) }
+        ensures same_contents { IfOk result (λ block. block.contents ≡ contents) }
+        ensures same_order { IfOk result (λ block. block.cmp ≡ cmp) }
+        ensures damage { IsErrAnd result (λ status. status.code ≡ Corruption) → IsNoBlock (C.cmp cmp) contents }
+        ensures cause { IfErr result (λ status. (status.code ≡ Corruption) ⊎ IsOutOfMemory status) }
+    {
+        let bytes = contents.as_slice();
+        let Some(limit) = entries_end(bytes) else {
+            return damaged(alloc);
+        };
+        match check_parts(alloc, &cmp, &bytes[..limit], &bytes[limit..bytes.len() - 4])? {
+            Some(accepted) => Ok(Block {
+                cmp,
+                contents,
+                limit,
+                accepted,
+            }),
+            None => damaged(alloc),
+        }
+    }
+
+    /// A walk over the block's pairs, at no place.
+    pub fn iter(&self, alloc: Global) -> BlockIter<'_, C>
+        ensures block { result.block.now ≡ self.entry.now }
+        ensures place { result.core.spot ≡ None }
+    {
+        BlockIter::new(alloc, self)
+    }
+
+    /// The bytes of the block, shared with no copy.
+    pub fn contents(&self) -> Result<BlockContents>
+        ensures ok { IfOk result (λ contents. contents ≡ self.now.contents) }
+        ensures memory { IfErr result IsOutOfMemory }
+    {
+        Ok(self.contents.clone()?)
+    }
+}
+
+impl<C: Cmp + Copy> Clone for Block<C> {
+    ghost is_clone = { λ block copy. (copy.contents ≡ block.contents) × (copy.cmp ≡ block.cmp) };
+
+    fn clone(&self) -> std::result::Result<Block<C>, AllocError> {
+        Ok(Block {
+            cmp: self.cmp,
+            contents: self.contents.clone()?,
+            limit: self.limit,
+            accepted: self.accepted,
+        })
+    }
+}
+
+fn damaged<T>(alloc: Global) -> Result<T>
+    ensures { IsErrAnd result (λ status. status.code ≡ Corruption) }
+{
+    err(alloc, StatusCode::Corruption, "not a block")
+}
+
+#[cfg(test)]
+mod tests;

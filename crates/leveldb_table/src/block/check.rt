@@ -1,0 +1,131 @@
+//! The check of a block's bytes, in one pass.
+ghost use Rattle.std.specs.Prelude.{◌≡◌, ◌↔◌, All, ◌+◌, ◌*◌, ◌<◌, ◌≤◌, true, length, MatchOption, IsSome, List, [], ◌∷◌, ◌++◌, take, IfOk, OnOk, IfErr, IsTrue};
+ghost use Rattle.leveldb_base.specs.Status.{IsOutOfMemory};
+ghost use Rattle.leveldb_table.specs.Block.{SharesFrom, RiseBehind};
+ghost use Rattle.leveldb_table.specs.BlockLaws.{begins, points_after};
+ghost use Rattle.leveldb_table.specs.Reading.{entry_in, key_before, numbers_in, count_at_end, Checks};
+
+use crate::block::entry::{EntryParts, begins_at, take_entry};
+use byteorder::{ByteOrder, LittleEndian};
+use leveldb_base::cmp::Cmp;
+use leveldb_base::error::Result;
+use std::alloc::Global;
+use std::mem;
+
+// Whether the entry shares no more than it may with the key before it.
+#[inline]
+fn shares_within(first: bool, restart: bool, key: &[u8], entry: &EntryParts<'_>) -> bool
+    ensures { IsTrue result ↔ SharesFrom (key_before first key.now) (entry_in restart entry.now) }
+{
+    if first || restart {
+        restart && entry.shared == 0
+    } else {
+        entry.shared <= key.len()
+    }
+}
+
+// Whether the next key is after the one before it.
+#[inline]
+fn rises<C: Cmp>(cmp: &C, first: bool, key: &[u8], next: &[u8]) -> bool
+    ensures { IsTrue result ↔ RiseBehind (C.cmp cmp.now) (key_before first key.now) ((next.now, []) ∷ []) }
+{
+    first || cmp.cmp(key, next).is_lt()
+}
+
+// Whether it accepts this key too.
+#[inline]
+fn accepts_too<C: Cmp>(cmp: &C, accepted: bool, key: &[u8]) -> bool
+    ensures { result ≡ true → (accepted ≡ true) × (C.accepts cmp.now key.now ≡ true) }
+{
+    accepted && cmp.accepts(key)
+}
+
+// The restart points that are left behind an entry, which begins at the first of them or not.
+#[inline]
+fn points_behind(points: &[u8], restart: bool) -> &[u8]
+    requires { restart ≡ true → 4 ≤ length points.now }
+    ensures { numbers_in result.now ≡ points_after restart (numbers_in points.now) }
+{
+    if restart { &points[4..] } else { points }
+}
+
+// What the restart points tell of a block without entries.
+fn answer_empty(points: &[u8]) -> Option<bool>
+    ensures some { IsSome result → (begins 0 (numbers_in points.now) ≡ true) × (length points.now < 8) }
+    ensures none { begins 0 (numbers_in points.now) ≡ true → length points.now < 8 → IsSome result }
+{
+    if begins_at(points, 0) && points.len() < 8 {
+        Some(true)
+    } else {
+        None
+    }
+}
+
+// Makes it the entry's key.
+#[inline]
+fn put_key(next: &mut Vec<u8>, key: &[u8], entry: &EntryParts<'_>) -> Result<()>
+    ensures ok { OnOk result (next.new.items ≡ take entry.now.shared key.now ++ entry.now.rest.now) }
+    ensures memory { IfErr result IsOutOfMemory }
+{
+    let shared = entry.shared.min(key.len());
+    next.clear();
+    next.extend_from_slice(&key[..shared])?;
+    next.extend_from_slice(entry.rest)?;
+    Ok(())
+}
+
+/// Where the entries of a block end and its restart points begin; `None` where it is too short for those that it counts.
+pub(crate) fn entries_end(bytes: &[u8]) -> Option<usize>
+    ensures bytes { All (λ byte. byte < 256) bytes.now }
+    ensures place { MatchOption result (length bytes.now < 4 * count_at_end bytes.now + 4) (λ limit. limit + (4 * count_at_end bytes.now + 4) ≡ length bytes.now) }
+{
+    let points_end = bytes.len().checked_sub(4)?;
+    let count = LittleEndian::read_u32(&bytes[points_end..]);
+    points_end.checked_sub(4 * count as usize)
+}
+
+/// Looks at the entries and the restart points of a block. `None` where they are none; else whether `cmp` accepts all
+/// their keys.
+pub(crate) fn check_parts<C: Cmp>(
+    alloc: Global,
+    cmp: &C,
+    entries: &[u8],
+    points: &[u8],
+) -> Result<Option<bool>>
+    ensures answer { IfOk result (Checks (C.accepts cmp.now) (C.cmp cmp.now) entries.now (numbers_in points.now)) }
+    ensures memory { IfErr result IsOutOfMemory }
+{
+    if entries.is_empty() {
+        return Ok(answer_empty(points));
+    }
+    let mut key = Vec::new(alloc);
+    let mut next = Vec::new(alloc);
+    let mut left = entries;
+    let mut points_left = points;
+    let mut first = true;
+    let mut accepted = true;
+    while !left.is_empty() {
+        let Some((entry, behind)) = take_entry(left) else {
+            return Ok(None);
+        };
+        let restart = begins_at(points_left, entries.len() - left.len());
+        let before = key.as_slice();
+        if !shares_within(first, restart, before, &entry) {
+            return Ok(None);
+        }
+        put_key(&mut next, before, &entry)?;
+        let now = next.as_slice();
+        if !rises(cmp, first, before, now) {
+            return Ok(None);
+        }
+        accepted = accepts_too(cmp, accepted, now);
+        mem::swap(&mut key, &mut next);
+        first = false;
+        left = behind;
+        points_left = points_behind(points_left, restart);
+    }
+    if points_left.len() >= 4 {
+        return Ok(None);
+    }
+    Ok(Some(accepted))
+}

@@ -1,0 +1,197 @@
+//! A walk over a block, which keeps no borrow of it.
+ghost use Rattle.std.specs.Prelude.{◌≡◌, ℕ, ◌<◌, ◌≤◌, length, Some, None, MatchOption, IfOk, OnOk, OnErr, IfErr, is_some};
+ghost use Rattle.leveldb_base.specs.Places.{next_place, previous_place, seek_place, place_within, pair_at, pair_of};
+ghost use Rattle.leveldb_base.specs.Status.{IsOutOfMemory};
+ghost use Rattle.leveldb_table.specs.Block.{pairs_of};
+ghost use Rattle.leveldb_table.specs.Walk.{last_place, start_of, IsPoint, Loads, IsWithin, place_of, StandsBetween, StandsBefore};
+
+use crate::block::Block;
+use crate::block::entry::take_entry;
+use leveldb_base::cmp::Cmp;
+use leveldb_base::error::Result;
+use std::alloc::Global;
+
+/// Where an entry lies among a block's bytes: its first, the first of its value, and the first behind it.
+#[derive(Clone, Copy, Debug)]
+pub struct Spot {
+    start: usize,
+    value: usize,
+    next: usize,
+}
+
+// Where the entry behind the spot begins, the first entry being behind none.
+#[inline]
+fn next_start(spot: Option<Spot>) -> usize
+    ensures { MatchOption spot (result ≡ 0) (λ there. result ≡ there.next) }
+{
+    match spot {
+        None => 0,
+        Some(spot) => spot.next,
+    }
+}
+
+// Where the entry at the spot begins, or 0.
+#[inline]
+fn here_start(spot: Option<Spot>) -> usize
+    ensures { MatchOption spot (result ≡ 0) (λ there. result ≡ there.start) }
+{
+    match spot {
+        None => 0,
+        Some(spot) => spot.start,
+    }
+}
+
+/// A place in a block, or none. It keeps no borrow: each call is given the block, always the same one.
+#[derive(Debug, Drop)]
+pub struct BlockCore {
+    // the key of the entry there
+    key: Vec<u8>,
+    spot: Option<Spot>,
+}
+
+impl BlockCore {
+    /// At no place.
+    pub fn new(alloc: Global) -> BlockCore
+        ensures { result.spot ≡ None }
+    {
+        BlockCore {
+            key: Vec::new(alloc),
+            spot: None,
+        }
+    }
+
+    // Goes to the entry that begins at `start`, and answers where it ends.
+    #[inline]
+    fn load<C: Cmp>(&mut self, block: &Block<C>, start: usize) -> Result<usize>
+        requires { Loads block.now.held.0 self.old.key.items start }
+        ensures ok { IfOk result (λ next. StandsBetween block.now.contents block.now.held.0 self.new.key.items self.new.spot start next) }
+        ensures err { OnErr result (self.new.spot ≡ None) }
+        ensures cause { IfErr result IsOutOfMemory }
+    {
+        let (entry, left) = take_entry(&block.contents.as_slice()[start..block.limit]).unwrap();
+        self.spot = None;
+        self.key.truncate(entry.shared);
+        self.key.extend_from_slice(entry.rest)?;
+        let next = block.limit - left.len();
+        self.spot = Some(Spot {
+            start,
+            value: next - entry.value.len(),
+            next,
+        });
+        Ok(next)
+    }
+
+    // Goes from the entry at a restart point to the one that ends at `stop`.
+    fn walk<C: Cmp>(&mut self, block: &Block<C>, point: usize, stop: usize) -> Result<()>
+        requires point { IsPoint block.now.held.0 point }
+        requires before { point < stop }
+        requires stop { (i : ℕ) × (i ≤ length block.now.held.0) × (stop ≡ start_of block.now.held.0 i) }
+        ensures ok { OnOk result (StandsBefore block.now.contents block.now.held.0 self.new.key.items self.new.spot stop) }
+        ensures err { OnErr result (self.new.spot ≡ None) }
+        ensures cause { IfErr result IsOutOfMemory }
+    {
+        let mut next = self.load(block, point)?;
+        while next < stop {
+            next = self.load(block, next)?;
+        }
+        Ok(())
+    }
+
+    /// Goes to the next pair, from no place to the first, and from the last to no place.
+    /// Answers whether it stands on a pair.
+    pub fn advance<C: Cmp>(&mut self, block: &Block<C>) -> Result<bool>
+        requires { IsWithin block.now.contents block.now.held.0 self.old.key.items self.old.spot }
+        ensures within { IsWithin block.now.contents block.now.held.0 self.new.key.items self.new.spot }
+        ensures ok { OnOk result (place_of block.now.held.0 self.new.spot ≡ next_place (pairs_of None block.now.held.0) (place_of block.now.held.0 self.old.spot)) }
+        ensures answer { IfOk result (λ there. there ≡ is_some (place_of block.now.held.0 self.new.spot)) }
+        ensures err { OnErr result (place_of block.now.held.0 self.new.spot ≡ None) }
+        ensures cause { IfErr result IsOutOfMemory }
+    {
+        let next = next_start(self.spot);
+        if next == block.limit {
+            self.spot = None;
+            return Ok(false);
+        }
+        self.load(block, next)?;
+        Ok(true)
+    }
+
+    /// Goes to the pair before, and from the first or from no place to no place.
+    /// Answers whether it stands on a pair.
+    pub fn prev<C: Cmp>(&mut self, block: &Block<C>) -> Result<bool>
+        requires { IsWithin block.now.contents block.now.held.0 self.old.key.items self.old.spot }
+        ensures within { IsWithin block.now.contents block.now.held.0 self.new.key.items self.new.spot }
+        ensures ok { OnOk result (place_of block.now.held.0 self.new.spot ≡ previous_place (place_of block.now.held.0 self.old.spot)) }
+        ensures answer { IfOk result (λ there. there ≡ is_some (place_of block.now.held.0 self.new.spot)) }
+        ensures err { OnErr result (place_of block.now.held.0 self.new.spot ≡ None) }
+        ensures cause { IfErr result IsOutOfMemory }
+    {
+        let start = here_start(self.spot);
+        if start == 0 {
+            self.spot = None;
+            return Ok(false);
+        }
+        self.walk(block, block.point_before(start), start)?;
+        Ok(true)
+    }
+
+    /// Goes to the first pair whose key is at or after `key`, or to no place where all keys are before it.
+    pub fn seek<C: Cmp>(&mut self, block: &Block<C>, key: &[u8]) -> Result<()>
+        requires { IsWithin block.now.contents block.now.held.0 self.old.key.items self.old.spot }
+        ensures within { IsWithin block.now.contents block.now.held.0 self.new.key.items self.new.spot }
+        ensures ok { OnOk result (place_of block.now.held.0 self.new.spot ≡ seek_place (C.cmp block.now.cmp) (pairs_of None block.now.held.0) key.now) }
+        ensures err { OnErr result (place_of block.now.held.0 self.new.spot ≡ None) }
+        ensures cause { IfErr result IsOutOfMemory }
+    {
+        let mut next = block.point_before_key(key);
+        while next < block.limit {
+            next = self.load(block, next)?;
+            if !block.cmp.cmp(self.key.as_slice(), key).is_lt() {
+                return Ok(());
+            }
+        }
+        self.spot = None;
+        Ok(())
+    }
+
+    /// Goes to the last pair, or to no place in an empty block.
+    pub fn seek_to_last<C: Cmp>(&mut self, block: &Block<C>) -> Result<()>
+        requires { IsWithin block.now.contents block.now.held.0 self.old.key.items self.old.spot }
+        ensures within { IsWithin block.now.contents block.now.held.0 self.new.key.items self.new.spot }
+        ensures ok { OnOk result (place_of block.now.held.0 self.new.spot ≡ last_place (pairs_of None block.now.held.0)) }
+        ensures err { OnErr result (place_of block.now.held.0 self.new.spot ≡ None) }
+        ensures cause { IfErr result IsOutOfMemory }
+    {
+        if block.limit == 0 {
+            self.spot = None;
+            return Ok(());
+        }
+        self.walk(block, block.last_point(), block.limit)
+    }
+
+    /// Goes to no place.
+    pub fn reset(&mut self)
+        ensures { self.new.spot ≡ None }
+    {
+        self.spot = None;
+    }
+
+    /// Whether it stands on a pair.
+    pub fn valid(&self) -> bool
+        ensures { result ≡ is_some self.now.spot }
+    {
+        self.spot.is_some()
+    }
+
+    /// The key and the value of the pair on which it stands.
+    pub fn current<'a, C: Cmp>(&'a self, block: &'a Block<C>) -> Option<(&'a [u8], &'a [u8])>
+        requires { IsWithin block.now.contents block.now.held.0 self.now.key.items self.now.spot }
+        ensures { pair_of result ≡ pair_at (pairs_of None block.entry.now.held.0) (place_of block.entry.now.held.0 self.entry.now.spot) }
+    {
+        let spot = self.spot?;
+        Some((
+            self.key.as_slice(),
+            &block.contents.as_slice()[spot.value..spot.next],
+        ))
+    }
+}

@@ -1,0 +1,235 @@
+//! Block builders: pairs in order, put into the bytes of a block.
+ghost use Rattle.std.specs.Prelude.{◌≡◌, ◌↔◌, ◌⊎◌, ℕ, ◌+◌, ◌*◌, ◌^◌, ◌<◌, ◌≤◌, Bool, true, false, List, [], ◌∷◌, ◌++◌, length, take, flat_map, None, vec_len, vec_capacity, IfOk, IfErr, OnOk, OnErr, IsErrAnd, IsTrue};
+ghost use Rattle.leveldb_base.specs.Status.{IsOutOfMemory};
+ghost use Rattle.leveldb_base.specs.Varint.{little, varint};
+ghost use Rattle.leveldb_base.specs.declared.error.StatusCode.TheVariants.{NotSupported};
+ghost use Rattle.leveldb_table.specs.Block.{IsBlock, KeysRise, pairs_of, spelling};
+ghost use Rattle.leveldb_table.specs.Built.{AreSpaced, last_added, IsTooLarge, Built, estimate, points_more};
+ghost use Rattle.leveldb_table.specs.BuiltLaws.{Built-prop};
+
+use crate::block::BlockContents;
+use byteorder::{ByteOrder, LittleEndian};
+use bytes::Bytes;
+use leveldb_base::cmp::Cmp;
+use leveldb_base::error::{Result, StatusCode, err};
+use leveldb_base::varint::encode_varint64;
+use leveldb_env::options::Options;
+use std::alloc::Global;
+
+/// Pairs in strictly rising order, put into the bytes of a block.
+#[derive(Drop)]
+pub struct BlockBuilder<C: Cmp> {
+    cmp: C,
+    interval: usize,
+    buffer: Vec<u8>,
+
+    // the restart points behind the first
+    points: Vec<u32>,
+    last_key: Vec<u8>,
+    count: usize,
+
+    // whether the first restart point is set
+    begun: bool,
+    pub ghost built: { Built (C.cmp cmp) interval buffer.items points.items last_key.items count begun } by { Built-prop (C.cmp cmp) interval buffer.items points.items last_key.items count begun },
+}
+
+impl<C: Cmp> BlockBuilder<C> {
+    /// A builder under the options' comparator and restart interval, with the first restart point set.
+    pub fn new<FP>(alloc: Global, options: &Options<C, FP>) -> BlockBuilder<C>
+    where
+        C: Copy,
+        requires { 1 ≤ options.now.block_restart_interval }
+        ensures none { result.built.0 ≡ [] }
+        ensures begun { result.begun ≡ true }
+        ensures order { result.cmp ≡ options.now.cmp }
+        ensures interval { result.interval ≡ options.now.block_restart_interval }
+    {
+        BlockBuilder {
+            cmp: options.cmp,
+            interval: options.block_restart_interval,
+            buffer: Vec::new(alloc),
+            points: Vec::new(alloc),
+            last_key: Vec::new(alloc),
+            count: 0,
+            begun: true,
+        }
+    }
+
+    /// How many pairs were added.
+    pub fn entries(&self) -> usize
+        ensures { result ≡ length self.now.built.0 }
+    {
+        self.count
+    }
+
+    /// The key that was added last, empty where there is none.
+    pub fn last_key(&self) -> &[u8]
+        ensures { result.now ≡ last_added (pairs_of None self.now.built.0) }
+    {
+        self.last_key.as_slice()
+    }
+
+    /// How many bytes the block would have: those of the entries, four for each restart point that is set, and four.
+    pub fn size_estimate(&self) -> usize
+        ensures { result ≡ estimate self.now.built.0 self.now.begun }
+    {
+        let points = if self.begun { self.points.len() + 1 } else { 0 };
+        self.buffer.len() + 4 * points + 4
+    }
+
+    /// Takes all pairs out, and the first restart point too, which the next `add` or `finish` sets again.
+    pub fn reset(&mut self)
+        ensures none { self.new.built.0 ≡ [] }
+        ensures begun { self.new.begun ≡ false }
+        ensures order { self.new.cmp ≡ self.old.cmp }
+        ensures interval { self.new.interval ≡ self.old.interval }
+    {
+        self.buffer.clear();
+        self.points.clear();
+        self.last_key.clear();
+        self.count = 0;
+        self.begun = false;
+    }
+
+    /// Adds a pair whose key is after all others.
+    /// `NotSupported` where the entry would begin at an offset, or have a length, of more than 32 bits.
+    pub fn add(&mut self, key: &[u8], value: &[u8]) -> Result<()>
+        requires { KeysRise (C.cmp self.old.cmp) (pairs_of None self.old.built.0 ++ (key.now, value.now) ∷ []) }
+        ensures ok { OnOk result (pairs_of None self.new.built.0 ≡ pairs_of None self.old.built.0 ++ (key.now, value.now) ∷ []) }
+        ensures begun { OnOk result (self.new.begun ≡ true) }
+        ensures err { OnErr result (self.new.built.0 ≡ self.old.built.0) }
+        ensures still { OnErr result (self.new.begun ≡ self.old.begun) }
+        ensures order { self.new.cmp ≡ self.old.cmp }
+        ensures interval { self.new.interval ≡ self.old.interval }
+        ensures too_large { IsErrAnd result (λ status. status.code ≡ NotSupported) ↔ IsTooLarge self.old.built.0 key.now value.now }
+        ensures cause { IfErr result (λ status. (status.code ≡ NotSupported) ⊎ IsOutOfMemory status) }
+    {
+        if !fits(self.buffer.len(), key, value) {
+            let alloc = *self.buffer.allocator();
+            return err(
+                alloc,
+                StatusCode::NotSupported,
+                "a block has offsets of 32 bits",
+            );
+        }
+        let restart = self.count % self.interval == 0;
+        let shared = shared_with(self.last_key.as_slice(), key, restart);
+        self.buffer.reserve(15 + key.len() + value.len())?;
+        self.last_key.reserve(key.len())?;
+        self.points.reserve(1)?;
+        put_point(&mut self.points, restart, self.count, self.buffer.len());
+        put_entry(&mut self.buffer, shared, &key[shared..], value);
+        self.last_key.clear();
+        self.last_key.extend_from_slice(key).unwrap();
+        self.count += 1;
+        self.begun = true;
+        Ok(())
+    }
+
+    /// The block of the pairs that were added.
+    pub fn finish(self) -> Result<BlockContents>
+    where
+        C: Drop,
+        ensures ok { IfOk result (λ contents. IsBlock (C.cmp self.cmp) contents (pairs_of None self.built.0)) }
+        ensures spaced { AreSpaced self.interval 0 self.built.0 }
+        ensures memory { IfErr result IsOutOfMemory }
+    {
+        let mut buffer = self.buffer;
+        put_points(&mut buffer, &self.points)?;
+        Ok(Bytes::from_vec(buffer)?)
+    }
+}
+
+// Whether offset and lengths have 32 bits.
+#[inline]
+fn fits(offset: usize, key: &[u8], value: &[u8]) -> bool
+    ensures { IsTrue result ↔ ((offset < 2 ^ 32) × (length key.now < 2 ^ 32) × (length value.now < 2 ^ 32)) }
+{
+    let limit = 1 << 32;
+    offset < limit && key.len() < limit && value.len() < limit
+}
+
+// How many bytes at the front of both keys are the same, or 0 at a restart point.
+fn shared_with(last: &[u8], key: &[u8], restart: bool) -> usize
+    ensures within_last { result ≤ length last.now }
+    ensures within_key { result ≤ length key.now }
+    ensures same { take result last.now ≡ take result key.now }
+    ensures none { restart ≡ true → result ≡ 0 }
+{
+    if restart {
+        return 0;
+    }
+    let longest = last.len().min(key.len());
+    for i in 0..longest {
+        if last[i] != key[i] {
+            return i;
+        }
+    }
+    longest
+}
+
+// Puts a restart point behind the others, where the entry at the offset has one and isn't the first.
+fn put_point(points: &mut Vec<u32>, restart: bool, count: usize, offset: usize)
+    requires fits { offset < 2 ^ 32 }
+    requires room { vec_len points.old + 1 ≤ vec_capacity points.old }
+    ensures first { count ≡ 0 → points.new.items ≡ points.old.items }
+    ensures others { 0 < count → points.new.items ≡ points.old.items ++ points_more restart offset }
+{
+    if restart && count > 0 {
+        points.push(offset as u32).unwrap();
+    }
+}
+
+// Puts a length.
+#[inline]
+#[tactic(auto, using(leveldb_base::specs::VarintLaws::varint_lengths))]
+fn put_length(buffer: &mut Vec<u8>, n: usize)
+    requires { vec_len buffer.old + length (varint n) ≤ vec_capacity buffer.old }
+    ensures items { buffer.new.items ≡ buffer.old.items ++ varint n }
+    ensures capacity { vec_capacity buffer.old ≤ vec_capacity buffer.new }
+{
+    let mut head = [0; 10];
+    let used = encode_varint64(&mut head, n as u64);
+    buffer.extend_from_slice(&head[..used]).unwrap();
+}
+
+// Puts an entry.
+fn put_entry(buffer: &mut Vec<u8>, shared: usize, rest: &[u8], value: &[u8])
+    requires { vec_len buffer.old + length (spelling shared rest.now value.now) ≤ vec_capacity buffer.old }
+    ensures { buffer.new.items ≡ buffer.old.items ++ spelling shared rest.now value.now }
+{
+    put_length(buffer, shared);
+    put_length(buffer, rest.len());
+    put_length(buffer, value.len());
+    buffer.extend_from_slice(rest).unwrap();
+    buffer.extend_from_slice(value).unwrap();
+}
+
+// Puts a number of four bytes.
+#[inline]
+fn put_number(buffer: &mut Vec<u8>, n: u32) -> Result<()>
+    ensures ok { OnOk result (buffer.new.items ≡ buffer.old.items ++ little 4 n) }
+    ensures memory { IfErr result IsOutOfMemory }
+{
+    let mut bytes = [0; 4];
+    LittleEndian::write_u32(&mut bytes, n);
+    buffer.extend_from_slice(&bytes)?;
+    Ok(())
+}
+
+// Puts the restart points, the first before the others, and how many there are.
+fn put_points(buffer: &mut Vec<u8>, points: &Vec<u32>) -> Result<()>
+    requires { length points.now.items + 1 < 2 ^ 32 }
+    ensures ok { OnOk result (buffer.new.items ≡ buffer.old.items ++ (flat_map (little 4) (0 ∷ points.now.items) ++ little 4 (length points.now.items + 1))) }
+    ensures memory { IfErr result IsOutOfMemory }
+{
+    buffer.reserve(4 * points.len() + 8)?;
+    put_number(buffer, 0)?;
+    for point in points {
+        put_number(buffer, *point)?;
+    }
+    put_number(buffer, points.len() as u32 + 1)
+}
+
+#[cfg(test)]
+mod tests;
