@@ -33,8 +33,11 @@ pair_parts separator words front back left right no_dot no_digit apart parted is
 
 pub no_put : (words : List ℕ) → IsPairReading 32 words None → IsNoLine (codes "put " ++ words)
 no_put words none (command.Put key value) bytes e =
-    none key.items value.items (bytes.0, bytes.1,
-    append_cancel_left (codes "put ") words ((hex_word key.items ++ codes " ") ++ hex_word value.items) e ∙ append_assoc (hex_word key.items) (codes " ") (hex_word value.items))
+    none key.items value.items (
+      bytes.0,
+      bytes.1,
+      append_cancel_left (codes "put ") words ((hex_word key.items ++ codes " ") ++ hex_word value.items) e ∙ append_assoc (hex_word key.items) (codes " ") (hex_word value.items),
+    )
 no_put words none (command.Delete key) bytes e = other_heads 112 100 _ _ (λ h. omega (arith, h)) e
 no_put words none (command.Write sync items) bytes e = other_heads 112 119 _ _ (λ h. omega (arith, h)) e
 no_put words none (command.Get key) bytes e = other_heads 112 103 _ _ (λ h. omega (arith, h)) e
@@ -102,8 +105,11 @@ no_name line no_flush no_close no_put no_delete no_get no_write command.Close by
 
 pub no_put_item : (words : List ℕ) → IsPairReading 61 words None → IsItemReading (codes "+" ++ words) None
 no_put_item words none (item.Put key value) bytes e =
-    none key.items value.items (bytes.0, bytes.1,
-    append_cancel_left (codes "+") words ((hex_word key.items ++ codes "=") ++ hex_word value.items) e ∙ append_assoc (hex_word key.items) (codes "=") (hex_word value.items))
+    none key.items value.items (
+      bytes.0,
+      bytes.1,
+      append_cancel_left (codes "+") words ((hex_word key.items ++ codes "=") ++ hex_word value.items) e ∙ append_assoc (hex_word key.items) (codes "=") (hex_word value.items),
+    )
 no_put_item words none (item.Delete key) bytes e = other_heads 43 45 _ _ (λ h. omega (arith, h)) e
 
 pub no_delete_item : (word : List ℕ) → IsWordReading word None → IsItemReading (codes "-" ++ word) None
@@ -127,12 +133,12 @@ item_no_space (item.Put key value) bytes found =
     elim (Contains-append_cases ((codes "+" ++ hex_word key.items) ++ codes "=") (hex_word value.items) 32 found) [
       | inr in_value ↦ no_separator 32 value.items bytes.1 (λ h. omega (arith, h)) refl in_value
       | inl front ↦ elim (Contains-append_cases (codes "+" ++ hex_word key.items) (codes "=") 32 front) [
-          | inr equals ↦ not_single 61 32 (λ h. omega (arith, h)) equals
-          | inl start ↦ elim (Contains-append_cases (codes "+") (hex_word key.items) 32 start) [
-              | inl plus ↦ not_single 43 32 (λ h. omega (arith, h)) plus
-              | inr in_key ↦ no_separator 32 key.items bytes.0 (λ h. omega (arith, h)) refl in_key
-            ]
+        | inr equals ↦ not_single 61 32 (λ h. omega (arith, h)) equals
+        | inl start ↦ elim (Contains-append_cases (codes "+") (hex_word key.items) 32 start) [
+          | inl plus ↦ not_single 43 32 (λ h. omega (arith, h)) plus
+          | inr in_key ↦ no_separator 32 key.items bytes.0 (λ h. omega (arith, h)) refl in_key
         ]
+      ]
     ]
 item_no_space (item.Delete key) bytes found =
     elim (Contains-append_cases (codes "-") (hex_word key.items) 32 found) [
@@ -222,9 +228,12 @@ read_more text rest line behind commands one (inl is) some (inl cut) spelled =
     inl (is ∙ ap (λ (xs : List ℕ). lines_of commands ++ xs) (cut ∙ ap (λ (xs : List ℕ). xs ++ 10 ∷ behind) spelled ∙ sym (append_assoc (line_of one) (10 ∷ []) behind))
     ∙ sym (append_assoc (lines_of commands) (line_of one ++ 10 ∷ []) behind) ∙ ap (λ (xs : List ℕ). xs ++ behind) (lines_more commands one))
 read_more text rest line behind commands one (inl is) some (inr cut) spelled =
-    inr (cut.1, not_none commands one,
-    ap (λ (xs : List ℕ). xs ++ 10 ∷ []) (is ∙ ap (λ (xs : List ℕ). lines_of commands ++ xs) (cut.0 ∙ spelled))
-    ∙ append_assoc (lines_of commands) (line_of one) (10 ∷ []) ∙ lines_more commands one)
+    inr (
+      cut.1,
+      not_none commands one,
+      ap (λ (xs : List ℕ). xs ++ 10 ∷ []) (is ∙ ap (λ (xs : List ℕ). lines_of commands ++ xs) (cut.0 ∙ spelled))
+          ∙ append_assoc (lines_of commands) (line_of one) (10 ∷ []) ∙ lines_more commands one,
+    )
 
 empty_is : (xs : List ℕ) → length xs ≡ 0 → xs ≡ []
 empty_is [] none = refl

@@ -163,7 +163,11 @@ fn read_delete_item(alloc: Global, word: &[u8]) -> Result<Option<Item>, AllocErr
 }
 
 // Two words, parted by a byte that is in no word.
-fn read_pair(alloc: Global, words: &[u8], separator: u8) -> Result<Option<(Vec<u8>, Vec<u8>)>, AllocError>
+fn read_pair(
+    alloc: Global,
+    words: &[u8],
+    separator: u8,
+) -> Result<Option<(Vec<u8>, Vec<u8>)>, AllocError>
     requires no_dot { separator ≢ 46 }
     requires no_digit { is_hex_digit separator ≡ false }
     ensures { IfOk result (IsPairReading separator words.now) }

@@ -139,9 +139,7 @@ fn read_input<I: Read>(alloc: Global, input: &mut I) -> Result<Vec<u8>, Fault>
     ensures { IfOk result (λ text. IfSome (I.remaining input.old) (λ known. text.items ≡ known)) }
 {
     let mut text = Vec::new(alloc);
-    input
-        .take(MOST_INPUT + 1)
-        .read_to_end(&mut text)?;
+    input.take(MOST_INPUT + 1).read_to_end(&mut text)?;
     if text.len() as u64 > MOST_INPUT {
         return Err(Fault::TooLong);
     }

@@ -10,9 +10,10 @@ returns-then-eq c =
 
 pub returns-in-Ok : goal.returns-in-Ok
 returns-in-Ok c =
-    let no_dot : c.args.word.now ≢ codes "." = λ h. search rules in
-    ((decode_of-ok c.args.word.now c.in-Ok.bytes.items c.in-Ok.ensures.ok).3,
-    λ bytes is. decoded_is c.args.word.now c.in-Ok.bytes.items bytes no_dot c.in-Ok.ensures.ok is)
+    let no_dot : c.args.word.now ≢ codes "." = λ h. search rules in (
+      (decode_of-ok c.args.word.now c.in-Ok.bytes.items c.in-Ok.ensures.ok).3,
+      λ bytes is. decoded_is c.args.word.now c.in-Ok.bytes.items bytes no_dot c.in-Ok.ensures.ok is,
+    )
 
 pub returns-in_default : goal.returns-in_default
 returns-in_default c bytes is =
