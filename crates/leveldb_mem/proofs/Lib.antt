@@ -1,6 +1,13 @@
 mod Rows
 mod Batches
 mod Entries
+mod Laying
+mod Halving
+mod Rising
+mod EntryKeys
+mod Newest
+mod Gaining
+mod Memories
 pub mod WriterSteps
 pub mod Ranges
 pub mod ReaderSteps

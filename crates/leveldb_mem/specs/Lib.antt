@@ -11,3 +11,7 @@ pub mod ReadingLaws
 pub mod ReaderKept
 pub mod ReadingSteps
 pub mod Entries
+pub mod Searching
+pub mod Placed
+pub mod SkipMap
+pub mod MemTable

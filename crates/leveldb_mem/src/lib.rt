@@ -3,4 +3,6 @@
 
 pub mod log;
 pub mod log_laws;
+pub mod memtable;
+pub mod skipmap;
 pub mod write_batch;

@@ -1,0 +1,36 @@
+-- What counts as the memory of entries, and the room that a batch needs.
+use Rattle.std.proofs.Common.{◌≡◌, ℕ, ◌+◌, ◌*◌, ◌≤◌, ◌<◌, List, [], ◌∷◌, ◌++◌, length, map, flat_map, Option, Some, None, refl, sym, ◌∙◌, ap, arith, length-append}
+use Rattle.std.specs.Prelude.{sum_by, All}
+use Rattle.std.proofs.lemmas.List.{length-map}
+use Rattle.std.proofs.lemmas.List.Elements.{All-head, All-tail}
+use Rattle.std.proofs.lemmas.List.Sums.{sum_by-cons}
+use Rattle.leveldb_base.specs.History.{Item, Entry}
+use Rattle.leveldb_base.specs.Places.{Pair}
+use Rattle.leveldb_mem.specs.Batch.{entry_bytes, BatchOf}
+use Rattle.leveldb_mem.specs.BatchLaws.{length-batch}
+use Rattle.leveldb_mem.specs.Entries.{bytes_in}
+use Rattle.leveldb_mem.specs.Placed.{bytes_of}
+use Rattle.leveldb_mem.specs.SkipMap.{memory_of}
+use Rattle.leveldb_mem.specs.MemTable.{entry_key, entry_from, entries_in, IsEntryPair, memory_of_entries}
+use Rattle.leveldb_mem.proofs.EntryKeys.{bytes_in-entry}
+
+-- pairs that are memtable keys have as many bytes as the keys of their entries
+same_bytes : (pairs : List Pair) → All IsEntryPair pairs → bytes_of pairs ≡ sum_by (λ entry. length (entry_key entry)) (entries_in pairs)
+same_bytes [] each = refl
+same_bytes (pair ∷ pairs) each =
+    let head = All-head IsEntryPair pair pairs each in
+    let rest = same_bytes pairs (All-tail IsEntryPair pair pairs each) in
+    let size = λ (p : Pair). length p.0 + length p.1 in
+    let key_size = λ (entry : Entry). length (entry_key entry) in
+    omega (arith, rest, ap length head.0, ap length head.1, sum_by-cons size pair pairs, sum_by-cons key_size (entry_from pair.0) (entries_in pairs))
+
+pub same_memory : (pairs : List Pair) → All IsEntryPair pairs → memory_of pairs ≡ memory_of_entries (entries_in pairs)
+same_memory pairs each = omega (arith, same_bytes pairs each, length-map pairs (λ (pair : Pair). entry_from pair.0))
+
+bytes_in-le : (items : List Item) → bytes_in items ≤ length (flat_map entry_bytes items)
+bytes_in-le [] = omega arith
+bytes_in-le (item ∷ items) = omega (arith, bytes_in-le items, bytes_in-entry item, length-append (entry_bytes item) (flat_map entry_bytes items))
+
+-- a batch's bytes are more than its keys and values have
+pub bytes_in-batch : {bytes : List ℕ} {first : ℕ} {items : List Item} → BatchOf bytes first items → bytes_in items ≤ length bytes
+bytes_in-batch {bytes} {first} {items} batch = omega (arith, length-batch batch, bytes_in-le items)

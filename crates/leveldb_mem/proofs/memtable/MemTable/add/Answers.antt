@@ -1,0 +1,26 @@
+use Rattle.std.proofs.Common.{◌≡◌, ◌∙◌, [], ◌∷◌, List, ℕ, Option, sym, ap, subst, option_copied}
+use Rattle.std.proofs.lemmas.Bool.{OnTrue_at, OnFalse_at}
+use Rattle.leveldb_base.specs.Status.{IsOutOfMemory}
+use Rattle.leveldb_base.specs.declared.error.Status.{Status}
+use Rattle.leveldb_base.specs.declared.error.StatusCode.TheVariants.{AlreadyExists}
+use Rattle.leveldb_base.specs.History.{Entry}
+use Rattle.leveldb_mem.specs.Entries.{Gains, IsNewTo}
+use Rattle.leveldb_mem.specs.MemTable.{entry_of, value_of}
+use Rattle.leveldb_mem.proofs.Gaining.{caused}
+use Rattle.leveldb_mem.proofs.memtable.MemTable.add.Goals as goal
+
+pub returns-then-put-clause-new : goal.returns-then-put-clause-new
+returns-then-put-clause-new g c =
+    subst (λ (es : List Entry). IsNewTo es c.args.sequence c.args.key.now) c.in_ok-prepare_entry.ensures.entries (OnTrue_at c.if-put.true c.put.ensures.new)
+
+pub returns-then-put-clause-ok : goal.returns-then-put-clause-ok
+returns-then-put-clause-ok g c =
+    let adds = OnTrue_at c.if-put.true c.put.ensures.put in
+    let new = c.put.new.self.kept.entries in
+    subst (λ (v : Option (List ℕ)). Gains c.args.self.now.kept.entries (entry_of c.args.sequence c.args.key.now v ∷ []) new) c.given-value.ensures
+    (subst (λ (es : List Entry). Gains es (entry_of c.args.sequence c.args.key.now (option_copied c.given-value.result) ∷ []) new) c.in_ok-prepare_entry.ensures.entries adds.gains)
+
+pub returns-clause-cause : goal.returns-clause-cause
+returns-clause-cause g c =
+    caused (λ (status : Status). status.code ≡ AlreadyExists) IsOutOfMemory (IsNewTo c.args.self.now.kept.entries c.args.sequence c.args.key.now → ⊥) c.err.result c.err.ensures.code
+    (subst (λ (es : List Entry). IsNewTo es c.args.sequence c.args.key.now → ⊥) c.in_ok-prepare_entry.ensures.entries (OnFalse_at c.if-put.false c.put.ensures.present))

@@ -1,0 +1,11 @@
+use Rattle.std.proofs.Common.{◌∙◌, ap, arith}
+use Rattle.std.proofs.lemmas.Result.{on_ok_weaker}
+use Rattle.leveldb_mem.proofs.Memories.{bytes_in-batch}
+use Rattle.leveldb_mem.proofs.memtable.MemTable.prepare.Goals as goal
+
+pub returns-clause-ok : goal.returns-clause-ok
+returns-clause-ok g c =
+    on_ok_weaker c.reserve.result (λ p. record {
+      places = omega (arith, p.0, c.count-places.ensures);
+      bytes = omega (arith, p.0, p.1, c.count-places.ensures, bytes_in-batch c.contents.ensures);
+    }) c.reserve.ensures.ok

@@ -1,0 +1,86 @@
+-- A memtable's entries, and the memtable keys that stand for them.
+use Rattle.std.specs.Prelude.{◌≡◌, ◌<◌, ◌≤◌, ◌+◌, ◌*◌, ℕ, List, [], ◌∷◌, ◌++◌, length, drop, map, sum_by, Option, Some, None, All, Contains, ◌↔◌, refl}
+use Rattle.std.specs.Borrow.{Bor}
+use Rattle.std.specs.Coded.{Coded, code_by, coded×, coded_list, coded_option, coded_ℕ}
+use Rattle.std.specs.declared.cmp.Ordering.{Ordering}
+use Rattle.leveldb_base.specs.History.{Entry}
+use Rattle.leveldb_base.specs.Keys.{internal_key, user_part, sequence_part, type_part, memtable_key, internal_cmp, inner_key}
+use Rattle.leveldb_base.specs.Varint.{sized}
+use Rattle.leveldb_base.specs.Places.{Pair}
+use Rattle.leveldb_base.specs.View.{AreRising}
+use Rattle.leveldb_base.specs.declared.key_types.ValueType.{ValueType}
+use Rattle.leveldb_base.specs.declared.key_types.ValueType.TheVariants.{TypeDeletion, TypeValue}
+use Rattle.leveldb_mem.specs.Entries.{Kept}
+
+-- a comparator of users' keys, and what is kept
+pub record Memory (C : Type 0) : Type 0 where
+  pub cmp : C
+  pub kept : Kept
+
+abbrev pub entry_code : Coded Entry
+entry_code =
+    code_by (ℕ × (List ℕ × Option (List ℕ))) (coded× coded_ℕ (coded× (coded_list coded_ℕ) (coded_option (coded_list coded_ℕ))))
+    (λ e. (e.sequence, (e.key, e.value))) (λ p. record { sequence = p.0; key = p.1.0; value = p.1.1 }) (λ _. refl)
+
+abbrev pub memory_code : {C : Type 0} → Coded C → Coded (Memory C)
+memory_code {C} c =
+    code_by (C × (List Entry × (ℕ × ℕ))) (coded× c (coded× (coded_list entry_code) (coded× coded_ℕ coded_ℕ)))
+    (λ m. (m.cmp, (m.kept.entries, (m.kept.places, m.kept.bytes))))
+    (λ p. record { cmp = p.0; kept = record { entries = p.1.0; places = p.1.1.0; bytes = p.1.1.1 } }) (λ _. refl)
+
+-- an entry's number, key and value
+abbrev pub entry_of : ℕ → List ℕ → Option (List ℕ) → Entry
+entry_of sequence key value = record { sequence = sequence; key = key; value = value }
+
+-- the type of what an entry gives its key
+abbrev pub type_of : Option (List ℕ) → ValueType
+type_of None = TypeDeletion
+type_of (Some value) = TypeValue
+
+-- the bytes of a value; a deletion has none
+abbrev pub bytes_of_value : Option (List ℕ) → List ℕ
+bytes_of_value None = []
+bytes_of_value (Some value) = value
+
+-- what a type and bytes give a key
+abbrev pub value_of : ValueType → List ℕ → Option (List ℕ)
+value_of TypeDeletion bytes = None
+value_of TypeValue bytes = Some bytes
+
+-- the memtable key of an entry
+unfoldable pub entry_key : Entry → List ℕ
+entry_key entry = memtable_key entry.key entry.sequence (type_of entry.value) (bytes_of_value entry.value)
+
+-- the text behind the internal key of a memtable key
+abbrev pub inner_value : List ℕ → List ℕ
+inner_value key = inner_key (drop (length (sized (inner_key key))) key)
+
+-- the entry that a memtable key stands for
+unfoldable pub entry_from : List ℕ → Entry
+entry_from key =
+    let internal = inner_key key in
+    entry_of (sequence_part internal) (user_part internal) (value_of (type_part internal) (inner_value key))
+
+-- a map's pair is the memtable key of an entry, and no value
+abbrev pub IsEntryPair : Pair → Type 0
+IsEntryPair pair = (pair.0 ≡ entry_key (entry_from pair.0)) × (pair.1 ≡ [])
+
+abbrev pub entries_in : List Pair → List Entry
+entries_in pairs = map (λ pair. entry_from pair.0) pairs
+
+-- the most that an entry's memtable key has beside key and value: two lengths and a tag
+abbrev pub most_beside : ℕ
+most_beside = 28
+
+-- what counts as the memory of entries: 128, and for each 64 and the length of its memtable key
+abbrev pub memory_of_entries : List Entry → ℕ
+memory_of_entries entries = 128 + (64 * length entries + sum_by (λ entry. length (entry_key entry)) entries)
+
+-- the internal key of an entry with its value; a deletion has the empty one
+abbrev pub internal_pair : Entry → Pair
+internal_pair entry = (internal_key entry.key entry.sequence (type_of entry.value), bytes_of_value entry.value)
+
+-- just these entries, sorted by their internal keys
+pub record AreSorted (cmp : List ℕ → List ℕ → Ordering) (entries : List Entry) (pairs : List Pair) : Type 0 where
+  pub rising : AreRising (internal_cmp cmp) pairs
+  pub just : (pair : Pair) → Contains pairs pair ↔ Contains (map internal_pair entries) pair

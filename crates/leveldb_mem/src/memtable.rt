@@ -1,0 +1,243 @@
+//! The newest entries of a store, in memory.
+ghost use Rattle.std.specs.Prelude.{◌≡◌, ◌⊎◌, ◌+◌, ◌*◌, ◌<◌, ◌≤◌, ◌^◌, ℕ, List, [], ◌∷◌, ◌++◌, length, OnOk, OnErr, IfErr, IsTrue, ◌↔◌, option_copied};
+ghost use Rattle.std.specs.Bool.{OnTrue, OnFalse};
+ghost use Rattle.std.specs.Option.{option_map};
+ghost use Rattle.leveldb_base.specs.Status.{IsOutOfMemory};
+ghost use Rattle.leveldb_base.specs.declared.error.StatusCode.TheVariants.{AlreadyExists};
+ghost use Rattle.leveldb_base.specs.Varint.{little, varint, sized};
+ghost use Rattle.leveldb_base.specs.Keys.{tag, inner_key, user_part, sequence_part};
+ghost use Rattle.leveldb_mem.specs.Batch.{item_of};
+ghost use Rattle.leveldb_mem.specs.Entries.{Gains, IsNewTo, FindsNewest, HasRoom, Adds, value_length};
+ghost use Rattle.leveldb_mem.specs.MemTable.{entry_of, type_of, bytes_of_value, value_of, entry_key, entry_from, inner_value, memory_of_entries};
+
+use crate::skipmap::SkipMap;
+use crate::write_batch::WriteBatch;
+use byteorder::{ByteOrder, LittleEndian};
+use leveldb_base::cmp::{Cmp, MemtableKeyCmp, UserCmp};
+use leveldb_base::error::{Result, StatusCode, err};
+use leveldb_base::key_types::{LookupKey, UserKey, ValueType, parse_internal_key};
+use leveldb_base::types::SequenceNumber;
+use leveldb_base::varint::{encode_varint64, get_length_prefixed_slice};
+use std::alloc::Global;
+use std::marker::Model;
+
+// A memtable key has at most so many bytes beside key and value: two lengths of 10 and a tag of 8.
+const MOST_BESIDE: usize = 28;
+
+const TAG_LEN: usize = 8;
+
+/// Entries, each told by its key and its sequence number, and room for those of a batch.
+#[derive(Drop)]
+pub struct MemTable<C: Cmp> {
+    map: SkipMap<MemtableKeyCmp<C>>,
+}
+
+impl<C: Cmp> Model for MemTable<C> {
+    ghost use Rattle.leveldb_mem.specs.MemTable.{Memory, memory_code};
+
+    ghost Value = { Memory C };
+
+    ghost coded = { memory_code C.code };
+
+    ghost use Rattle.std.specs.Prelude.{◌-◌, ◌*◌, ◌≤◌, All};
+    ghost use Rattle.leveldb_mem.specs.MemTable.{entries_in, IsEntryPair, most_beside};
+
+    ghost view = { λ it. record { cmp = it.map.cmp.0; kept = record { entries = entries_in it.map.pairs; places = it.map.places; bytes = it.map.bytes - most_beside * it.map.places } } };
+
+    ghost invariant = { λ it. All IsEntryPair it.map.pairs × (most_beside * it.map.places ≤ it.map.bytes) };
+}
+
+impl<C: UserCmp> MemTable<C> {
+    /// A memtable without entries, whose keys are in the order of `cmp`.
+    pub fn new(alloc: Global, cmp: C) -> MemTable<C>
+        ensures cmp { result.cmp ≡ cmp }
+        ensures entries { result.kept.entries ≡ [] }
+    {
+        MemTable {
+            map: SkipMap::new_memtable_map(alloc, cmp),
+        }
+    }
+
+    /// How many entries there are.
+    pub fn len(&self) -> usize
+        ensures { result ≡ length self.now.kept.entries }
+    {
+        self.map.len()
+    }
+
+    /// What counts as its memory: 128, and for each entry 64 and the length of its memtable key.
+    pub fn approx_mem_usage(&self) -> usize
+        ensures { result ≡ memory_of_entries self.now.kept.entries }
+    {
+        self.map.approx_memory()
+    }
+
+    /// Takes all memory that the changes of a batch need.
+    pub fn prepare(&mut self, batch: &WriteBatch) -> Result<()>
+        ensures cmp { self.new.cmp ≡ self.old.cmp }
+        ensures entries { self.new.kept.entries ≡ self.old.kept.entries }
+        ensures ok { OnOk result (HasRoom self.new.kept batch.now.items) }
+        ensures places { OnErr result (self.new.kept.places ≡ self.old.kept.places) }
+        ensures bytes { OnErr result (self.old.kept.bytes ≤ self.new.kept.bytes) }
+        ensures cause { IfErr result IsOutOfMemory }
+    {
+        let places = batch.count() as usize;
+        self.map
+            .reserve(places, batch.contents().len() + MOST_BESIDE * places)
+    }
+
+    /// Puts an entry for which there is room: a value for the key, or none, which deletes it.
+    pub fn add_prepared(&mut self, sequence: SequenceNumber, key: UserKey<'_>, value: Option<&[u8]>)
+        requires numbered { sequence < 2 ^ 56 }
+        requires room { HasRoom self.old.kept (item_of key.now (option_copied value) ∷ []) }
+        requires new { IsNewTo self.old.kept.entries sequence key.now }
+        ensures cmp { self.new.cmp ≡ self.old.cmp }
+        ensures adds { Adds self.old.kept (entry_of sequence key.now (option_copied value.entry)) self.new.kept }
+    {
+        self.put(sequence, key, value);
+    }
+
+    /// Puts an entry, and takes the memory for it. A deletion has no value, whatever `value` is.
+    /// `AlreadyExists` where the key has an entry at this sequence.
+    pub fn add(&mut self, sequence: SequenceNumber, kind: ValueType, key: UserKey<'_>, value: &[u8]) -> Result<()>
+        requires numbered { sequence < 2 ^ 56 }
+        requires fits { length key.now + length value.now < 2 ^ 63 }
+        ensures cmp { self.new.cmp ≡ self.old.cmp }
+        ensures new { OnOk result (IsNewTo self.old.kept.entries sequence key.now) }
+        ensures ok { OnOk result (Gains self.old.kept.entries (entry_of sequence key.now (value_of kind value.now) ∷ []) self.new.kept.entries) }
+        ensures err { OnErr result (self.new.kept.entries ≡ self.old.kept.entries) }
+        ensures cause { IfErr result (λ status. ((status.code ≡ AlreadyExists) × (IsNewTo self.old.kept.entries sequence key.now → ⊥)) ⊎ IsOutOfMemory status) }
+    {
+        let value = given(kind, value);
+        self.prepare_entry(key, value)?;
+        if self.put(sequence, key, value) {
+            return Ok(());
+        }
+        let alloc = self.map.allocator();
+        err(alloc, StatusCode::AlreadyExists, "the key has an entry with this number")
+    }
+
+    /// The newest entry of the key at or below the sequence of the look-up key: a value or, inside, none for a deletion.
+    pub fn get(&self, key: &LookupKey) -> Option<Option<&[u8]>>
+        ensures { FindsNewest self.now.kept.entries (sequence_part key.now) (user_part key.now) (option_map option_copied result) }
+    {
+        let at = self.map.keys_before(key.memtable_key());
+        let end = self.map.len();
+        if at >= end {
+            return None;
+        }
+        let parts = split_entry(self.map.key(at));
+        let parsed = parse_internal_key(parts.0);
+        if is_same(parsed.2, key.user_key()) {
+            return Some(given(parsed.0, parts.1));
+        }
+        None
+    }
+
+    // Takes memory for one entry.
+    fn prepare_entry(&mut self, key: &[u8], value: Option<&[u8]>) -> Result<()>
+        requires { length key.now + value_length (option_copied value) < 2 ^ 63 }
+        ensures cmp { self.new.cmp ≡ self.old.cmp }
+        ensures entries { self.new.kept.entries ≡ self.old.kept.entries }
+        ensures ok { OnOk result (HasRoom self.new.kept (item_of key.now (option_copied value.entry) ∷ [])) }
+        ensures cause { IfErr result IsOutOfMemory }
+    {
+        let bytes = match value {
+            None => key.len(),
+            Some(value) => key.len() + value.len(),
+        };
+        self.map.reserve(1, bytes + MOST_BESIDE)
+    }
+
+    // Puts an entry for which there is room. It answers whether it did: an entry of this key and number is left.
+    fn put(&mut self, sequence: SequenceNumber, key: &[u8], value: Option<&[u8]>) -> bool
+        requires numbered { sequence < 2 ^ 56 }
+        requires room { HasRoom self.old.kept (item_of key.now (option_copied value) ∷ []) }
+        ensures cmp { self.new.cmp ≡ self.old.cmp }
+        ensures put { OnTrue result (Adds self.old.kept (entry_of sequence key.now (option_copied value.entry)) self.new.kept) }
+        ensures new { OnTrue result (IsNewTo self.old.kept.entries sequence key.now) }
+        ensures left { OnFalse result (self.new.kept.entries ≡ self.old.kept.entries) }
+        ensures present { OnFalse result (IsNewTo self.old.kept.entries sequence key.now → ⊥) }
+    {
+        let parts = type_and_bytes(value);
+        let tag = tag_bytes(sequence, parts.0);
+        let mut first = [0; 10];
+        let head = spell_length(&mut first, key.len() + TAG_LEN);
+        let mut second = [0; 10];
+        let size = spell_length(&mut second, parts.1.len());
+        self.map.put_parts(head, key, &tag, size, parts.1)
+    }
+}
+
+// The bytes that spell a length, written into these.
+#[inline]
+#[tactic(auto, using(leveldb_base::specs::VarintLaws::varint_lengths))]
+fn spell_length(bytes: &mut [u8], number: usize) -> &[u8]
+    requires { 10 ≤ length bytes.old }
+    ensures { result.now ≡ varint number }
+{
+    let used = encode_varint64(bytes, number as u64);
+    &bytes[..used]
+}
+
+// The type of what an entry gives its key, and the bytes of its value; a deletion has none.
+fn type_and_bytes(value: Option<&[u8]>) -> (ValueType, &[u8])
+    ensures kind { result.0 ≡ type_of (option_copied value.entry) }
+    ensures bytes { result.1.now ≡ bytes_of_value (option_copied value.entry) }
+{
+    match value {
+        None => (ValueType::TypeDeletion, &[]),
+        Some(bytes) => (ValueType::TypeValue, bytes),
+    }
+}
+
+// A sequence number and a type in eight bytes.
+fn tag_bytes(sequence: SequenceNumber, kind: ValueType) -> [u8; TAG_LEN]
+    requires { sequence < 2 ^ 56 }
+    ensures { result ≡ little 8 (tag sequence kind) }
+{
+    let mut bytes = [0; TAG_LEN];
+    LittleEndian::write_u64(&mut bytes, (sequence << 8) | kind as u64);
+    bytes
+}
+
+// The internal key and the value that a memtable key is made of.
+#[inline]
+fn split_entry(key: &[u8]) -> (&[u8], &[u8])
+    requires { key.now ≡ entry_key (entry_from key.now) }
+    ensures internal { result.0.now ≡ inner_key key.now }
+    ensures long { 8 ≤ length result.0.now }
+    ensures value { result.1.now ≡ inner_value key.now }
+{
+    let first = front_text(key);
+    let second = front_text(first.1);
+    (first.0, second.0)
+}
+
+// The text that stands behind its length in front, and what follows it.
+#[inline]
+fn front_text(bytes: &[u8]) -> (&[u8], &[u8])
+    requires { (text : List ℕ) × (rest : List ℕ) × (bytes.now ≡ sized text ++ rest) }
+    ensures { bytes.now ≡ sized result.0.now ++ result.1.now }
+{
+    match get_length_prefixed_slice(bytes) {
+        Some(texts) => texts,
+        None => unreachable!(),
+    }
+}
+
+fn is_same(a: &[u8], b: &[u8]) -> bool
+    ensures { IsTrue result ↔ (a.now ≡ b.now) }
+{
+    a == b
+}
+
+// What a type and bytes give a key.
+fn given(kind: ValueType, bytes: &[u8]) -> Option<&[u8]>
+    ensures { option_copied result ≡ value_of kind bytes.now }
+{
+    match kind {
+        ValueType::TypeDeletion => None,
+        ValueType::TypeValue => Some(bytes),
+    }
+}
