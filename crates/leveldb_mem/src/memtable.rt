@@ -21,6 +21,9 @@ use leveldb_base::varint::{encode_varint64, get_length_prefixed_slice};
 use std::alloc::Global;
 use std::marker::Model;
 
+#[cfg(test)]
+mod tests;
+
 // A memtable key has at most so many bytes beside key and value: two lengths of 10 and a tag of 8.
 const MOST_BESIDE: usize = 28;
 

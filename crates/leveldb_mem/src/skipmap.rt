@@ -19,6 +19,9 @@ use std::marker::Model;
 pub(crate) mod placed;
 pub(crate) mod search;
 
+#[cfg(test)]
+mod tests;
+
 /// Pairs whose keys rise strictly. Each of them is accepted by the comparator, and none is empty.
 #[derive(Drop)]
 pub struct SkipMap<C: Cmp> {
