@@ -125,3 +125,15 @@ second_there key internal rest e f =
     let there = first_there key e in
     let same = one_sized internal there.0 rest (sized there.1) (sym f ∙ there.2) in
     (there.1, [], same.1 ∙ sym (append-nil (sized there.1)))
+
+-- the value of an entry's memtable key
+pub inner_value-entry_key : (entry : Entry) → inner_value (entry_key entry) ≡ bytes_of_value entry.value
+unfolding entry_key
+inner_value-entry_key entry =
+    let kind = type_of entry.value in
+    let bytes = bytes_of_value entry.value in
+    let key = memtable_key entry.key entry.sequence kind bytes in
+    let internal = internal_key entry.key entry.sequence kind in
+    let inner : inner_key key ≡ internal = inner_key-memtable_key entry.key entry.sequence kind bytes in
+    let behind : drop (length (sized internal)) key ≡ sized bytes = drop_at (sized internal) (sized bytes) (length (sized internal)) refl in
+    ap (λ z. inner_key (drop (length (sized z)) key)) inner ∙ ap inner_key behind ∙ ap inner_key (sym (append-nil (sized bytes))) ∙ inner_key-sized bytes []

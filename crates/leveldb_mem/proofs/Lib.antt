@@ -7,6 +7,7 @@ mod Rising
 mod EntryKeys
 mod Newest
 mod Gaining
+mod Walking
 mod Memories
 pub mod WriterSteps
 pub mod Ranges

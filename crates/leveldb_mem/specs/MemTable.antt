@@ -79,8 +79,3 @@ memory_of_entries entries = 128 + (64 * length entries + sum_by (λ entry. lengt
 -- the internal key of an entry with its value; a deletion has the empty one
 abbrev pub internal_pair : Entry → Pair
 internal_pair entry = (internal_key entry.key entry.sequence (type_of entry.value), bytes_of_value entry.value)
-
--- just these entries, sorted by their internal keys
-pub record AreSorted (cmp : List ℕ → List ℕ → Ordering) (entries : List Entry) (pairs : List Pair) : Type 0 where
-  pub rising : AreRising (internal_cmp cmp) pairs
-  pub just : (pair : Pair) → Contains pairs pair ↔ Contains (map internal_pair entries) pair

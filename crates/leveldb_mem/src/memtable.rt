@@ -1,15 +1,18 @@
 //! The newest entries of a store, in memory.
-ghost use Rattle.std.specs.Prelude.{◌≡◌, ◌⊎◌, ◌+◌, ◌*◌, ◌<◌, ◌≤◌, ◌^◌, ℕ, List, [], ◌∷◌, ◌++◌, length, OnOk, OnErr, IfErr, IsTrue, ◌↔◌, option_copied};
+ghost use Rattle.std.specs.Prelude.{◌≡◌, ◌⊎◌, ◌+◌, ◌*◌, ◌<◌, ◌≤◌, ◌^◌, ℕ, List, [], ◌∷◌, ◌++◌, length, OnOk, OnErr, IfErr, IsTrue, ◌↔◌, Some, None, map, slice_get, option_copied};
 ghost use Rattle.std.specs.Bool.{OnTrue, OnFalse};
 ghost use Rattle.std.specs.Option.{option_map};
 ghost use Rattle.leveldb_base.specs.Status.{IsOutOfMemory};
 ghost use Rattle.leveldb_base.specs.declared.error.StatusCode.TheVariants.{AlreadyExists};
 ghost use Rattle.leveldb_base.specs.Varint.{little, varint, sized};
-ghost use Rattle.leveldb_base.specs.Keys.{tag, inner_key, user_part, sequence_part};
+ghost use Rattle.leveldb_base.specs.Keys.{tag, inner_key, internal_cmp, user_part, sequence_part};
+ghost use Rattle.leveldb_base.specs.Places.{count_before};
+ghost use Rattle.leveldb_base.specs.View.{AreRising};
 ghost use Rattle.leveldb_mem.specs.Batch.{item_of};
 ghost use Rattle.leveldb_mem.specs.Entries.{Gains, IsNewTo, FindsNewest, HasRoom, Adds, value_length};
-ghost use Rattle.leveldb_mem.specs.MemTable.{entry_of, type_of, bytes_of_value, value_of, entry_key, entry_from, inner_value, memory_of_entries};
+ghost use Rattle.leveldb_mem.specs.MemTable.{entry_of, type_of, bytes_of_value, value_of, entry_key, entry_from, inner_value, internal_pair, memory_of_entries};
 
+use crate::memtable::iterator::AtInternalKey;
 use crate::skipmap::SkipMap;
 use crate::write_batch::WriteBatch;
 use byteorder::{ByteOrder, LittleEndian};
@@ -21,8 +24,12 @@ use leveldb_base::varint::{encode_varint64, get_length_prefixed_slice};
 use std::alloc::Global;
 use std::marker::Model;
 
+mod iterator;
+
 #[cfg(test)]
 mod tests;
+
+pub use iterator::MemtableIterator;
 
 // A memtable key has at most so many bytes beside key and value: two lengths of 10 and a tag of 8.
 const MOST_BESIDE: usize = 28;
@@ -135,6 +142,44 @@ impl<C: UserCmp> MemTable<C> {
             return Some(given(parsed.0, parts.1));
         }
         None
+    }
+
+    /// A walk over the internal keys of the entries with their values, which stands at no place.
+    pub fn iter(&self) -> MemtableIterator<'_, C>
+        ensures table { result.table.now ≡ self.now }
+        ensures place { result.place ≡ None }
+        ensures sorted { AreRising (internal_cmp (C.cmp self.now.cmp)) (map internal_pair self.now.kept.entries) }
+    {
+        let _ = self.map.iter();
+        MemtableIterator {
+            table: self,
+            place: None,
+        }
+    }
+
+    // How many pairs a walk passes.
+    fn pair_count(&self) -> usize
+        ensures { result ≡ length (map internal_pair self.now.kept.entries) }
+    {
+        self.map.len()
+    }
+
+    // How many internal keys are before this one.
+    fn pairs_before(&self, key: &[u8]) -> usize
+        ensures { result ≡ count_before (internal_cmp (C.cmp self.now.cmp)) key.now (map internal_pair self.now.kept.entries) }
+    {
+        let cmp = self.map.comparator();
+        let probe = AtInternalKey { cmp: &cmp.0, key };
+        self.map.count_by(&probe)
+    }
+
+    // The internal key and the value at a place.
+    fn pair(&self, at: usize) -> (&[u8], &[u8])
+        requires { at < length (map internal_pair self.now.kept.entries) }
+        ensures { slice_get (map internal_pair self.now.kept.entries) at ≡ Some (result.0.now, result.1.now) }
+    {
+        let key = self.map.key(at);
+        split_entry(key)
     }
 
     // Takes memory for one entry.

@@ -116,7 +116,9 @@ impl<C: Cmp> SkipMap<C> {
     pub fn iter(&self) -> SkipMapIter<'_, C>
         ensures map { result.map.now ≡ self.now }
         ensures place { result.place ≡ None }
+        ensures sorted { IsSorted (C.accepts self.now.cmp) (C.cmp self.now.cmp) self.now.pairs }
     {
+        let _ = &self.pairs;
         SkipMapIter {
             map: self,
             place: None,
