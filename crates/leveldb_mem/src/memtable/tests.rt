@@ -1,7 +1,6 @@
 //! What is found of keys at sequence numbers before, at, between and behind their versions.
 use super::*;
 use leveldb_base::cmp::DefaultCmp;
-use leveldb_base::types::LdbIterator;
 
 // abc has a value at 1, a deletion at 2 and a value at 5, and abd one at 3.
 fn versions(alloc: Global) -> Result<MemTable<DefaultCmp>> {
@@ -61,33 +60,5 @@ fn prepares_for_a_batch(rt: HostRuntime) -> Result<()> {
     batch.delete(b"abd")?;
     table.prepare(&batch)?;
     assert_eq!(rt; table.len(), 4);
-    Ok(())
-}
-
-// Newer entries of a key come first, and a deletion is an entry like any other.
-#[test]
-fn walks_over_every_entry(rt: HostRuntime) -> Result<()> {
-    let table = versions(rt.alloc())?;
-    let rows: [(&[u8], u64, ValueType, &[u8]); 4] = [
-        (b"abc", 5, ValueType::TypeValue, b"xyz"),
-        (b"abc", 2, ValueType::TypeDeletion, b""),
-        (b"abc", 1, ValueType::TypeValue, b"123"),
-        (b"abd", 3, ValueType::TypeValue, b""),
-    ];
-    let mut it = table.iter();
-    for (user, sequence, kind, value) in rows {
-        assert!(rt; sequence < 100);
-        let key = LookupKey::new_full(rt.alloc(), user, sequence, kind)?;
-        assert!(rt; it.advance()?);
-        assert!(rt; it.current() == Some((key.internal_key(), value)), "{key:?}");
-        it.prev()?;
-        it.advance()?;
-        assert!(rt; it.current() == Some((key.internal_key(), value)), "{key:?}");
-        it.seek(key.internal_key())?;
-        assert!(rt; it.current() == Some((key.internal_key(), value)), "{key:?}");
-    }
-    assert!(rt; !it.advance()? && !it.valid());
-    it.seek(b"short")?;
-    assert!(rt; it.valid());
     Ok(())
 }
