@@ -1,5 +1,5 @@
 -- One more entry of a block builder.
-use Rattle.std.proofs.Common.{◌≡◌, ℕ, zero, suc, ◌+◌, ◌-◌, ◌*◌, ◌%◌, ◌^◌, ◌<◌, ◌≤◌, Bool, true, false, nat_eq, if◌then◌else◌, List, [], ◌∷◌, ◌++◌, length, take, drop, flat_map, Option, None, Some, refl, sym, ◌∙◌, ap, subst, arith, append_assoc, length-append, length-drop}
+use Rattle.std.proofs.Common.{◌≡◌, ℕ, zero, suc, ◌+◌, ◌*◌, ◌%◌, ◌^◌, ◌<◌, ◌≤◌, Bool, true, false, nat_eq, if◌then◌else◌, List, [], ◌∷◌, ◌++◌, length, take, drop, flat_map, None, Some, refl, sym, ◌∙◌, ap, subst, arith, length-append, length-drop}
 use Rattle.std.specs.List.{All}
 use Rattle.std.specs.Prelude.{IsErrAnd, OnErr, unwrap_or}
 use Rattle.std.proofs.Common.{Result, Ok, Err, inl, inr}
@@ -12,14 +12,14 @@ use Rattle.std.proofs.lemmas.List.Concat.{flat_map-append}
 use Rattle.std.proofs.lemmas.List.Elements.{All-cons, All-push}
 use Rattle.std.specs.declared.cmp.Ordering.{Ordering}
 use Rattle.leveldb_base.specs.Places.{Pair}
-use Rattle.leveldb_base.specs.Varint.{little, varint}
+use Rattle.leveldb_base.specs.Varint.{little}
 use Rattle.leveldb_base.specs.VarintLaws.{length-varint_32}
-use Rattle.leveldb_table.specs.Block.{Entry, spelling, entry_bytes, key_of, pairs_of, IsShort, SharesFrom, AreEntries, RiseBehind, KeysRise, points_from, restart_points, block_bytes, IsSpelled, IsBlock}
+use Rattle.leveldb_table.specs.Block.{Entry, spelling, entry_bytes, key_of, pairs_of, IsShort, SharesFrom, KeysRise, points_from, restart_points, block_bytes, IsSpelled, IsBlock}
 use Rattle.leveldb_table.specs.BlockLaws.{entry_of, length-entry_bytes-ge, one_whole}
 use Rattle.leveldb_table.specs.Reading.{key_before}
 use Rattle.leveldb_table.specs.Walk.{last_key}
 use Rattle.leveldb_table.specs.Built.{AreSpaced, IsTooLarge, IsBuilt, Built, estimate, points_more, last_added}
-use Rattle.leveldb_table.proofs.Sequences.{last_key-append, pairs_of-append, AreEntries-append, rise_parts, rise_both}
+use Rattle.leveldb_table.proofs.Sequences.{last_key-append, pairs_of-append, AreEntries-append}
 
 spaced_push : (interval i : ℕ) (entries : List Entry) (entry : Entry) → AreSpaced interval i entries → entry.restart ≡ nat_eq ((i + length entries) % interval) 0 → AreSpaced interval i (entries ++ entry ∷ [])
 spaced_push interval i [] entry h e = let same : i + 0 ≡ i = omega arith in (e ∙ ap (λ z. nat_eq (z % interval) 0) same, tt)

@@ -1,27 +1,23 @@
 -- What the moves of a walk over a block reach.
-use Rattle.std.proofs.Common.{◌≡◌, ℕ, zero, suc, ◌+◌, ◌-◌, ◌*◌, ◌<◌, ◌≤◌, Bool, true, false, nat_lt, if◌then◌else◌, List, [], ◌∷◌, ◌++◌, length, take, drop, get_or, flat_map, slice_get, slice_range, Option, None, Some, IsSome, inl, inr, refl, sym, ◌∙◌, ap, subst, arith, append_assoc, length-append, length-drop}
-use Rattle.std.specs.Prelude.{IsSomeAnd, MatchOption}
+use Rattle.std.proofs.Common.{◌≡◌, ℕ, zero, suc, ◌+◌, ◌-◌, ◌<◌, ◌≤◌, Bool, true, false, nat_lt, if◌then◌else◌, List, [], ◌∷◌, ◌++◌, length, take, drop, get_or, flat_map, slice_get, slice_range, Option, None, Some, IsSome, inl, inr, refl, sym, ◌∙◌, ap, subst, arith, append_assoc, length-append}
+use Rattle.std.specs.Prelude.{MatchOption}
 use Rattle.std.specs.Borrow.{Bor}
-use Rattle.std.specs.List.{All}
 use Rattle.std.specs.Ordering.{is_lt}
 use Rattle.std.specs.declared.cmp.Ordering.{Ordering}
-use Rattle.std.specs.declared.cmp.Ordering.TheVariants.{Less}
 use Rattle.std.proofs.lemmas.Bool.{cases_lt}
 use Rattle.std.proofs.lemmas.Bool.Decides.{nat_tests}
-use Rattle.std.proofs.lemmas.List.{take_at, drop_at, take-append-le}
-use Rattle.std.proofs.lemmas.List.Elements.{All-head, All-tail}
+use Rattle.std.proofs.lemmas.List.{take_at, drop_at}
 use Rattle.std.proofs.lemmas.Option.{slice_get_within}
-use Rattle.leveldb_base.specs.Order.{IsPreorderOn}
 use Rattle.leveldb_base.specs.Places.{Pair, place_within, next_place, previous_place, count_before, seek_place}
 use Rattle.leveldb_base.specs.Varint.{little, varint}
-use Rattle.leveldb_table.specs.Block.{Entry, spelling, entry_bytes, key_of, pairs_of, IsShort, AreEntries, RiseBehind, KeysRise, restart_points, block_bytes, IsSpelled, IsHeld}
-use Rattle.leveldb_table.specs.BlockLaws.{entry_of, one_entry, length-entry_bytes-ge}
+use Rattle.leveldb_table.specs.Block.{Entry, spelling, entry_bytes, key_of, pairs_of, IsShort, AreEntries, restart_points, block_bytes, IsHeld}
+use Rattle.leveldb_table.specs.BlockLaws.{one_entry, length-entry_bytes-ge}
 use Rattle.leveldb_table.specs.Reading.{ReadsEntry, entry_in}
-use Rattle.leveldb_table.specs.Walk.{last_key, start_of, begun, IsPoint, HasKeyAt, StartsBy, Serves, Loads, IsSpot, IsWithin, place_of, StandsBetween, StandsBefore, last_place}
+use Rattle.leveldb_table.specs.Walk.{last_key, start_of, begun, IsPoint, StartsBy, Serves, Loads, IsSpot, IsWithin, place_of, StandsBetween, StandsBefore, last_place}
 use Rattle.leveldb_table.specs.declared.block.entry.EntryParts.{EntryParts}
 use Rattle.leveldb_table.specs.declared.block.walk.Spot.{Spot}
 use Rattle.leveldb_table.proofs.Sequences.{length-pairs_of}
-use Rattle.leveldb_table.proofs.Walks.{IsEntryAt, entry_at, pair_there, allowed_there, next_start, bytes_there, left_there, start-end, start-lt, start-le, begun-start, same_start, before_start, loads_first, loads_next, loads_point, point_names}
+use Rattle.leveldb_table.proofs.Walks.{entry_at, pair_there, allowed_there, next_start, bytes_there, left_there, start-end, start-lt, start-le, begun-start, same_start, before_start, loads_first, loads_next, loads_point, point_names}
 
 -- ---- loading an entry
 

@@ -1,24 +1,24 @@
 -- The restart points of a block in memory.
-use Rattle.std.proofs.Common.{◌≡◌, ℕ, zero, suc, ◌+◌, ◌-◌, ◌*◌, ◌^◌, ◌<◌, ◌≤◌, Bool, true, false, if◌then◌else◌, List, [], ◌∷◌, ◌++◌, length, take, drop, get_or, flat_map, slice_get, Option, None, Some, refl, sym, ◌∙◌, ap, subst, arith, append_assoc, length-append}
+use Rattle.std.proofs.Common.{◌≡◌, ℕ, zero, suc, ◌+◌, ◌-◌, ◌*◌, ◌^◌, ◌<◌, ◌≤◌, Bool, true, false, if◌then◌else◌, List, [], ◌∷◌, ◌++◌, length, take, drop, get_or, flat_map, slice_get, None, Some, refl, sym, ◌∙◌, ap, arith, append_assoc, length-append}
 use Rattle.std.specs.Borrow.{Bor}
 use Rattle.std.specs.List.{All}
 use Rattle.std.specs.Ordering.{is_lt}
 use Rattle.std.specs.declared.cmp.Ordering.{Ordering}
 use Rattle.std.specs.declared.cmp.Ordering.TheVariants.{Less, Equal, Greater}
-use Rattle.std.proofs.lemmas.List.{drop_at, drop-drop, take_rest}
+use Rattle.std.proofs.lemmas.List.{drop_at, drop-drop}
 use Rattle.std.proofs.lemmas.List.Elements.{All-head, All-tail}
 use Rattle.byteorder.specs.Endian.{little_number}
 use Rattle.byteorder.specs.Numbers.{little_number-reads_back}
 use Rattle.leveldb_base.specs.Order.{IsPreorderOn}
 use Rattle.leveldb_base.specs.Places.{Pair, count_before}
 use Rattle.leveldb_base.specs.Varint.{little}
-use Rattle.leveldb_table.specs.Block.{Entry, entry_bytes, pairs_of, AreEntries, RiseBehind, KeysRise, restart_points, block_bytes, IsSpelled, IsHeld}
+use Rattle.leveldb_table.specs.Block.{Entry, entry_bytes, pairs_of, RiseBehind, KeysRise, restart_points, block_bytes, IsHeld}
 use Rattle.leveldb_table.specs.BlockLaws.{length-points}
 use Rattle.leveldb_table.specs.Reading.{ReadsEntry}
-use Rattle.leveldb_table.specs.Walk.{begun, start_of, IsPoint, HasKeyAt, StartsBy, Loads}
+use Rattle.leveldb_table.specs.Walk.{begun, IsPoint, HasKeyAt, StartsBy, Loads}
 use Rattle.leveldb_table.specs.declared.block.entry.EntryParts.{EntryParts}
-use Rattle.leveldb_table.proofs.Walks.{begun-start, first_point, one_point, loads_point}
-use Rattle.leveldb_table.proofs.Moves.{Fronts, fronts, start_within, loads_some, is_loaded, IsLoaded, limit_within}
+use Rattle.leveldb_table.proofs.Walks.{begun-start, first_point}
+use Rattle.leveldb_table.proofs.Moves.{Fronts, is_loaded}
 
 -- the number at a place
 number_at : (points last : List ℕ) (j : ℕ) → j < length points → All (λ offset. offset < 2 ^ 32) points → little_number 4 (drop (4 * j) (flat_map (little 4) points ++ last)) ≡ get_or points j 0

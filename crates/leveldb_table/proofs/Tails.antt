@@ -1,14 +1,14 @@
 -- The restart points and their count at a block's end.
-use Rattle.std.proofs.Common.{◌≡◌, ℕ, zero, suc, ◌+◌, ◌-◌, ◌*◌, ◌/◌, ◌^◌, ◌<◌, ◌≤◌, Bool, true, List, [], ◌∷◌, ◌++◌, length, take, drop, get_or, flat_map, Option, None, Some, refl, sym, ◌∙◌, ap, subst, arith, append_assoc, length-append, length-drop}
+use Rattle.std.proofs.Common.{◌≡◌, ℕ, zero, suc, ◌+◌, ◌-◌, ◌*◌, ◌^◌, ◌<◌, ◌≤◌, Bool, true, List, [], ◌∷◌, ◌++◌, length, take, drop, get_or, flat_map, None, refl, sym, ◌∙◌, ap, subst, arith, append_assoc, length-append, length-drop}
 use Rattle.std.specs.List.{All}
 use Rattle.std.proofs.lemmas.List.{take-append-drop, take_at, drop_at, drop-drop, take_all, length-take-le, nil_from_length, append-nil}
-use Rattle.std.proofs.lemmas.List.Elements.{All-nil, All-cons, All-head, All-tail, All-drop, All-take, All-from_get_or}
+use Rattle.std.proofs.lemmas.List.Elements.{All-nil, All-cons, All-head, All-tail, All-drop, All-take}
 use Rattle.std.specs.declared.cmp.Ordering.{Ordering}
 use Rattle.byteorder.specs.Endian.{little_number}
 use Rattle.byteorder.specs.Numbers.{little_from-lt, little_number-reads_back, length-bytes_low_first}
 use Rattle.leveldb_base.specs.Varint.{little}
 use Rattle.leveldb_base.specs.LittleLaws.{little-little_number}
-use Rattle.leveldb_table.specs.Block.{Entry, entry_bytes, pairs_of, AreEntries, restart_points, block_bytes, IsSpelled, IsBlock, IsNoBlock, IsHeld, Held}
+use Rattle.leveldb_table.specs.Block.{Entry, entry_bytes, pairs_of, restart_points, block_bytes, IsSpelled, IsNoBlock, Held}
 use Rattle.leveldb_table.specs.BlockLaws.{length-points}
 use Rattle.leveldb_table.specs.Reading.{numbers_in, count_at_end, AreParts}
 use Rattle.leveldb_table.proofs.EntryReads.{numbers_more, numbers_none}

@@ -1,20 +1,13 @@
 -- Where entries begin and end, and what stands there.
-use Rattle.std.proofs.Common.{◌≡◌, ℕ, zero, suc, ◌+◌, ◌-◌, ◌*◌, ◌<◌, ◌≤◌, Bool, true, false, nat_lt, if◌then◌else◌, List, [], ◌∷◌, ◌++◌, length, take, drop, get_or, flat_map, slice_get, slice_range, Option, None, Some, IsSome, inl, inr, refl, sym, ◌∙◌, ap, subst, arith, append_assoc, length-append, length-drop}
-use Rattle.std.specs.Borrow.{Bor}
+use Rattle.std.proofs.Common.{◌≡◌, ℕ, zero, suc, ◌+◌, ◌-◌, ◌<◌, ◌≤◌, Bool, true, false, nat_lt, if◌then◌else◌, List, [], ◌∷◌, ◌++◌, length, take, drop, get_or, flat_map, slice_get, Option, None, Some, inl, inr, refl, sym, ◌∙◌, ap, subst, arith, append_assoc, length-append}
 use Rattle.std.proofs.lemmas.Bool.{cases_lt}
 use Rattle.std.proofs.lemmas.Bool.Decides.{nat_tests}
-use Rattle.std.proofs.lemmas.List.{take-append-drop, take_at, drop_at, take_all, append-nil, append_cancel_left, length-take-le}
+use Rattle.std.proofs.lemmas.List.{take_at, drop_at, take_all, append-nil, length-take-le}
 use Rattle.std.proofs.lemmas.List.Concat.{flat_map-append}
-use Rattle.std.proofs.lemmas.Option.{slice_get_within, slice_get_past}
-use Rattle.std.specs.declared.cmp.Ordering.{Ordering}
 use Rattle.leveldb_base.specs.Places.{Pair}
-use Rattle.leveldb_base.specs.Varint.{varint}
-use Rattle.leveldb_table.specs.Block.{Entry, spelling, entry_bytes, key_of, pairs_of, IsShort, SharesFrom, AreEntries, points_from, restart_points, block_bytes, IsSpelled, IsHeld}
-use Rattle.leveldb_table.specs.BlockLaws.{entry_of, one_entry, length-entry_bytes-ge}
-use Rattle.leveldb_table.specs.Reading.{ReadsEntry, entry_in}
-use Rattle.leveldb_table.specs.Walk.{last_key, start_of, begun, IsPoint, Serves, Loads, IsSpot}
-use Rattle.leveldb_table.specs.declared.block.entry.EntryParts.{EntryParts}
-use Rattle.leveldb_table.specs.declared.block.walk.Spot.{Spot}
+use Rattle.leveldb_table.specs.Block.{Entry, entry_bytes, key_of, pairs_of, SharesFrom, AreEntries, points_from, restart_points}
+use Rattle.leveldb_table.specs.BlockLaws.{length-entry_bytes-ge}
+use Rattle.leveldb_table.specs.Walk.{last_key, start_of, begun, IsPoint, Serves, Loads}
 use Rattle.leveldb_table.proofs.Sequences.{last_key-append, pairs_of-append, length-pairs_of, AreEntries-behind}
 
 -- ---- where entries begin

@@ -1,5 +1,5 @@
 -- What a block builder has stands for entries in one way.
-use Rattle.std.proofs.Common.{◌≡◌, ℕ, ◌+◌, List, [], ◌∷◌, Bool, Option, None, Some, sym, ◌∙◌}
+use Rattle.std.proofs.Common.{ℕ, ◌+◌, List, [], ◌∷◌, Bool, None, sym, ◌∙◌}
 use Rattle.std.proofs.Props.{props}
 use Rattle.std.specs.declared.cmp.Ordering.{Ordering}
 use mathlib.Core.HLevel.{Σ_prop_path}

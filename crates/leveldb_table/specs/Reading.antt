@@ -1,11 +1,11 @@
 -- What reading and checking the bytes of a block gives.
-use Rattle.std.specs.Prelude.{◌≡◌, ℕ, zero, suc, ◌+◌, ◌-◌, ◌*◌, ◌/◌, ◌^◌, ◌<◌, ◌≤◌, Bool, true, false, nat_eq, List, [], ◌∷◌, ◌++◌, length, drop, flat_map, Option, None, Some}
+use Rattle.std.specs.Prelude.{◌≡◌, ℕ, zero, suc, ◌-◌, ◌/◌, ◌^◌, ◌<◌, Bool, true, false, List, [], ◌∷◌, ◌++◌, length, drop, flat_map, Option, None, Some}
 use Rattle.std.specs.List.{All}
 use Rattle.std.specs.Borrow.{Bor}
 use Rattle.std.specs.declared.cmp.Ordering.{Ordering}
 use Rattle.byteorder.specs.Endian.{little_number}
 use Rattle.leveldb_base.specs.Varint.{varint}
-use Rattle.leveldb_table.specs.Block.{Entry, spelling, entry_bytes, pairs_of, IsShort, AreEntries, RiseBehind, KeysRise, restart_points}
+use Rattle.leveldb_table.specs.Block.{Entry, spelling, entry_bytes, pairs_of, IsShort, AreEntries, KeysRise, restart_points}
 use Rattle.leveldb_table.specs.BlockLaws.{entry_of}
 use Rattle.leveldb_table.specs.declared.block.entry.EntryParts.{EntryParts}
 

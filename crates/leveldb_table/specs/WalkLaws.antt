@@ -1,9 +1,9 @@
 -- A place in a block is one in one way, and is a place of its pairs.
-use Rattle.std.specs.Prelude.{◌≡◌, ℕ, ◌<◌, List, length, Option, None, Some}
+use Rattle.std.specs.Prelude.{ℕ, List, Option, None, Some}
 use Rattle.std.proofs.Props.{props}
 use Rattle.std.proofs.lemmas.Option.{slice_get_within}
 use Rattle.std.specs.Prelude.{slice_range}
-use Rattle.leveldb_base.specs.Places.{Pair, IsPlace}
+use Rattle.leveldb_base.specs.Places.{IsPlace}
 use Rattle.leveldb_table.specs.Block.{Entry, pairs_of}
 use Rattle.leveldb_table.specs.Walk.{begun, IsSpot, IsWithin, place_of}
 use Rattle.leveldb_table.specs.declared.block.walk.Spot.{Spot}

@@ -1,5 +1,5 @@
 //! Blocks built, and read again.
-ghost use Rattle.std.specs.Prelude.{◌≤◌};
+ghost use Rattle.std.specs.Prelude.{◌≡◌, ◌≤◌};
 
 use super::*;
 use crate::block::Block;

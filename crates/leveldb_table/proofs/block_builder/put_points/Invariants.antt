@@ -1,4 +1,4 @@
-use Rattle.std.proofs.Common.{◌≡◌, [], ◌++◌, ◌∷◌, take, flat_map}
+use Rattle.std.proofs.Common.{◌≡◌, ◌++◌, ◌∷◌, take, flat_map}
 use Rattle.leveldb_base.specs.Varint.{little}
 use Rattle.leveldb_table.proofs.block_builder.put_points.Given as goal
 

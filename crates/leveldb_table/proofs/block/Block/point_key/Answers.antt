@@ -1,7 +1,6 @@
-use Rattle.std.proofs.Common.{[], take, drop, length, ◌-◌, Some, refl, sym, ap, subst, ◌∙◌, arith}
-use Rattle.leveldb_table.specs.Block.{restart_points}
+use Rattle.std.proofs.Common.{[], take, drop, length, ◌-◌, sym, ap, subst, arith}
 use Rattle.leveldb_table.specs.Reading.{ReadsEntry}
-use Rattle.leveldb_table.specs.Walk.{HasKeyAt, Loads}
+use Rattle.leveldb_table.specs.Walk.{HasKeyAt}
 use Rattle.leveldb_table.proofs.Walks.{loads_point}
 use Rattle.leveldb_table.proofs.Moves.{fronts, start_within, limit_within, loads_some}
 use Rattle.leveldb_table.proofs.Points.{point_key_there}

@@ -1,4 +1,4 @@
-use Rattle.std.proofs.Common.{◌++◌, take, drop, length, ◌-◌, ◌∙◌, refl, sym, ap, subst, arith}
+use Rattle.std.proofs.Common.{◌++◌, take, drop, length, ◌-◌, ◌∙◌, refl, ap, subst, arith}
 use Rattle.leveldb_table.specs.Reading.{ReadsEntry}
 use Rattle.leveldb_table.proofs.Moves.{fronts, start_within, limit_within, loads_some, is_loaded, spot_loaded}
 use Rattle.leveldb_table.proofs.block.walk.BlockCore.load.Goals as goal
