@@ -102,6 +102,7 @@ fn openings_are_refused(rt: HostRuntime) -> Result<()> {
         cmp: DefaultCmp,
         filter_policy: NoFilterPolicy::new(),
         create_if_missing: false,
+        block_restart_interval: 16,
     };
     let missing = DB::open(alloc, "db", &mut env, options);
     assert_eq!(rt; code_of(missing), StatusCode::InvalidArgument);
