@@ -79,7 +79,7 @@ bytes_in-entry item = by_value item.key item.value
     by_value key (Some value) = omega (arith, length-append (varint (length key)) key, length-append (varint (length value)) value, length-append (sized key) (sized value))
 
 module _ (h u t s b : List ℕ) (sequence : ℕ) (kind : ValueType) (value : Option (List ℕ)) (kind_is : kind ≡ type_of value) (bytes_are : b ≡ bytes_of_value value)
-  (head_is : h ≡ varint (length u + 8)) (tag_is : t ≡ little 8 (tag sequence kind)) (size_is : s ≡ varint (length b)) where
+    (head_is : h ≡ varint (length u + 8)) (tag_is : t ≡ little 8 (tag sequence kind)) (size_is : s ≡ varint (length b)) where
   -- parts that are spelled so are an entry's memtable key
   pub key_of_parts : h ++ u ++ t ++ s ++ b ≡ entry_key (entry_of sequence u value)
   unfolding entry_key

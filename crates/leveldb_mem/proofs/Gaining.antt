@@ -75,7 +75,7 @@ module _ {old new : List Pair} {key : List ℕ} (put : Inserts old (key, []) new
       back_of (pair ∷ front) back all = back_of front back (All-tail IsEntryPair pair (front ++ back) all)
 
 module _ {accepts : List ℕ → Bool} {cmp : List ℕ → List ℕ → Ordering} (o : IsPreorderOn accepts cmp) (all : (key : List ℕ) → accepts key ≡ true)
-  (exact : (a b : List ℕ) → cmp a b ≡ Equal → a ≡ b) (pairs : List Pair) (key : List ℕ) (entry : Entry) (is : entry_from key ≡ entry) where
+    (exact : (a b : List ℕ) → cmp a b ≡ Equal → a ≡ b) (pairs : List Pair) (key : List ℕ) (entry : Entry) (is : entry_from key ≡ entry) where
   both_equal : (r s : Ordering) → ordering_then r s ≡ Equal → (r ≡ Equal) × (s ≡ Equal)
   both_equal Less s e = let f : ⊥ = cc in absurd f
   both_equal Equal s e = (refl, e)

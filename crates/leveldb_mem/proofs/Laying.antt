@@ -139,7 +139,7 @@ module _ {text : List ℕ} {nodes : List Node} {order : List ℕ} {end : ℕ} (l
         }
 
     module _ (nodes' : List Node) (order' : List ℕ) (len number : ℕ) (len_is : len ≡ length text) (number_is : number ≡ length nodes)
-      (nodes_are : nodes' ≡ nodes ++ record { start = end; middle = end + key_length; end = len } ∷ []) (order_is : order' ≡ insert order at number) where
+        (nodes_are : nodes' ≡ nodes ++ record { start = end; middle = end + key_length; end = len } ∷ []) (order_is : order' ≡ insert order at number) where
       pub laid_placed : IsLaid text nodes' order' len
       laid_placed = rw (nodes_are, order_is, len_is, number_is) laid-place
 

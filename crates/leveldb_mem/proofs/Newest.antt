@@ -57,7 +57,7 @@ entry_there pairs i h =
     (Contains-get_or (entries_in pairs) i e (omega (arith, h, count)))
 
 module _ {accepts : List ℕ → Bool} {cmp : List ℕ → List ℕ → Ordering} (o : IsPreorderOn accepts cmp) (all : (key : List ℕ) → accepts key ≡ true)
-  (exact : (a b : List ℕ) → cmp a b ≡ Equal → a ≡ b) {pairs : List Pair} (sorted : IsSorted (memtable_accepts accepts) (memtable_cmp cmp) pairs) where
+    (exact : (a b : List ℕ) → cmp a b ≡ Equal → a ≡ b) {pairs : List Pair} (sorted : IsSorted (memtable_accepts accepts) (memtable_cmp cmp) pairs) where
   abbrev entry : ℕ → Entry
   entry i = entry_from (key_at pairs i)
 

@@ -25,7 +25,6 @@ use std::alloc::Global;
 use std::marker::Model;
 
 mod iterator;
-
 #[cfg(test)]
 mod tests;
 
@@ -109,7 +108,13 @@ impl<C: UserCmp> MemTable<C> {
 
     /// Puts an entry, and takes the memory for it. A deletion has no value, whatever `value` is.
     /// `AlreadyExists` where the key has an entry at this sequence.
-    pub fn add(&mut self, sequence: SequenceNumber, kind: ValueType, key: UserKey<'_>, value: &[u8]) -> Result<()>
+    pub fn add(
+        &mut self,
+        sequence: SequenceNumber,
+        kind: ValueType,
+        key: UserKey<'_>,
+        value: &[u8],
+    ) -> Result<()>
         requires numbered { sequence < 2 ^ 56 }
         requires fits { length key.now + length value.now < 2 ^ 63 }
         ensures cmp { self.new.cmp ≡ self.old.cmp }
@@ -124,7 +129,11 @@ impl<C: UserCmp> MemTable<C> {
             return Ok(());
         }
         let alloc = self.map.allocator();
-        err(alloc, StatusCode::AlreadyExists, "the key has an entry with this number")
+        err(
+            alloc,
+            StatusCode::AlreadyExists,
+            "the key has an entry with this number",
+        )
     }
 
     /// The newest entry of the key at or below the sequence of the look-up key: a value or, inside, none for a deletion.

@@ -18,7 +18,6 @@ use std::marker::Model;
 
 pub(crate) mod placed;
 pub(crate) mod search;
-
 #[cfg(test)]
 mod tests;
 

@@ -41,7 +41,10 @@ fn newest_up_to_a_number(rt: HostRuntime) -> Result<()> {
 fn refuses_a_present_entry(rt: HostRuntime) -> Result<()> {
     let mut table = versions(rt.alloc())?;
     let before = table.approx_mem_usage();
-    assert_eq!(rt; (table.len(), before), (4, 128 + 4 * 64 + 16 + 16 + 13 + 13));
+    assert_eq!(rt;
+        (table.len(), before),
+        (4, 128 + 4 * 64 + 16 + 16 + 13 + 13)
+    );
     match table.add(2, ValueType::TypeValue, b"abc", b"other") {
         Ok(()) => panic!(rt; "added twice"),
         Err(status) => assert_eq!(rt; status.code, StatusCode::AlreadyExists),

@@ -27,10 +27,16 @@ fn refused_with(answer: Result<()>, code: StatusCode) -> bool {
 #[test]
 fn counts_and_finds(rt: HostRuntime) -> Result<()> {
     let none = SkipMap::new(rt.alloc(), DefaultCmp);
-    assert_eq!(rt; (none.len(), none.is_empty(), none.approx_memory()), (0, true, 128));
+    assert_eq!(rt;
+        (none.len(), none.is_empty(), none.approx_memory()),
+        (0, true, 128)
+    );
     assert!(rt; !none.contains(b""));
     let map = letters(rt.alloc())?;
-    assert_eq!(rt; (map.len(), map.is_empty(), map.approx_memory()), (26, false, 1948));
+    assert_eq!(rt;
+        (map.len(), map.is_empty(), map.approx_memory()),
+        (26, false, 1948)
+    );
     for key in ["", "ab", "aba", "abz"] {
         assert!(rt; map.contains(key.as_bytes()), "{key}");
     }

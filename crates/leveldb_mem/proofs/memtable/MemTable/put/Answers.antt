@@ -42,13 +42,24 @@ invariant_of-self g c =
     c.type_and_bytes-parts.result.0 value c.type_and_bytes-parts.ensures.kind c.type_and_bytes-parts.ensures.bytes c.spell_length-head.ensures c.tag_bytes-tag.ensures c.spell_length-size.ensures
     (omega arith) (omega arith) in
     ⊎_elim
-    (λ (t : c.put_parts.result ≡ true).
-      (still_entries (OnTrue_at t c.put_parts.ensures.put) entry whole c.requires.numbered c.self.invariant.0,
-      omega (arith, size, OnTrue_at t c.put_parts.ensures.place, c.put_parts.ensures.bytes, c.self.invariant.1, c.requires.room.places, c.requires.room.bytes,
-        ap (λ m. m.kept.places) c.self.view_is, ap (λ m. m.kept.bytes) c.self.view_is)))
-    (λ (f : c.put_parts.result ≡ false).
-      (subst (λ (ps : List Pair). All IsEntryPair ps) (sym (OnFalse_at f c.put_parts.ensures.left)) c.self.invariant.0,
-      omega (arith, OnFalse_at f c.put_parts.ensures.places, OnFalse_at f c.put_parts.ensures.unused, c.self.invariant.1)))
+    (λ (t : c.put_parts.result ≡ true). (
+      still_entries (OnTrue_at t c.put_parts.ensures.put) entry whole c.requires.numbered c.self.invariant.0,
+      omega (
+        arith,
+        size,
+        OnTrue_at t c.put_parts.ensures.place,
+        c.put_parts.ensures.bytes,
+        c.self.invariant.1,
+        c.requires.room.places,
+        c.requires.room.bytes,
+        ap (λ m. m.kept.places) c.self.view_is,
+        ap (λ m. m.kept.bytes) c.self.view_is,
+      ),
+    ))
+    (λ (f : c.put_parts.result ≡ false). (
+      subst (λ (ps : List Pair). All IsEntryPair ps) (sym (OnFalse_at f c.put_parts.ensures.left)) c.self.invariant.0,
+      omega (arith, OnFalse_at f c.put_parts.ensures.places, OnFalse_at f c.put_parts.ensures.unused, c.self.invariant.1),
+    ))
     (cases_Bool c.put_parts.result)
 
 pub returns-clause-put : goal.returns-clause-put

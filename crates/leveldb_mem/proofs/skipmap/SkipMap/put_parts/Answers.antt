@@ -68,6 +68,18 @@ returns-in-None-clause-unused g c =
     let four = c.append-4.ensures.tail ∙ ap (λ z. z ++ d) (c.append-3.ensures.tail ∙ ap (λ z. z ++ third) two) in
     let whole : c.append-5.new.self.tail ≡ a ++ b ++ third ++ d ++ e = c.append-5.ensures.tail ∙ ap (λ z. z ++ e) four in
     let room : c.self.inside.pairs.bytes ≤ c.drop_tail.new.self.bytes =
-    omega (arith, c.drop_tail.ensures.bytes, c.append.ensures.bytes, c.append-2.ensures.bytes, c.append-3.ensures.bytes, c.append-4.ensures.bytes, c.append-5.ensures.bytes,
-      ap length whole, length-append (a ++ b ++ third ++ d) e, length-append (a ++ b ++ third) d, length-append (a ++ b) third, length-append a b) in
+    omega (
+      arith,
+      c.drop_tail.ensures.bytes,
+      c.append.ensures.bytes,
+      c.append-2.ensures.bytes,
+      c.append-3.ensures.bytes,
+      c.append-4.ensures.bytes,
+      c.append-5.ensures.bytes,
+      ap length whole,
+      length-append (a ++ b ++ third ++ d) e,
+      length-append (a ++ b ++ third) d,
+      length-append (a ++ b) third,
+      length-append a b,
+    ) in
     rw (← c.self.view_is) room

@@ -12,5 +12,14 @@ returns-clause-pairs c = rw c.truncate.ensures.items (pairs_in-take c.self.invar
 pub returns-clause-bytes : goal.returns-clause-bytes
 returns-clause-bytes c =
     let it = c.self.inside in
-    omega (arith, c.truncate.ensures.len, c.truncate.ensures.capacity, ap (λ (z : Placed). length z.tail) c.self.view_is, ap (λ (z : Placed). z.bytes) c.self.view_is,
-      length-drop it.end it.text.items, it.text.ok.0, it.text.ok.1, c.self.invariant.0.within)
+    omega (
+      arith,
+      c.truncate.ensures.len,
+      c.truncate.ensures.capacity,
+      ap (λ (z : Placed). length z.tail) c.self.view_is,
+      ap (λ (z : Placed). z.bytes) c.self.view_is,
+      length-drop it.end it.text.items,
+      it.text.ok.0,
+      it.text.ok.1,
+      c.self.invariant.0.within,
+    )
