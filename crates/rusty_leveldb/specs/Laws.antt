@@ -6,7 +6,7 @@ use Rattle.rusty_leveldb.specs.Names.{lock_path}
 use Rattle.rusty_leveldb.specs.Contents.{Contents}
 use Rattle.rusty_leveldb.specs.OneLog.{log_path}
 use Rattle.rusty_leveldb.specs.Holds.{IsHonest}
-use Rattle.rusty_leveldb.specs.State.{State, IsState, Opening, Request, open_store, write, get, Answer, done, found, Refusal, refused}
+use Rattle.rusty_leveldb.specs.State.{State, IsState, broken, closed, Opening, Request, open_store, write, get, Answer, done, found, Refusal, refused}
 use Rattle.rusty_leveldb.specs.Causes.{Faults, Cause, IsLongKey, IsLongBatch, Comes, IsClosedRefusal, IsBrokenRefusal}
 use Rattle.rusty_leveldb.specs.Machine.{Step, risk_between, risk_of, Crashes}
 use Rattle.rusty_leveldb.specs.Runs.{Event, Life, goes_on, crashes, Lives, new_state}
@@ -31,10 +31,10 @@ CrashInside = (store : List ℕ) (old new : State) (request : Request) (files : 
     → Leaves files left.files → IsHonest store files left.files → ((name : List ℕ) → left.locked name ≡ false)
     → (then : State) × Crashes old (risk_of request old new) then × StandsFor store (Reads store) left then
 
--- a refusal has one of the causes, or the mode of the store
+-- a refusal has one of the causes, or the store was closed, or it broke earlier
 abbrev pub RefusalHasCause : Type 0
 RefusalHasCause = (cmp : List ℕ → List ℕ → Ordering) (faults : Faults) (old new : State) (request : Request) (refusal : Refusal) → Step cmp faults old request (refused refusal) new
-    → ((cause : Cause) × Comes faults old request refusal cause) ⊎ IsClosedRefusal refusal ⊎ IsBrokenRefusal refusal
+    → ((cause : Cause) × Comes faults old request refusal cause) ⊎ ((old.mode ≡ closed) × IsClosedRefusal refusal) ⊎ ((old.mode ≡ broken) × IsBrokenRefusal refusal)
 
 -- ---- an example
 

@@ -6,8 +6,8 @@ use Rattle.leveldb_env.specs.Disk.{File, bytes_of, kept_file, file_kept}
 use Rattle.leveldb_mem.specs.Log.{log_block_size, End, clean, bad, IsLogFile, framed}
 use Rattle.leveldb_mem.specs.LogLaws.{log_laws}
 use Rattle.leveldb_mem.specs.Writing.{Writing}
-use Rattle.rusty_leveldb.specs.Contents.{Contents}
-use Rattle.rusty_leveldb.specs.OneLog.{IsRead}
+use Rattle.rusty_leveldb.specs.Contents.{Contents, nothing_there}
+use Rattle.rusty_leveldb.specs.OneLog.{IsRead, contents_of}
 use Rattle.rusty_leveldb.specs.Recent.{Numbered}
 use Rattle.rusty_leveldb.specs.Replay.{AreBatches, IsReplayed}
 use Rattle.rusty_leveldb.specs.Recovery.{IsFoundAs, framed_file, kept_log, IsKeptLog, SparesLog, IsRecovered}
@@ -88,3 +88,8 @@ module _ (create : Bool) (was : Option File) (records : List (List ℕ)) (is_cle
     read = mended_reads mid is;
     stands = stands ∙ ap (λ n. record { size = log_block_size; place = n % log_block_size; broken = false }) sized;
   }
+
+-- what was recovered can be read
+pub readable : {create : Bool} {was now : Option File} {writer : Writing} {recent : Numbered} → IsRecovered create was now writer recent → (contents : Contents) × IsRead was contents
+readable {was = None} got = (nothing_there, refl)
+readable {was = Some file} got = (contents_of got.replayed.read.batches, (got.replayed.read.batches, record { records = got.records; end = got.end; read = got.was_found; each = got.replayed.read.each; order = got.replayed.read.order }, refl))

@@ -17,7 +17,7 @@ use Rattle.rusty_leveldb.specs.Causes.{Cause, Comes, Disagrees, out_of_memory, d
 use Rattle.rusty_leveldb.specs.Machine.{IsEarly, UnlockFailed, StepIn}
 use Rattle.rusty_leveldb.specs.Serves.{Reads, Represents, Goes, IsUnreadable, faults_between, refusal_of}
 use Rattle.rusty_leveldb.specs.Engine.{IsStoreName, IsOpening, Recalls}
-use Rattle.rusty_leveldb.specs.Recovery.{SparesLog}
+use Rattle.rusty_leveldb.specs.Recovery.{SparesLog, StaysUnopened}
 use Rattle.rusty_leveldb.proofs.Openings.Survives.{Survives, survives_now, survives_same, survives_kept, some_contents}
 
 -- why an opening is refused before anything is made
@@ -35,6 +35,14 @@ pub record IsGivenUp (name : List ℕ) (create : Bool) (from to : Disk) (before 
   pub counts : after < 2 ^ 64
   pub why : NoMemory e ⊎ (IsEarlyWhy name create from e × (to.files (log_path name) ≡ from.files (log_path name))) ⊎ ((e.code ≡ Corruption) × IsUnreadable (Reads name) from.files)
       ⊎ (before < mid) ⊎ (before ≡ 2 ^ 64 - 1)
+
+-- what it leaves
+pub unopened : {name : List ℕ} {create : Bool} {from to : Disk} {before mid after : ℕ} {e : Status} → IsGivenUp name create from to before mid after e → StaysUnopened name create from to before after
+unopened {before = before} {mid = mid} {after = after} up = record {
+  log = up.log;
+  lock = ⊎_elim (λ same. inl same) (λ kept. inr (kept.0, ⊎_elim (λ (more : mid < after). inl (omega (arith, up.later, more))) (λ full. inr full) kept.1)) up.lock;
+  others = up.others;
+}
 
 -- a store that is missing disagrees with an opening that makes none
 disagrees : (file : Option File) (there : Store) (opening : Opening) → file ≡ None → opening.create_if_missing ≡ false → ((contents : Contents) → IsRead file contents → contents.store ≡ there) → Disagrees opening there

@@ -1,13 +1,13 @@
 //! Opening a store: its lock is taken, its log is read, and replaced where it ends badly.
-ghost use Rattle.std.specs.Prelude.{◌≡◌, ◌⊎◌, if◌then◌else◌, length, map, Some, None, IsTrue, IfOk, OnOk};
+ghost use Rattle.std.specs.Prelude.{◌≡◌, ◌⊎◌, if◌then◌else◌, length, map, Some, None, IsTrue, IfOk, OnOk, OnErr};
 ghost use Rattle.leveldb_env.specs.Disk.{bytes_of};
 ghost use Rattle.leveldb_env.specs.Calls.{HasCause, NoMemory, SameLocks};
 ghost use Rattle.leveldb_mem.specs.Log.{clean, bad};
 ghost use Rattle.rusty_leveldb.specs.OneLog.{log_path};
 ghost use Rattle.rusty_leveldb.specs.State.{Opening, open_store};
-ghost use Rattle.rusty_leveldb.specs.Serves.{done_or, given_engine};
-ghost use Rattle.rusty_leveldb.specs.Engine.{IsOpening, AnswersAs, OpenExcused};
-ghost use Rattle.rusty_leveldb.specs.Recovery.{IsFoundAs, framed_file, kept_log, SparesLog, IsRecovered, HasCauses, IsFoundOr, IsUntold, IsNotMade, IsNoLog};
+ghost use Rattle.rusty_leveldb.specs.Serves.{Reads, IsUnreadable, done_or, given_engine};
+ghost use Rattle.rusty_leveldb.specs.Engine.{IsStoreName, IsOpening, AnswersAs, OpenExcused};
+ghost use Rattle.rusty_leveldb.specs.Recovery.{IsFoundAs, framed_file, kept_log, SparesLog, StaysUnopened, IsRecovered, HasCauses, IsFoundOr, IsUntold, IsNotMade, IsNoLog};
 
 use super::close::give_back;
 use super::engine::{Engine, Mode};
@@ -26,7 +26,7 @@ use std::alloc::Global;
 impl<E: Env, C: UserCmp + Copy, FP: FilterPolicy + Copy> Engine<E, C, FP> {
     /// Opens the store under this name, which isn't empty and doesn't end in a slash.
     /// A missing store is made, or `InvalidArgument` where the options say so; a locked one is `LockError`.
-    /// A refused opening gives back the lock that it took.
+    /// A refused opening gives back the lock that it took, also where the store is damaged; a damaged store is never opened.
     pub fn open(
         alloc: Global,
         name: &str,
@@ -36,6 +36,9 @@ impl<E: Env, C: UserCmp + Copy, FP: FilterPolicy + Copy> Engine<E, C, FP> {
         ensures options { IfOk result (λ engine. engine.options ≡ options) }
         ensures step { (opening : Opening) → IsOpening name.now options.create_if_missing opening
             → AnswersAs E.Env (C.cmp options.cmp) name.now None env.old (open_store opening) (done_or result) (given_engine result) env.new }
+        ensures misnamed { (IsStoreName name.now → ⊥) → (env.new ≡ env.old) × OnOk result ⊥ }
+        ensures whole { OnOk result (IsTrue E.tells_disk → IsUnreadable (Reads name.now) (E.tells env.old).disk.files → ⊥) }
+        ensures unopened { OnErr result (IsTrue E.tells_disk → StaysUnopened name.now options.create_if_missing (E.tells env.old).disk (E.tells env.new).disk (E.failures env.old) (E.failures env.new)) }
         ensures cause { HasCauses (OpenExcused E.tells_disk name.now options.create_if_missing (E.tells env.old)) (E.failures env.old) (E.failures env.new) result }
     {
         check_name(alloc, name)?;
