@@ -1,5 +1,5 @@
 //! The public store: an engine beside a borrow of its environment. Its calls lend the environment to the engine.
-ghost use Rattle.std.specs.Prelude.{◌≡◌, ◌⊎◌, ◌∷◌, [], Some, None, true, false, IfOk, IfErr};
+ghost use Rattle.std.specs.Prelude.{◌≡◌, ◌⊎◌, ◌∷◌, [], Some, None, true, false, IfOk, IfErr, IsTrue};
 ghost use Rattle.leveldb_env.specs.Calls.{HasCause};
 ghost use Rattle.leveldb_mem.specs.Batch.{item_of};
 ghost use Rattle.rusty_leveldb.specs.State.{Opening, open_store, write, get, flush, close, abandon, done, refused};
@@ -77,6 +77,7 @@ impl<'e, E: Env, C: UserCmp + Copy, FP: FilterPolicy + Copy> Store<'e, E, Engine
     pub fn put(&mut self, key: &[u8], value: &[u8]) -> Result<()>
         ensures same_reference { self.new.env.ghost_name ≡ self.old.env.ghost_name }
         ensures options { self.new.state.options ≡ self.old.state.options }
+        ensures stays { IsTrue self.new.state.writer.broken ⊎ (self.new.state.mode ≡ self.old.state.mode) }
         ensures step { Answers E.Env (C.cmp self.old.state.options.cmp) (Some self.old.state) self.old.env.now
             (write (item_of key.now (Some value.now) ∷ []) false) (done_or result) (Some self.new.state) self.new.env.now }
         ensures cause { HasCause (WriteExcused E.Env self.old.state self.old.env.now (item_of key.now (Some value.now) ∷ []))
@@ -89,6 +90,7 @@ impl<'e, E: Env, C: UserCmp + Copy, FP: FilterPolicy + Copy> Store<'e, E, Engine
     pub fn delete(&mut self, key: &[u8]) -> Result<()>
         ensures same_reference { self.new.env.ghost_name ≡ self.old.env.ghost_name }
         ensures options { self.new.state.options ≡ self.old.state.options }
+        ensures stays { IsTrue self.new.state.writer.broken ⊎ (self.new.state.mode ≡ self.old.state.mode) }
         ensures step { Answers E.Env (C.cmp self.old.state.options.cmp) (Some self.old.state) self.old.env.now
             (write (item_of key.now None ∷ []) false) (done_or result) (Some self.new.state) self.new.env.now }
         ensures cause { HasCause (WriteExcused E.Env self.old.state self.old.env.now (item_of key.now None ∷ []))
@@ -102,6 +104,7 @@ impl<'e, E: Env, C: UserCmp + Copy, FP: FilterPolicy + Copy> Store<'e, E, Engine
     pub fn write(&mut self, batch: WriteBatch, sync: bool) -> Result<()>
         ensures same_reference { self.new.env.ghost_name ≡ self.old.env.ghost_name }
         ensures options { self.new.state.options ≡ self.old.state.options }
+        ensures stays { IsTrue self.new.state.writer.broken ⊎ (self.new.state.mode ≡ self.old.state.mode) }
         ensures step { Answers E.Env (C.cmp self.old.state.options.cmp) (Some self.old.state) self.old.env.now
             (write batch.items sync) (done_or result) (Some self.new.state) self.new.env.now }
         ensures cause { HasCause (WriteExcused E.Env self.old.state self.old.env.now batch.items)
@@ -114,6 +117,7 @@ impl<'e, E: Env, C: UserCmp + Copy, FP: FilterPolicy + Copy> Store<'e, E, Engine
     pub fn flush(&mut self) -> Result<()>
         ensures same_reference { self.new.env.ghost_name ≡ self.old.env.ghost_name }
         ensures options { self.new.state.options ≡ self.old.state.options }
+        ensures stays { IsTrue self.new.state.writer.broken ⊎ (self.new.state.mode ≡ self.old.state.mode) }
         ensures step { Answers E.Env (C.cmp self.old.state.options.cmp) (Some self.old.state) self.old.env.now
             flush (done_or result) (Some self.new.state) self.new.env.now }
         ensures cause { HasCause (SyncExcused E.Env self.old.state self.old.env.now)

@@ -1,5 +1,5 @@
 //! Writing to a store: batches, and syncs of its log.
-ghost use Rattle.std.specs.Prelude.{◌≡◌, ◌∷◌, [], ℕ, if◌then◌else◌, Some, None, false, IfOk, IfErr, OnOk, OnErr};
+ghost use Rattle.std.specs.Prelude.{◌≡◌, ◌∷◌, [], ℕ, if◌then◌else◌, Some, None, false, IfOk, IfErr, OnOk, OnErr, ◌⊎◌, IsTrue};
 ghost use Rattle.leveldb_env.specs.Calls.{HasCause};
 ghost use Rattle.leveldb_env.specs.Disk.{AreBytes};
 ghost use Rattle.leveldb_env.specs.OpenFiles.{opened, Appends, Syncs};
@@ -21,6 +21,7 @@ impl<E: Env, C: UserCmp + Copy, FP: FilterPolicy + Copy> Engine<E, C, FP> {
     /// Gives the key this value, without a sync.
     pub fn put(&mut self, env: &mut E, key: &[u8], value: &[u8]) -> Result<()>
         ensures options { self.new.options ≡ self.old.options }
+        ensures stays { IsTrue self.new.writer.broken ⊎ (self.new.mode ≡ self.old.mode) }
         ensures step { Answers E.Env (C.cmp self.old.options.cmp) (Some self.old) env.old
             (write (item_of key.now (Some value.now) ∷ []) false) (done_or result) (Some self.new) env.new }
         ensures cause { HasCause (WriteExcused E.Env self.old env.old (item_of key.now (Some value.now) ∷ []))
@@ -35,6 +36,7 @@ impl<E: Env, C: UserCmp + Copy, FP: FilterPolicy + Copy> Engine<E, C, FP> {
     /// Deletes the key, without a sync.
     pub fn delete(&mut self, env: &mut E, key: &[u8]) -> Result<()>
         ensures options { self.new.options ≡ self.old.options }
+        ensures stays { IsTrue self.new.writer.broken ⊎ (self.new.mode ≡ self.old.mode) }
         ensures step { Answers E.Env (C.cmp self.old.options.cmp) (Some self.old) env.old
             (write (item_of key.now None ∷ []) false) (done_or result) (Some self.new) env.new }
         ensures cause { HasCause (WriteExcused E.Env self.old env.old (item_of key.now None ∷ []))
@@ -50,6 +52,7 @@ impl<E: Env, C: UserCmp + Copy, FP: FilterPolicy + Copy> Engine<E, C, FP> {
     /// A failed append or sync breaks the store: the batch isn't seen, and may be there when the store is opened again.
     pub fn write(&mut self, env: &mut E, batch: WriteBatch, sync: bool) -> Result<()>
         ensures options { self.new.options ≡ self.old.options }
+        ensures stays { IsTrue self.new.writer.broken ⊎ (self.new.mode ≡ self.old.mode) }
         ensures step { Answers E.Env (C.cmp self.old.options.cmp) (Some self.old) env.old
             (write batch.items sync) (done_or result) (Some self.new) env.new }
         ensures cause { HasCause (WriteExcused E.Env self.old env.old batch.items) (E.failures env.old) (E.failures env.new) result }
@@ -70,6 +73,7 @@ impl<E: Env, C: UserCmp + Copy, FP: FilterPolicy + Copy> Engine<E, C, FP> {
     /// Makes a crash keep all batches.
     pub fn flush(&mut self, env: &mut E) -> Result<()>
         ensures options { self.new.options ≡ self.old.options }
+        ensures stays { IsTrue self.new.writer.broken ⊎ (self.new.mode ≡ self.old.mode) }
         ensures step { Answers E.Env (C.cmp self.old.options.cmp) (Some self.old) env.old flush (done_or result) (Some self.new) env.new }
         ensures cause { HasCause (SyncExcused E.Env self.old env.old) (E.failures env.old) (E.failures env.new) result }
     {
