@@ -1,6 +1,6 @@
 -- Input that is read up to a limit and ends before it, is read whole.
-use Rattle.std.proofs.Common.{◌≡◌, ◌<◌, ◌≤◌, ◌⊎◌, inl, inr, ℕ, List, [], ◌++◌, length, take, Option, Some, None, sym, ap, ◌∙◌, arith, length-take}
-use Rattle.std.specs.Prelude.{IfSome, min}
+use Rattle.std.proofs.Common.{◌≡◌, ◌<◌, inl, inr, ℕ, List, [], ◌++◌, length, take, Option, Some, None, ap, ◌∙◌, arith, length-take}
+use Rattle.std.specs.Prelude.{IfSome}
 use Rattle.std.specs.Option.{option_map}
 use Rattle.std.proofs.lemmas.Bool.{cases_lt}
 use Rattle.std.proofs.lemmas.List.{take_all}

@@ -1,15 +1,15 @@
 -- Lines: what the reader's parts answer, put together.
-use Rattle.std.proofs.Common.{◌≡◌, ◌≢◌, ◌<◌, ◌+◌, ℕ, Bool, true, false, List, [], ◌∷◌, ◌++◌, length, slice_index_or, Option, None, Some, ◌⊎◌, inl, inr, Bor, refl, sym, ap, subst, ◌∙◌, arith, append-nil, append_assoc, length-append, codes}
-use Rattle.std.specs.Prelude.{Contains, MatchOption, All, flat_map}
+use Rattle.std.proofs.Common.{◌≡◌, ◌≢◌, ◌<◌, ◌+◌, ℕ, Bool, true, false, List, [], ◌∷◌, ◌++◌, length, slice_index_or, Option, None, Some, ◌⊎◌, inl, inr, Bor, refl, sym, ap, ◌∙◌, arith, append-nil, append_assoc, length-append, codes}
+use Rattle.std.specs.Prelude.{Contains, MatchOption, All}
 use Rattle.std.proofs.lemmas.List.{append_cancel_left, flat_map_more}
-use Rattle.std.proofs.lemmas.List.Elements.{All-nil, All-head, All-tail, Contains-append_cases}
-use Rattle.hex.specs.Hex.{IsBytes, is_hex_digit}
+use Rattle.std.proofs.lemmas.List.Elements.{All-head, All-tail, Contains-append_cases}
+use Rattle.hex.specs.Hex.{is_hex_digit}
 use Rattle.rusty_leveldb.specs.declared.shell.commands.Command.{Command}
 use Rattle.rusty_leveldb.specs.declared.shell.commands.Command.TheVariants as command
 use Rattle.rusty_leveldb.specs.declared.shell.commands.Item.{Item}
 use Rattle.rusty_leveldb.specs.declared.shell.commands.Item.TheVariants as item
 use Rattle.rusty_leveldb.specs.Language.{hex_word, item_word, sync_word, line_of, lines_of, HasBytes, ItemHasBytes, IsNoLine, IsScript, IsBadLine}
-use Rattle.rusty_leveldb.specs.Spelling.{IsWord, IsWordReading, IsPair, IsPairReading, IsItemReading, IsItems, IsItemsReading, IsLineReading, items_text}
+use Rattle.rusty_leveldb.specs.Spelling.{IsWordReading, IsPair, IsPairReading, IsItemReading, IsItems, IsItemsReading, items_text}
 use Rattle.rusty_leveldb.proofs.Words.{tail_of, has_middle, same_front, not_single, no_separator}
 
 -- lists that begin with two numbers aren't one

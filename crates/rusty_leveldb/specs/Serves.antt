@@ -4,7 +4,6 @@
 use Rattle.std.specs.Prelude.{◌≡◌, ◌≢◌, ℕ, List, [], Option, Some, None, IsSome, Result, Ok, Err, All, map}
 use Rattle.std.specs.declared.cmp.Ordering.{Ordering}
 use Rattle.leveldb_base.specs.declared.error.Status.{Status}
-use Rattle.leveldb_base.specs.declared.error.StatusCode.TheVariants.{Corruption}
 use Rattle.leveldb_base.specs.Status.{text_of}
 use Rattle.leveldb_env.specs.Disk.{Files, Disk}
 use Rattle.leveldb_env.specs.Times.{Told, Within}
@@ -90,10 +89,6 @@ pub record SparesFiles (request : Request) (answer : Answer) (old new : State) (
 -- nothing can be read of the files, so they stand for no state
 abbrev pub IsUnreadable : (Files → Contents → Type 0) → Files → Type 0
 IsUnreadable reads files = (contents : Contents) → reads files contents → ⊥
-
--- When an opening may be refused for damage: beside the causes of the machine, which knows of none, where nothing could be read as it began.
-abbrev pub DamageComes : (Files → Contents → Type 0) → Files → Refusal → Type 0
-DamageComes reads before refusal = (refusal.code ≡ Corruption) × IsUnreadable reads before
 
 -- ---- the engine's clauses
 

@@ -1,10 +1,10 @@
 -- What each part of the reader of commands answers: what a text spells, or that it spells nothing.
-use Rattle.std.specs.Prelude.{◌≡◌, ℕ, Bool, List, [], ◌∷◌, ◌++◌, Option, None, Some, All, flat_map, codes, Vec}
+use Rattle.std.specs.Prelude.{◌≡◌, ℕ, List, ◌∷◌, ◌++◌, Option, None, Some, All, flat_map, codes, Vec}
 use Rattle.std.specs.declared.alloc.Global.{Global}
 use Rattle.hex.specs.Hex.{IsBytes}
 use Rattle.rusty_leveldb.specs.declared.shell.commands.Command.{Command}
 use Rattle.rusty_leveldb.specs.declared.shell.commands.Item.{Item}
-use Rattle.rusty_leveldb.specs.Language.{hex_word, item_word, line_of, sync_word, HasBytes, ItemHasBytes, IsNoLine}
+use Rattle.rusty_leveldb.specs.Language.{hex_word, item_word, line_of, HasBytes, ItemHasBytes, IsNoLine}
 
 -- the bytes that a word spells
 abbrev pub IsWord : List ℕ → List ℕ → Type 0

@@ -1,4 +1,4 @@
-use Rattle.std.proofs.Common.{ℕ, Option, Some, subst, codes}
+use Rattle.std.proofs.Common.{ℕ, Option, subst, codes}
 use Rattle.std.specs.Prelude.{Vec}
 use Rattle.std.specs.declared.alloc.Global.{Global}
 use Rattle.rusty_leveldb.specs.Spelling.{IsPairReading}

@@ -1,5 +1,4 @@
-use Rattle.std.proofs.Common.{arith, ◌≡◌, ◌<◌, ◌≤◌, ℕ, List, length, subst}
-use Rattle.rusty_leveldb.specs.declared.shell.commands.Command.{Command}
+use Rattle.std.proofs.Common.{arith, ◌<◌, ◌≤◌, ℕ, List, length, subst}
 use Rattle.rusty_leveldb.specs.Program.{IsPlayed}
 use Rattle.rusty_leveldb.proofs.Answering.{one_word}
 use Rattle.rusty_leveldb.proofs.shell.program.serve.Goals as goal
