@@ -140,6 +140,7 @@ impl ReaderCore {
             → IfErr result (λ status. GivesUp S.gives source.old status source.new × (self.new.failed ≡ true)) }
         ensures failed { self.old.failed ≡ true → IsErrAnd result (λ status. status.code ≡ Corruption)
             × (self.new ≡ self.old) × (source.new ≡ source.old) }
+        ensures cleared { self.old.failed ≡ true → target.new.items ≡ [] }
     {
         target.clear();
         if self.failed {
@@ -171,6 +172,7 @@ impl ReaderCore {
             → IfErr result (λ status. Refuses S.gives self.old source.old status self.new source.new) }
         ensures failed { self.old.failed ≡ true → IsErrAnd result (λ status. status.code ≡ Corruption)
             × (self.new ≡ self.old) × (source.new ≡ source.old) }
+        ensures cleared { self.old.failed ≡ true → target.new.items ≡ [] }
     {
         match self.next_record(source, target)? {
             Found::Record => Ok(target.len()),
@@ -440,6 +442,7 @@ impl<R: Source> LogReader<R> {
             → IfErr result (λ status. Refuses R.gives self.old.core self.old.source status self.new.core self.new.source) }
         ensures failed { self.old.core.failed ≡ true → IsErrAnd result (λ status. status.code ≡ Corruption)
             × (self.new.core ≡ self.old.core) × (self.new.source ≡ self.old.source) }
+        ensures cleared { self.old.core.failed ≡ true → target.new.items ≡ [] }
     {
         self.core.read(&mut self.source, target)
     }
