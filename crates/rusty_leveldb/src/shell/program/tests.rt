@@ -70,7 +70,7 @@ struct Told {
 }
 
 /// Runs the program, of which these arguments and this input are told.
-fn told<R: Read>(
+fn found_by<R: Read>(
     alloc: Global,
     env: &mut MemEnv,
     words: &[&str],
@@ -117,7 +117,7 @@ fn commands(rt: HostRuntime) -> io::Result<()> {
         let mut input = input;
         assert_told(
             &rt,
-            &told(alloc, &mut env, &["db"], &mut input)?,
+            &found_by(alloc, &mut env, &["db"], &mut input)?,
             0,
             out,
             b"",
@@ -135,7 +135,7 @@ fn misuse(rt: HostRuntime) -> io::Result<()> {
         let mut env = MemEnv::new(alloc);
         assert_told(
             &rt,
-            &told(alloc, &mut env, words, &mut input)?,
+            &found_by(alloc, &mut env, words, &mut input)?,
             2,
             b"",
             b"usage: ldb DIR\n",
@@ -186,7 +186,7 @@ fn bad_first_lines(rt: HostRuntime) -> io::Result<()> {
         let mut env = MemEnv::new(alloc);
         assert_told(
             &rt,
-            &told(alloc, &mut env, &["db"], &mut input)?,
+            &found_by(alloc, &mut env, &["db"], &mut input)?,
             2,
             b"",
             b"bad command in line 1\n",
@@ -211,7 +211,7 @@ fn later_bad_lines(rt: HostRuntime) -> io::Result<()> {
         let mut env = MemEnv::new(alloc);
         assert_told(
             &rt,
-            &told(alloc, &mut env, &["db"], &mut input)?,
+            &found_by(alloc, &mut env, &["db"], &mut input)?,
             2,
             b"",
             err,
@@ -224,10 +224,10 @@ fn later_bad_lines(rt: HostRuntime) -> io::Result<()> {
 fn long_input(rt: HostRuntime) -> io::Result<()> {
     let alloc = rt.alloc();
     let mut env = MemEnv::new(alloc);
-    let longest = told(alloc, &mut env, &["db"], &mut Newlines(1 << 26))?;
+    let longest = found_by(alloc, &mut env, &["db"], &mut Newlines(1 << 26))?;
     assert_told(&rt, &longest, 2, b"", b"bad command in line 1\n");
     let mut left = Newlines((1 << 26) + 7);
-    let long = told(alloc, &mut env, &["db"], &mut left)?;
+    let long = found_by(alloc, &mut env, &["db"], &mut left)?;
     assert_told(&rt, &long, 2, b"", b"input too long\n");
     assert_eq!(rt; left.0, 6);
     Ok(())
@@ -237,7 +237,7 @@ fn long_input(rt: HostRuntime) -> io::Result<()> {
 fn broken_input(rt: HostRuntime) -> io::Result<()> {
     let alloc = rt.alloc();
     let mut env = MemEnv::new(alloc);
-    let found = told(
+    let found = found_by(
         alloc,
         &mut env,
         &["db"],
@@ -247,7 +247,7 @@ fn broken_input(rt: HostRuntime) -> io::Result<()> {
     let mut input = b"get 61".as_slice();
     assert_told(
         &rt,
-        &told(alloc, &mut env, &["db"], &mut input)?,
+        &found_by(alloc, &mut env, &["db"], &mut input)?,
         0,
         b"none\n",
         b"",
@@ -289,7 +289,7 @@ fn locked_store(rt: HostRuntime) -> io::Result<()> {
     let mut env = MemEnv::new(alloc);
     assert!(rt; env.lock("db/LOCK").is_ok());
     let mut input = b"get 61\n".as_slice();
-    let found = told(alloc, &mut env, &["db"], &mut input)?;
+    let found = found_by(alloc, &mut env, &["db"], &mut input)?;
     assert_eq!(rt; found.status, 1);
     assert!(rt; found.out.is_empty());
     assert!(rt; found.err.starts_with(b"ldb: LockError: "));
