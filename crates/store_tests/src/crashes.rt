@@ -147,7 +147,11 @@ fn crash_and_go_on(
 ) -> Result<()> {
     let mut left = env.crashed(alloc, &pick(alloc, tail)?)?;
     let found = look_up_all(alloc, &mut left)?;
-    assert!(rt; maps.iter().any(|map| is_map(map, &found)), "a tail of {}", tail.len());
+    assert!(rt;
+        maps.iter().any(|map| is_map(map, &found)),
+        "a tail of {}",
+        tail.len()
+    );
 
     let mut commands = Vec::new(alloc);
     commands.push(command_of(alloc, &(true, &[("e", Some((b'x', 3)))]))?)?;
@@ -157,7 +161,9 @@ fn crash_and_go_on(
     let mut again = left.crashed(alloc, &pick(alloc, b"")?)?;
     let mut later = look_up_all(alloc, &mut again)?;
     let last = later.pop();
-    assert!(rt; matches!(&last, Some(Reply::Value(value)) if value.as_slice() == b"xxx".as_slice()));
+    assert!(rt;
+        matches!(&last, Some(Reply::Value(value)) if value.as_slice() == b"xxx".as_slice())
+    );
     for (before, after) in found.iter().zip(&later) {
         match (before, after) {
             (Reply::Value(before), Reply::Value(after)) => assert!(rt; before == after),
