@@ -18,3 +18,4 @@ pub mod LittleLaws
 pub mod CrcLaws
 pub mod ViewLaws
 pub mod Lent
+pub mod Names
