@@ -19,3 +19,4 @@ pub mod CrcLaws
 pub mod ViewLaws
 pub mod Lent
 pub mod Names
+pub mod NameLaws

@@ -17,6 +17,26 @@ pub record IsNumber (text : List ℕ) (n : ℕ) : Type 0 where
 abbrev pub IsNumbered : List ℕ → List ℕ → List ℕ → ℕ → Type 0
 IsNumbered front back name n = (text : List ℕ) × IsNumber text n × (name ≡ front ++ text ++ back)
 
+-- a name that tells its use alone
+abbrev pub IsWord : List ℕ → FileType → Type 0
+IsWord name DBLock = name ≡ codes "LOCK"
+IsWord name Current = name ≡ codes "CURRENT"
+IsWord name InfoLog = (name ≡ codes "LOG") ⊎ (name ≡ codes "LOG.old")
+IsWord name Log = ⊥
+IsWord name Table = ⊥
+IsWord name Descriptor = ⊥
+IsWord name Temp = ⊥
+
+-- what tells the use behind a number and a dot
+abbrev pub IsExtension : List ℕ → FileType → Type 0
+IsExtension text Log = text ≡ codes "log"
+IsExtension text Table = (text ≡ codes "ldb") ⊎ (text ≡ codes "sst")
+IsExtension text Temp = text ≡ codes "dbtmp"
+IsExtension text DBLock = ⊥
+IsExtension text Descriptor = ⊥
+IsExtension text Current = ⊥
+IsExtension text InfoLog = ⊥
+
 -- The name, without a folder, is one of a file for this use with this number, which is 0 where the name has none.
 abbrev pub IsFileName : List ℕ → ℕ → FileType → Type 0
 IsFileName name n Log = IsNumbered [] (codes ".log") name n
@@ -58,4 +78,4 @@ MayHaveNumber InfoLog n = n ≡ 0
 
 -- the whole path of such a file in a store's folder
 abbrev pub file_path : List ℕ → FileType → ℕ → List ℕ
-file_path store kind n = store ++ codes "/" ++ file_name kind n
+file_path store kind n = store ++ (codes "/" ++ file_name kind n)

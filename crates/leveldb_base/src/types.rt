@@ -6,6 +6,7 @@ ghost use Rattle.leveldb_base.specs.Places.{Pair, IsPlace, place_within, next_pl
 ghost use Rattle.leveldb_base.specs.Status.{IsOutOfMemory};
 
 use crate::error::Result;
+pub use crate::names::parse_file_name;
 use bytes::Bytes;
 use std::alloc::Global;
 
