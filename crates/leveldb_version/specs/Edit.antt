@@ -1,0 +1,1 @@
+-- A version edit: what a record of the manifest changes, and the bytes that stand for it.

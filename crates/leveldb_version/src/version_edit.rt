@@ -1,0 +1,1 @@
+//! Version edits: what a record of the manifest changes.
