@@ -38,6 +38,10 @@ pub record Edit : Type 0 where
   pub deleted : List LevelFile
   pub added : List NewFile
 
+-- nothing is set, and no level changes
+abbrev pub empty_edit : Edit
+empty_edit = record { comparator = None; log_number = None; previous_log = None; next_file = None; last_sequence = None; pointers = []; deleted = []; added = [] }
+
 -- ---- fields
 
 pub data Field : Type 0 where

@@ -1,1 +1,3 @@
 pub mod Edit
+pub mod EditReading
+pub mod EditView
