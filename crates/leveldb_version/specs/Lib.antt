@@ -2,3 +2,5 @@ pub mod Edit
 pub mod EditReading
 pub mod EditView
 pub mod FileSet
+pub mod Current
+pub mod CurrentLaws

@@ -2,3 +2,4 @@
 #![tactic(auto)]
 
 pub mod version_edit;
+pub mod version_set;
