@@ -1,1 +1,1 @@
-pub mod FileSets
+pub mod CurrentReads

@@ -1,5 +1,6 @@
 -- The text of `CURRENT` has one reading, and what is written is read.
-use Rattle.std.proofs.Common.{◌≡◌, ℕ, ◌^◌, ◌<◌, List, [], ◌∷◌, ◌++◌, refl, sym, ◌∙◌, subst, append-nil}
+use Rattle.std.proofs.Common.{◌≡◌, ℕ, ◌-◌, ◌^◌, ◌<◌, List, [], ◌∷◌, ◌++◌, length, take, refl, sym, ◌∙◌, ap, subst, arith, append-nil, length-append}
+use Rattle.std.proofs.Math.Seq.{take-append_seam}
 use Rattle.std.specs.Prelude.{IsUtf8, codes}
 use Rattle.std.proofs.lemmas.Str.{IsUtf8-append, IsUtf8-from_ascii}
 use Rattle.std.proofs.lemmas.Fmt.{IsAscii-from_digits}
@@ -21,9 +22,10 @@ written_current n fits = (made_name Descriptor n fits, refl)
 
 -- a manifest's name is text
 pub manifest_name_is_utf8 : (name : List ℕ) (n : ℕ) → IsFileName name n Descriptor → IsUtf8 name
+unfolding lib.Utf8.encode
 manifest_name_is_utf8 name n (text, number, e) =
     let digits = IsUtf8-from_ascii text (IsAscii-from_digits text number.digits.1) in
-    let front : IsUtf8 (codes "MANIFEST-") = (codes "MANIFEST-", refl, refl) in
+    let front : IsUtf8 (codes "MANIFEST-") = (codes "MANIFEST-", (refl, refl)) in
     let whole = IsUtf8-append (codes "MANIFEST-") text front digits in
     let P : List ℕ → Type 0 = IsUtf8 in
     subst P (sym (e ∙ append-nil (codes "MANIFEST-" ++ text))) whole
@@ -32,8 +34,11 @@ manifest_name_is_utf8 name n (text, number, e) =
 pub other_use : (name : List ℕ) (n m : ℕ) (kind : FileType) → (kind ≡ Descriptor → ⊥) → IsFileName name n kind → IsFileName name m Descriptor → ⊥
 other_use name n m kind other a b = other (one_reading name n m kind Descriptor a b).1
 
--- a line with another newline behind it is a text of `CURRENT` only by the line's own name
-pub line_is_name : (line name : List ℕ) (n : ℕ) → IsCurrentText (line ++ 10 ∷ []) name n → IsFileName line n Descriptor
-line_is_name line name n h =
+-- what stands before the newline is the name
+pub line_is_name : (text name : List ℕ) (n : ℕ) → IsCurrentText text name n → IsFileName (take (length text - 1) text) n Descriptor
+line_is_name text name n h =
+    let short : length (name ++ 10 ∷ []) - 1 ≡ length name = simp length-append (omega arith) in
+    let line : take (length text - 1) text ≡ name =
+    ap (λ z. take (length z - 1) z) h.1 ∙ ap (λ k. take k (name ++ 10 ∷ [])) short ∙ take-append_seam name (10 ∷ []) in
     let P : List ℕ → Type 0 = λ z. IsFileName z n Descriptor in
-    subst P (append_cancel_right name line (10 ∷ []) (sym h.1)) h.0
+    subst P (sym line) h.0

@@ -1,2 +1,0 @@
--- The file set, so far.
-use Rattle.leveldb_version.specs.FileSet.{LiveAfter}
