@@ -6,3 +6,4 @@ pub mod CrcShifts
 pub mod CrcZeros
 pub mod CrcTables
 pub mod CrcPieces
+pub mod NameReads

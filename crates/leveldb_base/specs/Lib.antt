@@ -18,3 +18,5 @@ pub mod LittleLaws
 pub mod CrcLaws
 pub mod ViewLaws
 pub mod Lent
+pub mod Names
+pub mod NameLaws

@@ -8,5 +8,6 @@ pub mod crc;
 pub mod error;
 pub mod history;
 pub mod key_types;
+pub mod names;
 pub mod types;
 pub mod varint;

@@ -6,6 +6,8 @@ ghost use Rattle.leveldb_base.specs.Places.{Pair, IsPlace, place_within, next_pl
 ghost use Rattle.leveldb_base.specs.Status.{IsOutOfMemory};
 
 use crate::error::Result;
+pub use crate::names::parse_file_name;
+use bytes::Bytes;
 use std::alloc::Global;
 
 #[cfg(test)]
@@ -35,6 +37,46 @@ pub enum Direction {
 pub struct Range<'a> {
     pub start: &'a [u8],
     pub limit: &'a [u8],
+}
+
+/// What a file of a store is for, as its name tells.
+#[derive(Clone, Copy, Debug, PartialEq)]
+pub enum FileType {
+    Log,
+    DBLock,
+    Table,
+    Descriptor,
+    Current,
+    Temp,
+    InfoLog,
+}
+
+/// A table's file: its number, its length in bytes, and its first and its last internal key.
+/// `allowed_seeks` is how many fruitless seeks it may take before it is compacted.
+#[derive(Clone, Debug, Drop, PartialEq)]
+pub struct FileMetaData {
+    pub allowed_seeks: usize,
+    pub num: FileNum,
+    pub size: usize,
+    pub smallest: Bytes,
+    pub largest: Bytes,
+}
+
+/// The number 0, no bytes and empty keys.
+impl Default for FileMetaData {
+    ghost use Rattle.std.specs.Prelude.{[]};
+
+    ghost is_default = { λ file. (file.allowed_seeks ≡ 0) × (file.num ≡ 0) × (file.size ≡ 0) × (file.smallest ≡ []) × (file.largest ≡ []) };
+
+    fn default() -> FileMetaData {
+        FileMetaData {
+            allowed_seeks: 0,
+            num: 0,
+            size: 0,
+            smallest: Bytes::new(),
+            largest: Bytes::new(),
+        }
+    }
 }
 
 /// A walk over a list of pairs of a key and a value, which no call changes.

@@ -1,0 +1,6 @@
+pub mod Edit
+pub mod EditReading
+pub mod EditView
+pub mod FileSet
+pub mod Current
+pub mod CurrentLaws
