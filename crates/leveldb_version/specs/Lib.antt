@@ -1,3 +1,4 @@
 pub mod Edit
 pub mod EditReading
 pub mod EditView
+pub mod EditLaws

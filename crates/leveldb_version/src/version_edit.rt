@@ -7,7 +7,7 @@ ghost use Rattle.std.specs.BTreeSet.{insert_key};
 ghost use Rattle.leveldb_base.specs.Status.{IsOutOfMemory};
 ghost use Rattle.leveldb_base.specs.declared.error.StatusCode.TheVariants.{Corruption};
 ghost use Rattle.leveldb_version.specs.Edit.{Edit, IsEdit, empty_edit, file_order, edit_bytes};
-ghost use Rattle.leveldb_version.specs.EditReading.{field_of, with_field};
+ghost use Rattle.leveldb_version.specs.EditReading.{field_of, files_in, with_field};
 ghost use Rattle.leveldb_version.specs.EditView.{edit_of, HasNoSeeks};
 
 use bytes::Bytes;
@@ -174,7 +174,7 @@ impl VersionEdit {
     // Adds what the field says.
     fn apply(&mut self, alloc: Global, field: LentField<'_>) -> Result<()>
         ensures ok { OnOk result (edit_of self.new ≡ with_field (edit_of self.old) (field_of field.entry)) }
-        ensures seeks { OnOk result (HasNoSeeks self.old → HasNoSeeks self.new) }
+        ensures files { OnOk result (self.new.new_files.items ≡ self.old.new_files.items ++ files_in field.entry) }
         ensures memory { IfErr result IsOutOfMemory }
     {
         match field {

@@ -91,7 +91,9 @@ fn take_comparator(bytes: &[u8]) -> Option<(LentField<'_>, &[u8])>
     ensures { ReadsFront FieldFits field_bytes (1 ∷ bytes.now) (field_with_rest result) }
 {
     let (name, rest) = get_length_prefixed_slice(bytes)?;
-    let name = str::from_utf8(name).ok()?;
+    let Ok(name) = str::from_utf8(name) else {
+        return None;
+    };
     Some((LentField::Comparator(name), rest))
 }
 
