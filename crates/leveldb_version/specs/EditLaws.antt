@@ -198,12 +198,12 @@ module _ (edit : Edit) where
       ap (filter_map comparator_in) fields_spread
       ∙ gives comparator_in comparator_is (λ x. refl) (option_to_list edit.comparator) from_log
       ∙ ap (λ z. (option_to_list edit.comparator) ++ z) (passes comparator_in log_is (λ x. refl) (option_to_list edit.log_number) from_previous
-          ∙ passes comparator_in previous_log_is (λ x. refl) (option_to_list edit.previous_log) from_next
-          ∙ passes comparator_in next_file_is (λ x. refl) (option_to_list edit.next_file) from_last
-          ∙ passes comparator_in last_sequence_is (λ x. refl) (option_to_list edit.last_sequence) from_pointers
-          ∙ passes comparator_in points (λ x. refl) edit.pointers from_deleted
-          ∙ passes comparator_in deletes (λ x. refl) edit.deleted from_added
-          ∙ passes comparator_in adds (λ x. refl) edit.added [])
+      ∙ passes comparator_in previous_log_is (λ x. refl) (option_to_list edit.previous_log) from_next
+      ∙ passes comparator_in next_file_is (λ x. refl) (option_to_list edit.next_file) from_last
+      ∙ passes comparator_in last_sequence_is (λ x. refl) (option_to_list edit.last_sequence) from_pointers
+      ∙ passes comparator_in points (λ x. refl) edit.pointers from_deleted
+      ∙ passes comparator_in deletes (λ x. refl) edit.deleted from_added
+      ∙ passes comparator_in adds (λ x. refl) edit.added [])
       ∙ append-nil (option_to_list edit.comparator)
 
   log_number_written : filter_map log_in (fields_of edit) ≡ option_to_list edit.log_number
@@ -212,11 +212,11 @@ module _ (edit : Edit) where
       ∙ passes log_in comparator_is (λ x. refl) (option_to_list edit.comparator) from_log
       ∙ gives log_in log_is (λ x. refl) (option_to_list edit.log_number) from_previous
       ∙ ap (λ z. (option_to_list edit.log_number) ++ z) (passes log_in previous_log_is (λ x. refl) (option_to_list edit.previous_log) from_next
-          ∙ passes log_in next_file_is (λ x. refl) (option_to_list edit.next_file) from_last
-          ∙ passes log_in last_sequence_is (λ x. refl) (option_to_list edit.last_sequence) from_pointers
-          ∙ passes log_in points (λ x. refl) edit.pointers from_deleted
-          ∙ passes log_in deletes (λ x. refl) edit.deleted from_added
-          ∙ passes log_in adds (λ x. refl) edit.added [])
+      ∙ passes log_in next_file_is (λ x. refl) (option_to_list edit.next_file) from_last
+      ∙ passes log_in last_sequence_is (λ x. refl) (option_to_list edit.last_sequence) from_pointers
+      ∙ passes log_in points (λ x. refl) edit.pointers from_deleted
+      ∙ passes log_in deletes (λ x. refl) edit.deleted from_added
+      ∙ passes log_in adds (λ x. refl) edit.added [])
       ∙ append-nil (option_to_list edit.log_number)
 
   previous_log_written : filter_map previous_log_in (fields_of edit) ≡ option_to_list edit.previous_log
@@ -226,10 +226,10 @@ module _ (edit : Edit) where
       ∙ passes previous_log_in log_is (λ x. refl) (option_to_list edit.log_number) from_previous
       ∙ gives previous_log_in previous_log_is (λ x. refl) (option_to_list edit.previous_log) from_next
       ∙ ap (λ z. (option_to_list edit.previous_log) ++ z) (passes previous_log_in next_file_is (λ x. refl) (option_to_list edit.next_file) from_last
-          ∙ passes previous_log_in last_sequence_is (λ x. refl) (option_to_list edit.last_sequence) from_pointers
-          ∙ passes previous_log_in points (λ x. refl) edit.pointers from_deleted
-          ∙ passes previous_log_in deletes (λ x. refl) edit.deleted from_added
-          ∙ passes previous_log_in adds (λ x. refl) edit.added [])
+      ∙ passes previous_log_in last_sequence_is (λ x. refl) (option_to_list edit.last_sequence) from_pointers
+      ∙ passes previous_log_in points (λ x. refl) edit.pointers from_deleted
+      ∙ passes previous_log_in deletes (λ x. refl) edit.deleted from_added
+      ∙ passes previous_log_in adds (λ x. refl) edit.added [])
       ∙ append-nil (option_to_list edit.previous_log)
 
   next_file_written : filter_map next_file_in (fields_of edit) ≡ option_to_list edit.next_file
@@ -240,9 +240,9 @@ module _ (edit : Edit) where
       ∙ passes next_file_in previous_log_is (λ x. refl) (option_to_list edit.previous_log) from_next
       ∙ gives next_file_in next_file_is (λ x. refl) (option_to_list edit.next_file) from_last
       ∙ ap (λ z. (option_to_list edit.next_file) ++ z) (passes next_file_in last_sequence_is (λ x. refl) (option_to_list edit.last_sequence) from_pointers
-          ∙ passes next_file_in points (λ x. refl) edit.pointers from_deleted
-          ∙ passes next_file_in deletes (λ x. refl) edit.deleted from_added
-          ∙ passes next_file_in adds (λ x. refl) edit.added [])
+      ∙ passes next_file_in points (λ x. refl) edit.pointers from_deleted
+      ∙ passes next_file_in deletes (λ x. refl) edit.deleted from_added
+      ∙ passes next_file_in adds (λ x. refl) edit.added [])
       ∙ append-nil (option_to_list edit.next_file)
 
   last_sequence_written : filter_map last_sequence_in (fields_of edit) ≡ option_to_list edit.last_sequence
@@ -254,8 +254,8 @@ module _ (edit : Edit) where
       ∙ passes last_sequence_in next_file_is (λ x. refl) (option_to_list edit.next_file) from_last
       ∙ gives last_sequence_in last_sequence_is (λ x. refl) (option_to_list edit.last_sequence) from_pointers
       ∙ ap (λ z. (option_to_list edit.last_sequence) ++ z) (passes last_sequence_in points (λ x. refl) edit.pointers from_deleted
-          ∙ passes last_sequence_in deletes (λ x. refl) edit.deleted from_added
-          ∙ passes last_sequence_in adds (λ x. refl) edit.added [])
+      ∙ passes last_sequence_in deletes (λ x. refl) edit.deleted from_added
+      ∙ passes last_sequence_in adds (λ x. refl) edit.added [])
       ∙ append-nil (option_to_list edit.last_sequence)
 
   pointers_written : filter_map pointer_in (fields_of edit) ≡ edit.pointers
@@ -268,7 +268,7 @@ module _ (edit : Edit) where
       ∙ passes pointer_in last_sequence_is (λ x. refl) (option_to_list edit.last_sequence) from_pointers
       ∙ gives pointer_in points (λ x. refl) edit.pointers from_deleted
       ∙ ap (λ z. edit.pointers ++ z) (passes pointer_in deletes (λ x. refl) edit.deleted from_added
-          ∙ passes pointer_in adds (λ x. refl) edit.added [])
+      ∙ passes pointer_in adds (λ x. refl) edit.added [])
       ∙ append-nil edit.pointers
 
   deleted_written : filter_map deleted_in (fields_of edit) ≡ edit.deleted
