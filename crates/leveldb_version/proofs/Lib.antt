@@ -1,2 +1,3 @@
 pub mod FieldReads
 pub mod Decoding
+pub mod Encoding
