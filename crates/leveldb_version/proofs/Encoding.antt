@@ -1,5 +1,6 @@
 -- What putting an edit's fields, one behind the other, makes.
-use Rattle.std.proofs.Common.{◌≡◌, ℕ, ◌^◌, ◌<◌, List, [], ◌∷◌, ◌++◌, flat_map, map, Option, Some, None, IfSome, IsUtf8, refl, sym, ◌∙◌, ap, subst, append_assoc}
+use Rattle.std.proofs.Common.{◌≡◌, ℕ, ◌^◌, ◌<◌, List, [], ◌∷◌, ◌++◌, flat_map, map, Option, Some, None, IfSome, IsUtf8, refl, sym, ◌∙◌, ap, subst, append_assoc, ◌+◌, length, take, get_or}
+use Rattle.std.proofs.lemmas.List.{append-nil, take_more}
 use Rattle.std.proofs.lemmas.List.Concat.{flat_map-append}
 use Rattle.std.proofs.lemmas.List.Folds.{flat_map-map}
 use Rattle.std.proofs.lemmas.List.Elements.{All-nil, All-cons, All-append, All-map}
@@ -53,6 +54,23 @@ all_put edit none comparator log previous next last pointers deleted added e a b
     ∙ put_next none comparator (map comparator_is (option_to_list edit.comparator))
     (map log_is (option_to_list edit.log_number) ++ (map previous_log_is (option_to_list edit.previous_log) ++ (map next_file_is (option_to_list edit.next_file) ++ (map last_sequence_is (option_to_list edit.last_sequence) ++ (map points edit.pointers ++ (map deletes edit.deleted ++ map adds edit.added)))))) a
     ∙ ap (λ z. z ++ flat_map field_bytes (fields_of edit)) e
+
+-- one more field
+spread_more : {A B : Type 0} (make : B → Field) (view : A → B) (items : List A) (item : A)
+    → flat_map field_bytes (map make (map view (items ++ item ∷ []))) ≡ flat_map field_bytes (map make (map view items)) ++ field_bytes (make (view item))
+spread_more make view [] item = append-nil (field_bytes (make (view item)))
+spread_more make view (first ∷ items) item =
+    ap (λ z. field_bytes (make (view first)) ++ z) (spread_more make view items item)
+    ∙ sym (append_assoc (field_bytes (make (view first))) (flat_map field_bytes (map make (map view items))) (field_bytes (make (view item))))
+
+pub put_more : {A B : Type 0} (make : B → Field) (view : A → B) (items : List A) (i : ℕ) (item : A) (before after next : List ℕ) → i < length items → item ≡ get_or items i item
+    → after ≡ before ++ flat_map field_bytes (map make (map view (take i items))) → next ≡ after ++ field_bytes (make (view item))
+    → next ≡ before ++ flat_map field_bytes (map make (map view (take (i + 1) items)))
+put_more make view items i item before after next h is e f =
+    f ∙ ap (λ z. z ++ field_bytes (make (view item))) e
+    ∙ append_assoc before (flat_map field_bytes (map make (map view (take i items)))) (field_bytes (make (view item)))
+    ∙ ap (λ z. before ++ z) (sym (spread_more make view (take i items) item))
+    ∙ ap (λ z. before ++ flat_map field_bytes (map make (map view z))) (ap (λ z. take i items ++ z ∷ []) is ∙ sym (take_more items i item h))
 
 -- a value that fits makes a field that fits
 one_fits : {A : Type 0} (make : A → Field) (Fits : A → Type 0) → ((x : A) → Fits x → FieldFits (make x)) → (o : Option A) → IfSome o Fits → All FieldFits (map make (option_to_list o))

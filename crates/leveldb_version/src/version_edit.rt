@@ -6,7 +6,7 @@ ghost use Rattle.std.specs.Prelude.{◌≡◌, ◌⊎◌, [], ◌∷◌, ◌++�
 ghost use Rattle.std.specs.BTreeSet.{insert_key};
 ghost use Rattle.leveldb_base.specs.Status.{IsOutOfMemory};
 ghost use Rattle.leveldb_base.specs.declared.error.StatusCode.TheVariants.{Corruption};
-ghost use Rattle.leveldb_version.specs.Edit.{Edit, IsEdit, empty_edit, file_order, edit_bytes, OneEdit, WrittenIsRead};
+ghost use Rattle.leveldb_version.specs.Edit.{Edit, IsEdit, empty_edit, file_order, edit_bytes, HasLevels, OneEdit, WrittenIsRead};
 ghost use Rattle.leveldb_version.specs.EditReading.{field_of, files_in, with_field};
 ghost use Rattle.leveldb_version.specs.EditView.{edit_of, HasNoSeeks};
 
@@ -159,6 +159,7 @@ impl VersionEdit {
     /// The edit as bytes: single values first, then compaction pointers, deleted files by level and number, new files.
     pub fn encode(&self, alloc: Global) -> Result<Vec<u8>>
         ensures ok { IfOk result (λ bytes. bytes.items ≡ edit_bytes (edit_of self.now)) }
+        ensures read { IfOk result (λ bytes. HasLevels (edit_of self.now) → IsEdit bytes.items (edit_of self.now)) }
         ensures memory { IfErr result IsOutOfMemory }
     {
         let mut bytes = Vec::with_capacity(alloc, 256)?;

@@ -1,9 +1,10 @@
 //! The fields of a version edit, each a tag and its value: read from bytes, and put as bytes.
-ghost use Rattle.std.specs.Prelude.{◌≡◌, ◌^◌, ◌<◌, ◌∷◌, ◌++◌, flat_map, map, OnOk, IfErr, string_bytes};
+ghost use Rattle.std.specs.Prelude.{◌≡◌, ◌^◌, ◌<◌, ◌∷◌, ◌++◌, flat_map, map, All, OnOk, IfErr, IfSome, string_bytes};
+ghost use Rattle.std.specs.List.Sorted.{IsStrictlySortedBy};
 ghost use Rattle.std.specs.Option.{option_map, option_to_list};
 ghost use Rattle.leveldb_base.specs.Status.{IsOutOfMemory};
 ghost use Rattle.leveldb_base.specs.Varint.{varint};
-ghost use Rattle.leveldb_version.specs.Edit.{comparator_is, points, deletes, adds, FieldFits, field_bytes};
+ghost use Rattle.leveldb_version.specs.Edit.{comparator_is, points, deletes, adds, FieldFits, field_bytes, file_order};
 ghost use Rattle.leveldb_version.specs.EditReading.{ReadsFront, with_rest, field_with_rest};
 ghost use Rattle.leveldb_version.specs.EditView.{pointer_of, new_file_of};
 
@@ -151,6 +152,7 @@ pub(super) fn put_comparator(dst: &mut Vec<u8>, name: &Option<String>) -> Result
 // Puts a number behind its tag, where there is one.
 pub(super) fn put_number(dst: &mut Vec<u8>, tag: u8, number: Option<u64>) -> Result<()>
     ensures ok { OnOk result (dst.new.items ≡ dst.old.items ++ flat_map (λ n. tag ∷ varint n) (option_to_list number)) }
+    ensures small { IfSome number (λ n. n < 2 ^ 64) }
     ensures memory { IfErr result IsOutOfMemory }
 {
     if let Some(number) = number {
@@ -183,6 +185,8 @@ fn put_pointer(dst: &mut Vec<u8>, pointer: &CompactionPointer) -> Result<()>
 // Puts the deleted files by level and number.
 pub(super) fn put_deleted(dst: &mut Vec<u8>, deleted: &BTreeSet<(usize, FileNum)>) -> Result<()>
     ensures ok { OnOk result (dst.new.items ≡ dst.old.items ++ flat_map field_bytes (map deletes deleted.now.keys)) }
+    ensures small { OnOk result (All (λ file. file.1 < 2 ^ 64) deleted.now.keys) }
+    ensures ordered { IsStrictlySortedBy file_order deleted.now.keys }
     ensures memory { IfErr result IsOutOfMemory }
 {
     for file in deleted {
@@ -193,6 +197,7 @@ pub(super) fn put_deleted(dst: &mut Vec<u8>, deleted: &BTreeSet<(usize, FileNum)
 
 fn put_deleted_file(dst: &mut Vec<u8>, file: (usize, FileNum)) -> Result<()>
     ensures ok { OnOk result (dst.new.items ≡ dst.old.items ++ field_bytes (deletes file)) }
+    ensures small { file.1 < 2 ^ 64 }
     ensures memory { IfErr result IsOutOfMemory }
 {
     dst.push(DELETED_FILE)?;
@@ -203,6 +208,7 @@ fn put_deleted_file(dst: &mut Vec<u8>, file: (usize, FileNum)) -> Result<()>
 // Puts the new files in turn.
 pub(super) fn put_new_files(dst: &mut Vec<u8>, files: &[(usize, FileMetaData)]) -> Result<()>
     ensures ok { OnOk result (dst.new.items ≡ dst.old.items ++ flat_map field_bytes (map adds (map new_file_of files.now))) }
+    ensures small { OnOk result (All (λ file. (file.1.num < 2 ^ 64) × (file.1.size < 2 ^ 64)) files.now) }
     ensures memory { IfErr result IsOutOfMemory }
 {
     for file in files {
@@ -213,6 +219,8 @@ pub(super) fn put_new_files(dst: &mut Vec<u8>, files: &[(usize, FileMetaData)]) 
 
 fn put_new_file(dst: &mut Vec<u8>, file: &(usize, FileMetaData)) -> Result<()>
     ensures ok { OnOk result (dst.new.items ≡ dst.old.items ++ field_bytes (adds (new_file_of file.now))) }
+    ensures num { OnOk result (file.now.1.num < 2 ^ 64) }
+    ensures size { OnOk result (file.now.1.size < 2 ^ 64) }
     ensures memory { IfErr result IsOutOfMemory }
 {
     let (level, file) = file;
