@@ -4,3 +4,4 @@ pub mod EditView
 pub mod FileSet
 pub mod Current
 pub mod CurrentLaws
+pub mod EditLaws
