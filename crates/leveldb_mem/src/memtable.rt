@@ -4,12 +4,13 @@ ghost use Rattle.std.specs.Bool.{OnTrue, OnFalse};
 ghost use Rattle.std.specs.Option.{option_map};
 ghost use Rattle.leveldb_base.specs.Status.{IsOutOfMemory};
 ghost use Rattle.leveldb_base.specs.declared.error.StatusCode.TheVariants.{AlreadyExists};
+ghost use Rattle.leveldb_base.specs.History.{placed, greatest};
 ghost use Rattle.leveldb_base.specs.Varint.{little, varint, sized};
 ghost use Rattle.leveldb_base.specs.Keys.{tag, inner_key, internal_cmp, user_part, sequence_part};
 ghost use Rattle.leveldb_base.specs.Places.{count_before};
 ghost use Rattle.leveldb_base.specs.View.{AreRising};
 ghost use Rattle.leveldb_mem.specs.Batch.{item_of};
-ghost use Rattle.leveldb_mem.specs.Entries.{Gains, IsNewTo, FindsNewest, HasRoom, Adds, value_length};
+ghost use Rattle.leveldb_mem.specs.Entries.{Gains, IsNewTo, AreNewTo, FindsNewest, HasRoom, Adds, value_length};
 ghost use Rattle.leveldb_mem.specs.MemTable.{entry_of, type_of, bytes_of_value, value_of, entry_key, entry_from, inner_value, internal_pair, memory_of_entries};
 
 use crate::memtable::iterator::AtInternalKey;
@@ -104,6 +105,21 @@ impl<C: UserCmp> MemTable<C> {
         ensures adds { Adds self.old.kept (entry_of sequence key.now (option_copied value.entry)) self.new.kept }
     {
         self.put(sequence, key, value);
+    }
+
+    /// Puts the changes of a batch for which there is room, the first of them with this number. It takes no memory.
+    pub fn insert_prepared(&mut self, first: SequenceNumber, batch: &WriteBatch)
+        requires numbered { greatest (placed first batch.now.items) < 2 ^ 56 }
+        requires room { HasRoom self.old.kept batch.now.items }
+        requires new { AreNewTo self.old.kept.entries (placed first batch.now.items) }
+        ensures cmp { self.new.cmp ≡ self.old.cmp }
+        ensures entries { Gains self.old.kept.entries (placed first batch.now.items) self.new.kept.entries }
+    {
+        let mut sequence = first;
+        for (key, value) in batch.iter() {
+            self.add_prepared(sequence, key, value);
+            sequence += 1;
+        }
     }
 
     /// Puts an entry, and takes the memory for it. A deletion has no value, whatever `value` is.
