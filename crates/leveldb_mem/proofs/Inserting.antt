@@ -3,6 +3,7 @@ use Rattle.std.proofs.Common.{◌≡◌, ◌≤◌, ◌<◌, ◌+◌, ◌-◌, �
 use Rattle.std.specs.Prelude.{Contains, IsErrAnd}
 use Rattle.std.proofs.lemmas.List.Elements.{Contains-append_left, Contains-append_right, Contains-append_cases, Contains-push_cases}
 use Rattle.leveldb_base.specs.History.{Item, Entry, placed, greatest}
+use Rattle.leveldb_base.specs.ViewLaws.{AreUpTo}
 use Rattle.leveldb_base.specs.ViewLaws.Elements.{in_none, in_front, in_rest, in_cases}
 use Rattle.leveldb_base.specs.Status.{IsOutOfMemory}
 use Rattle.leveldb_base.specs.declared.error.Status.{Status}
@@ -121,3 +122,20 @@ module _ (old all : List Entry) (kept : Kept) (sequence : ℕ) (rest : List Item
       new = still_new;
       gains = λ final gains. inserting.gains final (gained_before kept.entries after.entries final (placed (sequence + 1) others) (entry_of sequence item.key item.value) adds.gains gains);
     }
+
+-- ---- entries up to a number
+
+pub none_up_to : (n : ℕ) (entries : List Entry) → entries ≡ [] → AreUpTo n entries
+none_up_to n entries none entry there = in_none entry (subst (λ (es : List Entry). Contains es entry) none there)
+
+pub one_up_to : (n : ℕ) (old new : List Entry) (one : Entry) → AreUpTo n old → Gains old (one ∷ []) new → one.sequence ≤ n → AreUpTo n new
+one_up_to n old new one low gains le entry there =
+    ⊎_elim
+    (λ (was : Contains old entry). low entry was)
+    (λ (e : one ≡ entry). let s = ap (λ (x : Entry). x.sequence) e in omega (arith, s))
+    (Contains-push_cases old one entry ((gains entry).0 there))
+
+-- a batch behind them is new
+pub new_behind : (n : ℕ) (entries : List Entry) (first : ℕ) (items : List Item) → AreUpTo n entries → n < first → AreNewTo entries (placed first items)
+new_behind n entries first items low above entry there other was key number =
+    let a = low other was in let b = placed_from first items entry there in omega (arith, a, b, number)
