@@ -9,6 +9,7 @@ mod Newest
 mod Gaining
 mod Walking
 mod Memories
+mod Inserting
 pub mod WriterSteps
 pub mod Ranges
 pub mod ReaderSteps

@@ -1,6 +1,7 @@
 -- What a look-up among sorted memtable keys finds.
-use Rattle.std.proofs.Common.{◌≡◌, ◌≢◌, ℕ, ◌+◌, ◌<◌, ◌≤◌, Bool, true, false, cond, List, [], ◌∷◌, length, get_or, map, Option, Some, None, refl, sym, ◌∙◌, ap, subst, arith, ◌⊎◌, inl, inr, ⊎_elim}
-use Rattle.std.specs.Prelude.{Contains, nat_eq}
+use Rattle.std.proofs.Common.{◌≡◌, ◌≢◌, ℕ, ◌+◌, ◌<◌, ◌≤◌, ◌^◌, Bool, true, false, cond, List, [], ◌∷◌, length, get_or, map, append-nil, Option, Some, None, refl, sym, ◌∙◌, ap, subst, arith, ◌⊎◌, inl, inr, ⊎_elim}
+use Rattle.std.specs.Prelude.{Contains, nat_eq, slice_get}
+use Rattle.std.proofs.lemmas.Option.{slice_get-get_or, slice_get_within}
 use Rattle.std.proofs.lemmas.Bool.{cases_order, cases_lt, lt-ltb}
 use Rattle.std.proofs.lemmas.Cmp.{ranked}
 use Rattle.std.proofs.lemmas.List.{length-map, get_or-map}
@@ -11,17 +12,21 @@ use Rattle.std.specs.Ordering.{is_lt, ordering_then, nat_cmp}
 use Rattle.leveldb_base.specs.History.{Entry}
 use Rattle.leveldb_base.specs.Order.{IsPreorderOn}
 use Rattle.leveldb_base.specs.OrderLaws.{itself_equal}
-use Rattle.leveldb_base.specs.Keys.{user_part, sequence_part, type_part, inner_key, memtable_accepts, memtable_cmp}
+use Rattle.leveldb_base.specs.Keys.{internal_key, internal_cmp, user_part, sequence_part, type_part, inner_key, memtable_accepts, memtable_cmp}
+use Rattle.leveldb_base.specs.KeyLaws.{user_part-internal_key, sequence_part-internal_key, inner_key-sized}
+use Rattle.leveldb_base.specs.declared.key_types.ValueType.{ValueType}
+use Rattle.leveldb_base.specs.declared.key_types.ValueType.TheVariants.{TypeValue}
 use Rattle.leveldb_base.specs.Places.{Pair, count_before}
 use Rattle.leveldb_base.specs.Varint.{sized}
 use Rattle.leveldb_base.specs.View.{IsNewest}
-use Rattle.leveldb_mem.specs.Searching.{key_at, count_while}
+use Rattle.leveldb_mem.specs.Searching.{key_at, count_while, IsParted}
 use Rattle.leveldb_mem.specs.SkipMap.{IsSorted}
 use Rattle.leveldb_mem.specs.Entries.{HasNewest, FindsNewest}
-use Rattle.leveldb_mem.specs.MemTable.{entry_from, entries_in, value_of, inner_value}
+use Rattle.leveldb_mem.specs.MemTable.{entry_of, entry_from, entries_in, value_of, inner_value, GivesAt}
 use Rattle.leveldb_mem.proofs.Halving.{before_count, at_count, count_before-is}
 use Rattle.leveldb_mem.proofs.Rising.{is_less, not_less, rising_at}
 use Rattle.leveldb_mem.proofs.EntryKeys.{entry_order, lookup_order}
+use Rattle.leveldb_mem.proofs.Walking.{parted_walked}
 
 -- where the first of two answers ties, the second decides
 tied_less : (r : Ordering) (s q : ℕ) → r ≡ Equal → ordering_then r (nat_cmp s q) ≡ Less → s < q
@@ -55,6 +60,48 @@ entry_there pairs i h =
     let e = entry_from (key_at pairs i) in
     subst (λ (x : Entry). Contains (entries_in pairs) x) (get_or-map (λ (pair : Pair). entry_from pair.0) pairs i ([], []) e h)
     (Contains-get_or (entries_in pairs) i e (omega (arith, h, count)))
+
+entry_got : (pairs : List Pair) (i : ℕ) → i < length pairs → slice_get (entries_in pairs) i ≡ Some (entry_from (key_at pairs i))
+entry_got pairs i h =
+    let count = length-map pairs (λ (pair : Pair). entry_from pair.0) in
+    let e = entry_from (key_at pairs i) in
+    slice_get-get_or (entries_in pairs) i e (omega (arith, h, count)) ∙ ap (λ (x : Entry). Some x) (get_or-map (λ (pair : Pair). entry_from pair.0) pairs i ([], []) e h)
+
+same_some : {a b : Entry} → Some a ≡ Some b → a ≡ b
+same_some e = cc
+
+-- what was got stands within
+got_within : (pairs : List Pair) (i : ℕ) (entry : Entry) → slice_get (entries_in pairs) i ≡ Some entry → i < length pairs
+got_within pairs i entry e = omega (arith, slice_get_within (entries_in pairs) i entry e, length-map pairs (λ (pair : Pair). entry_from pair.0))
+
+-- whether a memtable key comes before the user's key as of the number
+abbrev pub as_of : (List ℕ → List ℕ → Ordering) → List ℕ → List ℕ → ℕ → Bool
+as_of cmp k user number = is_lt (ordering_then (cmp (user_part (inner_key k)) user) (nat_cmp number (sequence_part (inner_key k))))
+
+-- there is no entry behind the last
+pub gives_nothing : (pairs : List Pair) (i : ℕ) (user : List ℕ) → length pairs ≤ i → GivesAt (entries_in pairs) i user None
+gives_nothing pairs i user h entry got same = let within = got_within pairs i entry got in omega (arith, within)
+
+module _ (pairs : List Pair) (i : ℕ) (within : i < length pairs) (key : List ℕ) (key_is : key ≡ key_at pairs i) (internal : List ℕ) (internal_is : internal ≡ inner_key key)
+    (user : List ℕ) (user_is : user ≡ user_part internal) where
+  -- the entry is another key's
+  pub gives_other : (other : List ℕ) → (user ≡ other → ⊥) → GivesAt (entries_in pairs) i other None
+  unfolding entry_from
+  gives_other other differs entry got same =
+      let is : entry_from (key_at pairs i) ≡ entry = same_some (sym (entry_got pairs i within) ∙ got) in
+      differs (user_is ∙ ap user_part internal_is ∙ ap (λ k. user_part (inner_key k)) key_is ∙ ap (λ (x : Entry). x.key) is ∙ same)
+
+  -- the entry is the key's
+  pub gives_read : (value : List ℕ) (kind : ValueType) → kind ≡ type_part internal → value ≡ inner_value key → GivesAt (entries_in pairs) i user (Some (value_of kind value))
+  unfolding entry_from
+  gives_read value kind kind_is value_is =
+      let number = sequence_part (inner_key key) in (
+        number,
+        entry_got pairs i within ∙ ap (λ k. Some (entry_from k)) (sym key_is)
+            ∙ ap (λ u. Some (entry_of number u (value_of (type_part (inner_key key)) (inner_value key)))) (ap user_part (sym internal_is) ∙ sym user_is)
+            ∙ ap (λ k. Some (entry_of number user (value_of k (inner_value key)))) (ap type_part (sym internal_is) ∙ sym kind_is)
+            ∙ ap (λ v. Some (entry_of number user (value_of kind v))) (sym value_is),
+      )
 
 module _ {accepts : List ℕ → Bool} {cmp : List ℕ → List ℕ → Ordering} (o : IsPreorderOn accepts cmp) (all : (key : List ℕ) → accepts key ≡ true)
     (exact : (a b : List ℕ) → cmp a b ≡ Equal → a ≡ b) {pairs : List Pair} (sorted : IsSorted (memtable_accepts accepts) (memtable_cmp cmp) pairs) where
@@ -170,20 +217,38 @@ module _ {accepts : List ℕ → Bool} {cmp : List ℕ → List ℕ → Ordering
         (first_not_greater (cmp (entry place).key (entry i).key) _ (ordered place i gt found.1))) w)
         (cases_order i place)
 
-    module _ (n : ℕ) (n_is : n ≡ place) (key : List ℕ) (u : List ℕ) (u_is : u ≡ user_part (inner_key key)) where
-      -- the entry that was read there, of the key that is looked for
-      pub finds_read : n < length pairs → key ≡ key_at pairs n → u ≡ user → (value : Option (List ℕ)) → value ≡ value_of (type_part (inner_key key)) (inner_value key)
-          → HasNewest (entries_in pairs) limit user value
-      unfolding entry_from
-      finds_read within key_is same value value_is =
-          let key' : key ≡ key_at pairs place = key_is ∙ ap (λ i. key_at pairs i) n_is in
-          let there : (entry place).key ≡ user = ap (λ k. user_part (inner_key k)) (sym key') ∙ sym u_is ∙ same in
-          let gives : (entry place).value ≡ value = ap (λ k. value_of (type_part (inner_key k)) (inner_value k)) (sym key') ∙ sym value_is in
-          subst (λ v. HasNewest (entries_in pairs) limit user v) gives (finds_entry (omega (arith, within, n_is)) there)
+    -- what the entry there gives, or that it gives nothing
+    pub finds_given : (n : ℕ) → n ≡ place → (found : Option (Option (List ℕ))) → GivesAt (entries_in pairs) n user found → FindsNewest (entries_in pairs) limit user found
+    finds_given n n_is None given = finds_none (λ within same. given (entry place) (ap (λ i. slice_get (entries_in pairs) i) n_is ∙ entry_got pairs place within) same)
+    finds_given n n_is (Some value) given =
+        let within = got_within pairs n (entry_of given.0 user value) given.1 in
+        let is : entry place ≡ entry_of given.0 user value = same_some (sym (entry_got pairs place (omega (arith, within, n_is))) ∙ ap (λ i. slice_get (entries_in pairs) i) (sym n_is) ∙ given.1) in
+        subst (λ v. HasNewest (entries_in pairs) limit user v) (ap (λ (x : Entry). x.value) is)
+        (finds_entry (omega (arith, within, n_is)) (ap (λ (x : Entry). x.key) is))
 
-      -- an entry of another key
-      pub misses_read : key ≡ key_at pairs n → (u ≡ user → ⊥) → FindsNewest (entries_in pairs) limit user None
-      unfolding entry_from
-      misses_read key_is other =
-          let key' : key ≡ key_at pairs place = key_is ∙ ap (λ i. key_at pairs i) n_is in
-          finds_none (λ h same. other (u_is ∙ ap (λ k. user_part (inner_key k)) key' ∙ same))
+    -- keys before it, by their internal keys
+    pub counted_inner : count_while (λ k. is_lt (internal_cmp cmp (inner_key k) internal)) pairs ≡ place
+    counted_inner =
+        let inner : inner_key (sized internal) ≡ internal = ap inner_key (sym (append-nil (sized internal))) ∙ inner_key-sized internal [] in
+        ap (λ z. count_while (λ k. is_lt (internal_cmp cmp (inner_key k) z)) pairs) (sym inner) ∙ counted
+
+  module _ (key : List ℕ) (sequence : ℕ) (fits : sequence < 2 ^ 56) where
+    abbrev looked_up : List ℕ
+    looked_up = internal_key key sequence TypeValue
+
+    pub parted_as_of : IsParted (λ k. as_of cmp k key sequence) pairs
+    parted_as_of =
+        subst (λ number. IsParted (λ k. as_of cmp k key number) pairs) (sequence_part-internal_key key sequence TypeValue fits)
+        (subst (λ user. IsParted (λ k. as_of cmp k user (sequence_part looked_up)) pairs) (user_part-internal_key key sequence TypeValue) (parted_walked o all sorted looked_up))
+
+    pub finds_as_of : (n : ℕ) → n ≡ count_while (λ k. as_of cmp k key sequence) pairs → (found : Option (Option (List ℕ))) → GivesAt (entries_in pairs) n key found
+        → FindsNewest (entries_in pairs) sequence key found
+    finds_as_of n n_is found given =
+        let number_is = sequence_part-internal_key key sequence TypeValue fits in
+        let user_is = user_part-internal_key key sequence TypeValue in
+        let there : n ≡ count_before (memtable_cmp cmp) (sized looked_up) pairs =
+        n_is ∙ ap (λ number. count_while (λ k. as_of cmp k key number) pairs) (sym number_is)
+        ∙ ap (λ user. count_while (λ k. as_of cmp k user (sequence_part looked_up)) pairs) (sym user_is) ∙ counted_inner looked_up in
+        subst (λ number. FindsNewest (entries_in pairs) number key found) number_is
+        (subst (λ user. FindsNewest (entries_in pairs) (sequence_part looked_up) user found) user_is
+        (finds_given looked_up n there found (subst (λ user. GivesAt (entries_in pairs) n user found) (sym user_is) given)))

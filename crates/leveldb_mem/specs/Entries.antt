@@ -11,6 +11,10 @@ Gains old more new = (entry : Entry) → Contains new entry ↔ Contains (old ++
 abbrev pub IsNewTo : List Entry → ℕ → List ℕ → Type 0
 IsNewTo entries sequence key = (entry : Entry) → Contains entries entry → entry.key ≡ key → entry.sequence ≡ sequence → ⊥
 
+-- each of these is of another key or at another sequence than all entries
+abbrev pub AreNewTo : List Entry → List Entry → Type 0
+AreNewTo entries more = (entry : Entry) → Contains more entry → IsNewTo entries entry.sequence entry.key
+
 -- the key's newest entry at or below s is this value or deletion, and no other entry is as new
 pub record HasNewest (entries : List Entry) (s : ℕ) (key : List ℕ) (value : Option (List ℕ)) : Type 0 where
   pub entry : Entry

@@ -1,5 +1,5 @@
 -- A memtable's entries, and the memtable keys that stand for them.
-use Rattle.std.specs.Prelude.{◌≡◌, ◌<◌, ◌≤◌, ◌+◌, ◌*◌, ℕ, List, [], ◌∷◌, ◌++◌, length, drop, map, sum_by, Option, Some, None, All, Contains, ◌↔◌, refl}
+use Rattle.std.specs.Prelude.{◌≡◌, ◌<◌, ◌≤◌, ◌+◌, ◌*◌, ℕ, List, [], ◌∷◌, ◌++◌, length, drop, map, sum_by, slice_get, Option, Some, None, All, Contains, ◌↔◌, refl}
 use Rattle.std.specs.Borrow.{Bor}
 use Rattle.std.specs.Coded.{Coded, code_by, coded×, coded_list, coded_option, coded_ℕ}
 use Rattle.std.specs.declared.cmp.Ordering.{Ordering}
@@ -67,6 +67,11 @@ IsEntryPair pair = (pair.0 ≡ entry_key (entry_from pair.0)) × (pair.1 ≡ [])
 
 abbrev pub entries_in : List Pair → List Entry
 entries_in pairs = map (λ pair. entry_from pair.0) pairs
+
+-- what the entry at a place gives a key, or none where it is another key's or there is none
+abbrev pub GivesAt : List Entry → ℕ → List ℕ → Option (Option (List ℕ)) → Type 0
+GivesAt entries at key (Some value) = (sequence : ℕ) × (slice_get entries at ≡ Some (entry_of sequence key value))
+GivesAt entries at key None = (entry : Entry) → slice_get entries at ≡ Some entry → entry.key ≡ key → ⊥
 
 -- the most that an entry's memtable key has beside key and value: two lengths and a tag
 abbrev pub most_beside : ℕ

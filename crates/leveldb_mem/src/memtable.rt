@@ -4,14 +4,16 @@ ghost use Rattle.std.specs.Bool.{OnTrue, OnFalse};
 ghost use Rattle.std.specs.Option.{option_map};
 ghost use Rattle.leveldb_base.specs.Status.{IsOutOfMemory};
 ghost use Rattle.leveldb_base.specs.declared.error.StatusCode.TheVariants.{AlreadyExists};
+ghost use Rattle.leveldb_base.specs.History.{placed, greatest};
 ghost use Rattle.leveldb_base.specs.Varint.{little, varint, sized};
 ghost use Rattle.leveldb_base.specs.Keys.{tag, inner_key, internal_cmp, user_part, sequence_part};
 ghost use Rattle.leveldb_base.specs.Places.{count_before};
 ghost use Rattle.leveldb_base.specs.View.{AreRising};
 ghost use Rattle.leveldb_mem.specs.Batch.{item_of};
-ghost use Rattle.leveldb_mem.specs.Entries.{Gains, IsNewTo, FindsNewest, HasRoom, Adds, value_length};
-ghost use Rattle.leveldb_mem.specs.MemTable.{entry_of, type_of, bytes_of_value, value_of, entry_key, entry_from, inner_value, internal_pair, memory_of_entries};
+ghost use Rattle.leveldb_mem.specs.Entries.{Gains, IsNewTo, AreNewTo, FindsNewest, HasRoom, Adds, value_length};
+ghost use Rattle.leveldb_mem.specs.MemTable.{entry_of, type_of, bytes_of_value, value_of, entry_key, entry_from, inner_value, internal_pair, memory_of_entries, GivesAt};
 
+use crate::memtable::as_of::AsOf;
 use crate::memtable::iterator::AtInternalKey;
 use crate::skipmap::SkipMap;
 use crate::write_batch::WriteBatch;
@@ -24,6 +26,7 @@ use leveldb_base::varint::{encode_varint64, get_length_prefixed_slice};
 use std::alloc::Global;
 use std::marker::Model;
 
+mod as_of;
 mod iterator;
 #[cfg(test)]
 mod tests;
@@ -106,6 +109,21 @@ impl<C: UserCmp> MemTable<C> {
         self.put(sequence, key, value);
     }
 
+    /// Puts the changes of a batch for which there is room, the first of them with this number. It takes no memory.
+    pub fn insert_prepared(&mut self, first: SequenceNumber, batch: &WriteBatch)
+        requires numbered { greatest (placed first batch.now.items) < 2 ^ 56 }
+        requires room { HasRoom self.old.kept batch.now.items }
+        requires new { AreNewTo self.old.kept.entries (placed first batch.now.items) }
+        ensures cmp { self.new.cmp ≡ self.old.cmp }
+        ensures entries { Gains self.old.kept.entries (placed first batch.now.items) self.new.kept.entries }
+    {
+        let mut sequence = first;
+        for (key, value) in batch.iter() {
+            self.add_prepared(sequence, key, value);
+            sequence += 1;
+        }
+    }
+
     /// Puts an entry, and takes the memory for it. A deletion has no value, whatever `value` is.
     /// `AlreadyExists` where the key has an entry at this sequence.
     pub fn add(
@@ -141,16 +159,22 @@ impl<C: UserCmp> MemTable<C> {
         ensures { FindsNewest self.now.kept.entries (sequence_part key.now) (user_part key.now) (option_map option_copied result) }
     {
         let at = self.map.keys_before(key.memtable_key());
-        let end = self.map.len();
-        if at >= end {
-            return None;
-        }
-        let parts = split_entry(self.map.key(at));
-        let parsed = parse_internal_key(parts.0);
-        if is_same(parsed.2, key.user_key()) {
-            return Some(given(parsed.0, parts.1));
-        }
-        None
+        self.given_at(at, key.user_key())
+    }
+
+    /// The newest entry of the key at or below the sequence, as `get` gives it, without a look-up key.
+    pub fn newest(&self, key: UserKey<'_>, sequence: SequenceNumber) -> Option<Option<&[u8]>>
+        requires { sequence < 2 ^ 56 }
+        ensures { FindsNewest self.now.kept.entries sequence key.now (option_map option_copied result) }
+    {
+        let cmp = self.map.comparator();
+        let probe = AsOf {
+            cmp: &cmp.0,
+            key,
+            sequence,
+        };
+        let at = self.map.count_by(&probe);
+        self.given_at(at, key)
     }
 
     /// A walk over the internal keys of the entries with their values, which stands at no place.
@@ -164,6 +188,23 @@ impl<C: UserCmp> MemTable<C> {
             table: self,
             place: None,
         }
+    }
+
+    // What the entry at a place gives the key, if it is the key's.
+    #[inline]
+    fn given_at(&self, at: usize, key: &[u8]) -> Option<Option<&[u8]>>
+        ensures { GivesAt self.now.kept.entries at key.now (option_map option_copied result) }
+    {
+        let end = self.map.len();
+        if at >= end {
+            return None;
+        }
+        let parts = split_entry(self.map.key(at));
+        let parsed = parse_internal_key(parts.0);
+        if is_same(parsed.2, key) {
+            return Some(given(parsed.0, parts.1));
+        }
+        None
     }
 
     // How many pairs a walk passes.

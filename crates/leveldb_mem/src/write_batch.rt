@@ -3,15 +3,19 @@ ghost use Rattle.std.specs.Prelude.{◌≡◌, ◌↔◌, ◌⊎◌, ◌+◌, �
 ghost use Rattle.std.specs.Iterator.{YieldsFirstBy, item_count};
 ghost use Rattle.std.specs.Option.{SomeIff};
 ghost use Rattle.leveldb_base.specs.Status.{IsOutOfMemory};
-ghost use Rattle.leveldb_base.specs.declared.error.StatusCode.TheVariants.{InvalidArgument};
+ghost use Rattle.leveldb_base.specs.declared.error.StatusCode.TheVariants.{InvalidArgument, NotSupported};
+ghost use Rattle.leveldb_base.specs.History.{placed, greatest};
 ghost use Rattle.leveldb_base.specs.Varint.{little, sized};
 ghost use Rattle.leveldb_mem.specs.Batch.{item_of, batch_of, with_item, spelling, BatchOf, IsBatch, IsTooLong, AreEntries, CountsEntries, ReadsEntry, lent_item, lent_entry, OneReading, OneSpelling, EachShort, CountFits};
 ghost use Rattle.leveldb_mem.specs.BatchLaws.{IsBatch-prop, AreEntries-prop};
+ghost use Rattle.leveldb_mem.specs.Entries.{Gains, AreNewTo};
 
+use crate::memtable::MemTable;
 use byteorder::{ByteOrder, LittleEndian};
+use leveldb_base::cmp::UserCmp;
 use leveldb_base::error::{Result, StatusCode, err};
 use leveldb_base::key_types::ValueType;
-use leveldb_base::types::SequenceNumber;
+use leveldb_base::types::{MAX_SEQUENCE_NUMBER, SequenceNumber};
 use leveldb_base::varint::{encode_varint64, get_length_prefixed_slice, varint_length};
 use std::alloc::Global;
 use std::marker::Model;
@@ -160,6 +164,33 @@ impl WriteBatch {
         ensures { BatchOf result.now self.now.first self.now.items }
     {
         self.entries.as_slice()
+    }
+
+    /// Puts all changes to the memtable, the first of them with this number; where it is refused, none.
+    /// `NotSupported` where a number is too great.
+    pub fn insert_into_memtable<C: UserCmp>(
+        &self,
+        seq: SequenceNumber,
+        memtable: &mut MemTable<C>,
+    ) -> Result<()>
+        requires { AreNewTo memtable.old.kept.entries (placed seq self.now.items) }
+        ensures cmp { memtable.new.cmp ≡ memtable.old.cmp }
+        ensures ok { OnOk result (Gains memtable.old.kept.entries (placed seq self.now.items) memtable.new.kept.entries) }
+        ensures err { OnErr result (memtable.new.kept.entries ≡ memtable.old.kept.entries) }
+        ensures too_great { IsErrAnd result (λ status. status.code ≡ NotSupported) ↔ (2 ^ 56 ≤ greatest (placed seq self.now.items)) }
+        ensures cause { IfErr result (λ status. (status.code ≡ NotSupported) ⊎ IsOutOfMemory status) }
+    {
+        if u64::from(self.count()) > (MAX_SEQUENCE_NUMBER + 1).saturating_sub(seq) {
+            let alloc = *self.entries.allocator();
+            return err(
+                alloc,
+                StatusCode::NotSupported,
+                "the sequence numbers are used up",
+            );
+        }
+        memtable.prepare(self)?;
+        memtable.insert_prepared(seq, self);
+        Ok(())
     }
 
     /// The batch as bytes, with its first change at `sequence`.

@@ -1,4 +1,5 @@
 pub mod Histories
+mod Inserted
 pub mod Readings
 pub mod Bounds
 pub mod Crashed
@@ -16,9 +17,6 @@ pub mod Playing
 pub mod Batching
 pub mod Writes
 pub mod FrameBytes
-pub mod EntryOrder
-pub mod NodeSteps
-pub mod Insertions
 pub mod GetSteps
 pub mod Words
 pub mod Lines

@@ -8,7 +8,6 @@ pub mod Machine
 pub mod Runs
 pub mod Serves
 pub mod Laws
-pub mod Nodes
 pub mod Recent
 pub mod Replay
 pub mod Engine

@@ -2,14 +2,10 @@
 use Rattle.std.specs.Prelude.{◌≡◌, ◌≤◌, ◌<◌, ◌+◌, ℕ, List, Option, max, option_copied}
 use Rattle.std.specs.Option.{option_map}
 use Rattle.std.specs.Borrow.{Bor}
-use Rattle.leveldb_base.specs.History.{Item, Entry, placed, greatest}
+use Rattle.leveldb_base.specs.History.{placed, greatest}
 use Rattle.leveldb_mem.specs.Batch.{Batch}
 use Rattle.leveldb_mem.specs.Entries.{Kept, Gains}
 use Rattle.rusty_leveldb.specs.OneLog.{max_sequence}
-
--- an item's entry at a number
-abbrev pub entry_at : ℕ → Item → Entry
-entry_at sequence item = record { sequence = sequence; key = item.key; value = item.value }
 
 -- what a look-up lends: a value or a deletion, or that there is none
 abbrev pub lent_newest : Option (Option (Bor (List ℕ))) → Option (Option (List ℕ))

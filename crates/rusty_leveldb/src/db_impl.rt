@@ -2,7 +2,6 @@
 
 mod close;
 mod engine;
-mod entries;
 mod names;
 mod open;
 mod read;

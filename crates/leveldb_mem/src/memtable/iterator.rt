@@ -95,7 +95,7 @@ impl<'a, C: UserCmp> LdbIterator for MemtableIterator<'a, C> {
 
 // The text behind its length in front, or the empty text where none stands there.
 #[inline]
-fn inner_text(key: &[u8]) -> &[u8]
+pub(crate) fn inner_text(key: &[u8]) -> &[u8]
     ensures { result.now ≡ inner_key key.now }
 {
     match get_length_prefixed_slice(key) {

@@ -1,9 +1,16 @@
-//! What is found of keys at sequence numbers before, at, between and behind their versions.
+//! What is found of keys at sequence numbers before, at, between and behind their versions, and what refusals leave.
+ghost use Rattle.std.specs.Prelude.{IfOk};
+ghost use Rattle.leveldb_base.specs.ViewLaws.{AreUpTo};
+
 use super::*;
 use leveldb_base::cmp::DefaultCmp;
+use leveldb_base::types::{LdbIterator, MAX_SEQUENCE_NUMBER};
+use std::process::Abort;
 
 // abc has a value at 1, a deletion at 2 and a value at 5, and abd one at 3.
-fn versions(alloc: Global) -> Result<MemTable<DefaultCmp>> {
+fn versions(alloc: Global) -> Result<MemTable<DefaultCmp>>
+    ensures { IfOk result (λ table. AreUpTo 9 table.kept.entries) }
+{
     let mut table = MemTable::new(alloc, DefaultCmp);
     table.add(5, ValueType::TypeValue, b"abc", b"xyz")?;
     table.add(1, ValueType::TypeValue, b"abc", b"123")?;
@@ -63,5 +70,129 @@ fn prepares_for_a_batch(rt: HostRuntime) -> Result<()> {
     batch.delete(b"abd")?;
     table.prepare(&batch)?;
     assert_eq!(rt; table.len(), 4);
+    Ok(())
+}
+
+/// A walk passes every version, the newest of a key first, and deletions among them, both ways.
+#[test]
+fn walks_over_deletions(rt: HostRuntime) -> Result<()> {
+    let table = versions(rt.alloc())?;
+    let rows: [(&[u8], u64, ValueType, &[u8]); 4] = [
+        (b"abc", 5, ValueType::TypeValue, b"xyz"),
+        (b"abc", 2, ValueType::TypeDeletion, b""),
+        (b"abc", 1, ValueType::TypeValue, b"123"),
+        (b"abd", 3, ValueType::TypeValue, b""),
+    ];
+    let mut it = table.iter();
+    for (key, sequence, kind, value) in rows {
+        assert!(rt; sequence < 100);
+        let key = LookupKey::new_full(rt.alloc(), key, sequence, kind)?;
+        assert!(rt; it.advance()?);
+        assert_eq!(rt; it.current(), Some((key.internal_key(), value)));
+    }
+    for (key, sequence, kind, value) in rows.into_iter().rev() {
+        assert!(rt; sequence < 100);
+        let key = LookupKey::new_full(rt.alloc(), key, sequence, kind)?;
+        assert_eq!(rt; it.current(), Some((key.internal_key(), value)));
+        let before = it.prev()?;
+        assert_eq!(rt; before, sequence != 5);
+        it.seek(key.internal_key())?;
+        assert_eq!(rt; it.current(), Some((key.internal_key(), value)));
+        it.prev()?;
+    }
+    assert!(rt; !it.valid());
+    Ok(())
+}
+
+/// Three puts and two deletions.
+fn changes(alloc: Global) -> Result<WriteBatch> {
+    let mut batch = WriteBatch::new(alloc)?;
+    batch.put(b"abc", b"def")?;
+    batch.put(b"123", b"456")?;
+    batch.put(b"xxx", b"yyy")?;
+    batch.delete(b"zzz")?;
+    batch.delete(b"010")?;
+    Ok(batch)
+}
+
+/// Puts a batch behind entries that are at most at 9.
+fn insert_at_ten(batch: &WriteBatch, table: &mut MemTable<DefaultCmp>) -> Result<()>
+    requires { AreUpTo 9 table.old.kept.entries }
+    ensures { OnErr result (table.new.kept.entries ≡ table.old.kept.entries) }
+{
+    batch.insert_into_memtable(10, table)
+}
+
+/// What is there of the changes behind the versions.
+fn check_changes(rt: &impl Abort, table: &MemTable<DefaultCmp>) {
+    assert_eq!(rt;
+        (table.len(), table.approx_mem_usage()),
+        (9, 442 + 5 * 64 + 3 * 16 + 2 * 13)
+    );
+    let rows: [(&[u8], u64, Option<Option<&[u8]>>); 14] = [
+        (b"abc", 2, Some(None)),
+        (b"abc", 9, Some(Some(b"xyz"))),
+        (b"abc", 10, Some(Some(b"def"))),
+        (b"abc", 99, Some(Some(b"def"))),
+        (b"123", 10, None),
+        (b"123", 11, Some(Some(b"456"))),
+        (b"xxx", 11, None),
+        (b"xxx", 12, Some(Some(b"yyy"))),
+        (b"zzz", 12, None),
+        (b"zzz", 13, Some(None)),
+        (b"010", 13, None),
+        (b"010", 14, Some(None)),
+        (b"abd", 99, Some(Some(b""))),
+        (b"ab", 99, None),
+    ];
+    for (key, sequence, wanted) in rows {
+        assert!(rt; sequence < 100);
+        assert!(rt;
+            table.newest(key, sequence) == wanted,
+            "{key:?} at {sequence}"
+        );
+    }
+}
+
+/// A batch comes whole, and a refused one not at all.
+#[test]
+fn takes_a_batch_whole(rt: HostRuntime) -> Result<()> {
+    let mut table = versions(rt.alloc())?;
+    let batch = changes(rt.alloc())?;
+    if let Err(status) = insert_at_ten(&batch, &mut table) {
+        assert_eq!(rt; (table.len(), table.approx_mem_usage()), (4, 442));
+        assert!(rt; table.newest(b"abc", 99) == Some(Some(b"xyz")));
+        assert!(rt; table.newest(b"123", 99).is_none());
+        insert_at_ten(&batch, &mut table)?;
+        check_changes(&rt, &table);
+        return Err(status);
+    }
+    check_changes(&rt, &table);
+    Ok(())
+}
+
+/// A memtable with this batch alone, placed at a number, and what the call answered.
+fn placed_at(alloc: Global, first: SequenceNumber) -> Result<(MemTable<DefaultCmp>, Result<()>)> {
+    let batch = changes(alloc)?;
+    let mut table = MemTable::new(alloc, DefaultCmp);
+    let answer = batch.insert_into_memtable(first, &mut table);
+    Ok((table, answer))
+}
+
+/// The greatest number is given out, and none behind it.
+#[test]
+fn numbers_run_out(rt: HostRuntime) -> Result<()> {
+    let (table, answer) = placed_at(rt.alloc(), MAX_SEQUENCE_NUMBER - 4)?;
+    answer?;
+    assert_eq!(rt; table.len(), 5);
+    assert!(rt; table.newest(b"010", MAX_SEQUENCE_NUMBER) == Some(None));
+    for first in [MAX_SEQUENCE_NUMBER - 3, MAX_SEQUENCE_NUMBER + 1, u64::MAX] {
+        let (table, answer) = placed_at(rt.alloc(), first)?;
+        match answer {
+            Ok(()) => panic!(rt; "{first}"),
+            Err(status) => assert_eq!(rt; status.code, StatusCode::NotSupported),
+        }
+        assert_eq!(rt; (table.len(), table.approx_mem_usage()), (0, 128));
+    }
     Ok(())
 }

@@ -7,7 +7,7 @@ ghost use Rattle.rusty_leveldb.specs.Serves.{refusal_of};
 ghost use Rattle.rusty_leveldb.specs.Engine.{IsShut, ShutOut, ShutDown, Recalls, AnswersStill};
 
 use super::recent::Recent;
-use leveldb_base::cmp::UserCmp;
+use leveldb_base::cmp::{Cmp, UserCmp};
 use leveldb_base::error::{Result, StatusCode, err};
 use leveldb_env::env::Env;
 use leveldb_env::filter::FilterPolicy;
@@ -28,7 +28,7 @@ pub enum Mode {
 
 /// A store that was opened, without its environment. Its lock stays held until `close` or `abandon` gives it back.
 #[derive(Drop)]
-pub struct Engine<E: Env, C, FP> {
+pub struct Engine<E: Env, C: Cmp, FP> {
     pub(crate) alloc: Global,
     /// What it was opened with.
     pub options: Options<C, FP>,
@@ -36,7 +36,7 @@ pub struct Engine<E: Env, C, FP> {
     pub(crate) lock: String,
     pub(crate) log: E::File,
     pub(crate) writer: WriterCore,
-    pub(crate) recent: Recent,
+    pub(crate) recent: Recent<C>,
     pub(crate) mode: Mode,
 }
 

@@ -45,7 +45,7 @@ impl<E: Env, C: UserCmp + Copy, FP: FilterPolicy + Copy> Engine<E, C, FP> {
         let lock = file_name(alloc, name, "LOCK")?;
         env.mkdir(name)?;
         env.lock(&lock)?;
-        match recover(alloc, name, env, options.create_if_missing) {
+        match recover(alloc, name, env, options.cmp, options.create_if_missing) {
             Ok((log, writer, recent)) => Ok(Engine {
                 alloc,
                 options,
@@ -64,12 +64,13 @@ impl<E: Env, C: UserCmp + Copy, FP: FilterPolicy + Copy> Engine<E, C, FP> {
 }
 
 // The store's log with all that its batches say, ready to be written to.
-fn recover<E: Env>(
+fn recover<E: Env, C: UserCmp + Copy>(
     alloc: Global,
     name: &str,
     env: &mut E,
+    cmp: C,
     create_if_missing: bool,
-) -> Result<(E::File, WriterCore, Recent)>
+) -> Result<(E::File, WriterCore, Recent<C>)>
     ensures locks { SameLocks E.tells_disk (E.tells env.old) (E.tells env.new) }
     ensures spares { IsTrue E.tells_disk → SparesLog create_if_missing ((E.tells env.old).disk.files (log_path name.now)) ((E.tells env.new).disk.files (log_path name.now)) }
     ensures ok { IfOk result (λ got. IsTrue E.tells_disk → IsRecovered create_if_missing ((E.tells env.old).disk.files (log_path name.now)) ((E.tells env.new).disk.files (log_path name.now)) got.1 got.2) }
@@ -81,7 +82,7 @@ fn recover<E: Env>(
     let log_name = full_name.as_str();
     let (read, is_clean) = read_log(alloc, env, log_name, create_if_missing)?;
     let records = read.as_slice();
-    let recent = replay(alloc, records)?;
+    let recent = replay(alloc, cmp, records)?;
     mend(alloc, name, env, log_name, records, is_clean)?;
     let (log, size) = open_log(alloc, env, log_name)?;
     Ok((log, WriterCore::new_with_off(alloc, size), recent))

@@ -10,21 +10,22 @@ ghost use Rattle.rusty_leveldb.specs.OneLog.{max_sequence};
 #[cfg(test)]
 mod tests;
 
-use super::entries::Entries;
+use leveldb_base::cmp::{Cmp, UserCmp};
 use leveldb_base::error::{Result, StatusCode, err};
 use leveldb_base::types::{MAX_SEQUENCE_NUMBER, SequenceNumber};
+use leveldb_mem::memtable::MemTable;
 use leveldb_mem::write_batch::WriteBatch;
 use std::alloc::Global;
 use std::marker::Model;
 
 /// The entries of a store, and the number of the last.
 #[derive(Drop)]
-pub struct Recent {
-    entries: Entries,
+pub struct Recent<C: Cmp> {
+    memtable: MemTable<C>,
     last: SequenceNumber,
 }
 
-impl Model for Recent {
+impl<C: Cmp> Model for Recent<C> {
     ghost use Rattle.std.specs.Prelude.{◌≤◌};
     ghost use Rattle.leveldb_base.specs.ViewLaws.{AreUpTo};
     ghost use Rattle.rusty_leveldb.specs.Recent.{Numbered};
@@ -32,19 +33,19 @@ impl Model for Recent {
 
     ghost Value = { Numbered };
 
-    ghost view = { λ recent. record { kept = recent.entries; last = recent.last } };
+    ghost view = { λ recent. record { kept = recent.memtable.kept; last = recent.last } };
 
-    ghost invariant = { λ recent. AreUpTo recent.last recent.entries.entries × (recent.last ≤ max_sequence) };
+    ghost invariant = { λ recent. AreUpTo recent.last recent.memtable.kept.entries × (recent.last ≤ max_sequence) };
 }
 
-impl Recent {
-    /// No entry yet.
-    pub fn new(alloc: Global) -> Recent
+impl<C: UserCmp> Recent<C> {
+    /// No entry yet, and keys in the order of `cmp`.
+    pub fn new(alloc: Global, cmp: C) -> Recent<C>
         ensures entries { result.kept.entries ≡ [] }
         ensures last { result.last ≡ 0 }
     {
         Recent {
-            entries: Entries::new(alloc),
+            memtable: MemTable::new(alloc, cmp),
             last: 0,
         }
     }
@@ -81,7 +82,7 @@ impl Recent {
         ensures room { OnOk result (HasRoom self.new.kept batch.now.items) }
         ensures memory { IfErr result IsOutOfMemory }
     {
-        self.entries.prepare(batch)
+        self.memtable.prepare(batch)
     }
 
     /// Puts the batch's entries to the others. It takes no memory.
@@ -90,11 +91,11 @@ impl Recent {
         requires follows { Follows self.old.last batch.now }
         ensures { Inserts self.old batch.now self.new }
     {
-        let mut sequence = batch.sequence();
-        for (key, value) in batch.iter() {
-            self.entries.add_prepared(sequence, key, value);
-            self.last = sequence;
-            sequence += 1;
+        let first = batch.sequence();
+        let count = u64::from(batch.count());
+        self.memtable.insert_prepared(first, batch);
+        if count > 0 {
+            self.last = first + (count - 1);
         }
     }
 
@@ -102,6 +103,6 @@ impl Recent {
     pub fn newest(&self, key: &[u8]) -> Option<Option<&[u8]>>
         ensures { FindsNewest self.now.kept.entries self.now.last key.now (lent_newest result) }
     {
-        self.entries.newest(key, self.last)
+        self.memtable.newest(key, self.last)
     }
 }

@@ -9,6 +9,7 @@ ghost use Rattle.rusty_leveldb.specs.Recent.{Follows};
 ghost use Rattle.rusty_leveldb.specs.Replay.{IsReplayed, IsDamaged};
 
 use super::recent::Recent;
+use leveldb_base::cmp::UserCmp;
 use leveldb_base::error::{Result, StatusCode, err};
 use leveldb_base::types::{MAX_SEQUENCE_NUMBER, SequenceNumber};
 use leveldb_mem::log::LogWriter;
@@ -16,11 +17,11 @@ use leveldb_mem::write_batch::WriteBatch;
 use std::alloc::Global;
 
 /// What the batches of a log's records say, one after another.
-pub(crate) fn replay(alloc: Global, records: &[Vec<u8>]) -> Result<Recent>
+pub(crate) fn replay<C: UserCmp + Copy>(alloc: Global, cmp: C, records: &[Vec<u8>]) -> Result<Recent<C>>
     ensures ok { IfOk result (λ recent. IsReplayed (map (λ v. v.items) records.now) recent) }
     ensures cause { IfErr result (λ status. IsOutOfMemory status ⊎ IsDamaged (map (λ v. v.items) records.now) status) }
 {
-    let mut recent = Recent::new(alloc);
+    let mut recent = Recent::new(alloc, cmp);
     let mut batch = WriteBatch::new(alloc)?;
     for bytes in records {
         read_batch(alloc, &mut batch, bytes)?;

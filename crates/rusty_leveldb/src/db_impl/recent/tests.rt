@@ -1,12 +1,13 @@
 //! Batches that come one after another.
 
 use super::*;
+use leveldb_base::cmp::DefaultCmp;
 
 type Change = (&'static [u8], Option<&'static [u8]>);
 
 /// Puts the changes behind the others, as one batch.
 #[tactic(auto, using(crate::proofs::Histories::placed_greatest))]
-fn put(alloc: Global, recent: &mut Recent, changes: &[Change]) -> Result<()> {
+fn put(alloc: Global, recent: &mut Recent<DefaultCmp>, changes: &[Change]) -> Result<()> {
     let mut batch = WriteBatch::new(alloc)?;
     for (key, value) in changes {
         match value {
@@ -23,7 +24,7 @@ fn put(alloc: Global, recent: &mut Recent, changes: &[Change]) -> Result<()> {
 
 #[test]
 fn later_changes_win(rt: HostRuntime) -> Result<()> {
-    let mut recent = Recent::new(rt.alloc());
+    let mut recent = Recent::new(rt.alloc(), DefaultCmp);
     put(
         rt.alloc(),
         &mut recent,
@@ -41,7 +42,7 @@ fn later_changes_win(rt: HostRuntime) -> Result<()> {
     assert_eq!(rt; recent.newest(b"b"), None);
     for (sequence, value) in [(1, b"1"), (2, b"1"), (3, b"2")] {
         assert_eq!(rt;
-            recent.entries.newest(b"k", sequence),
+            recent.memtable.newest(b"k", sequence),
             Some(Some(value.as_slice()))
         );
     }
@@ -52,7 +53,7 @@ fn later_changes_win(rt: HostRuntime) -> Result<()> {
 #[test]
 fn numbers_run_out(rt: HostRuntime) -> Result<()> {
     let recent = Recent {
-        entries: Entries::new(rt.alloc()),
+        memtable: MemTable::new(rt.alloc(), DefaultCmp),
         last: MAX_SEQUENCE_NUMBER - 2,
     };
     assert_eq!(rt; recent.next(rt.alloc(), 2)?, MAX_SEQUENCE_NUMBER - 1);

@@ -8,23 +8,23 @@ use Rattle.rusty_leveldb.proofs.Replays.{replayed_none, replayed_more, not_batch
 use Rattle.rusty_leveldb.proofs.db_impl.replay.replay.Goals as goal
 
 pub loop-bytes-init : goal.loop-bytes-init
-loop-bytes-init c = replayed_none c.new-recent.result c.new-recent.ensures.entries c.new-recent.ensures.last
+loop-bytes-init g c = replayed_none c.new-recent.result c.new-recent.ensures.entries c.new-recent.ensures.last
 
 pub returns-in_err-read_batch-clause-cause : goal.returns-in_err-read_batch-clause-cause
-returns-in_err-read_batch-clause-cause c =
+returns-in_err-read_batch-clause-cause g c =
     let split = texts_split c.args.records.now c.loop-bytes.bytes-index c.deref.result.now (record { vec = c.bytes-item.result; inside = c.loop-bytes-test.true; is = c.bytes-item.is; same = c.deref.ensures.value }) in
     let p = err_from_is_err_and c.from_residual-in_err-read_batch.result c.from_residual-in_err-read_batch.ensures.1 in
     rw (p.1, p.2) (not_batches (texts c.args.records.now) (texts (take c.loop-bytes.bytes-index c.args.records.now)) c.deref.result.now (texts (drop (c.loop-bytes.bytes-index + 1) c.args.records.now)) _ split c.in_err-read_batch.ensures.cause)
 
 pub returns-in_err-check_follows-clause-cause : goal.returns-in_err-check_follows-clause-cause
-returns-in_err-check_follows-clause-cause c =
+returns-in_err-check_follows-clause-cause g c =
     let split = texts_split c.args.records.now c.loop-bytes.bytes-index c.deref.result.now (record { vec = c.bytes-item.result; inside = c.loop-bytes-test.true; is = c.bytes-item.is; same = c.deref.ensures.value }) in
     let p = err_from_is_err_and c.from_residual-in_err-check_follows.result c.from_residual-in_err-check_follows.ensures.1 in
     rw (p.1, p.2) (inr (not_in_order (texts c.args.records.now) (texts (take c.loop-bytes.bytes-index c.args.records.now)) c.deref.result.now (texts (drop (c.loop-bytes.bytes-index + 1) c.args.records.now)) c.in_err-check_follows.field-0.0
     c.loop-bytes.recent c.last.result c.read_batch.new.batch split c.loop-bytes.invariant c.last.ensures c.in_ok-read_batch.ensures.ok c.in_err-check_follows.ensures.cause))
 
 pub loop-bytes-preserved : goal.loop-bytes-preserved
-loop-bytes-preserved c =
+loop-bytes-preserved g c =
     let more = texts_more c.args.records.now c.loop-bytes.bytes-index c.deref.result.now (record { vec = c.bytes-item.result; inside = c.loop-bytes-test.true; is = c.bytes-item.is; same = c.deref.ensures.value }) in
     let follows : Follows c.loop-bytes.recent.last c.read_batch.new.batch = subst (λ n. Follows n c.read_batch.new.batch) c.last.ensures c.in_ok-check_follows.ensures.ok in
     subst (λ ts. IsReplayed ts c.insert.new.self) (sym more)

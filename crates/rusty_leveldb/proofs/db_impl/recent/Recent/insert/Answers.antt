@@ -1,23 +1,33 @@
-use Rattle.std.proofs.Common.{◌∙◌, option_copied}
-use Rattle.leveldb_mem.specs.Batch.{item_of}
-use Rattle.rusty_leveldb.proofs.Insertions.{inserting_from, inserting_next, inserted_none_left}
+use Rattle.std.proofs.Common.{ℕ, sym, ap, subst, ◌∙◌}
+use Rattle.rusty_leveldb.specs.Recent.{Follows}
+use Rattle.rusty_leveldb.proofs.Inserted.{new_entries, some_up_to, some_inserted, none_up_to, none_inserted}
 use Rattle.rusty_leveldb.proofs.db_impl.recent.Recent.insert.Goals as goal
 
-pub loop-key-init : goal.loop-key-init
-loop-key-init c = record {
-  can = tt;
-  ends = tt;
-  inserting = inserting_from c.args.self.now c.args.batch.now _ _ _ _ c.self.view_is c.self.invariant.0 c.self.invariant.1 c.requires.room c.requires.follows
-      c.sequence-sequence.ensures (c.into_iter-key-iterator.ensures.into_iter_gives ∙ c.iter-key-items.ensures.items);
-}
+pub insert_prepared-requires-clause-new : goal.insert_prepared-requires-clause-new
+insert_prepared-requires-clause-new g c =
+    new_entries c.args.batch.now (record { kept = c.self.inside.memtable.kept; last = c.self.inside.last }) c.self.invariant.0 c.self.invariant.1
+    (subst (λ (n : ℕ). Follows n c.args.batch.now) (sym (ap (λ r. r.last) c.self.view_is)) c.requires.follows) c.sequence-first.result c.from-count.result c.sequence-first.ensures (c.from-count.ensures ∙ c.count.ensures)
 
-pub loop-key-preserved : goal.loop-key-preserved
-loop-key-preserved c = record {
-  can = tt;
-  ends = tt;
-  inserting = inserting_next c.args.self.now c.args.batch.now c.loop-key.self-inside.entries c.loop-key.self-inside.last c.loop-key.sequence c.loop-key.key-iterator
-      (item_of c.in-Some.key.now (option_copied c.in-Some.value)) c.next.new.self c.add_prepared.new.self c.in-Some.ensures.steps c.loop-key.invariant.inserting c.add_prepared.ensures;
-}
+pub invariant_of-self : goal.invariant_of-self
+invariant_of-self g c =
+    some_up_to c.args.batch.now (record { kept = c.self.inside.memtable.kept; last = c.self.inside.last }) c.self.invariant.0 c.self.invariant.1
+    (subst (λ (n : ℕ). Follows n c.args.batch.now) (sym (ap (λ r. r.last) c.self.view_is)) c.requires.follows) c.sequence-first.result c.from-count.result c.sequence-first.ensures (c.from-count.ensures ∙ c.count.ensures)
+    c.insert_prepared.new.self.kept c.insert_prepared.ensures.entries c.if-count-gt0.true
 
-pub returns : goal.returns
-returns c = inserted_none_left _ _ _ _ _ _ c.in-None.ensures.steps.0 c.loop-key.invariant.inserting
+pub invariant_of-self-else-count-gt0 : goal.invariant_of-self-else-count-gt0
+invariant_of-self-else-count-gt0 g c =
+    none_up_to c.args.batch.now (record { kept = c.self.inside.memtable.kept; last = c.self.inside.last }) c.self.invariant.0 c.self.invariant.1
+    (subst (λ (n : ℕ). Follows n c.args.batch.now) (sym (ap (λ r. r.last) c.self.view_is)) c.requires.follows) c.sequence-first.result c.from-count.result c.sequence-first.ensures (c.from-count.ensures ∙ c.count.ensures)
+    c.insert_prepared.new.self.kept c.insert_prepared.ensures.entries c.if-count-gt0.false
+
+pub returns-then-count-gt0 : goal.returns-then-count-gt0
+returns-then-count-gt0 g c =
+    rw (← c.self.view_is) (some_inserted c.args.batch.now (record { kept = c.self.inside.memtable.kept; last = c.self.inside.last }) c.self.invariant.0 c.self.invariant.1
+    (subst (λ (n : ℕ). Follows n c.args.batch.now) (sym (ap (λ r. r.last) c.self.view_is)) c.requires.follows) c.sequence-first.result c.from-count.result c.sequence-first.ensures (c.from-count.ensures ∙ c.count.ensures)
+    c.insert_prepared.new.self.kept c.insert_prepared.ensures.entries c.if-count-gt0.true)
+
+pub returns-else-count-gt0 : goal.returns-else-count-gt0
+returns-else-count-gt0 g c =
+    rw (← c.self.view_is) (none_inserted c.args.batch.now (record { kept = c.self.inside.memtable.kept; last = c.self.inside.last }) c.self.invariant.0 c.self.invariant.1
+    (subst (λ (n : ℕ). Follows n c.args.batch.now) (sym (ap (λ r. r.last) c.self.view_is)) c.requires.follows) c.sequence-first.result c.from-count.result c.sequence-first.ensures (c.from-count.ensures ∙ c.count.ensures)
+    c.insert_prepared.new.self.kept c.insert_prepared.ensures.entries c.if-count-gt0.false)

@@ -4,5 +4,5 @@ use Rattle.leveldb_base.specs.ViewLaws.{AreUpTo}
 use Rattle.rusty_leveldb.proofs.db_impl.recent.Recent.prepare.Goals as goal
 
 pub invariant_of-self : goal.invariant_of-self
-invariant_of-self c =
+invariant_of-self g c =
     (subst (λ (entries : List Entry). AreUpTo c.self.inside.last entries) (sym c.prepare.ensures.entries) c.self.invariant.0, c.self.invariant.1)
