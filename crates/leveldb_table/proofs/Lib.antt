@@ -6,3 +6,4 @@ pub mod Walks
 pub mod Moves
 pub mod Points
 pub mod Builds
+pub mod Footers

@@ -5,3 +5,5 @@ pub mod Walk
 pub mod WalkLaws
 pub mod Built
 pub mod BuiltLaws
+pub mod Footer
+pub mod FooterLaws

@@ -3,3 +3,4 @@
 
 pub mod block;
 pub mod block_builder;
+pub mod table_builder;
