@@ -7,3 +7,4 @@ pub mod Moves
 pub mod Points
 pub mod Builds
 pub mod Footers
+pub mod Caches

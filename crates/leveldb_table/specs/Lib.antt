@@ -7,3 +7,5 @@ pub mod Built
 pub mod BuiltLaws
 pub mod Footer
 pub mod FooterLaws
+pub mod Cache
+pub mod CacheLends
