@@ -1,9 +1,9 @@
 -- One more entry of a block builder.
-use Rattle.std.proofs.Common.{◌≡◌, ℕ, zero, suc, ◌+◌, ◌*◌, ◌%◌, ◌^◌, ◌<◌, ◌≤◌, Bool, true, false, nat_eq, if◌then◌else◌, List, [], ◌∷◌, ◌++◌, length, take, drop, flat_map, None, Some, refl, sym, ◌∙◌, ap, subst, arith, length-append, length-drop}
+use Rattle.std.proofs.Common.{◌≡◌, ℕ, zero, suc, ◌+◌, ◌*◌, ◌%◌, ◌^◌, ◌<◌, ◌≤◌, Bool, true, false, nat_eq, if◌then◌else◌, List, [], ◌∷◌, ◌++◌, length, take, drop, flat_map, get_or, min, None, Some, refl, sym, ◌∙◌, ap, subst, arith, length-append, length-drop}
 use Rattle.std.specs.List.{All}
 use Rattle.std.specs.Prelude.{IsErrAnd, OnErr, unwrap_or}
 use Rattle.std.proofs.Common.{Result, Ok, Err, inl, inr}
-use Rattle.std.proofs.lemmas.Bool.{cases_lt, eqb-true, ne_eqb}
+use Rattle.std.proofs.lemmas.Bool.{cases_lt, eqb-true, ne_eqb, eq-eqb}
 use Rattle.leveldb_base.specs.Status.{IsOutOfMemory}
 use Rattle.leveldb_base.specs.declared.error.Status.{Status}
 use Rattle.leveldb_base.specs.declared.error.StatusCode.TheVariants.{NotSupported}
@@ -18,7 +18,7 @@ use Rattle.leveldb_table.specs.Block.{Entry, spelling, entry_bytes, key_of, pair
 use Rattle.leveldb_table.specs.BlockLaws.{entry_of, length-entry_bytes-ge, one_whole}
 use Rattle.leveldb_table.specs.Reading.{key_before}
 use Rattle.leveldb_table.specs.Walk.{last_key}
-use Rattle.leveldb_table.specs.Built.{AreSpaced, IsTooLarge, IsBuilt, Built, estimate, points_more, last_added}
+use Rattle.leveldb_table.specs.Built.{AreSpaced, IsTooLarge, IsBuilt, Built, estimate, points_more, last_added, shared_front, entry_behind}
 use Rattle.leveldb_table.proofs.Sequences.{last_key-append, pairs_of-append, AreEntries-append}
 
 spaced_push : (interval i : ℕ) (entries : List Entry) (entry : Entry) → AreSpaced interval i entries → entry.restart ≡ nat_eq ((i + length entries) % interval) 0 → AreSpaced interval i (entries ++ entry ∷ [])
@@ -255,6 +255,11 @@ pub built_are : {cmp : List ℕ → List ℕ → Ordering} {interval : ℕ} {byt
     → bytes ≡ flat_map entry_bytes entries → 0 ∷ points ≡ restart_points entries → built.0 ≡ entries
 built_are built entries e f = one_whole built.0 entries (sym built.1.spelled ∙ e) (sym built.1.pointed ∙ f)
 
+-- and are those that these are
+pub entries_are : {cmp : List ℕ → List ℕ → Ordering} {interval : ℕ} {bytes points last : List ℕ} {count : ℕ} {begun : Bool} (built : Built cmp interval bytes points last count begun) (entries : List Entry)
+    → bytes ≡ flat_map entry_bytes entries → 0 ∷ points ≡ restart_points entries → (whole : List Entry) → entries ≡ whole → built.0 ≡ whole
+entries_are built entries e f whole g = built_are built entries e f ∙ g
+
 -- and their pairs
 pub pairs_are : {cmp : List ℕ → List ℕ → Ordering} {interval : ℕ} {bytes points last : List ℕ} {count : ℕ} {begun : Bool} (built : Built cmp interval bytes points last count begun) (entries : List Entry)
     → bytes ≡ flat_map entry_bytes entries → 0 ∷ points ≡ restart_points entries → (pairs : List Pair) → pairs_of None entries ≡ pairs → pairs_of None built.0 ≡ pairs
@@ -263,3 +268,45 @@ pairs_are built entries e f pairs g = ap (pairs_of None) (built_are built entrie
 pub OnErr-always : {T E P : Type 0} (r : Result T E) → P → OnErr r P
 OnErr-always (Ok x) h = tt
 OnErr-always (Err e) h = h
+
+-- ---- the entry that comes
+
+-- where the keys differ first
+pub front_differs : (last key : List ℕ) (i : ℕ) → take i last ≡ take i key → i < length last → i < length key → (get_or last i 0 ≡ get_or key i 0 → ⊥) → i ≡ shared_front last key
+front_differs [] key i e h g other = absurd (omega (arith, h))
+front_differs (b ∷ last) [] i e h g other = absurd (omega (arith, g))
+front_differs (b ∷ last) (c ∷ key) zero e h g other = rw (ne_eqb b c other)
+front_differs (b ∷ last) (c ∷ key) (suc i) e h g other =
+    let first : b ≡ c = cc in
+    let behind : take i last ≡ take i key = cc in
+    rw (eq-eqb b c first) (ap suc (front_differs last key i behind (omega (arith, h)) (omega (arith, g)) other))
+
+-- one of the keys is all shared
+pub front_whole : (last key : List ℕ) (i : ℕ) → take i last ≡ take i key → i ≡ min (length last) (length key) → i ≡ shared_front last key
+front_whole [] key i e h = omega (arith, h)
+front_whole (b ∷ last) [] i e h = omega (arith, h)
+front_whole (b ∷ last) (c ∷ key) zero e h = absurd (omega (arith, h))
+front_whole (b ∷ last) (c ∷ key) (suc i) e h =
+    let first : b ≡ c = cc in
+    let behind : take i last ≡ take i key = cc in
+    rw (eq-eqb b c first) (ap suc (front_whole last key i behind (omega (arith, h))))
+
+chosen : (restart : Bool) (shared front : ℕ) → (restart ≡ true → shared ≡ 0) → (restart ≡ false → shared ≡ front) → shared ≡ (if restart then 0 else front)
+chosen true shared front none longest = none refl
+chosen false shared front none longest = longest refl
+
+entry_by : ℕ → List ℕ → List ℕ → ℕ → List ℕ → Entry
+entry_by interval key value count last =
+    let restart = nat_eq (count % interval) 0 in
+    let shared = if restart then 0 else shared_front last key in
+    record { restart = restart; shared = shared; rest = drop shared key; value = value }
+
+-- what is put is the entry behind the others
+pub entry_is : {cmp : List ℕ → List ℕ → Ordering} {interval : ℕ} {bytes points last : List ℕ} {begun : Bool} {entries : List Entry} (count : ℕ) (built : IsBuilt cmp interval bytes points last count begun entries)
+    → (key value : List ℕ) (shared : ℕ) → (nat_eq (count % interval) 0 ≡ true → shared ≡ 0) → (nat_eq (count % interval) 0 ≡ false → shared ≡ shared_front last key)
+    → entry_of (nat_eq (count % interval) 0) shared (drop shared key) value ≡ entry_behind interval entries key value
+unfolding entry_by
+entry_is {interval = interval} {last = last} {entries = entries} count built key value shared none longest =
+    ap (λ n. entry_of (nat_eq (count % interval) 0) n (drop n key) value) (chosen (nat_eq (count % interval) 0) shared (shared_front last key) none longest)
+    ∙ ap (λ n. entry_by interval key value n last) built.counted
+    ∙ ap (λ z. entry_by interval key value (length entries) z) (last_there count built)

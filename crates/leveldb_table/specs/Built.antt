@@ -1,5 +1,5 @@
 -- What a block builder has, and what it makes of it.
-use Rattle.std.specs.Prelude.{◌≡◌, ℕ, ◌+◌, ◌*◌, ◌%◌, ◌^◌, ◌<◌, ◌≤◌, ◌⊎◌, Bool, true, false, nat_eq, if◌then◌else◌, List, [], ◌∷◌, length, flat_map, None}
+use Rattle.std.specs.Prelude.{◌≡◌, ℕ, suc, ◌+◌, ◌*◌, ◌%◌, ◌^◌, ◌<◌, ◌≤◌, ◌⊎◌, Bool, true, false, nat_eq, if◌then◌else◌, List, [], ◌∷◌, length, drop, flat_map, None}
 use Rattle.std.specs.List.{All}
 use Rattle.std.specs.declared.cmp.Ordering.{Ordering}
 use Rattle.leveldb_base.specs.Places.{Pair}
@@ -22,6 +22,19 @@ abbrev pub last_added : List Pair → List ℕ
 last_added [] = []
 last_added (pair ∷ []) = pair.0
 last_added (pair ∷ next ∷ pairs) = last_added (next ∷ pairs)
+
+-- how many bytes at the front two keys share
+abbrev pub shared_front : List ℕ → List ℕ → ℕ
+shared_front [] key = 0
+shared_front (b ∷ last) [] = 0
+shared_front (b ∷ last) (c ∷ key) = if nat_eq b c then suc (shared_front last key) else 0
+
+-- The entry of a pair behind others. At a restart point its key stands whole, else without what it shares with the key before it.
+abbrev pub entry_behind : ℕ → List Entry → List ℕ → List ℕ → Entry
+entry_behind interval entries key value =
+    let restart = nat_eq (length entries % interval) 0 in
+    let shared = if restart then 0 else shared_front (last_added (pairs_of None entries)) key in
+    record { restart = restart; shared = shared; rest = drop shared key; value = value }
 
 -- the bytes of the entries, four for each restart point that is set, and four for their count
 abbrev pub estimate : List Entry → Bool → ℕ

@@ -5,3 +5,7 @@ pub mod Walk
 pub mod WalkLaws
 pub mod Built
 pub mod BuiltLaws
+pub mod Footer
+pub mod FooterLaws
+pub mod Cache
+pub mod CacheLends

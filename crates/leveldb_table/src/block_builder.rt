@@ -1,10 +1,10 @@
 //! Block builders: pairs in order, put into the bytes of a block.
-ghost use Rattle.std.specs.Prelude.{◌≡◌, ◌↔◌, ◌⊎◌, ℕ, ◌+◌, ◌*◌, ◌^◌, ◌<◌, ◌≤◌, Bool, true, false, List, [], ◌∷◌, ◌++◌, length, take, flat_map, None, vec_len, vec_capacity, IfOk, IfErr, OnOk, OnErr, IsErrAnd, IsTrue};
+ghost use Rattle.std.specs.Prelude.{◌≡◌, ◌↔◌, ◌⊎◌, ℕ, ◌+◌, ◌*◌, ◌^◌, ◌<◌, ◌≤◌, Bool, true, false, List, [], ◌∷◌, ◌++◌, length, take, flat_map, max, None, vec_len, vec_capacity, IfOk, IfErr, OnOk, OnErr, IsErrAnd, IsTrue};
 ghost use Rattle.leveldb_base.specs.Status.{IsOutOfMemory};
 ghost use Rattle.leveldb_base.specs.Varint.{little, varint};
 ghost use Rattle.leveldb_base.specs.declared.error.StatusCode.TheVariants.{NotSupported};
-ghost use Rattle.leveldb_table.specs.Block.{IsBlock, KeysRise, pairs_of, spelling};
-ghost use Rattle.leveldb_table.specs.Built.{AreSpaced, last_added, IsTooLarge, Built, estimate, points_more};
+ghost use Rattle.leveldb_table.specs.Block.{IsBlock, IsSpelled, KeysRise, pairs_of, spelling};
+ghost use Rattle.leveldb_table.specs.Built.{AreSpaced, last_added, shared_front, entry_behind, IsTooLarge, Built, estimate, points_more};
 ghost use Rattle.leveldb_table.specs.BuiltLaws.{Built-prop};
 
 use crate::block::BlockContents;
@@ -35,18 +35,18 @@ pub struct BlockBuilder<C: Cmp> {
 
 impl<C: Cmp> BlockBuilder<C> {
     /// A builder under the options' comparator and restart interval, with the first restart point set.
+    /// An interval of 0 counts as 1.
     pub fn new<FP>(alloc: Global, options: &Options<C, FP>) -> BlockBuilder<C>
     where
         C: Copy,
-        requires { 1 ≤ options.now.block_restart_interval }
         ensures none { result.built.0 ≡ [] }
         ensures begun { result.begun ≡ true }
         ensures order { result.cmp ≡ options.now.cmp }
-        ensures interval { result.interval ≡ options.now.block_restart_interval }
+        ensures interval { result.interval ≡ max 1 options.now.block_restart_interval }
     {
         BlockBuilder {
             cmp: options.cmp,
-            interval: options.block_restart_interval,
+            interval: options.block_restart_interval.max(1),
             buffer: Vec::new(alloc),
             points: Vec::new(alloc),
             last_key: Vec::new(alloc),
@@ -96,6 +96,7 @@ impl<C: Cmp> BlockBuilder<C> {
     pub fn add(&mut self, key: &[u8], value: &[u8]) -> Result<()>
         requires { KeysRise (C.cmp self.old.cmp) (pairs_of None self.old.built.0 ++ (key.now, value.now) ∷ []) }
         ensures ok { OnOk result (pairs_of None self.new.built.0 ≡ pairs_of None self.old.built.0 ++ (key.now, value.now) ∷ []) }
+        ensures entry { OnOk result (self.new.built.0 ≡ self.old.built.0 ++ entry_behind self.old.interval self.old.built.0 key.now value.now ∷ []) }
         ensures begun { OnOk result (self.new.begun ≡ true) }
         ensures err { OnErr result (self.new.built.0 ≡ self.old.built.0) }
         ensures still { OnErr result (self.new.begun ≡ self.old.begun) }
@@ -131,6 +132,7 @@ impl<C: Cmp> BlockBuilder<C> {
     where
         C: Drop,
         ensures ok { IfOk result (λ contents. IsBlock (C.cmp self.cmp) contents (pairs_of None self.built.0)) }
+        ensures spelled { IfOk result (λ contents. IsSpelled (C.cmp self.cmp) contents self.built.0) }
         ensures spaced { AreSpaced self.interval 0 self.built.0 }
         ensures memory { IfErr result IsOutOfMemory }
     {
@@ -155,6 +157,7 @@ fn shared_with(last: &[u8], key: &[u8], restart: bool) -> usize
     ensures within_key { result ≤ length key.now }
     ensures same { take result last.now ≡ take result key.now }
     ensures none { restart ≡ true → result ≡ 0 }
+    ensures longest { restart ≡ false → result ≡ shared_front last.now key.now }
 {
     if restart {
         return 0;

@@ -27,9 +27,7 @@ fn empty_block(rt: HostRuntime) -> Result<()> {
     Ok(())
 }
 
-fn sample(alloc: Global, interval: usize) -> Result<BlockBuilder<DefaultCmp>>
-    requires { 1 ≤ interval }
-{
+fn sample(alloc: Global, interval: usize) -> Result<BlockBuilder<DefaultCmp>> {
     let mut builder = BlockBuilder::new(alloc, &spaced(interval));
     builder.add(b"key1", b"value1")?;
     builder.add(b"loooooooooooooooooooooooooooooooooongerkey1", b"shrtvl1")?;
@@ -64,7 +62,7 @@ fn estimate(rt: HostRuntime) -> Result<()> {
 
 #[test]
 fn read_again(rt: HostRuntime) -> Result<()> {
-    for interval in 1..20usize {
+    for interval in 0..20usize {
         let contents = sample(rt.alloc(), interval)?.finish()?;
         let block = Block::new(rt.alloc(), DefaultCmp, contents)?;
         let mut it = block.iter(rt.alloc());

@@ -1,8 +1,8 @@
-use Rattle.std.proofs.Common.{◌≡◌, ◌+◌, ◌^◌, ◌≤◌, true, ◌++◌, ◌∷◌, [], ◌%◌, ◌<◌, nat_eq, length, take, drop, refl, sym, ◌∙◌, ap, subst, arith, rules, length-drop}
+use Rattle.std.proofs.Common.{◌≡◌, ◌+◌, ◌^◌, ◌≤◌, true, false, ◌++◌, ◌∷◌, [], ◌%◌, ◌<◌, nat_eq, length, take, drop, refl, sym, ◌∙◌, ap, subst, arith, rules, length-drop}
 use Rattle.std.proofs.lemmas.List.{take_rest}
 use Rattle.leveldb_table.specs.Block.{spelling}
-use Rattle.leveldb_table.specs.Built.{IsBuilt, points_more}
-use Rattle.leveldb_table.proofs.Builds.{built_are, pairs_are, OnErr-always, spelling_room, count_small, built_more, new_entry, new_pairs}
+use Rattle.leveldb_table.specs.Built.{IsBuilt, points_more, shared_front}
+use Rattle.leveldb_table.proofs.Builds.{built_are, entries_are, pairs_are, OnErr-always, spelling_room, count_small, built_more, new_entry, new_pairs, entry_is}
 use Rattle.leveldb_table.proofs.block_builder.BlockBuilder.add.Goals as goal
 
 pub returns-then-not-fits-clause-err : goal.returns-then-not-fits-clause-err
@@ -99,3 +99,29 @@ returns-clause-ok g c =
     let pointed = more.pointed in
     let pairs = new_pairs built restart key value shared refl within same c.shared_with-shared.ensures.none fit.1 fit.2 c.shared_with-shared.ensures.within_key offset_fits c.requires in
     search (pairs_are, rules)
+
+pub returns-clause-entry : goal.returns-clause-entry
+returns-clause-entry g c =
+    let fit = c.fits.ensures.0 c.if-not-fits.false in
+    let built = c.args.self.now.built.1 in
+    let restart = nat_eq (c.args.self.now.count % c.args.self.now.interval) 0 in
+    let shared = c.shared_with-shared.result in
+    let key = c.args.key.now in
+    let value = c.args.value.now in
+    let within = subst (λ z. shared ≤ length z) c.as_slice.ensures.value c.shared_with-shared.ensures.within_last in
+    let same = subst (λ z. take shared z ≡ take shared key) c.as_slice.ensures.value c.shared_with-shared.ensures.same in
+    let here = fit.0 in
+    let offset_fits : length c.args.self.now.buffer.items < 2 ^ 32 = omega (arith, here, c.len.ensures, c.args.self.now.buffer.ok.0) in
+    let size : c.len-2.result ≡ length c.args.self.now.buffer.items = omega (arith, c.len-2.ensures, c.reserve.ensures.len, c.args.self.now.buffer.ok.0) in
+    let written = rw take_rest at c.put_entry.ensures in
+    let after = written ∙ ap (λ z. z ++ spelling shared (drop shared key) value) c.reserve.ensures.items in
+    let more =
+    built_more built restart key value shared refl within same c.shared_with-shared.ensures.none fit.1 fit.2 c.shared_with-shared.ensures.within_key offset_fits c.requires
+    c.put_point.new.points.items (λ h. c.put_point.ensures.first h ∙ c.reserve-3.ensures.items)
+    (λ h. c.put_point.ensures.others h ∙ ap (λ z. z ++ points_more restart c.len-2.result) c.reserve-3.ensures.items ∙ ap (λ z. c.args.self.now.points.items ++ points_more restart z) size)
+    c.put_entry.new.buffer.items after in
+    let spelled = more.spelled in
+    let pointed = more.pointed in
+    let longest = λ (no : restart ≡ false). c.shared_with-shared.ensures.longest no ∙ ap (λ z. shared_front z key) c.as_slice.ensures.value in
+    let put = ap (λ z. c.args.self.now.built.0 ++ z ∷ []) (entry_is c.args.self.now.count built key value shared c.shared_with-shared.ensures.none longest) in
+    search (entries_are, rules)

@@ -5,3 +5,6 @@ use Rattle.leveldb_table.proofs.block_builder.BlockBuilder.finish.Goals as goal
 pub returns-clause-ok : goal.returns-clause-ok
 returns-clause-ok g c =
     built_block (built_spelled c.args.self.built.1 c.in_ok-from_vec.field-0 (c.in_ok-from_vec.ensures.ok ∙ c.in_ok-put_points.ensures.ok))
+
+pub returns-clause-spelled : goal.returns-clause-spelled
+returns-clause-spelled g c = built_spelled c.args.self.built.1 c.in_ok-from_vec.field-0 (c.in_ok-from_vec.ensures.ok ∙ c.in_ok-put_points.ensures.ok)
