@@ -18,4 +18,6 @@ pub mod Record
 pub mod Picks
 pub mod Filters
 pub mod FilterBlock
+pub mod FilterBlockParts
+pub mod FilterBlockLaws
 pub mod RecordLaws
