@@ -13,3 +13,5 @@ pub mod Appends
 pub mod Picks
 pub mod Leaving
 pub mod PickLaws
+pub mod JoinedTexts
+pub mod FilterBlocks

@@ -3,12 +3,12 @@
 //! A filter is made of the keys of the blocks that begin in its 2048 bytes, so the block at an offset has the filter at
 //! `offset / 2048`. The filters stand one behind the other; then come their offsets and the offset of these, four bytes
 //! each, and the byte 11.
-ghost use Rattle.std.specs.Prelude.{◌≡◌, ◌↔◌, ◌⊎◌, ◌+◌, ◌*◌, ◌/◌, ◌^◌, ◌<◌, ◌≤◌, true, [], ◌++◌, length, flat_map, get_or, vec_len, IfOk, IfErr, OnOk, OnErr, IsErrAnd, IsTrue, IsOk};
+ghost use Rattle.std.specs.Prelude.{◌≡◌, ◌↔◌, ◌⊎◌, ◌+◌, ◌-◌, ◌*◌, ◌/◌, ◌^◌, ◌<◌, ◌≤◌, [], ◌∷◌, ◌++◌, length, flat_map, get_or, replicate, All, IfOk, IfErr, OnOk, OnErr, IsErrAnd, IsTrue, IsOk};
 ghost use Rattle.std.specs.List.{concat};
 ghost use Rattle.leveldb_base.specs.Status.{IsOutOfMemory};
 ghost use Rattle.leveldb_base.specs.Varint.{little};
 ghost use Rattle.leveldb_base.specs.declared.error.StatusCode.TheVariants.{Corruption, NotSupported};
-ghost use Rattle.leveldb_env.specs.FilterBlock.{IsFilterBlock, IsNoFilterBlock, OneReading, OneSpelling, KeepsKeys, offsets_from, passes, with_key, with_filters, started, finished, IsNotMade};
+ghost use Rattle.leveldb_env.specs.FilterBlock.{IsFilterBlock, IsNoFilterBlock, OneReading, OneSpelling, KeepsKeys, passes, filter_of, with_key, started, finished, IsNotMade};
 ghost use Rattle.leveldb_env.specs.FilterBlockParts.{places_from, numbers_in, BeginsAt, RiseFrom, Held, Checks};
 ghost use Rattle.leveldb_env.specs.FilterBlockLaws.{Held-prop};
 
@@ -50,7 +50,7 @@ impl<FP: FilterPolicy> Model for FilterBlockBuilder<FP> {
 
     ghost view = { λ it. record { policy = it.policy; filters = it.filters; keys = it.keys } };
 
-    ghost invariant = { λ it. length (concat it.filters) < 2 ^ 32 };
+    ghost invariant = { λ it. (length (concat it.filters) < 2 ^ 32) × (length it.filters < 2 ^ 53) };
 }
 
 impl<FP: FilterPolicy> FilterBlockBuilder<FP> {
@@ -100,39 +100,13 @@ impl<FP: FilterPolicy> FilterBlockBuilder<FP> {
         ensures none { offset / 2048 ≡ length self.old.filters → IsOk result }
         ensures fits { length (concat self.new.filters) < 2 ^ 32 }
         ensures err { OnErr result (self.new ≡ self.old) }
-        ensures cause { IfErr result (IsNotMade FP.too_large FP.filter_for self.old) }
+        ensures cause { IfErr result (IsNotMade (FP.too_large self.old.policy) (FP.filter_for self.old.policy) self.old.filters self.old.keys) }
     {
         let missing = offset / FILTER_BASE - self.filters.len();
         if missing == 0 {
             return Ok(());
         }
-        self.make_filters(missing)
-    }
-
-    // Makes so many filters, the first of them of the keys that were added, the others empty.
-    fn make_filters(&mut self, count: usize) -> Result<()>
-        requires { 1 ≤ count }
-        ensures ok { OnOk result (self.new ≡ with_filters (FP.filter_for self.old.policy) count self.old) }
-        ensures fits { length (concat self.new.filters) < 2 ^ 32 }
-        ensures err { OnErr result (self.new ≡ self.old) }
-        ensures cause { IfErr result (IsNotMade FP.too_large FP.filter_for self.old) }
-    {
-        if self.keys.len() == 0 {
-            return self.filters.push(&[], count);
-        }
-        let alloc = self.keys.allocator();
-        let keys = self.keys.bytes();
-        let filter = self
-            .policy
-            .create_filter(alloc, keys, self.keys.offsets())?;
-        if self.filters.bytes().len() + filter.len() >= FILTERS_LIMIT {
-            return err(
-                alloc,
-                StatusCode::NotSupported,
-                "a filter block has offsets of 32 bits",
-            );
-        }
-        self.filters.push(&filter, count)?;
+        make_filters(&self.policy, &self.keys, &mut self.filters, missing)?;
         self.keys.clear();
         Ok(())
     }
@@ -143,18 +117,48 @@ impl<FP: FilterPolicy> FilterBlockBuilder<FP> {
     where
         FP: Drop,
         ensures ok { IfOk result (λ block. IsFilterBlock block.items (finished (FP.filter_for self.policy) self.filters self.keys)) }
-        ensures cause { IfErr result (IsNotMade FP.too_large FP.filter_for self) }
+        ensures cause { IfErr result (IsNotMade (FP.too_large self.policy) (FP.filter_for self.policy) self.filters self.keys) }
     {
         if self.keys.len() > 0 {
-            self.make_filters(1)?;
+            make_filters(&self.policy, &self.keys, &mut self.filters, 1)?;
         }
         write_block(self.filters)
     }
 }
 
+// Puts so many filters behind the others: one of the keys, and then empty ones.
+fn make_filters<FP: FilterPolicy>(
+    policy: &FP,
+    keys: &Texts,
+    filters: &mut Texts,
+    count: usize,
+) -> Result<()>
+    requires some { 1 ≤ count }
+    requires fits { length (concat filters.old) < 2 ^ 32 }
+    ensures ok { OnOk result (filters.new ≡ filters.old ++ filter_of (FP.filter_for policy.now) keys.now ∷ replicate (count - 1) []) }
+    ensures fits { length (concat filters.new) < 2 ^ 32 }
+    ensures err { OnErr result (filters.new ≡ filters.old) }
+    ensures cause { IfErr result (IsNotMade (FP.too_large policy.now) (FP.filter_for policy.now) filters.old keys.now) }
+{
+    if keys.len() == 0 {
+        return filters.push(&[], count);
+    }
+    let alloc = keys.allocator();
+    let filter = policy.create_filter(alloc, keys.bytes(), keys.offsets())?;
+    if filters.bytes().len() + filter.len() >= FILTERS_LIMIT {
+        return err(
+            alloc,
+            StatusCode::NotSupported,
+            "a filter block has offsets of 32 bits",
+        );
+    }
+    filters.push(&filter, count)
+}
+
 // The block of these filters.
 fn write_block(filters: Texts) -> Result<Vec<u8>>
-    requires { length (concat filters) < 2 ^ 32 }
+    requires fits { length (concat filters) < 2 ^ 32 }
+    requires few { length filters < 2 ^ 61 }
     ensures ok { IfOk result (λ block. IsFilterBlock block.items filters) }
     ensures memory { IfErr result IsOutOfMemory }
 {
@@ -233,13 +237,13 @@ impl<FP: FilterPolicy + Drop> FilterBlockReader<FP> {
 
     /// The filter block that these bytes are.
     /// `Corruption` where they are none.
-    pub fn new_owned(alloc: Global, policy: FP, data: Vec<u8>) -> Result<FilterBlockReader<FP>>
-        ensures ok { IfOk result (λ reader. IsFilterBlock data.items reader.filters) }
+    pub fn new_owned(alloc: Global, policy: FP, bytes: Vec<u8>) -> Result<FilterBlockReader<FP>>
+        ensures ok { IfOk result (λ reader. IsFilterBlock bytes.items reader.filters) }
         ensures policy { IfOk result (λ reader. reader.policy ≡ policy) }
-        ensures damage { IsErrAnd result (λ status. status.code ≡ Corruption) → IsNoFilterBlock data.items }
+        ensures damage { IsErrAnd result (λ status. status.code ≡ Corruption) → IsNoFilterBlock bytes.items }
         ensures cause { IfErr result (λ status. (status.code ≡ Corruption) ⊎ IsOutOfMemory status) }
     {
-        FilterBlockReader::new(alloc, policy, Bytes::from_vec(data)?)
+        FilterBlockReader::new(alloc, policy, Bytes::from_vec(bytes)?)
     }
 }
 
