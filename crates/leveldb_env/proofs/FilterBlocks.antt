@@ -9,7 +9,7 @@ use Rattle.byteorder.specs.Endian.{little_number}
 use Rattle.byteorder.specs.Numbers.{little_from-lt, little_number-reads_back}
 use Rattle.leveldb_base.specs.Varint.{little}
 use Rattle.leveldb_base.specs.LittleLaws.{little-little_number}
-use Rattle.leveldb_env.specs.FilterBlock.{filter_block, IsFilterBlock, IsNoFilterBlock, passes}
+use Rattle.leveldb_env.specs.FilterBlock.{filter_block, IsFilterBlock, IsNoFilterBlock, Reading, passes}
 use Rattle.leveldb_env.specs.FilterBlockParts.{places_from, numbers, numbers_in, BeginsAt, RiseFrom, IsHeld, Held}
 use Rattle.leveldb_env.specs.FilterBlockLaws.{length-fours, length-places, first_place, places_small, by_places}
 
@@ -69,6 +69,31 @@ are_numbers (suc count) bytes e small =
       fit = subst (λ z. All (λ n. n < 2 ^ 32) z) (sym more) (All-cons (λ n. n < 2 ^ 32) (little_number 4 bytes) (numbers_in (drop 4 bytes)) (omega (arith, little_from-lt 0 4 bytes (small_at bytes small))) rest.fit);
       counted = ap length more ∙ ap (λ z. suc z) rest.counted;
     }
+
+-- ---- numbers that rise
+
+-- the first number isn't 0
+pub begins_elsewhere : (bytes : List ℕ) (n : ℕ) → 4 ≤ length bytes → n ≡ little_number 4 bytes → n ≢ 0 → BeginsAt 0 (numbers_in bytes) → ⊥
+begins_elsewhere bytes n long e other h = other (e ∙ subst (λ z. BeginsAt 0 z) (numbers_more bytes long) h)
+
+pub begins_here : (bytes : List ℕ) (n : ℕ) → 4 ≤ length bytes → n ≡ little_number 4 bytes → n ≡ 0 → BeginsAt 0 (numbers_in bytes)
+begins_here bytes n long e zero_first = subst (λ z. BeginsAt 0 z) (sym (numbers_more bytes long)) (sym e ∙ zero_first)
+
+-- a number below the one before it
+pub falls : (low n : ℕ) (bytes : List ℕ) → 4 ≤ length bytes → n ≡ little_number 4 bytes → n < low → RiseFrom low (numbers_in bytes) → ⊥
+falls low n bytes long e below h = let first = (subst (λ z. RiseFrom low z) (numbers_more bytes long) h).0 in omega (arith, first, e, below)
+
+pub rise_on : (low n : ℕ) (bytes : List ℕ) → 4 ≤ length bytes → n ≡ little_number 4 bytes → RiseFrom low (numbers_in bytes) → RiseFrom n (numbers_in (drop 4 bytes))
+rise_on low n bytes long e h = subst (λ z. RiseFrom z (numbers_in (drop 4 bytes))) (sym e) (subst (λ z. RiseFrom low z) (numbers_more bytes long) h).1
+
+pub rise_back : (low n : ℕ) (bytes : List ℕ) → 4 ≤ length bytes → n ≡ little_number 4 bytes → low ≤ n → RiseFrom n (numbers_in (drop 4 bytes)) → RiseFrom low (numbers_in bytes)
+rise_back low n bytes long e up h =
+    subst (λ z. RiseFrom low z) (sym (numbers_more bytes long)) (omega (arith, e, up), subst (λ z. RiseFrom z (numbers_in (drop 4 bytes))) e h)
+
+pub rise_end : (low : ℕ) (bytes : List ℕ) → length bytes < 4 → RiseFrom low (numbers_in bytes)
+rise_end low bytes short = subst (λ z. RiseFrom low z) (sym (numbers_none bytes short)) tt
+
+-- ---- where numbers lie
 
 -- the number at a place
 number_at : (ns last : List ℕ) (j : ℕ) → j < length ns → All (λ n. n < 2 ^ 32) ns → little_number 4 (drop (4 * j) (flat_map (little 4) ns ++ last)) ≡ get_or ns j 0
@@ -131,6 +156,12 @@ text_between at (text ∷ texts) rest (suc j) p q h e f =
     ∙ ap (drop (p - length text)) (drop_at text (concat texts ++ rest) (length text) refl)))
 
 -- ---- the parts of a block
+
+pub same_filters : {FP : Type 0} {a b : Reading FP} → a ≡ b → a.filters ≡ b.filters
+same_filters e = ap (λ z. z.filters) e
+
+pub same_policy : {FP : Type 0} {a b : Reading FP} → a ≡ b → a.policy ≡ b.policy
+same_policy e = ap (λ z. z.policy) e
 
 module _ {bytes : List ℕ} {filters : List (List ℕ)} (block : IsFilterBlock bytes filters) where
   ends : List ℕ
