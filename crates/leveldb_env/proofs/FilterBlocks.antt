@@ -125,7 +125,7 @@ place_below at (text ∷ texts) (suc j) h =
     let rest = place_below (at + length text) texts j (omega (arith, h)) in
     omega (arith, rest, length-append text (concat texts))
 
-places_rise : (at : ℕ) (texts : List (List ℕ)) (j : ℕ) → j < length texts → get_or (places_from at texts) j 0 ≤ get_or (places_from at texts) (j + 1) 0
+places_rise : (at : ℕ) (texts : List (List ℕ)) (j : ℕ) → j < length texts → get_or (places_from at texts) j 0 ≤ get_or (places_from at texts) (suc j) 0
 places_rise at [] j h = absurd (omega (arith, h))
 places_rise at (text ∷ texts) zero h = place_above at (text ∷ texts) 1 (omega (arith, h))
 places_rise at (text ∷ texts) (suc j) h = places_rise (at + length text) texts j (omega (arith, h))
@@ -135,18 +135,22 @@ last_place at [] = omega arith
 last_place at (text ∷ texts) = last_place (at + length text) texts ∙ (let size : (at + length text) + length (concat texts) ≡ at + length (text ++ concat texts) = omega (arith, length-append text (concat texts)) in size)
 
 -- a text lies between its place and the next
-text_between : (at : ℕ) (texts : List (List ℕ)) (rest : List ℕ) (j p q : ℕ) → j < length texts → p + at ≡ get_or (places_from at texts) j 0 → q + p + at ≡ get_or (places_from at texts) (j + 1) 0
+text_between : (at : ℕ) (texts : List (List ℕ)) (rest : List ℕ) (j p q : ℕ) → j < length texts → p + at ≡ get_or (places_from at texts) j 0 → q + p + at ≡ get_or (places_from at texts) (suc j) 0
     → slice_get texts j ≡ Some (take q (drop p (concat texts ++ rest)))
 text_between at [] rest j p q h e f = absurd (omega (arith, h))
 text_between at (text ∷ texts) rest zero p q h e f =
-    let none : p ≡ 0 = omega (arith, e) in
-    let size : length text ≡ q = omega (arith, e, f, first_place (at + length text) texts) in
+    let begin : p + at ≡ at = e in
+    let none : p ≡ 0 = omega (arith, begin) in
+    let end : q + p + at ≡ get_or (places_from (at + length text) texts) 0 0 = f in
+    let size : length text ≡ q = omega (arith, begin, end, first_place (at + length text) texts) in
     ap (λ z. Some z)
     (sym (ap (λ z. take q (drop z ((text ++ concat texts) ++ rest))) none ∙ ap (take q) (append_assoc text (concat texts) rest) ∙ take_at text (concat texts ++ rest) q size))
 text_between at (text ∷ texts) rest (suc j) p q h e f =
     let far = place_above (at + length text) texts j (omega (arith, h)) in
-    let back : length text + (p - length text) ≡ p = omega (arith, e, far) in
-    let here = text_between (at + length text) texts rest j (p - length text) q (omega (arith, h)) (omega (arith, e, far)) (omega (arith, e, f, far)) in
+    let begin : p + at ≡ get_or (places_from (at + length text) texts) j 0 = e in
+    let end : q + p + at ≡ get_or (places_from (at + length text) texts) (suc j) 0 = f in
+    let back : length text + (p - length text) ≡ p = omega (arith, begin, far) in
+    let here = text_between (at + length text) texts rest j (p - length text) q (omega (arith, h)) (omega (arith, begin, far)) (omega (arith, begin, end, far)) in
     here
     ∙ ap (λ z. Some (take q z))
     (sym
@@ -223,10 +227,12 @@ module _ {bytes : List ℕ} {filters : List (List ℕ)} (block : IsFilterBlock b
       → (p ≤ q) × (q ≤ length bytes) × (slice_get filters index ≡ Some (take (q - p) (drop p bytes)))
   filter_read index p q h e f =
       let rise = places_rise 0 filters index h in
-      let below = place_below 0 filters (index + 1) (omega (arith, h)) in (
-        omega (arith, e, f, rise),
-        omega (arith, f, below, whole_size),
-        text_between 0 filters (flat_map (little 4) (places_from 0 filters) ++ 11 ∷ []) index p (q - p) h (omega (arith, e)) (omega (arith, e, f, rise))
+      let below = place_below 0 filters (suc index) (omega (arith, h)) in
+      let next : index + 1 ≡ suc index = omega arith in
+      let end = f ∙ ap (λ z. get_or (places_from 0 filters) z 0) next in (
+        omega (arith, e, end, rise),
+        omega (arith, end, below, whole_size),
+        text_between 0 filters (flat_map (little 4) (places_from 0 filters) ++ 11 ∷ []) index p (q - p) h (omega (arith, e)) (omega (arith, e, end, rise))
         ∙ ap (λ z. Some (take (q - p) (drop p z))) (sym in_parts),
       )
 

@@ -74,6 +74,15 @@ more_texts {bytes} {offsets} {texts} h text others after places e f =
           ∙ ap (λ z. offsets_from 0 texts ++ ((0 + length (concat texts)) ∷ z)) (empty_offsets ((0 + length (concat texts)) + length text) others));
     }
 
+-- so many offsets more, the first of them this one
+pub more_offsets : (offsets : List ℕ) (begin end count : ℕ) (pushed after : List ℕ) (total room : ℕ) → 1 ≤ count → total ≡ length offsets + count → room ≡ length pushed → pushed ≡ offsets ++ begin ∷ []
+    → after ≡ take total pushed ++ replicate (total - room) end → after ≡ (offsets ++ begin ∷ []) ++ replicate (count - 1) end
+more_offsets offsets begin end count pushed after total room some t r e f =
+    let size = length-append offsets (begin ∷ []) in
+    let whole : take total pushed ≡ pushed = take_all total pushed (omega (arith, some, t, ap length e, size)) in
+    let left : total - room ≡ count - 1 = omega (arith, some, t, r, ap length e, size) in
+    f ∙ ap (λ z. z ++ replicate (total - room) end) (whole ∙ e) ∙ ap (λ z. (offsets ++ begin ∷ []) ++ replicate z end) left
+
 -- ---- offsets rise, and lie in the bytes
 
 pub offsets_small : (at limit : ℕ) (texts : List (List ℕ)) → at + length (concat texts) < limit → All (λ offset. offset < limit) (offsets_from at texts)

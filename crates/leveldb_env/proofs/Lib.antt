@@ -15,3 +15,4 @@ pub mod Leaving
 pub mod PickLaws
 pub mod JoinedTexts
 pub mod FilterBlocks
+pub mod FilterBuilds

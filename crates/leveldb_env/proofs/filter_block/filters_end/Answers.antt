@@ -1,5 +1,5 @@
-use Rattle.std.proofs.Common.{◌≡◌, ◌+◌, ◌-◌, ◌*◌, ◌%◌, ◌<◌, ◌≤◌, length, take, drop, get_or, true, false, sym, ap, subst, ◌∙◌, arith, length-drop}
-use Rattle.std.specs.List.{All}
+use Rattle.std.proofs.Common.{◌≡◌, ◌+◌, ◌-◌, ◌<◌, length, take, drop, true, false, sym, ap, subst, ◌∙◌, arith, rules}
+use Rattle.std.specs.List.{All, concat}
 use Rattle.std.proofs.lemmas.List.{take_rest}
 use Rattle.byteorder.specs.Endian.{little_number}
 use Rattle.leveldb_env.specs.FilterBlockParts.{numbers_in, BeginsAt, RiseFrom}
@@ -16,11 +16,31 @@ returns-then-bytes-tail-ne-FILTER_BASE_LOG2 c = λ filters block. c.if-bytes-tai
 pub returns-then-limit-tail : goal.returns-then-limit-tail
 returns-then-limit-tail c =
     λ filters block.
-    let read = ?
-    in ?
+    let tail = c.in_ok-tail.tail in
+    let told = c.read_u32-limit.ensures ∙ ap (little_number 4) (take_rest c.args.bytes.now tail) ∙ end_read block tail (omega arith) in
+    let size = whole_size block in
+    elim c.then-limit-tail.branch [
+      | then-limit-tail-via-then-limit-tail w ↦ omega (arith, told, size)
+      | then-limit-tail-via-else-limit-tail+then-tail-limit-ne0 w ↦ omega (arith, told, size)
+    ]
 
 pub returns-then-not-rise_from_zero : goal.returns-then-not-rise_from_zero
-returns-then-not-rise_from_zero c = ?
+returns-then-not-rise_from_zero c =
+    λ filters block.
+    let tail = c.in_ok-tail.tail in
+    let limit = c.read_u32-limit.result in
+    let told = c.read_u32-limit.ensures ∙ ap (little_number 4) (take_rest c.args.bytes.now tail) ∙ end_read block tail (omega arith) in
+    let read = ap (λ z. numbers_in (take (tail + 4 - z) (drop z c.args.bytes.now))) told
+    ∙ places_read block (tail + 4 - length (concat filters)) (omega (arith, whole_size block)) in
+    let yes = c.rise_from_zero.ensures.1 (subst (λ z. BeginsAt 0 z × RiseFrom 0 z) (sym read) (places_rise_from filters)) in
+    let no : false ≡ true = sym c.if-not-rise_from_zero.true ∙ yes in
+    absurd (cc)
 
 pub returns : goal.returns
-returns c = ?
+returns c =
+    let tail = c.in_ok-tail.tail in
+    let limit = c.read_u32-limit.result in
+    let told = sym (c.read_u32-limit.ensures ∙ ap (little_number 4) (take_rest c.args.bytes.now tail)) in
+    let small : All (λ b. b < 256) c.args.bytes.now = search rules in
+    let rise = c.rise_from_zero.ensures.0 c.if-not-rise_from_zero.false in
+    is_held c.args.bytes.now small tail limit (omega arith) c.if-bytes-tail-ne-FILTER_BASE_LOG2.false told c.if-limit-tail.false c.if-tail-limit-ne0.false rise.0 rise.1
