@@ -233,7 +233,7 @@ module _ {bytes : List ℕ} {filters : List (List ℕ)} (block : IsFilterBlock b
         omega (arith, e, end, rise),
         omega (arith, end, below, whole_size),
         text_between 0 filters (flat_map (little 4) (places_from 0 filters) ++ 11 ∷ []) index p (q - p) h (omega (arith, e)) (omega (arith, e, end, rise))
-        ∙ ap (λ z. Some (take (q - p) (drop p z))) (sym in_parts),
+            ∙ ap (λ z. Some (take (q - p) (drop p z))) (sym in_parts),
       )
 
 -- ---- what the check finds

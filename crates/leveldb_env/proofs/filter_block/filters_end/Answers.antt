@@ -1,6 +1,7 @@
-use Rattle.std.proofs.Common.{◌≡◌, ◌+◌, ◌-◌, ◌<◌, length, take, drop, true, false, sym, ap, subst, ◌∙◌, arith, rules}
+use Rattle.std.proofs.Common.{◌≡◌, ◌+◌, ◌-◌, ◌<◌, length, take, drop, true, false, sym, ap, subst, ◌∙◌, arith}
 use Rattle.std.specs.List.{All, concat}
 use Rattle.std.proofs.lemmas.List.{take_rest}
+use Rattle.std.proofs.lemmas.Grind.{get_or_default_zero}
 use Rattle.byteorder.specs.Endian.{little_number}
 use Rattle.leveldb_env.specs.FilterBlockParts.{numbers_in, BeginsAt, RiseFrom}
 use Rattle.leveldb_env.proofs.FilterBlocks.{whole_size, end_read, last_read, places_read, places_rise_from, is_held}
@@ -41,6 +42,6 @@ returns c =
     let tail = c.in_ok-tail.tail in
     let limit = c.read_u32-limit.result in
     let told = sym (c.read_u32-limit.ensures ∙ ap (little_number 4) (take_rest c.args.bytes.now tail)) in
-    let small : All (λ b. b < 256) c.args.bytes.now = search rules in
+    let small : All (λ b. b < 256) c.args.bytes.now = λ k d h. let byte = c.type_inv.bytes k in omega (arith, byte, get_or_default_zero c.args.bytes.now k d h) in
     let rise = c.rise_from_zero.ensures.0 c.if-not-rise_from_zero.false in
     is_held c.args.bytes.now small tail limit (omega arith) c.if-bytes-tail-ne-FILTER_BASE_LOG2.false told c.if-limit-tail.false c.if-tail-limit-ne0.false rise.0 rise.1

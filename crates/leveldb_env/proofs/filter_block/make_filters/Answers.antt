@@ -1,5 +1,6 @@
 use Rattle.std.proofs.Common.{◌≡◌, ◌+◌, ◌-◌, ◌^◌, ◌<◌, ◌≤◌, [], ◌∷◌, ◌++◌, length, replicate, sym, ap, subst, ◌∙◌, arith}
 use Rattle.std.specs.Prelude.{OnOk}
+use Rattle.std.proofs.lemmas.Result.{err_from_is_err_and}
 use Rattle.std.specs.List.{concat}
 use Rattle.leveldb_env.specs.Filters.{keys_at}
 use Rattle.leveldb_env.specs.FilterBlockParts.{AreTexts}
@@ -20,7 +21,8 @@ create_filter-requires-clause-within g c = rw (c.offsets.ensures, c.bytes.ensure
 pub returns-in_err-filter-clause-cause : goal.returns-in_err-filter-clause-cause
 returns-in_err-filter-clause-cause g c =
     let again = cut_texts {texts = c.args.keys.now} (record { joined = c.bytes.ensures; placed = c.offsets.ensures }) in
-    rw c.from_residual.ensures
+    let p = err_from_is_err_and c.from_residual.result c.from_residual.ensures.1 in
+    rw (p.1, p.2)
     (not_made (g.FP.FilterPolicy.too_large c.args.policy.now) (g.FP.FilterPolicy.filter_for c.args.policy.now) c.args.filters.now c.args.keys.now (keys_at c.offsets.result.now c.bytes.result.now) _ again
     c.in_err-filter.ensures.cause)
 

@@ -24,8 +24,7 @@ loop-left-preserved c =
     let read = c.read_u32-place.ensures in
     let up = c.if-place-last.false in
     let on = c.loop-left.invariant in
-    rw take_rest
-    (
+    rw take_rest (
       λ h. rise_on c.loop-left.last n left long read (on.0 h),
       λ h. on.1 (rise_back c.loop-left.last n left long read up h),
     )
