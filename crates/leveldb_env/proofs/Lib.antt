@@ -16,3 +16,4 @@ pub mod PickLaws
 pub mod JoinedTexts
 pub mod FilterBlocks
 pub mod FilterBuilds
+pub mod JoinedKeys

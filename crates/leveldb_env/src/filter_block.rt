@@ -27,7 +27,7 @@ const FILTER_BASE_LOG2: u8 = 11;
 
 const FILTER_BASE: usize = 1 << 11;
 
-// Filters have less bytes together.
+// Filters have fewer bytes together.
 const FILTERS_LIMIT: usize = 1 << 32;
 
 /// Filters in order, and the keys of the one that is still open.
@@ -97,6 +97,7 @@ impl<FP: FilterPolicy> FilterBlockBuilder<FP> {
     pub fn start_block(&mut self, offset: usize) -> Result<()>
         requires { 2048 * length self.old.filters ≤ offset }
         ensures ok { OnOk result (self.new ≡ started (FP.filter_for self.old.policy) offset self.old) }
+        ensures open { OnOk result (length self.new.filters ≡ offset / 2048) }
         ensures none { offset / 2048 ≡ length self.old.filters → IsOk result }
         ensures fits { length (concat self.new.filters) < 2 ^ 32 }
         ensures err { OnErr result (self.new ≡ self.old) }
