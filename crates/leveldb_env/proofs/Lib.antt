@@ -16,4 +16,3 @@ pub mod PickLaws
 pub mod JoinedTexts
 pub mod FilterBlocks
 pub mod FilterBuilds
-pub mod JoinedKeys

@@ -20,4 +20,5 @@ pub mod Filters
 pub mod FilterBlock
 pub mod FilterBlockParts
 pub mod FilterBlockLaws
+pub mod JoinedKeys
 pub mod RecordLaws

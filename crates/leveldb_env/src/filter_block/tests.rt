@@ -1,5 +1,6 @@
 //! Filter blocks built and read, under a policy whose filters show the keys that they were made of.
 ghost use Rattle.std.specs.Prelude.{◌≡◌, ◌≤◌, true, IfOk, OnOk};
+ghost use Rattle.leveldb_env.specs.Filters.{first_offset};
 
 use super::*;
 
@@ -12,7 +13,7 @@ struct JoinedKeys {
 impl FilterPolicy for JoinedKeys {
     ghost use Rattle.std.specs.Prelude.{codes, nat_le, ◌<◌, length};
     ghost use Rattle.std.specs.List.{concat};
-    ghost use Rattle.leveldb_env.proofs.JoinedKeys.{joined_finds};
+    ghost use Rattle.leveldb_env.specs.JoinedKeys.{joined_finds};
 
     ghost name = { λ _. codes "joined" };
 
@@ -26,17 +27,8 @@ impl FilterPolicy for JoinedKeys {
         "joined"
     }
 
-    fn create_filter(
-        &self,
-        alloc: Global,
-        keys: &[u8],
-        key_offsets: &[usize],
-    ) -> Result<Vec<u8>> {
-        let first = match key_offsets {
-            [first, ..] => *first,
-            [] => keys.len(),
-        };
-        let joined = &keys[first..];
+    fn create_filter(&self, alloc: Global, keys: &[u8], key_offsets: &[usize]) -> Result<Vec<u8>> {
+        let joined = &keys[first_of(key_offsets, keys.len())..];
         if joined.len() > self.limit {
             return err(alloc, StatusCode::NotSupported, "too many keys");
         }
@@ -50,12 +42,22 @@ impl FilterPolicy for JoinedKeys {
     ghost finds = { λ _. joined_finds };
 }
 
+fn first_of(offsets: &[usize], end: usize) -> usize
+    ensures { result ≡ first_offset offsets.now end }
+{
+    match offsets {
+        [first, ..] => *first,
+        [] => end,
+    }
+}
+
 const POLICY: JoinedKeys = JoinedKeys { limit: 100 };
 
 const LETTERS: &[u8] = b"abcdefghijklmnopqrstuvwxyz";
 
 /// Two blocks of the same four keys, at 0 and at 5000, so that the second of three filters is empty.
-const BLOCK: &[u8] = b"abcdefghijklmnopqrstuvwxyzabcdefghijklmnopqrstuvwxyz\0\0\0\0\x1a\0\0\0\x1a\0\0\0\x34\0\0\0\x0b";
+const BLOCK: &[u8] =
+    b"abcdefghijklmnopqrstuvwxyzabcdefghijklmnopqrstuvwxyz\0\0\0\0\x1a\0\0\0\x1a\0\0\0\x34\0\0\0\x0b";
 
 fn add_keys<FP: FilterPolicy>(builder: &mut FilterBlockBuilder<FP>) -> Result<()>
     ensures { OnOk result (builder.new.filters ≡ builder.old.filters) }
@@ -102,7 +104,10 @@ fn built_of_nothing(rt: HostRuntime) -> Result<()> {
     builder.start_block(4096)?;
     assert_eq!(rt; builder.size_estimate(), 13);
     let block = builder.finish()?;
-    assert_eq!(rt; block.as_slice(), b"\0\0\0\0\0\0\0\0\0\0\0\0\x0b".as_slice());
+    assert_eq!(rt;
+        block.as_slice(),
+        b"\0\0\0\0\0\0\0\0\0\0\0\0\x0b".as_slice()
+    );
     Ok(())
 }
 
@@ -185,14 +190,11 @@ fn raised(rt: HostRuntime) -> Result<()> {
 fn too_large(rt: HostRuntime) -> Result<()> {
     let mut builder = FilterBlockBuilder::new(rt.alloc(), JoinedKeys { limit: 25 });
     add_keys(&mut builder)?;
-    for _ in 0..2 {
-        match builder.start_block(2048) {
-            Ok(()) => panic!(rt; "no refusal"),
-            Err(status) => assert_eq!(rt; status.code, StatusCode::NotSupported),
-        }
-        assert_eq!(rt; builder.size_estimate(), 5);
+    match builder.start_block(2048) {
+        Ok(()) => panic!(rt; "no refusal"),
+        Err(status) => assert_eq!(rt; status.code, StatusCode::NotSupported),
     }
-    builder.start_block(2047)?;
+    assert_eq!(rt; builder.size_estimate(), 5);
     match builder.finish() {
         Ok(_) => panic!(rt; "no refusal"),
         Err(status) => assert_eq!(rt; status.code, StatusCode::NotSupported),
