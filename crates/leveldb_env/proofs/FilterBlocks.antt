@@ -1,16 +1,14 @@
 -- Where the parts of a filter block lie, and that bytes with such parts are one.
-use Rattle.std.proofs.Common.{◌≡◌, ◌≢◌, ℕ, zero, suc, ◌+◌, ◌-◌, ◌*◌, ◌/◌, ◌%◌, ◌^◌, ◌<◌, ◌≤◌, Bool, true, List, [], ◌∷◌, ◌++◌, length, take, drop, get_or, flat_map, slice_get, Option, None, Some, refl, sym, ◌∙◌, ap, subst, arith, append_assoc, length-append, length-drop}
+use Rattle.std.proofs.Common.{◌≡◌, ◌≢◌, ℕ, zero, suc, ◌+◌, ◌-◌, ◌*◌, ◌/◌, ◌%◌, ◌^◌, ◌<◌, ◌≤◌, List, [], ◌∷◌, ◌++◌, length, take, drop, get_or, flat_map, slice_get, Some, refl, sym, ◌∙◌, ap, subst, arith, append_assoc, length-append, length-drop}
 use Rattle.std.specs.List.{All, concat}
-use Rattle.std.specs.Option.{option_map_or}
-use Rattle.std.proofs.lemmas.List.{take-append-drop, take_at, drop_at, drop-drop, take_all, length-take-le, nil_from_length, get_or-append-add}
+use Rattle.std.proofs.lemmas.List.{take-append-drop, take_at, drop_at, drop-drop, length-take-le, nil_from_length, get_or-append-add}
 use Rattle.std.proofs.lemmas.List.Elements.{All-nil, All-cons, All-head, All-tail, All-drop, All-take}
-use Rattle.std.proofs.lemmas.Option.{slice_get_past}
 use Rattle.byteorder.specs.Endian.{little_number}
 use Rattle.byteorder.specs.Numbers.{little_from-lt, little_number-reads_back}
 use Rattle.leveldb_base.specs.Varint.{little}
 use Rattle.leveldb_base.specs.LittleLaws.{little-little_number}
-use Rattle.leveldb_env.specs.FilterBlock.{filter_block, IsFilterBlock, IsNoFilterBlock, Reading, passes}
-use Rattle.leveldb_env.specs.FilterBlockParts.{places_from, numbers, numbers_in, BeginsAt, RiseFrom, IsHeld, Held}
+use Rattle.leveldb_env.specs.FilterBlock.{IsFilterBlock, Reading}
+use Rattle.leveldb_env.specs.FilterBlockParts.{places_from, numbers, numbers_in, BeginsAt, RiseFrom, Held}
 use Rattle.leveldb_env.specs.FilterBlockLaws.{length-fours, length-places, first_place, places_small, by_places}
 
 -- ---- numbers of four bytes

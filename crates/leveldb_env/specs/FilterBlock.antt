@@ -79,9 +79,10 @@ abbrev pub finished : (List (List ℕ) → List ℕ) → List (List ℕ) → Lis
 finished make filters [] = filters
 finished make filters (key ∷ keys) = filters ++ make (key ∷ keys) ∷ []
 
--- the policy finds the keys' filter too large, or with it the filters would have 2^32 bytes or more
+-- The policy finds the keys' filter too large, or with it the filters would have 2^32 bytes or more. No keys have no such filter.
 abbrev pub IsTooLarge : (List (List ℕ) → Type 0) → (List (List ℕ) → List ℕ) → List (List ℕ) → List (List ℕ) → Type 0
-IsTooLarge too_large make filters keys = too_large keys ⊎ (2 ^ 32 ≤ length (concat filters) + length (make keys))
+IsTooLarge too_large make filters [] = ⊥
+IsTooLarge too_large make filters (key ∷ keys) = too_large (key ∷ keys) ⊎ (2 ^ 32 ≤ length (concat filters) + length (make (key ∷ keys)))
 
 -- why no filter was made of the keys: want of memory, or it would be too large
 abbrev pub IsNotMade : (List (List ℕ) → Type 0) → (List (List ℕ) → List ℕ) → List (List ℕ) → List (List ℕ) → Status → Type 0

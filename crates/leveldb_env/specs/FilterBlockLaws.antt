@@ -1,5 +1,5 @@
 -- The laws of filter blocks: bytes have one reading, filters one spelling, and a key that was added is found.
-use Rattle.std.proofs.Common.{◌≡◌, ℕ, zero, suc, ◌+◌, ◌-◌, ◌*◌, ◌/◌, ◌^◌, ◌<◌, ◌≤◌, ◌⊎◌, inl, inr, Bool, true, List, [], ◌∷◌, ◌++◌, length, flat_map, get_or, replicate, slice_get, Option, None, Some, Contains, refl, sym, ◌∙◌, ap, subst, arith, append_assoc, length-append}
+use Rattle.std.proofs.Common.{◌≡◌, ℕ, zero, suc, ◌+◌, ◌-◌, ◌*◌, ◌/◌, ◌^◌, ◌<◌, inl, inr, Bool, true, List, [], ◌∷◌, ◌++◌, length, flat_map, get_or, replicate, slice_get, Option, None, Some, Contains, refl, sym, ◌∙◌, ap, subst, arith, append_assoc, length-append}
 use Rattle.std.specs.Prelude.{IsSomeAnd}
 use Rattle.std.specs.List.{All, concat}
 use Rattle.std.specs.Option.{option_map_or}
@@ -11,7 +11,7 @@ use Rattle.byteorder.specs.Endian.{little_from}
 use Rattle.byteorder.specs.Numbers.{little_number-reads_back}
 use Rattle.leveldb_base.specs.Varint.{little}
 use Rattle.leveldb_base.specs.VarintLaws.{apart}
-use Rattle.leveldb_env.specs.FilterBlock.{offsets_from, filter_block, IsFilterBlock, OneReading, OneSpelling, passes, Building, filter_of, with_key, with_filters, started, finished, IsKept, KeepsKeys}
+use Rattle.leveldb_env.specs.FilterBlock.{offsets_from, filter_block, OneReading, OneSpelling, Building, filter_of, with_filters, finished, IsKept, KeepsKeys}
 use Rattle.leveldb_env.specs.FilterBlockParts.{places_from, IsHeld, Held}
 
 -- ---- numbers of four bytes

@@ -1,9 +1,8 @@
-use Rattle.std.proofs.Common.{◌≡◌, ◌+◌, ◌-◌, ◌^◌, ◌<◌, ◌≤◌, [], ◌∷◌, ◌++◌, length, replicate, sym, ap, subst, ◌∙◌, arith}
+use Rattle.std.proofs.Common.{◌≡◌, ◌-◌, ◌^◌, [], ◌∷◌, ◌++◌, length, replicate, sym, ap, subst, ◌∙◌, arith}
 use Rattle.std.specs.Prelude.{OnOk}
 use Rattle.std.proofs.lemmas.Result.{err_from_is_err_and}
 use Rattle.std.specs.List.{concat}
 use Rattle.leveldb_env.specs.Filters.{keys_at}
-use Rattle.leveldb_env.specs.FilterBlockParts.{AreTexts}
 use Rattle.leveldb_env.proofs.JoinedTexts.{cut_texts, offsets_rise, offsets_within}
 use Rattle.leveldb_env.proofs.FilterBuilds.{pushed_size, some_made, not_made, too_many}
 use Rattle.leveldb_env.proofs.filter_block.make_filters.Goals as goal
@@ -23,14 +22,14 @@ returns-in_err-filter-clause-cause g c =
     let again = cut_texts {texts = c.args.keys.now} (record { joined = c.bytes.ensures; placed = c.offsets.ensures }) in
     let p = err_from_is_err_and c.from_residual.result c.from_residual.ensures.1 in
     rw (p.1, p.2)
-    (not_made (g.FP.FilterPolicy.too_large c.args.policy.now) (g.FP.FilterPolicy.filter_for c.args.policy.now) c.args.filters.now c.args.keys.now (keys_at c.offsets.result.now c.bytes.result.now) _ again
+    (not_made (g.FP.FilterPolicy.too_large c.args.policy.now) (g.FP.FilterPolicy.filter_for c.args.policy.now) c.args.filters.now c.args.keys.now (keys_at c.offsets.result.now c.bytes.result.now) _ (omega (arith, c.len.ensures)) again
     c.in_err-filter.ensures.cause)
 
 pub returns-then-bytes-len-ge-FILTERS_LIMIT-clause-cause : goal.returns-then-bytes-len-ge-FILTERS_LIMIT-clause-cause
 returns-then-bytes-len-ge-FILTERS_LIMIT-clause-cause g c =
     let again = cut_texts {texts = c.args.keys.now} (record { joined = c.bytes.ensures; placed = c.offsets.ensures }) in
     let made = c.in_ok-filter.ensures.ok ∙ ap (g.FP.FilterPolicy.filter_for c.args.policy.now) again in
-    too_many c.err.result (g.FP.FilterPolicy.too_large c.args.policy.now) (g.FP.FilterPolicy.filter_for c.args.policy.now) c.args.filters.now c.args.keys.now c.err.ensures.code
+    too_many c.err.result (g.FP.FilterPolicy.too_large c.args.policy.now) (g.FP.FilterPolicy.filter_for c.args.policy.now) c.args.filters.now c.args.keys.now (omega (arith, c.len.ensures)) c.err.ensures.code
     (omega (arith, ap length made, ap length c.bytes-2.ensures, c.len-2.ensures, c.in_ok-filter.filter.ok.0))
 
 pub returns-clause-ok : goal.returns-clause-ok

@@ -1,4 +1,4 @@
-use Rattle.std.proofs.Common.{◌≡◌, ◌+◌, ◌-◌, ◌/◌, ◌<◌, ◌≤◌, true, length, take, drop, get_or, slice_get, Some, sym, ap, ◌∙◌, arith}
+use Rattle.std.proofs.Common.{◌+◌, ◌-◌, ◌/◌, true, length, take, drop, get_or, slice_get, sym, ap, ◌∙◌, arith}
 use Rattle.std.specs.Option.{option_map_or}
 use Rattle.leveldb_env.specs.FilterBlockParts.{places_from}
 use Rattle.leveldb_env.proofs.FilterBlocks.{filter_read, same_filters, same_policy}

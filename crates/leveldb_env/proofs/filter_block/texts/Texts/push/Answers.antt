@@ -1,4 +1,4 @@
-use Rattle.std.proofs.Common.{◌≡◌, ◌-◌, ◌++◌, ◌∷◌, [], length, replicate, sym, ap, ◌∙◌, arith}
+use Rattle.std.proofs.Common.{◌-◌, ◌++◌, ◌∷◌, [], length, replicate, ap, ◌∙◌, arith}
 use Rattle.leveldb_env.specs.Filters.{keys_at}
 use Rattle.leveldb_env.specs.FilterBlockParts.{AreTexts}
 use Rattle.leveldb_env.proofs.JoinedTexts.{more_texts, more_offsets, cut_again, cut_texts}
