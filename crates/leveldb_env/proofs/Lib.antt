@@ -13,3 +13,6 @@ pub mod Appends
 pub mod Picks
 pub mod Leaving
 pub mod PickLaws
+pub mod JoinedTexts
+pub mod FilterBlocks
+pub mod FilterBuilds

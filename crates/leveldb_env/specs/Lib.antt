@@ -17,4 +17,8 @@ pub mod Journal
 pub mod Record
 pub mod Picks
 pub mod Filters
+pub mod FilterBlock
+pub mod FilterBlockParts
+pub mod FilterBlockLaws
+pub mod JoinedKeys
 pub mod RecordLaws
