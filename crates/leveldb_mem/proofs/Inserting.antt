@@ -126,7 +126,7 @@ module _ (old all : List Entry) (kept : Kept) (sequence : ℕ) (rest : List Item
 -- ---- entries up to a number
 
 pub none_up_to : (n : ℕ) (entries : List Entry) → entries ≡ [] → AreUpTo n entries
-none_up_to n entries none entry there = in_none entry (subst (λ (es : List Entry). Contains es entry) none there)
+none_up_to n entries none entry there = absurd (in_none entry (subst (λ (es : List Entry). Contains es entry) none there))
 
 pub one_up_to : (n : ℕ) (old new : List Entry) (one : Entry) → AreUpTo n old → Gains old (one ∷ []) new → one.sequence ≤ n → AreUpTo n new
 one_up_to n old new one low gains le entry there =

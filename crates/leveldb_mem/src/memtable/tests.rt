@@ -1,5 +1,5 @@
 //! What is found of keys at sequence numbers before, at, between and behind their versions, and what refusals leave.
-ghost use Rattle.std.specs.Prelude.{IfOk};
+ghost use Rattle.std.specs.Prelude.{◌≡◌, IfOk, OnErr};
 ghost use Rattle.leveldb_base.specs.ViewLaws.{AreUpTo};
 
 use super::*;
