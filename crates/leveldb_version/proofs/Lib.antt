@@ -1,1 +1,4 @@
 pub mod CurrentReads
+pub mod FieldReads
+pub mod Decoding
+pub mod Encoding

@@ -2,6 +2,7 @@
 use Rattle.std.specs.Prelude.{◌≡◌, ℕ, List, [], ◌∷◌, ◌++◌, Option, Some, None}
 use Rattle.std.specs.Borrow.{Bor}
 use Rattle.std.specs.BTreeSet.{insert_key}
+use Rattle.leveldb_base.specs.declared.types.FileMetaData.{FileMetaData}
 use Rattle.leveldb_version.specs.Edit.{Field, comparator_is, log_is, previous_log_is, next_file_is, last_sequence_is, points, deletes, adds, Edit, file_order}
 use Rattle.leveldb_version.specs.declared.version_edit.fields.LentField.{LentField}
 use Rattle.leveldb_version.specs.declared.version_edit.fields.LentField.TheVariants.{Comparator, LogNumber, NextFileNumber, LastSequence, CompactPointer, DeletedFile, NewFile, PrevLogNumber}
@@ -27,6 +28,11 @@ field_of (CompactPointer level key) = points (record { level = level; key = key.
 field_of (DeletedFile level number) = deletes (level, number)
 field_of (NewFile level number size smallest largest) = adds (record { level = level; number = number; size = size; smallest = smallest.now; largest = largest.now })
 field_of (PrevLogNumber number) = previous_log_is number
+
+-- the files that a lent field adds: one that may take no seeks, or none
+abbrev pub files_in : LentField → List (ℕ × FileMetaData)
+files_in (NewFile level number size smallest largest) = (level, record { allowed_seeks = 0; num = number; size = size; smallest = smallest.now; largest = largest.now }) ∷ []
+files_in _ = []
 
 -- the field, and the bytes behind it
 abbrev pub field_with_rest : Option (LentField × Bor (List ℕ)) → Option (Field × List ℕ)

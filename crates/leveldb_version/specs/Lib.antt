@@ -5,3 +5,4 @@ pub mod FileSet
 pub mod FileSetLaws
 pub mod Current
 pub mod CurrentLaws
+pub mod EditLaws

@@ -6,8 +6,8 @@ ghost use Rattle.std.specs.Prelude.{◌≡◌, ◌⊎◌, [], ◌∷◌, ◌++�
 ghost use Rattle.std.specs.BTreeSet.{insert_key};
 ghost use Rattle.leveldb_base.specs.Status.{IsOutOfMemory};
 ghost use Rattle.leveldb_base.specs.declared.error.StatusCode.TheVariants.{Corruption};
-ghost use Rattle.leveldb_version.specs.Edit.{Edit, IsEdit, empty_edit, file_order, edit_bytes};
-ghost use Rattle.leveldb_version.specs.EditReading.{field_of, with_field};
+ghost use Rattle.leveldb_version.specs.Edit.{Edit, IsEdit, empty_edit, file_order, edit_bytes, HasLevels, OneEdit, WrittenIsRead};
+ghost use Rattle.leveldb_version.specs.EditReading.{field_of, files_in, with_field};
 ghost use Rattle.leveldb_version.specs.EditView.{edit_of, HasNoSeeks};
 
 use bytes::Bytes;
@@ -18,8 +18,13 @@ use std::alloc::Global;
 use std::collections::BTreeSet;
 
 mod fields;
+#[cfg(test)]
+mod tests;
 
-use fields::{LentField, take_field};
+use fields::{
+    LAST_SEQUENCE, LOG_NUMBER, LentField, NEXT_FILE_NUMBER, PREV_LOG_NUMBER, put_comparator,
+    put_deleted, put_new_files, put_number, put_pointers, take_field,
+};
 
 /// The internal key behind which a level's next compaction begins.
 #[derive(Clone, Debug, Drop, PartialEq)]
@@ -151,6 +156,24 @@ impl VersionEdit {
         Ok(())
     }
 
+    /// The edit as bytes: single values first, then compaction pointers, deleted files by level and number, new files.
+    pub fn encode(&self, alloc: Global) -> Result<Vec<u8>>
+        ensures ok { IfOk result (λ bytes. bytes.items ≡ edit_bytes (edit_of self.now)) }
+        ensures read { IfOk result (λ bytes. HasLevels (edit_of self.now) → IsEdit bytes.items (edit_of self.now)) }
+        ensures memory { IfErr result IsOutOfMemory }
+    {
+        let mut bytes = Vec::with_capacity(alloc, 256)?;
+        put_comparator(&mut bytes, &self.comparator)?;
+        put_number(&mut bytes, LOG_NUMBER, self.log_number)?;
+        put_number(&mut bytes, PREV_LOG_NUMBER, self.prev_log_number)?;
+        put_number(&mut bytes, NEXT_FILE_NUMBER, self.next_file_number)?;
+        put_number(&mut bytes, LAST_SEQUENCE, self.last_seq)?;
+        put_pointers(&mut bytes, self.compaction_ptrs.as_slice())?;
+        put_deleted(&mut bytes, &self.deleted)?;
+        put_new_files(&mut bytes, self.new_files.as_slice())?;
+        Ok(bytes)
+    }
+
     /// The edit that these bytes are; its new files may take no seeks.
     /// `Corruption` where they are none.
     pub fn decode_from(alloc: Global, src: &[u8]) -> Result<VersionEdit>
@@ -174,7 +197,7 @@ impl VersionEdit {
     // Adds what the field says.
     fn apply(&mut self, alloc: Global, field: LentField<'_>) -> Result<()>
         ensures ok { OnOk result (edit_of self.new ≡ with_field (edit_of self.old) (field_of field.entry)) }
-        ensures seeks { OnOk result (HasNoSeeks self.old → HasNoSeeks self.new) }
+        ensures files { OnOk result (self.new.new_files.items ≡ self.old.new_files.items ++ files_in field.entry) }
         ensures memory { IfErr result IsOutOfMemory }
     {
         match field {
@@ -199,3 +222,10 @@ impl VersionEdit {
         Ok(())
     }
 }
+
+/// The same bytes are one edit only, and what is written for an edit whose levels a store has is that edit. So decoding
+/// what was encoded gives the edit back, but for the seeks that its new files may take.
+pub fn edits_are_their_bytes()
+    ensures one { OneEdit }
+    ensures written { WrittenIsRead }
+{}

@@ -1,19 +1,28 @@
 //! The fields of a version edit, each a tag and its value: read from bytes, and put as bytes.
-ghost use Rattle.std.specs.Prelude.{◌≡◌, ◌^◌, ◌<◌, ◌∷◌};
+ghost use Rattle.std.specs.Prelude.{◌≡◌, ◌^◌, ◌<◌, ◌∷◌, ◌++◌, flat_map, map, All, OnOk, IfErr, IfSome, string_bytes};
+ghost use Rattle.std.specs.List.Sorted.{IsStrictlySortedBy};
+ghost use Rattle.std.specs.Option.{option_map, option_to_list};
+ghost use Rattle.leveldb_base.specs.Status.{IsOutOfMemory};
 ghost use Rattle.leveldb_base.specs.Varint.{varint};
-ghost use Rattle.leveldb_version.specs.Edit.{FieldFits, field_bytes};
+ghost use Rattle.leveldb_version.specs.Edit.{comparator_is, points, deletes, adds, FieldFits, field_bytes, file_order};
 ghost use Rattle.leveldb_version.specs.EditReading.{ReadsFront, with_rest, field_with_rest};
+ghost use Rattle.leveldb_version.specs.EditView.{pointer_of, new_file_of};
 
-use leveldb_base::types::{FileNum, NUM_LEVELS, SequenceNumber};
-use leveldb_base::varint::{get_length_prefixed_slice, get_varint64};
+use crate::version_edit::CompactionPointer;
+use leveldb_base::error::Result;
+use leveldb_base::types::{FileMetaData, FileNum, NUM_LEVELS, SequenceNumber};
+use leveldb_base::varint::{
+    get_length_prefixed_slice, get_varint64, put_length_prefixed_slice, put_varint64,
+};
+use std::collections::BTreeSet;
 
 const COMPARATOR: u8 = 1;
 
-const LOG_NUMBER: u8 = 2;
+pub(super) const LOG_NUMBER: u8 = 2;
 
-const NEXT_FILE_NUMBER: u8 = 3;
+pub(super) const NEXT_FILE_NUMBER: u8 = 3;
 
-const LAST_SEQUENCE: u8 = 4;
+pub(super) const LAST_SEQUENCE: u8 = 4;
 
 const COMPACT_POINTER: u8 = 5;
 
@@ -21,7 +30,7 @@ const DELETED_FILE: u8 = 6;
 
 const NEW_FILE: u8 = 7;
 
-const PREV_LOG_NUMBER: u8 = 9;
+pub(super) const PREV_LOG_NUMBER: u8 = 9;
 
 // A field, with its texts lent from the bytes.
 pub(super) enum LentField<'a> {
@@ -91,7 +100,9 @@ fn take_comparator(bytes: &[u8]) -> Option<(LentField<'_>, &[u8])>
     ensures { ReadsFront FieldFits field_bytes (1 ∷ bytes.now) (field_with_rest result) }
 {
     let (name, rest) = get_length_prefixed_slice(bytes)?;
-    let name = str::from_utf8(name).ok()?;
+    let Ok(name) = str::from_utf8(name) else {
+        return None;
+    };
     Some((LentField::Comparator(name), rest))
 }
 
@@ -124,4 +135,99 @@ fn take_new_file(bytes: &[u8]) -> Option<(LentField<'_>, &[u8])>
     let (largest, rest) = get_length_prefixed_slice(rest)?;
     let file = LentField::NewFile(level, number, size as usize, smallest, largest);
     Some((file, rest))
+}
+
+// Puts the comparator's name, where there is one.
+pub(super) fn put_comparator(dst: &mut Vec<u8>, name: &Option<String>) -> Result<()>
+    ensures ok { OnOk result (dst.new.items ≡ dst.old.items ++ flat_map field_bytes (map comparator_is (option_to_list (option_map string_bytes name.now)))) }
+    ensures memory { IfErr result IsOutOfMemory }
+{
+    if let Some(name) = name {
+        dst.push(COMPARATOR)?;
+        put_length_prefixed_slice(dst, name.as_bytes())?;
+    }
+    Ok(())
+}
+
+// Puts a number behind its tag, where there is one.
+pub(super) fn put_number(dst: &mut Vec<u8>, tag: u8, number: Option<u64>) -> Result<()>
+    ensures ok { OnOk result (dst.new.items ≡ dst.old.items ++ flat_map (λ n. tag ∷ varint n) (option_to_list number)) }
+    ensures small { IfSome number (λ n. n < 2 ^ 64) }
+    ensures memory { IfErr result IsOutOfMemory }
+{
+    if let Some(number) = number {
+        dst.push(tag)?;
+        put_varint64(dst, number)?;
+    }
+    Ok(())
+}
+
+// Puts the compaction pointers in turn.
+pub(super) fn put_pointers(dst: &mut Vec<u8>, pointers: &[CompactionPointer]) -> Result<()>
+    ensures ok { OnOk result (dst.new.items ≡ dst.old.items ++ flat_map field_bytes (map points (map pointer_of pointers.now))) }
+    ensures memory { IfErr result IsOutOfMemory }
+{
+    for pointer in pointers {
+        put_pointer(dst, pointer)?;
+    }
+    Ok(())
+}
+
+fn put_pointer(dst: &mut Vec<u8>, pointer: &CompactionPointer) -> Result<()>
+    ensures ok { OnOk result (dst.new.items ≡ dst.old.items ++ field_bytes (points (pointer_of pointer.now))) }
+    ensures memory { IfErr result IsOutOfMemory }
+{
+    dst.push(COMPACT_POINTER)?;
+    put_varint64(dst, pointer.level as u64)?;
+    put_length_prefixed_slice(dst, &pointer.key)
+}
+
+// Puts the deleted files by level and number.
+pub(super) fn put_deleted(dst: &mut Vec<u8>, deleted: &BTreeSet<(usize, FileNum)>) -> Result<()>
+    ensures ok { OnOk result (dst.new.items ≡ dst.old.items ++ flat_map field_bytes (map deletes deleted.now.keys)) }
+    ensures small { OnOk result (All (λ file. file.1 < 2 ^ 64) deleted.now.keys) }
+    ensures ordered { IsStrictlySortedBy file_order deleted.now.keys }
+    ensures memory { IfErr result IsOutOfMemory }
+{
+    for file in deleted {
+        put_deleted_file(dst, *file)?;
+    }
+    Ok(())
+}
+
+fn put_deleted_file(dst: &mut Vec<u8>, file: (usize, FileNum)) -> Result<()>
+    ensures ok { OnOk result (dst.new.items ≡ dst.old.items ++ field_bytes (deletes file)) }
+    ensures small { file.1 < 2 ^ 64 }
+    ensures memory { IfErr result IsOutOfMemory }
+{
+    dst.push(DELETED_FILE)?;
+    put_varint64(dst, file.0 as u64)?;
+    put_varint64(dst, file.1)
+}
+
+// Puts the new files in turn.
+pub(super) fn put_new_files(dst: &mut Vec<u8>, files: &[(usize, FileMetaData)]) -> Result<()>
+    ensures ok { OnOk result (dst.new.items ≡ dst.old.items ++ flat_map field_bytes (map adds (map new_file_of files.now))) }
+    ensures small { OnOk result (All (λ file. (file.1.num < 2 ^ 64) × (file.1.size < 2 ^ 64)) files.now) }
+    ensures memory { IfErr result IsOutOfMemory }
+{
+    for file in files {
+        put_new_file(dst, file)?;
+    }
+    Ok(())
+}
+
+fn put_new_file(dst: &mut Vec<u8>, file: &(usize, FileMetaData)) -> Result<()>
+    ensures ok { OnOk result (dst.new.items ≡ dst.old.items ++ field_bytes (adds (new_file_of file.now))) }
+    ensures num { OnOk result (file.now.1.num < 2 ^ 64) }
+    ensures size { OnOk result (file.now.1.size < 2 ^ 64) }
+    ensures memory { IfErr result IsOutOfMemory }
+{
+    let (level, file) = file;
+    dst.push(NEW_FILE)?;
+    put_varint64(dst, *level as u64)?;
+    put_varint64(dst, file.num)?;
+    put_varint64(dst, file.size as u64)?;
+    put_length_prefixed_slice(dst, &file.smallest)?;
+    put_length_prefixed_slice(dst, &file.largest)
 }
