@@ -1,39 +1,86 @@
--- The files that a store has after some version edits.
-use Rattle.std.specs.Prelude.{◌≡◌, ◌↔◌, ℕ, List, ◌∷◌, ◌++◌, Option, None, All, Contains}
+-- What version edits, one after another, leave: the files of each level, and the numbers that go with them.
+use Rattle.std.specs.Prelude.{◌≡◌, ◌↔◌, ◌==◌, ◌&&◌, ℕ, Bool, if◌then◌else◌, List, [], ◌∷◌, ◌++◌, Option, None, Some, All, map, flat_map}
 use Rattle.std.specs.List.{filter_map, last_or}
-use Rattle.std.specs.List.Sorted.{IsStrictlySortedBy}
-use Rattle.leveldb_version.specs.Edit.{LevelFile, NewFile, Edit, file_order}
+use Rattle.std.specs.Option.{option_or}
+use Rattle.leveldb_version.specs.Edit.{LevelFile, NewFile, Edit}
+
+-- a change of the files: one of a level is deleted, or one is added
+pub data Change : Type 0 where
+  deleting : LevelFile → Change
+  adding : NewFile → Change
+
+-- the changes of an edit, in order: it deletes before it adds
+abbrev pub changes : Edit → List Change
+changes edit = map deleting edit.deleted ++ map adding edit.added
 
 -- a new file's level and number
 abbrev pub level_file : NewFile → LevelFile
 level_file file = (file.level, file.number)
 
--- An edit adds the file, and no later one deletes it. An edit deletes before it adds, so its own deletions don't count.
-pub record IsLive (edits : List Edit) (file : NewFile) : Type 0 where
-  pub before : List Edit
-  pub edit : Edit
-  pub later : List Edit
-  pub edits_are : edits ≡ before ++ edit ∷ later
-  pub added : Contains edit.added file
-  pub kept : All (λ after. Contains after.deleted (level_file file) → ⊥) later
+abbrev pub is_same_file : LevelFile → LevelFile → Bool
+is_same_file a b = (a.0 == b.0) && (a.1 == b.1)
+
+-- what a change leaves under a level and a number, where it is a change there
+abbrev pub left_by : LevelFile → Change → Option (Option NewFile)
+left_by at (deleting file) = if is_same_file file at then Some None else None
+left_by at (adding file) = if is_same_file (level_file file) at then Some (Some file) else None
+
+-- the last of some values, or this one where there are none
+abbrev pub last_one : {A : Type 0} → A → List A → A
+last_one value [] = value
+last_one value (next ∷ values) = last_one next values
+
+-- The file that is live under a level and a number: it is added there by an edit, and by a later change neither
+-- deleted nor replaced.
+abbrev pub live_at : List Edit → LevelFile → Option NewFile
+live_at edits at = last_one None (filter_map (left_by at) (flat_map changes edits))
 
 -- the value that edits set last, where one sets it
-abbrev pub last_set : (Edit → Option ℕ) → List Edit → Option ℕ
-last_set field edits = last_or None (filter_map field edits)
+abbrev pub last_set : {A : Type 0} → (Edit → Option A) → List Edit → Option A
+last_set value edits = last_or None (filter_map value edits)
 
--- levels and numbers of files, and the numbers that go with them
+-- a store's files by level and number, and the single values that go with them
 pub record FileSet : Type 0 where
-  pub files : List LevelFile
+  pub file : LevelFile → Option NewFile
+  pub comparator : Option (List ℕ)
   pub log_number : Option ℕ
   pub previous_log : Option ℕ
   pub next_file : Option ℕ
   pub last_sequence : Option ℕ
 
--- The edits, in this order, lead to the set: its files are those that are live, by level and then number, each once.
-pub record LiveAfter (edits : List Edit) (set : FileSet) : Type 0 where
-  pub live : (at : LevelFile) → Contains set.files at ↔ ((file : NewFile) × IsLive edits file × (at ≡ level_file file))
-  pub ordered : IsStrictlySortedBy file_order set.files
-  pub log_number : set.log_number ≡ last_set (λ edit. edit.log_number) edits
-  pub previous_log : set.previous_log ≡ last_set (λ edit. edit.previous_log) edits
-  pub next_file : set.next_file ≡ last_set (λ edit. edit.next_file) edits
-  pub last_sequence : set.last_sequence ≡ last_set (λ edit. edit.last_sequence) edits
+-- what some edits leave
+abbrev pub live_after : List Edit → FileSet
+live_after edits = record {
+  file = live_at edits;
+  comparator = last_set (λ edit. edit.comparator) edits;
+  log_number = last_set (λ edit. edit.log_number) edits;
+  previous_log = last_set (λ edit. edit.previous_log) edits;
+  next_file = last_set (λ edit. edit.next_file) edits;
+  last_sequence = last_set (λ edit. edit.last_sequence) edits;
+}
+
+-- ---- laws
+
+-- the file was added, and no later change is of its level and number
+pub record IsLive (edits : List Edit) (file : NewFile) : Type 0 where
+  pub before : List Change
+  pub later : List Change
+  pub added : flat_map changes edits ≡ before ++ adding file ∷ later
+  pub kept : All (λ change. left_by (level_file file) change ≡ None) later
+
+-- one more edit has made this set of that one
+pub record Applied (edit : Edit) (before after : FileSet) : Type 0 where
+  pub file : (at : LevelFile) → after.file at ≡ last_one (before.file at) (filter_map (left_by at) (changes edit))
+  pub comparator : after.comparator ≡ option_or edit.comparator before.comparator
+  pub log_number : after.log_number ≡ option_or edit.log_number before.log_number
+  pub previous_log : after.previous_log ≡ option_or edit.previous_log before.previous_log
+  pub next_file : after.next_file ≡ option_or edit.next_file before.next_file
+  pub last_sequence : after.last_sequence ≡ option_or edit.last_sequence before.last_sequence
+
+-- edits apply one after another
+abbrev pub AppliesInOrder : Type 0
+AppliesInOrder = (edits : List Edit) (edit : Edit) → Applied edit (live_after edits) (live_after (edits ++ edit ∷ []))
+
+-- a file that is live under its level and number was added there and changed no more, and the other way round
+abbrev pub LiveIsAddedLast : Type 0
+LiveIsAddedLast = (edits : List Edit) (file : NewFile) → (live_at edits (level_file file) ≡ Some file) ↔ IsLive edits file

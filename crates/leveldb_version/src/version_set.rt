@@ -2,6 +2,7 @@
 ghost use Rattle.std.specs.Prelude.{◌≡◌, ◌<◌, ◌^◌, ℕ, List, MatchOption, IfOk, IfErr, string_bytes};
 ghost use Rattle.leveldb_base.specs.Status.{IsOutOfMemory};
 ghost use Rattle.leveldb_base.specs.Names.{IsFileName, file_name, file_path};
+ghost use Rattle.leveldb_version.specs.FileSet.{AppliesInOrder, LiveIsAddedLast};
 ghost use Rattle.leveldb_version.specs.Current.{IsCurrentText, current_text as text_of_current};
 
 use leveldb_base::error::{Result, StatusCode, err};
@@ -81,4 +82,16 @@ fn manifest_number(alloc: Global, name: &str) -> Option<FileNum>
 pub fn current_text_has_one_reading()
     ensures one { (text x y : List ℕ) (m n : ℕ) → IsCurrentText text x m → IsCurrentText text y n → (x ≡ y) × (m ≡ n) }
     ensures written { (n : ℕ) → n < 2 ^ 64 → IsCurrentText (text_of_current n) (file_name FileType.Descriptor n) n }
+{}
+
+/// What edits leave: each applies to what those before it left.
+#[tactic(auto, using(crate::specs::FileSetLaws::applies_in_order))]
+pub fn edits_apply_in_order()
+    ensures { AppliesInOrder }
+{}
+
+/// The files that edits leave are those that were added and changed no more.
+#[tactic(auto, using(crate::specs::FileSetLaws::live_is_added_last))]
+pub fn live_files_were_added_last()
+    ensures { LiveIsAddedLast }
 {}

@@ -1,5 +1,7 @@
 //! The names that a store gives to its manifests, and texts of `CURRENT`.
 use super::*;
+use crate::version_edit::VersionEdit;
+use leveldb_base::types::FileMetaData;
 
 #[test]
 fn made_names(rt: HostRuntime) -> Result<()> {
@@ -58,4 +60,76 @@ fn refused_texts(rt: HostRuntime) {
             Err(status) => assert_eq!(rt; status.code, StatusCode::Corruption, "{text:?}"),
         }
     }
+}
+
+/// The size of the file that is live under a level and a number, by a look at each change in turn.
+fn slow_live(edits: &[VersionEdit], level: usize, number: FileNum) -> Option<usize> {
+    let mut live = None;
+    for edit in edits {
+        if edit.deleted.contains(&(level, number)) {
+            live = None;
+        }
+        for (at, file) in &edit.new_files {
+            if *at == level && file.num == number {
+                live = Some(file.size);
+            }
+        }
+    }
+    live
+}
+
+fn file(number: FileNum, size: usize) -> FileMetaData {
+    let mut file = FileMetaData::default();
+    file.num = number;
+    file.size = size;
+    file
+}
+
+/// A file that is added, deleted and added again, one that is deleted and added by the same edit, one that moves to
+/// the next level, one that is deleted before it is there, and one that is added twice.
+#[test]
+fn live_files(rt: HostRuntime) -> Result<()> {
+    let alloc = rt.alloc();
+    let mut first = VersionEdit::new(alloc);
+    first.add_file(0, file(4, 40))?;
+    first.add_file(0, file(5, 50))?;
+    first.add_file(1, file(6, 60))?;
+    first.delete_file(2, 9)?;
+    let mut second = VersionEdit::new(alloc);
+    second.delete_file(0, 4)?;
+    second.delete_file(0, 5)?;
+    second.add_file(0, file(5, 51))?;
+    second.delete_file(1, 6)?;
+    second.add_file(2, file(6, 60))?;
+    let mut third = VersionEdit::new(alloc);
+    third.add_file(0, file(4, 41))?;
+    third.add_file(2, file(9, 90))?;
+    third.add_file(2, file(9, 91))?;
+    let edits = [first, second, third];
+    let rows = [
+        (0, 4, [Some(40), None, Some(41)]),
+        (0, 5, [Some(50), Some(51), Some(51)]),
+        (1, 6, [Some(60), None, None]),
+        (2, 6, [None, Some(60), Some(60)]),
+        (2, 9, [None, None, Some(91)]),
+        (1, 4, [None, None, None]),
+    ];
+    for (level, number, sizes) in rows {
+        assert_eq!(rt;
+            slow_live(&edits[..1], level, number),
+            sizes[0],
+            "{level} {number}"
+        );
+        assert_eq!(rt;
+            slow_live(&edits[..2], level, number),
+            sizes[1],
+            "{level} {number}"
+        );
+        assert_eq!(rt;
+            slow_live(&edits[..3], level, number),
+            sizes[2],
+            "{level} {number}"
+        );
+    }
+    Ok(())
 }
