@@ -7,7 +7,7 @@ use Rattle.std.proofs.lemmas.List.Elements.{All-nil, All-push}
 use Rattle.std.specs.declared.cmp.Ordering.{Ordering}
 use Rattle.leveldb_table.specs.Block.{Entry, spelling, entry_bytes, key_of, pairs_of, IsShort, SharesFrom, AreEntries, RiseBehind, points_from, restart_points}
 use Rattle.leveldb_table.specs.BlockLaws.{entry_of, same_parts, one_entry, length-entry_bytes-ge, begins, points_after, restart_told, points_left}
-use Rattle.leveldb_table.specs.Reading.{ReadsEntry, numbers_in, key_before, AreParts, Checks}
+use Rattle.leveldb_table.specs.Reading.{ReadsEntry, numbers_in, key_before, CanFollow, AreParts, Checks}
 use Rattle.leveldb_table.specs.Walk.{last_key}
 use Rattle.leveldb_table.proofs.EntryReads.{numbers_more, numbers_none, zero_point, zero_point_only, begins_long}
 use Rattle.leveldb_table.proofs.Sequences.{last_key-append, pairs_of-append, rise_parts, rise_both}
@@ -127,18 +127,6 @@ module _ {accepts : List ℕ → Bool} {cmp : List ℕ → List ℕ → Ordering
           let first = rest_first shared rest value behind read more.0 more.1 in
           (first.0, subst (λ z. IsRest cmp last offset left points_left z) first.1 more.1)
 
-      -- it shares what it may not
-      pub refuses_shared : (SharesFrom last (entry_of (begins offset points_left) shared rest value) → ⊥) → (entries : List Entry) → IsRest cmp None 0 bytes points entries → ⊥
-      refuses_shared none entries r =
-          let more = the_rest entries r in
-          none (rest_tail shared rest value behind read more.0 more.1).0
-
-      -- its key doesn't rise
-      pub refuses_key : (RiseBehind cmp last ((key_of last (entry_of (begins offset points_left) shared rest value), []) ∷ []) → ⊥) → (entries : List Entry) → IsRest cmp None 0 bytes points entries → ⊥
-      refuses_key none entries r =
-          let more = the_rest entries r in
-          none (rest_tail shared rest value behind read more.0 more.1).1
-
       -- one more entry
       pub checked_more : IsShort (entry_of false shared rest value) → SharesFrom last (entry_of (begins offset points_left) shared rest value)
           → RiseBehind cmp last ((key_of last (entry_of (begins offset points_left) shared rest value), []) ∷ [])
@@ -198,33 +186,26 @@ module _ {accepts : List ℕ → Bool} {cmp : List ℕ → List ℕ → Ordering
       pub left_shrinks : length behind < length left
       left_shrinks = omega (arith, behind_shorter, length-entry_bytes-ge (entry_of (begins (length bytes - length left) (numbers_in points_left)) shared rest value))
 
-      pub checks_no_shares : (SharesFrom (key_before first key) (entry_of restart shared rest value) → ⊥) → Checks accepts cmp bytes (numbers_in points) None
-      checks_no_shares none entries parts =
-          refuses_shared now.checked shared rest value behind read
-          (λ h. none (subst (λ z. SharesFrom (key_before first key) (entry_of z shared rest value)) (sym told) h))
-          entries (whole_rest entries (omega (arith, some, now.within)) parts)
+      -- the entry may not stand there
+      pub checks_no_follow : (CanFollow cmp (key_before first key) (entry_of restart shared rest value) → ⊥) → Checks accepts cmp bytes (numbers_in points) None
+      checks_no_follow none entries parts =
+          let more = the_rest now.checked shared rest value behind read entries (whole_rest entries (omega (arith, some, now.within)) parts) in
+          let tail = rest_tail shared rest value behind read more.0 more.1 in
+          none (subst (λ z. CanFollow cmp (key_before first key) (entry_of z shared rest value)) (sym told) (tail.0, tail.1))
 
-      module _ (shares : SharesFrom (key_before first key) (entry_of restart shared rest value)) (next : List ℕ) (put : next ≡ take shared key ++ rest) where
+      module _ (follows : CanFollow cmp (key_before first key) (entry_of restart shared rest value)) (next : List ℕ) (put : next ≡ key_of (key_before first key) (entry_of restart shared rest value)) where
         key_is : next ≡ key_of (key_before first key) (entry_of (begins (length bytes - length left) (numbers_in points_left)) shared rest value)
-        key_is =
-            put ∙ key_put first key (entry_of restart shared rest value) shares
-            ∙ ap (λ z. key_of (key_before first key) (entry_of z shared rest value)) told
+        key_is = put ∙ ap (λ z. key_of (key_before first key) (entry_of z shared rest value)) told
 
-        pub checks_no_rise : (RiseBehind cmp (key_before first key) ((next, []) ∷ []) → ⊥) → Checks accepts cmp bytes (numbers_in points) None
-        checks_no_rise none entries parts =
-            refuses_key now.checked shared rest value behind read
-            (λ h. none (subst (λ z. RiseBehind cmp (key_before first key) ((z, []) ∷ [])) (sym key_is) h))
-            entries (whole_rest entries (omega (arith, some, now.within)) parts)
-
-        pub checking_more : RiseBehind cmp (key_before first key) ((next, []) ∷ []) → (still : Bool) → (still ≡ true → (accepted ≡ true) × (accepts next ≡ true))
+        pub checking_more : (still : Bool) → (still ≡ true → (accepted ≡ true) × (accepts next ≡ true))
             → (points_behind : List ℕ) → numbers_in points_behind ≡ points_after restart (numbers_in points_left)
             → IsChecking accepts cmp bytes points false next behind points_behind still
-        checking_more rises still accepts_it points_behind taken =
+        checking_more still accepts_it points_behind taken =
             let flag = begins (length bytes - length left) (numbers_in points_left) in
             let entry = entry_of flag shared rest value in
             let here = checked_more now.checked shared rest value behind read short
-            (subst (λ z. SharesFrom (key_before first key) (entry_of z shared rest value)) told shares)
-            (subst (λ z. RiseBehind cmp (key_before first key) ((z, []) ∷ [])) key_is rises)
+            (subst (λ z. SharesFrom (key_before first key) (entry_of z shared rest value)) told follows.0)
+            (subst (λ z. RiseBehind cmp (key_before first key) ((key_of (key_before first key) (entry_of z shared rest value), []) ∷ [])) told follows.1)
             still (λ e. let both = accepts_it e in (both.0, subst (λ z. accepts z ≡ true) key_is both.1)) in
             let moved : (length bytes - length left) + length (entry_bytes entry) ≡ length bytes - length behind = omega (arith, behind_shorter, now.within) in
             let pointed = ap (λ z. points_after z (numbers_in points_left)) (sym told) ∙ sym taken in

@@ -5,7 +5,7 @@ use Rattle.std.specs.Borrow.{Bor}
 use Rattle.std.specs.declared.cmp.Ordering.{Ordering}
 use Rattle.byteorder.specs.Endian.{little_number}
 use Rattle.leveldb_base.specs.Varint.{varint}
-use Rattle.leveldb_table.specs.Block.{Entry, spelling, entry_bytes, pairs_of, IsShort, AreEntries, KeysRise, restart_points}
+use Rattle.leveldb_table.specs.Block.{Entry, spelling, entry_bytes, key_of, pairs_of, IsShort, SharesFrom, AreEntries, RiseBehind, KeysRise, restart_points}
 use Rattle.leveldb_table.specs.BlockLaws.{entry_of}
 use Rattle.leveldb_table.specs.declared.block.entry.EntryParts.{EntryParts}
 
@@ -46,6 +46,10 @@ count_at_end bytes = little_number 4 (drop (length bytes - 4) bytes)
 abbrev pub key_before : Bool → List ℕ → Option (List ℕ)
 key_before true key = None
 key_before false key = Some key
+
+-- the entry shares no more than it may with the key before it, and its own key is after that one
+abbrev pub CanFollow : (List ℕ → List ℕ → Ordering) → Option (List ℕ) → Entry → Type 0
+CanFollow cmp last entry = SharesFrom last entry × RiseBehind cmp last ((key_of last entry, []) ∷ [])
 
 -- the bytes and the restart points are those of these entries, whose keys rise strictly
 pub record AreParts (cmp : List ℕ → List ℕ → Ordering) (bytes points : List ℕ) (entries : List Entry) : Type 0 where

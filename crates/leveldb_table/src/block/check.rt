@@ -1,9 +1,9 @@
 //! The check of a block's bytes, in one pass.
 ghost use Rattle.std.specs.Prelude.{◌≡◌, ◌↔◌, All, ◌+◌, ◌*◌, ◌<◌, ◌≤◌, true, length, MatchOption, IsSome, List, [], ◌∷◌, ◌++◌, take, IfOk, OnOk, IfErr, IsTrue};
 ghost use Rattle.leveldb_base.specs.Status.{IsOutOfMemory};
-ghost use Rattle.leveldb_table.specs.Block.{SharesFrom, RiseBehind};
+ghost use Rattle.leveldb_table.specs.Block.{key_of, SharesFrom, RiseBehind};
 ghost use Rattle.leveldb_table.specs.BlockLaws.{begins, points_after};
-ghost use Rattle.leveldb_table.specs.Reading.{entry_in, key_before, numbers_in, count_at_end, Checks};
+ghost use Rattle.leveldb_table.specs.Reading.{entry_in, key_before, CanFollow, numbers_in, count_at_end, Checks};
 
 use crate::block::entry::{EntryParts, begins_at, take_entry};
 use byteorder::{ByteOrder, LittleEndian};
@@ -74,6 +74,26 @@ fn put_key(next: &mut Vec<u8>, key: &[u8], entry: &EntryParts<'_>) -> Result<()>
     Ok(())
 }
 
+// Puts the entry's key together, and tells whether the entry may stand behind the key before it.
+fn put_next<C: Cmp>(
+    cmp: &C,
+    first: bool,
+    restart: bool,
+    key: &[u8],
+    entry: &EntryParts<'_>,
+    next: &mut Vec<u8>,
+) -> Result<bool>
+    ensures follows { IfOk result (λ follows. IsTrue follows ↔ CanFollow (C.cmp cmp.now) (key_before first key.now) (entry_in restart entry.now)) }
+    ensures key { IfOk result (λ follows. follows ≡ true → next.new.items ≡ key_of (key_before first key.now) (entry_in restart entry.now)) }
+    ensures memory { IfErr result IsOutOfMemory }
+{
+    if !shares_within(first, restart, key, entry) {
+        return Ok(false);
+    }
+    put_key(next, key, entry)?;
+    Ok(rises(cmp, first, key, next.as_slice()))
+}
+
 /// Where the entries of a block end and its restart points begin; `None` where it is too short for those that it counts.
 pub(crate) fn entries_end(bytes: &[u8]) -> Option<usize>
     ensures bytes { All (λ byte. byte < 256) bytes.now }
@@ -109,16 +129,10 @@ pub(crate) fn check_parts<C: Cmp>(
             return Ok(None);
         };
         let restart = begins_at(points_left, entries.len() - left.len());
-        let before = key.as_slice();
-        if !shares_within(first, restart, before, &entry) {
+        if !put_next(cmp, first, restart, key.as_slice(), &entry, &mut next)? {
             return Ok(None);
         }
-        put_key(&mut next, before, &entry)?;
-        let now = next.as_slice();
-        if !rises(cmp, first, before, now) {
-            return Ok(None);
-        }
-        accepted = accepts_too(cmp, accepted, now);
+        accepted = accepts_too(cmp, accepted, next.as_slice());
         mem::swap(&mut key, &mut next);
         first = false;
         left = behind;

@@ -1,6 +1,6 @@
 use Rattle.std.proofs.Common.{◌≡◌, ◌<◌, ◌++◌, length, take, ap, ◌∙◌, arith}
 use Rattle.std.proofs.lemmas.Bool.Decides.{nat_tests}
-use Rattle.leveldb_table.proofs.Checking.{checks_empty, checking_none, checks_no_entry, checks_no_shares, checks_no_rise, point_long, left_shrinks, checking_more, checks_whole, checks_no_whole}
+use Rattle.leveldb_table.proofs.Checking.{checks_empty, checking_none, checks_no_entry, checks_no_follow, point_long, left_shrinks, checking_more, checks_whole, checks_no_whole}
 use Rattle.leveldb_table.proofs.block.check.check_parts.Goals as goal
 
 pub returns-then-is_empty-clause-answer : goal.returns-then-is_empty-clause-answer
@@ -16,23 +16,13 @@ returns-in_default-clause-answer g c =
     let some : 0 < length c.loop-left.left.now = grind (arith, nat_tests) in
     checks_no_entry c.loop-left.invariant some c.in_default.ensures
 
-pub returns-then-not-shares_within-clause-answer : goal.returns-then-not-shares_within-clause-answer
-returns-then-not-shares_within-clause-answer g c =
+pub returns-then-not-branch-clause-answer : goal.returns-then-not-branch-clause-answer
+returns-then-not-branch-clause-answer g c =
     let some : 0 < length c.loop-left.left.now = grind (arith, nat_tests) in
-    let shared = rw c.as_slice-before.ensures.value at c.shares_within.ensures in
-    checks_no_shares c.loop-left.invariant some c.in-Some.entry.shared c.in-Some.entry.rest.now c.in-Some.entry.value.now c.in-Some.behind.now c.in-Some.ensures.0 c.in-Some.ensures.1
+    let follows = rw c.as_slice.ensures.value at c.in_ok-put_next.ensures.follows in
+    checks_no_follow c.loop-left.invariant some c.in-Some.entry.shared c.in-Some.entry.rest.now c.in-Some.entry.value.now c.in-Some.behind.now c.in-Some.ensures.0 c.in-Some.ensures.1
     c.begins_at-restart.result c.begins_at-restart.ensures
-    (λ h. let t = shared.1 h in let no = c.if-not-shares_within.true in cc)
-
-pub returns-then-not-rises-clause-answer : goal.returns-then-not-rises-clause-answer
-returns-then-not-rises-clause-answer g c =
-    let some : 0 < length c.loop-left.left.now = grind (arith, nat_tests) in
-    let shared = rw c.as_slice-before.ensures.value at c.shares_within.ensures in
-    let risen = rw (c.as_slice-before.ensures.value, c.as_slice-now.ensures.value) at c.rises.ensures in
-    let put = c.in_ok-put_key.ensures.ok ∙ ap (λ z. take c.in-Some.entry.shared z ++ c.in-Some.entry.rest.now) c.as_slice-before.ensures.value in
-    checks_no_rise c.loop-left.invariant some c.in-Some.entry.shared c.in-Some.entry.rest.now c.in-Some.entry.value.now c.in-Some.behind.now c.in-Some.ensures.0 c.in-Some.ensures.1
-    c.begins_at-restart.result c.begins_at-restart.ensures (shared.0 c.if-not-shares_within.false) c.put_key.new.next.items put
-    (λ h. let t = risen.1 h in let no = c.if-not-rises.true in cc)
+    (λ h. let t = follows.1 h in let no = c.if-not-branch.true in cc)
 
 pub points_behind-points_left-requires : goal.points_behind-points_left-requires
 points_behind-points_left-requires g c =
@@ -48,14 +38,13 @@ loop-left-smaller g c =
 pub loop-left-preserved : goal.loop-left-preserved
 loop-left-preserved g c =
     let some : 0 < length c.loop-left.left.now = grind (arith, nat_tests) in
-    let shared = rw c.as_slice-before.ensures.value at c.shares_within.ensures in
-    let risen = rw (c.as_slice-before.ensures.value, c.as_slice-now.ensures.value) at c.rises.ensures in
-    let still = rw c.as_slice-now.ensures.value at c.accepts_too-accepted.ensures in
-    let put = c.in_ok-put_key.ensures.ok ∙ ap (λ z. take c.in-Some.entry.shared z ++ c.in-Some.entry.rest.now) c.as_slice-before.ensures.value in
+    let follows = rw c.as_slice.ensures.value at c.in_ok-put_next.ensures.follows in
+    let put = rw c.as_slice.ensures.value at (c.in_ok-put_next.ensures.key c.if-not-branch.false) in
+    let still = rw c.as_slice-in-loop-left.ensures.value at c.accepts_too-accepted.ensures in
     rw c.swap.ensures.x_after
     (checking_more c.loop-left.invariant some c.in-Some.entry.shared c.in-Some.entry.rest.now c.in-Some.entry.value.now c.in-Some.behind.now c.in-Some.ensures.0 c.in-Some.ensures.1
-    c.begins_at-restart.result c.begins_at-restart.ensures (shared.0 c.if-not-shares_within.false) c.put_key.new.next.items put
-    (risen.0 c.if-not-rises.false) c.accepts_too-accepted.result still c.points_behind-points_left.result.now c.points_behind-points_left.ensures)
+    c.begins_at-restart.result c.begins_at-restart.ensures (follows.0 c.if-not-branch.false) c.put_next.new.next.items put
+    c.accepts_too-accepted.result still c.points_behind-points_left.result.now c.points_behind-points_left.ensures)
 
 pub returns-then-points_left-ge4-clause-answer : goal.returns-then-points_left-ge4-clause-answer
 returns-then-points_left-ge4-clause-answer g c =
