@@ -18,4 +18,5 @@ pub mod Record
 pub mod Picks
 pub mod Filters
 pub mod Bloom
+pub mod BloomLaws
 pub mod RecordLaws
