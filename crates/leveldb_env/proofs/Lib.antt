@@ -17,3 +17,4 @@ pub mod BloomBits
 pub mod BloomHashes
 pub mod KeyCuts
 pub mod BloomMatches
+pub mod BloomMade
