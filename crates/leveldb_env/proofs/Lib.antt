@@ -18,3 +18,4 @@ pub mod BloomHashes
 pub mod KeyCuts
 pub mod BloomMatches
 pub mod BloomMade
+pub mod KeyStarts

@@ -19,4 +19,5 @@ pub mod Picks
 pub mod Filters
 pub mod Bloom
 pub mod BloomLaws
+pub mod InternalFilters
 pub mod RecordLaws

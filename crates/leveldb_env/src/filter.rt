@@ -7,8 +7,10 @@ use leveldb_base::error::Result;
 use std::alloc::Global;
 
 mod bloom;
+mod internal;
 
 pub use bloom::BloomPolicy;
+pub use internal::InternalFilterPolicy;
 
 /// How a filter is made for keys, and how a key is looked for in it. A key from which a filter was
 /// made matches it; of another key the answer is open.

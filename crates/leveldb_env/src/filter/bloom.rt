@@ -204,6 +204,34 @@ mod tests {
 
     const OFFSETS: &[usize] = &[0, 12, 24, 34];
 
+    // Byte by byte: a byte that isn't there is a zero, and a word of none of the key's bytes isn't hashed.
+    fn slow_hash(key: &[u8]) -> u32 {
+        let mut hash = SEED ^ ((key.len() % (1 << 32)) as u32).wrapping_mul(FACTOR);
+        let words = key.len().div_ceil(4);
+        for word in 0..words {
+            let mut number = 0u32;
+            for place in 0..4 {
+                let byte = key.get(4 * word + place).copied().unwrap_or(0);
+                number = number.wrapping_add(u32::from(byte).wrapping_shl(8 * place as u32));
+            }
+            hash = hash.wrapping_add(number).wrapping_mul(FACTOR);
+            let whole = 4 * word + 4 <= key.len();
+            hash ^= hash >> if whole { 16 } else { 24 };
+        }
+        hash
+    }
+
+    // Whether the key's bits are set, each looked for by its number.
+    fn slow_match(key: &[u8], bits: &[u8], count: u8) -> bool {
+        let len = 8 * bits.len() as u64;
+        let hash = u64::from(slow_hash(key));
+        let delta = (hash << 15 | hash >> 17) % (1 << 32);
+        (0..u64::from(count)).all(|turn| {
+            let bit = (hash + turn * delta) % (1 << 32) % len;
+            bits[(bit / 8) as usize] / (1 << (bit % 8)) % 2 == 1
+        })
+    }
+
     // What others published of the hash.
     #[test]
     fn known_hashes(rt: HostRuntime) {
