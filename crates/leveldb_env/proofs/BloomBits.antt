@@ -1,21 +1,20 @@
 -- Bits set in bytes, one at a time, and bytes that have just the bits that a test picks.
-use Rattle.std.proofs.Common.{◌≡◌, ◌≢◌, ◌⊎◌, ℕ, zero, suc, ◌+◌, ◌-◌, ◌*◌, ◌/◌, ◌%◌, ◌^◌, ◌<◌, ◌≤◌, Bool, true, false, cond, ◌||◌, ◌&&◌, refl, sym, ap, ap₂, ◌∙◌, arith, inl, inr, List, [], ◌∷◌, ◌++◌, length, map, get_or, set, take}
-use Rattle.std.specs.Prelude.{◌==◌, if◌then◌else◌, nat_eq, slice_index}
-use Rattle.std.specs.List.{list_any, list_all, range_with_len}
-use Rattle.std.specs.Int.{w8, w32, rotate_left, bit_at}
+use Rattle.std.proofs.Common.{◌≡◌, ◌≢◌, ℕ, zero, suc, ◌+◌, ◌*◌, ◌/◌, ◌%◌, ◌^◌, ◌<◌, Bool, true, false, cond, ◌||◌, ◌&&◌, refl, sym, ap, ap₂, ◌∙◌, arith, inl, inr, List, [], ◌∷◌, length, get_or, set, take}
+use Rattle.std.specs.Prelude.{◌==◌, if◌then◌else◌}
+use Rattle.std.specs.List.{list_any, list_all}
+use Rattle.std.specs.Int.{w8, bit_at}
 use Rattle.std.specs.Int.Bits.{bit_or, bit_and}
-use Rattle.std.proofs.lemmas.Nat.{or_lt}
 use Rattle.std.proofs.Math.Nat.{pow-suc, zero-mul}
 use Rattle.std.proofs.Math.Pow.{pow-lt}
 use Rattle.std.proofs.lemmas.Nat.{pow_pos}
 use Rattle.std.proofs.lemmas.Nat.Bits.{bit_at-lt, same_from_bits_below, bit_at_set_same, bit_at_set_other, and_pow}
 use Rattle.std.proofs.lemmas.Bool.Decides.{eqb_tells}
 use Rattle.std.proofs.Math.Bool.{or-true, or-false, or_assoc, and-false}
-use Rattle.std.proofs.lemmas.List.{get_or-set_same, get_or-set_other, get_or_default}
+use Rattle.std.proofs.lemmas.List.{get_or-set_same, get_or-set_other}
 use Rattle.std.proofs.lemmas.List.FromFn.{fill_by_all}
-use Rattle.std.proofs.lemmas.List.Folds.{list_any_more, list_all_more}
-use Rattle.leveldb_env.specs.Bloom.{bloom_hash, probes, has_bit, number_with, bytes_with, is_probe}
-use Rattle.leveldb_env.specs.BloomLaws.{bit_at-number_with, length-probes, get_or-probes}
+use Rattle.std.proofs.lemmas.List.Folds.{list_any_more}
+use Rattle.leveldb_env.specs.Bloom.{probes, has_bit, number_with, bytes_with, is_probe}
+use Rattle.leveldb_env.specs.BloomLaws.{bit_at-number_with}
 
 -- a byte with one bit more
 abbrev pub with_bit : List ℕ → ℕ → ℕ
@@ -32,25 +31,27 @@ has_bit-set_same bytes bit below =
 has_bit-set_other : (bytes : List ℕ) (bit other : ℕ) → bit < 8 * length bytes → bit ≢ other
     → has_bit (set bytes (bit / 8) (with_bit bytes bit)) other ≡ has_bit bytes other
 has_bit-set_other bytes bit other below differs = elim (eqb_tells (other / 8) (bit / 8)) [
-    inl same ↦
-        let inside : bit / 8 < length bytes = omega arith
-        in let apart : other % 8 ≢ bit % 8 = λ equal. differs (omega (arith, same.1))
-        in ap (λ i. bit_at (get_or (set bytes (bit / 8) (with_bit bytes bit)) i 0) (other % 8) == 1) same.1
-        ∙ ap (λ byte. bit_at byte (other % 8) == 1) (get_or-set_same bytes (bit / 8) (with_bit bytes bit) 0 inside)
-        ∙ ap (λ n. n == 1) (bit_at_set_other w8 (get_or bytes (bit / 8) 0) (bit % 8) (omega arith) (other % 8) apart)
-        ∙ ap (λ i. bit_at (get_or bytes i 0) (other % 8) == 1) (sym same.1)
-    | inr apart ↦ ap (λ byte. bit_at byte (other % 8) == 1) (get_or-set_other bytes (bit / 8) (other / 8) (with_bit bytes bit) 0 apart.1) ]
+  | inl same ↦
+      let inside : bit / 8 < length bytes = omega arith
+      in let apart : other % 8 ≢ bit % 8 = λ equal. differs (omega (arith, same.1))
+      in ap (λ i. bit_at (get_or (set bytes (bit / 8) (with_bit bytes bit)) i 0) (other % 8) == 1) same.1
+      ∙ ap (λ byte. bit_at byte (other % 8) == 1) (get_or-set_same bytes (bit / 8) (with_bit bytes bit) 0 inside)
+      ∙ ap (λ n. n == 1) (bit_at_set_other w8 (get_or bytes (bit / 8) 0) (bit % 8) (omega arith) (other % 8) apart)
+      ∙ ap (λ i. bit_at (get_or bytes i 0) (other % 8) == 1) (sym same.1)
+  | inr apart ↦ ap (λ byte. bit_at byte (other % 8) == 1) (get_or-set_other bytes (bit / 8) (other / 8) (with_bit bytes bit) 0 apart.1)
+]
 
 -- a bit is set and no other
 pub has_bit-set : (bytes : List ℕ) (bit other : ℕ) → bit < 8 * length bytes
     → has_bit (set bytes (bit / 8) (with_bit bytes bit)) other ≡ (has_bit bytes other || (bit == other))
 has_bit-set bytes bit other below = elim (eqb_tells bit other) [
-    inl same ↦
-        ap (has_bit (set bytes (bit / 8) (with_bit bytes bit))) (sym same.1) ∙ has_bit-set_same bytes bit below
-        ∙ sym (ap (λ b. has_bit bytes other || b) same.0 ∙ or-true (has_bit bytes other))
-    | inr differs ↦
-        has_bit-set_other bytes bit other below differs.1
-        ∙ sym (ap (λ b. has_bit bytes other || b) differs.0 ∙ or-false (has_bit bytes other)) ]
+  | inl same ↦
+      ap (has_bit (set bytes (bit / 8) (with_bit bytes bit))) (sym same.1) ∙ has_bit-set_same bytes bit below
+      ∙ sym (ap (λ b. has_bit bytes other || b) same.0 ∙ or-true (has_bit bytes other))
+  | inr differs ↦
+      has_bit-set_other bytes bit other below differs.1
+      ∙ sym (ap (λ b. has_bit bytes other || b) differs.0 ∙ or-false (has_bit bytes other))
+]
 
 -- the test `byte & (1 << k)` of a bit
 and_bit : (byte k : ℕ) → k < 8 → bit_and byte (1 * 2 ^ k % 2 ^ 8) ≡ bit_at byte k * 2 ^ k
@@ -124,8 +125,8 @@ unfolding bytes_with
 bytes_with-is bytes picks small same =
     fill_by_all (λ i. number_with 8 (λ bit. picks (8 * i + bit))) bytes (length bytes) 0 refl
     (λ k below.
-        same_from_bits_below 8 (get_or bytes k 0) (number_with 8 (λ bit. picks (8 * k + bit))) (small k) (number_with-lt 8 (λ bit. picks (8 * k + bit)))
-        (λ i inside. bit_is bytes picks same k i inside ∙ sym (bit_at-number_with 8 (λ bit. picks (8 * k + bit)) i inside)))
+    same_from_bits_below 8 (get_or bytes k 0) (number_with 8 (λ bit. picks (8 * k + bit))) (small k) (number_with-lt 8 (λ bit. picks (8 * k + bit)))
+    (λ i inside. bit_is bytes picks same k i inside ∙ sym (bit_at-number_with 8 (λ bit. picks (8 * k + bit)) i inside)))
 
 -- one probe more among those that are set
 pub has_bit-more : (before : Bool) (places : List ℕ) (n bit place : ℕ) → n < length places → place ≡ get_or places n 0

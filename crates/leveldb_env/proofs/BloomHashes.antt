@@ -1,12 +1,11 @@
 -- A hash taken by words, and then by the bytes that are left.
-use Rattle.std.proofs.Common.{◌≡◌, ℕ, zero, suc, ◌+◌, ◌-◌, ◌*◌, ◌/◌, ◌%◌, ◌^◌, ◌<◌, ◌≤◌, refl, sym, ap, ap₂, ◌∙◌, arith, List, [], ◌∷◌, ◌++◌, length, take, drop, fold, get_or}
+use Rattle.std.proofs.Common.{◌≡◌, ℕ, zero, suc, ◌+◌, ◌*◌, ◌/◌, ◌%◌, ◌^◌, ◌<◌, ◌≤◌, refl, ap, ap₂, ◌∙◌, arith, List, [], ◌∷◌, ◌++◌, length, drop, fold}
 use Rattle.std.specs.Int.{w32, rotate_left}
 use Rattle.std.specs.Int.Bits.{bit_xor}
 use Rattle.std.proofs.lemmas.Nat.{mul-mod_first}
 use Rattle.std.specs.Simd.{first_chunks}
 use Rattle.byteorder.specs.Endian.{little_number}
-use Rattle.leveldb_env.specs.Bloom.{mixed, hash_behind, bloom_hash, probes}
-use Rattle.leveldb_env.specs.BloomLaws.{get_or-probes}
+use Rattle.leveldb_env.specs.Bloom.{mixed, hash_behind, bloom_hash}
 
 -- the hash behind so many words of four bytes
 pub hash_behind-words : (count hash : ℕ) (text : List ℕ) → count * 4 ≤ length text
@@ -46,7 +45,7 @@ unfolding bloom_hash
 bloom_hash-words key rest words front back =
     ap₂ (λ w r. hash_behind (fold (λ h word. mixed 16 h (little_number 4 word)) (bit_xor 0xbc9f1d34 (length key % 2 ^ 32 * 0xc6a4a793 % 2 ^ 32)) w) r) front back
     ∙ ap (λ n. hash_behind (fold (λ h word. mixed 16 h (little_number 4 word)) (bit_xor 0xbc9f1d34 n) (first_chunks 4 (length key / 4) key)) (drop (length key / 4 * 4) key))
-      (mul-mod_first (length key) 0xc6a4a793 (2 ^ 32))
+    (mul-mod_first (length key) 0xc6a4a793 (2 ^ 32))
     ∙ hash_behind-words (length key / 4) (bit_xor 0xbc9f1d34 (length key * 0xc6a4a793 % 2 ^ 32)) key (omega arith)
 
 -- the hash by which a key's n-th probe goes

@@ -1,5 +1,5 @@
 -- A filter from the bits of its keys, and the refusal of one.
-use Rattle.std.proofs.Common.{◌≡◌, ℕ, zero, suc, ◌+◌, ◌-◌, ◌*◌, ◌/◌, ◌%◌, ◌<◌, Bool, false, ◌||◌, Ok, Err, Result, IfErr, inr, refl, sym, arith, ap, ap₂, ◌∙◌, List, [], ◌∷◌, ◌++◌, length, get_or, replicate, take, drop}
+use Rattle.std.proofs.Common.{◌≡◌, ℕ, zero, suc, ◌-◌, ◌*◌, ◌/◌, ◌%◌, ◌<◌, false, Ok, Err, Result, IfErr, inr, refl, arith, ap, ap₂, ◌∙◌, List, [], ◌∷◌, ◌++◌, length, get_or, replicate, take}
 use Rattle.std.specs.Prelude.{◌==◌, IsErrAnd}
 use Rattle.std.specs.Int.{bit_at}
 use Rattle.std.proofs.lemmas.Nat.Bits.{bit_at-zero}

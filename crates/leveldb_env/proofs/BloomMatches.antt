@@ -1,16 +1,17 @@
 -- Which filters let every key pass, and what the others ask.
-use Rattle.std.proofs.Common.{◌≡◌, ℕ, ◌-◌, ◌*◌, ◌<◌, ◌≤◌, ◌^◌, ◌||◌, Bool, true, false, sym, ap, ap₂, ◌∙◌, refl, List, length, arith}
+use Rattle.std.proofs.Common.{◌≡◌, ℕ, ◌<◌, ◌≤◌, ◌^◌, ◌||◌, Bool, true, false, ap, ◌∙◌, List, length}
 use Rattle.std.specs.Prelude.{nat_le, nat_lt}
 use Rattle.std.specs.List.{list_all}
 use Rattle.std.proofs.Math.Bool.{or-true}
 use Rattle.std.proofs.lemmas.Bool.{le-ltb, lt-ltb, le-leb, lt-leb}
-use Rattle.leveldb_env.specs.Bloom.{probes, has_bit, bits_of, count_in, tells_nothing, bloom_matches}
+use Rattle.leveldb_env.specs.Bloom.{probes, has_bit, bits_of, count_in, bloom_matches}
 
 any_of : (a b c d : Bool) → (a ≡ true → (a || b || c || d) ≡ true) × (b ≡ true → (a || b || c || d) ≡ true) × (c ≡ true → (a || b || c || d) ≡ true)
-any_of a b c d =
-    ( λ h. ap (λ x. x || b || c || d) h,
-      λ h. ap (λ x. a || x || c || d) h ∙ ap (λ x. x || c || d) (or-true a),
-      λ h. ap (λ x. a || b || x || d) h ∙ ap (λ x. x || d) (or-true (a || b)) )
+any_of a b c d = (
+  λ h. ap (λ x. x || b || c || d) h,
+  λ h. ap (λ x. a || x || c || d) h ∙ ap (λ x. x || c || d) (or-true a),
+  λ h. ap (λ x. a || b || x || d) h ∙ ap (λ x. x || d) (or-true (a || b)),
+)
 
 none_of : (a b c d : Bool) → a ≡ false → b ≡ false → c ≡ false → (a || b || c || d) ≡ d
 none_of a b c d ha hb hc = ap (λ x. x || b || c || d) ha ∙ ap (λ x. x || c || d) hb ∙ ap (λ x. x || d) hc

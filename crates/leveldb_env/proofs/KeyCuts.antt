@@ -1,5 +1,5 @@
 -- Keys that offsets cut out of bytes, one at a time.
-use Rattle.std.proofs.Common.{◌≡◌, ℕ, zero, suc, ◌+◌, ◌-◌, ◌<◌, ◌≤◌, refl, sym, ap, ap₂, ◌∙◌, arith, List, [], ◌∷◌, ◌++◌, length, take, drop, get_or}
+use Rattle.std.proofs.Common.{◌≡◌, ℕ, zero, suc, ◌+◌, ◌<◌, ◌≤◌, refl, sym, ap, ◌∙◌, arith, List, [], ◌∷◌, length, drop, get_or}
 use Rattle.std.specs.Prelude.{slice_range}
 use Rattle.leveldb_env.specs.Filters.{first_offset, keys_at}
 

@@ -57,10 +57,10 @@ cuts_behind front (key ∷ keys) =
     in let end : first_offset (starts (length front + length key) keys) (length whole) ≡ length front + length key = first_end (length front + length key) keys (length whole) total
     in let wide : length front + length key - length front ≡ length key = omega arith
     in let first : slice_range whole (length front) (first_offset (starts (length front + length key) keys) (length whole)) ≡ key =
-        ap (λ e. take (e - length front) (drop (length front) whole)) end
-        ∙ ap₂ take wide (drop-append_seam front (key ++ rest)) ∙ take-append_seam key rest
+    ap (λ e. take (e - length front) (drop (length front) whole)) end
+    ∙ ap₂ take wide (drop-append_seam front (key ++ rest)) ∙ take-append_seam key rest
     in let others : keys_at (starts (length front + length key) keys) whole ≡ keys =
-        ap₂ (λ n w. keys_at (starts n keys) w) (sym (length-append front key)) (sym (append_assoc front key rest)) ∙ cuts_behind (front ++ key) keys
+    ap₂ (λ n w. keys_at (starts n keys) w) (sym (length-append front key)) (sym (append_assoc front key rest)) ∙ cuts_behind (front ++ key) keys
     in ap₂ (λ k ks. k ∷ ks) first others
 
 -- the keys are cut out again

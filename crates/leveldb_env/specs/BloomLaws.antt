@@ -1,7 +1,7 @@
 -- A key of which a Bloom filter was made matches it.
-use Rattle.std.proofs.Common.{◌≡◌, ℕ, zero, suc, ◌+◌, ◌-◌, ◌*◌, ◌/◌, ◌%◌, ◌^◌, ◌<◌, ◌≤◌, Bool, true, false, cond, ◌||◌, refl, sym, ap, ap₂, ◌∙◌, arith, List, [], ◌∷◌, ◌++◌, length, map, get_or}
-use Rattle.std.specs.Prelude.{Contains, ◌==◌, if◌then◌else◌, max}
-use Rattle.std.specs.List.{list_any, list_all, range_with_len, All, Any, AllPass}
+use Rattle.std.proofs.Common.{◌≡◌, ℕ, zero, suc, ◌+◌, ◌-◌, ◌*◌, ◌/◌, ◌%◌, ◌^◌, ◌<◌, Bool, true, false, cond, refl, ap, ap₂, ◌∙◌, arith, List, [], ◌∷◌, ◌++◌, length, get_or}
+use Rattle.std.specs.Prelude.{Contains, ◌==◌, if◌then◌else◌}
+use Rattle.std.specs.List.{list_any, list_all}
 use Rattle.std.specs.Int.{w32, rotate_left, bit_at}
 use Rattle.std.proofs.lemmas.Nat.Bits.{bit_at_lowest, bit_at-suc}
 use Rattle.std.proofs.lemmas.Bool.{or_right, eq-eqb}
@@ -63,7 +63,7 @@ has_bit-bytes_with len picks rest bit below =
     let inside : bit / 8 < len = omega arith
     in let within : bit / 8 < length (bytes_with len picks) = omega (arith, length-bytes_with len picks)
     in let byte : get_or (bytes_with len picks ++ rest) (bit / 8) 0 ≡ number_with 8 (λ j. picks (8 * (bit / 8) + j)) =
-        get_or-append (bytes_with len picks) rest 0 (bit / 8) within ∙ get_or-bytes_with len picks (bit / 8) inside
+    get_or-append (bytes_with len picks) rest 0 (bit / 8) within ∙ get_or-bytes_with len picks (bit / 8) inside
     in let parts : 8 * (bit / 8) + bit % 8 ≡ bit = omega arith
     in ap (λ n. bit_at n (bit % 8) == 1) byte
     ∙ ap (λ n. n == 1) (bit_at-number_with 8 (λ j. picks (8 * (bit / 8) + j)) (bit % 8) (omega arith) ∙ ap (λ n. cond (picks n) 1 0) parts)
@@ -75,14 +75,14 @@ pub is_probe-Contains : (bits count : ℕ) (keys : List (List ℕ)) (key : List 
 is_probe-Contains bits count keys key n d there below =
     let probe = get_or (probes bits count key) n d
     in let here : list_any (λ p. p == probe) (probes bits count key) ≡ true =
-        list_any-from_Any (λ p. p == probe) (probes bits count key) (n, probe, below, get_or_default (probes bits count key) n probe d below, eq-eqb probe probe refl)
+    list_any-from_Any (λ p. p == probe) (probes bits count key) (n, probe, below, get_or_default (probes bits count key) n probe d below, eq-eqb probe probe refl)
     in list_any-from_Any (λ k. list_any (λ p. p == probe) (probes bits count k)) keys (there.0, key, there.1, there.2, here)
 
 pub probes-lt : (bits count : ℕ) (key : List ℕ) (n : ℕ) (d : ℕ) → 0 < bits → n < length (probes bits count key) → get_or (probes bits count key) n d < bits
 probes-lt bits count key n d some below =
     let counted : n < count = omega (arith, length-probes bits count key)
     in let place : get_or (probes bits count key) n d ≡ (bloom_hash key + n * rotate_left w32 (bloom_hash key) 15) % 2 ^ 32 % bits =
-        get_or_default (probes bits count key) n d 0 below ∙ get_or-probes bits count key n counted
+    get_or_default (probes bits count key) n d 0 below ∙ get_or-probes bits count key n counted
     in omega (arith, place)
 
 -- each probe of a key of some keys is set in the bytes of their probes
@@ -91,8 +91,8 @@ probes_set : (len count : ℕ) (keys : List (List ℕ)) (key rest : List ℕ) �
 probes_set len count keys key rest some there =
     list_all-from_AllPass (has_bit (bytes_with len (is_probe (8 * len) count keys) ++ rest)) (probes (8 * len) count key)
     (λ n d below.
-        has_bit-bytes_with len (is_probe (8 * len) count keys) rest (get_or (probes (8 * len) count key) n d) (probes-lt (8 * len) count key n d (omega arith) below)
-        ∙ is_probe-Contains (8 * len) count keys key n d there below)
+    has_bit-bytes_with len (is_probe (8 * len) count keys) rest (get_or (probes (8 * len) count key) n d) (probes-lt (8 * len) count key n d (omega arith) below)
+    ∙ is_probe-Contains (8 * len) count keys key n d there below)
 
 -- the count of probes stands behind the bytes
 pub count_in-behind : (bytes : List ℕ) (count : ℕ) → count_in (bytes ++ count ∷ []) ≡ count

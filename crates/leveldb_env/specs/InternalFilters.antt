@@ -1,5 +1,5 @@
 -- Filters of internal keys: users' keys that find themselves in a filter are found by their internal keys.
-use Rattle.std.proofs.Common.{◌≡◌, ℕ, ◌<◌, Bool, true, sym, ap, ◌∙◌, arith, List, length, map, get_or}
+use Rattle.std.proofs.Common.{◌≡◌, ℕ, Bool, true, ap, ◌∙◌, arith, List, map}
 use Rattle.std.specs.Prelude.{Contains}
 use Rattle.std.proofs.lemmas.List.{length-map, get_or-map}
 use Rattle.leveldb_base.specs.Keys.{user_part}

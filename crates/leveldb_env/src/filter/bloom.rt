@@ -204,35 +204,39 @@ mod tests {
 
     const OFFSETS: &[usize] = &[0, 12, 24, 34];
 
-    // Byte by byte: a byte that isn't there is a zero, and a word of none of the key's bytes isn't hashed.
+    // The hash by the bytes of each word, from the last on.
     fn slow_hash(key: &[u8]) -> u32 {
-        let mut hash = SEED ^ ((key.len() % (1 << 32)) as u32).wrapping_mul(FACTOR);
-        let words = key.len().div_ceil(4);
-        for word in 0..words {
+        let mut hash = SEED ^ FACTOR.wrapping_mul((key.len() % (1 << 32)) as u32);
+        for word in key.chunks(4) {
             let mut number = 0u32;
-            for place in 0..4 {
-                let byte = key.get(4 * word + place).copied().unwrap_or(0);
-                number = number.wrapping_add(u32::from(byte).wrapping_shl(8 * place as u32));
+            for byte in word.iter().rev() {
+                number = number.wrapping_mul(256).wrapping_add(u32::from(*byte));
             }
             hash = hash.wrapping_add(number).wrapping_mul(FACTOR);
-            let whole = 4 * word + 4 <= key.len();
-            hash ^= hash >> if whole { 16 } else { 24 };
+            hash ^= if word.len() == 4 {
+                hash >> 16
+            } else {
+                hash >> 24
+            };
         }
         hash
     }
 
-    // Whether the key's bits are set, each looked for by its number.
-    fn slow_match(key: &[u8], bits: &[u8], count: u8) -> bool {
-        let len = 8 * bits.len() as u64;
+    // Whether so many bits of the key are set in these bytes, each found by its number.
+    fn slow_match(key: &[u8], bytes: &[u8], count: u8) -> bool {
         let hash = u64::from(slow_hash(key));
-        let delta = (hash << 15 | hash >> 17) % (1 << 32);
-        (0..u64::from(count)).all(|turn| {
-            let bit = (hash + turn * delta) % (1 << 32) % len;
-            bits[(bit / 8) as usize] / (1 << (bit % 8)) % 2 == 1
-        })
+        let delta = hash * 0x8000 % 0x1_0000_0000 + hash / 0x2_0000;
+        let bits = (bytes.len() as u64).wrapping_mul(8).max(1);
+        let mut found = true;
+        for turn in 0..u64::from(count) {
+            let bit = hash.wrapping_add(turn.wrapping_mul(delta)) % 0x1_0000_0000 % bits;
+            let byte = bytes.get((bit / 8) as usize).copied().unwrap_or(0);
+            found &= byte >> (bit % 8) & 1 == 1;
+        }
+        found
     }
 
-    // What others published of the hash.
+    // These hashes are LevelDB's.
     #[test]
     fn known_hashes(rt: HostRuntime) {
         assert_eq!(rt; bloom_hash(b""), 0xbc9f_1d34);
@@ -243,10 +247,98 @@ mod tests {
     }
 
     #[test]
-    fn known_filter(rt: HostRuntime) -> Result<()> {
+    fn every_length_is_hashed_by_words(rt: HostRuntime) {
+        for len in 0..KEYS.len() + 1 {
+            assert_eq!(rt;
+                bloom_hash(&KEYS[..len]),
+                slow_hash(&KEYS[..len]),
+                "length {len}"
+            );
+        }
+    }
+
+    // The crate's tests have the two filters.
+    #[test]
+    fn known_filters(rt: HostRuntime) -> Result<()> {
         let policy = BloomPolicy::new(12);
+        assert_eq!(rt; policy.name(), "leveldb.BuiltinBloomFilter2");
         let filter = policy.create_filter(rt.alloc(), KEYS, OFFSETS)?;
-        assert_eq!(rt; filter.as_slice(), [194, 148, 129, 140, 192, 196, 132, 164, 8].as_slice());
+        assert_eq!(rt;
+            filter.as_slice(),
+            [194, 148, 129, 140, 192, 196, 132, 164, 8].as_slice()
+        );
+        for key in [b"abc123def456", b"xxx111xxx222"] {
+            assert!(rt; policy.key_may_match(key, &filter));
+        }
+        assert!(rt; policy.key_may_match(b"908070605040302010", &filter));
+        assert!(rt; policy.key_may_match(b"ab00cd00ab", &filter));
+        assert!(rt; !policy.key_may_match(b"ab00cd00ac", &filter));
+        let policy = BloomPolicy::new(32);
+        let filter = policy.create_filter(
+            rt.alloc(),
+            b"abcdefghijklmnopqrstuvwxyz",
+            &[0, 4, 8, 12],
+        )?;
+        let bytes = [
+            234, 195, 25, 155, 61, 141, 173, 140, 221, 28, 222, 92, 220, 112, 234, 227, 22,
+        ];
+        assert_eq!(rt; filter.as_slice(), bytes.as_slice());
         Ok(())
+    }
+
+    #[test]
+    fn bits_are_those_of_the_keys(rt: HostRuntime) -> Result<()> {
+        for bits_per_key in [0, 1, 2, 10, 14, 15, 16, 32, 43, 44, 100] {
+            let policy = BloomPolicy::new(bits_per_key);
+            let filter = policy.create_filter(rt.alloc(), KEYS, OFFSETS)?;
+            let Some((count, bits)) = filter.split_last() else {
+                panic!(rt; "no count");
+            };
+            for i in 0..OFFSETS.len() {
+                assert!(rt; slow_match(key_at(KEYS, OFFSETS, i), bits, *count));
+            }
+            for len in 0..KEYS.len() + 1 {
+                let key = &KEYS[..len];
+                assert_eq!(rt;
+                    policy.key_may_match(key, &filter),
+                    slow_match(key, bits, *count)
+                );
+            }
+        }
+        Ok(())
+    }
+
+    #[test]
+    fn filters_that_tell_nothing(rt: HostRuntime) -> Result<()> {
+        let policy = BloomPolicy::new(10);
+        let rows: [(&[u8], bool); 7] = [
+            (&[], true),
+            (&[6], true),
+            (&[0, 0, 31], true),
+            (&[0, 0, 255], true),
+            (&[0, 0, 0], true),
+            (&[0, 0, 30], false),
+            (&[0, 1], false),
+        ];
+        for (filter, matches) in rows {
+            assert_eq!(rt; policy.key_may_match(b"abc", filter), matches, "{filter:?}");
+        }
+        let none = policy.create_filter(rt.alloc(), b"", &[])?;
+        assert_eq!(rt; none.as_slice(), [0, 0, 0, 0, 0, 0, 0, 0, 6].as_slice());
+        Ok(())
+    }
+
+    #[test]
+    fn filters_past_32_bits_are_refused(rt: HostRuntime) {
+        for (bits_per_key, offsets) in [(u32::MAX, &[0][..]), (u32::MAX / 3, &[0, 0, 0, 0][..])] {
+            let Err(status) = BloomPolicy::new(bits_per_key).create_filter(
+                rt.alloc(),
+                b"abc",
+                offsets,
+            ) else {
+                panic!(rt; "a filter of {bits_per_key} bits a key");
+            };
+            assert_eq!(rt; status.code, StatusCode::NotSupported);
+        }
     }
 }

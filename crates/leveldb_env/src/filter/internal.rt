@@ -106,7 +106,10 @@ mod tests {
         let policy = InternalFilterPolicy::new(BloomPolicy::new(12));
         assert_eq!(rt; policy.name(), "leveldb.BuiltinBloomFilter2");
         let filter = policy.create_filter(rt.alloc(), KEYS, OFFSETS)?;
-        assert_eq!(rt; filter.as_slice(), [194, 148, 129, 140, 192, 196, 132, 164, 8].as_slice());
+        assert_eq!(rt;
+            filter.as_slice(),
+            [194, 148, 129, 140, 192, 196, 132, 164, 8].as_slice()
+        );
         for key in [b"xxx111xxx222________", b"xxx111xxx222other wo"] {
             assert!(rt; policy.key_may_match(key, &filter));
         }

@@ -1,4 +1,4 @@
-use Rattle.std.proofs.Common.{◌≡◌, ◌*◌, ◌<◌, ◌||◌, ℕ, List, length, take}
+use Rattle.std.proofs.Common.{◌≡◌, ◌*◌, ◌||◌, ℕ, List, length, take}
 use Rattle.std.specs.Prelude.{◌==◌}
 use Rattle.std.specs.List.{list_any}
 use Rattle.std.specs.Int.{w32, rotate_left}

@@ -17,8 +17,10 @@ loop-i-preserved c =
     in let more : map user_part (take (c.loop-i.i + 1) keys) ≡ users ++ user ∷ [] = map_more user_part keys c.loop-i.i [] there
     in let key : c.user_key.result.now ≡ user = c.user_key.ensures ∙ ap user_part c.key_at.ensures
     in let begins : c.len.result ≡ 0 + length (concat users) = omega (arith, c.len.ensures, c.loop-i.users.ok, ap length c.loop-i.invariant.0)
-    in ( c.in_ok-extend_from_slice.ensures.items ∙ ap₂ (λ a b. a ++ b) c.loop-i.invariant.0 key ∙ sym (ap concat more ∙ concat-more users user),
-      c.in_ok-push.ensures.items ∙ ap₂ (λ a n. a ++ n ∷ []) c.loop-i.invariant.1 begins ∙ sym (ap (starts 0) more ∙ starts-more 0 users user) )
+    in (
+      c.in_ok-extend_from_slice.ensures.items ∙ ap₂ (λ a b. a ++ b) c.loop-i.invariant.0 key ∙ sym (ap concat more ∙ concat-more users user),
+      c.in_ok-push.ensures.items ∙ ap₂ (λ a n. a ++ n ∷ []) c.loop-i.invariant.1 begins ∙ sym (ap (starts 0) more ∙ starts-more 0 users user),
+    )
 
 pub returns-clause-keys : goal.returns-clause-keys
 returns-clause-keys c =
@@ -36,5 +38,5 @@ pub returns-clause-within : goal.returns-clause-within
 returns-clause-within c =
     let users = map user_part (take c.loop-i.i (keys_at c.args.key_offsets.now c.args.keys.now))
     in let within : All (λ offset. offset ≤ length (concat users)) c.loop-i.offsets.items =
-        subst (λ (offsets : List ℕ). All (λ offset. offset ≤ length (concat users)) offsets) (sym c.loop-i.invariant.1) (starts-within users)
+    subst (λ (offsets : List ℕ). All (λ offset. offset ≤ length (concat users)) offsets) (sym c.loop-i.invariant.1) (starts-within users)
     in subst (λ (bytes : List ℕ). All (λ offset. offset ≤ length bytes) c.loop-i.offsets.items) (sym c.loop-i.invariant.0) within
