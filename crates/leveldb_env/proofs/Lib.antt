@@ -16,3 +16,9 @@ pub mod PickLaws
 pub mod JoinedTexts
 pub mod FilterBlocks
 pub mod FilterBuilds
+pub mod BloomBits
+pub mod BloomHashes
+pub mod KeyCuts
+pub mod BloomMatches
+pub mod BloomMade
+pub mod KeyStarts

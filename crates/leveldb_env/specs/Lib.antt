@@ -21,4 +21,7 @@ pub mod FilterBlock
 pub mod FilterBlockParts
 pub mod FilterBlockLaws
 pub mod JoinedKeys
+pub mod Bloom
+pub mod BloomLaws
+pub mod InternalFilters
 pub mod RecordLaws
