@@ -13,3 +13,4 @@ pub mod Appends
 pub mod Picks
 pub mod Leaving
 pub mod PickLaws
+pub mod CoderLists

@@ -17,4 +17,5 @@ pub mod Journal
 pub mod Record
 pub mod Picks
 pub mod Filters
+pub mod Coders
 pub mod RecordLaws
