@@ -22,3 +22,4 @@ pub mod KeyCuts
 pub mod BloomMatches
 pub mod BloomMade
 pub mod KeyStarts
+pub mod CoderLists

@@ -24,4 +24,5 @@ pub mod JoinedKeys
 pub mod Bloom
 pub mod BloomLaws
 pub mod InternalFilters
+pub mod Coders
 pub mod RecordLaws

@@ -1,6 +1,7 @@
 //! What a store is opened with.
 ghost use Rattle.std.specs.Prelude.{◌≡◌, true};
 
+use crate::compressor::{CompressorId, NoneCompressor};
 use crate::filter::NoFilterPolicy;
 use leveldb_base::cmp::DefaultCmp;
 
@@ -13,12 +14,19 @@ pub struct Options<C, FP> {
 
     /// How many entries of a block lie between the starts of two restart points, at least 1.
     pub block_restart_interval: usize,
+
+    /// How many bytes a block of a table has at least before the next one begins, at least 1.
+    pub block_size: usize,
+
+    /// The id of the coder by which blocks are stored.
+    pub compressor: u8,
 }
 
-/// LevelDB's order of bytes and no filters; a missing store is created, and every sixteenth entry of a block is a
-/// restart point.
+/// LevelDB's order of bytes and no filters; a missing store is created, every sixteenth entry of a block is a restart
+/// point, a block has 4096 bytes, and blocks are stored as they are.
 impl Default for Options<DefaultCmp, NoFilterPolicy> {
-    ghost is_default = { λ options. (options.create_if_missing ≡ true) × (options.block_restart_interval ≡ 16) };
+    ghost is_default = { λ options. (options.create_if_missing ≡ true) × (options.block_restart_interval ≡ 16)
+        × (options.block_size ≡ 4096) × (options.compressor ≡ 0) };
 
     fn default() -> Options<DefaultCmp, NoFilterPolicy> {
         Options {
@@ -26,6 +34,8 @@ impl Default for Options<DefaultCmp, NoFilterPolicy> {
             filter_policy: NoFilterPolicy::new(),
             create_if_missing: true,
             block_restart_interval: 16,
+            block_size: 4096,
+            compressor: NoneCompressor::ID,
         }
     }
 }
@@ -42,6 +52,8 @@ mod tests {
         assert_eq!(rt; options.cmp.id(), "leveldb.BytewiseComparator");
         assert_eq!(rt; options.filter_policy.name(), "_");
         assert!(rt; options.create_if_missing);
+        assert_eq!(rt; options.block_size, 4096);
         assert_eq!(rt; options.block_restart_interval, 16);
+        assert_eq!(rt; options.compressor, 0);
     }
 }
