@@ -1,3 +1,4 @@
 pub mod FieldReads
 pub mod Decoding
 pub mod Encoding
+mod EditRows
