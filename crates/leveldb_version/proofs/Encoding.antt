@@ -1,5 +1,5 @@
 -- What putting an edit's fields, one behind the other, makes.
-use Rattle.std.proofs.Common.{◌≡◌, ℕ, ◌^◌, ◌<◌, List, [], ◌∷◌, ◌++◌, flat_map, map, Option, Some, None, IfSome, IsUtf8, refl, sym, ◌∙◌, ap, subst, append_assoc, ◌+◌, length, take, get_or}
+use Rattle.std.proofs.Common.{◌≡◌, ℕ, ◌^◌, ◌<◌, List, [], ◌∷◌, ◌++◌, flat_map, map, Option, Some, None, IfSome, IsUtf8, sym, ◌∙◌, ap, subst, append_assoc, ◌+◌, length, take, get_or}
 use Rattle.std.proofs.lemmas.List.{append-nil, take_more}
 use Rattle.std.proofs.lemmas.List.Concat.{flat_map-append}
 use Rattle.std.proofs.lemmas.List.Folds.{flat_map-map}
@@ -11,7 +11,7 @@ use Rattle.std.specs.Option.{option_map, option_to_list}
 use Rattle.std.specs.Prelude.{String, string_bytes}
 use Rattle.std.specs.declared.alloc.Global.{Global}
 use Rattle.leveldb_base.specs.Varint.{varint}
-use Rattle.leveldb_version.specs.Edit.{Edit, Field, LevelFile, NewFile, comparator_is, log_is, previous_log_is, next_file_is, last_sequence_is, points, deletes, adds, field_bytes, FieldFits, fields_of, edit_bytes, HasLevels, CanWrite, IsEdit, file_order}
+use Rattle.leveldb_version.specs.Edit.{Edit, Field, comparator_is, log_is, previous_log_is, next_file_is, last_sequence_is, points, deletes, adds, field_bytes, FieldFits, fields_of, edit_bytes, HasLevels, CanWrite, IsEdit, file_order}
 use Rattle.leveldb_version.specs.EditLaws.{written_is_read}
 
 -- what is put behind some bytes, and fields behind it

@@ -2,3 +2,4 @@ pub mod CurrentReads
 pub mod FieldReads
 pub mod Decoding
 pub mod Encoding
+mod EditRows

@@ -1,11 +1,10 @@
 -- The same bytes are one edit only, and what is written for an edit is that edit.
-use Rattle.std.proofs.Common.{◌≡◌, ℕ, ◌+◌, ◌≤◌, List, [], ◌∷◌, ◌++◌, length, flat_map, map, fold, Option, Some, None, refl, sym, ◌∙◌, ap, subst, arith, append_assoc, length-append}
+use Rattle.std.proofs.Common.{◌≡◌, ℕ, ◌≤◌, List, [], ◌∷◌, ◌++◌, length, flat_map, map, fold, Option, Some, None, refl, sym, ◌∙◌, ap, subst, arith, append_assoc, length-append}
 use Rattle.std.specs.List.{filter_map, cons_option, last_or, AllByRecursion}
 use Rattle.std.specs.List.Sorted.{IsStrictlySortedBy}
 use Rattle.std.specs.Option.{option_to_list}
-use Rattle.std.specs.declared.cmp.Ordering.{Ordering}
-use Rattle.std.specs.declared.cmp.Ordering.TheVariants.{Less, Equal, Greater}
-use Rattle.std.specs.Ordering.{ordering_reverse, match_ordering, nat_cmp, ordering_then}
+use Rattle.std.specs.declared.cmp.Ordering.TheVariants.{Less, Greater}
+use Rattle.std.specs.Ordering.{ordering_reverse, match_ordering}
 use Rattle.std.specs.Cmp.{IsTotalOrder, nat_cmp_total, on_total, then_total}
 use Rattle.std.specs.BTreeSet.{insert_key}
 use Rattle.std.proofs.lemmas.List.{append-nil}
@@ -14,7 +13,7 @@ use Rattle.std.proofs.lemmas.List.Sums.{fold-append}
 use Rattle.leveldb_base.specs.Varint.{varint, sized}
 use Rattle.leveldb_base.specs.VarintLaws.{one_number, one_sized}
 use Rattle.leveldb_version.specs.EditReading.{with_field}
-use Rattle.leveldb_version.specs.Edit.{Pointer, NewFile, LevelFile, Edit, Field, comparator_is, log_is, previous_log_is, next_file_is, last_sequence_is, points, deletes, adds, field_bytes, comparator_in, log_in, previous_log_in, next_file_in, last_sequence_in, pointer_in, deleted_in, added_in, last_value, file_order, files_in_order, edit_of_fields, IsEdit, fields_of, edit_bytes, CanWrite, OneEdit, WrittenIsRead}
+use Rattle.leveldb_version.specs.Edit.{Pointer, NewFile, LevelFile, Edit, Field, comparator_is, log_is, previous_log_is, next_file_is, last_sequence_is, points, deletes, adds, field_bytes, comparator_in, log_in, previous_log_in, next_file_in, last_sequence_in, pointer_in, deleted_in, added_in, last_value, file_order, files_in_order, edit_of_fields, fields_of, edit_bytes, OneEdit, WrittenIsRead}
 
 -- ---- the same bytes are one edit only
 

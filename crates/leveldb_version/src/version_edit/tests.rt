@@ -138,31 +138,30 @@ fn malformed(rt: HostRuntime) {
     }
 }
 
-/// A cut or raised edit is refused, or is another edit that is written and read again.
+/// A cut or raised edit is refused, or is another edit that is written and read again. Twelve cuts stand between fields.
 #[test]
 fn cut_or_raised(rt: HostRuntime) -> Result<()> {
     let alloc = rt.alloc();
     let whole = full(alloc)?.encode(alloc)?;
-    let mut read = 0;
+    let mut read = Vec::new(alloc);
     for place in 0..whole.len() {
         let mut raised = Vec::from_slice(alloc, &whole)?;
         if let Some(byte) = raised.get_mut(place) {
             *byte = byte.wrapping_add(1);
         }
         for bytes in [&whole[..place], raised.as_slice()] {
-            let Ok(edit) = VersionEdit::decode_from(alloc, bytes) else {
-                continue;
-            };
-            let written = edit.encode(alloc)?;
-            assert_eq!(rt;
-                again(alloc, &written)?.as_slice(),
-                written.as_slice(),
-                "{place}"
-            );
-            read = (read + 1) % 1000;
+            if let Ok(edit) = VersionEdit::decode_from(alloc, bytes) {
+                let written = edit.encode(alloc)?;
+                assert_eq!(rt;
+                    again(alloc, &written)?.as_slice(),
+                    written.as_slice(),
+                    "{place}"
+                );
+                read.push(place)?;
+            }
         }
     }
-    assert!(rt; read > 20);
+    assert!(rt; read.len() > 12);
     Ok(())
 }
 

@@ -1,6 +1,4 @@
-use Rattle.std.proofs.Common.{◌∙◌, arith, ap, ◌++◌}
 use Rattle.std.proofs.lemmas.List.{take_rest}
-use Rattle.leveldb_base.specs.Varint.{varint}
 use Rattle.leveldb_base.specs.VarintLaws.{read_number}
 use Rattle.leveldb_version.proofs.version_edit.fields.take_number.Goals as goal
 
