@@ -17,7 +17,11 @@ use leveldb_mem::write_batch::WriteBatch;
 use std::alloc::Global;
 
 /// What the batches of a log's records say, one after another.
-pub(crate) fn replay<C: UserCmp + Copy>(alloc: Global, cmp: C, records: &[Vec<u8>]) -> Result<Recent<C>>
+pub(crate) fn replay<C: UserCmp + Copy>(
+    alloc: Global,
+    cmp: C,
+    records: &[Vec<u8>],
+) -> Result<Recent<C>>
     ensures ok { IfOk result (λ recent. IsReplayed (map (λ v. v.items) records.now) recent) }
     ensures cause { IfErr result (λ status. IsOutOfMemory status ⊎ IsDamaged (map (λ v. v.items) records.now) status) }
 {
