@@ -1,12 +1,9 @@
 -- What the reading of a name and of text says of the text of `CURRENT`.
-use Rattle.std.proofs.Common.{◌≡◌, ℕ, ◌-◌, List, Option, Some, None, Result, Ok, Err, MatchResult, length, take, sym, ap, subst}
+use Rattle.std.proofs.Common.{◌≡◌, ℕ, List, Some, None, Result, Ok, Err, MatchResult, subst}
 use Rattle.std.specs.Result.{result_ok}
 use Rattle.leveldb_base.specs.Names.{IsFileName, ReadsName}
 use Rattle.leveldb_base.specs.declared.error.Status.{Status}
 use Rattle.leveldb_base.specs.declared.types.FileType.{FileType}
-use Rattle.leveldb_base.specs.declared.types.FileType.TheVariants.{Descriptor}
-use Rattle.leveldb_version.specs.Current.{IsCurrentText}
-use Rattle.leveldb_version.specs.CurrentLaws.{line_is_name, manifest_name_is_utf8}
 
 -- a result that is kept only where it is Ok
 pub kept_ok : {X E : Type 0} (r : Result X E) (P : X → Type 0) (Q : E → Type 0) (x : X) → MatchResult r P Q → Some x ≡ result_ok r → P x

@@ -1,12 +1,12 @@
 -- Edits apply one after another, and a live file is one that was added and changed no more.
-use Rattle.std.proofs.Common.{◌≡◌, ◌⊎◌, ◌↔◌, inl, inr, if◌then◌else◌, List, [], ◌∷◌, ◌++◌, Option, None, Some, All, Bool, true, false, refl, sym, ◌∙◌, ap, append-nil, rules}
+use Rattle.std.proofs.Common.{◌≡◌, ◌⊎◌, inl, inr, if◌then◌else◌, List, [], ◌∷◌, ◌++◌, Option, None, Some, All, Bool, true, false, refl, sym, ◌∙◌, ap, append-nil, rules}
 use Rattle.std.specs.Prelude.{flat_map}
 use Rattle.std.specs.List.{filter_map, cons_option, last_or}
 use Rattle.std.specs.Option.{option_or}
 use Rattle.std.proofs.lemmas.List.Elements.{filter_map-append, All-nil, All-cons, All-head, All-tail}
 use Rattle.std.proofs.lemmas.Grind.{flat_map-append}
 use Rattle.leveldb_version.specs.Edit.{LevelFile, NewFile, Edit}
-use Rattle.leveldb_version.specs.FileSet.{Change, deleting, adding, changes, level_file, is_same_file, left_by, last_one, live_at, last_set, FileSet, live_after, IsLive, Applied, AppliesInOrder, LiveIsAddedLast}
+use Rattle.leveldb_version.specs.FileSet.{Change, deleting, adding, changes, level_file, is_same_file, left_by, last_one, live_at, last_set, IsLive, AppliesInOrder, LiveIsAddedLast}
 
 -- ---- edits one after another
 
