@@ -1,12 +1,12 @@
 //! Bloom filters: each key sets some bits, and a key of which all are set may be one of those.
 //!
 //! A filter is its bits, eight a byte from the lowest on, and in one more byte how many of them stand for a key.
-ghost use Rattle.std.specs.Prelude.{◌≡◌, ◌==◌, ◌||◌, ◌*◌, ◌^◌, ◌<◌, ◌≤◌, ℕ, List, IfOk, IfErr, All, MatchOption, length, fold, slice_index};
+ghost use Rattle.std.specs.Prelude.{◌≡◌, ◌==◌, ◌||◌, false, ◌*◌, ◌^◌, ◌<◌, ◌≤◌, ℕ, List, IfOk, IfErr, All, MatchOption, length, fold, slice_index};
 ghost use Rattle.std.specs.List.{list_all, list_any};
 ghost use Rattle.std.specs.List.Sorted.{IsNonDecreasing};
 ghost use Rattle.byteorder.specs.Endian.{little_number};
 ghost use Rattle.leveldb_env.specs.Filters.{keys_at};
-ghost use Rattle.leveldb_env.specs.Bloom.{mixed, hash_behind, bloom_hash, probe_count, probes, has_bit, bits_len, is_probe};
+ghost use Rattle.leveldb_env.specs.Bloom.{mixed, hash_behind, bloom_hash, probe_count, probes, has_bit, bits_len, is_probe, bits_of, count_in, tells_nothing};
 
 use crate::filter::{FilterPolicy, key_at};
 use leveldb_base::error::{Result, StatusCode, err};
@@ -80,13 +80,7 @@ impl FilterPolicy for BloomPolicy {
     }
 
     fn key_may_match(&self, key: &[u8], filter: &[u8]) -> bool {
-        let Some((count, bits)) = filter.split_last() else {
-            return true;
-        };
-        if bits.is_empty() || bits.len() >= TOO_LONG || *count > MAX_PROBES {
-            return true;
-        }
-        has_probes(filter, 8 * bits.len() as u32, *count, key)
+        tells_nothing(filter) || has_probes(filter, key)
     }
 
     ghost finds = { bloom_finds };
@@ -144,17 +138,26 @@ fn set_bit(bytes: &mut [u8], bit: u32)
     bytes[(bit / 8) as usize] |= 1 << (bit % 8);
 }
 
-// Whether each bit of a key is set, among the first so many.
-fn has_probes(bytes: &[u8], bits: u32, count: u8, key: &[u8]) -> bool
-    requires some { 0 < bits }
-    requires within { bits ≤ 8 * length bytes.now }
-    ensures { result ≡ list_all (has_bit bytes.now) (probes bits count key.now) }
+// Whether a filter lets every key pass.
+fn tells_nothing(filter: &[u8]) -> bool
+    ensures { result ≡ tells_nothing filter.now }
 {
+    let len = filter.len().saturating_sub(1);
+    len == 0 || filter[len] > MAX_PROBES || len >= TOO_LONG
+}
+
+// Whether each bit of the key is set.
+fn has_probes(filter: &[u8], key: &[u8]) -> bool
+    requires { tells_nothing filter.now ≡ false }
+    ensures { result ≡ list_all (has_bit filter.now) (probes (bits_of filter.now) (count_in filter.now) key.now) }
+{
+    let len = filter.len() - 1;
+    let bits = 8 * len as u32;
     let mut probe = bloom_hash(key);
     let delta = probe.rotate_left(15);
-    for _ in 0..count {
+    for _ in 0..filter[len] {
         let bit = probe % bits;
-        if bytes[(bit / 8) as usize] & (1 << (bit % 8)) == 0 {
+        if filter[(bit / 8) as usize] & (1 << (bit % 8)) == 0 {
             return false;
         }
         probe = probe.wrapping_add(delta);
