@@ -98,12 +98,8 @@ fn openings_are_refused(rt: HostRuntime) -> Result<()> {
     let mut env = MemEnv::new(alloc);
     let nameless = DB::open(alloc, "", &mut env, Options::default());
     assert_eq!(rt; code_of(nameless), StatusCode::InvalidArgument);
-    let options = Options {
-        cmp: DefaultCmp,
-        filter_policy: NoFilterPolicy::new(),
-        create_if_missing: false,
-        block_restart_interval: 16,
-    };
+    let mut options = Options::default();
+    options.create_if_missing = false;
     let missing = DB::open(alloc, "db", &mut env, options);
     assert_eq!(rt; code_of(missing), StatusCode::InvalidArgument);
     assert_eq!(rt; code_of(env.unlock("db/LOCK")), StatusCode::LockError);
