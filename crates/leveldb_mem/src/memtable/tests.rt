@@ -196,3 +196,73 @@ fn numbers_run_out(rt: HostRuntime) -> Result<()> {
     }
     Ok(())
 }
+
+type Row = (SequenceNumber, &'static [u8], Option<&'static [u8]>);
+
+/// What is found of a key at a number, one row after another.
+fn slow_newest(
+    rows: &[Row],
+    key: &[u8],
+    sequence: SequenceNumber,
+) -> Option<Option<&'static [u8]>> {
+    let mut newest: Option<Row> = None;
+    for row in rows {
+        if row.1 == key && row.0 <= sequence && newest.is_none_or(|one| one.0 < row.0) {
+            newest = Some(*row);
+        }
+    }
+    newest.map(|row| row.2)
+}
+
+// Newer versions before older ones, and keys of which some begin others.
+const ROWS: [Row; 12] = [
+    (40, b"b", Some(b"b40")),
+    (35, b"", None),
+    (30, b"a", Some(b"")),
+    (31, b"aa", Some(b"aa31")),
+    (20, b"b", None),
+    (12, b"\xff", Some(b"last")),
+    (11, b"ab", Some(b"ab11")),
+    (10, b"a", Some(b"a10")),
+    (9, b"", Some(b"nothing")),
+    (7, b"a\0", None),
+    (5, b"b", Some(b"b5")),
+    (1, b"aa", None),
+];
+
+const KEYS: [&[u8]; 9] = [
+    b"",
+    b"\0",
+    b"a",
+    b"a\0",
+    b"aa",
+    b"ab",
+    b"b",
+    b"\xff",
+    b"\xff\xff",
+];
+
+fn check_rows(rt: &impl Abort, table: &MemTable<DefaultCmp>, rows: &[Row]) {
+    for key in KEYS {
+        for sequence in 0..42 {
+            assert!(rt;
+                table.newest(key, sequence) == slow_newest(rows, key, sequence),
+                "{key:?} at {sequence}"
+            );
+        }
+    }
+}
+
+#[test]
+fn older_ones_come_later(rt: HostRuntime) -> Result<()> {
+    let mut table = MemTable::new(rt.alloc(), DefaultCmp);
+    check_rows(&rt, &table, &[]);
+    for (count, row) in ROWS.iter().enumerate() {
+        let (sequence, key, value) = *row;
+        let (kind, bytes) = type_and_bytes(value);
+        assert!(rt; sequence < 100 && key.len() < 100 && bytes.len() < 100);
+        table.add(sequence, kind, key, bytes)?;
+        check_rows(&rt, &table, &ROWS[..=count]);
+    }
+    Ok(())
+}

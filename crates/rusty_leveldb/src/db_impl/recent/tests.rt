@@ -41,6 +41,7 @@ fn later_changes_win(rt: HostRuntime) -> Result<()> {
     assert_eq!(rt; recent.newest(b"z"), Some(Some(b"3".as_slice())));
     assert_eq!(rt; recent.newest(b"b"), None);
     for (sequence, value) in [(1, b"1"), (2, b"1"), (3, b"2")] {
+        assert!(rt; sequence < 100);
         assert_eq!(rt;
             recent.memtable.newest(b"k", sequence),
             Some(Some(value.as_slice()))
