@@ -133,6 +133,7 @@ impl<C: Cmp> BlockBuilder<C> {
         C: Drop,
         ensures ok { IfOk result (λ contents. IsBlock (C.cmp self.cmp) contents (pairs_of None self.built.0)) }
         ensures spelled { IfOk result (λ contents. IsSpelled (C.cmp self.cmp) contents self.built.0) }
+        ensures size { IfOk result (λ contents. length contents ≡ estimate self.built.0 true) }
         ensures spaced { AreSpaced self.interval 0 self.built.0 }
         ensures memory { IfErr result IsOutOfMemory }
     {

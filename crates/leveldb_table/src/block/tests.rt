@@ -215,21 +215,29 @@ fn slow_pairs(alloc: Global, bytes: &[u8]) -> Result<Option<Pairs>> {
 
 /// A block is refused where the slow reader finds none, and walks over the same pairs otherwise.
 fn same_as_slow(rt: &(impl Abort + AllocGlobal), bytes: &[u8]) -> Result<()> {
-    match (block_of(rt.alloc(), bytes), slow_pairs(rt.alloc(), bytes)?) {
-        (Err(status), None) => assert_eq!(rt; status.code, StatusCode::Corruption),
-        (Ok(block), Some(pairs)) => {
-            let mut it = block.iter(rt.alloc());
-            for pair in &pairs {
-                assert!(rt; it.advance()?);
-                let Some((key, value)) = current_key_val(rt.alloc(), &it)? else {
-                    panic!(rt; "no pair");
-                };
-                assert!(rt; key == pair.0 && value == pair.1, "{bytes:?}");
+    let pairs = slow_pairs(rt.alloc(), bytes)?;
+    let block = match block_of(rt.alloc(), bytes) {
+        Ok(block) => block,
+        Err(status) => {
+            if status.code != StatusCode::Corruption {
+                return Err(status);
             }
-            assert!(rt; !it.advance()?);
+            assert!(rt; pairs.is_none(), "{bytes:?}");
+            return Ok(());
         }
-        _ => panic!(rt; "{bytes:?}"),
+    };
+    let Some(pairs) = pairs else {
+        panic!(rt; "{bytes:?}");
+    };
+    let mut it = block.iter(rt.alloc());
+    for pair in &pairs {
+        assert!(rt; it.advance()?);
+        let Some((key, value)) = current_key_val(rt.alloc(), &it)? else {
+            panic!(rt; "no pair");
+        };
+        assert!(rt; key == pair.0 && value == pair.1, "{bytes:?}");
     }
+    assert!(rt; !it.advance()?);
     Ok(())
 }
 

@@ -1,5 +1,5 @@
-use Rattle.std.proofs.Common.{◌∙◌}
-use Rattle.leveldb_table.proofs.Builds.{built_spelled, built_block}
+use Rattle.std.proofs.Common.{length, ◌∙◌, ap}
+use Rattle.leveldb_table.proofs.Builds.{built_spelled, built_block, block_size}
 use Rattle.leveldb_table.proofs.block_builder.BlockBuilder.finish.Goals as goal
 
 pub returns-clause-ok : goal.returns-clause-ok
@@ -8,3 +8,8 @@ returns-clause-ok g c =
 
 pub returns-clause-spelled : goal.returns-clause-spelled
 returns-clause-spelled g c = built_spelled c.args.self.built.1 c.in_ok-from_vec.field-0 (c.in_ok-from_vec.ensures.ok ∙ c.in_ok-put_points.ensures.ok)
+
+pub returns-clause-size : goal.returns-clause-size
+returns-clause-size g c =
+    let spelled = built_spelled c.args.self.built.1 c.in_ok-from_vec.field-0 (c.in_ok-from_vec.ensures.ok ∙ c.in_ok-put_points.ensures.ok) in
+    ap length spelled.spelled ∙ block_size c.args.self.built.0
