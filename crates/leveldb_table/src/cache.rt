@@ -115,7 +115,6 @@ impl<T: Drop> Cache<T> {
 #[cfg(test)]
 mod tests {
     use super::*;
-    use std::test::Fail;
 
     fn key(n: u8) -> CacheKey {
         let mut key = [0; 16];
@@ -125,7 +124,7 @@ mod tests {
 
     /// Five values in a cache of three: the first two go; a value is replaced in its place; what is looked for stays longest.
     #[test]
-    fn of_three(rt: HostRuntime) -> std::result::Result<(), Fail> {
+    fn of_three(rt: HostRuntime) -> Result<()> {
         let mut cache = Cache::new(rt.alloc(), 3)?;
         for n in 1..=5 {
             cache.insert(&key(n), u32::from(n))?;
@@ -148,7 +147,7 @@ mod tests {
 
     /// Behind the last number there is none, and no number is given twice.
     #[test]
-    fn last_id(rt: HostRuntime) -> std::result::Result<(), Fail> {
+    fn last_id(rt: HostRuntime) -> Result<()> {
         let mut cache: Cache<u8> = Cache::new(rt.alloc(), 1)?;
         cache.id = u64::MAX - 1;
         assert_eq!(rt; cache.new_cache_id()?, u64::MAX);
