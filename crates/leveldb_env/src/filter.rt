@@ -1,5 +1,5 @@
 //! Filters: what tells of most keys that they are in none of the blocks that it was made for.
-ghost use Rattle.std.specs.Prelude.{◌≡◌, ◌<◌, ◌≤◌, ℕ, Bool, true, List, [], length, All, Contains, IfOk, IfErr, slice_index_or};
+ghost use Rattle.std.specs.Prelude.{◌≡◌, ◌<◌, ◌≤◌, ℕ, Bool, true, List, [], length, All, Contains, IfOk, IfErr, OnOk, slice_index_or};
 ghost use Rattle.std.specs.List.Sorted.{IsNonDecreasing};
 ghost use Rattle.leveldb_env.specs.Filters.{keys_at, IsNoFilter};
 
@@ -36,6 +36,7 @@ pub trait FilterPolicy {
         requires rising { IsNonDecreasing key_offsets.now }
         requires within { All (λ offset. offset ≤ length keys.now) key_offsets.now }
         ensures ok { IfOk result (λ filter. filter.items ≡ filter_for self.now (keys_at key_offsets.now keys.now)) }
+        ensures fits { OnOk result (too_large self.now (keys_at key_offsets.now keys.now) → ⊥) }
         ensures cause { IfErr result (IsNoFilter (too_large self.now (keys_at key_offsets.now keys.now))) };
 
     /// Whether the key may be one of those that the filter was made for. It takes no memory.

@@ -8,7 +8,7 @@ ghost use Rattle.std.specs.List.{concat};
 ghost use Rattle.leveldb_base.specs.Status.{IsOutOfMemory};
 ghost use Rattle.leveldb_base.specs.Varint.{little};
 ghost use Rattle.leveldb_base.specs.declared.error.StatusCode.TheVariants.{Corruption, NotSupported};
-ghost use Rattle.leveldb_env.specs.FilterBlock.{IsFilterBlock, IsNoFilterBlock, OneReading, OneSpelling, KeepsKeys, passes, filter_of, with_key, started, finished, IsNotMade};
+ghost use Rattle.leveldb_env.specs.FilterBlock.{IsFilterBlock, IsNoFilterBlock, OneReading, OneSpelling, KeepsKeys, passes, filter_of, with_key, started, finished, IsTooLarge, IsNotMade};
 ghost use Rattle.leveldb_env.specs.FilterBlockParts.{places_from, numbers_in, BeginsAt, RiseFrom, Held, Checks};
 ghost use Rattle.leveldb_env.specs.FilterBlockLaws.{Held-prop};
 
@@ -100,6 +100,7 @@ impl<FP: FilterPolicy> FilterBlockBuilder<FP> {
         ensures policy { self.new.policy ≡ self.old.policy }
         ensures open { OnOk result (length self.new.filters ≡ offset / 2048) }
         ensures none { offset / 2048 ≡ length self.old.filters → IsOk result }
+        ensures not_too_large { OnOk result (length self.old.filters < offset / 2048 → IsTooLarge (FP.too_large self.old.policy) (FP.filter_for self.old.policy) self.old.filters self.old.keys → ⊥) }
         ensures fits { length (concat self.new.filters) < 2 ^ 32 }
         ensures err { OnErr result (self.new ≡ self.old) }
         ensures cause { IfErr result (IsNotMade (FP.too_large self.old.policy) (FP.filter_for self.old.policy) self.old.filters self.old.keys) }
@@ -119,6 +120,7 @@ impl<FP: FilterPolicy> FilterBlockBuilder<FP> {
     where
         FP: Drop,
         ensures ok { IfOk result (λ block. IsFilterBlock block.items (finished (FP.filter_for self.policy) self.filters self.keys)) }
+        ensures not_too_large { OnOk result (IsTooLarge (FP.too_large self.policy) (FP.filter_for self.policy) self.filters self.keys → ⊥) }
         ensures cause { IfErr result (IsNotMade (FP.too_large self.policy) (FP.filter_for self.policy) self.filters self.keys) }
     {
         if self.keys.len() > 0 {
@@ -138,6 +140,7 @@ fn make_filters<FP: FilterPolicy>(
     requires some { 1 ≤ count }
     requires fits { length (concat filters.old) < 2 ^ 32 }
     ensures ok { OnOk result (filters.new ≡ filters.old ++ filter_of (FP.filter_for policy.now) keys.now ∷ replicate (count - 1) []) }
+    ensures not_too_large { OnOk result (IsTooLarge (FP.too_large policy.now) (FP.filter_for policy.now) filters.old keys.now → ⊥) }
     ensures fits { length (concat filters.new) < 2 ^ 32 }
     ensures err { OnErr result (filters.new ≡ filters.old) }
     ensures cause { IfErr result (IsNotMade (FP.too_large policy.now) (FP.filter_for policy.now) filters.old keys.now) }

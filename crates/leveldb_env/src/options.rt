@@ -2,7 +2,7 @@
 ghost use Rattle.std.specs.Prelude.{◌≡◌, true};
 
 use crate::compressor::{CompressorId, NoneCompressor};
-use crate::filter::NoFilterPolicy;
+use crate::filter::BloomPolicy;
 use leveldb_base::cmp::DefaultCmp;
 
 /// What a store is opened with: its comparator, its filter policy and its choices.
@@ -22,16 +22,16 @@ pub struct Options<C, FP> {
     pub compressor: u8,
 }
 
-/// LevelDB's order of bytes and no filters; a missing store is created, every sixteenth entry of a block is a restart
-/// point, a block has 4096 bytes, and blocks are stored as they are.
-impl Default for Options<DefaultCmp, NoFilterPolicy> {
-    ghost is_default = { λ options. (options.create_if_missing ≡ true) × (options.block_restart_interval ≡ 16)
+/// LevelDB's order of bytes and its filters, with ten bits a key; a missing store is created, every sixteenth entry of a
+/// block is a restart point, a block has 4096 bytes, and blocks are stored as they are.
+impl Default for Options<DefaultCmp, BloomPolicy> {
+    ghost is_default = { λ options. (options.create_if_missing ≡ true) × (options.filter_policy ≡ 10) × (options.block_restart_interval ≡ 16)
         × (options.block_size ≡ 4096) × (options.compressor ≡ 0) };
 
-    fn default() -> Options<DefaultCmp, NoFilterPolicy> {
+    fn default() -> Options<DefaultCmp, BloomPolicy> {
         Options {
             cmp: DefaultCmp,
-            filter_policy: NoFilterPolicy::new(),
+            filter_policy: BloomPolicy::new(10),
             create_if_missing: true,
             block_restart_interval: 16,
             block_size: 4096,
@@ -50,7 +50,7 @@ mod tests {
     fn defaults(rt: HostRuntime) {
         let options = Options::default();
         assert_eq!(rt; options.cmp.id(), "leveldb.BytewiseComparator");
-        assert_eq!(rt; options.filter_policy.name(), "_");
+        assert_eq!(rt; options.filter_policy.name(), "leveldb.BuiltinBloomFilter2");
         assert!(rt; options.create_if_missing);
         assert_eq!(rt; options.block_size, 4096);
         assert_eq!(rt; options.block_restart_interval, 16);

@@ -8,7 +8,6 @@ use Rattle.leveldb_base.specs.Bytewise.{bytewise}
 use Rattle.leveldb_base.specs.declared.cmp.DefaultCmp.{DefaultCmp}
 use Rattle.leveldb_base.specs.declared.error.Status.{Status}
 use Rattle.leveldb_env.specs.declared.env.Env.{Ghosts}
-use Rattle.leveldb_env.specs.declared.filter.NoFilterPolicy.{NoFilterPolicy}
 use Rattle.rusty_leveldb.specs.declared.shell.commands.Command.{Command}
 use Rattle.rusty_leveldb.specs.declared.shell.commands.Reply.{Reply}
 use Rattle.rusty_leveldb.specs.Language.{reply_lines}
@@ -33,14 +32,14 @@ one_word (first ∷ second ∷ others) word some few is = absurd (omega (arith, 
 -- a run that went through, whose replies were written
 pub played : {E F : Type 0} (env : Ghosts E F) (folder : List ℕ) (commands : List Command) (from to : E) (held holds : Option (List ℕ)) (old new told : List Reply) (create : Bool)
     (ended : Unit {0}) (r : Result (Unit {0}) Status) → old ≡ [] → create ≡ true → told ≡ new
-    → PlaysAlways DefaultCmp NoFilterPolicy env bytewise folder from create commands (drop (length old) new) (Ok ended) to
+    → PlaysAlways DefaultCmp ℕ env bytewise folder from create commands (drop (length old) new) (Ok ended) to
     → ((given : List Reply) × (new ≡ old ++ given) × (length given ≡ length commands))
     → OnOk r (Appends held holds (reply_lines told)) → OnOk r (IsPlayed env folder commands from to held holds)
 played env folder commands from to held holds old new told create ended (Err status) none creates same plays behind appends = tt
 played env folder commands from to held holds old new told create ended (Ok done) none creates same plays behind appends =
     let given = behind.0 in
     let replies : drop (length old) new ≡ given = ap (drop (length old)) behind.1 ∙ drop-append_seam old given in
-    let P : List Reply → Type 0 = λ list. PlaysAlways DefaultCmp NoFilterPolicy env bytewise folder from create commands list (Ok tt) to in
-    let Q : Bool → Type 0 = λ b. PlaysAlways DefaultCmp NoFilterPolicy env bytewise folder from b commands given (Ok tt) to in
+    let P : List Reply → Type 0 = λ list. PlaysAlways DefaultCmp ℕ env bytewise folder from create commands list (Ok tt) to in
+    let Q : Bool → Type 0 = λ b. PlaysAlways DefaultCmp ℕ env bytewise folder from b commands given (Ok tt) to in
     let T : List Reply → Type 0 = λ list. Appends held holds (reply_lines list) in
     (given, behind.2, subst Q creates (subst P replies plays), subst T (same ∙ behind.1 ∙ ap (λ (list : List Reply). list ++ given) none) appends)

@@ -5,7 +5,6 @@ use Rattle.std.specs.declared.alloc.Global.{Global}
 use Rattle.leveldb_base.specs.Bytewise.{bytewise}
 use Rattle.leveldb_base.specs.declared.cmp.DefaultCmp.{DefaultCmp}
 use Rattle.leveldb_env.specs.declared.env.Env.{Ghosts}
-use Rattle.leveldb_env.specs.declared.filter.NoFilterPolicy.{NoFilterPolicy}
 use Rattle.rusty_leveldb.specs.declared.shell.commands.Command.{Command}
 use Rattle.rusty_leveldb.specs.declared.shell.commands.Reply.{Reply}
 use Rattle.rusty_leveldb.specs.declared.shell.program.Fault.{Fault}
@@ -25,10 +24,11 @@ abbrev pub IsInput : Option (List ℕ) → List Command → Type 0
 IsInput input commands = (text : List ℕ) × IfSome input (λ bytes. text ≡ bytes) × IsScript text commands
 
 module _ {E F : Type 0} (env : Ghosts E F) where
-  -- the commands were run in a folder, each was replied to, and the output grew by the replies' lines
+  -- The commands were run in a folder, each was replied to, and the output grew by the replies' lines. The filter policy is seen as its
+  -- number of bits a key.
   abbrev pub IsPlayed : List ℕ → List Command → E → E → Option (List ℕ) → Option (List ℕ) → Type 0
   IsPlayed folder commands from to held holds = (given : List Reply) × (length given ≡ length commands)
-      × PlaysAlways DefaultCmp NoFilterPolicy env bytewise folder from true commands given (Ok tt) to × Appends held holds (reply_lines given)
+      × PlaysAlways DefaultCmp ℕ env bytewise folder from true commands given (Ok tt) to × Appends held holds (reply_lines given)
 
   -- the one argument is a folder, and the commands that the input spells were run in it
   abbrev pub IsAnswered : List (String Global) → E → E → Option (List ℕ) → Option (List ℕ) → Option (List ℕ) → Type 0

@@ -3,6 +3,7 @@ ghost use Rattle.std.specs.Prelude.{◌≡◌, ◌≤◌, true, IfOk, OnOk};
 ghost use Rattle.leveldb_env.specs.Filters.{first_offset};
 
 use super::*;
+use crate::filter::BloomPolicy;
 
 /// A filter is the keys, one behind the other, at most so many bytes. A longer key is none of them.
 #[derive(Clone, Copy)]
@@ -230,6 +231,38 @@ fn found(rt: HostRuntime) -> Result<()> {
     added_keys_pass(&POLICY);
     for (offset, next) in [(0, 2047), (0, 2048), (2048, 9000), (5000, 5000)] {
         assert!(rt; is_found(rt.alloc(), &POLICY, offset, next, LETTERS)?);
+    }
+    Ok(())
+}
+
+/// The block that LevelDB makes of two blocks with these four keys, at 0 and at 5000, under 32 bits a key.
+const BLOOM_BLOCK: [u8; 51] = [
+    234, 195, 25, 155, 61, 141, 173, 140, 221, 28, 222, 92, 220, 112, 234, 227, 22, 234, 195, 25,
+    155, 61, 141, 173, 140, 221, 28, 222, 92, 220, 112, 234, 227, 22, 0, 0, 0, 0, 17, 0, 0, 0, 17,
+    0, 0, 0, 34, 0, 0, 0, 11,
+];
+
+#[test]
+fn bloom(rt: HostRuntime) -> Result<()> {
+    let policy = BloomPolicy::new(32);
+    let mut builder = FilterBlockBuilder::new(rt.alloc(), policy);
+    builder.start_block(0)?;
+    add_keys(&mut builder)?;
+    builder.start_block(5000)?;
+    add_keys(&mut builder)?;
+    let block = builder.finish()?;
+    assert_eq!(rt; block.as_slice(), BLOOM_BLOCK.as_slice());
+    let reader = FilterBlockReader::new_owned(rt.alloc(), policy, block)?;
+    assert_eq!(rt; reader.num(), 3);
+    let stored: [&[u8]; 4] = [b"abcd", b"efgh", b"ijkl", b"mnopqrstuvwxyz"];
+    let others: [&[u8]; 3] = [b"xsb", b"9sad", b"assssaaaass"];
+    for offset in [0, 1024, 5000, 6025] {
+        for key in stored {
+            assert!(rt; reader.key_may_match(offset, key), "{offset}");
+        }
+        for key in others {
+            assert!(rt; !reader.key_may_match(offset, key), "{offset}");
+        }
     }
     Ok(())
 }

@@ -5,9 +5,9 @@ use super::*;
 use crate::block::Block;
 use leveldb_base::cmp::DefaultCmp;
 use leveldb_base::types::LdbIterator;
-use leveldb_env::filter::NoFilterPolicy;
+use leveldb_env::filter::BloomPolicy;
 
-fn spaced(interval: usize) -> Options<DefaultCmp, NoFilterPolicy>
+fn spaced(interval: usize) -> Options<DefaultCmp, BloomPolicy>
     ensures { result.block_restart_interval ≡ interval }
 {
     let mut options = Options::default();

@@ -4,7 +4,7 @@ use super::{DB, Engine, Store};
 use leveldb_base::cmp::DefaultCmp;
 use leveldb_base::error::{Result, StatusCode};
 use leveldb_env::env::Env;
-use leveldb_env::filter::NoFilterPolicy;
+use leveldb_env::filter::BloomPolicy;
 use leveldb_env::mem_env::{MemEnv, Pick, RecordEnv};
 use leveldb_env::options::Options;
 use leveldb_mem::write_batch::WriteBatch;
@@ -21,7 +21,7 @@ fn code_of<T: Drop>(answer: Result<T>) -> StatusCode {
 }
 
 /// The one byte of the key's value, `-` for none, `?` for another value.
-fn byte_at<E: Env>(db: &mut DB<'_, E, DefaultCmp, NoFilterPolicy>, key: &[u8]) -> Result<u8> {
+fn byte_at<E: Env>(db: &mut DB<'_, E, DefaultCmp, BloomPolicy>, key: &[u8]) -> Result<u8> {
     Ok(match db.get(key)? {
         None => b'-',
         Some(value) => match value.as_slice() {
@@ -32,7 +32,7 @@ fn byte_at<E: Env>(db: &mut DB<'_, E, DefaultCmp, NoFilterPolicy>, key: &[u8]) -
 }
 
 /// The bytes of the keys a, b, c and d.
-fn bytes_in<E: Env>(db: &mut DB<'_, E, DefaultCmp, NoFilterPolicy>) -> Result<[u8; 4]> {
+fn bytes_in<E: Env>(db: &mut DB<'_, E, DefaultCmp, BloomPolicy>) -> Result<[u8; 4]> {
     let a = byte_at(db, b"a")?;
     let b = byte_at(db, b"b")?;
     let c = byte_at(db, b"c")?;
