@@ -8,7 +8,7 @@ use Rattle.leveldb_base.specs.History.{Item, Entry}
 use Rattle.leveldb_base.specs.Places.{Pair}
 use Rattle.leveldb_mem.specs.Batch.{entry_bytes, BatchOf}
 use Rattle.leveldb_mem.specs.BatchLaws.{length-batch}
-use Rattle.leveldb_mem.specs.Entries.{bytes_in}
+use Rattle.leveldb_mem.specs.Entries.{bytes_in, Kept, KeepsRoom}
 use Rattle.leveldb_mem.specs.Placed.{bytes_of}
 use Rattle.leveldb_mem.specs.SkipMap.{memory_of}
 use Rattle.leveldb_mem.specs.MemTable.{entry_key, entry_from, entries_in, IsEntryPair, memory_of_entries}
@@ -34,3 +34,10 @@ bytes_in-le (item ∷ items) = omega (arith, bytes_in-le items, bytes_in-entry i
 -- a batch's bytes are more than its keys and values have
 pub bytes_in-batch : {bytes : List ℕ} {first : ℕ} {items : List Item} → BatchOf bytes first items → bytes_in items ≤ length bytes
 bytes_in-batch {bytes} {first} {items} batch = omega (arith, length-batch batch, bytes_in-le items)
+
+-- memory for one entry takes no room from others
+pub keeps_room : (old new : Kept) → (1 ≤ old.places → (new.places ≡ old.places) × (old.bytes ≤ new.bytes)) → KeepsRoom old new
+keeps_room old new more [] has = record { places = omega arith; bytes = omega arith }
+keeps_room old new more (item ∷ items) has =
+    let both = more (omega (arith, has.places)) in
+    record { places = omega (arith, has.places, both.0); bytes = omega (arith, has.bytes, both.1) }
