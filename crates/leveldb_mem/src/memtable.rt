@@ -19,11 +19,11 @@ use crate::skipmap::SkipMap;
 use crate::write_batch::WriteBatch;
 use byteorder::{ByteOrder, LittleEndian};
 use leveldb_base::cmp::{Cmp, MemtableKeyCmp, UserCmp};
-use leveldb_base::error::{Result, StatusCode, err};
+use leveldb_base::error::{Result, Status, StatusCode, err};
 use leveldb_base::key_types::{LookupKey, UserKey, ValueType, parse_internal_key};
 use leveldb_base::types::SequenceNumber;
 use leveldb_base::varint::{encode_varint64, get_length_prefixed_slice};
-use std::alloc::Global;
+use std::alloc::{AllocError, Global};
 use std::marker::Model;
 
 mod as_of;
@@ -132,7 +132,6 @@ impl<C: UserCmp> MemTable<C> {
         value: &[u8],
     ) -> Result<()>
         requires numbered { sequence < 2 ^ 56 }
-        requires fits { length key.now + length value.now < 2 ^ 63 }
         ensures cmp { self.new.cmp ≡ self.old.cmp }
         ensures new { OnOk result (IsNewTo self.old.kept.entries sequence key.now) }
         ensures ok { OnOk result (Gains self.old.kept.entries (entry_of sequence key.now (value_of kind value.now) ∷ []) self.new.kept.entries) }
@@ -233,7 +232,6 @@ impl<C: UserCmp> MemTable<C> {
 
     // Takes memory for one entry.
     fn prepare_entry(&mut self, key: &[u8], value: Option<&[u8]>) -> Result<()>
-        requires { length key.now + value_length (option_copied value) < 2 ^ 63 }
         ensures cmp { self.new.cmp ≡ self.old.cmp }
         ensures entries { self.new.kept.entries ≡ self.old.kept.entries }
         ensures ok { OnOk result (HasRoom self.new.kept (item_of key.now (option_copied value.entry) ∷ [])) }
@@ -249,7 +247,6 @@ impl<C: UserCmp> MemTable<C> {
 
     // Makes room for so many entries, whose keys and values have so many bytes. Room for as many is only added to.
     fn reserve(&mut self, count: u32, bytes: usize) -> Result<()>
-        requires { bytes < 2 ^ 63 }
         ensures cmp { self.new.cmp ≡ self.old.cmp }
         ensures entries { self.new.kept.entries ≡ self.old.kept.entries }
         ensures ok { OnOk result ((count ≤ self.new.kept.places) × (bytes ≤ self.new.kept.bytes)) }
@@ -259,7 +256,10 @@ impl<C: UserCmp> MemTable<C> {
         ensures cause { IfErr result IsOutOfMemory }
     {
         let places = self.map.places().max(count as usize);
-        self.map.reserve(places, bytes + MOST_BESIDE * places)
+        let Some(bytes) = bytes.checked_add(MOST_BESIDE * places) else {
+            return Err(Status::from(AllocError));
+        };
+        self.map.reserve(places, bytes)
     }
 
     // Puts an entry for which there is room. It answers whether it did: an entry of this key and number is left.
