@@ -11,7 +11,7 @@ ghost use Rattle.leveldb_base.specs.Places.{count_before};
 ghost use Rattle.leveldb_base.specs.View.{AreRising};
 ghost use Rattle.leveldb_mem.specs.Batch.{item_of};
 ghost use Rattle.leveldb_mem.specs.Entries.{Gains, IsNewTo, AreNewTo, FindsNewest, HasRoom, KeepsRoom, Adds, value_length};
-ghost use Rattle.leveldb_mem.specs.MemTable.{entry_of, type_of, bytes_of_value, value_of, entry_key, entry_from, inner_value, internal_pair, memory_of_entries, GivesAt};
+ghost use Rattle.leveldb_mem.specs.MemTable.{entry_of, type_of, bytes_of_value, value_of, entry_key, entry_from, inner_value, internal_pair, memory_of_entries, Grows, GivesAt};
 
 use crate::memtable::as_of::AsOf;
 use crate::memtable::iterator::AtInternalKey;
@@ -103,6 +103,7 @@ impl<C: UserCmp> MemTable<C> {
         requires new { IsNewTo self.old.kept.entries sequence key.now }
         ensures cmp { self.new.cmp ≡ self.old.cmp }
         ensures adds { Adds self.old.kept (entry_of sequence key.now (option_copied value.entry)) self.new.kept }
+        ensures grows { Grows self.old.kept.entries (entry_of sequence key.now (option_copied value.entry)) self.new.kept.entries }
     {
         self.put(sequence, key, value);
     }
@@ -135,6 +136,7 @@ impl<C: UserCmp> MemTable<C> {
         ensures cmp { self.new.cmp ≡ self.old.cmp }
         ensures new { OnOk result (IsNewTo self.old.kept.entries sequence key.now) }
         ensures ok { OnOk result (Gains self.old.kept.entries (entry_of sequence key.now (value_of kind value.now) ∷ []) self.new.kept.entries) }
+        ensures grows { OnOk result (Grows self.old.kept.entries (entry_of sequence key.now (value_of kind value.now)) self.new.kept.entries) }
         ensures err { OnErr result (self.new.kept.entries ≡ self.old.kept.entries) }
         ensures room { OnErr result (KeepsRoom self.old.kept self.new.kept) }
         ensures cause { IfErr result (λ status. ((status.code ≡ AlreadyExists) × (IsNewTo self.old.kept.entries sequence key.now → ⊥)) ⊎ IsOutOfMemory status) }
@@ -268,6 +270,7 @@ impl<C: UserCmp> MemTable<C> {
         requires room { HasRoom self.old.kept (item_of key.now (option_copied value) ∷ []) }
         ensures cmp { self.new.cmp ≡ self.old.cmp }
         ensures put { OnTrue result (Adds self.old.kept (entry_of sequence key.now (option_copied value.entry)) self.new.kept) }
+        ensures grows { OnTrue result (Grows self.old.kept.entries (entry_of sequence key.now (option_copied value.entry)) self.new.kept.entries) }
         ensures new { OnTrue result (IsNewTo self.old.kept.entries sequence key.now) }
         ensures left { OnFalse result (self.new.kept.entries ≡ self.old.kept.entries) }
         ensures places { OnFalse result (self.new.kept.places ≡ self.old.kept.places) }
