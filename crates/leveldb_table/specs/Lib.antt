@@ -5,3 +5,4 @@ pub mod Walk
 pub mod WalkLaws
 pub mod Built
 pub mod BuiltLaws
+pub mod Table
