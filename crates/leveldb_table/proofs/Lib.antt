@@ -6,3 +6,5 @@ pub mod Walks
 pub mod Moves
 pub mod Points
 pub mod Builds
+pub mod Footers
+pub mod Caches

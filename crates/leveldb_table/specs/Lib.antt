@@ -6,3 +6,7 @@ pub mod WalkLaws
 pub mod Built
 pub mod BuiltLaws
 pub mod Table
+pub mod Footer
+pub mod FooterLaws
+pub mod Cache
+pub mod CacheLends

@@ -3,3 +3,5 @@
 
 pub mod block;
 pub mod block_builder;
+pub mod cache;
+pub mod table_builder;

@@ -1,0 +1,141 @@
+-- What the bytes of a footer are, part by part, and how they are written one part behind the other.
+use Rattle.std.proofs.Common.{◌≡◌, ℕ, ◌+◌, ◌-◌, ◌≤◌, List, [], ◌++◌, length, take, drop, replicate, None, Some, refl, sym, ◌∙◌, ap, subst, arith, append_assoc, append-nil, length-append}
+use Rattle.std.proofs.lemmas.List.{take_rest, drop-drop, take-append-drop, length-take-le, length-drop, length-replicate}
+use Rattle.std.proofs.Math.Seq.{take-append_seam, drop-append_seam}
+use Rattle.std.proofs.Math.ListN.{drop_of_length-le}
+use borrow.Rule.Slice.PartMut.{put_mid}
+use Rattle.leveldb_base.specs.Handle.{Handle, HandleFits, handle_bytes, ReadsHandle}
+use Rattle.leveldb_base.specs.HandleLaws.{one_handle}
+use Rattle.leveldb_table.specs.Footer.{magic, filled, footer_bytes, ReadsFooter}
+use Rattle.leveldb_table.specs.FooterLaws.{zeros, footer-append, length-filled, length-footer_bytes}
+
+-- the parts of bytes that are a footer
+module _ (bytes : List ℕ) (meta index : Handle) (meta_fits : HandleFits meta) (index_fits : HandleFits index) (e : bytes ≡ footer_bytes meta index) where
+  pub footer-length : length bytes ≡ 48
+  footer-length = ap length e ∙ length-footer_bytes meta index meta_fits index_fits
+
+  pub footer-end : drop 40 bytes ≡ magic
+  unfolding footer_bytes
+  footer-end =
+      let handles = filled 40 (handle_bytes meta ++ handle_bytes index) in
+      let at = length-filled meta index meta_fits index_fits in
+      ap (drop 40) e ∙ subst (λ n. drop n (handles ++ magic) ≡ magic) at (drop-append_seam handles magic)
+
+  pub footer-front : take 40 bytes ≡ handle_bytes meta ++ (handle_bytes index ++ zeros meta index)
+  unfolding footer_bytes
+  footer-front =
+      let handles = filled 40 (handle_bytes meta ++ handle_bytes index) in
+      let at = length-filled meta index meta_fits index_fits in
+      ap (take 40) e ∙ subst (λ n. take n (handles ++ magic) ≡ handles) at (take-append_seam handles magic)
+      ∙ append_assoc (handle_bytes meta) (handle_bytes index) (zeros meta index)
+
+-- bytes of another number are no footer
+pub no_footer_of_length : (bytes : List ℕ) → (length bytes ≡ 48 → ⊥) → ReadsFooter bytes None
+no_footer_of_length bytes other meta index meta_fits index_fits e = other (footer-length bytes meta index meta_fits index_fits e)
+
+-- nor are bytes with another end
+pub no_footer_of_end : (bytes : List ℕ) → (drop 40 bytes ≡ magic → ⊥) → ReadsFooter bytes None
+no_footer_of_end bytes other meta index meta_fits index_fits e = other (footer-end bytes meta index meta_fits index_fits e)
+
+-- nor with no handle in front
+pub no_footer_of_meta : (bytes : List ℕ) → ReadsHandle (take 40 bytes) None → ReadsFooter bytes None
+no_footer_of_meta bytes none meta index meta_fits index_fits e =
+    none meta (handle_bytes index ++ zeros meta index) meta_fits (footer-front bytes meta index meta_fits index_fits e)
+
+-- the first handle is known, and what stands behind it
+module _ (bytes : List ℕ) (first : Handle) (used : ℕ) (reads : ReadsHandle (take 40 bytes) (Some (first, used))) where
+  behind : (meta index : Handle) → HandleFits meta → HandleFits index → bytes ≡ footer_bytes meta index
+      → (first ≡ meta) × (drop used (take 40 bytes) ≡ handle_bytes index ++ zeros meta index)
+  behind meta index meta_fits index_fits e =
+      one_handle first meta (drop used (take 40 bytes)) (handle_bytes index ++ zeros meta index) (sym reads.2 ∙ footer-front bytes meta index meta_fits index_fits e)
+
+  -- nor with no second handle behind it
+  pub no_footer_of_index : ReadsHandle (drop used (take 40 bytes)) None → ReadsFooter bytes None
+  no_footer_of_index none meta index meta_fits index_fits e =
+      none index (zeros meta index) index_fits (behind meta index meta_fits index_fits e).1
+
+  -- the second is known too
+  module _ (second : Handle) (more : ℕ) (reads_more : ReadsHandle (drop used (take 40 bytes)) (Some (second, more))) where
+    abbrev filler : List ℕ
+    filler = drop (used + more) (take 40 bytes)
+
+    -- nor with other filler
+    pub no_footer_of_filler : (filler ≡ replicate (length filler) 0 → ⊥) → ReadsFooter bytes None
+    no_footer_of_filler other meta index meta_fits index_fits e =
+        let there = behind meta index meta_fits index_fits e in
+        let left = one_handle second index (drop more (drop used (take 40 bytes))) (zeros meta index) (sym reads_more.2 ∙ there.1) in
+        let same : filler ≡ zeros meta index = sym (drop-drop more used (take 40 bytes)) ∙ left.1 in
+        other (same ∙ ap (λ n. replicate n 0) (sym (ap length same ∙ length-replicate (40 - length (handle_bytes meta ++ handle_bytes index)) 0)))
+
+    -- what is none of these is a footer
+    pub is_footer : length bytes ≡ 48 → drop 40 bytes ≡ magic → filler ≡ replicate (length filler) 0 → bytes ≡ footer_bytes first second
+    unfolding footer_bytes
+    is_footer long ends fills =
+        let handles = handle_bytes first ++ handle_bytes second in
+        let spelled : take 40 bytes ≡ handles ++ filler =
+        reads.2 ∙ ap (λ z. handle_bytes first ++ z) (reads_more.2 ∙ ap (λ z. handle_bytes second ++ z) (drop-drop more used (take 40 bytes)))
+        ∙ sym (append_assoc (handle_bytes first) (handle_bytes second) filler) in
+        let front = length-take-le 40 bytes (omega arith) in
+        let count : length filler ≡ 40 - length handles = omega (arith, ap length spelled, length-append handles filler) in
+        sym (take-append-drop 40 bytes) ∙ ap (λ z. z ++ drop 40 bytes) (spelled ∙ ap (λ z. handles ++ z) (fills ∙ ap (λ n. replicate n 0) count))
+        ∙ ap (λ z. filled 40 handles ++ z) ends
+
+-- ---- writing
+
+-- what is written behind a front, which stands over the first bytes of what was there
+pub write_part : (front old part xs ys : List ℕ) (at count : ℕ) → xs ≡ front ++ drop at old → length front ≡ at → ys ≡ part
+    → put_mid at count xs ys ≡ (front ++ part) ++ drop (at + count) old
+write_part front old part xs ys at count e long same =
+    let before : take at xs ≡ front = ap (take at) e ∙ subst (λ n. take n (front ++ drop at old) ≡ front) long (take-append_seam front (drop at old)) in
+    let after : drop at xs ≡ drop at old = ap (drop at) e ∙ subst (λ n. drop n (front ++ drop at old) ≡ drop at old) long (drop-append_seam front (drop at old)) in
+    ap (λ z. z ++ (ys ++ drop count (drop at xs))) before
+    ∙ ap (λ z. front ++ (ys ++ z)) (ap (drop count) after ∙ drop-drop count at old)
+    ∙ ap (λ z. front ++ (z ++ drop (at + count) old)) same
+    ∙ sym (append_assoc front part (drop (at + count) old))
+
+-- the same where all that follows is written again
+pub write_rest : (front old part xs ys : List ℕ) (at count : ℕ) → xs ≡ front ++ drop at old → length front ≡ at → count ≡ length xs - at → ys ≡ part ++ drop (length part) (take count (drop at xs))
+    → put_mid at count xs ys ≡ (front ++ part) ++ drop (at + length part) old
+write_rest front old part xs ys at count e long full same =
+    let before : take at xs ≡ front = ap (take at) e ∙ subst (λ n. take n (front ++ drop at old) ≡ front) long (take-append_seam front (drop at old)) in
+    let after : drop at xs ≡ drop at old = ap (drop at) e ∙ subst (λ n. drop n (front ++ drop at old) ≡ drop at old) long (drop-append_seam front (drop at old)) in
+    let none : drop count (drop at xs) ≡ [] = drop_of_length-le (drop at xs) (omega (arith, length-drop at xs)) in
+    let all : take count (drop at xs) ≡ drop at old = ap (λ n. take n (drop at xs)) full ∙ take_rest xs at ∙ after in
+    ap (λ z. z ++ (ys ++ drop count (drop at xs))) before
+    ∙ ap (λ z. front ++ (ys ++ z)) none ∙ ap (λ z. front ++ z) (append-nil ys ∙ same ∙ ap (λ z. part ++ z) (ap (drop (length part)) all ∙ drop-drop (length part) at old))
+    ∙ sym (append_assoc front part (drop (at + length part) old))
+
+-- the two handles, the zeros and the magic bytes, written one behind the other
+module _ (meta index : Handle) (old one two : List ℕ) (used more : ℕ) (room : 48 ≤ length old) (short : used ≤ 20) (narrow : more ≤ 20)
+    (used_is : used ≡ length (handle_bytes meta)) (more_is : more ≡ length (handle_bytes index))
+    (first : one ≡ handle_bytes meta ++ drop (length (handle_bytes meta)) old)
+    (second : two ≡ handle_bytes index ++ drop (length (handle_bytes index)) (take (length one - used) (drop used one))) where
+  abbrev pub behind_handles : List ℕ
+  behind_handles = put_mid used (length one - used) one two
+
+  abbrev handles : List ℕ
+  handles = handle_bytes meta ++ handle_bytes index
+
+  length-handles : length handles ≡ used + more
+  length-handles = length-append (handle_bytes meta) (handle_bytes index) ∙ ap (λ n. n + length (handle_bytes index)) (sym used_is) ∙ ap (λ n. used + n) (sym more_is)
+
+  wrote : behind_handles ≡ handles ++ drop (used + more) old
+  wrote =
+      write_rest (handle_bytes meta) old (handle_bytes index) one two used (length one - used) (first ∙ ap (λ n. handle_bytes meta ++ drop n old) (sym used_is)) (sym used_is) refl second
+      ∙ ap (λ n. handles ++ drop (used + n) old) (sym more_is)
+
+  length-behind_handles : 40 ≤ length behind_handles
+  length-behind_handles = omega (arith, ap length wrote, length-append handles (drop (used + more) old), length-drop (used + more) old, length-handles)
+
+  pub writes_footer : (three four : List ℕ) → three ≡ replicate (length (take (40 - (used + more)) (drop (used + more) behind_handles))) 0 → four ≡ magic
+      → put_mid 40 8 (put_mid (used + more) (40 - (used + more)) behind_handles three) four ≡ footer_bytes meta index ++ drop 48 old
+  unfolding footer_bytes
+  writes_footer three four third fourth =
+      let count : length (take (40 - (used + more)) (drop (used + more) behind_handles)) ≡ 40 - length handles =
+      length-take-le (40 - (used + more)) (drop (used + more) behind_handles) (omega (arith, length-behind_handles, length-drop (used + more) behind_handles)) ∙ ap (λ n. 40 - n) (sym length-handles) in
+      let filler : three ≡ zeros meta index = third ∙ ap (λ n. replicate n 0) count in
+      let forty : used + more + (40 - (used + more)) ≡ 40 = omega arith in
+      let filled_is : put_mid (used + more) (40 - (used + more)) behind_handles three ≡ filled 40 handles ++ drop 40 old =
+      write_part handles old (zeros meta index) behind_handles three (used + more) (40 - (used + more)) wrote length-handles filler ∙ ap (λ n. filled 40 handles ++ drop n old) forty in
+      let long : length (filled 40 handles) ≡ 40 = omega (arith, length-handles, length-append handles (zeros meta index), length-replicate {A = ℕ} (40 - length handles) 0) in
+      write_part (filled 40 handles) old magic (put_mid (used + more) (40 - (used + more)) behind_handles three) four 40 8 filled_is long fourth

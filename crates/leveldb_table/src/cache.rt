@@ -1,0 +1,163 @@
+//! Caches: values under keys of 16 bytes, as many as there is room for, of which the least recently used goes first.
+ghost use Rattle.std.specs.Prelude.{◌≡◌, ◌↔◌, ◌+◌, ◌^◌, ◌<◌, ◌≤◌, [], length, Some, nat_eq, IfOk, IfErr, OnErr, OnOk, IsErrAnd, option_copied};
+ghost use Rattle.std.specs.List.{IsDistinct};
+ghost use Rattle.std.specs.Str.{bytes_eq};
+ghost use Rattle.std.specs.Map.{keys_of};
+ghost use Rattle.leveldb_base.specs.Status.{IsOutOfMemory};
+ghost use Rattle.leveldb_base.specs.declared.error.StatusCode.TheVariants.{NotSupported};
+ghost use Rattle.leveldb_table.specs.Cache.{value_of, others, put_first};
+
+use leveldb_base::error::{Result, StatusCode, err};
+use lru::LruCache;
+use std::alloc::Global;
+use std::marker::Model;
+use std::num::NonZeroUsize;
+
+/// What a value is found by: the number of a cache's user and its own number.
+pub type CacheKey = [u8; 16];
+
+/// A number by which one user of a cache tells its keys from those of others.
+pub type CacheID = u64;
+
+/// Values under keys, the one that was used last first.
+#[derive(Drop)]
+pub struct Cache<T: Drop> {
+    recent: LruCache<CacheKey, T>,
+
+    // the number that was given last, or 0
+    id: CacheID,
+}
+
+impl<T: Drop> Model for Cache<T> {
+    ghost use Rattle.leveldb_table.specs.Cache.{Cached};
+
+    ghost Value = { Cached T };
+
+    ghost view = { λ it. record { pairs = it.recent.entries; capacity = it.recent.cap; given = it.id } };
+}
+
+impl<T: Drop> Cache<T> {
+    ghost use Rattle.std.specs.Borrow.{sem};
+    ghost use Rattle.leveldb_table.specs.CacheLends.{EndsLookedFor};
+
+    /// A cache with room for so many values.
+    pub fn new(alloc: Global, capacity: usize) -> Result<Cache<T>>
+        requires { 0 < capacity }
+        ensures ok { IfOk result (λ cache. cache ≡ record { pairs = []; capacity = capacity; given = 0 }) }
+        ensures memory { IfErr result IsOutOfMemory }
+    {
+        let capacity = NonZeroUsize::new(capacity).unwrap();
+        let recent = LruCache::sparse(alloc, capacity)?;
+        Ok(Cache { recent, id: 0 })
+    }
+
+    /// The next number, which this cache hasn't given before.
+    /// `NotSupported` where all numbers of 64 bits are used up.
+    pub fn new_cache_id(&mut self) -> Result<CacheID>
+        ensures next { IfOk result (λ id. id ≡ self.old.given + 1) }
+        ensures given { IfOk result (λ id. self.new ≡ record self.old { given = id }) }
+        ensures err { OnErr result (self.new ≡ self.old) }
+        ensures used_up { IsErrAnd result (λ status. status.code ≡ NotSupported) ↔ (self.old.given + 1 ≡ 2 ^ 64) }
+        ensures cause { IfErr result (λ status. status.code ≡ NotSupported) }
+    {
+        let Some(id) = self.id.checked_add(1) else {
+            let alloc = *self.recent.allocator();
+            return err(alloc, StatusCode::NotSupported, "cache ids are used up");
+        };
+        self.id = id;
+        Ok(id)
+    }
+
+    /// How many values there are.
+    pub fn count(&self) -> usize
+        ensures count { result ≡ length self.now.pairs }
+        ensures within { result ≤ self.now.capacity }
+        ensures distinct { IsDistinct bytes_eq (keys_of self.now.pairs) }
+    {
+        self.recent.len()
+    }
+
+    /// How many values there may be.
+    pub fn cap(&self) -> usize
+        ensures { result ≡ self.now.capacity }
+    {
+        self.recent.cap().get()
+    }
+
+    /// Puts a value under a key, in place of the one that was there. It counts as used.
+    /// Where the key is new and there is no room, the value goes that was used least recently.
+    pub fn insert(&mut self, key: &CacheKey, elem: T) -> Result<()>
+        ensures ok { OnOk result (self.new ≡ record self.old { pairs = put_first self.old.capacity key.now elem self.old.pairs }) }
+        ensures err { OnErr result (self.new ≡ self.old) }
+        ensures memory { IfErr result IsOutOfMemory }
+    {
+        self.recent.put(*key, elem)?;
+        Ok(())
+    }
+
+    /// The value under a key, which counts as used.
+    pub fn get<'a>(&'a mut self, key: &CacheKey) -> Option<&'a T>
+        ensures* used { sem 𝓛 (EndsLookedFor T.row self.entry key.now) }
+        ensures value { option_copied result ≡ value_of key.now self.old.pairs }
+    {
+        self.recent.get(key)
+    }
+
+    /// Takes the value under a key out.
+    pub fn remove(&mut self, key: &CacheKey) -> Option<T>
+        ensures value { result ≡ value_of key.now self.old.pairs }
+        ensures pairs { self.new ≡ record self.old { pairs = others key.now self.old.pairs } }
+    {
+        self.recent.pop(key)
+    }
+}
+
+#[cfg(test)]
+mod tests {
+    use super::*;
+    use std::test::Fail;
+
+    fn key(n: u8) -> CacheKey {
+        let mut key = [0; 16];
+        key[15] = n;
+        key
+    }
+
+    /// Five values in a cache of three: the first two go; a value is replaced in its place; what is looked for stays longest.
+    #[test]
+    fn of_three(rt: HostRuntime) -> std::result::Result<(), Fail> {
+        let mut cache = Cache::new(rt.alloc(), 3)?;
+        for n in 1..=5 {
+            cache.insert(&key(n), u32::from(n))?;
+        }
+        assert_eq!(rt; (cache.count(), cache.cap()), (3, 3));
+        assert_eq!(rt; cache.get(&key(1)).copied(), None);
+        assert_eq!(rt; cache.get(&key(2)).copied(), None);
+        assert_eq!(rt; cache.get(&key(3)).copied(), Some(3));
+        cache.insert(&key(3), 33)?;
+        assert_eq!(rt; cache.count(), 3);
+        cache.insert(&key(6), 6)?;
+        assert_eq!(rt; cache.get(&key(3)).copied(), Some(33));
+        assert_eq!(rt; cache.get(&key(4)).copied(), None);
+        assert_eq!(rt; cache.remove(&key(5)), Some(5));
+        assert_eq!(rt; cache.remove(&key(5)), None);
+        assert_eq!(rt; cache.count(), 2);
+        assert_eq!(rt; (cache.new_cache_id()?, cache.new_cache_id()?), (1, 2));
+        Ok(())
+    }
+
+    /// Behind the last number there is none, and no number is given twice.
+    #[test]
+    fn last_id(rt: HostRuntime) -> std::result::Result<(), Fail> {
+        let mut cache: Cache<u8> = Cache::new(rt.alloc(), 1)?;
+        cache.id = u64::MAX - 1;
+        assert_eq!(rt; cache.new_cache_id()?, u64::MAX);
+        for _ in 0..2 {
+            let Err(status) = cache.new_cache_id() else {
+                panic!(rt; "a number behind the last");
+            };
+            assert_eq!(rt; status.code, StatusCode::NotSupported);
+        }
+        Ok(())
+    }
+}

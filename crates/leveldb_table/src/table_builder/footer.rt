@@ -1,0 +1,145 @@
+//! The footer, a table's last bytes, which say where its metaindex and its index stand.
+ghost use Rattle.std.specs.Prelude.{◌≡◌, ℕ, ◌+◌, ◌≤◌, List, ◌++◌, Option, Some, length, drop, IsTrue, ◌↔◌, replicate};
+ghost use Rattle.leveldb_base.specs.Handle.{Handle, HandleFits};
+ghost use Rattle.leveldb_base.specs.Varint.{little};
+ghost use Rattle.leveldb_table.specs.Footer.{magic, footer_bytes, ReadsFooter};
+ghost use Rattle.leveldb_table.specs.declared.table_builder.footer.Footer.{Footer};
+
+use leveldb_base::blockhandle::BlockHandle;
+
+/// How many bytes of a footer the handles and the filler have.
+pub const FOOTER_LENGTH: usize = 40;
+
+/// How many bytes a footer has.
+pub const FULL_FOOTER_LENGTH: usize = FOOTER_LENGTH + 8;
+
+/// The number at the end of each table.
+pub const MAGIC_FOOTER_NUMBER: u64 = 0xdb47_7524_8b80_fb57;
+
+/// The eight bytes of that number, the lowest first.
+pub const MAGIC_FOOTER_ENCODED: [u8; 8] = [0x57, 0xfb, 0x80, 0x8b, 0x24, 0x75, 0x47, 0xdb];
+
+/// Where a table's metaindex and its index stand.
+#[derive(Clone, Debug, Drop)]
+pub struct Footer {
+    pub meta_index: BlockHandle,
+    pub index: BlockHandle,
+}
+
+impl Footer {
+    /// The footer of these two handles.
+    pub fn new(meta_index: BlockHandle, index: BlockHandle) -> Footer
+        ensures { result ≡ record { meta_index = meta_index; index = index } }
+    {
+        Footer { meta_index, index }
+    }
+
+    /// The footer that these bytes are.
+    /// `None` for anything else, also where the filler isn't zeros or another number of bytes is there.
+    pub fn decode(from: &[u8]) -> Option<Footer>
+        ensures { ReadsFooter from.now result }
+    {
+        if from.len() != FULL_FOOTER_LENGTH {
+            return None;
+        }
+        let (handles, end) = from.split_at(FOOTER_LENGTH);
+        if end != MAGIC_FOOTER_ENCODED.as_slice() {
+            return None;
+        }
+        let (meta_index, first) = BlockHandle::decode(handles)?;
+        let (index, second) = BlockHandle::decode(&handles[first..])?;
+        if !is_filler(&handles[first + second..]) {
+            return None;
+        }
+        Some(Footer::new(meta_index, index))
+    }
+
+    /// Writes the footer over the first 48 bytes of `to`.
+    #[tactic(auto, using(leveldb_base::specs::HandleLaws::handle_lengths))]
+    pub fn encode(&self, to: &mut [u8])
+        requires { 48 ≤ length to.old }
+        ensures { to.new ≡ footer_bytes self.now.meta_index self.now.index ++ drop 48 to.old }
+    {
+        let first = self.meta_index.encode_to(to);
+        let used = first + self.index.encode_to(&mut to[first..]);
+        to[used..FOOTER_LENGTH].fill(0);
+        to[FOOTER_LENGTH..FULL_FOOTER_LENGTH].copy_from_slice(&MAGIC_FOOTER_ENCODED);
+    }
+}
+
+// Whether all bytes are zeros.
+fn is_filler(bytes: &[u8]) -> bool
+    ensures { IsTrue result ↔ (bytes.now ≡ replicate (length bytes.now) 0) }
+{
+    bytes.iter().all(|byte| *byte == 0)
+}
+
+/// A footer's bytes have one reading.
+#[tactic(auto, using(crate::specs::FooterLaws::one_footer))]
+pub fn footers_have_one_reading()
+    ensures { (meta index other_meta other_index : Handle) → footer_bytes meta index ≡ footer_bytes other_meta other_index → (meta ≡ other_meta) × (index ≡ other_index) }
+{}
+
+/// What was written is read: a reader that keeps the contract of `decode` answers the footer that was put.
+#[tactic(auto, using(crate::specs::FooterLaws::read_footer))]
+pub fn written_footer_is_read()
+    ensures { (footer : Footer) (answer : Option Footer) → HandleFits footer.meta_index → HandleFits footer.index → ReadsFooter (footer_bytes footer.meta_index footer.index) answer → answer ≡ Some footer }
+{}
+
+/// The magic bytes are those of the number, the lowest first, and each footer has 48 bytes.
+#[tactic(auto, using(crate::specs::FooterLaws::footer_lengths))]
+pub fn footers_end_in_the_number()
+    ensures number { little 8 MAGIC_FOOTER_NUMBER ≡ MAGIC_FOOTER_ENCODED }
+    ensures bytes { MAGIC_FOOTER_ENCODED ≡ magic }
+    ensures whole { (meta index : Handle) → HandleFits meta → HandleFits index → length (footer_bytes meta index) ≡ FULL_FOOTER_LENGTH }
+{}
+
+#[cfg(test)]
+mod tests {
+    use super::*;
+
+    /// Two handles, and their footer byte by byte; what stands behind it stays.
+    #[test]
+    fn spelled_both_ways(rt: HostRuntime) {
+        let footer = Footer::new(BlockHandle::new(44, 4), BlockHandle::new(55, 5));
+        let mut target = [7; 50];
+        footer.encode(&mut target);
+        let (bytes, rest) = target.as_slice().split_at(FULL_FOOTER_LENGTH);
+        let (handles, end) = bytes.split_at(FOOTER_LENGTH);
+        assert_eq!(rt; &handles[..4], [0x2c, 4, 0x37, 5].as_slice());
+        assert_eq!(rt; &handles[4..], [0; 36].as_slice());
+        assert_eq!(rt;
+            end,
+            [0x57, 0xfb, 0x80, 0x8b, 0x24, 0x75, 0x47, 0xdb].as_slice()
+        );
+        assert_eq!(rt; rest, [7; 2].as_slice());
+        let Some(read) = Footer::decode(bytes) else {
+            panic!(rt; "no footer");
+        };
+        assert_eq!(rt; (read.meta_index.offset(), read.meta_index.size()), (44, 4));
+        assert_eq!(rt; (read.index.offset(), read.index.size()), (55, 5));
+    }
+
+    /// Bytes that are cut, longer, moved, with filler that isn't zeros, with another number, or with a handle cut.
+    #[test]
+    fn refused(rt: HostRuntime) {
+        let footer = Footer::new(
+            BlockHandle::new(44, 4),
+            BlockHandle::new(usize::MAX, usize::MAX),
+        );
+        let mut bytes = [0; FULL_FOOTER_LENGTH];
+        footer.encode(&mut bytes);
+        assert!(rt; Footer::decode(&bytes).is_some());
+        assert!(rt; Footer::decode(&[]).is_none());
+        assert!(rt; Footer::decode(bytes.as_slice().split_at(47).0).is_none());
+        let mut longer = [0; 49];
+        footer.encode(&mut longer);
+        assert!(rt; Footer::decode(&longer).is_none());
+        assert!(rt; Footer::decode(longer.as_slice().split_at(1).1).is_none());
+        for place in [21, 22, 39, 40, 47] {
+            let mut changed = bytes;
+            changed[place] ^= 0x81;
+            assert!(rt; Footer::decode(&changed).is_none(), "at {place}");
+        }
+    }
+}
