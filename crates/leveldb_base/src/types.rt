@@ -50,8 +50,8 @@ pub trait LdbIterator {
     // the order of keys in which it seeks
     ghost order: { Self → List ℕ → List ℕ → Ordering };
 
-    // what a refused move may answer
-    ghost fails: { Status → Type 0 };
+    // what a refused move may answer that began and ended so; a move before it excuses it no less
+    ghost fails: { Self → Self → Status → Type 0 };
 
     /// Goes to the next pair, from no place to the first, and from the last to no place.
     /// Answers whether it stands on a pair.
@@ -61,7 +61,8 @@ pub trait LdbIterator {
         ensures ok { OnOk result (place self.new ≡ next_place (pairs self.old) (place self.old)) }
         ensures answer { IfOk result (λ there. there ≡ is_some (place self.new)) }
         ensures err { OnErr result (place self.new ≡ None) }
-        ensures cause { IfErr result fails };
+        ensures cause { IfErr result (fails self.old self.new) }
+        ensures excuses { (it : Self) (status : Status) → fails self.new it status → fails self.old it status };
 
     /// Goes to the pair before, and from the first or from no place to no place.
     /// Answers whether it stands on a pair.
@@ -71,7 +72,8 @@ pub trait LdbIterator {
         ensures ok { OnOk result (place self.new ≡ previous_place (place self.old)) }
         ensures answer { IfOk result (λ there. there ≡ is_some (place self.new)) }
         ensures err { OnErr result (place self.new ≡ None) }
-        ensures cause { IfErr result fails };
+        ensures cause { IfErr result (fails self.old self.new) }
+        ensures excuses { (it : Self) (status : Status) → fails self.new it status → fails self.old it status };
 
     /// Goes to the first pair whose key is at or after `key`, or to no place where all keys are before it.
     fn seek(&mut self, key: &[u8]) -> Result<()>
@@ -79,7 +81,8 @@ pub trait LdbIterator {
         ensures same_order { order self.new ≡ order self.old }
         ensures ok { OnOk result (place self.new ≡ seek_place (order self.old) (pairs self.old) key.now) }
         ensures err { OnErr result (place self.new ≡ None) }
-        ensures cause { IfErr result fails };
+        ensures cause { IfErr result (fails self.old self.new) }
+        ensures excuses { (it : Self) (status : Status) → fails self.new it status → fails self.old it status };
 
     /// Goes to the first pair, or to no place in an empty list.
     fn seek_to_first(&mut self) -> Result<()>
@@ -87,7 +90,8 @@ pub trait LdbIterator {
         ensures same_order { order self.new ≡ order self.old }
         ensures ok { OnOk result (place self.new ≡ place_within (pairs self.old) 0) }
         ensures err { OnErr result (place self.new ≡ None) }
-        ensures cause { IfErr result fails }
+        ensures cause { IfErr result (fails self.old self.new) }
+        ensures excuses { (it : Self) (status : Status) → fails self.new it status → fails self.old it status }
     {
         self.reset();
         self.advance()?;
@@ -101,7 +105,8 @@ pub trait LdbIterator {
         ensures ok { OnOk result (place self.new ≡ next_place (pairs self.old) (place self.old)) }
         ensures answer { IfOk result (λ pair. copied_pair pair ≡ pair_at (pairs self.new) (place self.new)) }
         ensures err { OnErr result (place self.new ≡ None) }
-        ensures cause { IfErr result (λ status. fails status ⊎ IsOutOfMemory status) }
+        ensures cause { IfErr result (λ status. fails self.old self.new status ⊎ IsOutOfMemory status) }
+        ensures excuses { (it : Self) (status : Status) → fails self.new it status → fails self.old it status }
     {
         if !self.advance()? {
             return Ok(None);
@@ -121,7 +126,8 @@ pub trait LdbIterator {
     fn reset(&mut self)
         ensures same_pairs { pairs self.new ≡ pairs self.old }
         ensures same_order { order self.new ≡ order self.old }
-        ensures no_place { place self.new ≡ None };
+        ensures no_place { place self.new ≡ None }
+        ensures excuses { (it : Self) (status : Status) → fails self.new it status → fails self.old it status };
 
     /// Whether it stands on a pair.
     fn valid(&self) -> bool

@@ -249,7 +249,7 @@ impl<'a, C: Cmp> LdbIterator for SkipMapIter<'a, C> {
 
     ghost order = { λ it. C.cmp it.map.now.cmp };
 
-    ghost fails = { λ _. ⊥ };
+    ghost fails = { λ _ _ _. ⊥ };
 
     fn advance(&mut self) -> Result<bool> {
         let end = self.map.len();

@@ -40,7 +40,7 @@ impl LdbIterator for Listed {
 
     ghost order = { λ _. bytewise };
 
-    ghost fails = { λ _. ⊥ };
+    ghost fails = { λ _ _ _. ⊥ };
 
     fn advance(&mut self) -> Result<bool> {
         let next = match self.at {
@@ -100,7 +100,7 @@ impl LdbIterator for Broken {
 
     ghost order = { λ _. bytewise };
 
-    ghost fails = { λ status. status.code ≡ IOError };
+    ghost fails = { λ _ _ status. status.code ≡ IOError };
 
     fn advance(&mut self) -> Result<bool> {
         refused()
@@ -152,7 +152,7 @@ impl<A: LdbIterator, B: LdbIterator> LdbIterator for Either<A, B> {
 
     ghost order = { elim [ Left it ↦ A.order it | Right it ↦ B.order it ] };
 
-    ghost fails = { λ status. A.fails status ⊎ B.fails status };
+    ghost fails = { λ a b status. elim a [ Left old ↦ elim b [ Left new ↦ A.fails old new status | Right _ ↦ ⊥ ] | Right old ↦ elim b [ Left _ ↦ ⊥ | Right new ↦ B.fails old new status ] ] };
 
     fn advance(&mut self) -> Result<bool> {
         match self {
@@ -205,7 +205,8 @@ fn count_left<I: LdbIterator>(it: &mut I) -> Result<usize>
     ensures same_pairs { I.pairs it.new ≡ I.pairs it.old }
     ensures count { IfOk result (λ n. n + option_map_or (λ i. i + 1) (I.place it.old) 0 ≡ length (I.pairs it.old)) }
     ensures no_place { I.place it.new ≡ None }
-    ensures cause { IfErr result I.fails }
+    ensures cause { IfErr result (I.fails it.old it.new) }
+    ensures excuses { (other : I) (status : Status) → I.fails it.new other status → I.fails it.old other status }
 {
     let mut n = 0;
     while it.advance()? {

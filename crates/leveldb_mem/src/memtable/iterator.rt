@@ -47,7 +47,7 @@ impl<'a, C: UserCmp> LdbIterator for MemtableIterator<'a, C> {
 
     ghost order = { λ it. internal_cmp (C.cmp it.table.now.cmp) };
 
-    ghost fails = { λ _. ⊥ };
+    ghost fails = { λ _ _ _. ⊥ };
 
     fn advance(&mut self) -> Result<bool> {
         let end = self.table.pair_count();

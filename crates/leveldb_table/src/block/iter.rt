@@ -49,7 +49,7 @@ impl<'a, C: Cmp> LdbIterator for BlockIter<'a, C> {
 
     ghost order = { λ it. C.cmp it.block.now.cmp };
 
-    ghost fails = { IsOutOfMemory };
+    ghost fails = { λ _ _. IsOutOfMemory };
 
     fn advance(&mut self) -> Result<bool> {
         self.core.advance(self.block)
