@@ -13,3 +13,8 @@ pub mod Appends
 pub mod Picks
 pub mod Leaving
 pub mod PickLaws
+pub mod BloomBits
+pub mod BloomHashes
+pub mod KeyCuts
+pub mod BloomMatches
+pub mod BloomMade

@@ -18,4 +18,6 @@ pub mod Record
 pub mod Picks
 pub mod Filters
 pub mod FilterBlock
+pub mod Bloom
+pub mod BloomLaws
 pub mod RecordLaws

@@ -1,10 +1,14 @@
 //! Filters: what tells of most keys that they are in none of the blocks that it was made for.
-ghost use Rattle.std.specs.Prelude.{◌≡◌, ◌≤◌, ℕ, Bool, true, List, [], length, All, Contains, IfOk, IfErr};
+ghost use Rattle.std.specs.Prelude.{◌≡◌, ◌<◌, ◌≤◌, ℕ, Bool, true, List, [], length, All, Contains, IfOk, IfErr, slice_index_or};
 ghost use Rattle.std.specs.List.Sorted.{IsNonDecreasing};
 ghost use Rattle.leveldb_env.specs.Filters.{keys_at, IsNoFilter};
 
 use leveldb_base::error::Result;
 use std::alloc::Global;
+
+mod bloom;
+
+pub use bloom::BloomPolicy;
 
 /// How a filter is made for keys, and how a key is looked for in it. A key from which a filter was
 /// made matches it; of another key the answer is open.
@@ -104,6 +108,22 @@ impl FilterPolicy for NoFilterPolicy {
     }
 
     ghost finds = { λ _ _ _ _. refl };
+}
+
+// The key of this number among those that stand one after another.
+#[inline]
+fn key_at<'a>(keys: &'a [u8], key_offsets: &[usize], index: usize) -> &'a [u8]
+    requires rising { IsNonDecreasing key_offsets.now }
+    requires within { All (λ offset. offset ≤ length keys.now) key_offsets.now }
+    requires there { index < length key_offsets.now }
+    ensures { result.now ≡ slice_index_or (keys_at key_offsets.now keys.now) index [] }
+{
+    let end = if index + 1 < key_offsets.len() {
+        key_offsets[index + 1]
+    } else {
+        keys.len()
+    };
+    &keys[key_offsets[index]..end]
 }
 
 #[cfg(test)]
