@@ -18,3 +18,7 @@ pub mod BloomHashes
 pub mod KeyCuts
 pub mod BloomMatches
 pub mod BloomMade
+pub mod JoinedTexts
+pub mod FilterBlocks
+pub mod FilterBuilds
+pub mod JoinedKeys

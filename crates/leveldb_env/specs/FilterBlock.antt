@@ -79,13 +79,13 @@ abbrev pub finished : (List (List ℕ) → List ℕ) → List (List ℕ) → Lis
 finished make filters [] = filters
 finished make filters (key ∷ keys) = filters ++ make (key ∷ keys) ∷ []
 
--- the policy finds a filter of the open keys too large, or with it the filters would have 2^32 bytes or more
-abbrev pub IsTooLarge : {FP : Type 0} → (FP → List (List ℕ) → Type 0) → (FP → List (List ℕ) → List ℕ) → Building FP → Type 0
-IsTooLarge too_large make building = too_large building.policy building.keys ⊎ (2 ^ 32 ≤ length (concat building.filters) + length (make building.policy building.keys))
+-- the policy finds the keys' filter too large, or with it the filters would have 2^32 bytes or more
+abbrev pub IsTooLarge : (List (List ℕ) → Type 0) → (List (List ℕ) → List ℕ) → List (List ℕ) → List (List ℕ) → Type 0
+IsTooLarge too_large make filters keys = too_large keys ⊎ (2 ^ 32 ≤ length (concat filters) + length (make keys))
 
--- why no filter was made: want of memory, or it would be too large
-abbrev pub IsNotMade : {FP : Type 0} → (FP → List (List ℕ) → Type 0) → (FP → List (List ℕ) → List ℕ) → Building FP → Status → Type 0
-IsNotMade too_large make building status = IsOutOfMemory status ⊎ ((status.code ≡ NotSupported) × IsTooLarge too_large make building)
+-- why no filter was made of the keys: want of memory, or it would be too large
+abbrev pub IsNotMade : (List (List ℕ) → Type 0) → (List (List ℕ) → List ℕ) → List (List ℕ) → List (List ℕ) → Status → Type 0
+IsNotMade too_large make filters keys status = IsOutOfMemory status ⊎ ((status.code ≡ NotSupported) × IsTooLarge too_large make filters keys)
 
 -- ---- what was added is found
 

@@ -20,4 +20,6 @@ pub mod Filters
 pub mod FilterBlock
 pub mod Bloom
 pub mod BloomLaws
+pub mod FilterBlockParts
+pub mod FilterBlockLaws
 pub mod RecordLaws

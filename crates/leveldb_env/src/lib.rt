@@ -4,5 +4,6 @@
 
 pub mod env;
 pub mod filter;
+pub mod filter_block;
 pub mod mem_env;
 pub mod options;

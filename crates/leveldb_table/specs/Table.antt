@@ -1,6 +1,6 @@
 -- A table file: sorted pairs in blocks, an index of these, filters of their keys, and a footer. A list of pairs has many tables, as it is
 -- cut into blocks and as these are spelled.
-use Rattle.std.specs.Prelude.{◌≡◌, ◌≢◌, ℕ, zero, suc, Bool, true, false, List, [], ◌∷◌, ◌++◌, length, flat_map, map, replicate, codes, ◌-◌, Option, None, Some, IfSome}
+use Rattle.std.specs.Prelude.{◌≡◌, ◌≢◌, ℕ, ◌+◌, Bool, true, false, List, [], ◌∷◌, ◌++◌, length, flat_map, map, codes, Option, None, Some, IfSome}
 use Rattle.std.specs.List.{AllByRecursion}
 use Rattle.std.specs.declared.cmp.Ordering.{Ordering}
 use Rattle.std.specs.declared.cmp.Ordering.TheVariants.{Less}
@@ -12,13 +12,9 @@ use Rattle.leveldb_base.specs.Places.{Pair}
 use Rattle.leveldb_base.specs.Varint.{little}
 use Rattle.leveldb_env.specs.FilterBlock.{IsFilterBlock, passes}
 use Rattle.leveldb_table.specs.Block.{IsBlock, KeysRise}
+use Rattle.leveldb_table.specs.Footer.{footer_bytes}
 
 -- ---- blocks in a file
-
--- What is stored of a text under a coder's id: under 0 the text itself, under another id what that coder reads as the text.
-abbrev pub IsStored : (ℕ → List ℕ → List ℕ → Type 0) → ℕ → List ℕ → List ℕ → Type 0
-IsStored Decodes zero stored text = stored ≡ text
-IsStored Decodes (suc id) stored text = Decodes (suc id) stored text
 
 -- a stored block with its trailer: the coder's id, and the masked checksum of both
 abbrev pub with_trailer : ℕ → List ℕ → List ℕ
@@ -33,21 +29,12 @@ pub record StoresAt (file : List ℕ) (handle : Handle) (id : ℕ) (stored : Lis
   pub size : length stored ≡ handle.size
   pub fits : HandleFits handle
 
--- at a handle the file has a block of this text, under some coder
+-- At a handle the file has a block of this text, stored under the id of a coder. Decodes says which text is stored so under which id.
 pub record HasBlockAt (Decodes : ℕ → List ℕ → List ℕ → Type 0) (file : List ℕ) (handle : Handle) (text : List ℕ) : Type 0 where
   pub id : ℕ
   pub stored : List ℕ
   pub stands : StoresAt file handle id stored
-  pub coded : IsStored Decodes id stored text
-
--- ---- the footer
-
-abbrev pub magic : List ℕ
-magic = 0x57 ∷ 0xfb ∷ 0x80 ∷ 0x8b ∷ 0x24 ∷ 0x75 ∷ 0x47 ∷ 0xdb ∷ []
-
--- the handles of the metaindex and of the index, zeros to 40 bytes, and the magic number
-abbrev pub footer_bytes : Handle → Handle → List ℕ
-footer_bytes meta index = (handle_bytes meta ++ handle_bytes index) ++ (replicate (40 - length (handle_bytes meta ++ handle_bytes index)) 0 ++ magic)
+  pub coded : Decodes id stored text
 
 -- ---- data blocks
 
@@ -142,6 +129,28 @@ pub record IsTable (Decodes : ℕ → List ℕ → List ℕ → Type 0) (cmp : L
   pub sorted : KeysRise cmp pairs
   pub stands_for : pairs ≡ flat_map (λ part. part.pairs) parts
   pub filters : AllByRecursion (FiltersHold meaning user file parts) metas
+
+-- ---- what a builder writes
+
+-- each block begins where the one before it ends with its trailer, the first at an offset
+abbrev pub AreLinked : ℕ → List Handle → Type 0
+AreLinked offset [] = Unit {0}
+AreLinked offset (handle ∷ handles) = (handle.offset ≡ offset) × AreLinked (offset + handle.size + 5) handles
+
+-- how many bytes blocks have with their trailers
+abbrev pub blocks_len : List Handle → ℕ
+blocks_len [] = 0
+blocks_len (handle ∷ handles) = handle.size + 5 + blocks_len handles
+
+-- a table's blocks as they are written: the data blocks, the filters, the metaindex, the index
+abbrev pub written_blocks : List Part → Handle → Handle → Handle → List Handle
+written_blocks parts filter meta index = map (λ part. part.handle) parts ++ filter ∷ meta ∷ index ∷ []
+
+-- The file has these blocks one behind the other and the footer, and nothing else. The metaindex has one pair, of the filters.
+pub record IsWritten (file policy : List ℕ) (parts : List Part) (metas : List Pair) (filter meta index : Handle) : Type 0 where
+  pub linked : AreLinked 0 (written_blocks parts filter meta index)
+  pub whole : length file ≡ blocks_len (written_blocks parts filter meta index) + 48
+  pub named : metas ≡ (filter_key policy, handle_bytes filter) ∷ []
 
 -- ---- what is asked of a table
 
