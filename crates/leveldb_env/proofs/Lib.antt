@@ -22,3 +22,4 @@ pub mod JoinedTexts
 pub mod FilterBlocks
 pub mod FilterBuilds
 pub mod JoinedKeys
+pub mod CoderLists

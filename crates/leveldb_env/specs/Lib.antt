@@ -22,4 +22,5 @@ pub mod Bloom
 pub mod BloomLaws
 pub mod FilterBlockParts
 pub mod FilterBlockLaws
+pub mod Coders
 pub mod RecordLaws
