@@ -101,7 +101,7 @@ pub record HasFiltersAt (matches : List ℕ → List ℕ → Bool) (user : List 
 abbrev pub FiltersHold : (List ℕ → Option (List ℕ → List ℕ → Bool)) → (List ℕ → List ℕ) → List ℕ → List Part → Pair → Type 0
 FiltersHold meaning user file parts meta =
     (policy : List ℕ) → meta.0 ≡ filter_key policy → IfSome (meaning policy) (λ matches.
-        (handle : Handle) × HandleFits handle × (meta.1 ≡ handle_bytes handle) × (handle.size ≢ 0 → HasFiltersAt matches user file parts handle))
+    (handle : Handle) × HandleFits handle × (meta.1 ≡ handle_bytes handle) × (handle.size ≢ 0 → HasFiltersAt matches user file parts handle))
 
 -- ---- the table
 

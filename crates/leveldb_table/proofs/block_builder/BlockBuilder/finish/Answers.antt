@@ -1,7 +1,0 @@
-use Rattle.std.proofs.Common.{◌∙◌}
-use Rattle.leveldb_table.proofs.Builds.{built_spelled, built_block}
-use Rattle.leveldb_table.proofs.block_builder.BlockBuilder.finish.Goals as goal
-
-pub returns-clause-ok : goal.returns-clause-ok
-returns-clause-ok g c =
-    built_block (built_spelled c.args.self.built.1 c.in_ok-from_vec.field-0 (c.in_ok-from_vec.ensures.ok ∙ c.in_ok-put_points.ensures.ok))

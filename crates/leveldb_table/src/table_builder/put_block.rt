@@ -1,0 +1,71 @@
+//! Blocks put into a table's file, each with its trailer.
+use leveldb_base::blockhandle::BlockHandle;
+use leveldb_base::crc::{digest, mask_crc};
+use leveldb_base::error::{Result, StatusCode, err};
+use leveldb_env::compressor::{Compressor, CompressorList};
+use leveldb_env::env::Sink;
+use std::alloc::Global;
+
+// How many bytes the trailer has: the coder's id and the checksum.
+const TRAILER: usize = 5;
+
+/// Where a block was put, and where it ends with its trailer.
+#[derive(Clone, Copy)]
+pub struct Placed {
+    pub handle: BlockHandle,
+    pub end: usize,
+}
+
+/// Stores a block by the coder of an id, and puts it at the file's end, which is at the offset.
+pub fn put_coded<S: Sink>(
+    alloc: Global,
+    sink: &mut S,
+    coders: &CompressorList,
+    id: u8,
+    offset: usize,
+    block: Vec<u8>,
+) -> Result<Placed> {
+    let coder = coders.get(alloc, id)?;
+    put_stored(alloc, sink, id, offset, coder.encode(alloc, block)?)
+}
+
+/// Puts a stored block with its trailer at the file's end, which is at the offset, in one put.
+pub fn put_stored<S: Sink>(
+    alloc: Global,
+    sink: &mut S,
+    id: u8,
+    offset: usize,
+    stored: Vec<u8>,
+) -> Result<Placed> {
+    let size = stored.len();
+    let Some(end) = end_of(offset, size) else {
+        return err(
+            alloc,
+            StatusCode::NotSupported,
+            "a table has offsets of 64 bits",
+        );
+    };
+    let mut stored = stored;
+    put_trailer(&mut stored, id)?;
+    sink.put_all(&stored)?;
+    Ok(Placed {
+        handle: BlockHandle::new(offset, size),
+        end,
+    })
+}
+
+// Where a stored block of this size ends with its trailer.
+fn end_of(offset: usize, size: usize) -> Option<usize> {
+    offset.checked_add(size)?.checked_add(TRAILER)
+}
+
+// Puts the trailer behind a stored block.
+fn put_trailer(stored: &mut Vec<u8>, id: u8) -> Result<()> {
+    stored.reserve(TRAILER)?;
+    stored.push(id)?;
+    let mut digest = digest();
+    digest.update(stored);
+    let sum = mask_crc(digest.finalize()).to_le_bytes();
+    stored.extend_from_slice(&sum)?;
+    Ok(())
+}
