@@ -10,3 +10,6 @@ pub mod Footer
 pub mod FooterLaws
 pub mod Cache
 pub mod CacheLends
+pub mod TableStages
+pub mod TableBuilding
+pub mod TablePuts

@@ -22,21 +22,19 @@ pub const TABLE_BLOCK_COMPRESS_LEN: usize = 1;
 /// How many bytes the checksum behind a block has.
 pub const TABLE_BLOCK_CKSUM_LEN: usize = 4;
 
-/// A builder with the sink that its table goes to and the coders that it may use.
+/// A builder with the sink that its table goes to. The calls that store blocks are given the coders.
 #[derive(Drop)]
-pub struct TableBuilder<'a, Dst: Sink, C: Cmp, FP: FilterPolicy> {
+pub struct TableBuilder<Dst: Sink, C: Cmp, FP: FilterPolicy> {
     pub core: BuilderCore<C, FP>,
     pub dst: Dst,
-    pub coders: &'a CompressorList,
 }
 
-impl<'a, Dst: Sink, C: Cmp + Copy, FP: FilterPolicy + Copy> TableBuilder<'a, Dst, C, FP> {
+impl<Dst: Sink, C: Cmp + Copy, FP: FilterPolicy + Copy> TableBuilder<Dst, C, FP> {
     /// A builder under the options' order and policy as they are.
-    pub fn new_raw(alloc: Global, options: &'a Options<C, FP>, dst: Dst) -> Self {
+    pub fn new_raw(alloc: Global, options: &Options<C, FP>, dst: Dst) -> Self {
         TableBuilder {
             core: BuilderCore::new(alloc, options),
             dst,
-            coders: &options.compressor_list,
         }
     }
 
@@ -51,20 +49,16 @@ impl<'a, Dst: Sink, C: Cmp + Copy, FP: FilterPolicy + Copy> TableBuilder<'a, Dst
     }
 
     /// Adds a pair whose key is after all others.
-    pub fn add(&mut self, key: &[u8], value: &[u8]) -> Result<()> {
-        self.core.add(&mut self.dst, self.coders, key, value)
+    pub fn add(&mut self, coders: &CompressorList, key: &[u8], value: &[u8]) -> Result<()> {
+        self.core.add(&mut self.dst, coders, key, value)
     }
 
     /// Writes what is left of the table, and answers how many bytes the table has.
-    pub fn finish(self) -> Result<usize>
+    pub fn finish(self, coders: &CompressorList) -> Result<usize>
     where
         Dst: Drop,
     {
-        let TableBuilder {
-            core,
-            mut dst,
-            coders,
-        } = self;
+        let TableBuilder { core, mut dst } = self;
         core.finish(&mut dst, coders)
     }
 }

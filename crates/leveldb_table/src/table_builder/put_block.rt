@@ -1,8 +1,14 @@
 //! Blocks put into a table's file, each with its trailer.
+ghost use Rattle.std.specs.Prelude.{◌≡◌, ◌+◌, ◌^◌, ◌<◌, ◌≤◌, ◌++◌, ◌∷◌, [], ℕ, List, None, IfOk, IfErr, IfSome, IfNone, OnOk, IsErrAnd, length};
+ghost use Rattle.leveldb_base.specs.Status.{IsOutOfMemory};
+ghost use Rattle.leveldb_env.specs.Coders.{Decodes, IsUnset};
+ghost use Rattle.leveldb_table.specs.Table.{with_trailer};
+ghost use Rattle.leveldb_table.specs.TablePuts.{PutsBlock, IsRefused, PutsNone};
+
 use leveldb_base::blockhandle::BlockHandle;
 use leveldb_base::crc::{digest, mask_crc};
 use leveldb_base::error::{Result, StatusCode, err};
-use leveldb_env::compressor::{Compressor, CompressorList};
+use leveldb_env::compressor::{Coders, Compressor, CompressorList};
 use leveldb_env::env::Sink;
 use std::alloc::Global;
 
@@ -24,7 +30,12 @@ pub fn put_coded<S: Sink>(
     id: u8,
     offset: usize,
     block: Vec<u8>,
-) -> Result<Placed> {
+) -> Result<Placed>
+    ensures ok { IfOk result (λ placed. (stored : List ℕ) × Decodes (⟦<CompressorList as Coders>⟧.codings coders.now) id stored block.items
+        × PutsBlock S.puts id stored sink.old offset placed.handle placed.end sink.new) }
+    ensures err { IfErr result (λ status. PutsNone S.puts sink.old status sink.new) }
+    ensures unset { ⟦<CompressorList as Coders>⟧.codings coders.now id ≡ None → IsErrAnd result (IsUnset id) × (sink.new ≡ sink.old) }
+{
     let coder = coders.get(alloc, id)?;
     put_stored(alloc, sink, id, offset, coder.encode(alloc, block)?)
 }
@@ -36,7 +47,10 @@ pub fn put_stored<S: Sink>(
     id: u8,
     offset: usize,
     stored: Vec<u8>,
-) -> Result<Placed> {
+) -> Result<Placed>
+    ensures ok { IfOk result (λ placed. PutsBlock S.puts id stored.items sink.old offset placed.handle placed.end sink.new) }
+    ensures err { IfErr result (λ status. IsRefused S.puts (with_trailer id stored.items) (offset + length stored.items + 5) sink.old status sink.new) }
+{
     let size = stored.len();
     let Some(end) = end_of(offset, size) else {
         return err(
@@ -55,12 +69,18 @@ pub fn put_stored<S: Sink>(
 }
 
 // Where a stored block of this size ends with its trailer.
-fn end_of(offset: usize, size: usize) -> Option<usize> {
+fn end_of(offset: usize, size: usize) -> Option<usize>
+    ensures some { IfSome result (λ end. end ≡ offset + size + 5) }
+    ensures none { IfNone result (2 ^ 64 ≤ offset + size + 5) }
+{
     offset.checked_add(size)?.checked_add(TRAILER)
 }
 
 // Puts the trailer behind a stored block.
-fn put_trailer(stored: &mut Vec<u8>, id: u8) -> Result<()> {
+fn put_trailer(stored: &mut Vec<u8>, id: u8) -> Result<()>
+    ensures ok { OnOk result (stored.new.items ≡ with_trailer id stored.old.items) }
+    ensures memory { IfErr result IsOutOfMemory }
+{
     stored.reserve(TRAILER)?;
     stored.push(id)?;
     let mut digest = digest();

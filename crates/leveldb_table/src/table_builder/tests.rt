@@ -33,7 +33,7 @@ impl Compressor for Raised {
 
 const PAIRS: [(&[u8], &[u8]); 8] = [
     (b"abc", b"def"),
-    (b"abd", b"dee"),
+    (b"abd", b"def"),
     (b"abe", b"dee"),
     (b"abf", b"dee"),
     (b"bcd", b"asa"),
@@ -61,11 +61,11 @@ fn eight_pairs(rt: HostRuntime) -> Result<()> {
     let mut plain = Vec::new(rt.alloc());
     let mut builder = TableBuilder::new_raw(rt.alloc(), &options, &mut plain);
     for (key, value) in PAIRS {
-        builder.add(key, value)?;
+        builder.add(&options.compressor_list, key, value)?;
     }
     assert_eq!(rt; builder.entries(), 8);
     assert_eq!(rt; builder.size_estimate(), 143);
-    assert_eq!(rt; builder.finish()?, 233);
+    assert_eq!(rt; builder.finish(&options.compressor_list)?, 233);
     assert_eq!(rt; plain.len(), 233);
     Ok(())
 }
