@@ -1,3 +1,4 @@
+pub mod TableOrders
 pub mod EntryReads
 pub mod Sequences
 pub mod Checking

@@ -6,10 +6,11 @@ pub mod WalkLaws
 pub mod Built
 pub mod BuiltLaws
 pub mod Table
+pub mod TablePuts
+pub mod TableStages
+pub mod TableStageLaws
+pub mod TableBuilding
 pub mod Footer
 pub mod FooterLaws
 pub mod Cache
 pub mod CacheLends
-pub mod TableStages
-pub mod TableBuilding
-pub mod TablePuts

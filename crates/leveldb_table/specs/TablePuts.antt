@@ -26,3 +26,10 @@ module _ {S : Type 0} (puts : S → List ℕ → Result (Unit {0}) Status → S 
   -- one put of some bytes was refused with this status, or none was tried
   abbrev pub PutsNone : S → Status → S → Type 0
   PutsNone from status to = ((bytes : List ℕ) × puts from bytes (Err status) to) ⊎ (to ≡ from)
+
+  -- a footer was put at this offset, and the sink was flushed
+  pub record PutsFooter (flushes : S → Result (Unit {0}) Status → S → Type 0) (bytes : List ℕ) (offset : ℕ) (from : S) (end : ℕ) (to : S) : Type 0 where
+    pub mid : S
+    pub put : puts from bytes (Ok tt) mid
+    pub flushed : flushes mid (Ok tt) to
+    pub ends : end ≡ offset + 48

@@ -2,6 +2,7 @@
 use Rattle.std.specs.Prelude.{◌≡◌, ◌≢◌, ℕ, ◌+◌, ◌/◌, ◌<◌, Bool, true, List, [], ◌∷◌, ◌++◌, length, flat_map, map}
 use Rattle.std.specs.List.{AllByRecursion}
 use Rattle.std.specs.declared.cmp.Ordering.{Ordering}
+use Rattle.std.specs.declared.cmp.Ordering.TheVariants.{Less}
 use Rattle.leveldb_base.specs.Handle.{Handle, handle_bytes, HandleFits}
 use Rattle.leveldb_base.specs.Places.{Pair}
 use Rattle.leveldb_env.specs.FilterBlock.{Building, started, IsKept}
@@ -16,6 +17,9 @@ pub record Stage (FP : Type 0) : Type 0 where
   pub lines : List Pair
   pub open_pairs : List Pair
   pub count : ℕ
+
+abbrev pub stage_of : {FP : Type 0} → Building FP → ℕ → List Pair → List Pair → ℕ → Stage FP
+stage_of filter offset lines open_pairs count = record { filter = filter; offset = offset; lines = lines; open_pairs = open_pairs; count = count }
 
 -- the first key, or none
 abbrev pub first_key : List Pair → List ℕ
@@ -50,15 +54,23 @@ pub record IsLaid {FP : Type 0} (Decodes : ℕ → List ℕ → List ℕ → Typ
   pub open_kept : KeepsAll matches stage.filter stage.offset stage.open_pairs
   pub counted : stage.count ≡ length pairs
 
--- A builder that was not refused anything: the index's keys and behind them those of the open block rise, the open block's filter is
--- open, and the open block has a pair where any was added.
-pub record IsSound (accepts : List ℕ → Bool) (cmp index_cmp : List ℕ → List ℕ → Ordering) (lines open_pairs : List Pair) (filters : List (List ℕ)) (offset count : ℕ) : Type 0 where
+-- the index's keys and behind them those of the open block rise, and the open block's filter is open
+pub record AreReady {FP : Type 0} (accepts : List ℕ → Bool) (cmp index_cmp : List ℕ → List ℕ → Ordering) (stage : Stage FP) : Type 0 where
   pub order : index_cmp ≡ cmp
-  pub rise : KeysRise cmp (lines ++ open_pairs)
-  pub accepted : AllByRecursion (λ pair. accepts pair.0 ≡ true) (lines ++ open_pairs)
-  pub filtered : offset / 2048 ≡ length filters
-  pub some : 0 < count → open_pairs ≢ []
-  pub none : count ≡ 0 → lines ++ open_pairs ≡ []
+  pub rise : KeysRise cmp (stage.lines ++ stage.open_pairs)
+  pub accepted : AllByRecursion (λ pair. accepts pair.0 ≡ true) (stage.lines ++ stage.open_pairs)
+  pub filtered : stage.offset / 2048 ≡ length stage.filter.filters
+
+-- an accepted key is after these keys
+pub record Follows {FP : Type 0} (accepts : List ℕ → Bool) (cmp : List ℕ → List ℕ → Ordering) (stage : Stage FP) (next : List ℕ) : Type 0 where
+  pub accepted : accepts next ≡ true
+  pub behind : stage.lines ++ stage.open_pairs ≢ [] → cmp (last_added (stage.lines ++ stage.open_pairs)) next ≡ Less
+
+-- A builder that was not refused anything: it is ready so, and the open block has a pair where any was added.
+pub record IsSound {FP : Type 0} (accepts : List ℕ → Bool) (cmp index_cmp : List ℕ → List ℕ → Ordering) (stage : Stage FP) : Type 0 where
+  pub ready : AreReady accepts cmp index_cmp stage
+  pub some : 0 < stage.count → stage.open_pairs ≢ []
+  pub none : stage.count ≡ 0 → stage.lines ++ stage.open_pairs ≡ []
 
 -- The open block is put behind the file, stored under the id, and gets its line in the index.
 pub record Closes {FP : Type 0} (Decodes : ℕ → List ℕ → List ℕ → Type 0) (cmp : List ℕ → List ℕ → Ordering) (sep : List ℕ → List ℕ → List ℕ) (make : List (List ℕ) → List ℕ)
