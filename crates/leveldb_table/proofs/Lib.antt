@@ -1,3 +1,5 @@
+pub mod TableGrows
+pub mod TableSteps
 pub mod TableOrders
 pub mod EntryReads
 pub mod Sequences
