@@ -30,6 +30,10 @@ pub OnOk-with : {T E : Type 0} (result : Result T E) (P Q : Type 0) → (P → Q
 OnOk-with (Ok value) P Q f h = f h
 OnOk-with (Err error) P Q f h = tt
 
+pub OnOk-both : {T E : Type 0} (result : Result T E) (P Q R : Type 0) → (P → Q → R) → OnOk result P → OnOk result Q → OnOk result R
+OnOk-both (Ok value) P Q R f h k = f h k
+OnOk-both (Err error) P Q R f h k = tt
+
 module _ {S : Type 0} (puts : S → List ℕ → Result (Unit {0}) Status → S → Type 0) where
   -- a put that was refused, or none
   pub some_none : (from : S) (status : Status) (to : S) → PutsNone puts from status to → PutsSome puts from status to

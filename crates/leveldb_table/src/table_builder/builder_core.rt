@@ -173,6 +173,7 @@ impl<C: Cmp + Copy, FP: FilterPolicy> BuilderCore<C, FP> {
     ) -> Result<()>
         requires broken { self.old.broken ≡ true }
         requires sound { Ready C.accepts C.cmp self.old next.now }
+        requires some { (stage self.old).open_pairs ≡ [] → (stage self.old).lines ≡ [] }
         ensures ok { OnOk result (MakesRoom S.puts
             (IsBegun (⟦<CompressorList as Coders>⟧.codings coders.now) C.accepts C.cmp C.shortest_sep FP.matches self.old)
             (Decodes (⟦<CompressorList as Coders>⟧.codings coders.now)) (C.accepts (order_of self.old)) (C.cmp (order_of self.old)) (C.shortest_sep (order_of self.old)) (FP.matches (policy_of self.old))
@@ -183,7 +184,7 @@ impl<C: Cmp + Copy, FP: FilterPolicy> BuilderCore<C, FP> {
         ensures coder { self.new.compressor ≡ self.old.compressor }
         ensures count { self.new.count ≡ self.old.count }
         ensures broken { self.new.broken ≡ true }
-        ensures sink { IfErr result (λ status. PutsNone S.puts sink.old status sink.new) }
+        ensures sink { IfErr result (λ status. PutsSome S.puts sink.old status sink.new) }
     {
         if self.block.entries() > 0 && self.block.size_estimate() > self.block_size {
             return self.close_block(sink, coders, next);
