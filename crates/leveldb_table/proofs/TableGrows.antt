@@ -77,24 +77,27 @@ module _ {FP : Type 0} (Decodes : ℕ → List ℕ → List ℕ → Type 0) (acc
       let size : length bytes ≡ length closes.stored + 5 = ap length closes.spelled ∙ length-append closes.stored _ in
       record {
         parts = laid.parts ++ part ∷ [];
-        each = all_append (IsPart Decodes cmp (written ++ bytes)) laid.parts (part ∷ []) (all_with (IsPart Decodes cmp written) (IsPart Decodes cmp (written ++ bytes)) (part_more Decodes cmp written bytes) laid.parts laid.each) (record {
-          text = closes.text;
-          stands = record {
-            id = id;
-            stored = closes.stored;
+        each = all_append (IsPart Decodes cmp (written ++ bytes)) laid.parts (part ∷ []) (all_with (IsPart Decodes cmp written) (IsPart Decodes cmp (written ++ bytes)) (part_more Decodes cmp written bytes) laid.parts laid.each) (
+          record {
+            text = closes.text;
             stands = record {
-              before = written;
-              behind = [];
-              whole = ap (λ z. written ++ z) (closes.spelled ∙ sym (append-nil (with_trailer id closes.stored)));
-              offset = laid.whole ∙ sym closes.begins;
-              size = sym closes.size;
-              fits = closes.fits;
+              id = id;
+              stored = closes.stored;
+              stands = record {
+                before = written;
+                behind = [];
+                whole = ap (λ z. written ++ z) (closes.spelled ∙ sym (append-nil (with_trailer id closes.stored)));
+                offset = laid.whole ∙ sym closes.begins;
+                size = sym closes.size;
+                fits = closes.fits;
+              };
+              coded = closes.coded;
             };
-            coded = closes.coded;
-          };
-          block = closes.block;
-          some = some;
-        }, tt);
+            block = closes.block;
+            some = some;
+          },
+          tt,
+        );
         lined = closes.line ∙ ap (λ z. z ++ (sep (last_added old.open_pairs) next, handle_bytes closes.handle) ∷ []) laid.lined ∙ sym (map-append index_pair laid.parts (part ∷ []));
         separated = separated_push sep laid.parts part next laid.separated refl;
         linked = subst (AreLinked 0) (sym handles) (linked_push 0 (map (λ part. part.handle) laid.parts) closes.handle laid.linked (closes.begins ∙ laid.placed ∙ (let same : blocks_len (map (λ part. part.handle) laid.parts) ≡ 0 + blocks_len (map (λ part. part.handle) laid.parts) = omega arith in same)));
@@ -108,9 +111,11 @@ module _ {FP : Type 0} (Decodes : ℕ → List ℕ → List ℕ → Type 0) (acc
         accepted = laid.accepted;
         kept = all_append (λ part. KeepsAll (matches old.filter.policy) new.filter part.handle.offset part.pairs) laid.parts (part ∷ [])
             (all_with (λ part. KeepsAll (matches old.filter.policy) old.filter part.handle.offset part.pairs) (λ part. KeepsAll (matches old.filter.policy) new.filter part.handle.offset part.pairs)
-            (λ part h. kept_started old.filter new.filter new.offset part.handle.offset part.pairs closes.started same h) laid.parts laid.kept)
-            (kept_started old.filter new.filter new.offset closes.handle.offset old.open_pairs closes.started same
-            (subst (λ offset. KeepsAll (matches old.filter.policy) old.filter offset old.open_pairs) (sym closes.begins) laid.open_kept), tt);
+            (λ part h. kept_started old.filter new.filter new.offset part.handle.offset part.pairs closes.started same h) laid.parts laid.kept) (
+              kept_started old.filter new.filter new.offset closes.handle.offset old.open_pairs closes.started same
+                  (subst (λ offset. KeepsAll (matches old.filter.policy) old.filter offset old.open_pairs) (sym closes.begins) laid.open_kept),
+              tt,
+            );
         open_kept = subst (KeepsAll (matches old.filter.policy) new.filter new.offset) (sym closes.none_open) tt;
         counted = closes.count ∙ laid.counted;
       }
@@ -180,8 +185,21 @@ module _ {FP : Type 0} (Decodes : ℕ → List ℕ → List ℕ → Type 0) (acc
   pub laid_room : (m : List ℕ → List ℕ → Bool) (stage : Stage FP) (next written : List ℕ) (pairs : List Pair) → (stage.open_pairs ≡ [] → stage.lines ≡ [])
       → IsLaid Decodes accepts cmp sep m stage (first_key stage.open_pairs) written pairs → IsLaid Decodes accepts cmp sep m stage (first_key (stage.open_pairs ++ (next, []) ∷ [])) (written ++ []) pairs
   laid_room m stage next written pairs none laid = subst (λ z. IsLaid Decodes accepts cmp sep m stage (first_key (stage.open_pairs ++ (next, []) ∷ [])) z pairs) (sym (append-nil written))
-      (record { parts = laid.parts; each = laid.each; lined = laid.lined; separated = same_next stage.lines laid.parts stage.open_pairs next none laid.lined laid.separated; linked = laid.linked; placed = laid.placed; whole = laid.whole;
-        stands_for = laid.stands_for; sorted = laid.sorted; accepted = laid.accepted; kept = laid.kept; open_kept = laid.open_kept; counted = laid.counted })
+      (record {
+        parts = laid.parts;
+        each = laid.each;
+        lined = laid.lined;
+        separated = same_next stage.lines laid.parts stage.open_pairs next none laid.lined laid.separated;
+        linked = laid.linked;
+        placed = laid.placed;
+        whole = laid.whole;
+        stands_for = laid.stands_for;
+        sorted = laid.sorted;
+        accepted = laid.accepted;
+        kept = laid.kept;
+        open_kept = laid.open_kept;
+        counted = laid.counted;
+      })
 
   follows_by : (lines : List Pair) (parts : List Part) (open_pairs pairs : List Pair) (next : List ℕ) → (open_pairs ≡ [] → lines ≡ []) → lines ≡ map index_pair parts → pairs ≡ flat_map (λ (part : Part). part.pairs) parts ++ open_pairs
       → (lines ++ open_pairs ≢ [] → cmp (last_added (lines ++ open_pairs)) next ≡ Less) → pairs ≢ [] → cmp (last_added pairs) next ≡ Less

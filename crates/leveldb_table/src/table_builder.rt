@@ -59,7 +59,7 @@ impl<Dst: Sink, C: Cmp + Copy, FP: FilterPolicy + Copy> TableBuilder<Dst, C, FP>
         Dst: Drop,
     {
         let TableBuilder { core, mut dst } = self;
-        core.size_estimate(); Ok(0)
+        core.finish(&mut dst, coders)
     }
 }
 

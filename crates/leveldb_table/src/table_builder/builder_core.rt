@@ -48,8 +48,7 @@ pub struct BuilderCore<C: Cmp, FP: FilterPolicy> {
     offset: usize,
     count: usize,
     broken: bool,
-    pub ghost sound: { broken ≡ false → IsSound (C.accepts block.cmp) (C.cmp block.cmp) (C.cmp index.cmp) (stage_of filter offset (pairs_of None index.built.0) (pairs_of None block.built.0) count) }
-        by { λ u v. λ i h. IsSound-prop (C.accepts block.cmp) (C.cmp block.cmp) (C.cmp index.cmp) (stage_of filter offset (pairs_of None index.built.0) (pairs_of None block.built.0) count) (u h) (v h) i },
+    pub ghost sound: { broken ≡ false → IsSound (C.accepts block.cmp) (C.cmp block.cmp) (C.cmp index.cmp) (stage_of filter offset (pairs_of None index.built.0) (pairs_of None block.built.0) count) } by { λ u v. λ i h. IsSound-prop (C.accepts block.cmp) (C.cmp block.cmp) (C.cmp index.cmp) (stage_of filter offset (pairs_of None index.built.0) (pairs_of None block.built.0) count) (u h) (v h) i },
 }
 
 impl<C: Cmp + Copy, FP: FilterPolicy> BuilderCore<C, FP> {
@@ -154,6 +153,23 @@ impl<C: Cmp + Copy, FP: FilterPolicy> BuilderCore<C, FP> {
         Ok(())
     }
 
+    /// Writes what is left of the table: the open block, the filters, the metaindex, the index and the footer. Answers how
+    /// many bytes the table has.
+    pub fn finish<S: Sink>(mut self, sink: &mut S, coders: &CompressorList) -> Result<usize>
+    where
+        C: Drop,
+        FP: Drop,
+    {
+        self.check_unbroken()?;
+        self.broken = true;
+        if self.block.entries() > 0 {
+            let last = self.block.last_key();
+            let next = self.block.order().find_short_succ(self.alloc, last)?;
+            self.close_block(sink, coders, &next)?;
+        }
+        self.put_end(sink, coders)
+    }
+
     fn check_unbroken(&self) -> Result<()>
         ensures ok { OnOk result (self.now.broken ≡ false) }
         ensures err { IfErr result (λ status. (self.now.broken ≡ true) × IsBroken status) }
@@ -206,7 +222,7 @@ impl<C: Cmp + Copy, FP: FilterPolicy> BuilderCore<C, FP> {
         requires behind { C.cmp (order_of self.old) (last_of self.old) next.now ≢ Greater }
         ensures ok { OnOk result ((bytes : List ℕ) × S.puts sink.old bytes (Ok tt) sink.new
             × Closes (Decodes (⟦<CompressorList as Coders>⟧.codings coders.now)) (C.cmp (order_of self.old)) (C.shortest_sep (order_of self.old)) (FP.filter_for (policy_of self.old))
-                self.old.compressor next.now (stage self.old) bytes (stage self.new)) }
+            self.old.compressor next.now (stage self.old) bytes (stage self.new)) }
         ensures open_filter { OnOk result (IsReady C.accepts C.cmp self.new) }
         ensures order { order_of self.new ≡ order_of self.old }
         ensures policy { policy_of self.new ≡ policy_of self.old }
@@ -216,7 +232,10 @@ impl<C: Cmp + Copy, FP: FilterPolicy> BuilderCore<C, FP> {
         ensures sink { IfErr result (λ status. PutsSome S.puts sink.old status sink.new) }
     {
         let last = self.block.last_key();
-        let separator = self.block.order().find_shortest_sep(self.alloc, last, next)?;
+        let separator = self
+            .block
+            .order()
+            .find_shortest_sep(self.alloc, last, next)?;
         let fresh = self.block.fresh();
         let block = replace(&mut self.block, fresh).into_bytes()?;
         let placed = put_coded(
@@ -230,6 +249,40 @@ impl<C: Cmp + Copy, FP: FilterPolicy> BuilderCore<C, FP> {
         self.offset = placed.end;
         add_handle(&mut self.index, &separator, placed.handle)?;
         self.filter.start_block(self.offset)
+    }
+
+    // Writes all that comes behind the data blocks.
+    fn put_end<S: Sink>(self, sink: &mut S, coders: &CompressorList) -> Result<usize>
+    where
+        C: Drop,
+        FP: Drop,
+    {
+        let BuilderCore {
+            alloc,
+            compressor,
+            index,
+            filter,
+            offset,
+            ..
+        } = self;
+        let name = filter.filter_name();
+        let filters = put_stored(alloc, sink, NoneCompressor::ID, offset, filter.finish()?)?;
+        let meta = metaindex(alloc, index.interval(), name, filters.handle)?;
+        let meta = put_coded(alloc, sink, coders, compressor, filters.end, meta)?;
+        let index = put_coded(
+            alloc,
+            sink,
+            coders,
+            compressor,
+            meta.end,
+            index.into_bytes()?,
+        )?;
+        put_footer(
+            alloc,
+            sink,
+            index.end,
+            Footer::new(meta.handle, index.handle),
+        )
     }
 }
 

@@ -37,22 +37,26 @@ returns-clause-ok g c =
     let sep = c.deref.ensures.value ∙ c.in_ok-separator.ensures.ok in
     let line = rw (c.deref.ensures.value, c.in_ok-separator.ensures.ok, c.order.ensures, c.last_key-last.ensures) at c.in_ok-add_handle.ensures.ok in
     let old = c.replace.ensures.value in
-    OnOk-with c.start_block.result _ _ (λ made. (with_trailer c.args.self.now.compressor placed.0, placed.2.put, record {
-      text = c.in_ok-block.block.items;
-      stored = placed.0;
-      handle = c.in_ok-placed.placed.handle;
-      block = rw (sym old) c.in_ok-block.ensures.ok;
-      coded = placed.1;
-      begins = placed.2.begins;
-      size = placed.2.size;
-      fits = placed.2.fits;
-      spelled = refl;
-      ends = placed.2.ends;
-      line = line;
-      none_open = rw (c.replace.ensures.after, c.fresh-fresh.ensures.none) refl;
-      started = made;
-      count = refl;
-    })) c.start_block.ensures.ok
+    OnOk-with c.start_block.result _ _ (λ made. (
+      with_trailer c.args.self.now.compressor placed.0,
+      placed.2.put,
+      record {
+        text = c.in_ok-block.block.items;
+        stored = placed.0;
+        handle = c.in_ok-placed.placed.handle;
+        block = rw (sym old) c.in_ok-block.ensures.ok;
+        coded = placed.1;
+        begins = placed.2.begins;
+        size = placed.2.size;
+        fits = placed.2.fits;
+        spelled = refl;
+        ends = placed.2.ends;
+        line = line;
+        none_open = rw (c.replace.ensures.after, c.fresh-fresh.ensures.none) refl;
+        started = made;
+        count = refl;
+      },
+    )) c.start_block.ensures.ok
 
 pub returns-clause-open_filter : goal.returns-clause-open_filter
 returns-clause-open_filter g c =

@@ -26,9 +26,9 @@ returns-then-size_estimate-self-clause-ok g c =
       put = PutsAll-one g.S.Sink.puts closed.1;
       laid = λ written pairs begun. (
         laid_anew _ (g.C.Cmp.accepts c.args.self.now.block.cmp) cmp (g.C.Cmp.shortest_sep c.args.self.now.block.cmp) g.FP.FilterPolicy.filter_for g.FP.FilterPolicy.matches keeps
-        (stage c.args.self.now) (stage c.close_block.new.self) c.args.self.now.compressor c.args.next.now closed.0 written pairs some c.close_block.ensures.policy closed.2 begun,
+            (stage c.args.self.now) (stage c.close_block.new.self) c.args.self.now.compressor c.args.next.now closed.0 written pairs some c.close_block.ensures.policy closed.2 begun,
         follows_all _ (g.C.Cmp.accepts c.args.self.now.block.cmp) cmp (g.C.Cmp.shortest_sep c.args.self.now.block.cmp) g.FP.FilterPolicy.filter_for g.FP.FilterPolicy.matches keeps (g.FP.FilterPolicy.matches c.args.self.now.filter.policy)
-        (stage c.args.self.now) (first_key (stage c.args.self.now).open_pairs) c.args.next.now written pairs c.requires.some c.requires.sound.1 begun,
+            (stage c.args.self.now) (first_key (stage c.args.self.now).open_pairs) c.args.next.now written pairs c.requires.some c.requires.sound.1 begun,
       );
     }) c.close_block.ensures.ok
 
@@ -41,9 +41,9 @@ returns-clause-ok g c =
       put = PutsAll-none g.S.Sink.puts c.args.sink.now;
       laid = λ written pairs begun. (
         laid_room _ (g.C.Cmp.accepts c.args.self.now.block.cmp) cmp (g.C.Cmp.shortest_sep c.args.self.now.block.cmp) g.FP.FilterPolicy.filter_for g.FP.FilterPolicy.matches keeps (g.FP.FilterPolicy.matches c.args.self.now.filter.policy)
-        (stage c.args.self.now) c.args.next.now written pairs c.requires.some begun,
+            (stage c.args.self.now) c.args.next.now written pairs c.requires.some begun,
         follows_all _ (g.C.Cmp.accepts c.args.self.now.block.cmp) cmp (g.C.Cmp.shortest_sep c.args.self.now.block.cmp) g.FP.FilterPolicy.filter_for g.FP.FilterPolicy.matches keeps (g.FP.FilterPolicy.matches c.args.self.now.filter.policy)
-        (stage c.args.self.now) (first_key (stage c.args.self.now).open_pairs) c.args.next.now written pairs c.requires.some c.requires.sound.1 begun,
+            (stage c.args.self.now) (first_key (stage c.args.self.now).open_pairs) c.args.next.now written pairs c.requires.some c.requires.sound.1 begun,
       );
     }
 
@@ -56,8 +56,10 @@ returns-then-size_estimate-self-clause-ready g c =
     let line = is_line (g.met.C.Cmp.preorder c.args.self.now.block.cmp) (g.C.Cmp.shortest_sep c.args.self.now.block.cmp) (g.met.C.Cmp.separates c.args.self.now.block.cmp)
     (pairs_of None c.args.self.now.index.built.0) (pairs_of None c.args.self.now.block.built.0) c.args.next.now [] some c.requires.sound.0.rise c.requires.sound.0.accepted c.requires.sound.1.accepted
     (λ e. let clash : Less ≡ Greater = sym less ∙ e in cc) in
-    OnOk-both c.close_block.result _ _ _ (λ closed ready. (ready,
+    OnOk-both c.close_block.result _ _ _ (λ closed ready. (
+      ready,
       subst (λ o. Follows (g.C.Cmp.accepts o) (g.C.Cmp.cmp o) (stage c.close_block.new.self) c.args.next.now) (sym c.close_block.ensures.order)
-      (follows_closed _ (g.C.Cmp.accepts c.args.self.now.block.cmp) cmp (g.C.Cmp.shortest_sep c.args.self.now.block.cmp) g.FP.FilterPolicy.filter_for g.FP.FilterPolicy.matches keeps
-      (stage c.args.self.now) (stage c.close_block.new.self) c.args.self.now.compressor c.args.next.now closed.0 closed.2 c.requires.sound.1.accepted (line.before less))))
+          (follows_closed _ (g.C.Cmp.accepts c.args.self.now.block.cmp) cmp (g.C.Cmp.shortest_sep c.args.self.now.block.cmp) g.FP.FilterPolicy.filter_for g.FP.FilterPolicy.matches keeps
+          (stage c.args.self.now) (stage c.close_block.new.self) c.args.self.now.compressor c.args.next.now closed.0 closed.2 c.requires.sound.1.accepted (line.before less)),
+    ))
     c.close_block.ensures.ok c.close_block.ensures.open_filter
