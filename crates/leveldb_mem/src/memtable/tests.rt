@@ -54,9 +54,14 @@ fn refuses_a_present_entry(rt: HostRuntime) -> Result<()> {
     );
     match table.add(2, ValueType::TypeValue, b"abc", b"other") {
         Ok(()) => panic!(rt; "added twice"),
-        Err(status) => assert_eq!(rt; status.code, StatusCode::AlreadyExists),
+        Err(status) => {
+            assert_eq!(rt; (table.len(), table.approx_mem_usage()), (4, before));
+            if status.code == StatusCode::OutOfMemory {
+                return Err(status);
+            }
+            assert_eq!(rt; status.code, StatusCode::AlreadyExists);
+        }
     }
-    assert_eq!(rt; (table.len(), table.approx_mem_usage()), (4, before));
     let key = LookupKey::new(rt.alloc(), b"abc", 2)?;
     assert!(rt; table.get(&key) == Some(None));
     Ok(())
