@@ -54,9 +54,14 @@ fn refuses_a_present_entry(rt: HostRuntime) -> Result<()> {
     );
     match table.add(2, ValueType::TypeValue, b"abc", b"other") {
         Ok(()) => panic!(rt; "added twice"),
-        Err(status) => assert_eq!(rt; status.code, StatusCode::AlreadyExists),
+        Err(status) => {
+            assert_eq!(rt; (table.len(), table.approx_mem_usage()), (4, before));
+            if status.code == StatusCode::OutOfMemory {
+                return Err(status);
+            }
+            assert_eq!(rt; status.code, StatusCode::AlreadyExists);
+        }
     }
-    assert_eq!(rt; (table.len(), table.approx_mem_usage()), (4, before));
     let key = LookupKey::new(rt.alloc(), b"abc", 2)?;
     assert!(rt; table.get(&key) == Some(None));
     Ok(())
@@ -70,6 +75,19 @@ fn prepares_for_a_batch(rt: HostRuntime) -> Result<()> {
     batch.delete(b"abd")?;
     table.prepare(&batch)?;
     assert_eq!(rt; table.len(), 4);
+    Ok(())
+}
+
+/// A refused call for room leaves the entries as they were, and can be made again.
+#[test]
+fn prepares_again_behind_a_refusal(rt: HostRuntime) -> Result<()> {
+    let mut table = versions(rt.alloc())?;
+    let batch = changes(rt.alloc())?;
+    if let Err(status) = table.prepare(&batch) {
+        assert_eq!(rt; (table.len(), table.approx_mem_usage()), (4, 442));
+        table.prepare(&batch)?;
+        return Err(status);
+    }
     Ok(())
 }
 
@@ -260,9 +278,29 @@ fn older_ones_come_later(rt: HostRuntime) -> Result<()> {
     for (count, row) in ROWS.iter().enumerate() {
         let (sequence, key, value) = *row;
         let (kind, bytes) = type_and_bytes(value);
-        assert!(rt; sequence < 100 && key.len() < 100 && bytes.len() < 100);
+        assert!(rt; sequence < 100);
         table.add(sequence, kind, key, bytes)?;
         check_rows(&rt, &table, &ROWS[..=count]);
+    }
+    Ok(())
+}
+
+/// A refused entry leaves the others as they were, and can be put again.
+#[test]
+fn adds_again_behind_a_refusal(rt: HostRuntime) -> Result<()> {
+    let mut table = MemTable::new(rt.alloc(), DefaultCmp);
+    for (count, row) in ROWS.iter().enumerate() {
+        let (sequence, key, value) = *row;
+        let (kind, bytes) = type_and_bytes(value);
+        assert!(rt; sequence < 100);
+        let before = (table.len(), table.approx_mem_usage());
+        if let Err(status) = table.add(sequence, kind, key, bytes) {
+            assert_eq!(rt; (table.len(), table.approx_mem_usage()), before);
+            check_rows(&rt, &table, &ROWS[..count]);
+            table.add(sequence, kind, key, bytes)?;
+            check_rows(&rt, &table, &ROWS[..=count]);
+            return Err(status);
+        }
     }
     Ok(())
 }

@@ -58,6 +58,24 @@ fn refuses_present_and_empty_keys(rt: HostRuntime) -> Result<()> {
     Ok(())
 }
 
+/// A refused insertion leaves the map as it was, and can be made again.
+#[test]
+fn inserts_again_behind_a_refusal(rt: HostRuntime) -> Result<()> {
+    let mut map = SkipMap::new(rt.alloc(), DefaultCmp);
+    for i in 0..26u8 {
+        let key = [b'a', b'b', b'a' + 7 * i % 26];
+        let before = (map.len(), map.approx_memory());
+        if let Err(status) = map.insert(&key, b"def") {
+            assert_eq!(rt; (map.len(), map.approx_memory()), before);
+            assert!(rt; !map.contains(&key));
+            map.insert(&key, b"def")?;
+            assert!(rt; map.contains(&key));
+            return Err(status);
+        }
+    }
+    Ok(())
+}
+
 #[test]
 fn turns_at_every_place(rt: HostRuntime) -> Result<()> {
     let map = letters(rt.alloc())?;
