@@ -226,3 +226,6 @@ fn put(listed: &mut Vec<Listed>, id: u8, compressor: Box<dyn Compressor>) -> Res
     listed.push(Listed { id, compressor })?;
     Ok(())
 }
+
+#[cfg(test)]
+mod tests;
