@@ -49,15 +49,15 @@ follows last now items batch bytes next is same = subst (λ b. Follows now b) (s
 
 -- ---- the exits
 
-module _ {E C FP F : Type 0} (env : Ghosts E F) (store : List ℕ) (cmp : List ℕ → List ℕ → Ordering) (engine : Engine E C FP F) (from : E) (old : State) (items : List Item) (sync : Bool) (after : Engine E C FP F) (to : E) where
+module _ {E C FP F I : Type 0} {D : I → Type 0} (env : Ghosts E F) (store : List ℕ) (cmp : List ℕ → List ℕ → Ordering) (engine : Engine E C FP F I D) (from : E) (old : State) (items : List Item) (sync : Bool) (after : Engine E C FP F I D) (to : E) where
   abbrev pub Wrote : Answer → Type 0
   Wrote answer = Goes store (Reads store) (Recalls env store) cmp (scene env cmp (Some engine) from) (write items sync) answer (scene env cmp (Some after) to) old
 
-module _ {E C FP F : Type 0} (env : Ghosts E F) (tells : IsTrue env.tells_disk) (store : List ℕ) (cmp : List ℕ → List ℕ → Ordering) (engine : Engine E C FP F) (from : E) (old : State) (stood : Was env store engine from old)
+module _ {E C FP F I : Type 0} {D : I → Type 0} (env : Ghosts E F) (tells : IsTrue env.tells_disk) (store : List ℕ) (cmp : List ℕ → List ℕ → Ordering) (engine : Engine E C FP F I D) (from : E) (old : State) (stood : Was env store engine from old)
     (open_now : engine.mode ≡ Open) (recent : Numbered) (entries : recent.kept.entries ≡ engine.recent.kept.entries) (last : recent.last ≡ engine.recent.last) (items : List Item) (sync : Bool) (bytes : List ℕ)
     (next : IsNext engine.recent.last items bytes) where
   -- the engine behind the preparation
-  abbrev prepared : Engine E C FP F
+  abbrev prepared : Engine E C FP F I D
   prepared = record engine { recent = recent }
 
   now : Was env store prepared from old
@@ -66,24 +66,24 @@ module _ {E C FP F : Type 0} (env : Ghosts E F) (tells : IsTrue env.tells_disk) 
   next_now : IsNext recent.last items bytes
   next_now = subst (λ n. IsNext n items bytes) (sym last) next
 
-  from_prepared : (answer : Answer) (after : Engine E C FP F) (to : E) → Wrote env store cmp prepared from old items sync after to answer → Wrote env store cmp engine from old items sync after to answer
+  from_prepared : (answer : Answer) (after : Engine E C FP F I D) (to : E) → Wrote env store cmp prepared from old items sync after to answer → Wrote env store cmp engine from old items sync after to answer
   from_prepared answer after to goes = begun_with store (Recalls env store) cmp (Some prepared) (Some engine) (env.tells from) (env.failures from) (write items sync) answer (scene env cmp (Some after) to) old goes
 
   -- the append was refused
-  pub refused_append : (after : Engine E C FP F) (to : E) (status : Status) → after ≡ record prepared { log = after.log; writer = after.writer; mode = after.mode } → after.mode ≡ (if after.writer.broken then Broken else engine.mode)
+  pub refused_append : (after : Engine E C FP F I D) (to : E) (status : Status) → after ≡ record prepared { log = after.log; writer = after.writer; mode = after.mode } → after.mode ≡ (if after.writer.broken then Broken else engine.mode)
       → Refuses (Appends env) engine.writer (opened from engine.log) bytes status after.writer (opened to after.log) → Wrote env store cmp engine from old items sync after to (refused (refusal_of status))
   refused_append after to status rest mode refusal = from_prepared (refused (refusal_of status)) after to (append_refused env tells store prepared from old now open_now items bytes next_now cmp sync after to rest mode status refusal)
 
   -- it was done
-  module _ (middle : Engine E C FP F) (mid : E) (rest : middle ≡ record prepared { log = middle.log; writer = middle.writer; mode = middle.mode }) (mode : middle.mode ≡ (if middle.writer.broken then Broken else engine.mode))
+  module _ (middle : Engine E C FP F I D) (mid : E) (rest : middle ≡ record prepared { log = middle.log; writer = middle.writer; mode = middle.mode }) (mode : middle.mode ≡ (if middle.writer.broken then Broken else engine.mode))
       (count : ℕ) (adds : Adds (Appends env) engine.writer (opened from engine.log) bytes count middle.writer (opened mid middle.log)) where
     -- and the sync was refused
-    pub refused_sync : (after : Engine E C FP F) (to : E) (status : Status) → after ≡ record middle { log = after.log; writer = after.writer; mode = after.mode } → after.mode ≡ Broken
+    pub refused_sync : (after : Engine E C FP F I D) (to : E) (status : Status) → after ≡ record middle { log = after.log; writer = after.writer; mode = after.mode } → after.mode ≡ Broken
         → Flushes (Syncs env) middle.writer (opened mid middle.log) (Err status) after.writer (opened to after.log) → Wrote env store cmp engine from old items sync after to (refused (refusal_of status))
     refused_sync after to status rest_after broke flushed = from_prepared (refused (refusal_of status)) after to
         (sync_refused env tells store prepared from old now open_now items bytes next_now middle mid rest mode count adds cmp sync after to rest_after status broke flushed)
 
-    module _ (batch : Batch) (batch_is : batch ≡ batch_of (engine.recent.last + 1) items) (below : AreUpTo engine.recent.last engine.recent.kept.entries) (inserted : Numbered) (self : Engine E C FP F) (inserts : Inserts self.recent batch inserted) (at : E) where
+    module _ (batch : Batch) (batch_is : batch ≡ batch_of (engine.recent.last + 1) items) (below : AreUpTo engine.recent.last engine.recent.kept.entries) (inserted : Numbered) (self : Engine E C FP F I D) (inserts : Inserts self.recent batch inserted) (at : E) where
       last_is : engine.recent.last ≡ old.last
       last_is = sym last ∙ last_now
         where
@@ -102,26 +102,26 @@ module _ {E C FP F : Type 0} (env : Ghosts E F) (tells : IsTrue env.tells_disk) 
       -- it was all that was asked for
       pub done_plain : sync ≡ false → self ≡ middle → at ≡ mid → Wrote env store cmp engine from old items sync (record self { recent = inserted }) at done
       done_plain plain self_is at_is = subst (λ (e : E). Wrote env store cmp engine from old items sync (record self { recent = inserted }) e done) (sym at_is)
-          (subst (λ (m : Engine E C FP F). Wrote env store cmp engine from old items sync (record m { recent = inserted }) mid done) (sym self_is)
+          (subst (λ (m : Engine E C FP F I D). Wrote env store cmp engine from old items sync (record m { recent = inserted }) mid done) (sym self_is)
           (from_prepared done (record middle { recent = inserted }) mid
           (done_unsynced env tells store prepared from old now open_now items bytes next_now middle mid rest mode count adds cmp sync plain inserted
-          (inserts_now (ap (λ (m : Engine E C FP F). m.recent) self_is ∙ ap (λ (m : Engine E C FP F). m.recent) rest)) below_now)))
+          (inserts_now (ap (λ (m : Engine E C FP F I D). m.recent) self_is ∙ ap (λ (m : Engine E C FP F I D). m.recent) rest)) below_now)))
 
       -- the sync was done too
-      pub done_with_sync : (after : Engine E C FP F) (to : E) → after ≡ record middle { log = after.log; writer = after.writer; mode = after.mode } → after.mode ≡ middle.mode
+      pub done_with_sync : (after : Engine E C FP F I D) (to : E) → after ≡ record middle { log = after.log; writer = after.writer; mode = after.mode } → after.mode ≡ middle.mode
           → Flushes (Syncs env) middle.writer (opened mid middle.log) (Ok tt) after.writer (opened to after.log) → self ≡ after → at ≡ to → Wrote env store cmp engine from old items sync (record self { recent = inserted }) at done
       done_with_sync after to rest_after same_mode flushed self_is at_is = subst (λ (e : E). Wrote env store cmp engine from old items sync (record self { recent = inserted }) e done) (sym at_is)
-          (subst (λ (m : Engine E C FP F). Wrote env store cmp engine from old items sync (record m { recent = inserted }) to done) (sym self_is)
+          (subst (λ (m : Engine E C FP F I D). Wrote env store cmp engine from old items sync (record m { recent = inserted }) to done) (sym self_is)
           (from_prepared done (record after { recent = inserted }) to
           (done_synced env tells store prepared from old now open_now items bytes next_now middle mid rest mode count adds cmp sync after to rest_after same_mode flushed inserted
-          (inserts_now (ap (λ (m : Engine E C FP F). m.recent) self_is ∙ ap (λ (m : Engine E C FP F). m.recent) rest_after ∙ ap (λ (m : Engine E C FP F). m.recent) rest)) below_now)))
+          (inserts_now (ap (λ (m : Engine E C FP F I D). m.recent) self_is ∙ ap (λ (m : Engine E C FP F I D). m.recent) rest_after ∙ ap (λ (m : Engine E C FP F I D). m.recent) rest)) below_now)))
 
 -- the last number is the engine's, before the insertion
-pub last_plain : {E C FP F : Type 0} (engine : Engine E C FP F) (recent : Numbered) → recent.last ≡ engine.recent.last → (middle self : Engine E C FP F)
+pub last_plain : {E C FP F I : Type 0} {D : I → Type 0} (engine : Engine E C FP F I D) (recent : Numbered) → recent.last ≡ engine.recent.last → (middle self : Engine E C FP F I D)
     → middle ≡ record engine { recent = recent; log = middle.log; writer = middle.writer; mode = middle.mode } → self ≡ middle → self.recent.last ≡ engine.recent.last
 last_plain engine recent last middle self rest self_is = ap (λ m. m.recent.last) self_is ∙ ap (λ m. m.recent.last) rest ∙ last
 
-pub last_synced : {E C FP F : Type 0} (engine : Engine E C FP F) (recent : Numbered) → recent.last ≡ engine.recent.last → (middle after self : Engine E C FP F)
+pub last_synced : {E C FP F I : Type 0} {D : I → Type 0} (engine : Engine E C FP F I D) (recent : Numbered) → recent.last ≡ engine.recent.last → (middle after self : Engine E C FP F I D)
     → middle ≡ record engine { recent = recent; log = middle.log; writer = middle.writer; mode = middle.mode } → after ≡ record middle { log = after.log; writer = after.writer; mode = after.mode } → self ≡ after
     → self.recent.last ≡ engine.recent.last
 last_synced engine recent last middle after self rest rest_after self_is = ap (λ m. m.recent.last) self_is ∙ ap (λ m. m.recent.last) rest_after ∙ ap (λ m. m.recent.last) rest ∙ last
