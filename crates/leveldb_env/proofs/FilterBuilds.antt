@@ -42,6 +42,16 @@ pub too_many : {T : Type 0} (r : Result T Status) (too_large : List (List ℕ) �
 too_many (Ok v) too_large make filters keys some h wide = absurd h
 too_many (Err status) too_large make filters keys some h wide = inr (h, too_large_some too_large make filters keys some (inr wide))
 
+-- a filter that was made, and fits behind the others, isn't too large
+pub made_fits : (too_large : List (List ℕ) → Type 0) (make : List (List ℕ) → List ℕ) (filters keys : List (List ℕ)) → (too_large keys → ⊥) → length (concat filters) + length (make keys) < 2 ^ 32 → IsTooLarge too_large make filters keys → ⊥
+made_fits too_large make filters [] small few h = h
+made_fits too_large make filters (key ∷ keys) small few (inl h) = small h
+made_fits too_large make filters (key ∷ keys) small few (inr h) = omega (arith, few, h)
+
+pub on_ok : {T E A : Type 0} (r : Result T E) → A → OnOk r A
+on_ok (Ok v) a = a
+on_ok (Err e) a = tt
+
 -- the bytes of a block, put one behind the other
 pub put_block : (bytes : List ℕ) (filters : List (List ℕ)) → bytes ≡ ((concat filters ++ flat_map (little 4) (offsets_from 0 filters)) ++ little 4 (length (concat filters))) ++ 11 ∷ [] → length (concat filters) < 2 ^ 32 → IsFilterBlock bytes filters
 unfolding filter_block

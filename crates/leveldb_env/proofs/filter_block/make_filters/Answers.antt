@@ -4,7 +4,7 @@ use Rattle.std.proofs.lemmas.Result.{err_from_is_err_and}
 use Rattle.std.specs.List.{concat}
 use Rattle.leveldb_env.specs.Filters.{keys_at}
 use Rattle.leveldb_env.proofs.JoinedTexts.{cut_texts, offsets_rise, offsets_within}
-use Rattle.leveldb_env.proofs.FilterBuilds.{pushed_size, some_made, not_made, too_many}
+use Rattle.leveldb_env.proofs.FilterBuilds.{pushed_size, some_made, not_made, too_many, made_fits, on_ok}
 use Rattle.leveldb_env.proofs.filter_block.make_filters.Goals as goal
 
 pub returns-then-len-eq0-clause-fits : goal.returns-then-len-eq0-clause-fits
@@ -43,3 +43,14 @@ pub returns-clause-fits : goal.returns-clause-fits
 returns-clause-fits g c =
     pushed_size c.push-2.result c.args.filters.now c.push-2.new.self c.deref.result.now (c.args.count - 1) (2 ^ 32) c.push-2.ensures.ok c.push-2.ensures.err
     (omega (arith, ap length c.bytes-2.ensures, c.len-2.ensures, c.in_ok-filter.filter.ok.0, ap length c.deref.ensures.value))
+
+pub returns-clause-not_too_large : goal.returns-clause-not_too_large
+returns-clause-not_too_large g c =
+    let again = cut_texts {texts = c.args.keys.now} (record { joined = c.bytes.ensures; placed = c.offsets.ensures }) in
+    let too_large = g.FP.FilterPolicy.too_large c.args.policy.now in
+    let make = g.FP.FilterPolicy.filter_for c.args.policy.now in
+    let made = c.deref.ensures.value ∙ c.in_ok-filter.ensures.ok ∙ ap make again in
+    on_ok c.push-2.result
+    (made_fits too_large make c.args.filters.now c.args.keys.now
+    (λ h. c.in_ok-filter.ensures.fits (subst too_large (sym again) h))
+    (omega (arith, ap length c.bytes-2.ensures, c.len-2.ensures, c.in_ok-filter.filter.ok.0, ap length c.deref.ensures.value, ap length made)))

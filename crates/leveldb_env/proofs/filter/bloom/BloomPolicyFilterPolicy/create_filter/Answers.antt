@@ -14,6 +14,14 @@ returns-in_default-clause-cause c =
     ap₂ bits_len c.self.view_is (sym (length-keys_at c.args.key_offsets.now c.args.keys.now))
     in refused c.err.result (2 ^ 32 ≤ 8 * bits_len c.args.self.now (length keys)) c.err.ensures.code (omega (arith, large, same))
 
+pub returns-clause-fits : goal.returns-clause-fits
+returns-clause-fits c too_large =
+    let keys = keys_at c.args.key_offsets.now c.args.keys.now
+    in let large : 2 ^ 32 ≤ 8 * bits_len c.args.self.now (length keys) = too_large
+    in let same : c.in-Some.len ≡ bits_len c.args.self.now (length keys) =
+    c.in-Some.ensures.0 ∙ ap₂ bits_len c.self.view_is (sym (length-keys_at c.args.key_offsets.now c.args.keys.now))
+    in omega (arith, large, same, c.in-Some.ensures.1)
+
 pub returns-clause-ok : goal.returns-clause-ok
 returns-clause-ok c =
     let keys = keys_at c.args.key_offsets.now c.args.keys.now
