@@ -73,6 +73,13 @@ pub in_order : {E F C FP I : Type 0} {D : I → Type 0} {env : Ghosts E F} {this
     → this ≡ that → Answers env this before from request answer after to → Answers env that before from request answer after to
 in_order {env = env} {before = before} {after = after} {from = from} {to = to} {request = request} {answer = answer} same so = subst (λ order. Answers env order before from request answer after to) same so
 
+-- the same of a command and its reply
+pub answered : {E F C FP I : Type 0} {D : I → Type 0} {env : Ghosts E F} {cmp : List ℕ → List ℕ → Ordering} {before after : Option (Engine E C FP F I D)} {from to : E}
+    (command : Command) (request : Request) (reply : Reply) (answer : Answer) → request_of command ≡ request → answer_of reply ≡ answer
+    → Answers env cmp before from request answer after to → Answers env cmp before from (request_of command) (answer_of reply) after to
+answered {env = env} {cmp = cmp} {before = before} {after = after} {from = from} {to = to} command request reply answer asks gives so =
+    subst (λ r. Answers env cmp before from r (answer_of reply) after to) (sym asks) (subst (λ a. Answers env cmp before from request a after to) (sym gives) so)
+
 -- ---- commands
 
 -- where no engine stands, none of another kind does

@@ -1,5 +1,5 @@
 -- A write is a step of the machine, at each of its exits, from the engine as it was before the preparation.
-use Rattle.std.proofs.Common.{◌≡◌, ◌≤◌, ◌+◌, ℕ, List, length, sym, ◌∙◌, ap, subst, arith, Some, Ok, Err, Bool, IsTrue, false}
+use Rattle.std.proofs.Common.{◌≡◌, ◌⊎◌, inl, inr, ◌≤◌, ◌+◌, ◌++◌, ◌∷◌, [], ℕ, List, length, refl, sym, ◌∙◌, ap, subst, arith, Some, Ok, Err, Bool, IsTrue, true, false}
 use Rattle.std.specs.Prelude.{if◌then◌else◌}
 use Rattle.std.specs.declared.cmp.Ordering.{Ordering}
 use Rattle.leveldb_base.specs.declared.error.Status.{Status}
@@ -8,8 +8,9 @@ use Rattle.leveldb_base.specs.ViewLaws.{AreUpTo}
 use Rattle.leveldb_env.specs.declared.env.Env.{Ghosts}
 use Rattle.leveldb_env.specs.Disk.{AreBytes}
 use Rattle.leveldb_env.specs.OpenFiles.{opened, Appends, Syncs}
-use Rattle.leveldb_mem.specs.Batch.{Batch, BatchOf, batch_of}
-use Rattle.leveldb_mem.specs.Writing.{Adds, Refuses, Flushes}
+use Rattle.leveldb_mem.specs.Batch.{Batch, BatchOf, batch_of, with_item}
+use Rattle.leveldb_mem.specs.Writing.{Writing, broken_off, Adds, Refuses, Flushes}
+use Rattle.rusty_leveldb.specs.declared.db_impl.engine.Mode.{Mode}
 use Rattle.rusty_leveldb.specs.declared.db_impl.engine.Mode.TheVariants.{Open, Broken}
 use Rattle.rusty_leveldb.specs.declared.db_impl.engine.Engine.{Engine}
 use Rattle.rusty_leveldb.specs.OneLog.{max_sequence}
@@ -28,6 +29,10 @@ use Rattle.rusty_leveldb.proofs.Writes.Exits.{begun_with, append_refused, done_u
 -- a batch at the first number behind the last
 pub batch_behind : (last first : ℕ) (items : List Item) (batch : Batch) → first ≡ last + 1 → batch ≡ batch_of first items → batch ≡ batch_of (last + 1) items
 batch_behind last first items batch first_is is = is ∙ ap (λ n. batch_of n items) first_is
+
+-- a batch of one change
+pub one_change : (empty batch : Batch) (item : Item) → empty ≡ batch_of 0 [] → batch ≡ with_item empty item → batch.items ≡ item ∷ []
+one_change empty batch item is changed = ap (λ (b : Batch). b.items) changed ∙ ap (λ (b : Batch). b.items ++ item ∷ []) is
 
 -- its record may be appended
 pub is_next : (last first count : ℕ) (items : List Item) (batch : Batch) (bytes : List ℕ) → first ≡ last + 1 → first ≤ max_sequence → last + count ≤ max_sequence → count ≡ length items → batch ≡ batch_of first items
@@ -125,3 +130,32 @@ pub last_synced : {E C FP F I : Type 0} {D : I → Type 0} (engine : Engine E C 
     → middle ≡ record engine { recent = recent; log = middle.log; writer = middle.writer; mode = middle.mode } → after ≡ record middle { log = after.log; writer = after.writer; mode = after.mode } → self ≡ after
     → self.recent.last ≡ engine.recent.last
 last_synced engine recent last middle after self rest rest_after self_is = ap (λ m. m.recent.last) self_is ∙ ap (λ m. m.recent.last) rest_after ∙ ap (λ m. m.recent.last) rest ∙ last
+
+-- the options are the engine's
+pub options_plain : {E C FP F I : Type 0} {D : I → Type 0} (engine : Engine E C FP F I D) (recent : Numbered) (middle self : Engine E C FP F I D)
+    → middle ≡ record engine { recent = recent; log = middle.log; writer = middle.writer; mode = middle.mode } → self ≡ middle → self.options ≡ engine.options
+options_plain engine recent middle self rest self_is = ap (λ m. m.options) self_is ∙ ap (λ m. m.options) rest
+
+pub options_synced : {E C FP F I : Type 0} {D : I → Type 0} (engine : Engine E C FP F I D) (recent : Numbered) (middle after self : Engine E C FP F I D)
+    → middle ≡ record engine { recent = recent; log = middle.log; writer = middle.writer; mode = middle.mode } → after ≡ record middle { log = after.log; writer = after.writer; mode = after.mode } → self ≡ after
+    → self.options ≡ engine.options
+options_synced engine recent middle after self rest rest_after self_is = ap (λ m. m.options) self_is ∙ ap (λ m. m.options) rest_after ∙ ap (λ m. m.options) rest
+
+-- ---- a writer that isn't broken leaves the mode
+
+stays_if : (broken : Bool) (now old : Mode) → now ≡ (if broken then Broken else old) → IsTrue broken ⊎ (now ≡ old)
+stays_if true now old is = inl refl
+stays_if false now old is = inr is
+
+pub stays_plain : {E C FP F I : Type 0} {D : I → Type 0} (old : Mode) (middle self : Engine E C FP F I D) → middle.mode ≡ (if middle.writer.broken then Broken else old) → self ≡ middle
+    → IsTrue self.writer.broken ⊎ (self.mode ≡ old)
+stays_plain old middle self mode self_is = subst (λ m. IsTrue m.writer.broken ⊎ (m.mode ≡ old)) (sym self_is) (stays_if middle.writer.broken middle.mode old mode)
+
+pub stays_synced : {E C FP F I : Type 0} {D : I → Type 0} (old : Mode) (middle after self : Engine E C FP F I D) → middle.mode ≡ (if middle.writer.broken then Broken else old)
+    → after.writer ≡ middle.writer → after.mode ≡ middle.mode → self ≡ after → IsTrue self.writer.broken ⊎ (self.mode ≡ old)
+stays_synced old middle after self mode writer same self_is =
+    stays_plain old after self (same ∙ mode ∙ ap (λ (w : Writing). if w.broken then Broken else old) (sym writer)) self_is
+
+-- a writer that broke tells so
+pub stays_refused : (old after : Writing) (before now : Mode) → after ≡ broken_off old → IsTrue after.broken ⊎ (now ≡ before)
+stays_refused old after before now broke = inl (ap (λ (w : Writing). w.broken) broke)
