@@ -136,8 +136,11 @@ module _ {E F I : Type 0} {D : I → Type 0} (C FP : Type 0) (env : Ghosts E F) 
   pub not_opened : (options : Options C FP I D) (from to : E) (create_if_missing : Bool) (commands : List Command) (given : List Reply) (status : Status) → given ≡ []
       → OpensAs from create_if_missing (refused (refusal_of status)) (no_engine options) to → PlaysAlways C FP env cmp store from create_if_missing commands given (Err status) to
   not_opened options from to create_if_missing commands given status none opens tells opening is old represents =
-      inr (inl (none, leads_to_none from (open_store opening ∷ []) (refused (refusal_of status) ∷ []) to old
-      (first_one env cmp store tells from to (no_engine options) (open_store opening) (refused (refusal_of status)) old (no_other (env.tells from).disk old represents) (opens opening is))))
+      inr (inl (
+        none,
+        leads_to_none from (open_store opening ∷ []) (refused (refusal_of status) ∷ []) to old
+            (first_one env cmp store tells from to (no_engine options) (open_store opening) (refused (refusal_of status)) old (no_other (env.tells from).disk old represents) (opens opening is)),
+      ))
 
 -- a command behind those that were answered
 pub commands_up_to : (commands : List Command) (i : ℕ) (command : Command) → i < length commands → command ≡ get_or commands i command → take (i + 1) commands ≡ take i commands ++ command ∷ []

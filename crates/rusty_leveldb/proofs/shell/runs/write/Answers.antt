@@ -15,7 +15,7 @@ returns-in_err-batch-clause-step g c =
 
 pub returns-in_err-check_writable-clause-step : goal.returns-in_err-check_writable-clause-step
 returns-in_err-check_writable-clause-step g c =
-    let failed = err_from_is_err_and c.from_residual-in_err-check_writable.result c.from_residual-in_err-check_writable.ensures.1 in
+    let failed = err_from_is_err_and c.from_residual.result c.from_residual.ensures.1 in
     rw failed.1 (rw failed.2 (c.in_err-check_writable.ensures.step (map change_of c.args.items.now) c.args.sync c.args.env.now))
 
 pub returns-clause-step : goal.returns-clause-step
