@@ -8,11 +8,11 @@ ghost use Rattle.leveldb_base.specs.Varint.{little, varint, sized};
 ghost use Rattle.leveldb_base.specs.Keys.{type_from, tag, internal_key, user_part, tag_part, sequence_part, type_part, lookup_key, memtable_key, internal_cmp, memtable_cmp, inner_key, tail_of, HasParts, IsMemtableKey, places_of};
 
 use crate::cmp::Cmp;
-use crate::error::Result;
+use crate::error::{Result, Status};
 use crate::types::SequenceNumber;
 use crate::varint::{encode_varint64, get_length_prefixed_slice, get_varint64};
 use byteorder::{ByteOrder, LittleEndian};
-use std::alloc::Global;
+use std::alloc::{AllocError, Global};
 use std::cmp::Ordering;
 use std::marker::Model;
 
@@ -117,7 +117,6 @@ pub fn build_memtable_key(
     sequence: SequenceNumber,
 ) -> Result<Vec<u8>>
     requires sequence { sequence < 2 ^ 56 }
-    requires fits { length key.now + length value.now < 2 ^ 63 }
     ensures ok { IfOk result (λ entry. entry.items ≡ memtable_key key.now sequence kind value.now) }
     ensures cause { IfErr result IsOutOfMemory }
 {
@@ -145,14 +144,16 @@ fn sized_internal_key(
     room: usize,
 ) -> Result<(Vec<u8>, usize)>
     requires sequence { sequence < 2 ^ 56 }
-    requires fits { length key.now + room < 2 ^ 63 + 10 }
     ensures ok { IfOk result (λ made. made.0.items ≡ sized (internal_key key.now sequence kind)) }
     ensures used { IfOk result (λ made. made.1 ≡ length (varint (length key.now + 8))) }
     ensures cause { IfErr result IsOutOfMemory }
 {
     let mut head = [0; MAX_VARINT_LEN];
     let used = encode_varint64(&mut head, (key.len() + TAG_LEN) as u64);
-    let mut bytes = Vec::with_capacity(alloc, used + key.len() + TAG_LEN + room)?;
+    let Some(size) = room.checked_add(used + key.len() + TAG_LEN) else {
+        return Err(Status::from(AllocError));
+    };
+    let mut bytes = Vec::with_capacity(alloc, size)?;
     bytes.extend_from_slice(&head[..used])?;
     bytes.extend_from_slice(key)?;
     bytes.extend_from_slice(&tag_bytes(sequence, kind))?;

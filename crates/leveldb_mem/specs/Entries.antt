@@ -51,6 +51,10 @@ pub record HasRoom (kept : Kept) (items : List Item) : Type 0 where
   pub places : length items ≤ kept.places
   pub bytes : bytes_in items ≤ kept.bytes
 
+-- what there was room for has room still
+abbrev pub KeepsRoom : Kept → Kept → Type 0
+KeepsRoom old new = (items : List Item) → HasRoom old items → HasRoom new items
+
 -- an entry has come, and took no more than its room
 pub record Adds (old : Kept) (entry : Entry) (new : Kept) : Type 0 where
   pub gains : Gains old.entries (entry ∷ []) new.entries

@@ -81,6 +81,11 @@ most_beside = 28
 abbrev pub memory_of_entries : List Entry → ℕ
 memory_of_entries entries = 128 + (64 * length entries + sum_by (λ entry. length (entry_key entry)) entries)
 
+-- one entry more, and as much more memory as counts for it
+pub record Grows (old : List Entry) (entry : Entry) (new : List Entry) : Type 0 where
+  pub count : length new ≡ length old + 1
+  pub memory : memory_of_entries new ≡ memory_of_entries old + 64 + length (entry_key entry)
+
 -- the internal key of an entry with its value; a deletion has the empty one
 abbrev pub internal_pair : Entry → Pair
 internal_pair entry = (internal_key entry.key entry.sequence (type_of entry.value), bytes_of_value entry.value)

@@ -10,8 +10,8 @@ ghost use Rattle.leveldb_base.specs.Keys.{tag, inner_key, internal_cmp, user_par
 ghost use Rattle.leveldb_base.specs.Places.{count_before};
 ghost use Rattle.leveldb_base.specs.View.{AreRising};
 ghost use Rattle.leveldb_mem.specs.Batch.{item_of};
-ghost use Rattle.leveldb_mem.specs.Entries.{Gains, IsNewTo, AreNewTo, FindsNewest, HasRoom, Adds, value_length};
-ghost use Rattle.leveldb_mem.specs.MemTable.{entry_of, type_of, bytes_of_value, value_of, entry_key, entry_from, inner_value, internal_pair, memory_of_entries, GivesAt};
+ghost use Rattle.leveldb_mem.specs.Entries.{Gains, IsNewTo, AreNewTo, FindsNewest, HasRoom, KeepsRoom, Adds, value_length};
+ghost use Rattle.leveldb_mem.specs.MemTable.{entry_of, type_of, bytes_of_value, value_of, entry_key, entry_from, inner_value, internal_pair, memory_of_entries, Grows, GivesAt};
 
 use crate::memtable::as_of::AsOf;
 use crate::memtable::iterator::AtInternalKey;
@@ -19,11 +19,11 @@ use crate::skipmap::SkipMap;
 use crate::write_batch::WriteBatch;
 use byteorder::{ByteOrder, LittleEndian};
 use leveldb_base::cmp::{Cmp, MemtableKeyCmp, UserCmp};
-use leveldb_base::error::{Result, StatusCode, err};
+use leveldb_base::error::{Result, Status, StatusCode, err};
 use leveldb_base::key_types::{LookupKey, UserKey, ValueType, parse_internal_key};
 use leveldb_base::types::SequenceNumber;
 use leveldb_base::varint::{encode_varint64, get_length_prefixed_slice};
-use std::alloc::Global;
+use std::alloc::{AllocError, Global};
 use std::marker::Model;
 
 mod as_of;
@@ -93,9 +93,7 @@ impl<C: UserCmp> MemTable<C> {
         ensures bytes { OnErr result (self.old.kept.bytes ≤ self.new.kept.bytes) }
         ensures cause { IfErr result IsOutOfMemory }
     {
-        let places = batch.count() as usize;
-        self.map
-            .reserve(places, batch.contents().len() + MOST_BESIDE * places)
+        self.reserve(batch.count(), batch.contents().len())
     }
 
     /// Puts an entry for which there is room: a value for the key, or none, which deletes it.
@@ -105,6 +103,7 @@ impl<C: UserCmp> MemTable<C> {
         requires new { IsNewTo self.old.kept.entries sequence key.now }
         ensures cmp { self.new.cmp ≡ self.old.cmp }
         ensures adds { Adds self.old.kept (entry_of sequence key.now (option_copied value.entry)) self.new.kept }
+        ensures grows { Grows self.old.kept.entries (entry_of sequence key.now (option_copied value.entry)) self.new.kept.entries }
     {
         self.put(sequence, key, value);
     }
@@ -134,11 +133,12 @@ impl<C: UserCmp> MemTable<C> {
         value: &[u8],
     ) -> Result<()>
         requires numbered { sequence < 2 ^ 56 }
-        requires fits { length key.now + length value.now < 2 ^ 63 }
         ensures cmp { self.new.cmp ≡ self.old.cmp }
         ensures new { OnOk result (IsNewTo self.old.kept.entries sequence key.now) }
         ensures ok { OnOk result (Gains self.old.kept.entries (entry_of sequence key.now (value_of kind value.now) ∷ []) self.new.kept.entries) }
+        ensures grows { OnOk result (Grows self.old.kept.entries (entry_of sequence key.now (value_of kind value.now)) self.new.kept.entries) }
         ensures err { OnErr result (self.new.kept.entries ≡ self.old.kept.entries) }
+        ensures room { OnErr result (KeepsRoom self.old.kept self.new.kept) }
         ensures cause { IfErr result (λ status. ((status.code ≡ AlreadyExists) × (IsNewTo self.old.kept.entries sequence key.now → ⊥)) ⊎ IsOutOfMemory status) }
     {
         let value = given(kind, value);
@@ -234,17 +234,34 @@ impl<C: UserCmp> MemTable<C> {
 
     // Takes memory for one entry.
     fn prepare_entry(&mut self, key: &[u8], value: Option<&[u8]>) -> Result<()>
-        requires { length key.now + value_length (option_copied value) < 2 ^ 63 }
         ensures cmp { self.new.cmp ≡ self.old.cmp }
         ensures entries { self.new.kept.entries ≡ self.old.kept.entries }
         ensures ok { OnOk result (HasRoom self.new.kept (item_of key.now (option_copied value.entry) ∷ [])) }
+        ensures room { KeepsRoom self.old.kept self.new.kept }
         ensures cause { IfErr result IsOutOfMemory }
     {
         let bytes = match value {
             None => key.len(),
             Some(value) => key.len() + value.len(),
         };
-        self.map.reserve(1, bytes + MOST_BESIDE)
+        self.reserve(1, bytes)
+    }
+
+    // Makes room for so many entries, whose keys and values have so many bytes. Room for as many is only added to.
+    fn reserve(&mut self, count: u32, bytes: usize) -> Result<()>
+        ensures cmp { self.new.cmp ≡ self.old.cmp }
+        ensures entries { self.new.kept.entries ≡ self.old.kept.entries }
+        ensures ok { OnOk result ((count ≤ self.new.kept.places) × (bytes ≤ self.new.kept.bytes)) }
+        ensures room { count ≤ self.old.kept.places → (self.new.kept.places ≡ self.old.kept.places) × (self.old.kept.bytes ≤ self.new.kept.bytes) }
+        ensures places { OnErr result (self.new.kept.places ≡ self.old.kept.places) }
+        ensures bytes { OnErr result (self.old.kept.bytes ≤ self.new.kept.bytes) }
+        ensures cause { IfErr result IsOutOfMemory }
+    {
+        let places = self.map.places().max(count as usize);
+        let Some(bytes) = bytes.checked_add(MOST_BESIDE * places) else {
+            return Err(Status::from(AllocError));
+        };
+        self.map.reserve(places, bytes)
     }
 
     // Puts an entry for which there is room. It answers whether it did: an entry of this key and number is left.
@@ -253,8 +270,11 @@ impl<C: UserCmp> MemTable<C> {
         requires room { HasRoom self.old.kept (item_of key.now (option_copied value) ∷ []) }
         ensures cmp { self.new.cmp ≡ self.old.cmp }
         ensures put { OnTrue result (Adds self.old.kept (entry_of sequence key.now (option_copied value.entry)) self.new.kept) }
+        ensures grows { OnTrue result (Grows self.old.kept.entries (entry_of sequence key.now (option_copied value.entry)) self.new.kept.entries) }
         ensures new { OnTrue result (IsNewTo self.old.kept.entries sequence key.now) }
         ensures left { OnFalse result (self.new.kept.entries ≡ self.old.kept.entries) }
+        ensures places { OnFalse result (self.new.kept.places ≡ self.old.kept.places) }
+        ensures bytes { OnFalse result (self.old.kept.bytes ≤ self.new.kept.bytes) }
         ensures present { OnFalse result (IsNewTo self.old.kept.entries sequence key.now → ⊥) }
     {
         let parts = type_and_bytes(value);

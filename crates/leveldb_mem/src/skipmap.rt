@@ -1,5 +1,5 @@
 //! A map from keys to values in the order of a comparator.
-ghost use Rattle.std.specs.Prelude.{◌≡◌, ◌≢◌, ◌↔◌, ◌⊎◌, ◌+◌, ◌<◌, ◌≤◌, ◌==◌, true, [], ◌++◌, length, OnOk, OnErr, IfErr, IsErrAnd, Some, None, slice_get};
+ghost use Rattle.std.specs.Prelude.{◌≡◌, ◌≢◌, ◌↔◌, ◌⊎◌, ◌+◌, ◌^◌, ◌<◌, ◌≤◌, ◌==◌, true, [], ◌++◌, length, OnOk, OnErr, IfErr, IsErrAnd, Some, None, slice_get};
 ghost use Rattle.std.specs.Bool.{OnTrue, OnFalse};
 ghost use Rattle.std.specs.Option.{ForSome};
 ghost use Rattle.leveldb_base.specs.Status.{IsOutOfMemory};
@@ -92,6 +92,8 @@ impl<C: Cmp> SkipMap<C> {
         ensures ok { OnOk result (Inserts self.old.pairs (key.now, value.now) self.new.pairs) }
         ensures sorted { IsSorted (C.accepts self.new.cmp) (C.cmp self.new.cmp) self.new.pairs }
         ensures err { OnErr result (self.new.pairs ≡ self.old.pairs) }
+        ensures places { OnErr result (self.new.places ≡ self.old.places) }
+        ensures bytes { OnErr result (self.old.bytes ≤ self.new.bytes) }
         ensures empty { IsErrAnd result (λ status. status.code ≡ InvalidArgument) ↔ (key.now ≡ []) }
         ensures present { IsErrAnd result (λ status. status.code ≡ AlreadyExists)
             ↔ ((key.now ≢ []) × HasKey (C.cmp self.old.cmp) self.old.pairs key.now) }
@@ -172,6 +174,14 @@ impl<C: Cmp> SkipMap<C> {
 
     pub(crate) fn allocator(&self) -> Global {
         self.pairs.allocator()
+    }
+
+    /// For how many pairs there is room.
+    pub(crate) fn places(&self) -> usize
+        ensures value { result ≡ self.now.places }
+        ensures bound { result ≤ 2 ^ 32 }
+    {
+        self.pairs.places()
     }
 
     /// Makes room for so many pairs with so many bytes.

@@ -94,6 +94,14 @@ impl PlacedPairs {
         )
     }
 
+    /// For how many pairs there is room.
+    pub(crate) fn places(&self) -> usize
+        ensures value { result ≡ self.now.places }
+        ensures bound { result ≤ 2 ^ 32 }
+    {
+        self.places
+    }
+
     /// Makes room for so many pairs and so many bytes. More than 2^32 pairs are refused as want of memory.
     pub(crate) fn reserve(&mut self, places: usize, bytes: usize) -> Result<()>
         ensures pairs { self.new.pairs ≡ self.old.pairs }

@@ -5,7 +5,7 @@ use Rattle.leveldb_base.specs.declared.error.Status.{Status}
 use Rattle.leveldb_base.specs.declared.error.StatusCode.TheVariants.{AlreadyExists}
 use Rattle.leveldb_base.specs.History.{Entry}
 use Rattle.leveldb_mem.specs.Entries.{Gains, IsNewTo}
-use Rattle.leveldb_mem.specs.MemTable.{entry_of, value_of}
+use Rattle.leveldb_mem.specs.MemTable.{entry_of, value_of, Grows}
 use Rattle.leveldb_mem.proofs.Gaining.{caused}
 use Rattle.leveldb_mem.proofs.memtable.MemTable.add.Goals as goal
 
@@ -19,6 +19,12 @@ returns-then-put-clause-ok g c =
     let new = c.put.new.self.kept.entries in
     subst (λ (v : Option (List ℕ)). Gains c.args.self.now.kept.entries (entry_of c.args.sequence c.args.key.now v ∷ []) new) c.given-value.ensures
     (subst (λ (es : List Entry). Gains es (entry_of c.args.sequence c.args.key.now (option_copied c.given-value.result) ∷ []) new) c.in_ok-prepare_entry.ensures.entries adds.gains)
+
+pub returns-then-put-clause-grows : goal.returns-then-put-clause-grows
+returns-then-put-clause-grows g c =
+    let new = c.put.new.self.kept.entries in
+    subst (λ (v : Option (List ℕ)). Grows c.args.self.now.kept.entries (entry_of c.args.sequence c.args.key.now v) new) c.given-value.ensures
+    (subst (λ (es : List Entry). Grows es (entry_of c.args.sequence c.args.key.now (option_copied c.given-value.result)) new) c.in_ok-prepare_entry.ensures.entries (OnTrue_at c.if-put.true c.put.ensures.grows))
 
 pub returns-clause-cause : goal.returns-clause-cause
 returns-clause-cause g c =

@@ -6,6 +6,6 @@ use Rattle.leveldb_mem.proofs.memtable.MemTable.prepare.Goals as goal
 pub returns-clause-ok : goal.returns-clause-ok
 returns-clause-ok g c =
     on_ok_weaker c.reserve.result (λ p. record {
-      places = omega (arith, p.0, c.count-places.ensures);
-      bytes = omega (arith, p.0, p.1, c.count-places.ensures, bytes_in-batch c.contents.ensures);
+      places = omega (arith, p.0, c.count.ensures);
+      bytes = omega (arith, p.1, bytes_in-batch c.contents.ensures);
     }) c.reserve.ensures.ok

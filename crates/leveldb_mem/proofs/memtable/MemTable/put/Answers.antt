@@ -7,6 +7,7 @@ use Rattle.leveldb_mem.specs.SkipMap.{Inserts, HasKey}
 use Rattle.leveldb_mem.specs.Entries.{value_length}
 use Rattle.leveldb_mem.specs.MemTable.{Memory, entry_of, entry_key, entry_from, type_of, bytes_of_value, IsEntryPair, entries_in}
 use Rattle.leveldb_mem.proofs.EntryKeys.{key_of_parts, length-parts, entry_again, accepted_key}
+use Rattle.leveldb_mem.proofs.Memories.{grows}
 use Rattle.leveldb_mem.proofs.Gaining.{gains_entry, still_entries, not_new, is_new}
 use Rattle.leveldb_mem.proofs.memtable.MemTable.put.Goals as goal
 
@@ -81,6 +82,17 @@ returns-clause-put g c =
       places = omega (arith, OnTrue_at t c.put_parts.ensures.place);
       bytes = omega (arith, size, OnTrue_at t c.put_parts.ensures.place, c.put_parts.ensures.bytes, c.self.invariant.1);
     }))
+
+pub returns-clause-grows : goal.returns-clause-grows
+returns-clause-grows g c =
+    let value = option_copied c.args.value in
+    let entry = entry_of c.args.sequence c.args.key.now value in
+    let key = c.spell_length-head.result.now ++ c.args.key.now ++ c.tag_bytes-tag.result ++ c.spell_length-size.result.now ++ c.type_and_bytes-parts.result.1.now in
+    let whole : key ≡ entry_key entry =
+    key_of_parts c.spell_length-head.result.now c.args.key.now c.tag_bytes-tag.result c.spell_length-size.result.now c.type_and_bytes-parts.result.1.now c.args.sequence
+    c.type_and_bytes-parts.result.0 value c.type_and_bytes-parts.ensures.kind c.type_and_bytes-parts.ensures.bytes c.spell_length-head.ensures c.tag_bytes-tag.ensures c.spell_length-size.ensures in
+    let again : entry_from key ≡ entry = ap entry_from whole ∙ entry_again entry c.requires.numbered in
+    rw (← c.self.view_is) (OnTrue_from c.put_parts.result _ (λ t. grows (OnTrue_at t c.put_parts.ensures.put) entry again))
 
 pub returns-clause-new : goal.returns-clause-new
 returns-clause-new g c =
