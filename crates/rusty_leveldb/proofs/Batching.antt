@@ -44,7 +44,7 @@ too_long_among batch items i one below is so_far long =
 abbrev pub IsUnmade : List Item → Status → Type 0
 IsUnmade items status = IsOutOfMemory status ⊎ ((status.code ≡ InvalidArgument) × IsLongBatch items)
 
-module _ {E C FP F : Type 0} (env : Ghosts E F) (cmp : List ℕ → List ℕ → Ordering) (engine : Engine E C FP F)
+module _ {E C FP F I : Type 0} {D : I → Type 0} (env : Ghosts E F) (cmp : List ℕ → List ℕ → Ordering) (engine : Engine E C FP F I D)
     (is_open : (store : List ℕ) (disk : Disk) (state : State) → Recalls env store engine disk state → state.mode ≡ open_mode) (items : List Item) (sync : Bool) (status : Status) (why : IsUnmade items status) where
   pub not_written : AnswersStill env cmp engine (write items sync) (refused (refusal_of status))
   not_written at tells store old represents = record {

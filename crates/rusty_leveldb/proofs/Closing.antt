@@ -79,22 +79,22 @@ abandons cmp faults old new answer Closed differs responds = absurd (differs ref
 
 -- ---- the exits
 
-module _ {E C FP F : Type 0} (env : Ghosts E F) (cmp : List ℕ → List ℕ → Ordering) where
+module _ {E C FP F I : Type 0} {D : I → Type 0} (env : Ghosts E F) (cmp : List ℕ → List ℕ → Ordering) where
   -- only the engine's log, its writer and its mode changed
-  abbrev pub OnlyLog : Engine E C FP F → Engine E C FP F → Type 0
+  abbrev pub OnlyLog : Engine E C FP F I D → Engine E C FP F I D → Type 0
   OnlyLog before after = after ≡ record before { log = after.log; writer = after.writer; mode = after.mode }
 
   -- an engine that broke remembers what it did
-  recalls_broke : (store : List ℕ) (before after : Engine E C FP F) (disk now : Disk) (old : State) (covered : ℕ) → Recalls env store before disk old → old.mode ≡ open_mode
+  recalls_broke : (store : List ℕ) (before after : Engine E C FP F I D) (disk now : Disk) (old : State) (covered : ℕ) → Recalls env store before disk old → old.mode ≡ open_mode
       → OnlyLog before after → after.mode ≡ Broken → Recalls env store after now (broke old covered)
   recalls_broke store before after disk now old covered recalls opened only is_broken =
       let shown = recalls.shows (λ is. absurd (not_closed old.mode opened is)) in
       record {
         mode = ap mode_of is_broken;
-        lock = ap (λ (e : Engine E C FP F). string_bytes e.lock) only ∙ recalls.lock;
+        lock = ap (λ (e : Engine E C FP F I D). string_bytes e.lock) only ∙ recalls.lock;
         shows = λ not. record {
-          last = ap (λ (e : Engine E C FP F). e.recent.last) only ∙ shown.last;
-          same = λ t most. subst (λ entries. SameView entries (entries_of old.history) t) (sym (ap (λ (e : Engine E C FP F). e.recent.kept.entries) only)) (shown.same t most);
+          last = ap (λ (e : Engine E C FP F I D). e.recent.last) only ∙ shown.last;
+          same = λ t most. subst (λ entries. SameView entries (entries_of old.history) t) (sym (ap (λ (e : Engine E C FP F I D). e.recent.kept.entries) only)) (shown.same t most);
         };
         writes = λ is. absurd (cc);
       }
@@ -103,7 +103,7 @@ module _ {E C FP F : Type 0} (env : Ghosts E F) (cmp : List ℕ → List ℕ →
       not_closed mode a b = cc
 
   -- the sync was refused: the store is broken
-  pub sync_refused : (before after : Engine E C FP F) (at now : E) (status : Status) → before.mode ≡ Open → OnlyLog before after → after.mode ≡ Broken
+  pub sync_refused : (before after : Engine E C FP F I D) (at now : E) (status : Status) → before.mode ≡ Open → OnlyLog before after → after.mode ≡ Broken
       → Flushes (Syncs env) before.writer (opened at before.log) (Err status) after.writer (opened now after.log)
       → Answers env cmp (Some before) at close (refused (refusal_of status)) (Some after) now
   sync_refused before after at now status is_open only is_broken flushed told store old represents =
@@ -126,18 +126,18 @@ module _ {E C FP F : Type 0} (env : Ghosts E F) (cmp : List ℕ → List ℕ →
       }
 
   -- an engine that was closed remembers that alone
-  recalls_ended : (store : List ℕ) (before after : Engine E C FP F) (disk now : Disk) (old : State) (covered : ℕ) (locked : Bool) → Recalls env store before disk old
+  recalls_ended : (store : List ℕ) (before after : Engine E C FP F I D) (disk now : Disk) (old : State) (covered : ℕ) (locked : Bool) → Recalls env store before disk old
       → OnlyLog before after → after.mode ≡ Closed → Recalls env store after now (ended old covered locked)
   recalls_ended store before after disk now old covered locked recalls only is_closed = record {
     mode = ap mode_of is_closed;
-    lock = ap (λ (e : Engine E C FP F). string_bytes e.lock) only ∙ recalls.lock;
+    lock = ap (λ (e : Engine E C FP F I D). string_bytes e.lock) only ∙ recalls.lock;
     shows = λ not. absurd (not refl);
     writes = λ is. absurd (cc);
   }
 
   -- ---- the sync was done, and the lock was to be given back
 
-  module _ (before after : Engine E C FP F) (at mid now : E) (is_open : before.mode ≡ Open) (only : OnlyLog before after)
+  module _ (before after : Engine E C FP F I D) (at mid now : E) (is_open : before.mode ≡ Open) (only : OnlyLog before after)
       (flushed : Flushes (Syncs env) before.writer (opened at before.log) (Ok tt) after.writer (opened mid after.log)) (lock : List ℕ) (lock_is : lock ≡ string_bytes after.lock) where
     module _ (told : IsTrue env.tells_disk) (store : List ℕ) (old : State) (represents : Represents store (Reads store) (Recalls env store) (Some before) (env.tells at).disk old)
         (still : (env.tells now).disk.files ≡ (env.tells mid).disk.files) where
@@ -151,7 +151,7 @@ module _ {E C FP F : Type 0} (env : Ghosts E F) (cmp : List ℕ → List ℕ →
       all = still ∙ flushed.flushed.does.ok told ∙ ap (λ name. synced name (env.tells at).disk.files) writes.name
 
       same_lock : lock ≡ lock_path store
-      same_lock = lock_is ∙ ap (λ (e : Engine E C FP F). string_bytes e.lock) only ∙ represents.memory_is.lock
+      same_lock = lock_is ∙ ap (λ (e : Engine E C FP F I D). string_bytes e.lock) only ∙ represents.memory_is.lock
 
       -- broken, with all covered, where the lock is as it was
       broke_now : (env.tells now).disk.locked ≡ (env.tells mid).disk.locked → StandsFor store (Reads store) (env.tells now).disk (broke old (length old.history))
@@ -175,7 +175,7 @@ module _ {E C FP F : Type 0} (env : Ghosts E F) (cmp : List ℕ → List ℕ →
           new = broke old (length old.history);
           represents = record {
             disk_is = broke_now told store old represents (does.now told) (relocks told);
-            memory_is = recalls_broke store before (record after { mode = Broken }) (env.tells at).disk (env.tells now).disk old (length old.history) represents.memory_is is (ap (λ (e : Engine E C FP F). record e { mode = Broken }) only) refl;
+            memory_is = recalls_broke store before (record after { mode = Broken }) (env.tells at).disk (env.tells now).disk old (length old.history) represents.memory_is is (ap (λ (e : Engine E C FP F I D). record e { mode = Broken }) only) refl;
           };
           step = record {
             later = omega (arith, caused.later);
@@ -196,7 +196,7 @@ module _ {E C FP F : Type 0} (env : Ghosts E F) (cmp : List ℕ → List ℕ →
           new = ended old (length old.history) false;
           represents = record {
             disk_is = ended_now told store old represents (does.now told) (relocks told);
-            memory_is = recalls_ended store before (record after { mode = Closed }) (env.tells at).disk (env.tells now).disk old (length old.history) false represents.memory_is (ap (λ (e : Engine E C FP F). record e { mode = Closed }) only) refl;
+            memory_is = recalls_ended store before (record after { mode = Closed }) (env.tells at).disk (env.tells now).disk old (length old.history) false represents.memory_is (ap (λ (e : Engine E C FP F I D). record e { mode = Closed }) only) refl;
           };
           step = record {
             later = omega (arith, caused.later);
@@ -211,7 +211,7 @@ module _ {E C FP F : Type 0} (env : Ghosts E F) (cmp : List ℕ → List ℕ →
   -- ---- a store that is abandoned
 
   -- it was closed before
-  pub abandoned_closed : (before : Engine E C FP F) (at : E) → before.mode ≡ Closed → Answers env cmp (Some before) at abandon done None at
+  pub abandoned_closed : (before : Engine E C FP F I D) (at : E) → before.mode ≡ Closed → Answers env cmp (Some before) at abandon done None at
   abandoned_closed before at is_closed told store old represents =
       let is : old.mode ≡ closed = sym represents.memory_is.mode ∙ ap mode_of is_closed in
       record {
@@ -222,7 +222,7 @@ module _ {E C FP F : Type 0} (env : Ghosts E F) (cmp : List ℕ → List ℕ →
         others = λ name differs. refl;
       }
 
-  module _ (before : Engine E C FP F) (at now : E) (differs : before.mode ≡ Closed → ⊥) (lock : List ℕ) (lock_is : lock ≡ string_bytes before.lock) where
+  module _ (before : Engine E C FP F I D) (at now : E) (differs : before.mode ≡ Closed → ⊥) (lock : List ℕ) (lock_is : lock ≡ string_bytes before.lock) where
     -- the lock wasn't given back
     pub abandon_refused : (status : Status) → Does {T = Unit {0}} env.tells_disk same Still (env.tells at) (env.tells now) (Err status)
         → Relocks {T = Unit {0}} env.tells_disk (lock_set lock false) (env.tells at) (env.tells now) (Err status) → HasCause {T = Unit {0}} (λ _. ⊥) (env.failures at) (env.failures now) (Err status)

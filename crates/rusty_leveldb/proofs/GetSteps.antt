@@ -47,7 +47,7 @@ shut_mode Open e = absurd (cc)
 shut_mode Broken e = absurd (cc)
 shut_mode Closed e = refl
 
-module _ {E C FP F : Type 0} (env : Ghosts E F) (cmp : List ℕ → List ℕ → Ordering) (engine : Engine E C FP F) (key : List ℕ) where
+module _ {E C FP F I : Type 0} {D : I → Type 0} (env : Ghosts E F) (cmp : List ℕ → List ℕ → Ordering) (engine : Engine E C FP F I D) (key : List ℕ) where
   -- the state answers so and stays
   abbrev Stays : Answer → State → Type 0
   Stays answer old = (faults : Faults) → StepIn cmp old.mode faults old (get None key) answer old

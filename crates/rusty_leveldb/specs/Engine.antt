@@ -6,6 +6,7 @@ use Rattle.leveldb_base.specs.declared.error.StatusCode.TheVariants.{InvalidArgu
 use Rattle.leveldb_base.specs.History.{Item, entries_of, greatest}
 use Rattle.leveldb_base.specs.View.{SameView}
 use Rattle.leveldb_env.specs.declared.env.Env.{Ghosts}
+use Rattle.leveldb_env.specs.declared.options.Options.{Options}
 use Rattle.leveldb_env.specs.Disk.{File, Disk, bytes_of, AreBytes}
 use Rattle.leveldb_env.specs.Times.{Told}
 use Rattle.leveldb_env.specs.Calls.{NoMemory, IsGone}
@@ -36,9 +37,9 @@ mode_of Open = machine.open_mode
 mode_of Broken = machine.broken
 mode_of Closed = machine.closed
 
-module _ {E C FP F : Type 0} (env : Ghosts E F) (store : List ℕ) where
+module _ {E C FP F I : Type 0} {D : I → Type 0} (env : Ghosts E F) (store : List ℕ) where
   -- the log ends cleanly, and the engine's writer stands at its end
-  pub record WritesOn (engine : Engine E C FP F) (disk : Disk) : Type 0 where
+  pub record WritesOn (engine : Engine E C FP F I D) (disk : Disk) : Type 0 where
     pub file : File
     pub there : disk.files (log_path store) ≡ Some file
     pub since : AreBytes file.since
@@ -48,12 +49,12 @@ module _ {E C FP F : Type 0} (env : Ghosts E F) (store : List ℕ) where
     pub writer : engine.writer ≡ record { size = log_block_size; place = length (bytes_of file) % log_block_size; broken = false }
 
   -- memory shows what the history shows, from its end on
-  pub record Remembers (engine : Engine E C FP F) (state : State) : Type 0 where
+  pub record Remembers (engine : Engine E C FP F I D) (state : State) : Type 0 where
     pub last : engine.recent.last ≡ state.last
     pub same : (t : ℕ) → greatest (entries_of state.history) ≤ t → SameView engine.recent.kept.entries (entries_of state.history) t
 
   -- what the engine's memory has to do with the disk and the state
-  pub record Recalls (engine : Engine E C FP F) (disk : Disk) (state : State) : Type 0 where
+  pub record Recalls (engine : Engine E C FP F I D) (disk : Disk) (state : State) : Type 0 where
     pub mode : mode_of engine.mode ≡ state.mode
     pub lock : string_bytes engine.lock ≡ lock_path store
     pub shows : (state.mode ≡ closed → ⊥) → Remembers engine state
@@ -61,22 +62,26 @@ module _ {E C FP F : Type 0} (env : Ghosts E F) (store : List ℕ) where
 
 -- ---- what the calls answer
 
-module _ {E C FP F : Type 0} (env : Ghosts E F) (cmp : List ℕ → List ℕ → Ordering) where
+-- no engine of these options
+abbrev pub no_engine : {E C FP F I : Type 0} {D : I → Type 0} → Options C FP I D → Option (Engine E C FP F I D)
+no_engine options = None
+
+module _ {E C FP F I : Type 0} {D : I → Type 0} (env : Ghosts E F) (cmp : List ℕ → List ℕ → Ordering) where
   -- what stands around a call
-  abbrev pub scene : Option (Engine E C FP F) → E → Scene (Engine E C FP F)
+  abbrev pub scene : Option (Engine E C FP F I D) → E → Scene (Engine E C FP F I D)
   scene memory at = (memory, env.tells at, env.failures at)
 
   -- where the disk is told, the call is a step of the machine, for the store under this name
-  abbrev pub AnswersAs : List ℕ → Option (Engine E C FP F) → E → Request → Answer → Option (Engine E C FP F) → E → Type 0
+  abbrev pub AnswersAs : List ℕ → Option (Engine E C FP F I D) → E → Request → Answer → Option (Engine E C FP F I D) → E → Type 0
   AnswersAs store before from request answer after to = IsTrue env.tells_disk → Serves store (Reads store) (Recalls env store) cmp (scene before from) request answer (scene after to)
 
   -- the same, whatever store engine and disk stand for
-  abbrev pub Answers : Option (Engine E C FP F) → E → Request → Answer → Option (Engine E C FP F) → E → Type 0
+  abbrev pub Answers : Option (Engine E C FP F I D) → E → Request → Answer → Option (Engine E C FP F I D) → E → Type 0
   Answers before from request answer after to = IsTrue env.tells_disk → (store : List ℕ)
       → Serves store (Reads store) (Recalls env store) cmp (scene before from) request answer (scene after to)
 
   -- the same of a call that leaves engine and environment as they are
-  abbrev pub AnswersStill : Engine E C FP F → Request → Answer → Type 0
+  abbrev pub AnswersStill : Engine E C FP F I D → Request → Answer → Type 0
   AnswersStill engine request answer = (at : E) → Answers (Some engine) at request answer (Some engine) at
 
 -- ---- why a call may be refused with no failure of the device
@@ -89,20 +94,20 @@ ShutOut mode e = IsShut mode × (e.code ≡ InvalidArgument)
 abbrev pub ShutDown : Mode → Writing → Status → Type 0
 ShutDown mode writer e = IsStuck mode writer × IsBroken e
 
-module _ {E C FP F : Type 0} (env : Ghosts E F) where
+module _ {E C FP F I : Type 0} {D : I → Type 0} (env : Ghosts E F) where
   -- an append to the log and a sync of it: for want of memory, or where a told disk has lost the log's name
-  abbrev pub LogExcused : Engine E C FP F → E → Status → Type 0
+  abbrev pub LogExcused : Engine E C FP F I D → E → Status → Type 0
   LogExcused engine at e = IsGone env.tells_disk (env.name_of engine.log) (env.tells at) e
 
-  abbrev pub WriteExcused : Engine E C FP F → E → List Item → Status → Type 0
+  abbrev pub WriteExcused : Engine E C FP F I D → E → List Item → Status → Type 0
   WriteExcused engine at items e = ShutOut engine.mode e ⊎ ShutDown engine.mode engine.writer e
       ⊎ ((e.code ≡ InvalidArgument) × IsLongBatch items) ⊎ ((e.code ≡ NotSupported) × AreUsedUp engine.recent.last (length items)) ⊎ LogExcused engine at e
 
-  abbrev pub SyncExcused : Engine E C FP F → E → Status → Type 0
+  abbrev pub SyncExcused : Engine E C FP F I D → E → Status → Type 0
   SyncExcused engine at e = ShutOut engine.mode e ⊎ ShutDown engine.mode engine.writer e ⊎ LogExcused engine at e
 
   -- as a sync, where nothing was counted: giving back the lock may be refused with the same code, and that is counted
-  abbrev pub CloseExcused : Engine E C FP F → E → E → Status → Type 0
+  abbrev pub CloseExcused : Engine E C FP F I D → E → E → Status → Type 0
   CloseExcused engine at now e = SyncExcused engine at e × (env.failures now ≡ env.failures at)
 
 abbrev pub GetExcused : Mode → List ℕ → Status → Type 0

@@ -40,14 +40,19 @@ answer_of (reply.Refused status) = refused (refusal_of status)
 
 -- ---- runs
 
-module _ {E F : Type 0} (C FP : Type 0) (env : Ghosts E F) (cmp : List ℕ → List ℕ → Ordering) (store : List ℕ) where
+module _ {E F : Type 0} (C FP : Type 0) {I : Type 0} {D : I → Type 0} (env : Ghosts E F) (cmp : List ℕ → List ℕ → Ordering) (store : List ℕ) where
   -- these requests had these answers, from what the disk has on, and what engine and disk stand for then
-  abbrev pub Leads : E → List Request → List Answer → Option (Engine E C FP F) → E → State → Type 0
-  Leads from requests answers engine to old = Runs store (Reads store) (Recalls env store) cmp (scene {C = C} {FP = FP} env cmp None from) requests answers (scene env cmp engine to) old
+  abbrev pub Leads : E → List Request → List Answer → Option (Engine E C FP F I D) → E → State → Type 0
+  Leads from requests answers engine to old = Runs store (Reads store) (Recalls env store) cmp (scene {C = C} {FP = FP} {I = I} {D = D} env cmp None from) requests answers (scene env cmp engine to) old
 
+-- no engine stands before the runs below, and none behind them; so it is told of no coder either
+abbrev pub NoCoder : Unit {0} → Type 0
+NoCoder unit = Unit {0}
+
+module _ {E F : Type 0} (C FP : Type 0) (env : Ghosts E F) (cmp : List ℕ → List ℕ → Ordering) (store : List ℕ) where
   -- the store was opened, each command was answered, and at last it was abandoned with this answer
   abbrev pub LeadsThrough : E → Opening → List Command → List Reply → Answer → E → State → Type 0
-  LeadsThrough from opening commands given last to old = Leads from (open_store opening ∷ (map request_of commands ++ abandon ∷ [])) (done ∷ (map answer_of given ++ last ∷ [])) None to old
+  LeadsThrough from opening commands given last to old = Leads C FP {I = Unit {0}} {D = NoCoder} env cmp store from (open_store opening ∷ (map request_of commands ++ abandon ∷ [])) (done ∷ (map answer_of given ++ last ∷ [])) None to old
 
   -- What a run of commands is, by its result, with the replies that it gave: it went through; or it was refused before it began,
   -- for want of memory; or the store wasn't opened.
@@ -55,13 +60,13 @@ module _ {E F : Type 0} (C FP : Type 0) (env : Ghosts E F) (cmp : List ℕ → L
   Plays from opening commands given (Ok ended) to old = LeadsThrough from opening commands given done to old
   Plays from opening commands given (Err status) to old =
       LeadsThrough from opening commands given (refused (refusal_of status)) to old
-      ⊎ ((given ≡ []) × Leads from (open_store opening ∷ []) (refused (refusal_of status) ∷ []) None to old)
+      ⊎ ((given ≡ []) × Leads C FP {I = Unit {0}} {D = NoCoder} env cmp store from (open_store opening ∷ []) (refused (refusal_of status) ∷ []) None to old)
       ⊎ ((given ≡ []) × NoMemory status × (to ≡ from))
 
   -- the same from every state that the disk stands for, where the disk is told
   abbrev pub PlaysAlways : E → Bool → List Command → List Reply → Result (Unit {0}) Status → E → Type 0
   PlaysAlways from create_if_missing commands given result to = IsTrue env.tells_disk → (opening : Opening) → IsOpening store create_if_missing opening
-      → (old : State) → Represents store (Reads store) (Recalls {C = C} {FP = FP} env store) None (env.tells from).disk old → Plays from opening commands given result to old
+      → (old : State) → Represents store (Reads store) (Recalls {C = C} {FP = FP} {I = Unit {0}} {D = NoCoder} env store) None (env.tells from).disk old → Plays from opening commands given result to old
 
 -- a device's failure was counted, or can't be any more
 abbrev pub HasFailed : ℕ → ℕ → Type 0

@@ -49,11 +49,11 @@ store_found create (Some file) records end s found contents read is = inr (sym i
 no_bytes : AreBytes []
 no_bytes i = omega arith
 
-module _ {E C FP F : Type 0} (env : Ghosts E F) (name : List ℕ) (cmp : List ℕ → List ℕ → Ordering) (opening_is : Opening) (create : Bool) (is : IsOpening name create opening_is) (is_name : IsStoreName name)
-    (from to : Told) (before after : ℕ) (engine : Engine E C FP F) (got : IsRecovered create (from.disk.files (log_path name)) (to.disk.files (log_path name)) engine.writer engine.recent)
+module _ {E C FP F I : Type 0} {D : I → Type 0} (env : Ghosts E F) (name : List ℕ) (cmp : List ℕ → List ℕ → Ordering) (opening_is : Opening) (create : Bool) (is : IsOpening name create opening_is) (is_name : IsStoreName name)
+    (from to : Told) (before after : ℕ) (engine : Engine E C FP F I D) (got : IsRecovered create (from.disk.files (log_path name)) (to.disk.files (log_path name)) engine.writer engine.recent)
     (mode : mode_of engine.mode ≡ open_mode) (lock : string_bytes engine.lock ≡ lock_path name) (log : env.name_of engine.log ≡ log_path name)
     (was_free : from.disk.locked (lock_path name) ≡ false) (held : to.disk.locked (lock_path name) ≡ true) (others : (other : List ℕ) → other ≢ lock_path name → to.disk.locked other ≡ from.disk.locked other)
-    (counted : after ≡ before) (old : State) (represents : Represents name (Reads name) (Recalls {E = E} {C = C} {FP = FP} {F = F} env name) None from.disk old) where
+    (counted : after ≡ before) (old : State) (represents : Represents name (Reads name) (Recalls {E = E} {C = C} {FP = FP} {F = F} {I = I} {D = D} env name) None from.disk old) where
   found : opening.Found name from.disk.files old.history (old.last + count_of old.pending) old.covered old.pending
   found = opening.found name from.disk.files old.history old.last old.covered old.pending represents.disk_is.is_state.covered represents.disk_is.holds
 
@@ -166,7 +166,7 @@ module _ {E C FP F : Type 0} (env : Ghosts E F) (name : List ℕ) (cmp : List �
       (λ there. subst (Disagrees opening_is) there misfit) which
 
   -- the step
-  pub opened : Goes name (Reads name) (Recalls {E = E} {C = C} {FP = FP} {F = F} env name) cmp (None, from, before) (open_store opening_is) done (Some engine, to, after) old
+  pub opened : Goes name (Reads name) (Recalls {E = E} {C = C} {FP = FP} {F = F} {I = I} {D = D} env name) cmp (None, from, before) (open_store opening_is) done (Some engine, to, after) old
   opened = record {
     new = now;
     represents = record { disk_is = stands; memory_is = record { mode = mode; lock = lock; shows = λ never. remembers; writes = λ open_is. writes } };

@@ -29,7 +29,7 @@ pub record IsNext (last : ℕ) (items : List Item) (bytes : List ℕ) : Type 0 w
   pub all_fit : last + length items ≤ max_sequence
   pub are : AreBytes bytes
 
-module _ {E C FP F : Type 0} (env : Ghosts E F) (store : List ℕ) (engine : Engine E C FP F) (from : E) (old : State) (was : IsOpen env store engine from old)
+module _ {E C FP F I : Type 0} {D : I → Type 0} (env : Ghosts E F) (store : List ℕ) (engine : Engine E C FP F I D) (from : E) (old : State) (was : IsOpen env store engine from old)
     (items : List Item) (bytes : List ℕ) (next : IsNext old.last items bytes) where
   abbrev pub batch : List Entry
   batch = batch_of old items
@@ -64,7 +64,7 @@ module _ {E C FP F : Type 0} (env : Ghosts E F) (store : List ℕ) (engine : Eng
   passed_file files (inl same) = (was.writes.file, ap (λ (f : Files). f name) same ∙ was.writes.there)
   passed_file files (inr part) = (longer_file (take part.0 frame) was.writes.file, ap (λ (f : Files). f name) part.1 ∙ extended-same name (take part.0 frame) (env.tells from).disk.files was.writes.file was.writes.there)
 
-  module _ (cmp : List ℕ → List ℕ → Ordering) (sync : Bool) (after : Engine E C FP F) (to : E) where
+  module _ (cmp : List ℕ → List ℕ → Ordering) (sync : Bool) (after : Engine E C FP F I D) (to : E) where
     abbrev faults : Faults
     faults = faults_between (env.failures from) (env.failures to)
 

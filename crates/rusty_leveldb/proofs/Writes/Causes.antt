@@ -22,7 +22,7 @@ none_before : (file : Option File) (bytes : List ℕ) → option_map (longer_fil
 none_before None bytes gone = refl
 none_before (Some file) bytes gone = cc
 
-module _ {E C FP F : Type 0} (env : Ghosts E F) (engine : Engine E C FP F) (from : E) (open_now : engine.mode ≡ Open) (sound : engine.writer.broken ≡ false) (items : List Item) (bytes : List ℕ)
+module _ {E C FP F I : Type 0} {D : I → Type 0} (env : Ghosts E F) (engine : Engine E C FP F I D) (from : E) (open_now : engine.mode ≡ Open) (sound : engine.writer.broken ≡ false) (items : List Item) (bytes : List ℕ)
     (next : IsNext engine.recent.last items bytes) where
   -- the log's own excuses are the only ones that are left
   to_write : (e : Status) → LogExcused env engine from e → WriteExcused env engine from items e

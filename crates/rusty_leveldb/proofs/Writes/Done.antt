@@ -30,8 +30,8 @@ use Rattle.rusty_leveldb.proofs.Writes.Stands.{IsStored, stored, IsOpen}
 use Rattle.rusty_leveldb.proofs.Writes.Batches.{placed_last, not_long, same_set, same_by}
 use Rattle.rusty_leveldb.proofs.Writes.Append.{IsNext, batch, longer, frame, longer_history, longer_reached}
 
-module _ {E C FP F : Type 0} (env : Ghosts E F) (store : List ℕ) (engine : Engine E C FP F) (from : E) (old : State) (was : IsOpen env store engine from old)
-    (items : List Item) (bytes : List ℕ) (next : IsNext old.last items bytes) (after : Engine E C FP F) (to : E) where
+module _ {E C FP F I : Type 0} {D : I → Type 0} (env : Ghosts E F) (store : List ℕ) (engine : Engine E C FP F I D) (from : E) (old : State) (was : IsOpen env store engine from old)
+    (items : List Item) (bytes : List ℕ) (next : IsNext old.last items bytes) (after : Engine E C FP F I D) (to : E) where
   abbrev the_batch : List Entry
   the_batch = batch env store engine from old was items bytes next
 

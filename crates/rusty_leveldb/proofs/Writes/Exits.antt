@@ -32,7 +32,7 @@ pub begun_with : {M : Type 0} (store : List ℕ) (Recalls : M → _ → State �
     → Goes store (Reads store) Recalls cmp (one, told, failures) request answer to old → Goes store (Reads store) Recalls cmp (other, told, failures) request answer to old
 begun_with store Recalls cmp one other told failures request answer to old goes = record { new = goes.new; represents = goes.represents; step = goes.step; files = goes.files; others = goes.others }
 
-module _ {E C FP F : Type 0} (env : Ghosts E F) (tells : IsTrue env.tells_disk) (store : List ℕ) (engine : Engine E C FP F) (from : E) (old : State) (stood : Was env store engine from old) (open_now : engine.mode ≡ Open)
+module _ {E C FP F I : Type 0} {D : I → Type 0} (env : Ghosts E F) (tells : IsTrue env.tells_disk) (store : List ℕ) (engine : Engine E C FP F I D) (from : E) (old : State) (stood : Was env store engine from old) (open_now : engine.mode ≡ Open)
     (items : List Item) (bytes : List ℕ) (ready : IsNext engine.recent.last items bytes) where
   was : IsOpen env store engine from old
   was = is_open env store engine from old open_now stood
@@ -54,7 +54,7 @@ module _ {E C FP F : Type 0} (env : Ghosts E F) (tells : IsTrue env.tells_disk) 
 
   -- ---- a refused append
 
-  module _ (cmp : List ℕ → List ℕ → Ordering) (sync : Bool) (after : Engine E C FP F) (to : E) (rest : after ≡ record engine { log = after.log; writer = after.writer; mode = after.mode })
+  module _ (cmp : List ℕ → List ℕ → Ordering) (sync : Bool) (after : Engine E C FP F I D) (to : E) (rest : after ≡ record engine { log = after.log; writer = after.writer; mode = after.mode })
       (mode : after.mode ≡ (if after.writer.broken then Broken else engine.mode)) where
     abbrev Refused : Status → Type 0
     Refused status = Goes store (Reads store) (Recalls env store) cmp (scene env cmp (Some engine) from) (write items sync) (refused (refusal_of status)) (scene env cmp (Some after) to) old
@@ -85,7 +85,7 @@ module _ {E C FP F : Type 0} (env : Ghosts E F) (tells : IsTrue env.tells_disk) 
 
   -- ---- an append that was done
 
-  module _ (middle : Engine E C FP F) (mid : E) (rest : middle ≡ record engine { log = middle.log; writer = middle.writer; mode = middle.mode })
+  module _ (middle : Engine E C FP F I D) (mid : E) (rest : middle ≡ record engine { log = middle.log; writer = middle.writer; mode = middle.mode })
       (mode : middle.mode ≡ (if middle.writer.broken then Broken else engine.mode)) (count : ℕ) (adds : Adds (Appends env) engine.writer (opened from engine.log) bytes count middle.writer (opened mid middle.log)) where
     put : Appends env (opened from engine.log) (writing.frame engine.writer bytes) (Ok tt) (opened mid middle.log)
     put = adds.put (batch_some bytes (old.last + 1) items next.is_batch)
@@ -105,7 +105,7 @@ module _ {E C FP F : Type 0} (env : Ghosts E F) (tells : IsTrue env.tells_disk) 
     open_then : middle.mode ≡ Open
     open_then = mode ∙ ap (λ (b : Bool). if b then Broken else engine.mode) sound_then ∙ open_now
 
-    added : (after : Engine E C FP F) (to : E) → (env.tells to).disk.locked ≡ (env.tells mid).disk.locked → after.lock ≡ middle.lock → after.mode ≡ middle.mode → after.writer ≡ middle.writer → env.name_of after.log ≡ env.name_of middle.log
+    added : (after : Engine E C FP F I D) (to : E) → (env.tells to).disk.locked ≡ (env.tells mid).disk.locked → after.lock ≡ middle.lock → after.mode ≡ middle.mode → after.writer ≡ middle.writer → env.name_of after.log ≡ env.name_of middle.log
         → env.failures to ≡ env.failures mid → Inserts engine.recent (batch_of (old.last + 1) items) after.recent → AreUpTo engine.recent.last engine.recent.kept.entries → Added env store engine from old was items bytes next after to
     added after to locks lock same_mode writer log counted inserts below = record {
       locks = locks ∙ put.locks tells;
@@ -119,7 +119,7 @@ module _ {E C FP F : Type 0} (env : Ghosts E F) (tells : IsTrue env.tells_disk) 
     }
 
     module _ (cmp : List ℕ → List ℕ → Ordering) (sync : Bool) where
-      abbrev Done : Engine E C FP F → E → Type 0
+      abbrev Done : Engine E C FP F I D → E → Type 0
       Done after to = Goes store (Reads store) (Recalls env store) cmp (scene env cmp (Some engine) from) (write items sync) done (scene env cmp (Some after) to) old
 
       -- done with no sync
@@ -131,7 +131,7 @@ module _ {E C FP F : Type 0} (env : Ghosts E F) (tells : IsTrue env.tells_disk) 
 
       -- ---- the sync behind it
 
-      module _ (after : Engine E C FP F) (to : E) (rest_after : after ≡ record middle { log = after.log; writer = after.writer; mode = after.mode }) where
+      module _ (after : Engine E C FP F I D) (to : E) (rest_after : after ≡ record middle { log = after.log; writer = after.writer; mode = after.mode }) where
         -- done with a sync
         pub done_synced : after.mode ≡ middle.mode → Flushes (Syncs env) middle.writer (opened mid middle.log) (Ok tt) after.writer (opened to after.log) → (recent : Numbered) → Inserts engine.recent (batch_of (old.last + 1) items) recent
             → AreUpTo engine.recent.last engine.recent.kept.entries → Done (record after { recent = recent }) to

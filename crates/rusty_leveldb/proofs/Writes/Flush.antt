@@ -24,7 +24,7 @@ use Rattle.rusty_leveldb.specs.Engine.{scene, Recalls, mode_of}
 use Rattle.rusty_leveldb.proofs.OneLog.Writing.{synced_holds}
 use Rattle.rusty_leveldb.proofs.Writes.Stands.{Fails, fails, IsStored, stored, Was, IsOpen, is_open, IsStill, remembers_still, broken_with, Broke, broken_is}
 
-module _ {E C FP F : Type 0} (env : Ghosts E F) (cmp : List ℕ → List ℕ → Ordering) (store : List ℕ) (engine after : Engine E C FP F) (from to : E) (old : State) (was : IsOpen env store engine from old) where
+module _ {E C FP F I : Type 0} {D : I → Type 0} (env : Ghosts E F) (cmp : List ℕ → List ℕ → Ordering) (store : List ℕ) (engine after : Engine E C FP F I D) (from to : E) (old : State) (was : IsOpen env store engine from old) where
   abbrev Flushed : Answer → Type 0
   Flushed answer = Goes store (Reads store) (Recalls env store) cmp (scene env cmp (Some engine) from) flush answer (scene env cmp (Some after) to) old
 
@@ -117,7 +117,7 @@ module _ {E C FP F : Type 0} (env : Ghosts E F) (cmp : List ℕ → List ℕ →
       }
 
 -- what the sync answered and did is a step of the machine
-module _ {E C FP F : Type 0} (env : Ghosts E F) (cmp : List ℕ → List ℕ → Ordering) (engine after : Engine E C FP F) (from to : E) (open_now : engine.mode ≡ Open)
+module _ {E C FP F I : Type 0} {D : I → Type 0} (env : Ghosts E F) (cmp : List ℕ → List ℕ → Ordering) (engine after : Engine E C FP F I D) (from to : E) (open_now : engine.mode ≡ Open)
     (rest : after ≡ record engine { log = after.log; writer = after.writer; mode = after.mode }) (tells : IsTrue env.tells_disk) (store : List ℕ) (old : State) (stood : Was env store engine from old) where
   was : IsOpen env store engine from old
   was = is_open env store engine from old open_now stood

@@ -19,7 +19,7 @@ use Rattle.rusty_leveldb.specs.Serves.{Reads, Goes, faults_between, refusal_of}
 use Rattle.rusty_leveldb.specs.Engine.{scene, Recalls}
 use Rattle.rusty_leveldb.proofs.Writes.Stands.{Was, is_open, remembers_still}
 
-module _ {E C FP F : Type 0} (env : Ghosts E F) (store : List ℕ) (engine : Engine E C FP F) (from : E) (old : State) (was : Was env store engine from old) where
+module _ {E C FP F I : Type 0} {D : I → Type 0} (env : Ghosts E F) (store : List ℕ) (engine : Engine E C FP F I D) (from : E) (old : State) (was : Was env store engine from old) where
   -- more room changes nothing of what memory stands for
   pub prepared_was : (recent : Numbered) → recent.kept.entries ≡ engine.recent.kept.entries → recent.last ≡ engine.recent.last → Was env store (record engine { recent = recent }) from old
   prepared_was recent entries last = record {
@@ -39,7 +39,7 @@ module _ {E C FP F : Type 0} (env : Ghosts E F) (store : List ℕ) (engine : Eng
     faults = faults_between (env.failures from) (env.failures from)
 
     -- the store stays open
-    pub kept_goes : (after : Engine E C FP F) → Was env store after from old → (cause : Cause) → Comes faults old (write items sync) (refusal_of status) cause
+    pub kept_goes : (after : Engine E C FP F I D) → Was env store after from old → (cause : Cause) → Comes faults old (write items sync) (refusal_of status) cause
         → Goes store (Reads store) (Recalls env store) cmp (scene env cmp (Some engine) from) (write items sync) (refused (refusal_of status)) (scene env cmp (Some after) from) old
     kept_goes after now cause comes = record {
       new = old;
@@ -61,7 +61,7 @@ module _ {E C FP F : Type 0} (env : Ghosts E F) (store : List ℕ) (engine : Eng
         more = let last = (is_open env store engine from old open_now was).memory_is.last in rw (← counted, ← last) past
 
     -- want of memory
-    pub memory_goes : (after : Engine E C FP F) → Was env store after from old → IsOutOfMemory status
+    pub memory_goes : (after : Engine E C FP F I D) → Was env store after from old → IsOutOfMemory status
         → Goes store (Reads store) (Recalls env store) cmp (scene env cmp (Some engine) from) (write items sync) (refused (refusal_of status)) (scene env cmp (Some after) from) old
     memory_goes after now memory = kept_goes after now out_of_memory (tt, memory.0, ap text_of memory.1)
 

@@ -37,7 +37,7 @@ only_logs (write items sync) logs reads = reads
 only_logs flush logs reads = reads
 only_logs request logs reads = logs
 
-module _ {E C FP F : Type 0} (env : Ghosts E F) (cmp : List ℕ → List ℕ → Ordering) (store : List ℕ) (engine : Engine E C FP F) (at : E) (old : State) (was : Was env store engine at old)
+module _ {E C FP F I : Type 0} {D : I → Type 0} (env : Ghosts E F) (cmp : List ℕ → List ℕ → Ordering) (store : List ℕ) (engine : Engine E C FP F I D) (at : E) (old : State) (was : Was env store engine at old)
     (request : Request) (logs : IsLogging request) (status : Status) where
   abbrev faults : Faults
   faults = faults_between (env.failures at) (env.failures at)

@@ -51,14 +51,14 @@ stored store there files file history last covered pending is at holds = record 
 abbrev pub broken_with : State → Option (List Entry) → State
 broken_with old batch = record old { pending = batch; mode = broken }
 
-module _ {E C FP F : Type 0} (env : Ghosts E F) (store : List ℕ) where
-  abbrev pub Was : Engine E C FP F → E → State → Type 0
+module _ {E C FP F I : Type 0} {D : I → Type 0} (env : Ghosts E F) (store : List ℕ) where
+  abbrev pub Was : Engine E C FP F I D → E → State → Type 0
   Was engine at old = Represents store (Reads store) (Recalls env store) (Some engine) (env.tells at).disk old
 
   -- ---- an open store
 
   -- the store is open, and the engine's memory and the disk stand for it
-  pub record IsOpen (engine : Engine E C FP F) (at : E) (old : State) : Type 0 where
+  pub record IsOpen (engine : Engine E C FP F I D) (at : E) (old : State) : Type 0 where
     pub mode : old.mode ≡ open_mode
     pub none : old.pending ≡ None
     pub held : IsTrue old.locked
@@ -69,7 +69,7 @@ module _ {E C FP F : Type 0} (env : Ghosts E F) (store : List ℕ) where
     pub writes : WritesOn env store engine (env.tells at).disk
     pub made_is : old.store ≡ made None
 
-  pub is_open : (engine : Engine E C FP F) (at : E) (old : State) → engine.mode ≡ Open → Was engine at old → IsOpen engine at old
+  pub is_open : (engine : Engine E C FP F I D) (at : E) (old : State) → engine.mode ≡ Open → Was engine at old → IsOpen engine at old
   is_open engine at old open_now was = record {
     mode = mode;
     none = suits.0;
@@ -100,12 +100,12 @@ module _ {E C FP F : Type 0} (env : Ghosts E F) (store : List ℕ) where
   -- ---- memory
 
   -- the entries, their last number and the lock's name are as they were
-  pub record IsStill (engine after : Engine E C FP F) : Type 0 where
+  pub record IsStill (engine after : Engine E C FP F I D) : Type 0 where
     pub lock : after.lock ≡ engine.lock
     pub entries : after.recent.kept.entries ≡ engine.recent.kept.entries
     pub last : after.recent.last ≡ engine.recent.last
 
-  pub remembers_still : (engine after : Engine E C FP F) (old new : State) → new.history ≡ old.history → new.last ≡ old.last → IsStill engine after → Remembers env store engine old → Remembers env store after new
+  pub remembers_still : (engine after : Engine E C FP F I D) (old new : State) → new.history ≡ old.history → new.last ≡ old.last → IsStill engine after → Remembers env store engine old → Remembers env store after new
   remembers_still engine after old new history last still memory = record {
     last = still.last ∙ memory.last ∙ sym last;
     same = λ t most. subst (λ h. SameView after.recent.kept.entries (entries_of h) t) (sym history)
@@ -115,7 +115,7 @@ module _ {E C FP F : Type 0} (env : Ghosts E F) (store : List ℕ) where
   -- ---- a broken store
 
   -- the log refused a call, and the disk holds what it did, with this batch pending
-  pub record Broke (engine after : Engine E C FP F) (from to : E) (old : State) (batch : Option (List Entry)) : Type 0 where
+  pub record Broke (engine after : Engine E C FP F I D) (from to : E) (old : State) (batch : Option (List Entry)) : Type 0 where
     pub still : IsStill engine after
     pub mode : after.mode ≡ Broken
     pub history : IsHistory (joined old.history batch)
@@ -125,7 +125,7 @@ module _ {E C FP F : Type 0} (env : Ghosts E F) (store : List ℕ) where
     pub there : (env.tells to).disk.files (log_path store) ≡ Some file
     pub locks : (env.tells to).disk.locked ≡ (env.tells from).disk.locked
 
-  pub broken_is : (engine after : Engine E C FP F) (from to : E) (old : State) (batch : Option (List Entry)) → IsOpen engine from old → Broke engine after from to old batch → Was after to (broken_with old batch)
+  pub broken_is : (engine after : Engine E C FP F I D) (from to : E) (old : State) (batch : Option (List Entry)) → IsOpen engine from old → Broke engine after from to old batch → Was after to (broken_with old batch)
   broken_is engine after from to old batch was broke = record {
     disk_is = record {
       is_state = record {

@@ -1,5 +1,5 @@
 -- A write is a step of the machine, at each of its exits, from the engine as it was before the preparation.
-use Rattle.std.proofs.Common.{◌≡◌, ◌≤◌, ◌+◌, ℕ, List, length, sym, ◌∙◌, ap, subst, arith, Some, Ok, Err, Bool, IsTrue, false}
+use Rattle.std.proofs.Common.{◌≡◌, ◌⊎◌, inl, inr, ◌≤◌, ◌+◌, ◌++◌, ◌∷◌, [], ℕ, List, length, refl, sym, ◌∙◌, ap, subst, arith, Some, Ok, Err, Bool, IsTrue, true, false}
 use Rattle.std.specs.Prelude.{if◌then◌else◌}
 use Rattle.std.specs.declared.cmp.Ordering.{Ordering}
 use Rattle.leveldb_base.specs.declared.error.Status.{Status}
@@ -8,8 +8,9 @@ use Rattle.leveldb_base.specs.ViewLaws.{AreUpTo}
 use Rattle.leveldb_env.specs.declared.env.Env.{Ghosts}
 use Rattle.leveldb_env.specs.Disk.{AreBytes}
 use Rattle.leveldb_env.specs.OpenFiles.{opened, Appends, Syncs}
-use Rattle.leveldb_mem.specs.Batch.{Batch, BatchOf, batch_of}
-use Rattle.leveldb_mem.specs.Writing.{Adds, Refuses, Flushes}
+use Rattle.leveldb_mem.specs.Batch.{Batch, BatchOf, batch_of, with_item}
+use Rattle.leveldb_mem.specs.Writing.{Writing, broken_off, Adds, Refuses, Flushes}
+use Rattle.rusty_leveldb.specs.declared.db_impl.engine.Mode.{Mode}
 use Rattle.rusty_leveldb.specs.declared.db_impl.engine.Mode.TheVariants.{Open, Broken}
 use Rattle.rusty_leveldb.specs.declared.db_impl.engine.Engine.{Engine}
 use Rattle.rusty_leveldb.specs.OneLog.{max_sequence}
@@ -28,6 +29,10 @@ use Rattle.rusty_leveldb.proofs.Writes.Exits.{begun_with, append_refused, done_u
 -- a batch at the first number behind the last
 pub batch_behind : (last first : ℕ) (items : List Item) (batch : Batch) → first ≡ last + 1 → batch ≡ batch_of first items → batch ≡ batch_of (last + 1) items
 batch_behind last first items batch first_is is = is ∙ ap (λ n. batch_of n items) first_is
+
+-- a batch of one change
+pub one_change : (empty batch : Batch) (item : Item) → empty ≡ batch_of 0 [] → batch ≡ with_item empty item → batch.items ≡ item ∷ []
+one_change empty batch item is changed = ap (λ (b : Batch). b.items) changed ∙ ap (λ (b : Batch). b.items ++ item ∷ []) is
 
 -- its record may be appended
 pub is_next : (last first count : ℕ) (items : List Item) (batch : Batch) (bytes : List ℕ) → first ≡ last + 1 → first ≤ max_sequence → last + count ≤ max_sequence → count ≡ length items → batch ≡ batch_of first items
@@ -49,15 +54,15 @@ follows last now items batch bytes next is same = subst (λ b. Follows now b) (s
 
 -- ---- the exits
 
-module _ {E C FP F : Type 0} (env : Ghosts E F) (store : List ℕ) (cmp : List ℕ → List ℕ → Ordering) (engine : Engine E C FP F) (from : E) (old : State) (items : List Item) (sync : Bool) (after : Engine E C FP F) (to : E) where
+module _ {E C FP F I : Type 0} {D : I → Type 0} (env : Ghosts E F) (store : List ℕ) (cmp : List ℕ → List ℕ → Ordering) (engine : Engine E C FP F I D) (from : E) (old : State) (items : List Item) (sync : Bool) (after : Engine E C FP F I D) (to : E) where
   abbrev pub Wrote : Answer → Type 0
   Wrote answer = Goes store (Reads store) (Recalls env store) cmp (scene env cmp (Some engine) from) (write items sync) answer (scene env cmp (Some after) to) old
 
-module _ {E C FP F : Type 0} (env : Ghosts E F) (tells : IsTrue env.tells_disk) (store : List ℕ) (cmp : List ℕ → List ℕ → Ordering) (engine : Engine E C FP F) (from : E) (old : State) (stood : Was env store engine from old)
+module _ {E C FP F I : Type 0} {D : I → Type 0} (env : Ghosts E F) (tells : IsTrue env.tells_disk) (store : List ℕ) (cmp : List ℕ → List ℕ → Ordering) (engine : Engine E C FP F I D) (from : E) (old : State) (stood : Was env store engine from old)
     (open_now : engine.mode ≡ Open) (recent : Numbered) (entries : recent.kept.entries ≡ engine.recent.kept.entries) (last : recent.last ≡ engine.recent.last) (items : List Item) (sync : Bool) (bytes : List ℕ)
     (next : IsNext engine.recent.last items bytes) where
   -- the engine behind the preparation
-  abbrev prepared : Engine E C FP F
+  abbrev prepared : Engine E C FP F I D
   prepared = record engine { recent = recent }
 
   now : Was env store prepared from old
@@ -66,24 +71,24 @@ module _ {E C FP F : Type 0} (env : Ghosts E F) (tells : IsTrue env.tells_disk) 
   next_now : IsNext recent.last items bytes
   next_now = subst (λ n. IsNext n items bytes) (sym last) next
 
-  from_prepared : (answer : Answer) (after : Engine E C FP F) (to : E) → Wrote env store cmp prepared from old items sync after to answer → Wrote env store cmp engine from old items sync after to answer
+  from_prepared : (answer : Answer) (after : Engine E C FP F I D) (to : E) → Wrote env store cmp prepared from old items sync after to answer → Wrote env store cmp engine from old items sync after to answer
   from_prepared answer after to goes = begun_with store (Recalls env store) cmp (Some prepared) (Some engine) (env.tells from) (env.failures from) (write items sync) answer (scene env cmp (Some after) to) old goes
 
   -- the append was refused
-  pub refused_append : (after : Engine E C FP F) (to : E) (status : Status) → after ≡ record prepared { log = after.log; writer = after.writer; mode = after.mode } → after.mode ≡ (if after.writer.broken then Broken else engine.mode)
+  pub refused_append : (after : Engine E C FP F I D) (to : E) (status : Status) → after ≡ record prepared { log = after.log; writer = after.writer; mode = after.mode } → after.mode ≡ (if after.writer.broken then Broken else engine.mode)
       → Refuses (Appends env) engine.writer (opened from engine.log) bytes status after.writer (opened to after.log) → Wrote env store cmp engine from old items sync after to (refused (refusal_of status))
   refused_append after to status rest mode refusal = from_prepared (refused (refusal_of status)) after to (append_refused env tells store prepared from old now open_now items bytes next_now cmp sync after to rest mode status refusal)
 
   -- it was done
-  module _ (middle : Engine E C FP F) (mid : E) (rest : middle ≡ record prepared { log = middle.log; writer = middle.writer; mode = middle.mode }) (mode : middle.mode ≡ (if middle.writer.broken then Broken else engine.mode))
+  module _ (middle : Engine E C FP F I D) (mid : E) (rest : middle ≡ record prepared { log = middle.log; writer = middle.writer; mode = middle.mode }) (mode : middle.mode ≡ (if middle.writer.broken then Broken else engine.mode))
       (count : ℕ) (adds : Adds (Appends env) engine.writer (opened from engine.log) bytes count middle.writer (opened mid middle.log)) where
     -- and the sync was refused
-    pub refused_sync : (after : Engine E C FP F) (to : E) (status : Status) → after ≡ record middle { log = after.log; writer = after.writer; mode = after.mode } → after.mode ≡ Broken
+    pub refused_sync : (after : Engine E C FP F I D) (to : E) (status : Status) → after ≡ record middle { log = after.log; writer = after.writer; mode = after.mode } → after.mode ≡ Broken
         → Flushes (Syncs env) middle.writer (opened mid middle.log) (Err status) after.writer (opened to after.log) → Wrote env store cmp engine from old items sync after to (refused (refusal_of status))
     refused_sync after to status rest_after broke flushed = from_prepared (refused (refusal_of status)) after to
         (sync_refused env tells store prepared from old now open_now items bytes next_now middle mid rest mode count adds cmp sync after to rest_after status broke flushed)
 
-    module _ (batch : Batch) (batch_is : batch ≡ batch_of (engine.recent.last + 1) items) (below : AreUpTo engine.recent.last engine.recent.kept.entries) (inserted : Numbered) (self : Engine E C FP F) (inserts : Inserts self.recent batch inserted) (at : E) where
+    module _ (batch : Batch) (batch_is : batch ≡ batch_of (engine.recent.last + 1) items) (below : AreUpTo engine.recent.last engine.recent.kept.entries) (inserted : Numbered) (self : Engine E C FP F I D) (inserts : Inserts self.recent batch inserted) (at : E) where
       last_is : engine.recent.last ≡ old.last
       last_is = sym last ∙ last_now
         where
@@ -102,26 +107,55 @@ module _ {E C FP F : Type 0} (env : Ghosts E F) (tells : IsTrue env.tells_disk) 
       -- it was all that was asked for
       pub done_plain : sync ≡ false → self ≡ middle → at ≡ mid → Wrote env store cmp engine from old items sync (record self { recent = inserted }) at done
       done_plain plain self_is at_is = subst (λ (e : E). Wrote env store cmp engine from old items sync (record self { recent = inserted }) e done) (sym at_is)
-          (subst (λ (m : Engine E C FP F). Wrote env store cmp engine from old items sync (record m { recent = inserted }) mid done) (sym self_is)
+          (subst (λ (m : Engine E C FP F I D). Wrote env store cmp engine from old items sync (record m { recent = inserted }) mid done) (sym self_is)
           (from_prepared done (record middle { recent = inserted }) mid
           (done_unsynced env tells store prepared from old now open_now items bytes next_now middle mid rest mode count adds cmp sync plain inserted
-          (inserts_now (ap (λ (m : Engine E C FP F). m.recent) self_is ∙ ap (λ (m : Engine E C FP F). m.recent) rest)) below_now)))
+          (inserts_now (ap (λ (m : Engine E C FP F I D). m.recent) self_is ∙ ap (λ (m : Engine E C FP F I D). m.recent) rest)) below_now)))
 
       -- the sync was done too
-      pub done_with_sync : (after : Engine E C FP F) (to : E) → after ≡ record middle { log = after.log; writer = after.writer; mode = after.mode } → after.mode ≡ middle.mode
+      pub done_with_sync : (after : Engine E C FP F I D) (to : E) → after ≡ record middle { log = after.log; writer = after.writer; mode = after.mode } → after.mode ≡ middle.mode
           → Flushes (Syncs env) middle.writer (opened mid middle.log) (Ok tt) after.writer (opened to after.log) → self ≡ after → at ≡ to → Wrote env store cmp engine from old items sync (record self { recent = inserted }) at done
       done_with_sync after to rest_after same_mode flushed self_is at_is = subst (λ (e : E). Wrote env store cmp engine from old items sync (record self { recent = inserted }) e done) (sym at_is)
-          (subst (λ (m : Engine E C FP F). Wrote env store cmp engine from old items sync (record m { recent = inserted }) to done) (sym self_is)
+          (subst (λ (m : Engine E C FP F I D). Wrote env store cmp engine from old items sync (record m { recent = inserted }) to done) (sym self_is)
           (from_prepared done (record after { recent = inserted }) to
           (done_synced env tells store prepared from old now open_now items bytes next_now middle mid rest mode count adds cmp sync after to rest_after same_mode flushed inserted
-          (inserts_now (ap (λ (m : Engine E C FP F). m.recent) self_is ∙ ap (λ (m : Engine E C FP F). m.recent) rest_after ∙ ap (λ (m : Engine E C FP F). m.recent) rest)) below_now)))
+          (inserts_now (ap (λ (m : Engine E C FP F I D). m.recent) self_is ∙ ap (λ (m : Engine E C FP F I D). m.recent) rest_after ∙ ap (λ (m : Engine E C FP F I D). m.recent) rest)) below_now)))
 
 -- the last number is the engine's, before the insertion
-pub last_plain : {E C FP F : Type 0} (engine : Engine E C FP F) (recent : Numbered) → recent.last ≡ engine.recent.last → (middle self : Engine E C FP F)
+pub last_plain : {E C FP F I : Type 0} {D : I → Type 0} (engine : Engine E C FP F I D) (recent : Numbered) → recent.last ≡ engine.recent.last → (middle self : Engine E C FP F I D)
     → middle ≡ record engine { recent = recent; log = middle.log; writer = middle.writer; mode = middle.mode } → self ≡ middle → self.recent.last ≡ engine.recent.last
 last_plain engine recent last middle self rest self_is = ap (λ m. m.recent.last) self_is ∙ ap (λ m. m.recent.last) rest ∙ last
 
-pub last_synced : {E C FP F : Type 0} (engine : Engine E C FP F) (recent : Numbered) → recent.last ≡ engine.recent.last → (middle after self : Engine E C FP F)
+pub last_synced : {E C FP F I : Type 0} {D : I → Type 0} (engine : Engine E C FP F I D) (recent : Numbered) → recent.last ≡ engine.recent.last → (middle after self : Engine E C FP F I D)
     → middle ≡ record engine { recent = recent; log = middle.log; writer = middle.writer; mode = middle.mode } → after ≡ record middle { log = after.log; writer = after.writer; mode = after.mode } → self ≡ after
     → self.recent.last ≡ engine.recent.last
 last_synced engine recent last middle after self rest rest_after self_is = ap (λ m. m.recent.last) self_is ∙ ap (λ m. m.recent.last) rest_after ∙ ap (λ m. m.recent.last) rest ∙ last
+
+-- the options are the engine's
+pub options_plain : {E C FP F I : Type 0} {D : I → Type 0} (engine : Engine E C FP F I D) (recent : Numbered) (middle self : Engine E C FP F I D)
+    → middle ≡ record engine { recent = recent; log = middle.log; writer = middle.writer; mode = middle.mode } → self ≡ middle → self.options ≡ engine.options
+options_plain engine recent middle self rest self_is = ap (λ m. m.options) self_is ∙ ap (λ m. m.options) rest
+
+pub options_synced : {E C FP F I : Type 0} {D : I → Type 0} (engine : Engine E C FP F I D) (recent : Numbered) (middle after self : Engine E C FP F I D)
+    → middle ≡ record engine { recent = recent; log = middle.log; writer = middle.writer; mode = middle.mode } → after ≡ record middle { log = after.log; writer = after.writer; mode = after.mode } → self ≡ after
+    → self.options ≡ engine.options
+options_synced engine recent middle after self rest rest_after self_is = ap (λ m. m.options) self_is ∙ ap (λ m. m.options) rest_after ∙ ap (λ m. m.options) rest
+
+-- ---- a writer that isn't broken leaves the mode
+
+stays_if : (broken : Bool) (now old : Mode) → now ≡ (if broken then Broken else old) → IsTrue broken ⊎ (now ≡ old)
+stays_if true now old is = inl refl
+stays_if false now old is = inr is
+
+pub stays_plain : {E C FP F I : Type 0} {D : I → Type 0} (old : Mode) (middle self : Engine E C FP F I D) → middle.mode ≡ (if middle.writer.broken then Broken else old) → self ≡ middle
+    → IsTrue self.writer.broken ⊎ (self.mode ≡ old)
+stays_plain old middle self mode self_is = subst (λ m. IsTrue m.writer.broken ⊎ (m.mode ≡ old)) (sym self_is) (stays_if middle.writer.broken middle.mode old mode)
+
+pub stays_synced : {E C FP F I : Type 0} {D : I → Type 0} (old : Mode) (middle after self : Engine E C FP F I D) → middle.mode ≡ (if middle.writer.broken then Broken else old)
+    → after.writer ≡ middle.writer → after.mode ≡ middle.mode → self ≡ after → IsTrue self.writer.broken ⊎ (self.mode ≡ old)
+stays_synced old middle after self mode writer same self_is =
+    stays_plain old after self (same ∙ mode ∙ ap (λ (w : Writing). if w.broken then Broken else old) (sym writer)) self_is
+
+-- a writer that broke tells so
+pub stays_refused : (old after : Writing) (before now : Mode) → after ≡ broken_off old → IsTrue after.broken ⊎ (now ≡ before)
+stays_refused old after before now broke = inl (ap (λ (w : Writing). w.broken) broke)

@@ -4,7 +4,7 @@ ghost use Rattle.leveldb_env.specs.Calls.{HasCause};
 ghost use Rattle.leveldb_mem.specs.Batch.{item_of};
 ghost use Rattle.rusty_leveldb.specs.State.{Opening, open_store, write, get, flush, close, abandon, done, refused};
 ghost use Rattle.rusty_leveldb.specs.Serves.{done_or, found_or, refusal_of};
-ghost use Rattle.rusty_leveldb.specs.Engine.{IsOpening, AnswersAs, Answers, OpenExcused, WriteExcused, SyncExcused, CloseExcused, GetExcused};
+ghost use Rattle.rusty_leveldb.specs.Engine.{IsOpening, no_engine, AnswersAs, Answers, OpenExcused, WriteExcused, SyncExcused, CloseExcused, GetExcused};
 ghost use Rattle.rusty_leveldb.specs.Shell.{HasFailed};
 
 use super::engine::Engine;
@@ -66,7 +66,7 @@ impl<'e, E: Env, C: UserCmp + Copy, FP: FilterPolicy + Copy> Store<'e, E, Engine
         ensures cause { IfOk result (λ db. E.failures db.env.now ≡ E.failures env.old) }
         ensures refused { IfErr result (λ status. (left : E)
             × ((opening : Opening) → IsOpening name.now options.create_if_missing opening
-            → AnswersAs {C = C} {FP = FP} E.Env (C.cmp options.cmp) name.now None env.old (open_store opening) (refused (refusal_of status)) None left)
+            → AnswersAs E.Env (C.cmp options.cmp) name.now (no_engine options) env.old (open_store opening) (refused (refusal_of status)) (no_engine options) left)
             × (OpenExcused E.tells_disk name.now options.create_if_missing (E.tells env.old) status ⊎ HasFailed (E.failures env.old) (E.failures left))) }
     {
         let engine = Engine::open(alloc, name, &mut *env, options)?;

@@ -5,4 +5,4 @@ pub returns : goal.returns
 returns g c =
     played g.E.Env c.args.folder.now c.args.commands.now c.args.env.now c.run-played.new.env (g.O.Write.contents c.args.out.now) (g.O.Write.contents c.print-printed.new.out)
     c.new-replies.result.items c.run-played.new.replies.items c.deref.result.now c.default.result.create_if_missing c.in_ok-played.field-0 c.print-printed.result
-    c.new-replies.ensures.items c.default.ensures.0 c.deref.ensures.value c.in_ok-played.ensures.plays c.in_ok-played.ensures.behind c.print-printed.ensures
+    c.new-replies.ensures.items c.default.ensures.create c.deref.ensures.value c.in_ok-played.ensures.plays c.in_ok-played.ensures.behind c.print-printed.ensures

@@ -9,7 +9,7 @@ pub returns-in_err-engine-clause-plays : goal.returns-in_err-engine-clause-plays
 returns-in_err-engine-clause-plays g c =
     let failed = err_from_is_err_and c.from_residual-in_err-engine.result c.from_residual-in_err-engine.ensures.1 in
     let none : drop (length c.args.replies.now.items) c.reserve.new.self.items ≡ [] = rw c.reserve.ensures.items (drop-length c.args.replies.now.items) in
-    rw failed.1 (not_opened g.row.C.Denot g.row.FP.Denot g.E.Env (g.C.Cmp.cmp c.args.opt.cmp) c.args.name.now c.args.env.now c.open.new.env c.args.opt.create_if_missing c.args.commands.now
+    rw failed.1 (not_opened g.row.C.Denot g.row.FP.Denot g.E.Env (g.C.Cmp.cmp c.args.opt.cmp) c.args.name.now c.args.opt c.args.env.now c.open.new.env c.args.opt.create_if_missing c.args.commands.now
     (drop (length c.args.replies.now.items) c.reserve.new.self.items) failed.0 none (rw failed.2 c.in_err-engine.ensures.step))
 
 pub loop-command-init : goal.loop-command-init

@@ -1,8 +1,12 @@
--- Refused for want of memory or a batch that is too long; the write of the one change is proved by search.
-use Rattle.std.proofs.Common.{◌∷◌, [], Some, false, refl}
+-- Refused for want of memory or a batch that is too long, or what the write of the one change answered.
+use Rattle.std.proofs.Common.{◌∷◌, [], Some, false, refl, subst}
 use Rattle.std.proofs.lemmas.Result.{err_from_is_err_and}
 use Rattle.leveldb_mem.specs.Batch.{item_of}
+use Rattle.rusty_leveldb.specs.State.{write}
+use Rattle.rusty_leveldb.specs.Serves.{done_or}
+use Rattle.rusty_leveldb.specs.Engine.{Answers}
 use Rattle.rusty_leveldb.proofs.Writes.Kept.{memory_goes, unmade_goes}
+use Rattle.rusty_leveldb.proofs.Writes.Write.{one_change}
 use Rattle.rusty_leveldb.proofs.db_impl.engine.Engine.put.Goals as goal
 
 pub returns-in_err-batch-clause-step : goal.returns-in_err-batch-clause-step
@@ -16,3 +20,8 @@ returns-in_err-put-clause-step g c tells store old was =
     let p = err_from_is_err_and c.from_residual-in_err-put.result c.from_residual-in_err-put.ensures.1 in
     rw (p.1, p.2) (unmade_goes g.E.Env store c.args.self.now c.args.env.now old was (g.C.Cmp.cmp c.args.self.now.options.cmp) c.in_ok-check_open.ensures.ok.0 (item_of c.args.key.now (Some c.args.value.now) ∷ []) false c.in_err-put.field-0.0
     c.in_ok-batch.batch (item_of c.args.key.now (Some c.args.value.now)) c.in_ok-batch.ensures.ok refl c.in_err-put.ensures.cause c.in_err-put.ensures.too_long.0)
+
+pub returns-clause-step : goal.returns-clause-step
+returns-clause-step g c =
+    subst (λ items. Answers g.E.Env (g.C.Cmp.cmp c.args.self.now.options.cmp) (Some c.args.self.now) c.args.env.now (write items false) (done_or c.write.result) (Some c.write.new.self) c.write.new.env)
+    (one_change c.in_ok-batch.batch c.put.new.self (item_of c.args.key.now (Some c.args.value.now)) c.in_ok-batch.ensures.ok c.in_ok-put.ensures.ok) c.write.ensures.step

@@ -5,7 +5,7 @@ use Rattle.leveldb_mem.specs.Batch.{batch_of}
 use Rattle.rusty_leveldb.proofs.Writes.Kept.{prepared_was, used_up_goes, memory_goes}
 use Rattle.rusty_leveldb.proofs.Writes.Append.{IsNext}
 use Rattle.rusty_leveldb.proofs.Writes.Causes.{append_cause, append_counted, still_sound, sync_cause, sync_counted, done_cause}
-use Rattle.rusty_leveldb.proofs.Writes.Write.{batch_behind, is_next, follows, refused_append, refused_sync, done_plain, done_with_sync, last_plain, last_synced}
+use Rattle.rusty_leveldb.proofs.Writes.Write.{batch_behind, is_next, follows, refused_append, refused_sync, done_plain, done_with_sync, last_plain, last_synced, options_plain, options_synced, stays_plain, stays_synced, stays_refused}
 use Rattle.rusty_leveldb.proofs.db_impl.engine.Engine.write.Goals as goal
 use Rattle.rusty_leveldb.proofs.db_impl.engine.Engine.write.Goals.{then-sync+in_ok-sync, else-sync}
 
@@ -78,4 +78,27 @@ returns-clause-cause g c =
       | then-sync+in_ok-sync w ↦ done_cause g.E.Env c.args.self.now c.args.env.now c.in_ok-check_open.ensures.ok.0 c.in_ok-check_open.ensures.ok.1 c.args.batch.items c.contents.result.now next c.if-sync.env (ap g.E.Env.failures w.env-is ∙ sync_counted g.E.Env c.args.self.now c.args.env.now c.in_ok-check_open.ensures.ok.0 c.in_ok-check_open.ensures.ok.1 c.args.batch.items c.contents.result.now next c.append.new.self.writer c.append.new.self.log c.append.new.env c.in_ok-append.ensures.ok.0 c.in_ok-append.ensures.ok.1
           w.sync.new.self.writer w.sync.new.self.log w.sync.new.env (w.in_ok-sync.ensures.synced (still_sound g.E.Env c.args.self.now c.args.env.now c.in_ok-check_open.ensures.ok.0 c.in_ok-check_open.ensures.ok.1 c.args.batch.items c.contents.result.now next c.append.new.self.writer c.append.new.self.log c.append.new.env c.in_ok-append.ensures.ok.0 c.in_ok-append.ensures.ok.1)))
       | else-sync w ↦ done_cause g.E.Env c.args.self.now c.args.env.now c.in_ok-check_open.ensures.ok.0 c.in_ok-check_open.ensures.ok.1 c.args.batch.items c.contents.result.now next c.if-sync.env (ap g.E.Env.failures w.env-is ∙ append_counted g.E.Env c.args.self.now c.args.env.now c.in_ok-check_open.ensures.ok.0 c.in_ok-check_open.ensures.ok.1 c.args.batch.items c.contents.result.now next c.append.new.self.writer c.append.new.self.log c.append.new.env c.in_ok-append.ensures.ok.0 c.in_ok-append.ensures.ok.1)
+    ]
+
+pub returns-in_err-sync-clause-stays : goal.returns-in_err-sync-clause-stays
+returns-in_err-sync-clause-stays g c =
+    let next : IsNext c.args.self.now.recent.last c.args.batch.items c.contents.result.now = is_next c.args.self.now.recent.last c.in_ok-first.first c.count.result c.args.batch.items c.set_sequence.new.self c.contents.result.now c.in_ok-first.ensures.ok.0 c.in_ok-first.ensures.ok.1 c.in_ok-first.ensures.ok.2 c.count.ensures c.set_sequence.ensures c.contents.ensures c.append.ensures.bytes in
+    let flushed = c.in_err-sync.ensures.synced (still_sound g.E.Env c.args.self.now c.args.env.now c.in_ok-check_open.ensures.ok.0 c.in_ok-check_open.ensures.ok.1 c.args.batch.items c.contents.result.now next c.append.new.self.writer c.append.new.self.log c.append.new.env c.in_ok-append.ensures.ok.0 c.in_ok-append.ensures.ok.1) in
+    stays_refused c.append.new.self.writer c.sync.new.self.writer c.args.self.now.mode c.sync.new.self.mode flushed.err
+
+pub returns-clause-options : goal.returns-clause-options
+returns-clause-options g c =
+    elim c.if-sync.branch [
+      | then-sync+in_ok-sync w ↦ options_synced c.args.self.now c.prepare.new.self c.append.new.self w.sync.new.self c.if-sync.self c.append.ensures.rest w.sync.ensures.rest w.self-is
+      | else-sync w ↦ options_plain c.args.self.now c.prepare.new.self c.append.new.self c.if-sync.self c.append.ensures.rest w.self-is
+    ]
+
+pub returns-clause-stays : goal.returns-clause-stays
+returns-clause-stays g c =
+    let next : IsNext c.args.self.now.recent.last c.args.batch.items c.contents.result.now = is_next c.args.self.now.recent.last c.in_ok-first.first c.count.result c.args.batch.items c.set_sequence.new.self c.contents.result.now c.in_ok-first.ensures.ok.0 c.in_ok-first.ensures.ok.1 c.in_ok-first.ensures.ok.2 c.count.ensures c.set_sequence.ensures c.contents.ensures c.append.ensures.bytes in
+    elim c.if-sync.branch [
+      | then-sync+in_ok-sync w ↦
+          let flushed = w.in_ok-sync.ensures.synced (still_sound g.E.Env c.args.self.now c.args.env.now c.in_ok-check_open.ensures.ok.0 c.in_ok-check_open.ensures.ok.1 c.args.batch.items c.contents.result.now next c.append.new.self.writer c.append.new.self.log c.append.new.env c.in_ok-append.ensures.ok.0 c.in_ok-append.ensures.ok.1) in
+          stays_synced c.args.self.now.mode c.append.new.self w.sync.new.self c.if-sync.self c.append.ensures.mode flushed.ok w.in_ok-sync.ensures.mode_ok w.self-is
+      | else-sync w ↦ stays_plain c.args.self.now.mode c.append.new.self c.if-sync.self c.append.ensures.mode w.self-is
     ]
