@@ -13,7 +13,7 @@ pub struct Options<C, FP> {
     pub filter_policy: FP,
     pub create_if_missing: bool,
 
-    /// From how many bytes on a block of a table is full, at least 1.
+    /// A block of a table that has more bytes than this takes no further entry; at least 1.
     pub block_size: usize,
 
     /// How many entries of a block lie between the starts of two restart points, at least 1.
@@ -22,13 +22,13 @@ pub struct Options<C, FP> {
     /// The id of the coder by which blocks are stored.
     pub compressor: u8,
 
-    /// The coders by which blocks are read.
+    /// The coders by which blocks are stored and read, each under its id.
     pub compressor_list: CompressorList,
 }
 
 impl Options<DefaultCmp, BloomPolicy> {
-    /// LevelDB's order of bytes and its filters, with ten bits a key; a missing store is created, a block is full at 4096
-    /// bytes, every sixteenth entry of a block is a restart point, and blocks are stored as they are.
+    /// LevelDB's order of bytes and its filters, with ten bits a key; a missing store is created, a block is full above
+    /// 4096 bytes, every sixteenth entry of a block is a restart point, and blocks are stored as they are.
     pub fn default() -> Options<DefaultCmp, BloomPolicy>
         ensures filters { result.filter_policy ≡ 10 }
         ensures create { result.create_if_missing ≡ true }
