@@ -14,10 +14,12 @@ use std::alloc::{AllocError, Global};
 mod check;
 mod entry;
 mod iter;
+mod owned;
 mod points;
 mod walk;
 
 pub use iter::BlockIter;
+pub use owned::BlockWalk;
 pub use walk::{BlockCore, Spot};
 
 /// The bytes of a block, shared with no copy.

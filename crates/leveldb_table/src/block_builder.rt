@@ -44,15 +44,53 @@ impl<C: Cmp> BlockBuilder<C> {
         ensures order { result.cmp ≡ options.now.cmp }
         ensures interval { result.interval ≡ max 1 options.now.block_restart_interval }
     {
+        BlockBuilder::spaced(alloc, options.cmp, options.block_restart_interval.max(1))
+    }
+
+    // A builder under this order, with a restart point every so many entries.
+    pub(crate) fn spaced(alloc: Global, cmp: C, interval: usize) -> BlockBuilder<C>
+        requires { 1 ≤ interval }
+        ensures none { result.built.0 ≡ [] }
+        ensures begun { result.begun ≡ true }
+        ensures order { result.cmp ≡ cmp }
+        ensures interval { result.interval ≡ interval }
+    {
         BlockBuilder {
-            cmp: options.cmp,
-            interval: options.block_restart_interval.max(1),
+            cmp,
+            interval,
             buffer: Vec::new(alloc),
             points: Vec::new(alloc),
             last_key: Vec::new(alloc),
             count: 0,
             begun: true,
         }
+    }
+
+    // A builder of the same kind, with no pairs.
+    pub(crate) fn fresh(&self) -> BlockBuilder<C>
+    where
+        C: Copy,
+        ensures none { result.built.0 ≡ [] }
+        ensures begun { result.begun ≡ true }
+        ensures order { result.cmp ≡ self.now.cmp }
+        ensures interval { result.interval ≡ self.now.interval }
+    {
+        BlockBuilder::spaced(*self.buffer.allocator(), self.cmp, self.interval)
+    }
+
+    // The order of the keys.
+    pub(crate) fn order(&self) -> &C
+        ensures { result.now ≡ self.now.cmp }
+    {
+        &self.cmp
+    }
+
+    // How many entries lie between the starts of two restart points.
+    pub(crate) fn interval(&self) -> usize
+        ensures same { result ≡ self.now.interval }
+        ensures some { 1 ≤ result }
+    {
+        self.interval
     }
 
     /// How many pairs were added.
@@ -137,9 +175,21 @@ impl<C: Cmp> BlockBuilder<C> {
         ensures spaced { AreSpaced self.interval 0 self.built.0 }
         ensures memory { IfErr result IsOutOfMemory }
     {
+        Ok(Bytes::from_vec(self.into_bytes()?)?)
+    }
+
+    // The block of the pairs that were added, in a vector.
+    pub(crate) fn into_bytes(self) -> Result<Vec<u8>>
+    where
+        C: Drop,
+        ensures ok { IfOk result (λ block. IsBlock (C.cmp self.cmp) block.items (pairs_of None self.built.0)) }
+        ensures spelled { IfOk result (λ block. IsSpelled (C.cmp self.cmp) block.items self.built.0) }
+        ensures size { IfOk result (λ block. length block.items ≡ estimate self.built.0 true) }
+        ensures memory { IfErr result IsOutOfMemory }
+    {
         let mut buffer = self.buffer;
         put_points(&mut buffer, &self.points)?;
-        Ok(Bytes::from_vec(buffer)?)
+        Ok(buffer)
     }
 }
 

@@ -7,6 +7,7 @@ ghost use Rattle.leveldb_table.specs.Walk.{last_place, start_of, IsPoint, Loads,
 
 use crate::block::Block;
 use crate::block::entry::take_entry;
+use bytes::Bytes;
 use leveldb_base::cmp::Cmp;
 use leveldb_base::error::Result;
 use std::alloc::Global;
@@ -193,5 +194,18 @@ impl BlockCore {
             self.key.as_slice(),
             &block.contents.as_slice()[spot.value..spot.next],
         ))
+    }
+
+    /// The pair on which it stands: the key's bytes become the answer's, and the value's are shared with the block.
+    pub fn into_pair<C: Cmp>(self, block: &Block<C>) -> Result<Option<(Bytes, Bytes)>>
+        requires { IsWithin block.now.contents block.now.held.0 self.key.items self.spot }
+        ensures ok { IfOk result (λ pair. pair ≡ pair_at (pairs_of None block.now.held.0) (place_of block.now.held.0 self.spot)) }
+        ensures cause { IfErr result IsOutOfMemory }
+    {
+        let Some(spot) = self.spot else {
+            return Ok(None);
+        };
+        let value = block.contents.slice(spot.value..spot.next)?;
+        Ok(Some((Bytes::from_vec(self.key)?, value)))
     }
 }

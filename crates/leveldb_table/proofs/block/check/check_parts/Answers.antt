@@ -1,4 +1,4 @@
-use Rattle.std.proofs.Common.{◌≡◌, ◌<◌, ◌++◌, length, take, ap, ◌∙◌, arith}
+use Rattle.std.proofs.Common.{◌≡◌, ◌<◌, length, arith}
 use Rattle.std.proofs.lemmas.Bool.Decides.{nat_tests}
 use Rattle.leveldb_table.proofs.Checking.{checks_empty, checking_none, checks_no_entry, checks_no_follow, point_long, left_shrinks, checking_more, checks_whole, checks_no_whole}
 use Rattle.leveldb_table.proofs.block.check.check_parts.Goals as goal

@@ -1,0 +1,78 @@
+-- What follows from how a pair is added and why one is refused.
+use Rattle.std.proofs.Common.{◌≡◌, ◌≢◌, ℕ, ◌<◌, ◌≤◌, refl, true, false, List, [], ◌∷◌, ◌++◌, length, Result, Ok, Err, inl, inr, ◌⊎◌, sym, ap, subst, arith}
+use Rattle.leveldb_base.specs.Handle.{Handle}
+use Rattle.leveldb_base.specs.Places.{Pair}
+use Rattle.leveldb_base.specs.declared.cmp.Cmp.{Ghosts as CmpGhosts}
+use Rattle.leveldb_base.specs.declared.error.Status.{Status}
+use Rattle.leveldb_env.specs.Coders.{Codings}
+use Rattle.leveldb_env.specs.SinkLaws.{PutsAll-none, PutsAll-one, PutsPart-one}
+use Rattle.leveldb_env.specs.Sinks.{PutsAll}
+use Rattle.leveldb_env.specs.declared.filter.FilterPolicy.{Ghosts as PolicyGhosts}
+use Rattle.leveldb_table.specs.Block.{Entry}
+use Rattle.leveldb_table.specs.Built.{estimate}
+use Rattle.leveldb_table.specs.Table.{with_trailer}
+use Rattle.leveldb_table.specs.TableStages.{Stage}
+use Rattle.leveldb_table.specs.TablePuts.{PutsSome}
+use Rattle.leveldb_table.specs.TableBuilding.{stage, IsFull}
+use Rattle.leveldb_table.specs.TableAdds.{IsNotAdded, ClosesOpen, HasRoom, TriesOpen, PutsOpen, IsNotClosed, IsNotTaken, IsRefusedAdd}
+use Rattle.leveldb_table.specs.declared.table_builder.builder_core.BuilderCore.{BuilderCore}
+
+no_entries : (entries : List Entry) → entries ≢ [] → length entries ≡ 0 → ⊥
+no_entries [] some e = some refl
+no_entries (entry ∷ entries) some e = absurd (omega (arith, e))
+
+-- whether the open block is full
+module _ {C FP : Type 0} {order : CmpGhosts C} {policy : PolicyGhosts FP} (core : BuilderCore C FP order policy) where
+  pub is_full : 0 < length core.block.built.0 → core.block_size < estimate core.block.built.0 core.block.begun → IsFull core
+  is_full some large = ((λ e. let none = ap length e in absurd (omega (arith, some, none))), large)
+
+  pub not_full : (length core.block.built.0 ≡ 0) ⊎ (estimate core.block.built.0 core.block.begun ≤ core.block_size) → IsFull core → ⊥
+  not_full (inl none) full = no_entries core.block.built.0 full.0 none
+  not_full (inr small) full = absurd (omega (arith, small, full.1))
+
+module _ {C FP : Type 0} {order : CmpGhosts C} {policy : PolicyGhosts FP} (codings : Codings) (core : BuilderCore C FP order policy) {S : Type 0} (puts : S → List ℕ → Result (Unit {0}) Status → S → Type 0) where
+  -- a block that was closed was put
+  pub closed_put : (next bytes : List ℕ) (new : Stage FP) (from to : S) (closes : ClosesOpen codings core next bytes new) → puts from bytes (Ok tt) to → PutsOpen codings core puts from closes.handle to
+  closed_put next bytes new from to closes put = (
+    closes.stored,
+    record { text = closes.text; block = closes.block; coded = closes.coded },
+    new.offset,
+    record { put = subst (λ z. puts from z (Ok tt) to) closes.spelled put; begins = closes.begins; size = closes.size; fits = closes.fits; ends = closes.ends },
+  )
+
+  -- what a refusal leaves in the sink
+  pub tries_closed : (next : List ℕ) (from : S) (status : Status) (to : S) → IsNotClosed codings core puts next from status to → TriesOpen codings core puts from to
+  tries_closed next from status to (inl h) = inl h.0
+  tries_closed next from status to (inr (inl (text, block, inl h))) = inl h.0
+  tries_closed next from status to (inr (inl (text, block, inr (inl h)))) = inl h.0
+  tries_closed next from status to (inr (inl (text, block, inr (inr (stored, coded, inl put))))) = inr (stored, record { text = text; block = block; coded = coded }, Err status, put)
+  tries_closed next from status to (inr (inl (text, block, inr (inr (stored, coded, inr h))))) = inl h.0
+  tries_closed next from status to (inr (inr (handle, (stored, is, end, placed), why))) = inr (stored, is, Ok tt, placed.put)
+
+  pub tries_taken : (pair : Pair) (from : S) (status : Status) (to : S) → IsNotTaken codings core puts pair from status to → TriesOpen codings core puts from to
+  tries_taken pair from status to (inl h) = inl h.1
+  tries_taken pair from status to (inr (inl h)) = tries_closed pair.0 from status to h.1
+  tries_taken pair from status to (inr (inr (full, handle, (stored, is, end, placed), why))) = inr (stored, is, Ok tt, placed.put)
+
+  some_same : (from : S) (status : Status) (to : S) → to ≡ from → PutsSome puts from status to
+  some_same from status to e = ([], inr (subst (λ s. PutsAll puts from [] s) (sym e) (PutsAll-none puts from)))
+
+  -- so some bytes were put
+  pub some_closed : (next : List ℕ) (from : S) (status : Status) (to : S) → IsNotClosed codings core puts next from status to → PutsSome puts from status to
+  some_closed next from status to (inl h) = some_same from status to h.0
+  some_closed next from status to (inr (inl (text, block, inl h))) = some_same from status to h.0
+  some_closed next from status to (inr (inl (text, block, inr (inl h)))) = some_same from status to h.0
+  some_closed next from status to (inr (inl (text, block, inr (inr (stored, coded, inl put))))) = (with_trailer core.compressor stored, inl (PutsPart-one puts put))
+  some_closed next from status to (inr (inl (text, block, inr (inr (stored, coded, inr h))))) = some_same from status to h.0
+  some_closed next from status to (inr (inr (handle, (stored, is, end, placed), why))) = (with_trailer core.compressor stored, inr (PutsAll-one puts placed.put))
+
+  -- there was room, and the pair wasn't added
+  pub taken_after : (pair : Pair) (new : BuilderCore C FP order policy) (from : S) (status : Status) (to : S) → HasRoom codings core puts pair.0 new from to → IsNotAdded new.block.built.0 core.count pair status
+      → IsNotTaken codings core puts pair from status to
+  taken_after pair new from status to (inl h) why = inl (h.0, h.3, subst (λ entries. IsNotAdded entries core.count pair status) h.2 why)
+  taken_after pair new from status to (inr (full, empty, bytes, put, closes)) why =
+      inr (inr (full, closes.handle, closed_put pair.0 bytes (stage new) from to closes put, subst (λ entries. IsNotAdded entries core.count pair status) empty why))
+
+  pub tries_refused : (pair : Pair) (from : S) (status : Status) (to : S) → IsRefusedAdd codings core puts pair from status to → TriesOpen codings core puts from to
+  tries_refused pair from status to (inl h) = inl h.2
+  tries_refused pair from status to (inr h) = tries_taken pair from status to h.1

@@ -1,0 +1,346 @@
+-- Moves of a walk over a table that seek a key, and moves to the block before.
+use Rattle.std.proofs.Common.{◌≡◌, ◌≢◌, ◌⊎◌, ℕ, Bool, true, false, if◌then◌else◌, List, [], ◌∷◌, ◌++◌, length, map, slice_get, Option, None, Some, Result, Ok, Err, refl, sym, ◌∙◌, ap, subst, inl, inr, ⊎_elim}
+use Rattle.std.specs.Prelude.{OnOk, OnErr, IfOk, IfErr, IfSome, IsErrAnd, is_some}
+use Rattle.std.specs.Option.{IsSomeAnd}
+use Rattle.std.specs.declared.cmp.Ordering.{Ordering}
+use Rattle.std.proofs.lemmas.Option.{slice_get-get_or}
+use Rattle.leveldb_base.specs.Handle.{Handle, handle_bytes, HandleFits}
+use Rattle.leveldb_base.specs.Order.{IsPreorderOn}
+use Rattle.leveldb_base.specs.Places.{Pair, IsPlace, place_within, next_place, previous_place, count_before, seek_place, pair_at}
+use Rattle.leveldb_base.specs.declared.cmp.Cmp.{Ghosts as CmpGhosts}
+use Rattle.leveldb_base.specs.declared.error.Status.{Status}
+use Rattle.leveldb_base.specs.declared.error.StatusCode.TheVariants.{Corruption}
+use Rattle.leveldb_env.specs.Calls.{NoMemory}
+use Rattle.leveldb_env.specs.Coders.{Codings, Decodes}
+use Rattle.leveldb_env.specs.declared.env.Env.{Ghosts as EnvGhosts}
+use Rattle.leveldb_table.specs.Cache.{Cached}
+use Rattle.leveldb_table.specs.Table.{Part, HasBlockAt, IsPart, index_pair, named_part, AreAccepted}
+use Rattle.leveldb_table.specs.TableCached.{HoldsOf, IsOf, Gathers}
+use Rattle.leveldb_table.specs.TableEnters.{LacksLine, IsBehind, IsBefore, let_place, IsBlockAt, IsBlockOf, line_of, IsIndexed, Enters}
+use Rattle.leveldb_table.specs.TableReading.{pairs_in, HasParts}
+use Rattle.leveldb_table.specs.TableReads.{Looks, Has, HasNoBlock, Whatever, IsLacking}
+use Rattle.leveldb_table.specs.TableWalk.{StandsAt, Stands, Moves, IsNamed, IsFrom, inner_block, inner_pairs, inner_place, pairs_over, place_over}
+use Rattle.leveldb_table.specs.Walk.{last_place}
+use Rattle.leveldb_table.specs.WalkLaws.{IsWithin-place}
+use Rattle.leveldb_table.specs.declared.block.Block.{Block}
+use Rattle.leveldb_table.specs.declared.block.owned.BlockWalk.{BlockWalk}
+use Rattle.leveldb_table.specs.declared.block_cache.CachedBlock.{CachedBlock}
+use Rattle.leveldb_table.specs.declared.table_reader.walk.TableCore.{TableCore}
+use Rattle.leveldb_table.proofs.TableCaches.{Gathers-refl, Gathers-trans, Gathers-weaker, HoldsOf-after}
+use Rattle.leveldb_table.proofs.TableCalls.{Looks-refl, Has-after, Whatever-before, reads_then, reads_weaker, reads_own, reads_ok, reads_refused}
+use Rattle.leveldb_table.proofs.TableMoves.{ok_refused, err_holds, some_none, some_there, same_handle, same_value, block_lines, lacks_line, IsLineOf, line_is_of, part_pairs, from_none, from_block, IsInto, stands_along}
+use Rattle.leveldb_table.proofs.TablePlacesIn.{parts_some, named_at, named_none, seek_in, seek_passes, previous_block, previous_end}
+
+-- where a walk goes for a key
+abbrev pub SeeksTo : (List ℕ → Bool) → (List ℕ → List ℕ → Ordering) → List ℕ → List Part → Option ℕ → Type 0
+SeeksTo accepts cmp key parts place = AreAccepted accepts parts × (accepts key ≡ true) × (place ≡ seek_place cmp (pairs_in parts) key)
+
+-- the same where the filters let the key pass at the block that the index names, and else none
+abbrev pub LetTo : (List ℕ → Bool) → (List ℕ → List ℕ → Ordering) → (ℕ → List ℕ → Bool) → List ℕ → List Part → Option ℕ → Type 0
+LetTo accepts cmp lets key parts place = AreAccepted accepts parts × (accepts key ≡ true) × (place ≡ let_place cmp lets key parts)
+
+-- for a block that the index names, and where it names none
+let_named : (cmp : List ℕ → List ℕ → Ordering) (lets : ℕ → List ℕ → Bool) (key : List ℕ) (parts : List Part) (part : Part) (b : Bool) → named_part cmp key parts ≡ Some part → lets part.handle.offset key ≡ b
+    → let_place cmp lets key parts ≡ (if b then seek_place cmp (pairs_in parts) key else None)
+let_named cmp lets key parts part b named is =
+    ap (λ o. elim o [ None ↦ None | Some part ↦ if lets part.handle.offset key then seek_place cmp (pairs_in parts) key else None ]) named ∙ ap (λ z. if z then seek_place cmp (pairs_in parts) key else None) is
+
+pub let_none : (cmp : List ℕ → List ℕ → Ordering) (lets : ℕ → List ℕ → Bool) (key : List ℕ) (parts : List Part) → seek_place cmp (map index_pair parts) key ≡ None → let_place cmp lets key parts ≡ None
+let_none cmp lets key parts none = ap (λ o. elim o [ None ↦ None | Some part ↦ if lets part.handle.offset key then seek_place cmp (pairs_in parts) key else None ]) (named_none cmp key parts none)
+
+-- ---- lines
+
+-- a line whose value is a handle's bytes has a key
+named_line : (line : Option Pair) (handle : Handle) → IsSomeAnd line (λ pair. pair.1 ≡ handle_bytes handle) → (key : List ℕ) × (line ≡ Some (key, handle_bytes handle))
+named_line None handle names = absurd names
+named_line (Some pair) handle names = (pair.0, ap (λ z. Some (pair.0, z)) names)
+
+-- a line is there only at a place
+pub line_there : (lines : List Pair) (place : Option ℕ) (handle : Handle) → IsSomeAnd (pair_at lines place) (λ pair. pair.1 ≡ handle_bytes handle) → is_some place ≡ true
+line_there lines None handle names = absurd names
+line_there lines (Some i) handle names = refl
+
+-- where a line is, there is a place
+place_there : (lines : List Pair) (place : Option ℕ) {pair : Pair} → pair_at lines place ≡ Some pair → is_some place ≡ true
+place_there lines None is = absurd (some_none (sym is))
+place_there lines (Some i) is = refl
+
+place_none_at : (lines : List Pair) (place : Option ℕ) → IsPlace lines place → pair_at lines place ≡ None → place ≡ None
+place_none_at lines None within is = refl
+place_none_at lines (Some i) within is = absurd (some_none (sym (slice_get-get_or lines i ([], []) within) ∙ is))
+
+-- at the first pair of a block
+pub before_first : (parts : List Part) (line : Option ℕ) (pairs : List Pair) (inner place : Option ℕ) → inner ≢ None → previous_place inner ≡ None → StandsAt parts line pairs inner place → IsBefore parts line (previous_place place)
+before_first parts line pairs inner None some first at = absurd (some at)
+before_first parts line pairs inner (Some n) some first at = record { pairs = pairs; inner = inner; n = n; stands = at; first = first; to = refl }
+
+last_there : (pairs : List Pair) → pairs ≢ [] → (k : ℕ) × (last_place pairs ≡ Some k)
+last_there [] some = absurd (some refl)
+last_there (pair ∷ pairs) some = (length pairs, refl)
+
+module _ {C : Type 0} {order : CmpGhosts C} where
+  -- the block at the handle is that of the line
+  block_of : (codings : Codings) (cmp : List ℕ → List ℕ → Ordering) (bytes : List ℕ) (line : Option Pair) (handle : Handle) (block : Option (Block C order)) → HandleFits handle → IsSomeAnd line (λ pair. pair.1 ≡ handle_bytes handle)
+      → IsBlockAt codings cmp bytes handle block → IsBlockOf codings cmp bytes line block
+  block_of codings cmp bytes line handle None fits names at = absurd at
+  block_of codings cmp bytes line handle (Some block) fits names at =
+      let is = named_line line handle names in
+      (record { key = is.0; handle = handle; fits = fits; names = is.1; stands = at.0 }, at.1)
+
+  -- a place of the block in the table's order
+  sought_inner : (codings : Codings) (cmp : List ℕ → List ℕ → Ordering) (bytes : List ℕ) (line : Option Pair) (inner : Option (BlockWalk C order)) (place : Option ℕ) (key : List ℕ)
+      → IfSome inner (λ walk. place ≡ seek_place (order.cmp walk.block.cmp) (pairs_over walk) key) → IsBlockOf codings cmp bytes line (inner_block inner) → place ≡ seek_place cmp (inner_pairs inner) key
+  sought_inner codings cmp bytes line None place key sought of = absurd of
+  sought_inner codings cmp bytes line (Some walk) place key sought of = sought ∙ ap (λ (o : List ℕ → List ℕ → Ordering). seek_place o (pairs_over walk) key) of.1
+
+  -- the walk has the block of its line, and sought a key there
+  pub record IsSought (codings : Codings) (cmp : List ℕ → List ℕ → Ordering) (bytes key : List ℕ) (old new : TableCore C order) : Type 0 where
+    pub index : new.index ≡ old.index
+    pub block : IsBlockOf codings cmp bytes (line_of old) (inner_block new.inner)
+    pub place : inner_place new.inner ≡ seek_place cmp (inner_pairs new.inner) key
+
+  -- by reading what stands at the line's handle, and a search
+  pub is_sought : (codings : Codings) (cmp : List ℕ → List ℕ → Ordering) (bytes key : List ℕ) (old loaded new : TableCore C order) (handle : Handle) → HandleFits handle → IsSomeAnd (line_of old) (λ pair. pair.1 ≡ handle_bytes handle)
+      → loaded.index ≡ old.index → IsBlockAt codings cmp bytes handle (inner_block loaded.inner) → new.index ≡ loaded.index → inner_block new.inner ≡ inner_block loaded.inner → inner_pairs new.inner ≡ inner_pairs loaded.inner
+      → IfSome loaded.inner (λ walk. inner_place new.inner ≡ seek_place (order.cmp walk.block.cmp) (pairs_over walk) key) → IsSought codings cmp bytes key old new
+  is_sought codings cmp bytes key old loaded new handle fits names same at kept inner pairs sought =
+      let of = block_of codings cmp bytes (line_of old) handle (inner_block loaded.inner) fits names at in
+      record {
+        index = kept ∙ same;
+        block = subst (λ b. IsBlockOf codings cmp bytes (line_of old) b) (sym inner) of;
+        place = sought_inner codings cmp bytes (line_of old) loaded.inner (inner_place new.inner) key sought of ∙ ap (λ z. seek_place cmp z key) (sym pairs);
+      }
+
+  pub sought_from : (codings : Codings) (cmp : List ℕ → List ℕ → Ordering) (bytes : List ℕ) {key : List ℕ} (old new : TableCore C order) → IsSought codings cmp bytes key old new → IsFrom codings cmp bytes new
+  sought_from codings cmp bytes old new sought =
+      from_block codings cmp bytes new (subst (λ (z : BlockWalk C order). IsBlockOf codings cmp bytes (pair_at (pairs_over z) (place_over z)) (inner_block new.inner)) (sym sought.index) sought.block)
+
+  -- ---- one call after another
+
+  module _ {E F : Type 0} {env : EnvGhosts E F} {codings : Codings} {cmp : List ℕ → List ℕ → Ordering} {id : ℕ} {file : F} where
+    -- behind Ok calls that leave the index
+    pub enters_then : {T : Type 0} {Fit Way : List Part → Option ℕ → Type 0} {old_env mid_env new_env : E} {old_cache mid_cache new_cache : Cached (CachedBlock C order)} {mid new : TableCore C order} {result : Result T Status} (old : TableCore C order)
+        → Looks env old_env mid_env → env.failures mid_env ≡ env.failures old_env → Gathers id (λ offset held. Whatever env old_env file (λ bytes. IsOf codings cmp bytes offset held)) old_cache mid_cache → pairs_over mid.index ≡ pairs_over old.index → mid.index.block.cmp ≡ old.index.block.cmp
+        → ((bytes : List ℕ) → Has env old_env file bytes → (parts : List Part) (place : Option ℕ) → HasParts codings cmp bytes parts → Fit parts place → HoldsOf codings cmp id bytes old_cache → IsIndexed cmp parts old → Way parts place)
+        → Enters env codings cmp id file Way mid_env mid_cache mid result new_env new_cache new → Enters env codings cmp id file Fit old_env old_cache old result new_env new_cache new
+    enters_then {old_env = old_env} {old_cache = old_cache} {mid_cache = mid_cache} {mid = mid} {result = result} old looks counted gathers lines same way enters =
+        let held : (bytes : List ℕ) → Has env old_env file bytes → HoldsOf codings cmp id bytes old_cache → HoldsOf codings cmp id bytes mid_cache = λ bytes has. HoldsOf-after (λ offset held right. right bytes has) gathers in
+        let indexed : (parts : List Part) → IsIndexed cmp parts old → IsIndexed cmp parts mid = λ parts is. record { lines = lines ∙ is.lines; ordered = ap order.cmp same ∙ is.ordered } in
+        record {
+          reads = reads_then env result looks counted (λ status lacking. (
+            ⊎_elim inl (λ foreign. inr (foreign.0, foreign.1, foreign.2, Whatever-before env file _ looks foreign.3, foreign.4)) lacking.0,
+            λ bytes has parts place right fit holds is. lacking.1 bytes (Has-after env looks has) parts place right (way bytes has parts place right fit holds is) (held bytes has holds) (indexed parts is),
+          )) enters.reads;
+          ok = λ bytes has parts place right fit holds is. enters.ok bytes (Has-after env looks has) parts place right (way bytes has parts place right fit holds is) (held bytes has holds) (indexed parts is);
+          from = λ bytes has holds. enters.from bytes (Has-after env looks has) (held bytes has holds);
+          err = enters.err;
+          gathers = Gathers-trans gathers (Gathers-weaker (λ offset held right. Whatever-before env file _ looks right) enters.gathers);
+          same_lines = enters.same_lines ∙ lines;
+          same_order = enters.same_order ∙ same;
+        }
+
+    -- with another answer
+    pub enters_ok : {T U : Type 0} {Fit : List Part → Option ℕ → Type 0} {old_env new_env : E} {old_cache new_cache : Cached (CachedBlock C order)} {old new : TableCore C order} {answer : T} (other : U)
+        → Enters env codings cmp id file Fit old_env old_cache old (Ok answer) new_env new_cache new → Enters env codings cmp id file Fit old_env old_cache old (Ok other) new_env new_cache new
+    enters_ok other enters = record {
+      reads = reads_ok env enters.reads.looks enters.reads.cause.ok;
+      ok = enters.ok;
+      from = enters.from;
+      err = tt;
+      gathers = enters.gathers;
+      same_lines = enters.same_lines;
+      same_order = enters.same_order;
+    }
+
+    -- or a refusal that is passed on
+    pub enters_refused : {T U : Type 0} {Fit : List Part → Option ℕ → Type 0} {old_env new_env : E} {old_cache new_cache : Cached (CachedBlock C order)} {old new : TableCore C order} {status : Status} (result : Result U Status) → IsErrAnd result (λ other. other ≡ status)
+        → Enters {T = T} env codings cmp id file Fit old_env old_cache old (Err status) new_env new_cache new → Enters env codings cmp id file Fit old_env old_cache old result new_env new_cache new
+    enters_refused result same enters = record {
+      reads = reads_refused env result same enters.reads;
+      ok = λ bytes has parts place right fit holds is. ok_refused _ _ result same;
+      from = enters.from;
+      err = err_holds result enters.err;
+      gathers = enters.gathers;
+      same_lines = enters.same_lines;
+      same_order = enters.same_order;
+    }
+
+    -- no call, and no place
+    pub enters_ends : {T : Type 0} {Fit : List Part → Option ℕ → Type 0} {state : E} {cache : Cached (CachedBlock C order)} (old new : TableCore C order) (answer : T) → pairs_over new.index ≡ pairs_over old.index → new.index.block.cmp ≡ old.index.block.cmp
+        → inner_place new.inner ≡ None → ((bytes : List ℕ) → (parts : List Part) (place : Option ℕ) → HasParts codings cmp bytes parts → Fit parts place → IsIndexed cmp parts old → place ≡ None)
+        → Enters env codings cmp id file Fit state cache old (Ok answer) state cache new
+    enters_ends {state = state} {cache = cache} old new answer lines same none way = record {
+      reads = reads_ok env (Looks-refl env state) refl;
+      ok = λ bytes has parts place right fit holds is. record {
+        lines = lines ∙ is.lines;
+        ordered = ap order.cmp same ∙ is.ordered;
+        at = subst (λ z. StandsAt parts (place_over new.index) (inner_pairs new.inner) (inner_place new.inner) z) (sym (way bytes parts place right fit is)) none;
+      };
+      from = λ bytes has holds. from_none codings cmp bytes new none;
+      err = tt;
+      gathers = Gathers-refl id _ cache;
+      same_lines = lines;
+      same_order = same;
+    }
+
+    -- no call, and a refusal
+    pub enters_own : {T : Type 0} {P : Status → Type 0} {Fit : List Part → Option ℕ → Type 0} {state : E} {cache : Cached (CachedBlock C order)} (old new : TableCore C order) (result : Result T Status) → pairs_over new.index ≡ pairs_over old.index → new.index.block.cmp ≡ old.index.block.cmp
+        → inner_place new.inner ≡ None → IsErrAnd result P
+        → ((status : Status) → P status → NoMemory status ⊎ ((status.code ≡ Corruption) × ((bytes : List ℕ) → (parts : List Part) (place : Option ℕ) → HasParts codings cmp bytes parts → Fit parts place → IsIndexed cmp parts old → ⊥)))
+        → Enters env codings cmp id file Fit state cache old result state cache new
+    enters_own {state = state} {cache = cache} old new result lines same none refused why = record {
+      reads = reads_own env result (Looks-refl env state) refl refused (λ status is. ⊎_elim inl (λ lacks. inr (inl lacks.0, λ bytes has parts place right fit holds indexed. lacks.1 bytes parts place right fit indexed)) (why status is));
+      ok = λ bytes has parts place right fit holds is. ok_refused _ _ result refused;
+      from = λ bytes has holds. from_none codings cmp bytes new none;
+      err = err_holds result none;
+      gathers = Gathers-refl id _ cache;
+      same_lines = lines;
+      same_order = same;
+    }
+
+    -- from no place to the first pair is by a step
+    pub moves_first : {T : Type 0} {old_env new_env : E} {old_cache new_cache : Cached (CachedBlock C order)} {mid new : TableCore C order} {result : Result T Status} (old : TableCore C order) → mid.index ≡ old.index → mid.inner ≡ None
+        → Moves env codings cmp id file (λ _. Unit {0}) next_place old_env old_cache mid result new_env new_cache new
+        → Moves env codings cmp id file (λ _. Unit {0}) (λ pairs _. place_within pairs 0) old_env old_cache old result new_env new_cache new
+    moves_first {mid = mid} {result = result} old index none moves =
+        let at : (parts : List Part) (place : Option ℕ) → Stands cmp parts old place → Stands cmp parts mid None = λ parts place stands. record {
+          lines = ap pairs_over index ∙ stands.lines;
+          ordered = ap (λ (z : BlockWalk C order). order.cmp z.block.cmp) index ∙ stands.ordered;
+          at = ap inner_place none;
+        } in
+        record {
+          reads = reads_weaker env result (λ status lacking. (lacking.0, λ bytes has parts place right fit holds stands. lacking.1 bytes has parts None right fit holds (at parts place stands))) moves.reads;
+          ok = λ bytes has parts place right fit holds stands. moves.ok bytes has parts None right fit holds (at parts place stands);
+          from = λ bytes has holds from. moves.from bytes has holds (from_none codings cmp bytes mid (ap inner_place none));
+          err = moves.err;
+          gathers = moves.gathers;
+          same_lines = moves.same_lines ∙ ap pairs_over index;
+          same_order = moves.same_order ∙ ap (λ (z : BlockWalk C order). z.block.cmp) index;
+        }
+
+    pub moves_ok : {T U : Type 0} {Fit : List Part → Type 0} {to : List Pair → Option ℕ → Option ℕ} {old_env new_env : E} {old_cache new_cache : Cached (CachedBlock C order)} {old new : TableCore C order} {answer : T} (other : U)
+        → Moves env codings cmp id file Fit to old_env old_cache old (Ok answer) new_env new_cache new → Moves env codings cmp id file Fit to old_env old_cache old (Ok other) new_env new_cache new
+    moves_ok other moves = record {
+      reads = reads_ok env moves.reads.looks moves.reads.cause.ok;
+      ok = moves.ok;
+      from = moves.from;
+      err = tt;
+      gathers = moves.gathers;
+      same_lines = moves.same_lines;
+      same_order = moves.same_order;
+    }
+
+    pub moves_refused : {T U : Type 0} {Fit : List Part → Type 0} {to : List Pair → Option ℕ → Option ℕ} {old_env new_env : E} {old_cache new_cache : Cached (CachedBlock C order)} {old new : TableCore C order} {status : Status} (result : Result U Status)
+        → IsErrAnd result (λ other. other ≡ status) → Moves {T = T} env codings cmp id file Fit to old_env old_cache old (Err status) new_env new_cache new → Moves env codings cmp id file Fit to old_env old_cache old result new_env new_cache new
+    moves_refused result same moves = record {
+      reads = reads_refused env result same moves.reads;
+      ok = λ bytes has parts place right fit holds stands. ok_refused _ _ result same;
+      from = moves.from;
+      err = err_holds result moves.err;
+      gathers = moves.gathers;
+      same_lines = moves.same_lines;
+      same_order = moves.same_order;
+    }
+
+  -- ---- the line for a key
+
+  -- no line is at no place alone
+  pub none_at : (index : BlockWalk C order) → pair_at (pairs_over index) (place_over index) ≡ None → place_over index ≡ None
+  none_at index is = place_none_at (pairs_over index) (place_over index) (IsWithin-place index.block.contents index.block.held.0 index.core.key.items index.core.spot index.within) is
+
+  -- the line for a key, by the order and the lines of the data blocks
+  pub index_line : {cmp : List ℕ → List ℕ → Ordering} (parts : List Part) (index : BlockWalk C order) (key : List ℕ) (place : Option ℕ) → pairs_over index ≡ map index_pair parts → order.cmp index.block.cmp ≡ cmp
+      → place ≡ seek_place (order.cmp index.block.cmp) (pairs_over index) key → seek_place cmp (map index_pair parts) key ≡ place
+  index_line parts index key place lines ordered line =
+      ap (λ (o : List ℕ → List ℕ → Ordering). seek_place o (map index_pair parts) key) (sym ordered) ∙ ap (λ z. seek_place (order.cmp index.block.cmp) z key) (sym lines) ∙ sym line
+
+  module _ {codings : Codings} {cmp : List ℕ → List ℕ → Ordering} {bytes : List ℕ} {parts : List Part} {old : TableCore C order} (key : List ℕ) (has : HasParts codings cmp bytes parts) (indexed : IsIndexed cmp parts old)
+      (line : place_over old.index ≡ seek_place (order.cmp old.index.block.cmp) (pairs_over old.index) key) where
+    sought_line : seek_place cmp (map index_pair parts) key ≡ place_over old.index
+    sought_line = index_line parts old.index key (place_over old.index) indexed.lines indexed.ordered line
+
+    module _ {accepts : List ℕ → Bool} (preorder : IsPreorderOn accepts cmp) (accepted : AreAccepted accepts parts) (fit : accepts key ≡ true) where
+      -- in the line's block
+      pub sought_in : (new : TableCore C order) → is_some (place_over old.index) ≡ true → IsSought codings cmp bytes key old new → is_some (inner_place new.inner) ≡ true → Stands cmp parts new (seek_place cmp (pairs_in parts) key)
+      sought_in new some sought there =
+          let at = line_is_of old.index has indexed.lines some in
+          let pairs = part_pairs codings new.inner at.is (subst (λ l. IsBlockOf codings cmp bytes l (inner_block new.inner)) at.line sought.block) in
+          let found = some_there (inner_place new.inner) there in
+          record {
+            lines = ap pairs_over sought.index ∙ indexed.lines;
+            ordered = ap (λ (z : BlockWalk C order). order.cmp z.block.cmp) sought.index ∙ indexed.ordered;
+            at = stands_along parts (seek_place cmp (pairs_in parts) key) (ap place_over sought.index ∙ at.at_line) pairs found.1
+                (seek_in preorder has.parted accepted key fit at.i at.part found.0 (sought_line ∙ at.at_line) at.there (ap (λ z. seek_place cmp z key) (sym pairs) ∙ sym sought.place ∙ found.1));
+          }
+
+      -- or in the next one
+      pub sought_behind : (new : TableCore C order) → is_some (place_over old.index) ≡ true → IsSought codings cmp bytes key old new → inner_place new.inner ≡ None → IsBehind parts (place_over new.index) (seek_place cmp (pairs_in parts) key)
+      sought_behind new some sought none =
+          let at = line_is_of old.index has indexed.lines some in
+          let pairs = part_pairs codings new.inner at.is (subst (λ l. IsBlockOf codings cmp bytes l (inner_block new.inner)) at.line sought.block) in
+          let passes = seek_passes preorder has.parted accepted key fit (parts_some has) at.i at.part (sought_line ∙ at.at_line) at.there (ap (λ z. seek_place cmp z key) (sym pairs) ∙ sym sought.place ∙ none) in
+          record {
+            before = passes.before;
+            behind = passes.behind;
+            parted = passes.parted;
+            next = ap (next_place (map index_pair parts)) (ap place_over sought.index ∙ at.at_line) ∙ passes.next;
+            to = ap (place_within (pairs_in parts)) passes.counts;
+          }
+
+  -- where the line's value is no handle's, the file isn't as it is said
+  pub value_lacks : {codings : Codings} {cmp : List ℕ → List ℕ → Ordering} {bytes : List ℕ} {parts : List Part} (index : BlockWalk C order) (key value : List ℕ) → HasParts codings cmp bytes parts → pairs_over index ≡ map index_pair parts
+      → pair_at (pairs_over index) (place_over index) ≡ Some (key, value) → ((handle : Handle) → HandleFits handle → value ≡ handle_bytes handle → ⊥) → ⊥
+  value_lacks index key value has lines is none =
+      let at = line_is_of index has lines (place_there (pairs_over index) (place_over index) is) in
+      none at.part.handle at.is.stands.stands.fits (same_value (key, value) (index_pair at.part) (sym is ∙ at.line))
+
+  -- where the file has no block at the line's handle, it isn't as it is said
+  pub handle_lacks : {codings : Codings} {cmp : List ℕ → List ℕ → Ordering} {bytes : List ℕ} {parts : List Part} {old : TableCore C order} (handle : Handle) → HasParts codings cmp bytes parts → IsIndexed cmp parts old
+      → IsSomeAnd (line_of old) (λ pair. pair.1 ≡ handle_bytes handle) → HasNoBlock codings cmp bytes handle → ⊥
+  handle_lacks {codings} {cmp} {bytes} {old = old} handle has indexed names lacks =
+      let at = line_is_of old.index has indexed.lines (line_there (pairs_over old.index) (place_over old.index) handle names) in
+      lacks_line codings cmp bytes handle (named_line (line_of old) handle names).1 lacks at.part at.line at.is
+
+  -- where the filters let the key pass or not at the handle of the line
+  pub let_by : {codings : Codings} {cmp : List ℕ → List ℕ → Ordering} {bytes : List ℕ} {parts : List Part} (index : BlockWalk C order) (key line_key value : List ℕ) (handle : Handle) (lets : ℕ → List ℕ → Bool) (b : Bool)
+      → HasParts codings cmp bytes parts → pairs_over index ≡ map index_pair parts → seek_place cmp (map index_pair parts) key ≡ place_over index → pair_at (pairs_over index) (place_over index) ≡ Some (line_key, value)
+      → value ≡ handle_bytes handle → lets handle.offset key ≡ b → let_place cmp lets key parts ≡ (if b then seek_place cmp (pairs_in parts) key else None)
+  let_by {cmp = cmp} {parts = parts} index key line_key value handle lets b has lines sought is names passes =
+      let at = line_is_of index has lines (place_there (pairs_over index) (place_over index) is) in
+      let same : at.part.handle ≡ handle = same_handle at.part.handle handle (same_value (index_pair at.part) (line_key, value) (sym at.line ∙ is) ∙ names) in
+      let_named cmp lets key parts at.part b (named_at cmp key parts at.i at.part (sought ∙ at.at_line) at.there) (ap (λ h. lets h.offset key) same ∙ passes)
+
+  -- ---- back
+
+  module _ {codings : Codings} {cmp : List ℕ → List ℕ → Ordering} {bytes : List ℕ} {parts : List Part} {place : Option ℕ} {old : TableCore C order} (has : HasParts codings cmp bytes parts)
+      (before : IsBefore parts (place_over old.index) place) (indexed : IsIndexed cmp parts old) where
+    -- where the file has no data block for that line, it isn't as it is said
+    pub previous_lacks : (index : BlockWalk C order) → index.block ≡ old.index.block → is_some (place_over index) ≡ true → LacksLine codings cmp bytes (pair_at (pairs_over index) (place_over index)) → ⊥
+    previous_lacks index block some lacks =
+        let at = line_is_of index has (block_lines index old.index block ∙ indexed.lines) some in
+        lacks at.part at.line at.is
+
+    -- to its last pair
+    pub previous_stands : (new : TableCore C order) → IsInto codings cmp bytes (previous_place (place_over old.index)) last_place old new → ((k : ℕ) × (inner_place new.inner ≡ Some k)) × Stands cmp parts new place
+    previous_stands new next =
+        let lines = next.lines ∙ indexed.lines in
+        let at = line_is_of new.index has lines next.some in
+        let pairs = part_pairs codings new.inner at.is (subst (λ l. IsBlockOf codings cmp bytes l (inner_block new.inner)) at.line next.block) in
+        let last = last_there at.part.pairs at.is.some in
+        let there : inner_place new.inner ≡ Some last.0 = next.place ∙ ap last_place pairs ∙ last.1 in (
+          (last.0, there),
+          record {
+            lines = lines;
+            ordered = ap order.cmp next.same_order ∙ indexed.ordered;
+            at = subst (λ z. StandsAt parts (place_over new.index) (inner_pairs new.inner) (inner_place new.inner) z) (sym before.to) (stands_along parts (previous_place (Some before.n)) at.at_line pairs there
+                (previous_block before.stands before.first at.i at.part last.0 (sym next.at_line ∙ at.at_line) at.there last.1));
+          },
+        )
+
+    -- or there is none
+    pub previous_ends : (new : TableCore C order) → pairs_over new.index ≡ pairs_over old.index → new.index.block.cmp ≡ old.index.block.cmp → previous_place (place_over old.index) ≡ None → inner_place new.inner ≡ None → Stands cmp parts new place
+    previous_ends new lines same_order line none = record {
+      lines = lines ∙ indexed.lines;
+      ordered = ap order.cmp same_order ∙ indexed.ordered;
+      at = subst (λ z. StandsAt parts (place_over new.index) (inner_pairs new.inner) (inner_place new.inner) z) (sym (before.to ∙ previous_end before.stands before.first line)) none;
+    }

@@ -1,0 +1,72 @@
+-- The steps of a table builder: a block that is closed, and a pair that is added.
+use Rattle.std.proofs.Common.{◌≡◌, ◌≢◌, ℕ, ◌+◌, Bool, true, List, [], ◌∷◌, ◌++◌, length, Result, Ok, Err, refl, sym, ◌∙◌, ap, subst, inl, inr, ◌⊎◌}
+use Rattle.std.specs.Prelude.{OnOk, OnErr, IfErr, ◌/◌}
+use Rattle.std.specs.List.{AllByRecursion}
+use Rattle.std.specs.declared.cmp.Ordering.{Ordering}
+use Rattle.std.specs.declared.cmp.Ordering.TheVariants.{Less, Equal, Greater}
+use Rattle.leveldb_base.specs.Order.{IsPreorderOn, IsSeparator}
+use Rattle.leveldb_base.specs.Places.{Pair}
+use Rattle.leveldb_base.specs.declared.error.Status.{Status}
+use Rattle.leveldb_env.specs.Sinks.{PutsAll, PutsPart}
+use Rattle.leveldb_env.specs.SinkLaws.{PutsAll-none, PutsAll-one, PutsPart-one}
+use Rattle.leveldb_table.specs.Block.{KeysRise}
+use Rattle.leveldb_table.specs.Built.{last_added}
+use Rattle.leveldb_table.specs.TablePuts.{PutsNone, PutsSome}
+use Rattle.leveldb_table.specs.TableStages.{Stage, AreReady, Follows}
+use Rattle.leveldb_table.proofs.TableOrders.{all_append, all_left, all_right, last_holds, last_behind, line_rises, turned_from, less_then, rise_push}
+
+-- ---- answers
+
+pub IfErr-always : {T E : Type 0} (result : Result T E) (P : E → Type 0) → ((error : E) → P error) → IfErr result P
+IfErr-always (Ok value) P h = tt
+IfErr-always (Err error) P h = h error
+
+pub IfErr-with : {T E : Type 0} (result : Result T E) (P Q : E → Type 0) → ((error : E) → P error → Q error) → IfErr result P → IfErr result Q
+IfErr-with (Ok value) P Q f h = tt
+IfErr-with (Err error) P Q f h = f error h
+
+pub OnErr-with : {T E : Type 0} (result : Result T E) (P : E → Type 0) (Q : Type 0) → ((error : E) → P error → Q) → IfErr result P → OnErr result Q
+OnErr-with (Ok value) P Q f h = tt
+OnErr-with (Err error) P Q f h = f error h
+
+pub OnOk-with : {T E : Type 0} (result : Result T E) (P Q : Type 0) → (P → Q) → OnOk result P → OnOk result Q
+OnOk-with (Ok value) P Q f h = f h
+OnOk-with (Err error) P Q f h = tt
+
+pub OnOk-both : {T E : Type 0} (result : Result T E) (P Q R : Type 0) → (P → Q → R) → OnOk result P → OnOk result Q → OnOk result R
+OnOk-both (Ok value) P Q R f h k = f h k
+OnOk-both (Err error) P Q R f h k = tt
+
+module _ {S : Type 0} (puts : S → List ℕ → Result (Unit {0}) Status → S → Type 0) where
+  -- a put that was refused, or none
+  pub some_none : (from : S) (status : Status) (to : S) → PutsNone puts from status to → PutsSome puts from status to
+  some_none from status to (inl refused) = (refused.0, inl (PutsPart-one puts refused.1))
+  some_none from status to (inr same) = ([], inr (subst (λ s. PutsAll puts from [] s) (sym same) (PutsAll-none puts from)))
+
+  -- a put, and no other
+  pub some_put : (from : S) (bytes : List ℕ) (to : S) (status : Status) → puts from bytes (Ok tt) to → PutsSome puts from status to
+  some_put from bytes to status put = (bytes, inr (PutsAll-one puts put))
+
+-- ---- a block is closed
+
+module _ {accepts : List ℕ → Bool} {cmp : List ℕ → List ℕ → Ordering} (order : IsPreorderOn accepts cmp) (sep : List ℕ → List ℕ → List ℕ)
+    (separates : (a b : List ℕ) → accepts a ≡ true → accepts b ≡ true → cmp a b ≢ Greater → IsSeparator accepts cmp a b (sep a b)) where
+  -- the line of an open block rises behind the others
+  pub record IsLine (lines open_pairs : List Pair) (next value : List ℕ) : Type 0 where
+    pub rise : KeysRise cmp (lines ++ (sep (last_added open_pairs) next, value) ∷ [])
+    pub accepted : AllByRecursion (λ pair. accepts pair.0 ≡ true) (lines ++ (sep (last_added open_pairs) next, value) ∷ [])
+    pub before : cmp (last_added open_pairs) next ≡ Less → cmp (sep (last_added open_pairs) next) next ≡ Less
+
+  pub is_line : (lines open_pairs : List Pair) (next value : List ℕ) → open_pairs ≢ [] → KeysRise cmp (lines ++ open_pairs) → AllByRecursion (λ pair. accepts pair.0 ≡ true) (lines ++ open_pairs)
+      → accepts next ≡ true → cmp (last_added open_pairs) next ≢ Greater → IsLine lines open_pairs next value
+  is_line lines [] next value some rise all hn behind = absurd (some refl)
+  is_line lines (first ∷ pairs) next value some rise all hn behind =
+      let P : Pair → Type 0 = λ pair. accepts pair.0 ≡ true in
+      let last = last_added (first ∷ pairs) in
+      let ha = last_holds (λ k. accepts k ≡ true) first pairs (all_right P lines (first ∷ pairs) all) in
+      let between = separates last next ha hn behind in
+      record {
+        rise = line_rises order lines first pairs (sep last next, value) between.accepted all rise (turned_from order last (sep last next) ha between.accepted between.from);
+        accepted = all_append P lines ((sep last next, value) ∷ []) (all_left P lines (first ∷ pairs) all) (between.accepted, tt);
+        before = between.before;
+      }

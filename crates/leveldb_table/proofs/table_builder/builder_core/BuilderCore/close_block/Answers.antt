@@ -1,0 +1,105 @@
+use Rattle.std.proofs.Common.{◌≡◌, ◌∷◌, [], ◌++◌, ◌+◌, ◌∙◌, sym, ap, subst, refl, length, arith, rules, inl, inr}
+use Rattle.std.specs.Prelude.{◌/◌}
+use Rattle.std.proofs.lemmas.List.{append-nil}
+use Rattle.std.proofs.lemmas.Result.{err_from_is_err_and}
+use Rattle.leveldb_base.specs.Handle.{handle_bytes}
+use Rattle.leveldb_table.specs.Block.{KeysRise, pairs_of}
+use Rattle.leveldb_table.specs.Built.{last_added}
+use Rattle.leveldb_table.specs.Table.{with_trailer}
+use Rattle.leveldb_table.specs.TableBuilding.{last_of}
+use Rattle.leveldb_table.proofs.TableSteps.{IfErr-with, OnOk-with, is_line}
+use Rattle.leveldb_table.proofs.table_builder.builder_core.BuilderCore.close_block.Goals as goal
+
+pub returns-in_err-separator-clause-cause : goal.returns-in_err-separator-clause-cause
+returns-in_err-separator-clause-cause g c =
+    let p = err_from_is_err_and c.from_residual.result c.from_residual.ensures.1 in
+    rw (p.1, p.2) (inl (refl, c.in_err-separator.ensures.cause))
+
+pub returns-in_err-block-clause-cause : goal.returns-in_err-block-clause-cause
+returns-in_err-block-clause-cause g c =
+    let p = err_from_is_err_and c.from_residual-in_err-block.result c.from_residual-in_err-block.ensures.1 in
+    rw (p.1, p.2) (inl (refl, c.in_err-block.ensures.memory))
+
+pub returns-in_err-placed-clause-cause : goal.returns-in_err-placed-clause-cause
+returns-in_err-placed-clause-cause g c =
+    let p = err_from_is_err_and c.from_residual-in_err-placed.result c.from_residual-in_err-placed.ensures.1 in
+    rw (p.1, p.2) (inr (inl (c.in_ok-block.block.items, rw (sym c.replace.ensures.value) c.in_ok-block.ensures.ok, c.in_err-placed.ensures.cause)))
+
+pub add_handle-requires-clause-rise : goal.add_handle-requires-clause-rise
+add_handle-requires-clause-rise g c =
+    let order = g.met.C.Cmp.preorder c.args.self.now.block.cmp in
+    let separates = g.met.C.Cmp.separates c.args.self.now.block.cmp in
+    let line = is_line order (g.C.Cmp.shortest_sep c.args.self.now.block.cmp) separates (pairs_of _ c.args.self.now.index.built.0) (pairs_of _ c.args.self.now.block.built.0) c.args.next.now (handle_bytes c.in_ok-placed.placed.handle)
+    c.requires.some c.requires.sound.rise c.requires.sound.accepted c.requires.accepted c.requires.behind in
+    rw (c.requires.sound.order, c.deref.ensures.value, c.in_ok-separator.ensures.ok, c.order.ensures, c.last_key-last.ensures) line.rise
+
+pub returns-in_err-add_handle-clause-cause : goal.returns-in_err-add_handle-clause-cause
+returns-in_err-add_handle-clause-cause g c =
+    let p = err_from_is_err_and c.from_residual-in_err-add_handle.result c.from_residual-in_err-add_handle.ensures.1 in
+    let placed = c.in_ok-placed.ensures.ok in
+    let large = rw (c.deref.ensures.value, c.in_ok-separator.ensures.ok, c.order.ensures, c.last_key-last.ensures) at c.in_err-add_handle.ensures.too_large in
+    let why = c.in_err-add_handle.ensures.cause in
+    rw (p.1, p.2) (
+    inr (
+    inr (
+      c.in_ok-placed.placed.handle,
+      (placed.0, record { text = c.in_ok-block.block.items; block = rw (sym c.replace.ensures.value) c.in_ok-block.ensures.ok; coded = placed.1 }, c.in_ok-placed.placed.end, placed.2),
+      elim why [ inl code ↦ inl (code, large code) | inr memory ↦ inr (inl memory) ],
+    )
+    )
+    )
+
+pub returns-clause-cause : goal.returns-clause-cause
+returns-clause-cause g c =
+    let placed = c.in_ok-placed.ensures.ok in
+    IfErr-with c.start_block.result _ _ (λ status why.
+    inr (
+    inr (
+      c.in_ok-placed.placed.handle,
+      (placed.0, record { text = c.in_ok-block.block.items; block = rw (sym c.replace.ensures.value) c.in_ok-block.ensures.ok; coded = placed.1 }, c.in_ok-placed.placed.end, placed.2),
+      inr why,
+    )
+    )) c.start_block.ensures.cause
+
+pub returns-clause-fresh : goal.returns-clause-fresh
+returns-clause-fresh g c = OnOk-with c.start_block.result _ _ (λ made. rw (c.replace.ensures.after, c.fresh-fresh.ensures.none) refl) c.start_block.ensures.ok
+
+pub returns-clause-ok : goal.returns-clause-ok
+returns-clause-ok g c =
+    let placed = c.in_ok-placed.ensures.ok in
+    let sep = c.deref.ensures.value ∙ c.in_ok-separator.ensures.ok in
+    let line = rw (c.deref.ensures.value, c.in_ok-separator.ensures.ok, c.order.ensures, c.last_key-last.ensures) at c.in_ok-add_handle.ensures.ok in
+    let old = c.replace.ensures.value in
+    OnOk-with c.start_block.result _ _ (λ made. (
+      with_trailer c.args.self.now.compressor placed.0,
+      placed.2.put,
+      record {
+        text = c.in_ok-block.block.items;
+        stored = placed.0;
+        handle = c.in_ok-placed.placed.handle;
+        block = rw (sym old) c.in_ok-block.ensures.ok;
+        coded = placed.1;
+        begins = placed.2.begins;
+        size = placed.2.size;
+        fits = placed.2.fits;
+        spelled = refl;
+        ends = placed.2.ends;
+        line = line;
+        none_open = rw (c.replace.ensures.after, c.fresh-fresh.ensures.none) refl;
+        started = made;
+        count = refl;
+      },
+    )) c.start_block.ensures.ok
+
+pub returns-clause-open_filter : goal.returns-clause-open_filter
+returns-clause-open_filter g c =
+    let order = g.met.C.Cmp.preorder c.args.self.now.block.cmp in
+    let separates = g.met.C.Cmp.separates c.args.self.now.block.cmp in
+    let line = is_line order (g.C.Cmp.shortest_sep c.args.self.now.block.cmp) separates (pairs_of _ c.args.self.now.index.built.0) (pairs_of _ c.args.self.now.block.built.0) c.args.next.now (handle_bytes c.in_ok-placed.placed.handle)
+    c.requires.some c.requires.sound.rise c.requires.sound.accepted c.requires.accepted c.requires.behind in
+    OnOk-with c.start_block.result _ _ (λ opened. record {
+      order = rw (c.in_ok-add_handle.ensures.order, c.replace.ensures.after, c.fresh-fresh.ensures.order) c.requires.sound.order;
+      rise = rw (c.replace.ensures.after, c.fresh-fresh.ensures.order, c.fresh-fresh.ensures.none, append-nil, c.in_ok-add_handle.ensures.ok, c.deref.ensures.value, c.in_ok-separator.ensures.ok, c.order.ensures, c.last_key-last.ensures) line.rise;
+      accepted = rw (c.replace.ensures.after, c.fresh-fresh.ensures.order, c.fresh-fresh.ensures.none, append-nil, c.in_ok-add_handle.ensures.ok, c.deref.ensures.value, c.in_ok-separator.ensures.ok, c.order.ensures, c.last_key-last.ensures) line.accepted;
+      filtered = sym opened;
+    }) c.start_block.ensures.open

@@ -1,0 +1,64 @@
+use Rattle.std.proofs.Common.{◌≢◌, sym, ap, subst, arith, None, inl}
+use Rattle.std.specs.declared.cmp.Ordering.TheVariants.{Greater}
+use Rattle.std.proofs.lemmas.Result.{err_from_is_err_and}
+use Rattle.leveldb_env.specs.contracts.compressor.CompressorListCoders.TheImpl.{ghosts as coders}
+use Rattle.leveldb_env.specs.FilterBlockLaws.{keeps_keys}
+use Rattle.leveldb_env.specs.SinkLaws.{PutsAll-none, PutsAll-one}
+use Rattle.leveldb_table.specs.Block.{pairs_of}
+use Rattle.leveldb_table.specs.TableBuilding.{stage, last_of}
+use Rattle.leveldb_table.proofs.TableSteps.{OnOk-with, IfErr-with}
+use Rattle.leveldb_table.proofs.TableSinks.{ends_own, ends_open}
+use Rattle.leveldb_table.proofs.TableGrows.{laid_closed, last_open, some_pairs}
+use Rattle.leveldb_table.proofs.TableMade.{succeeds_last}
+use Rattle.leveldb_table.proofs.table_builder.builder_core.BuilderCore.close_last.Goals as goal
+
+pub close_block-requires-clause-accepted : goal.close_block-requires-clause-accepted
+close_block-requires-clause-accepted g c =
+    let self = c.args.self.now in
+    let some = some_pairs self.block.built.0 (omega (arith, c.if-entries-eq0.false, c.entries.ensures)) in
+    let is = succeeds_last (g.met.C.Cmp.preorder self.block.cmp) (g.C.Cmp.short_succ self.block.cmp) (g.met.C.Cmp.succeeds self.block.cmp) (pairs_of None self.index.built.0) (pairs_of None self.block.built.0)
+    some c.requires.sound.accepted in
+    rw (c.deref.ensures.value, c.in_ok-next.ensures.ok, c.order.ensures, c.last_key-last.ensures) is.0
+
+pub close_block-requires-clause-behind : goal.close_block-requires-clause-behind
+close_block-requires-clause-behind g c =
+    let self = c.args.self.now in
+    let some = some_pairs self.block.built.0 (omega (arith, c.if-entries-eq0.false, c.entries.ensures)) in
+    let is = succeeds_last (g.met.C.Cmp.preorder self.block.cmp) (g.C.Cmp.short_succ self.block.cmp) (g.met.C.Cmp.succeeds self.block.cmp) (pairs_of None self.index.built.0) (pairs_of None self.block.built.0)
+    some c.requires.sound.accepted in
+    rw (c.deref.ensures.value, c.in_ok-next.ensures.ok, c.order.ensures, c.last_key-last.ensures) is.1
+
+pub returns-clause-ok : goal.returns-clause-ok
+returns-clause-ok g c =
+    let self = c.args.self.now in
+    let cmp = g.C.Cmp.cmp self.block.cmp in
+    let some = some_pairs self.block.built.0 (omega (arith, c.if-entries-eq0.false, c.entries.ensures)) in
+    let is = succeeds_last (g.met.C.Cmp.preorder self.block.cmp) (g.C.Cmp.short_succ self.block.cmp) (g.met.C.Cmp.succeeds self.block.cmp) (pairs_of None self.index.built.0) (pairs_of None self.block.built.0)
+    some c.requires.sound.accepted in
+    let keeps = keeps_keys g.FP.FilterPolicy.filter_for g.FP.FilterPolicy.matches g.met.FP.FilterPolicy.finds in
+    OnOk-with c.close_block.result _ _ (λ closed. record {
+      next = c.deref.result.now;
+      bytes = closed.0;
+      put = PutsAll-one g.S.Sink.puts closed.1;
+      laid = λ written pairs begun. (
+        laid_closed _ (g.C.Cmp.accepts self.block.cmp) cmp (g.C.Cmp.shortest_sep self.block.cmp) g.FP.FilterPolicy.filter_for g.FP.FilterPolicy.matches keeps
+            (stage self) (stage c.close_block.new.self) self.compressor c.deref.result.now closed.0 written pairs some c.close_block.ensures.policy closed.2 begun,
+        record {
+          none_open = closed.2.none_open;
+          accepted = λ _. rw (c.deref.ensures.value, c.in_ok-next.ensures.ok, c.order.ensures, c.last_key-last.ensures) is.0;
+          behind = λ _. rw (c.deref.ensures.value, c.in_ok-next.ensures.ok, c.order.ensures, c.last_key-last.ensures)
+              (subst (λ k. cmp k (g.C.Cmp.short_succ self.block.cmp (last_of self)) ≢ Greater) (sym (last_open pairs _ (pairs_of None self.block.built.0) begun.stands_for some)) is.1);
+          successor = λ _. rw (c.deref.ensures.value, c.in_ok-next.ensures.ok, c.order.ensures, c.last_key-last.ensures)
+              (ap (g.C.Cmp.short_succ self.block.cmp) (sym (last_open pairs _ (pairs_of None self.block.built.0) begun.stands_for some)));
+        },
+      );
+    }) c.close_block.ensures.ok
+
+pub returns-in_err-next-clause-cause : goal.returns-in_err-next-clause-cause
+returns-in_err-next-clause-cause g c =
+    let p = err_from_is_err_and c.from_residual.result c.from_residual.ensures.1 in
+    rw (p.1, p.2) (ends_own g.S.Sink.puts g.S.Sink.flushes (PutsAll-none g.S.Sink.puts c.args.sink.now) (inl c.in_err-next.ensures.cause))
+
+pub returns-clause-cause : goal.returns-clause-cause
+returns-clause-cause g c =
+    IfErr-with c.close_block.result _ _ (λ status. ends_open g.S.Sink.puts g.S.Sink.flushes ((coders g.dyn-1).codings c.args.coders.now) c.args.self.now c.deref.result.now c.args.sink.now status c.close_block.new.sink) c.close_block.ensures.cause

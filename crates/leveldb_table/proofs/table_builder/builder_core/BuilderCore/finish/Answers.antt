@@ -1,0 +1,42 @@
+use Rattle.std.proofs.Common.{◌++◌, sym, append_assoc, inl, inr}
+use Rattle.std.proofs.lemmas.Result.{err_from_is_err_and, IfOk-weaker}
+use Rattle.leveldb_env.specs.FilterBlockLaws.{keeps_keys}
+use Rattle.leveldb_env.specs.SinkLaws.{PutsAll-none, PutsAll-trans}
+use Rattle.leveldb_table.specs.TableBuilding.{stage}
+use Rattle.leveldb_table.proofs.TableSteps.{IfErr-with}
+use Rattle.leveldb_table.proofs.TableSinks.{ends_with, ends_own, ends_after}
+use Rattle.leveldb_table.proofs.TableMade.{table_made}
+use Rattle.leveldb_table.proofs.table_builder.builder_core.BuilderCore.finish.Goals as goal
+
+pub returns-in_err-check_unbroken-clause-cause : goal.returns-in_err-check_unbroken-clause-cause
+returns-in_err-check_unbroken-clause-cause g c =
+    let p = err_from_is_err_and c.from_residual.result c.from_residual.ensures.1 in
+    rw (p.1, p.2) (ends_own g.S.Sink.puts g.S.Sink.flushes (PutsAll-none g.S.Sink.puts c.args.sink.now) (inl c.in_err-check_unbroken.ensures.err))
+
+pub returns-in_err-close_last-clause-cause : goal.returns-in_err-close_last-clause-cause
+returns-in_err-close_last-clause-cause g c =
+    let p = err_from_is_err_and c.from_residual-in_err-close_last.result c.from_residual-in_err-close_last.ensures.1 in
+    rw (p.1, p.2) (ends_with g.S.Sink.puts g.S.Sink.flushes (λ own. inr own) c.in_err-close_last.ensures.cause)
+
+pub returns-clause-cause : goal.returns-clause-cause
+returns-clause-cause g c =
+    IfErr-with c.put_end.result _ _ (λ status early.
+    ends_after g.S.Sink.puts g.S.Sink.flushes c.in_ok-close_last.ensures.ok.put (ends_with g.S.Sink.puts g.S.Sink.flushes (λ own. inr own) early)) (rw c.close_last.ensures.coder at c.put_end.ensures.cause)
+
+pub returns-clause-ok : goal.returns-clause-ok
+returns-clause-ok g c =
+    let self = c.args.self in
+    let mid = c.close_last.new.self in
+    let last = c.in_ok-close_last.ensures.ok in
+    let keeps = keeps_keys g.FP.FilterPolicy.filter_for g.FP.FilterPolicy.matches g.met.FP.FilterPolicy.finds in
+    IfOk-weaker c.put_end.result _ _ (λ size end. record {
+      bytes = last.bytes ++ end.bytes;
+      mid = end.mid;
+      put = PutsAll-trans g.S.Sink.puts last.put end.put;
+      flushed = end.flushed;
+      made = λ written pairs begun.
+          let laid = last.laid written pairs begun in
+          rw (sym (append_assoc written last.bytes end.bytes)) (table_made _ (g.met.C.Cmp.preorder self.block.cmp) (g.C.Cmp.shortest_sep self.block.cmp) (g.met.C.Cmp.separates self.block.cmp)
+          g.FP.FilterPolicy.filter_for g.FP.FilterPolicy.matches keeps g.FP.FilterPolicy.name self.filter.policy (g.C.Cmp.cmp mid.index.cmp) (g.C.Cmp.short_succ self.block.cmp) self.compressor (stage mid) last.next (written ++ last.bytes) end.bytes pairs size
+          c.in_ok-close_last.ensures.order c.close_last.ensures.policy laid.0 laid.1 (rw c.close_last.ensures.coder at end.ended));
+    }) c.put_end.ensures.ok

@@ -1,0 +1,85 @@
+use Rattle.std.proofs.Common.{◌≡◌, [], ◌∙◌, sym, subst, arith, refl, inl, inr, None}
+use Rattle.std.specs.declared.cmp.Ordering.TheVariants.{Less, Greater}
+use Rattle.leveldb_env.specs.FilterBlockLaws.{keeps_keys}
+use Rattle.leveldb_env.specs.SinkLaws.{PutsAll-one, PutsAll-none}
+use Rattle.leveldb_table.specs.Block.{pairs_of}
+use Rattle.leveldb_table.specs.TableStages.{Follows, first_key}
+use Rattle.leveldb_table.specs.TableBuilding.{stage, IsFull}
+use Rattle.leveldb_table.proofs.TableSteps.{OnOk-with, OnOk-both, IfErr-with, is_line}
+use Rattle.leveldb_table.proofs.TableAdds.{is_full, not_full}
+use Rattle.leveldb_table.proofs.table_builder.builder_core.BuilderCore.make_room.Goals.{else-entries-gt0-via-then-entries-gt0+else-size_estimate-self, else-entries-gt0-via-else-entries-gt0}
+use Rattle.leveldb_table.proofs.TableGrows.{laid_anew, follows_closed, laid_room, follows_all, behind_open, some_pairs}
+use Rattle.leveldb_table.proofs.table_builder.builder_core.BuilderCore.make_room.Goals as goal
+
+pub close_block-requires-clause-behind : goal.close_block-requires-clause-behind
+close_block-requires-clause-behind g c =
+    let some = some_pairs c.args.self.now.block.built.0 (omega (arith, c.if-entries-gt0.true, c.entries.ensures)) in
+    let less = behind_open (g.C.Cmp.cmp c.args.self.now.block.cmp) (pairs_of None c.args.self.now.index.built.0) (pairs_of None c.args.self.now.block.built.0) c.args.next.now some c.requires.sound.1.behind in
+    λ e. let clash : Less ≡ Greater = sym less ∙ e in cc
+
+pub returns-then-size_estimate-self-clause-ok : goal.returns-then-size_estimate-self-clause-ok
+returns-then-size_estimate-self-clause-ok g c =
+    let some = some_pairs c.args.self.now.block.built.0 (omega (arith, c.if-entries-gt0.true, c.entries.ensures)) in
+    let keeps = keeps_keys g.FP.FilterPolicy.filter_for g.FP.FilterPolicy.matches g.met.FP.FilterPolicy.finds in
+    let cmp = g.C.Cmp.cmp c.args.self.now.block.cmp in
+    OnOk-with c.close_block.result _ _ (λ closed. record {
+      bytes = closed.0;
+      put = PutsAll-one g.S.Sink.puts closed.1;
+      laid = λ written pairs begun. (
+        laid_anew _ (g.C.Cmp.accepts c.args.self.now.block.cmp) cmp (g.C.Cmp.shortest_sep c.args.self.now.block.cmp) g.FP.FilterPolicy.filter_for g.FP.FilterPolicy.matches keeps
+            (stage c.args.self.now) (stage c.close_block.new.self) c.args.self.now.compressor c.args.next.now closed.0 written pairs some c.close_block.ensures.policy closed.2 begun,
+        follows_all _ (g.C.Cmp.accepts c.args.self.now.block.cmp) cmp (g.C.Cmp.shortest_sep c.args.self.now.block.cmp) g.FP.FilterPolicy.filter_for g.FP.FilterPolicy.matches keeps (g.FP.FilterPolicy.matches c.args.self.now.filter.policy)
+            (stage c.args.self.now) (first_key (stage c.args.self.now).open_pairs) c.args.next.now written pairs c.requires.some c.requires.sound.1 begun,
+      );
+    }) c.close_block.ensures.ok
+
+pub returns-clause-ok : goal.returns-clause-ok
+returns-clause-ok g c =
+    let keeps = keeps_keys g.FP.FilterPolicy.filter_for g.FP.FilterPolicy.matches g.met.FP.FilterPolicy.finds in
+    let cmp = g.C.Cmp.cmp c.args.self.now.block.cmp in
+    record {
+      bytes = [];
+      put = PutsAll-none g.S.Sink.puts c.args.sink.now;
+      laid = λ written pairs begun. (
+        laid_room _ (g.C.Cmp.accepts c.args.self.now.block.cmp) cmp (g.C.Cmp.shortest_sep c.args.self.now.block.cmp) g.FP.FilterPolicy.filter_for g.FP.FilterPolicy.matches keeps (g.FP.FilterPolicy.matches c.args.self.now.filter.policy)
+            (stage c.args.self.now) c.args.next.now written pairs c.requires.some begun,
+        follows_all _ (g.C.Cmp.accepts c.args.self.now.block.cmp) cmp (g.C.Cmp.shortest_sep c.args.self.now.block.cmp) g.FP.FilterPolicy.filter_for g.FP.FilterPolicy.matches keeps (g.FP.FilterPolicy.matches c.args.self.now.filter.policy)
+            (stage c.args.self.now) (first_key (stage c.args.self.now).open_pairs) c.args.next.now written pairs c.requires.some c.requires.sound.1 begun,
+      );
+    }
+
+pub returns-then-size_estimate-self-clause-ready : goal.returns-then-size_estimate-self-clause-ready
+returns-then-size_estimate-self-clause-ready g c =
+    let some = some_pairs c.args.self.now.block.built.0 (omega (arith, c.if-entries-gt0.true, c.entries.ensures)) in
+    let keeps = keeps_keys g.FP.FilterPolicy.filter_for g.FP.FilterPolicy.matches g.met.FP.FilterPolicy.finds in
+    let cmp = g.C.Cmp.cmp c.args.self.now.block.cmp in
+    let less = behind_open cmp (pairs_of None c.args.self.now.index.built.0) (pairs_of None c.args.self.now.block.built.0) c.args.next.now some c.requires.sound.1.behind in
+    let line = is_line (g.met.C.Cmp.preorder c.args.self.now.block.cmp) (g.C.Cmp.shortest_sep c.args.self.now.block.cmp) (g.met.C.Cmp.separates c.args.self.now.block.cmp)
+    (pairs_of None c.args.self.now.index.built.0) (pairs_of None c.args.self.now.block.built.0) c.args.next.now [] some c.requires.sound.0.rise c.requires.sound.0.accepted c.requires.sound.1.accepted
+    (λ e. let clash : Less ≡ Greater = sym less ∙ e in cc) in
+    OnOk-both c.close_block.result _ _ _ (λ closed ready. (
+      ready,
+      subst (λ o. Follows (g.C.Cmp.accepts o) (g.C.Cmp.cmp o) (stage c.close_block.new.self) c.args.next.now) (sym c.close_block.ensures.order)
+          (follows_closed _ (g.C.Cmp.accepts c.args.self.now.block.cmp) cmp (g.C.Cmp.shortest_sep c.args.self.now.block.cmp) g.FP.FilterPolicy.filter_for g.FP.FilterPolicy.matches keeps
+          (stage c.args.self.now) (stage c.close_block.new.self) c.args.self.now.compressor c.args.next.now closed.0 closed.2 c.requires.sound.1.accepted (line.before less)),
+    ))
+    c.close_block.ensures.ok c.close_block.ensures.open_filter
+
+pub returns-then-size_estimate-self-clause-has_room : goal.returns-then-size_estimate-self-clause-has_room
+returns-then-size_estimate-self-clause-has_room g c =
+    let full = is_full c.args.self.now (omega (arith, c.if-entries-gt0.true, c.entries.ensures)) (omega (arith, c.if-size_estimate-self.true, c.size_estimate.ensures)) in
+    OnOk-both c.close_block.result _ _ _ (λ closed fresh. inr (full, fresh, closed.0, closed.1, closed.2)) c.close_block.ensures.ok c.close_block.ensures.fresh
+
+pub returns-then-size_estimate-self-clause-cause : goal.returns-then-size_estimate-self-clause-cause
+returns-then-size_estimate-self-clause-cause g c =
+    let full = is_full c.args.self.now (omega (arith, c.if-entries-gt0.true, c.entries.ensures)) (omega (arith, c.if-size_estimate-self.true, c.size_estimate.ensures)) in
+    IfErr-with c.close_block.result _ _ (λ status why. (full, why)) c.close_block.ensures.cause
+
+pub returns-clause-has_room : goal.returns-clause-has_room
+returns-clause-has_room g c =
+    let room : IsFull c.args.self.now → ⊥ =
+    elim c.else-entries-gt0.branch [
+      | else-entries-gt0-via-then-entries-gt0+else-size_estimate-self w ↦ not_full c.args.self.now (inr (omega (arith, w.if-size_estimate-self.false, w.size_estimate.ensures)))
+      | else-entries-gt0-via-else-entries-gt0 w ↦ not_full c.args.self.now (inl (omega (arith, w.if-entries-gt0.false, c.entries.ensures)))
+    ]
+    in inl (room, refl, refl, refl)

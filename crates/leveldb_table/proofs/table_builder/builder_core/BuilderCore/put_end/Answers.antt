@@ -1,0 +1,85 @@
+use Rattle.std.proofs.Common.{sym, ap, refl, ◌∙◌, subst, ◌+◌, inl, inr}
+use Rattle.std.proofs.lemmas.Result.{err_from_is_err_and, IfOk-weaker}
+use Rattle.leveldb_env.specs.contracts.compressor.CompressorListCoders.TheImpl.{ghosts as coders}
+use Rattle.leveldb_env.specs.SinkLaws.{PutsAll-none, PutsAll-one, PutsAll-trans}
+use Rattle.leveldb_table.specs.TableBuilding.{IsPlaced}
+use Rattle.leveldb_table.proofs.TableSteps.{IfErr-with}
+use Rattle.leveldb_table.proofs.TableSinks.{own_filter, own_block, ends_with, ends_own, ends_refused, ends_block, ends_after, block_placed, block_ends}
+use Rattle.leveldb_table.proofs.table_builder.builder_core.BuilderCore.put_end.Goals as goal
+
+pub returns-in_err-finish-clause-cause : goal.returns-in_err-finish-clause-cause
+returns-in_err-finish-clause-cause g c =
+    let p = err_from_is_err_and c.from_residual.result c.from_residual.ensures.1 in
+    rw (p.1, p.2) (ends_own g.S.Sink.puts g.S.Sink.flushes (PutsAll-none g.S.Sink.puts c.args.sink.now) (own_filter c.in_err-finish.field-0.0 c.in_err-finish.ensures.cause))
+
+pub returns-in_err-filters-clause-cause : goal.returns-in_err-filters-clause-cause
+returns-in_err-filters-clause-cause g c =
+    let p = err_from_is_err_and c.from_residual-in_err-filters.result c.from_residual-in_err-filters.ensures.1 in
+    rw (p.1, p.2) (ends_refused g.S.Sink.puts g.S.Sink.flushes _ _ _ _ _ c.in_err-filters.ensures.err)
+
+pub returns-in_err-meta-clause-cause : goal.returns-in_err-meta-clause-cause
+returns-in_err-meta-clause-cause g c =
+    let first = PutsAll-one g.S.Sink.puts c.in_ok-filters.ensures.ok.put in
+    let p = err_from_is_err_and c.from_residual-in_err-meta.result c.from_residual-in_err-meta.ensures.1 in
+    rw (p.1, p.2) (ends_own g.S.Sink.puts g.S.Sink.flushes first (own_block _ c.in_err-meta.ensures.cause))
+
+pub returns-in_err-meta-2-clause-cause : goal.returns-in_err-meta-2-clause-cause
+returns-in_err-meta-2-clause-cause g c =
+    let first = PutsAll-one g.S.Sink.puts c.in_ok-filters.ensures.ok.put in
+    let p = err_from_is_err_and c.from_residual-in_err-meta-2.result c.from_residual-in_err-meta-2.ensures.1 in
+    rw (p.1, p.2) (ends_after g.S.Sink.puts g.S.Sink.flushes first (ends_block g.S.Sink.puts g.S.Sink.flushes ((coders g.dyn-1).codings c.args.coders.now) c.args.self.compressor _ _ _ _ _ c.in_err-meta-2.ensures.cause))
+
+pub returns-in_err-into_bytes-clause-cause : goal.returns-in_err-into_bytes-clause-cause
+returns-in_err-into_bytes-clause-cause g c =
+    let first = PutsAll-one g.S.Sink.puts c.in_ok-filters.ensures.ok.put in
+    let second = PutsAll-trans g.S.Sink.puts first (PutsAll-one g.S.Sink.puts c.in_ok-meta-2.ensures.ok.2.put) in
+    let p = err_from_is_err_and c.from_residual-in_err-into_bytes.result c.from_residual-in_err-into_bytes.ensures.1 in
+    rw (p.1, p.2) (ends_own g.S.Sink.puts g.S.Sink.flushes second (inl c.in_err-into_bytes.ensures.memory))
+
+pub returns-in_err-index-clause-cause : goal.returns-in_err-index-clause-cause
+returns-in_err-index-clause-cause g c =
+    let first = PutsAll-one g.S.Sink.puts c.in_ok-filters.ensures.ok.put in
+    let second = PutsAll-trans g.S.Sink.puts first (PutsAll-one g.S.Sink.puts c.in_ok-meta-2.ensures.ok.2.put) in
+    let p = err_from_is_err_and c.from_residual-in_err-index.result c.from_residual-in_err-index.ensures.1 in
+    rw (p.1, p.2) (ends_after g.S.Sink.puts g.S.Sink.flushes second (ends_block g.S.Sink.puts g.S.Sink.flushes ((coders g.dyn-1).codings c.args.coders.now) c.args.self.compressor _ _ _ _ _ c.in_err-index.ensures.cause))
+
+pub returns-clause-cause : goal.returns-clause-cause
+returns-clause-cause g c =
+    let first = PutsAll-one g.S.Sink.puts c.in_ok-filters.ensures.ok.put in
+    let second = PutsAll-trans g.S.Sink.puts first (PutsAll-one g.S.Sink.puts c.in_ok-meta-2.ensures.ok.2.put) in
+    let third = PutsAll-trans g.S.Sink.puts second (PutsAll-one g.S.Sink.puts c.in_ok-index.ensures.ok.2.put) in
+    IfErr-with c.put_footer.result _ _ (λ status early. ends_after g.S.Sink.puts g.S.Sink.flushes third (ends_with g.S.Sink.puts g.S.Sink.flushes (λ code. inr (inl code)) early)) c.put_footer.ensures.cause
+
+pub returns-clause-ok : goal.returns-clause-ok
+returns-clause-ok g c =
+    let puts = g.S.Sink.puts in
+    let filters = c.in_ok-filters.ensures.ok in
+    let meta = c.in_ok-meta-2.ensures.ok in
+    let index = c.in_ok-index.ensures.ok in
+    IfOk-weaker c.put_footer.result _ _ (λ size footer. record {
+      bytes = _;
+      mid = footer.mid;
+      ended = record {
+        filters = c.in_ok-finish.field-0.items;
+        meta_text = c.in_ok-meta.meta.items;
+        meta_stored = meta.0;
+        index_text = c.in_ok-into_bytes.field-0.items;
+        index_stored = index.0;
+        filter = c.in_ok-filters.filters.handle;
+        meta = c.in_ok-meta-2.meta.handle;
+        index = c.in_ok-index.index.handle;
+        filter_block = c.in_ok-finish.ensures.ok;
+        meta_block = rw (sym c.filter_name-name.ensures) c.in_ok-meta.ensures.ok;
+        index_block = c.in_ok-into_bytes.ensures.ok;
+        meta_coded = meta.1;
+        index_coded = index.1;
+        filter_placed = block_placed puts filters;
+        meta_placed = subst (λ at. IsPlaced at meta.0 c.in_ok-meta-2.meta.handle) (block_ends puts filters) (block_placed puts meta.2);
+        index_placed = subst (λ at. IsPlaced at index.0 c.in_ok-index.index.handle) (block_ends puts meta.2) (block_placed puts index.2);
+        spelled = refl;
+        ends = footer.ends ∙ ap (λ n. n + 48) (block_ends puts index.2);
+      };
+      put = PutsAll-trans puts (PutsAll-one puts filters.put) (PutsAll-trans puts (PutsAll-one puts meta.2.put) (PutsAll-trans puts (PutsAll-one puts index.2.put)
+          (PutsAll-one puts (rw c.new.ensures at footer.put))));
+      flushed = footer.flushed;
+    }) c.put_footer.ensures.ok

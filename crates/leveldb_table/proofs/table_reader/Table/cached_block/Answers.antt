@@ -1,0 +1,22 @@
+use Rattle.std.proofs.Common.{sym, ◌∙◌, ap, arith}
+use Rattle.std.specs.Prelude.{option_copied}
+use Rattle.leveldb_table.specs.Cache.{value_of}
+use Rattle.leveldb_table.specs.TableCached.{cache_key}
+use Rattle.leveldb_table.proofs.Caches.{after_look_up}
+use Rattle.leveldb_table.proofs.table_reader.Table.cached_block.Goals as goal
+
+pub returns-clause-cache : goal.returns-clause-cache
+returns-clause-cache g c =
+    c.get.follows.holds-at-none ∙ ap (λ key. after_look_up key c.args.cache.now) (c.cache_key.ensures ∙ ap (cache_key c.args.self.now.id) c.offset.ensures)
+
+pub returns-clause-ok : goal.returns-clause-ok
+returns-clause-ok g c =
+    let key_is = c.cache_key.ensures ∙ ap (cache_key c.args.self.now.id) c.offset.ensures in
+    record {
+      held = c.in-Some.held.now;
+      found = ap (λ key. value_of key c.args.cache.now.pairs) (sym key_is) ∙ sym c.get.ensures.value ∙ ap option_copied c.in-Some.is;
+      fits = omega (arith, c.offset.ensures);
+      size = sym c.size.ensures ∙ c.if-size.false ∙ c.size-2.ensures;
+      contents = c.in_ok-clone.ensures.cases.0;
+      ordered = c.in_ok-clone.ensures.cases.1;
+    }

@@ -1,0 +1,47 @@
+use Rattle.std.proofs.Common.{◌≡◌, None, refl, sym, ◌∙◌, ap}
+use Rattle.leveldb_env.specs.contracts.compressor.CompressorListCoders.TheImpl
+use Rattle.leveldb_table.specs.TableEnters.{let_place}
+use Rattle.leveldb_table.specs.TableReading.{lets}
+use Rattle.leveldb_table.specs.TableWalk.{inner_place, inner_pairs}
+use Rattle.leveldb_base.specs.Places.{pair_at}
+use Rattle.leveldb_table.proofs.TableCalls.{reads_weaker, reads_refused}
+use Rattle.leveldb_table.proofs.TableLookups.{ok_says, found_by, given_from}
+use Rattle.leveldb_table.proofs.TableMoves.{none_there}
+use Rattle.leveldb_table.proofs.table_reader.Table.get.Goals as goal
+
+pub returns-in_err-seek_let-clause-reads : goal.returns-in_err-seek_let-clause-reads
+returns-in_err-seek_let-clause-reads g c =
+    let made = c.in_ok-core.ensures in
+    let passes = lets g.FP.FilterPolicy.matches c.args.self.now in
+    reads_refused g.E.Env c.from_residual-in_err-seek_let.result c.from_residual-in_err-seek_let.ensures.1
+    (reads_weaker g.E.Env _ (λ status lacking. (
+      lacking.0,
+      λ bytes has parts lines ordered right accepted fit holds. lacking.1 bytes has parts (let_place (g.C.Cmp.cmp c.args.self.now.cmp) passes c.args.key.now parts) right (accepted, fit, refl) holds
+          (record { lines = made.lines ∙ lines; ordered = ap g.C.Cmp.cmp made.order ∙ ordered }),
+    )) c.in_err-seek_let.ensures.enters.reads)
+
+pub returns-then-branch-clause-ok : goal.returns-then-branch-clause-ok
+returns-then-branch-clause-ok g c =
+    let made = c.in_ok-core.ensures in
+    let passes = lets g.FP.FilterPolicy.matches c.args.self.now in
+    λ bytes has parts lines ordered right accepted fit holds. ok_says c.into_pair.result
+    (λ found is. is ∙ found_by passes c.args.key.now c.seek_let.new.self
+    (c.in_ok-seek_let.ensures.enters.ok bytes has parts (let_place (g.C.Cmp.cmp c.args.self.now.cmp) passes c.args.key.now parts) right (accepted, fit, refl) holds
+    (record { lines = made.lines ∙ lines; ordered = ap g.C.Cmp.cmp made.order ∙ ordered }))) c.into_pair.ensures.ok
+
+pub returns-then-branch-clause-given : goal.returns-then-branch-clause-given
+returns-then-branch-clause-given g c =
+    let sought = c.in_ok-seek_let.ensures.enters in
+    λ bytes has holds. ok_says c.into_pair.result
+    (λ found is. given_from ((TheImpl.ghosts g.dyn-1).codings c.args.coders.now) (g.C.Cmp.cmp c.args.self.now.cmp) bytes c.seek_let.new.self found (sought.same_lines ∙ c.in_ok-core.ensures.lines) is (sought.from bytes has holds))
+    c.into_pair.ensures.ok
+
+pub returns-clause-ok : goal.returns-clause-ok
+returns-clause-ok g c =
+    let made = c.in_ok-core.ensures in
+    let passes = lets g.FP.FilterPolicy.matches c.args.self.now in
+    let new = c.seek_let.new.self in
+    let none = none_there (inner_place new.inner) (sym c.in_ok-seek_let.ensures.answer ∙ c.if-branch.false) in
+    λ bytes has parts lines ordered right accepted fit holds. sym (ap (pair_at (inner_pairs new.inner)) none) ∙ found_by passes c.args.key.now new
+    (c.in_ok-seek_let.ensures.enters.ok bytes has parts (let_place (g.C.Cmp.cmp c.args.self.now.cmp) passes c.args.key.now parts) right (accepted, fit, refl) holds
+    (record { lines = made.lines ∙ lines; ordered = ap g.C.Cmp.cmp made.order ∙ ordered }))

@@ -1,0 +1,171 @@
+-- What the calls of a table builder do to it and to its sink.
+use Rattle.std.specs.Prelude.{◌≡◌, ◌≢◌, ℕ, ◌+◌, ◌*◌, ◌<◌, Bool, true, List, [], ◌∷◌, ◌++◌, length, Result, Ok, Option, None, IfSome, codes, string_bytes}
+use Rattle.std.specs.List.{concat}
+use Rattle.std.specs.declared.cmp.Ordering.{Ordering}
+use Rattle.std.specs.declared.cmp.Ordering.TheVariants.{Less, Greater}
+use Rattle.leveldb_base.specs.declared.error.Status.{Status}
+use Rattle.leveldb_base.specs.declared.error.StatusCode.TheVariants.{IOError}
+use Rattle.leveldb_base.specs.Bytewise.{bytewise}
+use Rattle.leveldb_base.specs.Handle.{Handle, handle_bytes, HandleFits}
+use Rattle.leveldb_base.specs.Places.{Pair}
+use Rattle.leveldb_env.specs.Coders.{Codings, Decodes}
+use Rattle.leveldb_env.specs.FilterBlock.{IsFilterBlock, finished}
+use Rattle.leveldb_env.specs.Sinks.{PutsAll}
+use Rattle.leveldb_table.specs.Block.{IsBlock, pairs_of}
+use Rattle.leveldb_table.specs.Built.{last_added, estimate}
+use Rattle.leveldb_table.specs.Footer.{footer_bytes}
+use Rattle.leveldb_table.specs.Table.{IsTable, IsWritten, AreAccepted, HasFiltersAt, filters_for, filter_key, with_trailer}
+use Rattle.leveldb_table.specs.TableStages.{Stage, stage_of, IsLaid, AreSeparated, AreReady, Follows, first_key}
+use Rattle.leveldb_base.specs.declared.cmp.Cmp.{Ghosts as CmpGhosts}
+use Rattle.leveldb_env.specs.declared.filter.FilterPolicy.{Ghosts as PolicyGhosts}
+use Rattle.leveldb_table.specs.declared.table_builder.builder_core.BuilderCore.{BuilderCore}
+
+-- how far a builder's table is built
+abbrev pub stage : {C FP : Type 0} {order : CmpGhosts C} {policy : PolicyGhosts FP} → BuilderCore C FP order policy → Stage FP
+stage core = stage_of core.filter core.offset (pairs_of None core.index.built.0) (pairs_of None core.block.built.0) core.count
+
+-- the key that was added last
+abbrev pub last_of : {C FP : Type 0} {order : CmpGhosts C} {policy : PolicyGhosts FP} → BuilderCore C FP order policy → List ℕ
+last_of core = last_added (pairs_of None core.block.built.0)
+
+-- its comparator, and its filter policy
+abbrev pub order_of : {C FP : Type 0} {order : CmpGhosts C} {policy : PolicyGhosts FP} → BuilderCore C FP order policy → C
+order_of core = core.block.cmp
+
+abbrev pub policy_of : {C FP : Type 0} {order : CmpGhosts C} {policy : PolicyGhosts FP} → BuilderCore C FP order policy → FP
+policy_of core = core.filter.policy
+
+-- the index's keys and behind them those of the open block rise, and the open block's filter is open
+abbrev pub IsReady : {C FP : Type 0} {order : CmpGhosts C} {policy : PolicyGhosts FP} → (C → List ℕ → Bool) → (C → List ℕ → List ℕ → Ordering) → BuilderCore C FP order policy → Type 0
+IsReady accepts cmp core = AreReady (accepts core.block.cmp) (cmp core.block.cmp) (cmp core.index.cmp) (stage core)
+
+-- and this key is after them
+abbrev pub Ready : {C FP : Type 0} {order : CmpGhosts C} {policy : PolicyGhosts FP} → (C → List ℕ → Bool) → (C → List ℕ → List ℕ → Ordering) → BuilderCore C FP order policy → List ℕ → Type 0
+Ready accepts cmp core next = IsReady accepts cmp core × Follows (accepts core.block.cmp) (cmp core.block.cmp) (stage core) next
+
+-- The builder has put these bytes, and these pairs were added. What its comparator accepts, how that orders and separates keys, and
+-- what its policy matches, are given for the comparator and the policy that it has.
+abbrev pub IsBegun : {C FP : Type 0} {order : CmpGhosts C} {policy : PolicyGhosts FP} → Codings → (C → List ℕ → Bool) → (C → List ℕ → List ℕ → Ordering) → (C → List ℕ → List ℕ → List ℕ) → (FP → List ℕ → List ℕ → Bool)
+    → BuilderCore C FP order policy → List ℕ → List Pair → Type 0
+IsBegun {policy = policy} codings accepts cmp sep matches core written pairs =
+    IsLaid (Decodes codings) (accepts core.block.cmp) (cmp core.block.cmp) (sep core.block.cmp) (matches core.filter.policy) (policy.filter_for core.filter.policy) core.compressor
+    (stage core) (first_key (stage core).open_pairs) written pairs
+
+-- The open block has an entry, and more bytes than a block shall have: the next pair goes into another.
+abbrev pub IsFull : {C FP : Type 0} {order : CmpGhosts C} {policy : PolicyGhosts FP} → BuilderCore C FP order policy → Type 0
+IsFull core = (core.block.built.0 ≢ []) × (core.block_size < estimate core.block.built.0 core.block.begun)
+
+-- how many bytes the table would have: the estimates of the open block, the index and the filters, what was put, and a footer
+abbrev pub table_estimate : {C FP : Type 0} {order : CmpGhosts C} {policy : PolicyGhosts FP} → BuilderCore C FP order policy → ℕ
+table_estimate core =
+    estimate core.block.built.0 core.block.begun + estimate core.index.built.0 core.index.begun + (length (concat core.filter.filters) + 4 * length core.filter.filters + 5) + core.offset + 48
+
+-- a call came after one that was refused
+pub record IsBroken (status : Status) : Type 0 where
+  pub code : status.code ≡ IOError
+  pub text : IfSome status.err (λ text. string_bytes text ≡ codes "IOError: reopen the store")
+
+-- a separator has the user's key of none that stands at or behind the second key, but where the first key has it too
+abbrev pub SeparatesUsers : (List ℕ → Bool) → (List ℕ → List ℕ → Ordering) → (List ℕ → List ℕ → List ℕ) → (List ℕ → List ℕ) → Type 0
+SeparatesUsers accepts cmp sep user =
+    (a b key : List ℕ) → accepts a ≡ true → accepts b ≡ true → accepts key ≡ true → cmp a b ≡ Less → cmp b key ≢ Greater → user key ≡ user (sep a b) → user a ≡ user key
+
+-- keys with one user's key match the same filters
+abbrev pub GoesByUsers : (List ℕ → List ℕ) → (List ℕ → List ℕ → Bool) → Type 0
+GoesByUsers user matches = (key other filter : List ℕ) → user key ≡ user other → matches key filter ≡ matches other filter
+
+-- The file is a table of these pairs, its blocks stand one behind the other, and its one filter block is the named policy's: it has the
+-- filters of the blocks' keys. The index keys are separators, and the last one separates the last key from the successor of it.
+pub record BuildsTable (codings : Codings) (accepts : List ℕ → Bool) (cmp : List ℕ → List ℕ → Ordering) (sep : List ℕ → List ℕ → List ℕ) (succ : List ℕ → List ℕ)
+    (meaning : List ℕ → Option (List ℕ → List ℕ → Bool)) (user : List ℕ → List ℕ) (matches : List ℕ → List ℕ → Bool) (make : List (List ℕ) → List ℕ) (id : ℕ) (policy file : List ℕ) (pairs : List Pair) : Type 0 where
+  pub table : IsTable (Decodes codings) cmp meaning user file pairs
+  pub filter : Handle
+  pub written : IsWritten file id policy table.parts table.metas filter table.meta table.index
+  pub separated : AreSeparated sep table.parts (succ (last_added pairs))
+  pub accepted : AreAccepted accepts table.parts
+  pub filtered : HasFiltersAt matches user file table.parts filter
+  pub exactly : filtered.filters ≡ filters_for make table.parts filter.offset
+
+-- the policy's name means what the policy matches, or its meaning isn't known
+abbrev pub Knows : (List ℕ → Option (List ℕ → List ℕ → Bool)) → List ℕ → (List ℕ → List ℕ → Bool) → Type 0
+Knows meaning name matches = IfSome (meaning name) (λ known. known ≡ matches)
+
+-- The file is such a table by whatever part of a key the filters go, if separators keep the order of these parts.
+abbrev pub IsBuilt : Codings → (List ℕ → Bool) → (List ℕ → List ℕ → Ordering) → (List ℕ → List ℕ → List ℕ) → (List ℕ → List ℕ) → (List ℕ → List ℕ → Bool)
+    → (List (List ℕ) → List ℕ) → ℕ → List ℕ → List ℕ → List Pair → Type 0
+IsBuilt codings accepts cmp sep succ matches make id name file pairs =
+    (meaning : List ℕ → Option (List ℕ → List ℕ → Bool)) (user : List ℕ → List ℕ) → SeparatesUsers accepts cmp sep user → GoesByUsers user matches → Knows meaning name matches
+    → BuildsTable codings accepts cmp sep succ meaning user matches make id name file pairs
+
+-- the handle is that of stored bytes at this offset
+abbrev pub IsPlaced : ℕ → List ℕ → Handle → Type 0
+IsPlaced offset stored handle = (handle.offset ≡ offset) × (handle.size ≡ length stored) × HandleFits handle
+
+-- no block is open, and where there are keys, this accepted key is the successor of the last and at or after it
+pub record IsLast {FP : Type 0} (accepts : List ℕ → Bool) (cmp : List ℕ → List ℕ → Ordering) (succ : List ℕ → List ℕ) (stage : Stage FP) (next : List ℕ) (pairs : List Pair) : Type 0 where
+  pub none_open : stage.open_pairs ≡ []
+  pub accepted : stage.lines ≢ [] → accepts next ≡ true
+  pub behind : stage.lines ≢ [] → cmp (last_added pairs) next ≢ Greater
+  pub successor : stage.lines ≢ [] → next ≡ succ (last_added pairs)
+
+-- What follows the data blocks: the filters as they are, the metaindex and the index stored under the id, and the footer. With it the
+-- file has so many bytes.
+pub record IsEnd {FP : Type 0} (Decodes : ℕ → List ℕ → List ℕ → Type 0) (cmp : List ℕ → List ℕ → Ordering) (make : List (List ℕ) → List ℕ) (id : ℕ) (name : List ℕ) (stage : Stage FP) (bytes : List ℕ) (size : ℕ) : Type 0 where
+  pub filters : List ℕ
+  pub meta_text : List ℕ
+  pub meta_stored : List ℕ
+  pub index_text : List ℕ
+  pub index_stored : List ℕ
+  pub filter : Handle
+  pub meta : Handle
+  pub index : Handle
+  pub filter_block : IsFilterBlock filters (finished make stage.filter.filters stage.filter.keys)
+  pub meta_block : IsBlock bytewise meta_text ((filter_key name, handle_bytes filter) ∷ [])
+  pub index_block : IsBlock cmp index_text stage.lines
+  pub meta_coded : Decodes id meta_stored meta_text
+  pub index_coded : Decodes id index_stored index_text
+  pub filter_placed : IsPlaced stage.offset filters filter
+  pub meta_placed : IsPlaced (filter.offset + filter.size + 5) meta_stored meta
+  pub index_placed : IsPlaced (meta.offset + meta.size + 5) index_stored index
+  pub spelled : bytes ≡ with_trailer 0 filters ++ (with_trailer id meta_stored ++ (with_trailer id index_stored ++ footer_bytes meta index))
+  pub ends : size ≡ index.offset + index.size + 5 + 48
+
+module _ {S : Type 0} (puts : S → List ℕ → Result (Unit {0}) Status → S → Type 0) where
+  -- The open block was put, or it had room: the file so far is laid out, and the next key goes into the open block.
+  pub record MakesRoom {FP : Type 0} (old : List ℕ → List Pair → Type 0) (Decodes : ℕ → List ℕ → List ℕ → Type 0) (accepts : List ℕ → Bool) (cmp : List ℕ → List ℕ → Ordering) (sep : List ℕ → List ℕ → List ℕ)
+      (matches : List ℕ → List ℕ → Bool) (make : List (List ℕ) → List ℕ) (id : ℕ) (new : Stage FP) (next : List ℕ) (from to : S) : Type 0 where
+    pub bytes : List ℕ
+    pub put : PutsAll puts from bytes to
+    pub laid : (written : List ℕ) (pairs : List Pair) → old written pairs
+        → IsLaid Decodes accepts cmp sep matches make id new (first_key (new.open_pairs ++ (next, []) ∷ [])) (written ++ bytes) pairs × (pairs ≢ [] → cmp (last_added pairs) next ≡ Less)
+
+  -- a pair was added: some bytes were put, and the builder has put these behind what it had put before
+  pub record Adds (old new : List ℕ → List Pair → Type 0) (from : S) (pair : Pair) (to : S) : Type 0 where
+    pub bytes : List ℕ
+    pub put : PutsAll puts from bytes to
+    pub begun : (written : List ℕ) (pairs : List Pair) → old written pairs → new (written ++ bytes) (pairs ++ pair ∷ [])
+
+  -- the table was finished: the last bytes were put and then the sink was flushed
+  pub record Finishes (flushes : S → Result (Unit {0}) Status → S → Type 0) (old table : List ℕ → List Pair → Type 0) (from : S) (size : ℕ) (to : S) : Type 0 where
+    pub bytes : List ℕ
+    pub mid : S
+    pub put : PutsAll puts from bytes mid
+    pub flushed : flushes mid (Ok tt) to
+    pub made : (written : List ℕ) (pairs : List Pair) → old written pairs → table (written ++ bytes) pairs × (size ≡ length (written ++ bytes))
+
+  -- the open block was put, or it was empty: the file so far is laid out, and this key stands behind all blocks
+  pub record ClosesLast {FP : Type 0} (old : List ℕ → List Pair → Type 0) (Decodes : ℕ → List ℕ → List ℕ → Type 0) (accepts : List ℕ → Bool) (cmp : List ℕ → List ℕ → Ordering) (sep : List ℕ → List ℕ → List ℕ)
+      (succ : List ℕ → List ℕ) (matches : List ℕ → List ℕ → Bool) (make : List (List ℕ) → List ℕ) (id : ℕ) (new : Stage FP) (from to : S) : Type 0 where
+    pub next : List ℕ
+    pub bytes : List ℕ
+    pub put : PutsAll puts from bytes to
+    pub laid : (written : List ℕ) (pairs : List Pair) → old written pairs → IsLaid Decodes accepts cmp sep matches make id new next (written ++ bytes) pairs × IsLast accepts cmp succ new next pairs
+
+  -- what follows the data blocks was put, and then the sink was flushed
+  pub record PutsEnd {FP : Type 0} (flushes : S → Result (Unit {0}) Status → S → Type 0) (Decodes : ℕ → List ℕ → List ℕ → Type 0) (cmp : List ℕ → List ℕ → Ordering) (make : List (List ℕ) → List ℕ)
+      (id : ℕ) (name : List ℕ) (stage : Stage FP) (from : S) (size : ℕ) (to : S) : Type 0 where
+    pub bytes : List ℕ
+    pub mid : S
+    pub ended : IsEnd Decodes cmp make id name stage bytes size
+    pub put : PutsAll puts from bytes mid
+    pub flushed : flushes mid (Ok tt) to

@@ -1,0 +1,78 @@
+-- How a walk over a table goes into the data block that a line of the index names.
+use Rattle.std.specs.Prelude.{◌≡◌, ◌++◌, ℕ, Bool, if◌then◌else◌, List, length, map, Option, None, Some, Result, OnOk, OnErr}
+use Rattle.std.specs.Option.{IsSomeAnd}
+use Rattle.std.specs.declared.cmp.Ordering.{Ordering}
+use Rattle.leveldb_base.specs.Handle.{Handle}
+use Rattle.leveldb_base.specs.Places.{Pair, next_place, previous_place, seek_place, place_within, pair_at}
+use Rattle.leveldb_base.specs.declared.cmp.Cmp.{Ghosts as CmpGhosts}
+use Rattle.leveldb_base.specs.declared.error.Status.{Status}
+use Rattle.leveldb_env.specs.Coders.{Codings, Decodes}
+use Rattle.leveldb_env.specs.declared.env.Env.{Ghosts as EnvGhosts}
+use Rattle.leveldb_table.specs.Cache.{Cached}
+use Rattle.leveldb_table.specs.Table.{Part, IsPart, HasBlockAt, index_pair, named_part}
+use Rattle.leveldb_table.specs.TableCached.{HoldsOf, IsOf, Gathers}
+use Rattle.leveldb_table.specs.TableReading.{pairs_in, HasParts}
+use Rattle.leveldb_table.specs.TableReads.{Whatever, IsLacking, Reads}
+use Rattle.leveldb_table.specs.TableWalk.{IsNamed, StandsIn, Stands, IsFrom, inner_place, pairs_over, place_over}
+use Rattle.leveldb_table.specs.declared.block.Block.{Block}
+use Rattle.leveldb_table.specs.declared.block_cache.CachedBlock.{CachedBlock}
+use Rattle.leveldb_table.specs.declared.table_reader.walk.TableCore.{TableCore}
+
+-- the file has no data block that this line of the index stands for
+abbrev pub LacksLine : Codings → (List ℕ → List ℕ → Ordering) → List ℕ → Option Pair → Type 0
+LacksLine codings cmp bytes line = (part : Part) → line ≡ Some (index_pair part) → IsPart (Decodes codings) cmp bytes part → ⊥
+
+-- Behind a line of the index comes the line of the first data block that isn't among those in front, and the place is that of the first
+-- pair behind theirs.
+pub record IsBehind (parts : List Part) (line place : Option ℕ) : Type 0 where
+  pub before : List Part
+  pub behind : List Part
+  pub parted : parts ≡ before ++ behind
+  pub next : next_place (map index_pair parts) line ≡ place_within (map index_pair parts) (length before)
+  pub to : place ≡ place_within (pairs_in parts) (length (pairs_in before))
+
+-- the walk is at the first pair of the line's block, and the place is the one before
+pub record IsBefore (parts : List Part) (line place : Option ℕ) : Type 0 where
+  pub pairs : List Pair
+  pub inner : Option ℕ
+  pub n : ℕ
+  pub stands : StandsIn parts line pairs inner n
+  pub first : previous_place inner ≡ None
+  pub to : place ≡ previous_place (Some n)
+
+-- where a look-up goes: to the first pair at or after the key, but to no place where the filters don't let the key pass at the block that the
+-- index names for it
+abbrev pub let_place : (List ℕ → List ℕ → Ordering) → (ℕ → List ℕ → Bool) → List ℕ → List Part → Option ℕ
+let_place cmp lets key parts =
+    elim (named_part cmp key parts) [ None ↦ None | Some part ↦ if lets part.handle.offset key then seek_place cmp (pairs_in parts) key else None ]
+
+module _ {C : Type 0} {order : CmpGhosts C} where
+  -- the block that a file has at a handle, in this order of keys
+  abbrev pub IsBlockAt : Codings → (List ℕ → List ℕ → Ordering) → List ℕ → Handle → Option (Block C order) → Type 0
+  IsBlockAt codings cmp bytes handle block = IsSomeAnd block (λ there. HasBlockAt (Decodes codings) bytes handle there.contents × (order.cmp there.cmp ≡ cmp))
+
+  -- the block that the file has where a line of the index says
+  abbrev pub IsBlockOf : Codings → (List ℕ → List ℕ → Ordering) → List ℕ → Option Pair → Option (Block C order) → Type 0
+  IsBlockOf codings cmp bytes line block = IsSomeAnd block (λ there. IsNamed codings bytes line there.contents × (order.cmp there.cmp ≡ cmp))
+
+  -- the line of the index
+  abbrev pub line_of : TableCore C order → Option Pair
+  line_of core = pair_at (pairs_over core.index) (place_over core.index)
+
+  -- the index is that of these data blocks, in this order of keys
+  pub record IsIndexed (cmp : List ℕ → List ℕ → Ordering) (parts : List Part) (core : TableCore C order) : Type 0 where
+    pub lines : pairs_over core.index ≡ map index_pair parts
+    pub ordered : order.cmp core.index.block.cmp ≡ cmp
+
+  -- As a move does, but from a line of the index: where the file has data blocks, the walk goes to the place that is fit for them.
+  pub record Enters {E F T : Type 0} (env : EnvGhosts E F) (codings : Codings) (cmp : List ℕ → List ℕ → Ordering) (id : ℕ) (file : F) (Fit : List Part → Option ℕ → Type 0)
+      (old_env : E) (old_cache : Cached (CachedBlock C order)) (old : TableCore C order) (result : Result T Status) (new_env : E) (new_cache : Cached (CachedBlock C order)) (new : TableCore C order) : Type 0 where
+    pub reads : Reads env (IsLacking env codings (λ bytes. (parts : List Part) (place : Option ℕ) → HasParts codings cmp bytes parts → Fit parts place → HoldsOf codings cmp id bytes old_cache → IsIndexed cmp parts old → ⊥) old_env file)
+        old_env file new_env result
+    pub ok : Whatever env old_env file (λ bytes. (parts : List Part) (place : Option ℕ) → HasParts codings cmp bytes parts → Fit parts place → HoldsOf codings cmp id bytes old_cache → IsIndexed cmp parts old
+        → OnOk result (Stands cmp parts new place))
+    pub from : Whatever env old_env file (λ bytes. HoldsOf codings cmp id bytes old_cache → IsFrom codings cmp bytes new)
+    pub err : OnErr result (inner_place new.inner ≡ None)
+    pub gathers : Gathers id (λ offset held. Whatever env old_env file (λ bytes. IsOf codings cmp bytes offset held)) old_cache new_cache
+    pub same_lines : pairs_over new.index ≡ pairs_over old.index
+    pub same_order : new.index.block.cmp ≡ old.index.block.cmp

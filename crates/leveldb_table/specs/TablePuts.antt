@@ -1,0 +1,62 @@
+-- Blocks put into a table's file.
+use Rattle.std.specs.Prelude.{◌≡◌, ◌⊎◌, ℕ, ◌+◌, ◌^◌, ◌≤◌, List, length, Result, Ok, Err, Option, None}
+use Rattle.std.specs.Option.{IsSome}
+use Rattle.leveldb_base.specs.Handle.{Handle, HandleFits}
+use Rattle.leveldb_base.specs.Status.{IsOutOfMemory}
+use Rattle.leveldb_base.specs.declared.error.Status.{Status}
+use Rattle.leveldb_base.specs.declared.error.StatusCode.TheVariants.{NotSupported}
+use Rattle.leveldb_env.specs.Coders.{Codings, Decodes, IsUnset}
+use Rattle.leveldb_env.specs.Sinks.{PutsAll, PutsPart}
+use Rattle.leveldb_table.specs.Table.{with_trailer}
+
+-- a number of bytes can't be counted in 64 bits
+abbrev pub IsTooLong : ℕ → Status → Type 0
+IsTooLong count status = (status.code ≡ NotSupported) × (2 ^ 64 ≤ count)
+
+-- A coder is set under the id, so that the status may be its own. Which codes a coder has is left open.
+pub record IsCoders (codings : Codings) (id : ℕ) (status : Status) : Type 0 where
+  pub set : IsSome (codings id)
+
+-- why a builder gives up by itself: want of memory, or something is too large or has no coder, or the coder's own status
+abbrev pub GivesUp : Codings → ℕ → Status → Type 0
+GivesUp codings id status = IsOutOfMemory status ⊎ (status.code ≡ NotSupported) ⊎ IsCoders codings id status
+
+module _ {S : Type 0} (puts : S → List ℕ → Result (Unit {0}) Status → S → Type 0) where
+  -- a stored block was put with its trailer at this offset: where it is, and where the trailer ends
+  pub record PutsBlock (id : ℕ) (stored : List ℕ) (from : S) (offset : ℕ) (handle : Handle) (end : ℕ) (to : S) : Type 0 where
+    pub put : puts from (with_trailer id stored) (Ok tt) to
+    pub begins : handle.offset ≡ offset
+    pub size : handle.size ≡ length stored
+    pub fits : HandleFits handle
+    pub ends : end ≡ offset + length stored + 5
+
+  -- these bytes weren't put: the sink refused them, or they weren't tried for want of memory or for a number of bytes
+  abbrev pub IsRefused : List ℕ → ℕ → S → Status → S → Type 0
+  IsRefused bytes count from status to = puts from bytes (Err status) to ⊎ ((to ≡ from) × (IsOutOfMemory status ⊎ IsTooLong count status))
+
+  -- A block of this text wasn't put at this offset: no coder is set under the id, or the coder refused the text, or the put was refused.
+  abbrev pub IsNotPut : Codings → ℕ → List ℕ → ℕ → S → Status → S → Type 0
+  IsNotPut codings id text offset from status to =
+      ((to ≡ from) × (codings id ≡ None) × IsUnset id status)
+      ⊎ ((to ≡ from) × IsCoders codings id status)
+      ⊎ ((stored : List ℕ) × Decodes codings id stored text × IsRefused (with_trailer id stored) (offset + length stored + 5) from status to)
+
+  -- one put of some bytes was refused with this status, or none was tried
+  abbrev pub PutsNone : S → Status → S → Type 0
+  PutsNone from status to = ((bytes : List ℕ) × puts from bytes (Err status) to) ⊎ (to ≡ from)
+
+  -- a footer was put at this offset, and the sink was flushed
+  pub record PutsFooter (flushes : S → Result (Unit {0}) Status → S → Type 0) (bytes : List ℕ) (offset : ℕ) (from : S) (end : ℕ) (to : S) : Type 0 where
+    pub mid : S
+    pub put : puts from bytes (Ok tt) mid
+    pub flushed : flushes mid (Ok tt) to
+    pub ends : end ≡ offset + 48
+
+  -- some bytes were put, and then the sink refused others with this status, or none were tried
+  abbrev pub PutsSome : S → Status → S → Type 0
+  PutsSome from status to = (bytes : List ℕ) × (PutsPart puts from bytes status to ⊎ PutsAll puts from bytes to)
+
+  -- Some bytes were put, and then the sink refused others, or to be flushed, with this status; or none were tried, for this reason.
+  abbrev pub EndsEarly : (S → Result (Unit {0}) Status → S → Type 0) → (Status → Type 0) → S → Status → S → Type 0
+  EndsEarly flushes reason from status to =
+      (bytes : List ℕ) × (PutsPart puts from bytes status to ⊎ ((mid : S) × PutsAll puts from bytes mid × flushes mid (Err status) to) ⊎ (PutsAll puts from bytes to × reason status))

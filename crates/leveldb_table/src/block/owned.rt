@@ -1,0 +1,118 @@
+//! A walk over a block that it holds.
+ghost use Rattle.std.specs.Prelude.{◌≡◌, None, Some, IfOk, IfErr, OnOk, OnErr, is_some, option_map};
+ghost use Rattle.leveldb_base.specs.Places.{next_place, previous_place, seek_place, pair_at};
+ghost use Rattle.leveldb_base.specs.Status.{IsOutOfMemory};
+ghost use Rattle.leveldb_table.specs.Block.{pairs_of};
+ghost use Rattle.leveldb_table.specs.Walk.{IsWithin, place_of, last_place};
+ghost use Rattle.leveldb_table.specs.WalkLaws.{IsWithin-prop, IsWithin-place};
+
+use crate::block::{Block, BlockCore};
+use bytes::Bytes;
+use leveldb_base::cmp::Cmp;
+use leveldb_base::error::Result;
+use leveldb_base::types::LdbIterator;
+use std::alloc::Global;
+
+/// A walk over a block's pairs that holds the block, whose bytes it may share with others.
+#[derive(Drop)]
+pub struct BlockWalk<C: Cmp> {
+    block: Block<C>,
+    core: BlockCore,
+    pub ghost within: { IsWithin block.contents block.held.0 core.key.items core.spot } by { IsWithin-prop block.contents block.held.0 core.key.items core.spot },
+}
+
+impl<C: Cmp> BlockWalk<C> {
+    /// A walk over the block's pairs, at no place.
+    pub fn new(alloc: Global, block: Block<C>) -> BlockWalk<C>
+        ensures block { result.block ≡ block }
+        ensures place { result.core.spot ≡ None }
+    {
+        BlockWalk {
+            block,
+            core: BlockCore::new(alloc),
+        }
+    }
+
+    /// The block.
+    pub fn block(&self) -> &Block<C>
+        ensures { result.now ≡ self.now.block }
+    {
+        &self.block
+    }
+
+    /// Goes to the last pair, or to no place in an empty block.
+    pub fn seek_to_last(&mut self) -> Result<()>
+        ensures block { self.new.block ≡ self.old.block }
+        ensures ok { OnOk result (place_of self.new.block.held.0 self.new.core.spot ≡ last_place (pairs_of None self.old.block.held.0)) }
+        ensures err { OnErr result (place_of self.new.block.held.0 self.new.core.spot ≡ None) }
+        ensures cause { IfErr result IsOutOfMemory }
+    {
+        self.core.seek_to_last(&self.block)
+    }
+
+    /// The pair on which it stands: the key's bytes become the answer's, and the value's are shared with the block.
+    pub fn into_pair(self) -> Result<Option<(Bytes, Bytes)>>
+    where
+        C: Drop,
+        ensures ok { IfOk result (λ pair. pair ≡ pair_at (pairs_of None self.block.held.0) (place_of self.block.held.0 self.core.spot)) }
+        ensures cause { IfErr result IsOutOfMemory }
+    {
+        self.core.into_pair(&self.block)
+    }
+}
+
+impl<C: Cmp> LdbIterator for BlockWalk<C> {
+    ghost pairs = { λ it. pairs_of None it.block.held.0 };
+
+    ghost place = { λ it. place_of it.block.held.0 it.core.spot };
+
+    ghost order = { λ it. C.cmp it.block.cmp };
+
+    ghost fails = { λ _ _. IsOutOfMemory };
+
+    fn advance(&mut self) -> Result<bool>
+        ensures block { self.new.block ≡ self.old.block }
+        ensures ok { OnOk result (place_of self.new.block.held.0 self.new.core.spot ≡ next_place (pairs_of None self.old.block.held.0) (place_of self.old.block.held.0 self.old.core.spot)) }
+        ensures answer { IfOk result (λ there. there ≡ is_some (place_of self.new.block.held.0 self.new.core.spot)) }
+        ensures err { OnErr result (place_of self.new.block.held.0 self.new.core.spot ≡ None) }
+        ensures cause { IfErr result IsOutOfMemory }
+    {
+        self.core.advance(&self.block)
+    }
+
+    fn prev(&mut self) -> Result<bool>
+        ensures block { self.new.block ≡ self.old.block }
+        ensures ok { OnOk result (place_of self.new.block.held.0 self.new.core.spot ≡ previous_place (place_of self.old.block.held.0 self.old.core.spot)) }
+        ensures answer { IfOk result (λ there. there ≡ is_some (place_of self.new.block.held.0 self.new.core.spot)) }
+        ensures err { OnErr result (place_of self.new.block.held.0 self.new.core.spot ≡ None) }
+        ensures cause { IfErr result IsOutOfMemory }
+    {
+        self.core.prev(&self.block)
+    }
+
+    fn seek(&mut self, key: &[u8]) -> Result<()>
+        ensures block { self.new.block ≡ self.old.block }
+        ensures ok { OnOk result (place_of self.new.block.held.0 self.new.core.spot ≡ seek_place (C.cmp self.old.block.cmp) (pairs_of None self.old.block.held.0) key.now) }
+        ensures err { OnErr result (place_of self.new.block.held.0 self.new.core.spot ≡ None) }
+        ensures cause { IfErr result IsOutOfMemory }
+    {
+        self.core.seek(&self.block, key)
+    }
+
+    fn current(&self) -> Option<(&[u8], &[u8])> {
+        self.core.current(&self.block)
+    }
+
+    fn reset(&mut self)
+        ensures block { self.new.block ≡ self.old.block }
+        ensures no_place { place_of self.new.block.held.0 self.new.core.spot ≡ None }
+    {
+        self.core.reset();
+    }
+
+    fn valid(&self) -> bool {
+        self.core.valid()
+    }
+
+    ghost in_range = { λ it. IsWithin-place it.block.contents it.block.held.0 it.core.key.items it.core.spot it.within };
+}

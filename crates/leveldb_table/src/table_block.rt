@@ -1,0 +1,150 @@
+//! Blocks read from a table's file, each with its trailer.
+ghost use Rattle.std.specs.Prelude.{◌≡◌, ◌⊎◌, ◌≤◌, ◌<◌, ◌+◌, ◌^◌, ℕ, length, take, drop, List, IfOk, IfSome, IfNone, IsErrAnd};
+ghost use Rattle.leveldb_base.specs.declared.error.StatusCode.TheVariants.{InvalidArgument};
+ghost use Rattle.leveldb_env.specs.Coders.{Decodes};
+ghost use Rattle.leveldb_env.specs.FilterBlock.{IsFilterBlock};
+ghost use Rattle.leveldb_table.specs.Table.{StoresAt, HasBlockAt, with_trailer};
+ghost use Rattle.leveldb_table.specs.TableReads.{EndsBefore, StoresNothing, HasNoBlock, HasNoFilters, Reads, Whatever, IsDamaged, IsLacking};
+
+use crate::block::Block;
+use crate::table_builder::{TABLE_BLOCK_CKSUM_LEN, TABLE_BLOCK_COMPRESS_LEN};
+use bytes::Bytes;
+use leveldb_base::blockhandle::BlockHandle;
+use leveldb_base::cmp::Cmp;
+use leveldb_base::crc::{digest, mask_crc};
+use leveldb_base::error::{Result, StatusCode, err};
+use leveldb_env::compressor::{Coders, Compressor, CompressorList};
+use leveldb_env::env::Env;
+use leveldb_env::filter::FilterPolicy;
+use leveldb_env::filter_block::FilterBlockReader;
+use std::alloc::Global;
+
+// How many bytes the trailer has.
+const TRAILER: usize = TABLE_BLOCK_COMPRESS_LEN + TABLE_BLOCK_CKSUM_LEN;
+
+// At least so much room is made for a read, and not more than twice of what the file gave.
+const STEP: usize = 1 << 16;
+
+/// The block that a file has at a handle. Where a read is short, it goes on until all bytes came.
+/// `Corruption` for a handle past the file's end, a wrong checksum and bytes that are no block; `NotSupported` for an id
+/// without a coder; a coder's own code where it refuses the stored bytes.
+pub fn read_table_block<E: Env, C: Cmp + Drop>(
+    alloc: Global,
+    cmp: C,
+    env: &mut E,
+    file: &E::File,
+    coders: &CompressorList,
+    location: BlockHandle,
+) -> Result<Block<C>>
+    ensures reads { Reads E.Env (IsLacking E.Env (⟦<CompressorList as Coders>⟧.codings coders.now) (λ bytes. HasNoBlock (⟦<CompressorList as Coders>⟧.codings coders.now) (C.cmp cmp) bytes location) env.old file.now) env.old file.now env.new result }
+    ensures ok { IfOk result (λ block. Whatever E.Env env.old file.now (λ bytes. HasBlockAt (Decodes (⟦<CompressorList as Coders>⟧.codings coders.now)) bytes location block.contents)) }
+    ensures order { IfOk result (λ block. block.cmp ≡ cmp) }
+{
+    let (id, stored) = read_stored(alloc, env, file, location)?;
+    let block = coders.get(alloc, id)?.decode(alloc, stored)?;
+    Block::new(alloc, cmp, Bytes::from_vec(block)?)
+}
+
+/// The filters that a file has at a handle.
+/// `InvalidArgument` where the handle's size is 0, which stands for no filters. `Corruption` for a handle past the file's
+/// end, a wrong checksum, and what is no filter block or not stored as it is.
+pub fn read_filter_block<E: Env, FP: FilterPolicy + Drop>(
+    alloc: Global,
+    policy: FP,
+    env: &mut E,
+    file: &E::File,
+    location: BlockHandle,
+) -> Result<FilterBlockReader<FP>>
+    ensures reads { Reads E.Env (λ status. ((status.code ≡ InvalidArgument) × (location.size ≡ 0)) ⊎ IsDamaged E.Env (λ bytes. HasNoFilters bytes location) env.old file.now status) env.old file.now env.new result }
+    ensures ok { IfOk result (λ reader. Whatever E.Env env.old file.now (λ bytes. (text : List ℕ) × StoresAt bytes location 0 text × IsFilterBlock text reader.filters)) }
+    ensures policy { IfOk result (λ reader. reader.policy ≡ policy) }
+    ensures none { location.size ≡ 0 → IsErrAnd result (λ status. status.code ≡ InvalidArgument) }
+{
+    if location.size() == 0 {
+        return err(
+            alloc,
+            StatusCode::InvalidArgument,
+            "no filter block in empty location",
+        );
+    }
+    let (id, stored) = read_stored(alloc, env, file, location)?;
+    if id != 0 {
+        return err(alloc, StatusCode::Corruption, "a filter block is coded");
+    }
+    FilterBlockReader::new_owned(alloc, policy, stored)
+}
+
+// The stored bytes at a handle, and the id behind them.
+fn read_stored<E: Env>(
+    alloc: Global,
+    env: &mut E,
+    file: &E::File,
+    location: BlockHandle,
+) -> Result<(u8, Vec<u8>)>
+    ensures reads { Reads E.Env (IsDamaged E.Env (λ bytes. StoresNothing bytes location) env.old file.now) env.old file.now env.new result }
+    ensures ok { IfOk result (λ found. Whatever E.Env env.old file.now (λ bytes. StoresAt bytes location found.0 found.1.items)) }
+{
+    let (offset, size) = (location.offset(), location.size());
+    let Some(total) = size.checked_add(TRAILER) else {
+        return err(alloc, StatusCode::Corruption, "a block is past the file");
+    };
+    let mut stored = read_bytes(alloc, env, file, offset, total)?;
+    let Some(id) = checked_id(&stored, size) else {
+        return err(
+            alloc,
+            StatusCode::Corruption,
+            "a block has a wrong checksum",
+        );
+    };
+    stored.truncate(size);
+    Ok((id, stored))
+}
+
+// The id behind so many stored bytes, where the checksum behind it is right.
+fn checked_id(bytes: &[u8], size: usize) -> Option<u8>
+    requires { length bytes.now ≡ size + 5 }
+    ensures some { IfSome result (λ id. bytes.now ≡ with_trailer id (take size bytes.now)) }
+    ensures none { IfNone result ((id : ℕ) (stored : List ℕ) → length stored ≡ size → bytes.now ≡ with_trailer id stored → ⊥) }
+{
+    let (stored, sum) = bytes.split_at(size + TABLE_BLOCK_COMPRESS_LEN);
+    let mut digest = digest();
+    digest.update(stored);
+    let right = mask_crc(digest.finalize()).to_le_bytes();
+    if sum != right.as_slice() {
+        return None;
+    }
+    Some(stored[size])
+}
+
+/// So many bytes of a file from a place on; `Corruption` where the file ends before. It takes no more memory than twice
+/// what the file gave, and a step.
+pub(crate) fn read_bytes<E: Env>(
+    alloc: Global,
+    env: &mut E,
+    file: &E::File,
+    place: usize,
+    size: usize,
+) -> Result<Vec<u8>>
+    ensures reads { Reads E.Env (IsDamaged E.Env (λ bytes. EndsBefore bytes place size) env.old file.now) env.old file.now env.new result }
+    ensures ok { IfOk result (λ read. Whatever E.Env env.old file.now (λ bytes. read.items ≡ take size (drop place bytes))) }
+    ensures size { IfOk result (λ read. length read.items ≡ size) }
+{
+    let mut read = Vec::new(alloc);
+    while read.len() < size {
+        let Some(next) = place.checked_add(read.len()) else {
+            return err(alloc, StatusCode::Corruption, "a block is past the file");
+        };
+        let known = read.len();
+        let more = (size - known).min(known.max(STEP));
+        read.resize(known + more, 0)?;
+        let came = env.read_at(file, next, &mut read[known..])?;
+        if came == 0 {
+            return err(alloc, StatusCode::Corruption, "a block is past the file");
+        }
+        read.truncate(known + came);
+    }
+    Ok(read)
+}
+
+#[cfg(test)]
+mod tests;

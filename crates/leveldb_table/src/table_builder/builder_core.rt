@@ -1,0 +1,403 @@
+//! What a table builder knows of its table, without the sink that the table goes to.
+ghost use Rattle.std.specs.Prelude.{◌≡◌, ◌≢◌, ◌⊎◌, ◌+◌, ◌-◌, ◌^◌, min, ◌<◌, ◌≤◌, ◌++◌, ◌∷◌, [], ℕ, List, Bool, true, false, Option, None, Some, Ok, IfOk, IfErr, IfSome, OnOk, OnErr, IsErrAnd, length, codes, max};
+ghost use Rattle.std.specs.declared.cmp.Ordering.TheVariants.{Less, Greater};
+ghost use Rattle.leveldb_base.specs.Bytewise.{bytewise};
+ghost use Rattle.leveldb_base.specs.Handle.{Handle, handle_bytes, HandleFits};
+ghost use Rattle.leveldb_base.specs.Places.{Pair};
+ghost use Rattle.leveldb_base.specs.Status.{IsOutOfMemory};
+ghost use Rattle.leveldb_base.specs.declared.error.StatusCode.TheVariants.{NotSupported};
+ghost use Rattle.leveldb_env.specs.Coders.{Codings, Decodes, IsUnset};
+ghost use Rattle.leveldb_table.specs.Block.{IsBlock, KeysRise, pairs_of};
+ghost use Rattle.leveldb_table.specs.Built.{IsTooLarge, last_added};
+ghost use Rattle.leveldb_table.specs.Footer.{footer_bytes};
+ghost use Rattle.leveldb_table.specs.Table.{filter_key};
+ghost use Rattle.leveldb_table.specs.TablePuts.{IsTooLong, GivesUp, PutsFooter, EndsEarly};
+ghost use Rattle.leveldb_table.specs.TableStages.{IsSound, stage_of};
+ghost use Rattle.leveldb_table.specs.TableStageLaws.{IsSound-prop};
+
+use super::footer::{FULL_FOOTER_LENGTH, Footer};
+use super::put_block::{put_coded, put_stored};
+use crate::block_builder::BlockBuilder;
+use leveldb_base::blockhandle::BlockHandle;
+use leveldb_base::cmp::{Cmp, DefaultCmp};
+use leveldb_base::error::{Result, StatusCode, err};
+use leveldb_env::compressor::{Coders, CompressorId, CompressorList, NoneCompressor};
+use leveldb_env::env::Sink;
+use leveldb_env::filter::FilterPolicy;
+use leveldb_env::filter_block::FilterBlockBuilder;
+use leveldb_env::options::Options;
+use std::alloc::Global;
+use std::mem::replace;
+
+/// What a builder knows of its table, without the sink that the table goes to and the list of coders: each call is given
+/// these. A refused call breaks the builder.
+#[derive(Drop)]
+pub struct BuilderCore<C: Cmp, FP: FilterPolicy> {
+    alloc: Global,
+    block_size: usize,
+
+    // the id of the coder
+    compressor: u8,
+
+    // the data block that is still open
+    block: BlockBuilder<C>,
+    index: BlockBuilder<C>,
+    filter: FilterBlockBuilder<FP>,
+
+    // how many bytes were put into the sink
+    offset: usize,
+    count: usize,
+    broken: bool,
+    pub ghost sound: { broken ≡ false → IsSound (C.accepts block.cmp) (C.cmp block.cmp) (C.cmp index.cmp) (stage_of filter offset (pairs_of None index.built.0) (pairs_of None block.built.0) count) } by { λ u v. λ i h. IsSound-prop (C.accepts block.cmp) (C.cmp block.cmp) (C.cmp index.cmp) (stage_of filter offset (pairs_of None index.built.0) (pairs_of None block.built.0) count) (u h) (v h) i },
+}
+
+impl<C: Cmp + Copy, FP: FilterPolicy> BuilderCore<C, FP> {
+    ghost use Rattle.leveldb_table.specs.Table.{filter_key};
+    ghost use Rattle.leveldb_table.specs.TableStages.{Closes, first_key, with_pair};
+    ghost use Rattle.leveldb_table.specs.TableBuilding.{stage, last_of, order_of, policy_of, IsBegun, IsBroken, IsReady, Ready, IsBuilt, IsFull, table_estimate, PutsEnd, ClosesLast, MakesRoom, Adds, Finishes};
+    ghost use Rattle.leveldb_table.specs.TableAdds.{ClosesBlock, HasRoom, TriesOpen, IsNotClosed, IsRefusedAdd};
+
+    /// A builder under the options' order and policy as they are.
+    pub fn new(alloc: Global, options: &Options<C, FP>) -> BuilderCore<C, FP>
+    where
+        FP: Copy,
+        ensures begun { (codings : Codings) → IsBegun codings C.accepts C.cmp C.shortest_sep FP.matches result [] [] }
+        ensures unbroken { result.broken ≡ false }
+        ensures none { result.count ≡ 0 }
+        ensures order { order_of result ≡ options.now.cmp }
+        ensures policy { policy_of result ≡ options.now.filter_policy }
+        ensures coder { result.compressor ≡ options.now.compressor }
+        ensures size { result.block_size ≡ options.now.block_size }
+        ensures interval { (result.block.interval ≡ max 1 options.now.block_restart_interval) × (result.index.interval ≡ max 1 options.now.block_restart_interval) }
+    {
+        BuilderCore::under(alloc, options.cmp, options.filter_policy, options)
+    }
+
+    /// A builder under this order and this policy, with the other choices of the options.
+    pub fn under<D, E>(
+        alloc: Global,
+        cmp: C,
+        policy: FP,
+        options: &Options<D, E>,
+    ) -> BuilderCore<C, FP>
+        ensures begun { (codings : Codings) → IsBegun codings C.accepts C.cmp C.shortest_sep FP.matches result [] [] }
+        ensures unbroken { result.broken ≡ false }
+        ensures none { result.count ≡ 0 }
+        ensures order { order_of result ≡ cmp }
+        ensures policy { policy_of result ≡ policy }
+        ensures coder { result.compressor ≡ options.now.compressor }
+        ensures size { result.block_size ≡ options.now.block_size }
+        ensures interval { (result.block.interval ≡ max 1 options.now.block_restart_interval) × (result.index.interval ≡ max 1 options.now.block_restart_interval) }
+    {
+        let interval = options.block_restart_interval.max(1);
+        BuilderCore {
+            alloc,
+            block_size: options.block_size,
+            compressor: options.compressor,
+            block: BlockBuilder::spaced(alloc, cmp, interval),
+            index: BlockBuilder::spaced(alloc, cmp, interval),
+            filter: FilterBlockBuilder::new(alloc, policy),
+            offset: 0,
+            count: 0,
+            broken: false,
+        }
+    }
+
+    /// How many pairs were added.
+    pub fn entries(&self) -> usize
+        ensures { result ≡ self.now.count }
+    {
+        self.count
+    }
+
+    /// About how many bytes the table would have if it were finished now: those that were put, the open block, the
+    /// filters, the index and the footer.
+    pub fn size_estimate(&self) -> usize
+        ensures { result ≡ min (table_estimate self.now) (2 ^ 64 - 1) }
+    {
+        self.block
+            .size_estimate()
+            .saturating_add(self.index.size_estimate())
+            .saturating_add(self.filter.size_estimate())
+            .saturating_add(self.offset)
+            .saturating_add(FULL_FOOTER_LENGTH)
+    }
+
+    /// Adds a pair whose key is after all others. An open block that is full is written before.
+    pub fn add<S: Sink>(
+        &mut self,
+        sink: &mut S,
+        coders: &CompressorList,
+        key: &[u8],
+        value: &[u8],
+    ) -> Result<()>
+        requires accepted { self.old.broken ≡ false → C.accepts (order_of self.old) key.now ≡ true }
+        requires rising { self.old.broken ≡ false → 0 < self.old.count → C.cmp (order_of self.old) (last_of self.old) key.now ≡ Less }
+        ensures ok { OnOk result (Adds S.puts
+            (IsBegun (⟦<CompressorList as Coders>⟧.codings coders.now) C.accepts C.cmp C.shortest_sep FP.matches self.old)
+            (IsBegun (⟦<CompressorList as Coders>⟧.codings coders.now) C.accepts C.cmp C.shortest_sep FP.matches self.new)
+            sink.old (key.now, value.now) sink.new) }
+        ensures full { OnOk result (IsFull self.old → (stage self.new).open_pairs ≡ (key.now, value.now) ∷ []) }
+        ensures closed { OnOk result (IsFull self.old → ClosesBlock (⟦<CompressorList as Coders>⟧.codings coders.now) self.old S.puts (key.now, value.now) self.new sink.old sink.new) }
+        ensures room { OnOk result ((IsFull self.old → ⊥) → (stage self.new ≡ with_pair (key.now, value.now) (stage self.old)) × (sink.new ≡ sink.old)) }
+        ensures last { OnOk result (last_of self.new ≡ key.now) }
+        ensures count { OnOk result (self.new.count ≡ self.old.count + 1) }
+        ensures unbroken { OnOk result ((self.old.broken ≡ false) × (self.new.broken ≡ false)) }
+        ensures order { order_of self.new ≡ order_of self.old }
+        ensures policy { policy_of self.new ≡ policy_of self.old }
+        ensures coder { self.new.compressor ≡ self.old.compressor }
+        ensures size { self.new.block_size ≡ self.old.block_size }
+        ensures interval { (self.new.block.interval ≡ self.old.block.interval) × (self.new.index.interval ≡ self.old.index.interval) }
+        ensures refused { OnErr result (self.new.broken ≡ true) }
+        ensures still { OnErr result (self.new.count ≡ self.old.count) }
+        ensures cause { IfErr result (λ status. IsRefusedAdd (⟦<CompressorList as Coders>⟧.codings coders.now) self.old S.puts (key.now, value.now) sink.old status sink.new) }
+        ensures unset { self.old.broken ≡ false → IsFull self.old → ⟦<CompressorList as Coders>⟧.codings coders.now self.old.compressor ≡ None
+            → IsErrAnd result (λ status. IsUnset self.old.compressor status ⊎ IsOutOfMemory status) × (sink.new ≡ sink.old) }
+        ensures sink { OnErr result (TriesOpen (⟦<CompressorList as Coders>⟧.codings coders.now) self.old S.puts sink.old sink.new) }
+        ensures broken { self.old.broken ≡ true → IsErrAnd result IsBroken × (sink.new ≡ sink.old) }
+        ensures unchanged { self.old.broken ≡ true → self.new ≡ self.old }
+    {
+        self.check_unbroken()?;
+        self.broken = true;
+        self.make_room(sink, coders, key)?;
+        self.filter.add_key(key)?;
+        self.block.add(key, value)?;
+        self.count = one_more(self.alloc, self.count)?;
+        self.broken = false;
+        Ok(())
+    }
+
+    /// Writes what is left of the table: the open block, the filters, the metaindex, the index and the footer. Answers how
+    /// many bytes the table has.
+    pub fn finish<S: Sink>(mut self, sink: &mut S, coders: &CompressorList) -> Result<usize>
+    where
+        C: Drop,
+        FP: Drop,
+        ensures ok { IfOk result (λ size. Finishes S.puts S.flushes (IsBegun (⟦<CompressorList as Coders>⟧.codings coders.now) C.accepts C.cmp C.shortest_sep FP.matches self)
+            (IsBuilt (⟦<CompressorList as Coders>⟧.codings coders.now) (C.accepts (order_of self)) (C.cmp (order_of self)) (C.shortest_sep (order_of self)) (C.short_succ (order_of self))
+            (FP.matches (policy_of self)) (FP.filter_for (policy_of self)) self.compressor (FP.name (policy_of self)))
+            sink.old size sink.new) }
+        ensures unbroken { OnOk result (self.broken ≡ false) }
+        ensures cause { IfErr result (λ status. EndsEarly S.puts S.flushes (λ status. ((self.broken ≡ true) × IsBroken status) ⊎ GivesUp (⟦<CompressorList as Coders>⟧.codings coders.now) self.compressor status) sink.old status sink.new) }
+        ensures broken { self.broken ≡ true → IsErrAnd result IsBroken × (sink.new ≡ sink.old) }
+    {
+        self.check_unbroken()?;
+        self.broken = true;
+        self.close_last(sink, coders)?;
+        self.put_end(sink, coders)
+    }
+
+    fn check_unbroken(&self) -> Result<()>
+        ensures ok { OnOk result (self.now.broken ≡ false) }
+        ensures err { IfErr result (λ status. (self.now.broken ≡ true) × IsBroken status) }
+    {
+        if self.broken {
+            return err(self.alloc, StatusCode::IOError, "reopen the store");
+        }
+        Ok(())
+    }
+
+    // Writes the open block where it is full; the next key is after all others.
+    fn make_room<S: Sink>(
+        &mut self,
+        sink: &mut S,
+        coders: &CompressorList,
+        next: &[u8],
+    ) -> Result<()>
+        requires broken { self.old.broken ≡ true }
+        requires sound { Ready C.accepts C.cmp self.old next.now }
+        requires some { (stage self.old).open_pairs ≡ [] → (stage self.old).lines ≡ [] }
+        ensures ok { OnOk result (MakesRoom S.puts
+            (IsBegun (⟦<CompressorList as Coders>⟧.codings coders.now) C.accepts C.cmp C.shortest_sep FP.matches self.old)
+            (Decodes (⟦<CompressorList as Coders>⟧.codings coders.now)) (C.accepts (order_of self.old)) (C.cmp (order_of self.old)) (C.shortest_sep (order_of self.old)) (FP.matches (policy_of self.old))
+            (FP.filter_for (policy_of self.old)) self.old.compressor (stage self.new) next.now sink.old sink.new) }
+        ensures full { OnOk result (IsFull self.old → (stage self.new).open_pairs ≡ []) }
+        ensures has_room { OnOk result (HasRoom (⟦<CompressorList as Coders>⟧.codings coders.now) self.old S.puts next.now self.new sink.old sink.new) }
+        ensures ready { OnOk result (Ready C.accepts C.cmp self.new next.now) }
+        ensures order { order_of self.new ≡ order_of self.old }
+        ensures policy { policy_of self.new ≡ policy_of self.old }
+        ensures coder { self.new.compressor ≡ self.old.compressor }
+        ensures size { self.new.block_size ≡ self.old.block_size }
+        ensures interval { (self.new.block.interval ≡ self.old.block.interval) × (self.new.index.interval ≡ self.old.index.interval) }
+        ensures count { self.new.count ≡ self.old.count }
+        ensures broken { self.new.broken ≡ true }
+        ensures cause { IfErr result (λ status. IsFull self.old × IsNotClosed (⟦<CompressorList as Coders>⟧.codings coders.now) self.old S.puts next.now sink.old status sink.new) }
+        ensures unset { IsFull self.old → ⟦<CompressorList as Coders>⟧.codings coders.now self.old.compressor ≡ None
+            → IsErrAnd result (λ status. IsUnset self.old.compressor status ⊎ IsOutOfMemory status) × (sink.new ≡ sink.old) }
+    {
+        if self.block.entries() > 0 && self.block.size_estimate() > self.block_size {
+            return self.close_block(sink, coders, next);
+        }
+        Ok(())
+    }
+
+    // Writes the open block where it has a pair; no key comes behind it.
+    fn close_last<S: Sink>(&mut self, sink: &mut S, coders: &CompressorList) -> Result<()>
+        requires broken { self.old.broken ≡ true }
+        requires sound { IsReady C.accepts C.cmp self.old }
+        requires some { (stage self.old).open_pairs ≡ [] → (stage self.old).lines ≡ [] }
+        ensures ok { OnOk result (ClosesLast S.puts
+            (IsBegun (⟦<CompressorList as Coders>⟧.codings coders.now) C.accepts C.cmp C.shortest_sep FP.matches self.old)
+            (Decodes (⟦<CompressorList as Coders>⟧.codings coders.now)) (C.accepts (order_of self.old)) (C.cmp (order_of self.old)) (C.shortest_sep (order_of self.old)) (C.short_succ (order_of self.old))
+            (FP.matches (policy_of self.old)) (FP.filter_for (policy_of self.old)) self.old.compressor (stage self.new) sink.old sink.new) }
+        ensures order { OnOk result (C.cmp self.new.index.cmp ≡ C.cmp (order_of self.old)) }
+        ensures policy { policy_of self.new ≡ policy_of self.old }
+        ensures coder { self.new.compressor ≡ self.old.compressor }
+        ensures cause { IfErr result (λ status. EndsEarly S.puts S.flushes (GivesUp (⟦<CompressorList as Coders>⟧.codings coders.now) self.old.compressor) sink.old status sink.new) }
+    {
+        if self.block.entries() == 0 {
+            return Ok(());
+        }
+        let last = self.block.last_key();
+        let next = self.block.order().find_short_succ(self.alloc, last)?;
+        self.close_block(sink, coders, &next)
+    }
+
+    // Writes the open block and puts its line into the index; the next key is at or after its last.
+    fn close_block<S: Sink>(
+        &mut self,
+        sink: &mut S,
+        coders: &CompressorList,
+        next: &[u8],
+    ) -> Result<()>
+        requires broken { self.old.broken ≡ true }
+        requires sound { IsReady C.accepts C.cmp self.old }
+        requires some { (stage self.old).open_pairs ≢ [] }
+        requires accepted { C.accepts (order_of self.old) next.now ≡ true }
+        requires behind { C.cmp (order_of self.old) (last_of self.old) next.now ≢ Greater }
+        ensures ok { OnOk result ((bytes : List ℕ) × S.puts sink.old bytes (Ok tt) sink.new
+            × Closes (Decodes (⟦<CompressorList as Coders>⟧.codings coders.now)) (C.cmp (order_of self.old)) (C.shortest_sep (order_of self.old)) (FP.filter_for (policy_of self.old))
+            self.old.compressor next.now (stage self.old) bytes (stage self.new)) }
+        ensures open_filter { OnOk result (IsReady C.accepts C.cmp self.new) }
+        ensures order { order_of self.new ≡ order_of self.old }
+        ensures policy { policy_of self.new ≡ policy_of self.old }
+        ensures fresh { OnOk result (self.new.block.built.0 ≡ []) }
+        ensures coder { self.new.compressor ≡ self.old.compressor }
+        ensures size { self.new.block_size ≡ self.old.block_size }
+        ensures interval { (self.new.block.interval ≡ self.old.block.interval) × (self.new.index.interval ≡ self.old.index.interval) }
+        ensures broken { self.new.broken ≡ true }
+        ensures count { self.new.count ≡ self.old.count }
+        ensures cause { IfErr result (λ status. IsNotClosed (⟦<CompressorList as Coders>⟧.codings coders.now) self.old S.puts next.now sink.old status sink.new) }
+        ensures unset { ⟦<CompressorList as Coders>⟧.codings coders.now self.old.compressor ≡ None
+            → IsErrAnd result (λ status. IsUnset self.old.compressor status ⊎ IsOutOfMemory status) × (sink.new ≡ sink.old) }
+    {
+        let last = self.block.last_key();
+        let separator = self
+            .block
+            .order()
+            .find_shortest_sep(self.alloc, last, next)?;
+        let fresh = self.block.fresh();
+        let block = replace(&mut self.block, fresh).into_bytes()?;
+        let placed = put_coded(
+            self.alloc,
+            sink,
+            coders,
+            self.compressor,
+            self.offset,
+            block,
+        )?;
+        self.offset = placed.end;
+        add_handle(&mut self.index, &separator, placed.handle)?;
+        self.filter.start_block(self.offset)
+    }
+
+    // Writes all that comes behind the data blocks.
+    fn put_end<S: Sink>(self, sink: &mut S, coders: &CompressorList) -> Result<usize>
+    where
+        C: Drop,
+        FP: Drop,
+        ensures ok { IfOk result (λ size. PutsEnd S.puts S.flushes (Decodes (⟦<CompressorList as Coders>⟧.codings coders.now)) (C.cmp self.index.cmp) (FP.filter_for (policy_of self)) self.compressor (FP.name (policy_of self)) (stage self) sink.old size sink.new) }
+        ensures cause { IfErr result (λ status. EndsEarly S.puts S.flushes (GivesUp (⟦<CompressorList as Coders>⟧.codings coders.now) self.compressor) sink.old status sink.new) }
+    {
+        let BuilderCore {
+            alloc,
+            compressor,
+            index,
+            filter,
+            offset,
+            ..
+        } = self;
+        let name = filter.filter_name();
+        let filters = put_stored(alloc, sink, NoneCompressor::ID, offset, filter.finish()?)?;
+        let meta = metaindex(alloc, index.interval(), name, filters.handle)?;
+        let meta = put_coded(alloc, sink, coders, compressor, filters.end, meta)?;
+        let index = put_coded(
+            alloc,
+            sink,
+            coders,
+            compressor,
+            meta.end,
+            index.into_bytes()?,
+        )?;
+        put_footer(
+            alloc,
+            sink,
+            index.end,
+            Footer::new(meta.handle, index.handle),
+        )
+    }
+}
+
+// One more pair.
+fn one_more(alloc: Global, count: usize) -> Result<usize>
+    ensures ok { IfOk result (λ more. more ≡ count + 1) }
+    ensures cause { IfErr result (IsTooLong (count + 1)) }
+{
+    match count.checked_add(1) {
+        Some(more) => Ok(more),
+        None => err(
+            alloc,
+            StatusCode::NotSupported,
+            "a table has fewer than 2^64 pairs",
+        ),
+    }
+}
+
+// Adds a pair with a handle's bytes for its value.
+fn add_handle<C: Cmp>(index: &mut BlockBuilder<C>, key: &[u8], handle: BlockHandle) -> Result<()>
+    requires rise { KeysRise (C.cmp index.old.cmp) (pairs_of None index.old.built.0 ++ (key.now, handle_bytes handle) ∷ []) }
+    requires fits { HandleFits handle }
+    ensures ok { OnOk result (pairs_of None index.new.built.0 ≡ pairs_of None index.old.built.0 ++ (key.now, handle_bytes handle) ∷ []) }
+    ensures order { index.new.cmp ≡ index.old.cmp }
+    ensures interval { index.new.interval ≡ index.old.interval }
+    ensures too_large { IsErrAnd result (λ status. status.code ≡ NotSupported) → IsTooLarge index.old.built.0 key.now (handle_bytes handle) }
+    ensures cause { IfErr result (λ status. (status.code ≡ NotSupported) ⊎ IsOutOfMemory status) }
+{
+    let mut bytes = [0; 20];
+    let used = handle.encode_to(&mut bytes);
+    index.add(key, &bytes[..used])
+}
+
+// The metaindex: under the policy's name where its filters stand.
+fn metaindex(alloc: Global, interval: usize, name: &str, filters: BlockHandle) -> Result<Vec<u8>>
+    requires some { 1 ≤ interval }
+    requires fits { HandleFits filters }
+    ensures ok { IfOk result (λ block. IsBlock bytewise block.items ((filter_key name.now, handle_bytes filters) ∷ [])) }
+    ensures cause { IfErr result (λ status. (status.code ≡ NotSupported) ⊎ IsOutOfMemory status) }
+{
+    let mut builder = BlockBuilder::spaced(alloc, DefaultCmp, interval);
+    let key = format!(in alloc; "filter.{name}")?;
+    add_handle(&mut builder, key.as_bytes(), filters)?;
+    builder.into_bytes()
+}
+
+// Puts the footer behind the index, which ends at this offset, and flushes the sink. Answers where the footer ends.
+fn put_footer<S: Sink>(alloc: Global, sink: &mut S, offset: usize, footer: Footer) -> Result<usize>
+    requires meta { HandleFits footer.meta_index }
+    requires index { HandleFits footer.index }
+    ensures ok { IfOk result (λ end. PutsFooter S.puts S.flushes (footer_bytes footer.meta_index footer.index) offset sink.old end sink.new) }
+    ensures cause { IfErr result (λ status. EndsEarly S.puts S.flushes (λ status. status.code ≡ NotSupported) sink.old status sink.new) }
+{
+    let Some(end) = offset.checked_add(FULL_FOOTER_LENGTH) else {
+        return err(
+            alloc,
+            StatusCode::NotSupported,
+            "a table has offsets of 64 bits",
+        );
+    };
+    let mut bytes = [0; FULL_FOOTER_LENGTH];
+    footer.encode(&mut bytes);
+    sink.put_all(&bytes)?;
+    sink.flush()?;
+    Ok(end)
+}

@@ -1,0 +1,263 @@
+//! Tables: files that are opened once, and then looked up and walked block by block.
+ghost use Rattle.std.specs.Prelude.{◌≡◌, ◌⊎◌, ◌+◌, ◌^◌, ◌<◌, List, ℕ, Bool, true, None, Some, length, map, IfOk, IfSome, IfErr, OnErr, IsErrAnd};
+ghost use Rattle.leveldb_base.specs.Bytewise.{bytewise};
+ghost use Rattle.leveldb_base.specs.Handle.{Handle, handle_bytes, HandleFits};
+ghost use Rattle.leveldb_base.specs.Places.{Pair};
+ghost use Rattle.leveldb_base.specs.Status.{IsOutOfMemory};
+ghost use Rattle.leveldb_base.specs.declared.error.StatusCode.TheVariants.{Corruption, NotSupported};
+ghost use Rattle.leveldb_env.specs.Coders.{Codings, Decodes};
+ghost use Rattle.leveldb_table.specs.Block.{IsBlock, pairs_of};
+ghost use Rattle.leveldb_table.specs.Table.{Part, HasBlockAt, index_pair, filter_key, offset_for};
+ghost use Rattle.leveldb_table.specs.Cache.{looked_for};
+ghost use Rattle.leveldb_table.specs.TableCached.{HoldsOf, IsOf, Gathers, IsHeldAt, cache_key};
+ghost use Rattle.leveldb_table.specs.TableReads.{HasNoBlock, Reads, Has, Whatever, IsLacking};
+
+use crate::block::Block;
+use crate::block_cache::{BlockCache, CachedBlock, cache_key};
+use crate::cache::CacheID;
+use crate::table_block::read_table_block;
+use crate::table_builder::Footer;
+use bytes::Bytes;
+use leveldb_base::blockhandle::BlockHandle;
+use leveldb_base::cmp::{Cmp, DefaultCmp, InternalKeyCmp, UserCmp};
+use leveldb_base::error::{Result, StatusCode, err};
+use leveldb_base::types::LdbIterator;
+use leveldb_env::compressor::{Coders, CompressorList};
+use leveldb_env::env::Env;
+use leveldb_env::filter::{FilterPolicy, InternalFilterPolicy};
+use leveldb_env::filter_block::FilterBlockReader;
+use leveldb_env::options::Options;
+use open::{read_filters, read_footer};
+use std::alloc::Global;
+
+mod iter;
+mod laws;
+mod open;
+mod walk;
+
+pub use iter::TableIterator;
+pub use laws::{
+    internal_keys_stand_together, opened_tables_are_theirs, raw_keys_stand_together,
+    refused_keys_are_not_there, tables_can_be_opened, tables_have_one_list,
+};
+pub use walk::TableCore;
+
+/// An open table: its file, its index, and its filters where it has some under the policy's name.
+#[derive(Drop)]
+pub struct Table<E: Env, C: Cmp, FP: FilterPolicy> {
+    cmp: C,
+    file: E::File,
+
+    // by which its blocks are told from others in a cache
+    id: CacheID,
+    footer: Footer,
+    index: Block<C>,
+    filters: Option<FilterBlockReader<FP>>,
+}
+
+impl<E: Env, C: UserCmp + Copy + Drop, FP: FilterPolicy + Copy + Drop> Table<
+    E,
+    InternalKeyCmp<C>,
+    InternalFilterPolicy<FP>,
+> {
+    ghost use Rattle.leveldb_base.specs.Keys.{internal_cmp};
+    ghost use Rattle.leveldb_table.specs.TableReading.{Opens, OpensNot, lines_of, filters_of};
+
+    /// Opens the table of internal keys that a file of `size` bytes is, under the options' order of users' keys and their
+    /// filter policy. It gets a number of its own for its blocks in the cache.
+    /// `Corruption` where the file is no table; the causes of `read_table_block`; `NotSupported` where the cache's numbers
+    /// are used up.
+    pub fn new(
+        alloc: Global,
+        options: &Options<C, FP>,
+        env: &mut E,
+        cache: &mut BlockCache<InternalKeyCmp<C>>,
+        file: E::File,
+        size: usize,
+    ) -> Result<Table<E, InternalKeyCmp<C>, InternalFilterPolicy<FP>>>
+        ensures reads { Reads E.Env (λ status. ((status.code ≡ NotSupported) × (cache.old.given + 1 ≡ 2 ^ 64)) ⊎
+            IsLacking E.Env (⟦<CompressorList as Coders>⟧.codings options.now.compressor_list) (λ bytes. length bytes ≡ size → OpensNot (⟦<CompressorList as Coders>⟧.codings options.now.compressor_list) (internal_cmp (C.cmp options.now.cmp)) (filter_key (FP.name options.now.filter_policy)) bytes) env.old file status) env.old file env.new result }
+        ensures ok { IfOk result (λ table. Whatever E.Env env.old file (λ bytes. length bytes ≡ size →
+            Opens (⟦<CompressorList as Coders>⟧.codings options.now.compressor_list) (internal_cmp (C.cmp options.now.cmp)) (filter_key (FP.name options.now.filter_policy)) bytes (lines_of table) table.footer.meta_index table.footer.index (filters_of table))) }
+        ensures file { IfOk result (λ table. table.file ≡ file) }
+        ensures order { IfOk result (λ table. (table.cmp ≡ record { 0 = options.now.cmp }) × (table.index.cmp ≡ record { 0 = options.now.cmp })) }
+        ensures policy { IfOk result (λ table. IfSome table.filters (λ reader. reader.policy ≡ options.now.filter_policy)) }
+        ensures id { IfOk result (λ table. (table.id ≡ cache.old.given + 1) × (cache.new ≡ record cache.old { given = table.id })) }
+        ensures err { OnErr result (cache.new ≡ cache.old) }
+    {
+        Table::open(
+            alloc,
+            InternalKeyCmp(options.cmp),
+            InternalFilterPolicy::new(options.filter_policy),
+            &options.compressor_list,
+            env,
+            cache,
+            file,
+            size,
+        )
+    }
+}
+
+impl<E: Env, C: Cmp + Copy + Drop, FP: FilterPolicy + Drop> Table<E, C, FP> {
+    ghost use Rattle.leveldb_table.specs.TableReading.{Opens, OpensNot, lines_of, filters_of};
+
+    /// Opens the table that a file of `size` bytes is, under this order and this policy as they are.
+    pub fn open(
+        alloc: Global,
+        cmp: C,
+        policy: FP,
+        coders: &CompressorList,
+        env: &mut E,
+        cache: &mut BlockCache<C>,
+        file: E::File,
+        size: usize,
+    ) -> Result<Table<E, C, FP>>
+        ensures reads { Reads E.Env (λ status. ((status.code ≡ NotSupported) × (cache.old.given + 1 ≡ 2 ^ 64)) ⊎
+            IsLacking E.Env (⟦<CompressorList as Coders>⟧.codings coders.now) (λ bytes. length bytes ≡ size → OpensNot (⟦<CompressorList as Coders>⟧.codings coders.now) (C.cmp cmp) (filter_key (FP.name policy)) bytes) env.old file status) env.old file env.new result }
+        ensures ok { IfOk result (λ table. Whatever E.Env env.old file (λ bytes. length bytes ≡ size →
+            Opens (⟦<CompressorList as Coders>⟧.codings coders.now) (C.cmp cmp) (filter_key (FP.name policy)) bytes (lines_of table) table.footer.meta_index table.footer.index (filters_of table))) }
+        ensures file { IfOk result (λ table. table.file ≡ file) }
+        ensures order { IfOk result (λ table. (table.cmp ≡ cmp) × (table.index.cmp ≡ cmp)) }
+        ensures policy { IfOk result (λ table. IfSome table.filters (λ reader. reader.policy ≡ policy)) }
+        ensures id { IfOk result (λ table. (table.id ≡ cache.old.given + 1) × (cache.new ≡ record cache.old { given = table.id })) }
+        ensures err { OnErr result (cache.new ≡ cache.old) }
+    {
+        let footer = read_footer(alloc, env, &file, size)?;
+        let index = read_table_block(alloc, cmp, env, &file, coders, footer.index)?;
+        let metas = read_table_block(alloc, DefaultCmp, env, &file, coders, footer.meta_index)?;
+        let filters = read_filters(alloc, policy, env, &file, &metas)?;
+        let id = cache.new_cache_id()?;
+        Ok(Table {
+            cmp,
+            file,
+            id,
+            footer,
+            index,
+            filters,
+        })
+    }
+}
+
+impl<E: Env, C: Cmp + Copy + Drop, FP: FilterPolicy> Table<E, C, FP> {
+    ghost use Rattle.leveldb_table.specs.Table.{AreAccepted};
+    ghost use Rattle.leveldb_table.specs.TableReading.{HasParts, AllFit, found_in, lines_of, lets};
+    ghost use Rattle.leveldb_table.specs.TableWalk.{IsGiven};
+
+    /// The offset of the block that would hold the key, and past the last that of the metaindex.
+    /// `Corruption` where the index names no place for the key.
+    pub fn approx_offset_of(&self, alloc: Global, key: &[u8]) -> Result<usize>
+        ensures ok { (parts : List Part) → lines_of self.now ≡ map index_pair parts → AllFit parts → IfOk result (λ offset. offset ≡ offset_for (C.cmp self.now.index.cmp) key.now parts self.now.footer.meta_index) }
+        ensures cause { IfErr result (λ status. IsOutOfMemory status ⊎ ((status.code ≡ Corruption) × ((parts : List Part) → lines_of self.now ≡ map index_pair parts → AllFit parts → ⊥))) }
+    {
+        let mut lines = self.index.iter(alloc);
+        lines.seek(key)?;
+        let Some((_, value)) = lines.current() else {
+            return Ok(self.footer.meta_index.offset());
+        };
+        Ok(whole_handle(alloc, value)?.offset())
+    }
+
+    /// The first pair at or after the key, or none where the filters refuse the key at the block that the index names for it,
+    /// or no such pair is there. The key is copied, and the value's bytes are shared with their block.
+    pub fn get(
+        &self,
+        alloc: Global,
+        env: &mut E,
+        cache: &mut BlockCache<C>,
+        coders: &CompressorList,
+        key: &[u8],
+    ) -> Result<Option<(Bytes, Bytes)>>
+        ensures reads { Reads E.Env (IsLacking E.Env (⟦<CompressorList as Coders>⟧.codings coders.now) (λ bytes. (parts : List Part) → lines_of self.now ≡ map index_pair parts → C.cmp self.now.index.cmp ≡ C.cmp self.now.cmp
+            → HasParts (⟦<CompressorList as Coders>⟧.codings coders.now) (C.cmp self.now.cmp) bytes parts → AreAccepted (C.accepts self.now.cmp) parts → C.accepts self.now.cmp key.now ≡ true
+            → HoldsOf (⟦<CompressorList as Coders>⟧.codings coders.now) (C.cmp self.now.cmp) self.now.id bytes cache.old → ⊥) env.old self.now.file) env.old self.now.file env.new result }
+        ensures ok { Whatever E.Env env.old self.now.file (λ bytes. (parts : List Part) → lines_of self.now ≡ map index_pair parts → C.cmp self.now.index.cmp ≡ C.cmp self.now.cmp
+            → HasParts (⟦<CompressorList as Coders>⟧.codings coders.now) (C.cmp self.now.cmp) bytes parts → AreAccepted (C.accepts self.now.cmp) parts → C.accepts self.now.cmp key.now ≡ true
+            → HoldsOf (⟦<CompressorList as Coders>⟧.codings coders.now) (C.cmp self.now.cmp) self.now.id bytes cache.old
+            → IfOk result (λ found. found ≡ found_in (C.cmp self.now.cmp) (lets FP.matches self.now) key.now parts)) }
+        ensures given { Whatever E.Env env.old self.now.file (λ bytes. HoldsOf (⟦<CompressorList as Coders>⟧.codings coders.now) (C.cmp self.now.cmp) self.now.id bytes cache.old
+            → IfOk result (λ found. IfSome found (IsGiven (⟦<CompressorList as Coders>⟧.codings coders.now) (C.cmp self.now.cmp) bytes (lines_of self.now)))) }
+        ensures gathers { Gathers self.now.id (λ offset held. Whatever E.Env env.old self.now.file (λ bytes. IsOf (⟦<CompressorList as Coders>⟧.codings coders.now) (C.cmp self.now.cmp) bytes offset held)) cache.old cache.new }
+    {
+        let mut core = TableCore::new(alloc, self)?;
+        if core.seek_let(self, env, cache, coders, key)? {
+            return core.into_pair();
+        }
+        Ok(None)
+    }
+
+    // Whether the filters let a key pass at an offset; without filters each key passes.
+    fn lets(&self, offset: usize, key: &[u8]) -> bool
+        ensures { result ≡ lets FP.matches self.now offset key.now }
+    {
+        match &self.filters {
+            Some(filters) => filters.key_may_match(offset, key),
+            None => true,
+        }
+    }
+
+    // The block at a handle, from the cache or from the file, and then it is in the cache too.
+    fn read_block(
+        &self,
+        alloc: Global,
+        env: &mut E,
+        cache: &mut BlockCache<C>,
+        coders: &CompressorList,
+        handle: BlockHandle,
+    ) -> Result<Block<C>>
+        ensures reads { Reads E.Env (IsLacking E.Env (⟦<CompressorList as Coders>⟧.codings coders.now) (λ bytes. HasNoBlock (⟦<CompressorList as Coders>⟧.codings coders.now) (C.cmp self.now.cmp) bytes handle) env.old self.now.file) env.old self.now.file env.new result }
+        ensures ok { IfOk result (λ block. Whatever E.Env env.old self.now.file (λ bytes. HoldsOf (⟦<CompressorList as Coders>⟧.codings coders.now) (C.cmp self.now.cmp) self.now.id bytes cache.old
+            → HasBlockAt (Decodes (⟦<CompressorList as Coders>⟧.codings coders.now)) bytes handle block.contents × (C.cmp block.cmp ≡ C.cmp self.now.cmp))) }
+        ensures gathers { Gathers self.now.id (λ offset held. Whatever E.Env env.old self.now.file (λ bytes. IsOf (⟦<CompressorList as Coders>⟧.codings coders.now) (C.cmp self.now.cmp) bytes offset held)) cache.old cache.new }
+    {
+        if let Some(found) = self.cached_block(cache, handle)? {
+            return Ok(found);
+        }
+        let block = read_table_block(alloc, self.cmp, env, &self.file, coders, handle)?;
+        let copy = block.clone()?;
+        cache.insert(
+            &cache_key(self.id, handle.offset()),
+            CachedBlock {
+                handle,
+                block: copy,
+            },
+        )?;
+        Ok(block)
+    }
+
+    // The block that the cache has at a handle, where it has one of the handle's size. It counts as used.
+    fn cached_block(
+        &self,
+        cache: &mut BlockCache<C>,
+        handle: BlockHandle,
+    ) -> Result<Option<Block<C>>>
+        ensures ok { IfOk result (λ found. IfSome found (IsHeldAt self.now.id handle cache.old)) }
+        ensures cache { cache.new ≡ record cache.old { pairs = looked_for (cache_key self.now.id handle.offset) cache.old.pairs } }
+        ensures memory { IfErr result IsOutOfMemory }
+    {
+        let Some(held) = cache.get(&cache_key(self.id, handle.offset())) else {
+            return Ok(None);
+        };
+        if held.handle.size() != handle.size() {
+            return Ok(None);
+        }
+        Ok(Some(held.block.clone()?))
+    }
+}
+
+// The handle that these bytes spell, and nothing else.
+fn whole_handle(alloc: Global, bytes: &[u8]) -> Result<BlockHandle>
+    ensures ok { IfOk result (λ handle. HandleFits handle × (bytes.now ≡ handle_bytes handle)) }
+    ensures err { IfErr result (λ status. (status.code ≡ Corruption) × ((handle : Handle) → HandleFits handle → bytes.now ≡ handle_bytes handle → ⊥)) }
+{
+    match BlockHandle::decode(bytes) {
+        Some((handle, used)) if used == bytes.len() => Ok(handle),
+        _ => err(
+            alloc,
+            StatusCode::Corruption,
+            "a table's index names no block",
+        ),
+    }
+}
+
+#[cfg(test)]
+mod tests;

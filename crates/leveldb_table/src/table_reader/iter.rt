@@ -1,0 +1,123 @@
+//! A walk over a table, beside borrows of what it takes.
+ghost use Rattle.std.specs.Prelude.{◌≡◌, None, Some, IfOk, IfErr, is_some, true};
+ghost use Rattle.leveldb_base.specs.Places.{next_place, previous_place, seek_place, place_within, pair_of};
+ghost use Rattle.leveldb_base.specs.Status.{IsOutOfMemory};
+
+use crate::block_cache::BlockCache;
+use crate::table_reader::{Table, TableCore};
+use leveldb_base::cmp::Cmp;
+use leveldb_base::error::Result;
+use leveldb_env::compressor::{Coders, CompressorList};
+use leveldb_env::env::Env;
+use leveldb_env::filter::FilterPolicy;
+use std::alloc::Global;
+
+/// A walk over a table's pairs, with the table, the `Env` that has its file and the cache of blocks lent to it. Each move
+/// is given the coders. A refused move leaves no place, and the walk goes on from there.
+#[derive(Drop)]
+pub struct TableIterator<'a, E: Env, C: Cmp + Drop, FP: FilterPolicy> {
+    pub core: TableCore<C>,
+    pub table: &'a Table<E, C, FP>,
+    pub env: &'a mut E,
+    pub cache: &'a mut BlockCache<C>,
+}
+
+impl<E: Env, C: Cmp + Copy + Drop, FP: FilterPolicy> Table<E, C, FP> {
+    ghost use Rattle.leveldb_table.specs.TableReading.{lines_of};
+    ghost use Rattle.leveldb_table.specs.TableWalk.{pairs_over};
+
+    /// A walk over the table's pairs, at no place.
+    pub fn iter<'a>(
+        &'a self,
+        alloc: Global,
+        env: &'a mut E,
+        cache: &'a mut BlockCache<C>,
+    ) -> Result<TableIterator<'a, E, C, FP>>
+        ensures lines { IfOk result (λ it. pairs_over it.core.index ≡ lines_of self.entry.now) }
+        ensures order { IfOk result (λ it. it.core.index.block.cmp ≡ self.entry.now.index.cmp) }
+        ensures place { IfOk result (λ it. it.core.inner ≡ None) }
+        ensures table { IfOk result (λ it. it.table.now ≡ self.entry.now) }
+        ensures env { IfOk result (λ it. it.env.now ≡ env.entry.now) }
+        ensures cache { IfOk result (λ it. it.cache.now ≡ cache.entry.now) }
+        ensures memory { IfErr result IsOutOfMemory }
+    {
+        Ok(TableIterator {
+            core: TableCore::new(alloc, self)?,
+            table: self,
+            env,
+            cache,
+        })
+    }
+}
+
+impl<'a, E: Env, C: Cmp + Copy + Drop, FP: FilterPolicy> TableIterator<'a, E, C, FP> {
+    ghost use Rattle.leveldb_table.specs.Table.{AreAccepted};
+    ghost use Rattle.leveldb_table.specs.TableWalk.{Moves, current_of, inner_place};
+
+    /// Goes to the next pair, from no place to the first, and from the last to no place.
+    /// Answers whether it stands on a pair.
+    pub fn advance(&mut self, coders: &CompressorList) -> Result<bool>
+        ensures moves { Moves E.Env (⟦<CompressorList as Coders>⟧.codings coders.now) (C.cmp self.old.table.now.cmp) self.old.table.now.id self.old.table.now.file (λ _. Unit {0}) next_place
+            self.old.env.now self.old.cache.now self.old.core result self.new.env.now self.new.cache.now self.new.core }
+        ensures table { self.new.table.now ≡ self.old.table.now }
+        ensures answer { IfOk result (λ there. there ≡ is_some (inner_place self.new.core.inner)) }
+    {
+        self.core.advance(self.table, self.env, self.cache, coders)
+    }
+
+    /// Goes to the pair before, and from the first or from no place to no place.
+    /// Answers whether it stands on a pair.
+    pub fn prev(&mut self, coders: &CompressorList) -> Result<bool>
+        ensures moves { Moves E.Env (⟦<CompressorList as Coders>⟧.codings coders.now) (C.cmp self.old.table.now.cmp) self.old.table.now.id self.old.table.now.file (λ _. Unit {0}) (λ _. previous_place)
+            self.old.env.now self.old.cache.now self.old.core result self.new.env.now self.new.cache.now self.new.core }
+        ensures table { self.new.table.now ≡ self.old.table.now }
+        ensures answer { IfOk result (λ there. there ≡ is_some (inner_place self.new.core.inner)) }
+    {
+        self.core.prev(self.table, self.env, self.cache, coders)
+    }
+
+    /// Goes to the first pair whose key is at or after `key`, or to no place where all keys are before it.
+    pub fn seek(&mut self, coders: &CompressorList, key: &[u8]) -> Result<()>
+        ensures moves { Moves E.Env (⟦<CompressorList as Coders>⟧.codings coders.now) (C.cmp self.old.table.now.cmp) self.old.table.now.id self.old.table.now.file (λ parts. AreAccepted (C.accepts self.old.table.now.cmp) parts × (C.accepts self.old.table.now.cmp key.now ≡ true)) (λ pairs _. seek_place (C.cmp self.old.table.now.cmp) pairs key.now)
+            self.old.env.now self.old.cache.now self.old.core result self.new.env.now self.new.cache.now self.new.core }
+        ensures table { self.new.table.now ≡ self.old.table.now }
+    {
+        self.core
+            .seek(self.table, self.env, self.cache, coders, key)
+    }
+
+    /// Goes to the first pair, or to no place in an empty table.
+    pub fn seek_to_first(&mut self, coders: &CompressorList) -> Result<()>
+        ensures moves { Moves E.Env (⟦<CompressorList as Coders>⟧.codings coders.now) (C.cmp self.old.table.now.cmp) self.old.table.now.id self.old.table.now.file (λ _. Unit {0}) (λ pairs _. place_within pairs 0)
+            self.old.env.now self.old.cache.now self.old.core result self.new.env.now self.new.cache.now self.new.core }
+        ensures table { self.new.table.now ≡ self.old.table.now }
+    {
+        self.core
+            .seek_to_first(self.table, self.env, self.cache, coders)
+    }
+
+    /// The key and the value of the pair on which it stands, lent until the walk moves.
+    pub fn current(&self) -> Option<(&[u8], &[u8])>
+        ensures { pair_of result ≡ current_of self.now.core }
+    {
+        self.core.current()
+    }
+
+    /// Goes to no place.
+    pub fn reset(&mut self)
+        ensures place { self.new.core.inner ≡ None }
+        ensures index { self.new.core.index ≡ self.old.core.index }
+        ensures table { self.new.table.now ≡ self.old.table.now }
+        ensures env { self.new.env.now ≡ self.old.env.now }
+        ensures cache { self.new.cache.now ≡ self.old.cache.now }
+    {
+        self.core.reset();
+    }
+
+    /// Whether it stands on a pair.
+    pub fn valid(&self) -> bool
+        ensures { result ≡ is_some (inner_place self.now.core.inner) }
+    {
+        self.core.valid()
+    }
+}

@@ -1,0 +1,83 @@
+//! What is read when a table is opened.
+ghost use Rattle.std.specs.Prelude.{◌≡◌, ◌⊎◌, ◌++◌, ℕ, List, Option, length, IfOk, IfErr, IfSome};
+ghost use Rattle.leveldb_base.specs.Handle.{Handle, HandleFits};
+ghost use Rattle.leveldb_base.specs.Status.{IsOutOfMemory};
+ghost use Rattle.leveldb_base.specs.declared.error.StatusCode.TheVariants.{Corruption};
+ghost use Rattle.leveldb_table.specs.Footer.{footer_bytes};
+ghost use Rattle.leveldb_table.specs.Table.{filter_key};
+ghost use Rattle.leveldb_table.specs.TableReading.{HasFiltersBy, SaysHandle, SaysNoHandle, value_under, filters_in};
+ghost use Rattle.leveldb_table.specs.TableReads.{Reads, Whatever, IsDamaged};
+
+use super::whole_handle;
+use crate::block::Block;
+use crate::table_block::{read_bytes, read_filter_block};
+use crate::table_builder::{FULL_FOOTER_LENGTH, Footer};
+use leveldb_base::blockhandle::BlockHandle;
+use leveldb_base::cmp::DefaultCmp;
+use leveldb_base::error::{Result, StatusCode, err};
+use leveldb_base::types::LdbIterator;
+use leveldb_env::env::Env;
+use leveldb_env::filter::FilterPolicy;
+use leveldb_env::filter_block::FilterBlockReader;
+use std::alloc::Global;
+
+/// The footer of a file of so many bytes.
+pub fn read_footer<E: Env>(
+    alloc: Global,
+    env: &mut E,
+    file: &E::File,
+    size: usize,
+) -> Result<Footer>
+    ensures reads { Reads E.Env (IsDamaged E.Env (λ bytes. length bytes ≡ size → (front : List ℕ) (meta index : Handle) → HandleFits meta → HandleFits index → bytes ≡ front ++ footer_bytes meta index → ⊥) env.old file.now) env.old file.now env.new result }
+    ensures ok { IfOk result (λ footer. Whatever E.Env env.old file.now (λ bytes. length bytes ≡ size → (front : List ℕ) × (bytes ≡ front ++ footer_bytes footer.meta_index footer.index))) }
+    ensures fits { IfOk result (λ footer. HandleFits footer.meta_index × HandleFits footer.index) }
+{
+    let Some(place) = size.checked_sub(FULL_FOOTER_LENGTH) else {
+        return err(
+            alloc,
+            StatusCode::Corruption,
+            "a file is too short for a table",
+        );
+    };
+    let bytes = read_bytes(alloc, env, file, place, FULL_FOOTER_LENGTH)?;
+    match Footer::decode(&bytes) {
+        Some(footer) => Ok(footer),
+        None => err(alloc, StatusCode::Corruption, "a table has a wrong footer"),
+    }
+}
+
+/// The filters that the metaindex names under the policy's name, where there are some.
+pub fn read_filters<E: Env, FP: FilterPolicy + Drop>(
+    alloc: Global,
+    policy: FP,
+    env: &mut E,
+    file: &E::File,
+    metas: &Block<DefaultCmp>,
+) -> Result<Option<FilterBlockReader<FP>>>
+    ensures reads { Reads E.Env (IsDamaged E.Env (λ bytes. (filters : Option (List (List ℕ))) → HasFiltersBy bytes (value_under (filter_key (FP.name policy)) metas.now) filters → ⊥) env.old file.now) env.old file.now env.new result }
+    ensures ok { IfOk result (λ filters. Whatever E.Env env.old file.now (λ bytes. HasFiltersBy bytes (value_under (filter_key (FP.name policy)) metas.now) (filters_in filters))) }
+    ensures policy { IfOk result (λ filters. IfSome filters (λ reader. reader.policy ≡ policy)) }
+{
+    let name = policy.name();
+    let key = format!(in alloc; "filter.{name}")?;
+    let Some(handle) = handle_under(alloc, metas, key.as_bytes())? else {
+        return Ok(None);
+    };
+    if handle.size() == 0 {
+        return Ok(None);
+    }
+    Ok(Some(read_filter_block(alloc, policy, env, file, handle)?))
+}
+
+// The handle that a metaindex has under a key.
+fn handle_under(alloc: Global, metas: &Block<DefaultCmp>, key: &[u8]) -> Result<Option<BlockHandle>>
+    ensures ok { IfOk result (λ handle. SaysHandle (value_under key.now metas.now) handle) }
+    ensures cause { IfErr result (λ status. IsOutOfMemory status ⊎ ((status.code ≡ Corruption) × SaysNoHandle (value_under key.now metas.now))) }
+{
+    let mut lines = metas.iter(alloc);
+    lines.seek(key)?;
+    match lines.current() {
+        Some((name, value)) if name == key => Ok(Some(whole_handle(alloc, value)?)),
+        _ => Ok(None),
+    }
+}

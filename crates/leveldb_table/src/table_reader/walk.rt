@@ -1,0 +1,388 @@
+//! A walk over a table that keeps no borrow of it.
+ghost use Rattle.std.specs.Prelude.{◌≡◌, ◌⊎◌, List, ℕ, None, Some, IfOk, IfErr, IfSome, OnOk, OnErr, IsErrAnd, is_some, true, map};
+ghost use Rattle.std.specs.Option.{IsSomeAnd};
+ghost use Rattle.leveldb_base.specs.Handle.{handle_bytes, HandleFits};
+ghost use Rattle.leveldb_base.specs.Places.{next_place, previous_place, seek_place, place_within, pair_of, pair_at};
+ghost use Rattle.leveldb_base.specs.Status.{IsOutOfMemory};
+ghost use Rattle.leveldb_base.specs.declared.error.StatusCode.TheVariants.{Corruption};
+ghost use Rattle.leveldb_table.specs.Table.{Part, HasBlockAt};
+ghost use Rattle.leveldb_table.specs.TableCached.{HoldsOf, IsOf, Gathers};
+ghost use Rattle.leveldb_table.specs.TableEnters.{LacksLine, IsBehind, IsBefore, let_place};
+ghost use Rattle.leveldb_table.specs.TableReads.{HasNoBlock, Reads, Whatever, IsLacking};
+ghost use Rattle.leveldb_table.specs.Walk.{last_place};
+
+use crate::block::BlockWalk;
+use crate::block_cache::BlockCache;
+use crate::table_reader::{Table, whole_handle};
+use bytes::Bytes;
+use leveldb_base::blockhandle::BlockHandle;
+use leveldb_base::cmp::Cmp;
+use leveldb_base::error::{Result, StatusCode, err};
+use leveldb_base::types::LdbIterator;
+use leveldb_env::compressor::{Coders, CompressorList};
+use leveldb_env::env::Env;
+use leveldb_env::filter::FilterPolicy;
+use std::alloc::Global;
+
+/// A place in a table, or none. Each move is given the table, always the same one, the `Env` that has its file, the cache
+/// of blocks and the coders.
+#[derive(Drop)]
+pub struct TableCore<C: Cmp> {
+    alloc: Global,
+
+    // at the line of the block where it stands
+    index: BlockWalk<C>,
+    inner: Option<BlockWalk<C>>,
+}
+
+impl<C: Cmp + Copy + Drop> TableCore<C> {
+    ghost use Rattle.leveldb_table.specs.TableEnters.{IsBlockAt, IsBlockOf, line_of, Enters};
+    ghost use Rattle.leveldb_table.specs.Table.{AreAccepted};
+    ghost use Rattle.leveldb_table.specs.TableReading.{pairs_in, lines_of, lets};
+    ghost use Rattle.leveldb_table.specs.TableWalk.{Moves, Stands, IsFrom, inner_block, inner_place, inner_pairs, current_of, pairs_over, place_over};
+
+    /// At no place.
+    pub fn new<E: Env, FP: FilterPolicy>(
+        alloc: Global,
+        table: &Table<E, C, FP>,
+    ) -> Result<TableCore<C>>
+        ensures lines { IfOk result (λ core. pairs_over core.index ≡ lines_of table.now) }
+        ensures order { IfOk result (λ core. core.index.block.cmp ≡ table.now.index.cmp) }
+        ensures place { IfOk result (λ core. core.inner ≡ None) }
+        ensures memory { IfErr result IsOutOfMemory }
+    {
+        Ok(TableCore {
+            alloc,
+            index: BlockWalk::new(alloc, table.index.clone()?),
+            inner: None,
+        })
+    }
+
+    /// Goes to the next pair, from no place to the first, and from the last to no place.
+    /// Answers whether it stands on a pair.
+    pub fn advance<E: Env, FP: FilterPolicy>(
+        &mut self,
+        table: &Table<E, C, FP>,
+        env: &mut E,
+        cache: &mut BlockCache<C>,
+        coders: &CompressorList,
+    ) -> Result<bool>
+        ensures moves { Moves E.Env (⟦<CompressorList as Coders>⟧.codings coders.now) (C.cmp table.now.cmp) table.now.id table.now.file (λ _. Unit {0}) next_place env.old cache.old self.old result env.new cache.new self.new }
+        ensures answer { IfOk result (λ there. there ≡ is_some (inner_place self.new.inner)) }
+    {
+        if !self.valid() {
+            self.index.reset();
+        } else if self.step_forward()? {
+            return Ok(true);
+        }
+        self.to_next_block(table, env, cache, coders)
+    }
+
+    /// Goes to the pair before, and from the first or from no place to no place.
+    /// Answers whether it stands on a pair.
+    pub fn prev<E: Env, FP: FilterPolicy>(
+        &mut self,
+        table: &Table<E, C, FP>,
+        env: &mut E,
+        cache: &mut BlockCache<C>,
+        coders: &CompressorList,
+    ) -> Result<bool>
+        ensures moves { Moves E.Env (⟦<CompressorList as Coders>⟧.codings coders.now) (C.cmp table.now.cmp) table.now.id table.now.file (λ _. Unit {0}) (λ _. previous_place) env.old cache.old self.old result env.new cache.new self.new }
+        ensures answer { IfOk result (λ there. there ≡ is_some (inner_place self.new.inner)) }
+    {
+        if !self.valid() {
+            return Ok(false);
+        }
+        if self.step_back()? {
+            return Ok(true);
+        }
+        self.to_block_before(table, env, cache, coders)
+    }
+
+    /// Goes to the first pair whose key is at or after `key`, or to no place where all keys are before it.
+    pub fn seek<E: Env, FP: FilterPolicy>(
+        &mut self,
+        table: &Table<E, C, FP>,
+        env: &mut E,
+        cache: &mut BlockCache<C>,
+        coders: &CompressorList,
+        key: &[u8],
+    ) -> Result<()>
+        ensures moves { Moves E.Env (⟦<CompressorList as Coders>⟧.codings coders.now) (C.cmp table.now.cmp) table.now.id table.now.file
+            (λ parts. AreAccepted (C.accepts table.now.cmp) parts × (C.accepts table.now.cmp key.now ≡ true)) (λ pairs _. seek_place (C.cmp table.now.cmp) pairs key.now) env.old cache.old self.old result env.new cache.new self.new }
+    {
+        self.inner = None;
+        self.index.seek(key)?;
+        let Some((_, value)) = self.index.current() else {
+            return Ok(());
+        };
+        let handle = whole_handle(self.alloc, value)?;
+        self.enter(table, env, cache, coders, handle, key)
+    }
+
+    /// Goes to the first pair, or to no place in an empty table.
+    pub fn seek_to_first<E: Env, FP: FilterPolicy>(
+        &mut self,
+        table: &Table<E, C, FP>,
+        env: &mut E,
+        cache: &mut BlockCache<C>,
+        coders: &CompressorList,
+    ) -> Result<()>
+        ensures moves { Moves E.Env (⟦<CompressorList as Coders>⟧.codings coders.now) (C.cmp table.now.cmp) table.now.id table.now.file (λ _. Unit {0}) (λ pairs _. place_within pairs 0) env.old cache.old self.old result env.new cache.new self.new }
+    {
+        self.reset();
+        self.advance(table, env, cache, coders)?;
+        Ok(())
+    }
+
+    /// The key and the value of the pair on which it stands.
+    pub fn current(&self) -> Option<(&[u8], &[u8])>
+        ensures { pair_of result ≡ current_of self.now }
+    {
+        self.inner.as_ref()?.current()
+    }
+
+    /// Goes to no place.
+    pub fn reset(&mut self)
+        ensures place { self.new.inner ≡ None }
+        ensures index { self.new.index ≡ self.old.index }
+    {
+        self.inner = None;
+    }
+
+    /// Whether it stands on a pair.
+    pub fn valid(&self) -> bool
+        ensures { result ≡ is_some (inner_place self.now.inner) }
+    {
+        match &self.inner {
+            Some(inner) => inner.valid(),
+            None => false,
+        }
+    }
+
+    /// Goes to the first pair at or after the key, but to no place where the filters refuse the key at the block that the index
+    /// names for it. Answers whether it stands on a pair.
+    pub(crate) fn seek_let<E: Env, FP: FilterPolicy>(
+        &mut self,
+        table: &Table<E, C, FP>,
+        env: &mut E,
+        cache: &mut BlockCache<C>,
+        coders: &CompressorList,
+        key: &[u8],
+    ) -> Result<bool>
+        ensures enters { Enters E.Env (⟦<CompressorList as Coders>⟧.codings coders.now) (C.cmp table.now.cmp) table.now.id table.now.file (λ parts place. AreAccepted (C.accepts table.now.cmp) parts × (C.accepts table.now.cmp key.now ≡ true) × (place ≡ let_place (C.cmp table.now.cmp) (lets FP.matches table.now) key.now parts)) env.old cache.old self.old result env.new cache.new self.new }
+        ensures answer { IfOk result (λ there. there ≡ is_some (inner_place self.new.inner)) }
+    {
+        self.inner = None;
+        self.index.seek(key)?;
+        let Some((_, value)) = self.index.current() else {
+            return Ok(false);
+        };
+        let handle = whole_handle(self.alloc, value)?;
+        if !table.lets(handle.offset(), key) {
+            return Ok(false);
+        }
+        self.enter(table, env, cache, coders, handle, key)?;
+        Ok(self.valid())
+    }
+
+    /// The pair on which it stands: the key's bytes become the answer's, and the value's are shared with the block.
+    pub(crate) fn into_pair(self) -> Result<Option<(Bytes, Bytes)>>
+        ensures ok { IfOk result (λ pair. pair ≡ current_of self) }
+        ensures cause { IfErr result IsOutOfMemory }
+    {
+        let TableCore { inner, .. } = self;
+        match inner {
+            Some(inner) => inner.into_pair(),
+            None => Ok(None),
+        }
+    }
+
+    // Reads the block at the handle that the index's line names, and goes to its first pair at or after the key, or where
+    // it has none to the first pair of the next block.
+    fn enter<E: Env, FP: FilterPolicy>(
+        &mut self,
+        table: &Table<E, C, FP>,
+        env: &mut E,
+        cache: &mut BlockCache<C>,
+        coders: &CompressorList,
+        handle: BlockHandle,
+        key: &[u8],
+    ) -> Result<()>
+        requires none { self.old.inner ≡ None }
+        requires line { place_over self.old.index ≡ seek_place (C.cmp self.old.index.block.cmp) (pairs_over self.old.index) key.now }
+        requires names { IsSomeAnd (line_of self.old) (λ line. line.1 ≡ handle_bytes handle) }
+        requires fits { HandleFits handle }
+        ensures enters { Enters E.Env (⟦<CompressorList as Coders>⟧.codings coders.now) (C.cmp table.now.cmp) table.now.id table.now.file (λ parts place. AreAccepted (C.accepts table.now.cmp) parts × (C.accepts table.now.cmp key.now ≡ true) × (place ≡ seek_place (C.cmp table.now.cmp) (pairs_in parts) key.now)) env.old cache.old self.old result env.new cache.new self.new }
+    {
+        self.load(table, env, cache, coders, handle)?;
+        if self.seek_inside(key)? {
+            return Ok(());
+        }
+        self.to_next_block(table, env, cache, coders)?;
+        Ok(())
+    }
+
+    // Goes to the first pair of the next block, or behind the last block to no place.
+    fn to_next_block<E: Env, FP: FilterPolicy>(
+        &mut self,
+        table: &Table<E, C, FP>,
+        env: &mut E,
+        cache: &mut BlockCache<C>,
+        coders: &CompressorList,
+    ) -> Result<bool>
+        ensures enters { Enters E.Env (⟦<CompressorList as Coders>⟧.codings coders.now) (C.cmp table.now.cmp) table.now.id table.now.file (λ parts place. IsBehind parts (place_over self.old.index) place) env.old cache.old self.old result env.new cache.new self.new }
+        ensures answer { IfOk result (λ there. there ≡ is_some (inner_place self.new.inner)) }
+    {
+        self.inner = None;
+        if !self.index.advance()? {
+            return Ok(false);
+        }
+        self.load_line(table, env, cache, coders)?;
+        if !self.step_forward()? {
+            return self.refuse_empty();
+        }
+        Ok(true)
+    }
+
+    // Goes to the last pair of the block before, or before the first block to no place.
+    fn to_block_before<E: Env, FP: FilterPolicy>(
+        &mut self,
+        table: &Table<E, C, FP>,
+        env: &mut E,
+        cache: &mut BlockCache<C>,
+        coders: &CompressorList,
+    ) -> Result<bool>
+        ensures enters { Enters E.Env (⟦<CompressorList as Coders>⟧.codings coders.now) (C.cmp table.now.cmp) table.now.id table.now.file (λ parts place. IsBefore parts (place_over self.old.index) place) env.old cache.old self.old result env.new cache.new self.new }
+        ensures answer { IfOk result (λ there. there ≡ is_some (inner_place self.new.inner)) }
+    {
+        self.inner = None;
+        if !self.index.prev()? {
+            return Ok(false);
+        }
+        self.load_line(table, env, cache, coders)?;
+        if !self.to_last()? {
+            return self.refuse_empty();
+        }
+        Ok(true)
+    }
+
+    // Reads the block that the index's line names, and stands at no place of it.
+    fn load_line<E: Env, FP: FilterPolicy>(
+        &mut self,
+        table: &Table<E, C, FP>,
+        env: &mut E,
+        cache: &mut BlockCache<C>,
+        coders: &CompressorList,
+    ) -> Result<()>
+        requires { is_some (line_of self.old) ≡ true }
+        ensures reads { Reads E.Env (IsLacking E.Env (⟦<CompressorList as Coders>⟧.codings coders.now) (λ bytes. LacksLine (⟦<CompressorList as Coders>⟧.codings coders.now) (C.cmp table.now.cmp) bytes (line_of self.old)) env.old table.now.file) env.old table.now.file env.new result }
+        ensures block { OnOk result (Whatever E.Env env.old table.now.file (λ bytes. HoldsOf (⟦<CompressorList as Coders>⟧.codings coders.now) (C.cmp table.now.cmp) table.now.id bytes cache.old → IsBlockOf (⟦<CompressorList as Coders>⟧.codings coders.now) (C.cmp table.now.cmp) bytes (line_of self.old) (inner_block self.new.inner))) }
+        ensures place { OnOk result (inner_place self.new.inner ≡ None) }
+        ensures err { OnErr result (self.new.inner ≡ self.old.inner) }
+        ensures index { self.new.index ≡ self.old.index }
+        ensures gathers { Gathers table.now.id (λ offset held. Whatever E.Env env.old table.now.file (λ bytes. IsOf (⟦<CompressorList as Coders>⟧.codings coders.now) (C.cmp table.now.cmp) bytes offset held)) cache.old cache.new }
+    {
+        let Some((_, value)) = self.index.current() else {
+            return Ok(());
+        };
+        let handle = whole_handle(self.alloc, value)?;
+        self.load(table, env, cache, coders, handle)
+    }
+
+    // Reads the block at a handle, and stands at no place of it.
+    fn load<E: Env, FP: FilterPolicy>(
+        &mut self,
+        table: &Table<E, C, FP>,
+        env: &mut E,
+        cache: &mut BlockCache<C>,
+        coders: &CompressorList,
+        handle: BlockHandle,
+    ) -> Result<()>
+        ensures reads { Reads E.Env (IsLacking E.Env (⟦<CompressorList as Coders>⟧.codings coders.now) (λ bytes. HasNoBlock (⟦<CompressorList as Coders>⟧.codings coders.now) (C.cmp table.now.cmp) bytes handle) env.old table.now.file) env.old table.now.file env.new result }
+        ensures block { OnOk result (Whatever E.Env env.old table.now.file (λ bytes. HoldsOf (⟦<CompressorList as Coders>⟧.codings coders.now) (C.cmp table.now.cmp) table.now.id bytes cache.old → IsBlockAt (⟦<CompressorList as Coders>⟧.codings coders.now) (C.cmp table.now.cmp) bytes handle (inner_block self.new.inner))) }
+        ensures place { OnOk result (inner_place self.new.inner ≡ None) }
+        ensures err { OnErr result (self.new.inner ≡ self.old.inner) }
+        ensures index { self.new.index ≡ self.old.index }
+        ensures gathers { Gathers table.now.id (λ offset held. Whatever E.Env env.old table.now.file (λ bytes. IsOf (⟦<CompressorList as Coders>⟧.codings coders.now) (C.cmp table.now.cmp) bytes offset held)) cache.old cache.new }
+    {
+        let block = table.read_block(self.alloc, env, cache, coders, handle)?;
+        self.inner = Some(BlockWalk::new(self.alloc, block));
+        Ok(())
+    }
+
+    // Goes to the next pair of the block, and behind its last to no place.
+    fn step_forward(&mut self) -> Result<bool>
+        ensures block { inner_block self.new.inner ≡ inner_block self.old.inner }
+        ensures pairs { inner_pairs self.new.inner ≡ inner_pairs self.old.inner }
+        ensures ok { OnOk result (inner_place self.new.inner ≡ next_place (inner_pairs self.old.inner) (inner_place self.old.inner)) }
+        ensures answer { IfOk result (λ there. there ≡ is_some (inner_place self.new.inner)) }
+        ensures err { OnErr result (inner_place self.new.inner ≡ None) }
+        ensures index { self.new.index ≡ self.old.index }
+        ensures memory { IfErr result IsOutOfMemory }
+    {
+        match &mut self.inner {
+            Some(inner) => inner.advance(),
+            None => Ok(false),
+        }
+    }
+
+    // Goes to the pair of the block before, and from its first to no place.
+    fn step_back(&mut self) -> Result<bool>
+        ensures block { inner_block self.new.inner ≡ inner_block self.old.inner }
+        ensures pairs { inner_pairs self.new.inner ≡ inner_pairs self.old.inner }
+        ensures ok { OnOk result (inner_place self.new.inner ≡ previous_place (inner_place self.old.inner)) }
+        ensures answer { IfOk result (λ there. there ≡ is_some (inner_place self.new.inner)) }
+        ensures err { OnErr result (inner_place self.new.inner ≡ None) }
+        ensures index { self.new.index ≡ self.old.index }
+        ensures memory { IfErr result IsOutOfMemory }
+    {
+        match &mut self.inner {
+            Some(inner) => inner.prev(),
+            None => Ok(false),
+        }
+    }
+
+    // Goes to the last pair of the block, or to no place in an empty one.
+    fn to_last(&mut self) -> Result<bool>
+        ensures block { inner_block self.new.inner ≡ inner_block self.old.inner }
+        ensures pairs { inner_pairs self.new.inner ≡ inner_pairs self.old.inner }
+        ensures ok { OnOk result (inner_place self.new.inner ≡ last_place (inner_pairs self.old.inner)) }
+        ensures answer { IfOk result (λ there. there ≡ is_some (inner_place self.new.inner)) }
+        ensures err { OnErr result (inner_place self.new.inner ≡ None) }
+        ensures index { self.new.index ≡ self.old.index }
+        ensures memory { IfErr result IsOutOfMemory }
+    {
+        if let Some(inner) = &mut self.inner {
+            inner.seek_to_last()?;
+        }
+        Ok(self.valid())
+    }
+
+    // Goes to the first pair of the block at or after the key, or to no place where all keys are before it.
+    fn seek_inside(&mut self, key: &[u8]) -> Result<bool>
+        ensures block { inner_block self.new.inner ≡ inner_block self.old.inner }
+        ensures pairs { inner_pairs self.new.inner ≡ inner_pairs self.old.inner }
+        ensures ok { OnOk result (IfSome self.old.inner (λ walk. inner_place self.new.inner ≡ seek_place (C.cmp walk.block.cmp) (pairs_over walk) key.now)) }
+        ensures answer { IfOk result (λ there. there ≡ is_some (inner_place self.new.inner)) }
+        ensures err { OnErr result (inner_place self.new.inner ≡ None) }
+        ensures index { self.new.index ≡ self.old.index }
+        ensures memory { IfErr result IsOutOfMemory }
+    {
+        if let Some(inner) = &mut self.inner {
+            inner.seek(key)?;
+        }
+        Ok(self.valid())
+    }
+
+    // An empty data block isn't allowed.
+    fn refuse_empty(&self) -> Result<bool>
+        ensures { IsErrAnd result (λ status. status.code ≡ Corruption) }
+    {
+        err(
+            self.alloc,
+            StatusCode::Corruption,
+            "a table's data block is empty",
+        )
+    }
+}
