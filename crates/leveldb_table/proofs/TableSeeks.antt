@@ -32,14 +32,6 @@ use Rattle.leveldb_table.proofs.TableMoves.{ok_refused, err_holds, some_none, so
 use Rattle.leveldb_table.proofs.TableSteps.{OnOk-with}
 use Rattle.leveldb_table.proofs.TablePlacesIn.{parts_some, named_at, named_none, seek_in, seek_passes, previous_block, previous_end}
 
--- where a walk goes for a key
-abbrev pub SeeksTo : (List ℕ → Bool) → (List ℕ → List ℕ → Ordering) → List ℕ → List Part → Option ℕ → Type 0
-SeeksTo accepts cmp key parts place = AreAccepted accepts parts × (accepts key ≡ true) × (place ≡ seek_place cmp (pairs_in parts) key)
-
--- the same where the filters let the key pass at the block that the index names, and else none
-abbrev pub LetTo : (List ℕ → Bool) → (List ℕ → List ℕ → Ordering) → (ℕ → List ℕ → Bool) → List ℕ → List Part → Option ℕ → Type 0
-LetTo accepts cmp lets key parts place = AreAccepted accepts parts × (accepts key ≡ true) × (place ≡ let_place cmp lets key parts)
-
 -- for a block that the index names, and where it names none
 let_named : (cmp : List ℕ → List ℕ → Ordering) (lets : ℕ → List ℕ → Bool) (key : List ℕ) (parts : List Part) (part : Part) (b : Bool) → named_part cmp key parts ≡ Some part → lets part.handle.offset key ≡ b
     → let_place cmp lets key parts ≡ (if b then seek_place cmp (pairs_in parts) key else None)

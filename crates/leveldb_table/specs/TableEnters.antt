@@ -1,5 +1,5 @@
 -- How a walk over a table goes into the data block that a line of the index names.
-use Rattle.std.specs.Prelude.{◌≡◌, ◌++◌, ℕ, Bool, if◌then◌else◌, List, length, map, Option, None, Some, Result, OnOk, OnErr}
+use Rattle.std.specs.Prelude.{◌≡◌, ◌++◌, ℕ, Bool, true, if◌then◌else◌, List, length, map, Option, None, Some, Result, OnOk, OnErr}
 use Rattle.std.specs.Option.{IsSomeAnd}
 use Rattle.std.specs.declared.cmp.Ordering.{Ordering}
 use Rattle.leveldb_base.specs.Handle.{Handle}
@@ -9,7 +9,7 @@ use Rattle.leveldb_base.specs.declared.error.Status.{Status}
 use Rattle.leveldb_env.specs.Coders.{Codings, Decodes}
 use Rattle.leveldb_env.specs.declared.env.Env.{Ghosts as EnvGhosts}
 use Rattle.leveldb_table.specs.Cache.{Cached}
-use Rattle.leveldb_table.specs.Table.{Part, IsPart, HasBlockAt, index_pair, named_part}
+use Rattle.leveldb_table.specs.Table.{Part, IsPart, AreAccepted, HasBlockAt, index_pair, named_part}
 use Rattle.leveldb_table.specs.TableCached.{HoldsOf, IsOf, Gathers}
 use Rattle.leveldb_table.specs.TableReading.{pairs_in, HasParts}
 use Rattle.leveldb_table.specs.TableReads.{Whatever, IsLacking, Reads}
@@ -45,6 +45,13 @@ pub record IsBefore (parts : List Part) (line place : Option ℕ) : Type 0 where
 abbrev pub let_place : (List ℕ → List ℕ → Ordering) → (ℕ → List ℕ → Bool) → List ℕ → List Part → Option ℕ
 let_place cmp lets key parts =
     elim (named_part cmp key parts) [ None ↦ None | Some part ↦ if lets part.handle.offset key then seek_place cmp (pairs_in parts) key else None ]
+
+-- where a walk goes for a key, and where for a look-up
+abbrev pub SeeksTo : (List ℕ → Bool) → (List ℕ → List ℕ → Ordering) → List ℕ → List Part → Option ℕ → Type 0
+SeeksTo accepts cmp key parts place = AreAccepted accepts parts × (accepts key ≡ true) × (place ≡ seek_place cmp (pairs_in parts) key)
+
+abbrev pub LetTo : (List ℕ → Bool) → (List ℕ → List ℕ → Ordering) → (ℕ → List ℕ → Bool) → List ℕ → List Part → Option ℕ → Type 0
+LetTo accepts cmp lets key parts place = AreAccepted accepts parts × (accepts key ≡ true) × (place ≡ let_place cmp lets key parts)
 
 module _ {C : Type 0} {order : CmpGhosts C} where
   -- the block that a file has at a handle, in this order of keys

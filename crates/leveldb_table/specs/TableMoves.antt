@@ -8,8 +8,10 @@ use Rattle.leveldb_base.specs.Places.{Pair, place_within, next_place, previous_p
 use Rattle.leveldb_base.specs.declared.cmp.Cmp.{Ghosts as CmpGhosts}
 use Rattle.leveldb_env.specs.Coders.{Codings}
 use Rattle.leveldb_table.specs.Block.{IsBlock}
+use Rattle.leveldb_table.specs.TableReading.{lines_of, lets}
 use Rattle.leveldb_table.specs.TableWalk.{IsNamed, inner_pairs, inner_place, pairs_over, place_over}
 use Rattle.leveldb_table.specs.Walk.{last_place}
+use Rattle.leveldb_table.specs.declared.table_reader.Table.{Table}
 use Rattle.leveldb_table.specs.declared.table_reader.walk.TableCore.{TableCore}
 
 -- a place in a table: a line of its index, the pairs of that line's block, and the place among these
@@ -24,30 +26,31 @@ pub record HasLine (codings : Codings) (cmp : List ℕ → List ℕ → Ordering
   pub named : IsNamed codings bytes (pair_at lines (Some line)) text
   pub block : IsBlock cmp text pairs
 
--- it stands at no line, and at no pair
+-- it is at no line, and at no pair
 pub record IsNowhere (new : TablePlace) : Type 0 where
   pub line : new.line ≡ None
   pub inner : new.inner ≡ None
 
--- to this place of the same block, and where it is none, elsewhere
+-- it went to this place of the same block, or where that is none, elsewhere
 abbrev pub InsideOr : Option ℕ → TablePlace → TablePlace → Type 0 → Type 0
 InsideOr None old new Else = Else
 InsideOr (Some i) old new Else = new ≡ record old { inner = Some i }
 
--- Which lines of an index have which blocks.
+-- HasBlock says what pairs the block of a line has.
 module _ (HasBlock : ℕ → List Pair → Type 0) where
-  -- it stands at this line, whose block is there and isn't empty, at this place of the block's pairs
+  -- it is at this line, whose block the file has and which isn't empty, and at this place of the block's pairs
   pub record IsIn (to : List Pair → Option ℕ) (line : ℕ) (new : TablePlace) : Type 0 where
     pub at_line : new.line ≡ Some line
     pub block : HasBlock line new.pairs
     pub some : new.pairs ≢ []
     pub place : new.inner ≡ to new.pairs
 
+  -- the same where there is a line, and else nowhere
   abbrev pub IsAt : (List Pair → Option ℕ) → Option ℕ → TablePlace → Type 0
   IsAt to None new = IsNowhere new
   IsAt to (Some line) new = IsIn to line new
 
-  -- at the first pair of this line's block, and at its last; without a line nowhere
+  -- at the first pair of this line's block, and at its last
   abbrev pub IsAtFirst : Option ℕ → TablePlace → Type 0
   IsAtFirst line new = IsAt (λ pairs. place_within pairs 0) line new
 
@@ -55,17 +58,17 @@ module _ (HasBlock : ℕ → List Pair → Type 0) where
   IsAtLast line new = IsAt last_place line new
 
   module _ (lines : List Pair) where
-    -- From a pair to the next of its block, and from the last to the first pair of the next line's block. From no place to the first line's.
+    -- From a pair to the next of its block, and from its last to the first pair of the next line's block; from no place to that of the first line's.
     abbrev pub GoesOn : Option ℕ → TablePlace → TablePlace → Type 0
     GoesOn None old new = IsAtFirst (place_within lines 0) new
     GoesOn (Some i) old new = InsideOr (place_within old.pairs (i + 1)) old new (IsAtFirst (next_place lines old.line) new)
 
-    -- From a pair to the one before it in its block, and from the first to the last pair of the block of the line before. No place stays.
+    -- From a pair to the one before it in its block, and from its first to the last pair of the block of the line before; from no place nowhere.
     abbrev pub GoesBack : Option ℕ → TablePlace → TablePlace → Type 0
     GoesBack None old new = new ≡ old
     GoesBack (Some i) old new = InsideOr (previous_place (Some i)) old new (IsAtLast (previous_place old.line) new)
 
-    -- To the first pair at or after the key in this line's block, and where it has none, to the first pair of the next line's.
+    -- To the first pair at or after the key in this line's block, which the file has, and where that has none, to the first pair of the next line's.
     pub record SeeksIn (cmp : List ℕ → List ℕ → Ordering) (key : List ℕ) (line : ℕ) (new : TablePlace) : Type 0 where
       pub pairs : List Pair
       pub block : HasBlock line pairs
@@ -75,11 +78,12 @@ module _ (HasBlock : ℕ → List Pair → Type 0) where
     Seeks cmp key None new = IsNowhere new
     Seeks cmp key (Some line) new = SeeksIn cmp key line new
 
-    -- The same where the filters let the key pass at the handle that the line names, and else to no pair.
+    -- the same where the key is let pass, and else to no pair
     abbrev pub SeeksIfLet : Bool → (List ℕ → List ℕ → Ordering) → List ℕ → ℕ → TablePlace → Type 0
     SeeksIfLet true cmp key line new = SeeksIn cmp key line new
     SeeksIfLet false cmp key line new = new.inner ≡ None
 
+    -- the same where the filters let the key pass at the offset of the handle that the line names
     pub record LooksIn (cmp : List ℕ → List ℕ → Ordering) (lets : ℕ → List ℕ → Bool) (key : List ℕ) (line : ℕ) (new : TablePlace) : Type 0 where
       pub handle : Handle
       pub names : IsSomeAnd (pair_at lines (Some line)) (λ pair. pair.1 ≡ handle_bytes handle)
@@ -90,10 +94,17 @@ module _ (HasBlock : ℕ → List Pair → Type 0) where
     Looks cmp lets key (Some line) new = LooksIn cmp lets key line new
 
 -- What a look-up finds in a file, by the lines of an index in an order of their own: the pair at the place to which it leads, if that is one.
-pub record Finds (codings : Codings) (cmp : List ℕ → List ℕ → Ordering) (bytes : List ℕ) (lines : List Pair) (index_cmp : List ℕ → List ℕ → Ordering) (lets : ℕ → List ℕ → Bool) (key : List ℕ) (found : Option Pair) : Type 0 where
+pub record Finds (codings : Codings) (cmp : List ℕ → List ℕ → Ordering) (bytes : List ℕ) (lines : List Pair)
+    (index_cmp : List ℕ → List ℕ → Ordering) (lets : ℕ → List ℕ → Bool) (key : List ℕ) (found : Option Pair) : Type 0 where
   pub place : TablePlace
   pub looks : Looks (HasLine codings cmp bytes lines) lines cmp lets key (seek_place index_cmp lines key) place
   pub is : found ≡ pair_at place.pairs place.inner
+
+module _ {E C FP F : Type 0} {order : CmpGhosts C} where
+  -- what a look-up in an open table finds
+  abbrev pub FindsIn : Codings → (FP → List ℕ → List ℕ → Bool) → Table E C FP F order → List ℕ → List ℕ → Option Pair → Type 0
+  FindsIn codings matches table key bytes found =
+      Finds codings (order.cmp table.cmp) bytes (lines_of table) (order.cmp table.index.cmp) (lets matches table) key found
 
 -- ---- the moves of a walk
 

@@ -1,11 +1,12 @@
 use Rattle.std.proofs.Common.{◌≡◌, None, refl, sym, ◌∙◌, ap, inr}
 use Rattle.leveldb_base.specs.Places.{seek_place, pair_of}
 use Rattle.leveldb_env.specs.contracts.compressor.CompressorListCoders.TheImpl
+use Rattle.leveldb_table.specs.TableEnters.{SeeksTo}
 use Rattle.leveldb_table.specs.TableMoves.{HasLine, line_for, Sought}
 use Rattle.leveldb_table.specs.TableWalk.{pairs_over}
 use Rattle.leveldb_table.proofs.TableMoves.{block_lines, moves_enters}
 use Rattle.leveldb_table.proofs.TablePlacesIn.{seek_none}
-use Rattle.leveldb_table.proofs.TableSeeks.{SeeksTo, none_at, index_line, value_lacks, enters_ends, enters_own}
+use Rattle.leveldb_table.proofs.TableSeeks.{none_at, index_line, value_lacks, enters_ends, enters_own}
 use Rattle.leveldb_table.proofs.TablePaces.{seeks_none, sought_along}
 use Rattle.leveldb_table.proofs.table_reader.walk.TableCore.seek.Goals as goal
 

@@ -1,13 +1,14 @@
 use Rattle.std.proofs.Common.{◌≡◌, true, false, None, refl, sym, ◌∙◌, ap, inr}
 use Rattle.leveldb_base.specs.Places.{pair_of}
 use Rattle.leveldb_env.specs.contracts.compressor.CompressorListCoders.TheImpl
+use Rattle.leveldb_table.specs.TableEnters.{SeeksTo}
 use Rattle.leveldb_table.specs.TableMoves.{HasLine, line_for}
 use Rattle.leveldb_table.specs.TableReading.{lets}
 use Rattle.leveldb_table.specs.TableWalk.{pairs_over, place_over}
 use Rattle.leveldb_table.proofs.TableCaches.{Gathers-refl}
 use Rattle.leveldb_table.proofs.TableCalls.{Looks-refl}
 use Rattle.leveldb_table.proofs.TableMoves.{block_lines}
-use Rattle.leveldb_table.proofs.TableSeeks.{SeeksTo, none_at, index_line, value_lacks, let_none, let_by, enters_then, enters_ends, enters_own, enters_ok, enters_refused}
+use Rattle.leveldb_table.proofs.TableSeeks.{none_at, index_line, value_lacks, let_none, let_by, enters_then, enters_ends, enters_own, enters_ok, enters_refused}
 use Rattle.leveldb_table.proofs.TablePaces.{looks_none, looks_refused, named_by, looked_up}
 use Rattle.leveldb_table.proofs.table_reader.walk.TableCore.seek_let.Goals as goal
 
