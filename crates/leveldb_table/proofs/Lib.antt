@@ -26,6 +26,7 @@ pub mod Footers
 pub mod Caches
 pub mod TableMoves
 pub mod TableSeeks
+pub mod TablePaces
 pub mod TableLookups
 pub mod TableCaches
 pub mod TableSinks

@@ -26,6 +26,7 @@ use Rattle.leveldb_table.specs.declared.block_cache.CachedBlock.{CachedBlock}
 use Rattle.leveldb_table.specs.declared.table_reader.walk.TableCore.{TableCore}
 use Rattle.leveldb_table.proofs.TableCalls.{reads_weaker}
 use Rattle.leveldb_table.proofs.TablePlaces.{has_one_block}
+use Rattle.leveldb_table.proofs.TableSteps.{OnOk-with}
 use Rattle.leveldb_table.proofs.TablePlacesIn.{place_in, part_at, line_at, all_at, Passes, passes_last, to_block, to_end}
 
 -- ---- answers
@@ -233,15 +234,17 @@ module _ {C : Type 0} {order : CmpGhosts C} where
   -- ---- moves by entering a block
 
   pub moves_enters : {E F T : Type 0} {env : EnvGhosts E F} {codings : Codings} {cmp : List ℕ → List ℕ → Ordering} {id : ℕ} {file : F} {Fit : List Part → Type 0} {Way : List Part → Option ℕ → Type 0} {to : List Pair → Option ℕ → Option ℕ}
-      {old_env new_env : E} {old_cache new_cache : Cached (CachedBlock C order)} {mid new : TableCore C order} {result : Result T Status} (old : TableCore C order)
+      {Part_step Step : Codings → (List ℕ → List ℕ → Ordering) → List ℕ → TableCore C order → TableCore C order → Type 0} {old_env new_env : E} {old_cache new_cache : Cached (CachedBlock C order)} {mid new : TableCore C order} {result : Result T Status} (old : TableCore C order)
       → pairs_over mid.index ≡ pairs_over old.index → mid.index.block.cmp ≡ old.index.block.cmp
       → ((parts : List Part) (place : Option ℕ) → Fit parts → Stands cmp parts old place → Way parts (to (pairs_in parts) place))
-      → Enters env codings cmp id file Way old_env old_cache mid result new_env new_cache new → Moves env codings cmp id file Fit to old_env old_cache old result new_env new_cache new
-  moves_enters {env = env} {cmp = cmp} {to = to} {mid = mid} {result = result} old lines same way enters =
+      → ((bytes : List ℕ) → Part_step codings cmp bytes mid new → Step codings cmp bytes old new)
+      → Enters env codings cmp id file Way Part_step old_env old_cache mid result new_env new_cache new → Moves env codings cmp id file Fit to Step old_env old_cache old result new_env new_cache new
+  moves_enters {env = env} {codings = codings} {cmp = cmp} {to = to} {Part_step = Part_step} {Step = Step} {mid = mid} {new = new} {result = result} old lines same way step enters =
       let indexed : (parts : List Part) (place : Option ℕ) → Stands cmp parts old place → IsIndexed cmp parts mid = λ parts place stands. record { lines = lines ∙ stands.lines; ordered = ap order.cmp same ∙ stands.ordered } in
       record {
         reads = reads_weaker env result (λ status lacking. (lacking.0, λ bytes has parts place right fit holds stands. lacking.1 bytes has parts (to (pairs_in parts) place) right (way parts place fit stands) holds (indexed parts place stands))) enters.reads;
         ok = λ bytes has parts place right fit holds stands. enters.ok bytes has parts (to (pairs_in parts) place) right (way parts place fit stands) holds (indexed parts place stands);
+        steps = λ bytes has holds. OnOk-with result (Part_step codings cmp bytes mid new) (Step codings cmp bytes old new) (step bytes) (enters.steps bytes has holds);
         from = λ bytes has holds from. enters.from bytes has holds;
         err = enters.err;
         gathers = enters.gathers;

@@ -29,15 +29,8 @@ use Rattle.leveldb_table.specs.declared.table_reader.walk.TableCore.{TableCore}
 use Rattle.leveldb_table.proofs.TableCaches.{Gathers-refl, Gathers-trans, Gathers-weaker, HoldsOf-after}
 use Rattle.leveldb_table.proofs.TableCalls.{Looks-refl, Has-after, Whatever-before, reads_then, reads_weaker, reads_own, reads_ok, reads_refused}
 use Rattle.leveldb_table.proofs.TableMoves.{ok_refused, err_holds, some_none, some_there, same_handle, same_value, block_lines, lacks_line, IsLineOf, line_is_of, part_pairs, from_none, from_block, IsInto, stands_along}
+use Rattle.leveldb_table.proofs.TableSteps.{OnOk-with}
 use Rattle.leveldb_table.proofs.TablePlacesIn.{parts_some, named_at, named_none, seek_in, seek_passes, previous_block, previous_end}
-
--- where a walk goes for a key
-abbrev pub SeeksTo : (List ℕ → Bool) → (List ℕ → List ℕ → Ordering) → List ℕ → List Part → Option ℕ → Type 0
-SeeksTo accepts cmp key parts place = AreAccepted accepts parts × (accepts key ≡ true) × (place ≡ seek_place cmp (pairs_in parts) key)
-
--- the same where the filters let the key pass at the block that the index names, and else none
-abbrev pub LetTo : (List ℕ → Bool) → (List ℕ → List ℕ → Ordering) → (ℕ → List ℕ → Bool) → List ℕ → List Part → Option ℕ → Type 0
-LetTo accepts cmp lets key parts place = AreAccepted accepts parts × (accepts key ≡ true) × (place ≡ let_place cmp lets key parts)
 
 -- for a block that the index names, and where it names none
 let_named : (cmp : List ℕ → List ℕ → Ordering) (lets : ℕ → List ℕ → Bool) (key : List ℕ) (parts : List Part) (part : Part) (b : Bool) → named_part cmp key parts ≡ Some part → lets part.handle.offset key ≡ b
@@ -119,11 +112,12 @@ module _ {C : Type 0} {order : CmpGhosts C} where
 
   module _ {E F : Type 0} {env : EnvGhosts E F} {codings : Codings} {cmp : List ℕ → List ℕ → Ordering} {id : ℕ} {file : F} where
     -- behind Ok calls that leave the index
-    pub enters_then : {T : Type 0} {Fit Way : List Part → Option ℕ → Type 0} {old_env mid_env new_env : E} {old_cache mid_cache new_cache : Cached (CachedBlock C order)} {mid new : TableCore C order} {result : Result T Status} (old : TableCore C order)
+    pub enters_then : {T : Type 0} {Fit Way : List Part → Option ℕ → Type 0} {Part_step Step : Codings → (List ℕ → List ℕ → Ordering) → List ℕ → TableCore C order → TableCore C order → Type 0} {old_env mid_env new_env : E} {old_cache mid_cache new_cache : Cached (CachedBlock C order)} {mid new : TableCore C order} {result : Result T Status} (old : TableCore C order)
         → Looks env old_env mid_env → env.failures mid_env ≡ env.failures old_env → Gathers id (λ offset held. Whatever env old_env file (λ bytes. IsOf codings cmp bytes offset held)) old_cache mid_cache → pairs_over mid.index ≡ pairs_over old.index → mid.index.block.cmp ≡ old.index.block.cmp
         → ((bytes : List ℕ) → Has env old_env file bytes → (parts : List Part) (place : Option ℕ) → HasParts codings cmp bytes parts → Fit parts place → HoldsOf codings cmp id bytes old_cache → IsIndexed cmp parts old → Way parts place)
-        → Enters env codings cmp id file Way mid_env mid_cache mid result new_env new_cache new → Enters env codings cmp id file Fit old_env old_cache old result new_env new_cache new
-    enters_then {old_env = old_env} {old_cache = old_cache} {mid_cache = mid_cache} {mid = mid} {result = result} old looks counted gathers lines same way enters =
+        → ((bytes : List ℕ) → Has env old_env file bytes → HoldsOf codings cmp id bytes old_cache → Part_step codings cmp bytes mid new → Step codings cmp bytes old new)
+        → Enters env codings cmp id file Way Part_step mid_env mid_cache mid result new_env new_cache new → Enters env codings cmp id file Fit Step old_env old_cache old result new_env new_cache new
+    enters_then {Part_step = Part_step} {Step = Step} {old_env = old_env} {old_cache = old_cache} {mid_cache = mid_cache} {mid = mid} {new = new} {result = result} old looks counted gathers lines same way step enters =
         let held : (bytes : List ℕ) → Has env old_env file bytes → HoldsOf codings cmp id bytes old_cache → HoldsOf codings cmp id bytes mid_cache = λ bytes has. HoldsOf-after (λ offset held right. right bytes has) gathers in
         let indexed : (parts : List Part) → IsIndexed cmp parts old → IsIndexed cmp parts mid = λ parts is. record { lines = lines ∙ is.lines; ordered = ap order.cmp same ∙ is.ordered } in
         record {
@@ -132,6 +126,7 @@ module _ {C : Type 0} {order : CmpGhosts C} where
             λ bytes has parts place right fit holds is. lacking.1 bytes (Has-after env looks has) parts place right (way bytes has parts place right fit holds is) (held bytes has holds) (indexed parts is),
           )) enters.reads;
           ok = λ bytes has parts place right fit holds is. enters.ok bytes (Has-after env looks has) parts place right (way bytes has parts place right fit holds is) (held bytes has holds) (indexed parts is);
+          steps = λ bytes has holds. OnOk-with result (Part_step codings cmp bytes mid new) (Step codings cmp bytes old new) (step bytes has holds) (enters.steps bytes (Has-after env looks has) (held bytes has holds));
           from = λ bytes has holds. enters.from bytes (Has-after env looks has) (held bytes has holds);
           err = enters.err;
           gathers = Gathers-trans gathers (Gathers-weaker (λ offset held right. Whatever-before env file _ looks right) enters.gathers);
@@ -140,11 +135,12 @@ module _ {C : Type 0} {order : CmpGhosts C} where
         }
 
     -- with another answer
-    pub enters_ok : {T U : Type 0} {Fit : List Part → Option ℕ → Type 0} {old_env new_env : E} {old_cache new_cache : Cached (CachedBlock C order)} {old new : TableCore C order} {answer : T} (other : U)
-        → Enters env codings cmp id file Fit old_env old_cache old (Ok answer) new_env new_cache new → Enters env codings cmp id file Fit old_env old_cache old (Ok other) new_env new_cache new
+    pub enters_ok : {T U : Type 0} {Fit : List Part → Option ℕ → Type 0} {Step : Codings → (List ℕ → List ℕ → Ordering) → List ℕ → TableCore C order → TableCore C order → Type 0} {old_env new_env : E} {old_cache new_cache : Cached (CachedBlock C order)} {old new : TableCore C order} {answer : T} (other : U)
+        → Enters env codings cmp id file Fit Step old_env old_cache old (Ok answer) new_env new_cache new → Enters env codings cmp id file Fit Step old_env old_cache old (Ok other) new_env new_cache new
     enters_ok other enters = record {
       reads = reads_ok env enters.reads.looks enters.reads.cause.ok;
       ok = enters.ok;
+      steps = enters.steps;
       from = enters.from;
       err = tt;
       gathers = enters.gathers;
@@ -153,11 +149,12 @@ module _ {C : Type 0} {order : CmpGhosts C} where
     }
 
     -- or a refusal that is passed on
-    pub enters_refused : {T U : Type 0} {Fit : List Part → Option ℕ → Type 0} {old_env new_env : E} {old_cache new_cache : Cached (CachedBlock C order)} {old new : TableCore C order} {status : Status} (result : Result U Status) → IsErrAnd result (λ other. other ≡ status)
-        → Enters {T = T} env codings cmp id file Fit old_env old_cache old (Err status) new_env new_cache new → Enters env codings cmp id file Fit old_env old_cache old result new_env new_cache new
+    pub enters_refused : {T U : Type 0} {Fit : List Part → Option ℕ → Type 0} {Step : Codings → (List ℕ → List ℕ → Ordering) → List ℕ → TableCore C order → TableCore C order → Type 0} {old_env new_env : E} {old_cache new_cache : Cached (CachedBlock C order)} {old new : TableCore C order} {status : Status} (result : Result U Status) → IsErrAnd result (λ other. other ≡ status)
+        → Enters {T = T} env codings cmp id file Fit Step old_env old_cache old (Err status) new_env new_cache new → Enters env codings cmp id file Fit Step old_env old_cache old result new_env new_cache new
     enters_refused result same enters = record {
       reads = reads_refused env result same enters.reads;
       ok = λ bytes has parts place right fit holds is. ok_refused _ _ result same;
+      steps = λ bytes has holds. ok_refused _ _ result same;
       from = enters.from;
       err = err_holds result enters.err;
       gathers = enters.gathers;
@@ -166,16 +163,17 @@ module _ {C : Type 0} {order : CmpGhosts C} where
     }
 
     -- no call, and no place
-    pub enters_ends : {T : Type 0} {Fit : List Part → Option ℕ → Type 0} {state : E} {cache : Cached (CachedBlock C order)} (old new : TableCore C order) (answer : T) → pairs_over new.index ≡ pairs_over old.index → new.index.block.cmp ≡ old.index.block.cmp
+    pub enters_ends : {T : Type 0} {Fit : List Part → Option ℕ → Type 0} {Step : Codings → (List ℕ → List ℕ → Ordering) → List ℕ → TableCore C order → TableCore C order → Type 0} {state : E} {cache : Cached (CachedBlock C order)} (old new : TableCore C order) (answer : T) → pairs_over new.index ≡ pairs_over old.index → new.index.block.cmp ≡ old.index.block.cmp
         → inner_place new.inner ≡ None → ((bytes : List ℕ) → (parts : List Part) (place : Option ℕ) → HasParts codings cmp bytes parts → Fit parts place → IsIndexed cmp parts old → place ≡ None)
-        → Enters env codings cmp id file Fit state cache old (Ok answer) state cache new
-    enters_ends {state = state} {cache = cache} old new answer lines same none way = record {
+        → ((bytes : List ℕ) → Step codings cmp bytes old new) → Enters env codings cmp id file Fit Step state cache old (Ok answer) state cache new
+    enters_ends {state = state} {cache = cache} old new answer lines same none way step = record {
       reads = reads_ok env (Looks-refl env state) refl;
       ok = λ bytes has parts place right fit holds is. record {
         lines = lines ∙ is.lines;
         ordered = ap order.cmp same ∙ is.ordered;
         at = subst (λ z. StandsAt parts (place_over new.index) (inner_pairs new.inner) (inner_place new.inner) z) (sym (way bytes parts place right fit is)) none;
       };
+      steps = λ bytes has holds. step bytes;
       from = λ bytes has holds. from_none codings cmp bytes new none;
       err = tt;
       gathers = Gathers-refl id _ cache;
@@ -184,13 +182,14 @@ module _ {C : Type 0} {order : CmpGhosts C} where
     }
 
     -- no call, and a refusal
-    pub enters_own : {T : Type 0} {P : Status → Type 0} {Fit : List Part → Option ℕ → Type 0} {state : E} {cache : Cached (CachedBlock C order)} (old new : TableCore C order) (result : Result T Status) → pairs_over new.index ≡ pairs_over old.index → new.index.block.cmp ≡ old.index.block.cmp
+    pub enters_own : {T : Type 0} {P : Status → Type 0} {Fit : List Part → Option ℕ → Type 0} {Step : Codings → (List ℕ → List ℕ → Ordering) → List ℕ → TableCore C order → TableCore C order → Type 0} {state : E} {cache : Cached (CachedBlock C order)} (old new : TableCore C order) (result : Result T Status) → pairs_over new.index ≡ pairs_over old.index → new.index.block.cmp ≡ old.index.block.cmp
         → inner_place new.inner ≡ None → IsErrAnd result P
         → ((status : Status) → P status → NoMemory status ⊎ ((status.code ≡ Corruption) × ((bytes : List ℕ) → (parts : List Part) (place : Option ℕ) → HasParts codings cmp bytes parts → Fit parts place → IsIndexed cmp parts old → ⊥)))
-        → Enters env codings cmp id file Fit state cache old result state cache new
+        → Enters env codings cmp id file Fit Step state cache old result state cache new
     enters_own {state = state} {cache = cache} old new result lines same none refused why = record {
       reads = reads_own env result (Looks-refl env state) refl refused (λ status is. ⊎_elim inl (λ lacks. inr (inl lacks.0, λ bytes has parts place right fit holds indexed. lacks.1 bytes parts place right fit indexed)) (why status is));
       ok = λ bytes has parts place right fit holds is. ok_refused _ _ result refused;
+      steps = λ bytes has holds. ok_refused _ _ result refused;
       from = λ bytes has holds. from_none codings cmp bytes new none;
       err = err_holds result none;
       gathers = Gathers-refl id _ cache;
@@ -199,10 +198,10 @@ module _ {C : Type 0} {order : CmpGhosts C} where
     }
 
     -- from no place to the first pair is by a step
-    pub moves_first : {T : Type 0} {old_env new_env : E} {old_cache new_cache : Cached (CachedBlock C order)} {mid new : TableCore C order} {result : Result T Status} (old : TableCore C order) → mid.index ≡ old.index → mid.inner ≡ None
-        → Moves env codings cmp id file (λ _. Unit {0}) next_place old_env old_cache mid result new_env new_cache new
-        → Moves env codings cmp id file (λ _. Unit {0}) (λ pairs _. place_within pairs 0) old_env old_cache old result new_env new_cache new
-    moves_first {mid = mid} {result = result} old index none moves =
+    pub moves_first : {T : Type 0} {Part_step Step : Codings → (List ℕ → List ℕ → Ordering) → List ℕ → TableCore C order → TableCore C order → Type 0} {old_env new_env : E} {old_cache new_cache : Cached (CachedBlock C order)} {mid new : TableCore C order} {result : Result T Status} (old : TableCore C order) → mid.index ≡ old.index → mid.inner ≡ None
+        → ((bytes : List ℕ) → Part_step codings cmp bytes mid new → Step codings cmp bytes old new) → Moves env codings cmp id file (λ _. Unit {0}) next_place Part_step old_env old_cache mid result new_env new_cache new
+        → Moves env codings cmp id file (λ _. Unit {0}) (λ pairs _. place_within pairs 0) Step old_env old_cache old result new_env new_cache new
+    moves_first {Part_step = Part_step} {Step = Step} {mid = mid} {new = new} {result = result} old index none step moves =
         let at : (parts : List Part) (place : Option ℕ) → Stands cmp parts old place → Stands cmp parts mid None = λ parts place stands. record {
           lines = ap pairs_over index ∙ stands.lines;
           ordered = ap (λ (z : BlockWalk C order). order.cmp z.block.cmp) index ∙ stands.ordered;
@@ -211,6 +210,7 @@ module _ {C : Type 0} {order : CmpGhosts C} where
         record {
           reads = reads_weaker env result (λ status lacking. (lacking.0, λ bytes has parts place right fit holds stands. lacking.1 bytes has parts None right fit holds (at parts place stands))) moves.reads;
           ok = λ bytes has parts place right fit holds stands. moves.ok bytes has parts None right fit holds (at parts place stands);
+          steps = λ bytes has holds. OnOk-with result (Part_step codings cmp bytes mid new) (Step codings cmp bytes old new) (step bytes) (moves.steps bytes has holds);
           from = λ bytes has holds from. moves.from bytes has holds (from_none codings cmp bytes mid (ap inner_place none));
           err = moves.err;
           gathers = moves.gathers;
@@ -218,11 +218,12 @@ module _ {C : Type 0} {order : CmpGhosts C} where
           same_order = moves.same_order ∙ ap (λ (z : BlockWalk C order). z.block.cmp) index;
         }
 
-    pub moves_ok : {T U : Type 0} {Fit : List Part → Type 0} {to : List Pair → Option ℕ → Option ℕ} {old_env new_env : E} {old_cache new_cache : Cached (CachedBlock C order)} {old new : TableCore C order} {answer : T} (other : U)
-        → Moves env codings cmp id file Fit to old_env old_cache old (Ok answer) new_env new_cache new → Moves env codings cmp id file Fit to old_env old_cache old (Ok other) new_env new_cache new
+    pub moves_ok : {T U : Type 0} {Fit : List Part → Type 0} {to : List Pair → Option ℕ → Option ℕ} {Step : Codings → (List ℕ → List ℕ → Ordering) → List ℕ → TableCore C order → TableCore C order → Type 0} {old_env new_env : E} {old_cache new_cache : Cached (CachedBlock C order)} {old new : TableCore C order} {answer : T} (other : U)
+        → Moves env codings cmp id file Fit to Step old_env old_cache old (Ok answer) new_env new_cache new → Moves env codings cmp id file Fit to Step old_env old_cache old (Ok other) new_env new_cache new
     moves_ok other moves = record {
       reads = reads_ok env moves.reads.looks moves.reads.cause.ok;
       ok = moves.ok;
+      steps = moves.steps;
       from = moves.from;
       err = tt;
       gathers = moves.gathers;
@@ -230,11 +231,12 @@ module _ {C : Type 0} {order : CmpGhosts C} where
       same_order = moves.same_order;
     }
 
-    pub moves_refused : {T U : Type 0} {Fit : List Part → Type 0} {to : List Pair → Option ℕ → Option ℕ} {old_env new_env : E} {old_cache new_cache : Cached (CachedBlock C order)} {old new : TableCore C order} {status : Status} (result : Result U Status)
-        → IsErrAnd result (λ other. other ≡ status) → Moves {T = T} env codings cmp id file Fit to old_env old_cache old (Err status) new_env new_cache new → Moves env codings cmp id file Fit to old_env old_cache old result new_env new_cache new
+    pub moves_refused : {T U : Type 0} {Fit : List Part → Type 0} {to : List Pair → Option ℕ → Option ℕ} {Step : Codings → (List ℕ → List ℕ → Ordering) → List ℕ → TableCore C order → TableCore C order → Type 0} {old_env new_env : E} {old_cache new_cache : Cached (CachedBlock C order)} {old new : TableCore C order} {status : Status} (result : Result U Status)
+        → IsErrAnd result (λ other. other ≡ status) → Moves {T = T} env codings cmp id file Fit to Step old_env old_cache old (Err status) new_env new_cache new → Moves env codings cmp id file Fit to Step old_env old_cache old result new_env new_cache new
     moves_refused result same moves = record {
       reads = reads_refused env result same moves.reads;
       ok = λ bytes has parts place right fit holds stands. ok_refused _ _ result same;
+      steps = λ bytes has holds. ok_refused _ _ result same;
       from = moves.from;
       err = err_holds result moves.err;
       gathers = moves.gathers;

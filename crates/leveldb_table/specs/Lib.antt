@@ -19,4 +19,5 @@ pub mod TableReads
 pub mod TableCached
 pub mod TableReading
 pub mod TableWalk
+pub mod TableMoves
 pub mod TableEnters

@@ -1,5 +1,5 @@
 -- How a walk over a table goes into the data block that a line of the index names.
-use Rattle.std.specs.Prelude.{◌≡◌, ◌++◌, ℕ, Bool, if◌then◌else◌, List, length, map, Option, None, Some, Result, OnOk, OnErr}
+use Rattle.std.specs.Prelude.{◌≡◌, ◌++◌, ℕ, Bool, true, if◌then◌else◌, List, length, map, Option, None, Some, Result, OnOk, OnErr}
 use Rattle.std.specs.Option.{IsSomeAnd}
 use Rattle.std.specs.declared.cmp.Ordering.{Ordering}
 use Rattle.leveldb_base.specs.Handle.{Handle}
@@ -9,7 +9,7 @@ use Rattle.leveldb_base.specs.declared.error.Status.{Status}
 use Rattle.leveldb_env.specs.Coders.{Codings, Decodes}
 use Rattle.leveldb_env.specs.declared.env.Env.{Ghosts as EnvGhosts}
 use Rattle.leveldb_table.specs.Cache.{Cached}
-use Rattle.leveldb_table.specs.Table.{Part, IsPart, HasBlockAt, index_pair, named_part}
+use Rattle.leveldb_table.specs.Table.{Part, IsPart, AreAccepted, HasBlockAt, index_pair, named_part}
 use Rattle.leveldb_table.specs.TableCached.{HoldsOf, IsOf, Gathers}
 use Rattle.leveldb_table.specs.TableReading.{pairs_in, HasParts}
 use Rattle.leveldb_table.specs.TableReads.{Whatever, IsLacking, Reads}
@@ -46,6 +46,13 @@ abbrev pub let_place : (List ℕ → List ℕ → Ordering) → (ℕ → List �
 let_place cmp lets key parts =
     elim (named_part cmp key parts) [ None ↦ None | Some part ↦ if lets part.handle.offset key then seek_place cmp (pairs_in parts) key else None ]
 
+-- where a walk goes for a key, and where for a look-up
+abbrev pub SeeksTo : (List ℕ → Bool) → (List ℕ → List ℕ → Ordering) → List ℕ → List Part → Option ℕ → Type 0
+SeeksTo accepts cmp key parts place = AreAccepted accepts parts × (accepts key ≡ true) × (place ≡ seek_place cmp (pairs_in parts) key)
+
+abbrev pub LetTo : (List ℕ → Bool) → (List ℕ → List ℕ → Ordering) → (ℕ → List ℕ → Bool) → List ℕ → List Part → Option ℕ → Type 0
+LetTo accepts cmp lets key parts place = AreAccepted accepts parts × (accepts key ≡ true) × (place ≡ let_place cmp lets key parts)
+
 module _ {C : Type 0} {order : CmpGhosts C} where
   -- the block that a file has at a handle, in this order of keys
   abbrev pub IsBlockAt : Codings → (List ℕ → List ℕ → Ordering) → List ℕ → Handle → Option (Block C order) → Type 0
@@ -66,11 +73,12 @@ module _ {C : Type 0} {order : CmpGhosts C} where
 
   -- As a move does, but from a line of the index: where the file has data blocks, the walk goes to the place that is fit for them.
   pub record Enters {E F T : Type 0} (env : EnvGhosts E F) (codings : Codings) (cmp : List ℕ → List ℕ → Ordering) (id : ℕ) (file : F) (Fit : List Part → Option ℕ → Type 0)
-      (old_env : E) (old_cache : Cached (CachedBlock C order)) (old : TableCore C order) (result : Result T Status) (new_env : E) (new_cache : Cached (CachedBlock C order)) (new : TableCore C order) : Type 0 where
+      (Step : Codings → (List ℕ → List ℕ → Ordering) → List ℕ → TableCore C order → TableCore C order → Type 0) (old_env : E) (old_cache : Cached (CachedBlock C order)) (old : TableCore C order) (result : Result T Status) (new_env : E) (new_cache : Cached (CachedBlock C order)) (new : TableCore C order) : Type 0 where
     pub reads : Reads env (IsLacking env codings (λ bytes. (parts : List Part) (place : Option ℕ) → HasParts codings cmp bytes parts → Fit parts place → HoldsOf codings cmp id bytes old_cache → IsIndexed cmp parts old → ⊥) old_env file)
         old_env file new_env result
     pub ok : Whatever env old_env file (λ bytes. (parts : List Part) (place : Option ℕ) → HasParts codings cmp bytes parts → Fit parts place → HoldsOf codings cmp id bytes old_cache → IsIndexed cmp parts old
         → OnOk result (Stands cmp parts new place))
+    pub steps : Whatever env old_env file (λ bytes. HoldsOf codings cmp id bytes old_cache → OnOk result (Step codings cmp bytes old new))
     pub from : Whatever env old_env file (λ bytes. HoldsOf codings cmp id bytes old_cache → IsFrom codings cmp bytes new)
     pub err : OnErr result (inner_place new.inner ≡ None)
     pub gathers : Gathers id (λ offset held. Whatever env old_env file (λ bytes. IsOf codings cmp bytes offset held)) old_cache new_cache

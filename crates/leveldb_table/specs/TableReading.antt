@@ -13,7 +13,7 @@ use Rattle.leveldb_env.specs.Coders.{Codings, Decodes}
 use Rattle.leveldb_env.specs.FilterBlock.{IsFilterBlock, Reading, passes}
 use Rattle.leveldb_table.specs.Block.{IsBlock, KeysRise, pairs_of}
 use Rattle.leveldb_table.specs.Footer.{footer_bytes}
-use Rattle.leveldb_table.specs.Table.{Part, IsPart, HasBlockAt, StoresAt, AreParted, AllPass, index_pair, filter_key, first_from, named_part, IsTabled}
+use Rattle.leveldb_table.specs.Table.{Part, IsPart, HasBlockAt, StoresAt, AreParted, AreAccepted, AllPass, index_pair, filter_key, first_from, named_part, IsTabled}
 use Rattle.leveldb_table.specs.declared.block.Block.{Block}
 use Rattle.leveldb_table.specs.declared.table_reader.Table.{Table}
 
@@ -72,6 +72,10 @@ pub record HasParts (codings : Codings) (cmp : List ℕ → List ℕ → Orderin
 -- the numbers of their handles have 64 bits
 abbrev pub AllFit : List Part → Type 0
 AllFit parts = AllByRecursion (λ part. HandleFits part.handle) parts
+
+-- the comparator accepts the key that is sought, and all keys of the blocks and of the index
+abbrev pub CanSeek : (List ℕ → Bool) → List ℕ → List Part → Type 0
+CanSeek accepts key parts = AreAccepted accepts parts × (accepts key ≡ true)
 
 -- What a look-up finds: the first pair at or after the key, but none where the filters don't let the key pass at the block that
 -- the index names for it.

@@ -141,6 +141,7 @@ impl<E: Env, C: Cmp + Copy + Drop, FP: FilterPolicy + Drop> Table<E, C, FP> {
 impl<E: Env, C: Cmp + Copy + Drop, FP: FilterPolicy> Table<E, C, FP> {
     ghost use Rattle.leveldb_table.specs.Table.{AreAccepted};
     ghost use Rattle.leveldb_table.specs.TableReading.{HasParts, AllFit, found_in, lines_of, lets};
+    ghost use Rattle.leveldb_table.specs.TableMoves.{FindsIn};
     ghost use Rattle.leveldb_table.specs.TableWalk.{IsGiven};
 
     /// The offset of the block that would hold the key, and past the last that of the metaindex.
@@ -174,6 +175,9 @@ impl<E: Env, C: Cmp + Copy + Drop, FP: FilterPolicy> Table<E, C, FP> {
             → HasParts (⟦<CompressorList as Coders>⟧.codings coders.now) (C.cmp self.now.cmp) bytes parts → AreAccepted (C.accepts self.now.cmp) parts → C.accepts self.now.cmp key.now ≡ true
             → HoldsOf (⟦<CompressorList as Coders>⟧.codings coders.now) (C.cmp self.now.cmp) self.now.id bytes cache.old
             → IfOk result (λ found. found ≡ found_in (C.cmp self.now.cmp) (lets FP.matches self.now) key.now parts)) }
+        ensures finds { Whatever E.Env env.old self.now.file (λ bytes.
+            HoldsOf (⟦<CompressorList as Coders>⟧.codings coders.now) (C.cmp self.now.cmp) self.now.id bytes cache.old
+            → IfOk result (FindsIn (⟦<CompressorList as Coders>⟧.codings coders.now) FP.matches self.now key.now bytes)) }
         ensures given { Whatever E.Env env.old self.now.file (λ bytes. HoldsOf (⟦<CompressorList as Coders>⟧.codings coders.now) (C.cmp self.now.cmp) self.now.id bytes cache.old
             → IfOk result (λ found. IfSome found (IsGiven (⟦<CompressorList as Coders>⟧.codings coders.now) (C.cmp self.now.cmp) bytes (lines_of self.now)))) }
         ensures gathers { Gathers self.now.id (λ offset held. Whatever E.Env env.old self.now.file (λ bytes. IsOf (⟦<CompressorList as Coders>⟧.codings coders.now) (C.cmp self.now.cmp) bytes offset held)) cache.old cache.new }

@@ -51,13 +51,15 @@ impl<E: Env, C: Cmp + Copy + Drop, FP: FilterPolicy> Table<E, C, FP> {
 }
 
 impl<'a, E: Env, C: Cmp + Copy + Drop, FP: FilterPolicy> TableIterator<'a, E, C, FP> {
-    ghost use Rattle.leveldb_table.specs.Table.{AreAccepted};
+    ghost use Rattle.leveldb_table.specs.TableMoves.{Forward, Backward, ToFirst, Sought};
+    ghost use Rattle.leveldb_table.specs.TableReading.{CanSeek};
     ghost use Rattle.leveldb_table.specs.TableWalk.{Moves, current_of, inner_place};
 
     /// Goes to the next pair, from no place to the first, and from the last to no place.
     /// Answers whether it stands on a pair.
     pub fn advance(&mut self, coders: &CompressorList) -> Result<bool>
-        ensures moves { Moves E.Env (⟦<CompressorList as Coders>⟧.codings coders.now) (C.cmp self.old.table.now.cmp) self.old.table.now.id self.old.table.now.file (λ _. Unit {0}) next_place
+        ensures moves { Moves E.Env (⟦<CompressorList as Coders>⟧.codings coders.now) (C.cmp self.old.table.now.cmp) self.old.table.now.id self.old.table.now.file
+            (λ _. Unit {0}) next_place Forward
             self.old.env.now self.old.cache.now self.old.core result self.new.env.now self.new.cache.now self.new.core }
         ensures table { self.new.table.now ≡ self.old.table.now }
         ensures answer { IfOk result (λ there. there ≡ is_some (inner_place self.new.core.inner)) }
@@ -68,7 +70,8 @@ impl<'a, E: Env, C: Cmp + Copy + Drop, FP: FilterPolicy> TableIterator<'a, E, C,
     /// Goes to the pair before, and from the first or from no place to no place.
     /// Answers whether it stands on a pair.
     pub fn prev(&mut self, coders: &CompressorList) -> Result<bool>
-        ensures moves { Moves E.Env (⟦<CompressorList as Coders>⟧.codings coders.now) (C.cmp self.old.table.now.cmp) self.old.table.now.id self.old.table.now.file (λ _. Unit {0}) (λ _. previous_place)
+        ensures moves { Moves E.Env (⟦<CompressorList as Coders>⟧.codings coders.now) (C.cmp self.old.table.now.cmp) self.old.table.now.id self.old.table.now.file
+            (λ _. Unit {0}) (λ _. previous_place) Backward
             self.old.env.now self.old.cache.now self.old.core result self.new.env.now self.new.cache.now self.new.core }
         ensures table { self.new.table.now ≡ self.old.table.now }
         ensures answer { IfOk result (λ there. there ≡ is_some (inner_place self.new.core.inner)) }
@@ -78,7 +81,8 @@ impl<'a, E: Env, C: Cmp + Copy + Drop, FP: FilterPolicy> TableIterator<'a, E, C,
 
     /// Goes to the first pair whose key is at or after `key`, or to no place where all keys are before it.
     pub fn seek(&mut self, coders: &CompressorList, key: &[u8]) -> Result<()>
-        ensures moves { Moves E.Env (⟦<CompressorList as Coders>⟧.codings coders.now) (C.cmp self.old.table.now.cmp) self.old.table.now.id self.old.table.now.file (λ parts. AreAccepted (C.accepts self.old.table.now.cmp) parts × (C.accepts self.old.table.now.cmp key.now ≡ true)) (λ pairs _. seek_place (C.cmp self.old.table.now.cmp) pairs key.now)
+        ensures moves { Moves E.Env (⟦<CompressorList as Coders>⟧.codings coders.now) (C.cmp self.old.table.now.cmp) self.old.table.now.id self.old.table.now.file
+            (CanSeek (C.accepts self.old.table.now.cmp) key.now) (λ pairs _. seek_place (C.cmp self.old.table.now.cmp) pairs key.now) (Sought key.now)
             self.old.env.now self.old.cache.now self.old.core result self.new.env.now self.new.cache.now self.new.core }
         ensures table { self.new.table.now ≡ self.old.table.now }
     {
@@ -88,7 +92,8 @@ impl<'a, E: Env, C: Cmp + Copy + Drop, FP: FilterPolicy> TableIterator<'a, E, C,
 
     /// Goes to the first pair, or to no place in an empty table.
     pub fn seek_to_first(&mut self, coders: &CompressorList) -> Result<()>
-        ensures moves { Moves E.Env (⟦<CompressorList as Coders>⟧.codings coders.now) (C.cmp self.old.table.now.cmp) self.old.table.now.id self.old.table.now.file (λ _. Unit {0}) (λ pairs _. place_within pairs 0)
+        ensures moves { Moves E.Env (⟦<CompressorList as Coders>⟧.codings coders.now) (C.cmp self.old.table.now.cmp) self.old.table.now.id self.old.table.now.file
+            (λ _. Unit {0}) (λ pairs _. place_within pairs 0) ToFirst
             self.old.env.now self.old.cache.now self.old.core result self.new.env.now self.new.cache.now self.new.core }
         ensures table { self.new.table.now ≡ self.old.table.now }
     {

@@ -7,7 +7,7 @@ ghost use Rattle.leveldb_base.specs.Status.{IsOutOfMemory};
 ghost use Rattle.leveldb_base.specs.declared.error.StatusCode.TheVariants.{Corruption};
 ghost use Rattle.leveldb_table.specs.Table.{Part, HasBlockAt};
 ghost use Rattle.leveldb_table.specs.TableCached.{HoldsOf, IsOf, Gathers};
-ghost use Rattle.leveldb_table.specs.TableEnters.{LacksLine, IsBehind, IsBefore, let_place};
+ghost use Rattle.leveldb_table.specs.TableEnters.{LacksLine, IsBehind, IsBefore, SeeksTo, LetTo};
 ghost use Rattle.leveldb_table.specs.TableReads.{HasNoBlock, Reads, Whatever, IsLacking};
 ghost use Rattle.leveldb_table.specs.Walk.{last_place};
 
@@ -37,8 +37,8 @@ pub struct TableCore<C: Cmp> {
 
 impl<C: Cmp + Copy + Drop> TableCore<C> {
     ghost use Rattle.leveldb_table.specs.TableEnters.{IsBlockAt, IsBlockOf, line_of, Enters};
-    ghost use Rattle.leveldb_table.specs.Table.{AreAccepted};
-    ghost use Rattle.leveldb_table.specs.TableReading.{pairs_in, lines_of, lets};
+    ghost use Rattle.leveldb_table.specs.TableMoves.{Forward, Backward, ToFirst, ToNext, ToPrevious, Sought, LookedUp};
+    ghost use Rattle.leveldb_table.specs.TableReading.{CanSeek, lines_of, lets};
     ghost use Rattle.leveldb_table.specs.TableWalk.{Moves, Stands, IsFrom, inner_block, inner_place, inner_pairs, current_of, pairs_over, place_over};
 
     /// At no place.
@@ -67,7 +67,8 @@ impl<C: Cmp + Copy + Drop> TableCore<C> {
         cache: &mut BlockCache<C>,
         coders: &CompressorList,
     ) -> Result<bool>
-        ensures moves { Moves E.Env (⟦<CompressorList as Coders>⟧.codings coders.now) (C.cmp table.now.cmp) table.now.id table.now.file (λ _. Unit {0}) next_place env.old cache.old self.old result env.new cache.new self.new }
+        ensures moves { Moves E.Env (⟦<CompressorList as Coders>⟧.codings coders.now) (C.cmp table.now.cmp) table.now.id table.now.file
+            (λ _. Unit {0}) next_place Forward env.old cache.old self.old result env.new cache.new self.new }
         ensures answer { IfOk result (λ there. there ≡ is_some (inner_place self.new.inner)) }
     {
         if !self.valid() {
@@ -87,7 +88,8 @@ impl<C: Cmp + Copy + Drop> TableCore<C> {
         cache: &mut BlockCache<C>,
         coders: &CompressorList,
     ) -> Result<bool>
-        ensures moves { Moves E.Env (⟦<CompressorList as Coders>⟧.codings coders.now) (C.cmp table.now.cmp) table.now.id table.now.file (λ _. Unit {0}) (λ _. previous_place) env.old cache.old self.old result env.new cache.new self.new }
+        ensures moves { Moves E.Env (⟦<CompressorList as Coders>⟧.codings coders.now) (C.cmp table.now.cmp) table.now.id table.now.file
+            (λ _. Unit {0}) (λ _. previous_place) Backward env.old cache.old self.old result env.new cache.new self.new }
         ensures answer { IfOk result (λ there. there ≡ is_some (inner_place self.new.inner)) }
     {
         if !self.valid() {
@@ -109,7 +111,8 @@ impl<C: Cmp + Copy + Drop> TableCore<C> {
         key: &[u8],
     ) -> Result<()>
         ensures moves { Moves E.Env (⟦<CompressorList as Coders>⟧.codings coders.now) (C.cmp table.now.cmp) table.now.id table.now.file
-            (λ parts. AreAccepted (C.accepts table.now.cmp) parts × (C.accepts table.now.cmp key.now ≡ true)) (λ pairs _. seek_place (C.cmp table.now.cmp) pairs key.now) env.old cache.old self.old result env.new cache.new self.new }
+            (CanSeek (C.accepts table.now.cmp) key.now) (λ pairs _. seek_place (C.cmp table.now.cmp) pairs key.now) (Sought key.now)
+            env.old cache.old self.old result env.new cache.new self.new }
     {
         self.inner = None;
         self.index.seek(key)?;
@@ -128,7 +131,8 @@ impl<C: Cmp + Copy + Drop> TableCore<C> {
         cache: &mut BlockCache<C>,
         coders: &CompressorList,
     ) -> Result<()>
-        ensures moves { Moves E.Env (⟦<CompressorList as Coders>⟧.codings coders.now) (C.cmp table.now.cmp) table.now.id table.now.file (λ _. Unit {0}) (λ pairs _. place_within pairs 0) env.old cache.old self.old result env.new cache.new self.new }
+        ensures moves { Moves E.Env (⟦<CompressorList as Coders>⟧.codings coders.now) (C.cmp table.now.cmp) table.now.id table.now.file
+            (λ _. Unit {0}) (λ pairs _. place_within pairs 0) ToFirst env.old cache.old self.old result env.new cache.new self.new }
     {
         self.reset();
         self.advance(table, env, cache, coders)?;
@@ -170,7 +174,9 @@ impl<C: Cmp + Copy + Drop> TableCore<C> {
         coders: &CompressorList,
         key: &[u8],
     ) -> Result<bool>
-        ensures enters { Enters E.Env (⟦<CompressorList as Coders>⟧.codings coders.now) (C.cmp table.now.cmp) table.now.id table.now.file (λ parts place. AreAccepted (C.accepts table.now.cmp) parts × (C.accepts table.now.cmp key.now ≡ true) × (place ≡ let_place (C.cmp table.now.cmp) (lets FP.matches table.now) key.now parts)) env.old cache.old self.old result env.new cache.new self.new }
+        ensures enters { Enters E.Env (⟦<CompressorList as Coders>⟧.codings coders.now) (C.cmp table.now.cmp) table.now.id table.now.file
+            (LetTo (C.accepts table.now.cmp) (C.cmp table.now.cmp) (lets FP.matches table.now) key.now) (LookedUp (lets FP.matches table.now) key.now)
+            env.old cache.old self.old result env.new cache.new self.new }
         ensures answer { IfOk result (λ there. there ≡ is_some (inner_place self.new.inner)) }
     {
         self.inner = None;
@@ -213,7 +219,8 @@ impl<C: Cmp + Copy + Drop> TableCore<C> {
         requires line { place_over self.old.index ≡ seek_place (C.cmp self.old.index.block.cmp) (pairs_over self.old.index) key.now }
         requires names { IsSomeAnd (line_of self.old) (λ line. line.1 ≡ handle_bytes handle) }
         requires fits { HandleFits handle }
-        ensures enters { Enters E.Env (⟦<CompressorList as Coders>⟧.codings coders.now) (C.cmp table.now.cmp) table.now.id table.now.file (λ parts place. AreAccepted (C.accepts table.now.cmp) parts × (C.accepts table.now.cmp key.now ≡ true) × (place ≡ seek_place (C.cmp table.now.cmp) (pairs_in parts) key.now)) env.old cache.old self.old result env.new cache.new self.new }
+        ensures enters { Enters E.Env (⟦<CompressorList as Coders>⟧.codings coders.now) (C.cmp table.now.cmp) table.now.id table.now.file
+            (SeeksTo (C.accepts table.now.cmp) (C.cmp table.now.cmp) key.now) (Sought key.now) env.old cache.old self.old result env.new cache.new self.new }
     {
         self.load(table, env, cache, coders, handle)?;
         if self.seek_inside(key)? {
@@ -231,7 +238,8 @@ impl<C: Cmp + Copy + Drop> TableCore<C> {
         cache: &mut BlockCache<C>,
         coders: &CompressorList,
     ) -> Result<bool>
-        ensures enters { Enters E.Env (⟦<CompressorList as Coders>⟧.codings coders.now) (C.cmp table.now.cmp) table.now.id table.now.file (λ parts place. IsBehind parts (place_over self.old.index) place) env.old cache.old self.old result env.new cache.new self.new }
+        ensures enters { Enters E.Env (⟦<CompressorList as Coders>⟧.codings coders.now) (C.cmp table.now.cmp) table.now.id table.now.file
+            (λ parts place. IsBehind parts (place_over self.old.index) place) ToNext env.old cache.old self.old result env.new cache.new self.new }
         ensures answer { IfOk result (λ there. there ≡ is_some (inner_place self.new.inner)) }
     {
         self.inner = None;
@@ -253,7 +261,8 @@ impl<C: Cmp + Copy + Drop> TableCore<C> {
         cache: &mut BlockCache<C>,
         coders: &CompressorList,
     ) -> Result<bool>
-        ensures enters { Enters E.Env (⟦<CompressorList as Coders>⟧.codings coders.now) (C.cmp table.now.cmp) table.now.id table.now.file (λ parts place. IsBefore parts (place_over self.old.index) place) env.old cache.old self.old result env.new cache.new self.new }
+        ensures enters { Enters E.Env (⟦<CompressorList as Coders>⟧.codings coders.now) (C.cmp table.now.cmp) table.now.id table.now.file
+            (λ parts place. IsBefore parts (place_over self.old.index) place) ToPrevious env.old cache.old self.old result env.new cache.new self.new }
         ensures answer { IfOk result (λ there. there ≡ is_some (inner_place self.new.inner)) }
     {
         self.inner = None;

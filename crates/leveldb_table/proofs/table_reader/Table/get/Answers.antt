@@ -7,6 +7,7 @@ use Rattle.leveldb_base.specs.Places.{pair_at}
 use Rattle.leveldb_table.proofs.TableCalls.{reads_weaker, reads_refused}
 use Rattle.leveldb_table.proofs.TableLookups.{ok_says, found_by, given_from}
 use Rattle.leveldb_table.proofs.TableMoves.{none_there}
+use Rattle.leveldb_table.proofs.TablePaces.{finds_by}
 use Rattle.leveldb_table.proofs.table_reader.Table.get.Goals as goal
 
 pub returns-in_err-seek_let-clause-reads : goal.returns-in_err-seek_let-clause-reads
@@ -35,6 +36,21 @@ returns-then-branch-clause-given g c =
     λ bytes has holds. ok_says c.into_pair.result
     (λ found is. given_from ((TheImpl.ghosts g.dyn-1).codings c.args.coders.now) (g.C.Cmp.cmp c.args.self.now.cmp) bytes c.seek_let.new.self found (sought.same_lines ∙ c.in_ok-core.ensures.lines) is (sought.from bytes has holds))
     c.into_pair.ensures.ok
+
+pub returns-then-branch-clause-finds : goal.returns-then-branch-clause-finds
+returns-then-branch-clause-finds g c =
+    let made = c.in_ok-core.ensures in
+    λ bytes has holds. ok_says c.into_pair.result
+    (λ found is. finds_by ((TheImpl.ghosts g.dyn-1).codings c.args.coders.now) (g.C.Cmp.cmp c.args.self.now.cmp) bytes c.in_ok-core.core c.seek_let.new.self found made.lines (ap g.C.Cmp.cmp made.order)
+    (c.in_ok-seek_let.ensures.enters.steps bytes has holds) is) c.into_pair.ensures.ok
+
+pub returns-clause-finds : goal.returns-clause-finds
+returns-clause-finds g c =
+    let made = c.in_ok-core.ensures in
+    let new = c.seek_let.new.self in
+    let none = none_there (inner_place new.inner) (sym c.in_ok-seek_let.ensures.answer ∙ c.if-branch.false) in
+    λ bytes has holds. finds_by ((TheImpl.ghosts g.dyn-1).codings c.args.coders.now) (g.C.Cmp.cmp c.args.self.now.cmp) bytes c.in_ok-core.core new None made.lines (ap g.C.Cmp.cmp made.order)
+    (c.in_ok-seek_let.ensures.enters.steps bytes has holds) (sym (ap (pair_at (inner_pairs new.inner)) none))
 
 pub returns-clause-ok : goal.returns-clause-ok
 returns-clause-ok g c =

@@ -7,6 +7,7 @@ use Rattle.leveldb_table.specs.TableWalk.{Stands, inner_place, pairs_over, place
 use Rattle.leveldb_table.proofs.TableCalls.{reads_weaker, reads_refused, reads_ok}
 use Rattle.leveldb_table.proofs.TableMoves.{ok_refused, err_holds, none_there, from_none}
 use Rattle.leveldb_table.proofs.TableSeeks.{line_there, IsSought, is_sought, sought_from, sought_in, sought_behind, handle_lacks, enters_then, enters_ok, enters_refused}
+use Rattle.leveldb_table.proofs.TablePaces.{sought_inside, sought_next}
 use Rattle.leveldb_table.proofs.table_reader.walk.TableCore.enter.Goals as goal
 
 pub returns-in_err-load : goal.returns-in_err-load
@@ -20,6 +21,7 @@ returns-in_err-load g c =
         reads = reads_refused g.E.Env c.from_residual.result c.from_residual.ensures.1
             (reads_weaker g.E.Env _ (λ status lacking. (lacking.0, λ bytes has parts place right fit holds indexed. handle_lacks c.args.handle right indexed c.requires.names (lacking.1 bytes has))) read.reads);
         ok = λ bytes has parts place right fit holds indexed. ok_refused _ _ c.from_residual.result c.from_residual.ensures.1;
+        steps = λ bytes has holds. ok_refused _ _ c.from_residual.result c.from_residual.ensures.1;
         from = λ bytes has holds. from_none codings cmp bytes c.load.new.self none;
         err = err_holds c.from_residual.result none;
         gathers = read.gathers;
@@ -44,6 +46,7 @@ returns-then-branch g c =
         ok = λ bytes has parts place right fit holds indexed. subst (Stands cmp parts new) (sym fit.2)
             (sought_in c.args.key.now right indexed c.requires.line (g.met.C.Cmp.preorder c.args.table.now.cmp) fit.0 fit.1 new (line_there (pairs_over old.index) (place_over old.index) c.args.handle c.requires.names) (sought bytes has holds)
             (sym step.answer ∙ c.if-branch.true));
+        steps = λ bytes has holds. sought_inside codings cmp bytes c.args.key.now old new c.requires.line (line_there (pairs_over old.index) (place_over old.index) c.args.handle c.requires.names) (sought bytes has holds) (sym step.answer ∙ c.if-branch.true);
         from = λ bytes has holds. sought_from codings cmp bytes old new (sought bytes has holds);
         err = tt;
         gathers = read.gathers;
@@ -66,7 +69,10 @@ returns-in_err-to_next_block g c =
           (λ bytes has parts place right fit holds indexed. subst (IsBehind parts (place_over mid.index)) (sym fit.2)
           (sought_behind c.args.key.now right indexed c.requires.line (g.met.C.Cmp.preorder c.args.table.now.cmp) fit.0 fit.1 mid (line_there (pairs_over old.index) (place_over old.index) c.args.handle c.requires.names)
           (is_sought codings cmp bytes c.args.key.now old c.load.new.self mid c.args.handle c.requires.fits c.requires.names read.index (read.block bytes has holds) step.index step.block step.pairs step.ok)
-          (none_there (inner_place mid.inner) (sym step.answer ∙ c.if-branch.false)))) c.in_err-to_next_block.ensures.enters);
+          (none_there (inner_place mid.inner) (sym step.answer ∙ c.if-branch.false))))
+          (λ bytes has holds. sought_next codings cmp bytes c.args.key.now old mid c.to_next_block.new.self c.requires.line (line_there (pairs_over old.index) (place_over old.index) c.args.handle c.requires.names)
+          (is_sought codings cmp bytes c.args.key.now old c.load.new.self mid c.args.handle c.requires.fits c.requires.names read.index (read.block bytes has holds) step.index step.block step.pairs step.ok)
+          (none_there (inner_place mid.inner) (sym step.answer ∙ c.if-branch.false))) c.in_err-to_next_block.ensures.enters);
     }
 
 pub returns : goal.returns
@@ -83,5 +89,8 @@ returns g c =
           (λ bytes has parts place right fit holds indexed. subst (IsBehind parts (place_over mid.index)) (sym fit.2)
           (sought_behind c.args.key.now right indexed c.requires.line (g.met.C.Cmp.preorder c.args.table.now.cmp) fit.0 fit.1 mid (line_there (pairs_over old.index) (place_over old.index) c.args.handle c.requires.names)
           (is_sought codings cmp bytes c.args.key.now old c.load.new.self mid c.args.handle c.requires.fits c.requires.names read.index (read.block bytes has holds) step.index step.block step.pairs step.ok)
-          (none_there (inner_place mid.inner) (sym step.answer ∙ c.if-branch.false)))) c.in_ok-to_next_block.ensures.enters);
+          (none_there (inner_place mid.inner) (sym step.answer ∙ c.if-branch.false))))
+          (λ bytes has holds. sought_next codings cmp bytes c.args.key.now old mid c.to_next_block.new.self c.requires.line (line_there (pairs_over old.index) (place_over old.index) c.args.handle c.requires.names)
+          (is_sought codings cmp bytes c.args.key.now old c.load.new.self mid c.args.handle c.requires.fits c.requires.names read.index (read.block bytes has holds) step.index step.block step.pairs step.ok)
+          (none_there (inner_place mid.inner) (sym step.answer ∙ c.if-branch.false))) c.in_ok-to_next_block.ensures.enters);
     }

@@ -1,8 +1,13 @@
-use Rattle.std.proofs.Common.{◌≡◌, refl, sym, ◌∙◌, ap, inr}
+use Rattle.std.proofs.Common.{◌≡◌, None, refl, sym, ◌∙◌, ap, inr}
 use Rattle.leveldb_base.specs.Places.{seek_place, pair_of}
+use Rattle.leveldb_env.specs.contracts.compressor.CompressorListCoders.TheImpl
+use Rattle.leveldb_table.specs.TableEnters.{SeeksTo}
+use Rattle.leveldb_table.specs.TableMoves.{HasLine, line_for, Sought}
+use Rattle.leveldb_table.specs.TableWalk.{pairs_over}
 use Rattle.leveldb_table.proofs.TableMoves.{block_lines, moves_enters}
 use Rattle.leveldb_table.proofs.TablePlacesIn.{seek_none}
-use Rattle.leveldb_table.proofs.TableSeeks.{SeeksTo, none_at, index_line, value_lacks, enters_ends, enters_own}
+use Rattle.leveldb_table.proofs.TableSeeks.{none_at, index_line, value_lacks, enters_ends, enters_own}
+use Rattle.leveldb_table.proofs.TablePaces.{seeks_none, sought_along}
 use Rattle.leveldb_table.proofs.table_reader.walk.TableCore.seek.Goals as goal
 
 pub returns-in_default : goal.returns-in_default
@@ -12,9 +17,10 @@ returns-in_default g c =
     let found = c.in_ok-seek.ensures in
     let none = none_at c.seek.new.self (sym c.current.ensures ∙ ap pair_of c.in_default.is) in
     record {
-      moves = moves_enters {Way = SeeksTo (g.C.Cmp.accepts c.args.table.now.cmp) (g.C.Cmp.cmp c.args.table.now.cmp) key} {to = λ pairs _. seek_place (g.C.Cmp.cmp c.args.table.now.cmp) pairs key} old refl refl (λ parts place fit stands. (fit.0, fit.1, refl))
+      moves = moves_enters {Way = SeeksTo (g.C.Cmp.accepts c.args.table.now.cmp) (g.C.Cmp.cmp c.args.table.now.cmp) key} {to = λ pairs _. seek_place (g.C.Cmp.cmp c.args.table.now.cmp) pairs key} {Part_step = Sought key} old refl refl (λ parts place fit stands. (fit.0, fit.1, refl)) (λ bytes sought. sought)
           (enters_ends old _ tt (block_lines c.seek.new.self old.index found.block) (ap (λ z. z.cmp) found.block) refl
-          (λ bytes parts place right fit indexed. fit.2 ∙ seek_none (g.met.C.Cmp.preorder c.args.table.now.cmp) right.parted fit.0 key fit.1 (index_line parts old.index key _ indexed.lines indexed.ordered found.ok ∙ none)));
+          (λ bytes parts place right fit indexed. fit.2 ∙ seek_none (g.met.C.Cmp.preorder c.args.table.now.cmp) right.parted fit.0 key fit.1 (index_line parts old.index key _ indexed.lines indexed.ordered found.ok ∙ none))
+          (λ bytes. seeks_none (HasLine ((TheImpl.ghosts g.dyn-1).codings c.args.coders.now) (g.C.Cmp.cmp c.args.table.now.cmp) bytes (pairs_over old.index)) (pairs_over old.index) (g.C.Cmp.cmp c.args.table.now.cmp) key (line_for key old) _ (sym found.ok ∙ none) found.ok refl));
     }
 
 pub returns-in_err-handle : goal.returns-in_err-handle
@@ -24,7 +30,7 @@ returns-in_err-handle g c =
     let found = c.in_ok-seek.ensures in
     let lines = block_lines c.seek.new.self old.index found.block in
     record {
-      moves = moves_enters {Way = SeeksTo (g.C.Cmp.accepts c.args.table.now.cmp) (g.C.Cmp.cmp c.args.table.now.cmp) key} {to = λ pairs _. seek_place (g.C.Cmp.cmp c.args.table.now.cmp) pairs key} old refl refl (λ parts place fit stands. (fit.0, fit.1, refl))
+      moves = moves_enters {Way = SeeksTo (g.C.Cmp.accepts c.args.table.now.cmp) (g.C.Cmp.cmp c.args.table.now.cmp) key} {to = λ pairs _. seek_place (g.C.Cmp.cmp c.args.table.now.cmp) pairs key} {Part_step = Sought key} old refl refl (λ parts place fit stands. (fit.0, fit.1, refl)) (λ bytes sought. sought)
           (enters_own old _ c.from_residual-in_err-handle.result lines (ap (λ z. z.cmp) found.block) refl c.from_residual-in_err-handle.ensures.1 (λ status is. inr (
             ap (λ z. z.code) is ∙ c.in_err-handle.ensures.err.0,
             λ bytes parts place right fit indexed. value_lacks c.seek.new.self c.in-Some.field-0-0.now c.in-Some.value.now right (lines ∙ indexed.lines) (sym c.current.ensures ∙ ap pair_of c.in-Some.is) c.in_err-handle.ensures.err.1,
@@ -37,5 +43,5 @@ returns g c =
     let found = c.in_ok-seek.ensures in
     record {
       moves = moves_enters {Way = SeeksTo (g.C.Cmp.accepts c.args.table.now.cmp) (g.C.Cmp.cmp c.args.table.now.cmp) c.args.key.now} {to = λ pairs _. seek_place (g.C.Cmp.cmp c.args.table.now.cmp) pairs c.args.key.now} old (block_lines c.seek.new.self old.index found.block) (ap (λ z. z.cmp) found.block)
-          (λ parts place fit stands. (fit.0, fit.1, refl)) c.enter.ensures.enters;
+          (λ parts place fit stands. (fit.0, fit.1, refl)) (λ bytes. sought_along ((TheImpl.ghosts g.dyn-1).codings c.args.coders.now) (g.C.Cmp.cmp c.args.table.now.cmp) bytes c.args.key.now old (record old { index = c.seek.new.self; inner = None }) c.enter.new.self (block_lines c.seek.new.self old.index found.block) (ap (λ z. z.cmp) found.block)) c.enter.ensures.enters;
     }

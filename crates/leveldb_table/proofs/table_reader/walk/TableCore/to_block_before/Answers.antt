@@ -10,6 +10,7 @@ use Rattle.leveldb_table.specs.Walk.{last_place}
 use Rattle.leveldb_table.proofs.TableCalls.{reads_weaker, reads_refused, reads_own, reads_ok}
 use Rattle.leveldb_table.proofs.TableMoves.{ok_refused, err_holds, none_there, from_none, from_block, block_lines, some_none, IsInto, is_into}
 use Rattle.leveldb_table.proofs.TableSeeks.{previous_stands, previous_lacks}
+use Rattle.leveldb_table.proofs.TablePaces.{into_at}
 use Rattle.leveldb_table.proofs.table_reader.walk.TableCore.to_block_before.Goals as goal
 
 pub returns-in_err-load_line-clause-enters : goal.returns-in_err-load_line-clause-enters
@@ -22,6 +23,7 @@ returns-in_err-load_line-clause-enters g c =
       reads = reads_refused g.E.Env c.from_residual-in_err-load_line.result c.from_residual-in_err-load_line.ensures.1
           (reads_weaker g.E.Env _ (λ status lacking. (lacking.0, λ bytes has parts place right fit holds indexed. previous_lacks right fit indexed c.prev.new.self c.in_ok-prev.ensures.block there (lacking.1 bytes has))) c.in_err-load_line.ensures.reads);
       ok = λ bytes has parts place right fit holds indexed. ok_refused _ _ c.from_residual-in_err-load_line.result c.from_residual-in_err-load_line.ensures.1;
+      steps = λ bytes has holds. ok_refused _ _ c.from_residual-in_err-load_line.result c.from_residual-in_err-load_line.ensures.1;
       from = λ bytes has holds. from_none codings cmp bytes c.load_line.new.self none;
       err = err_holds c.from_residual-in_err-load_line.result none;
       gathers = c.in_err-load_line.ensures.gathers;
@@ -49,6 +51,7 @@ returns-then-not-branch-2-clause-enters g c =
       reads = reads_own g.E.Env c.refuse_empty.result read.reads.looks read.reads.cause.ok c.refuse_empty.ensures
           (λ status code. inr (inl code, λ bytes has parts place right fit holds indexed. some_none (sym (previous_stands right fit indexed new (into bytes has holds)).0.1 ∙ none)));
       ok = λ bytes has parts place right fit holds indexed. ok_refused _ _ c.refuse_empty.result c.refuse_empty.ensures;
+      steps = λ bytes has holds. ok_refused _ _ c.refuse_empty.result c.refuse_empty.ensures;
       from = λ bytes has holds. from_none codings cmp bytes new none;
       err = err_holds c.refuse_empty.result none;
       gathers = read.gathers;
@@ -74,6 +77,7 @@ returns-clause-enters g c =
     record {
       reads = reads_ok g.E.Env read.reads.looks read.reads.cause.ok;
       ok = λ bytes has parts place right fit holds indexed. (previous_stands right fit indexed new (into bytes has holds)).1;
+      steps = λ bytes has holds. into_at codings cmp bytes old new (into bytes has holds) (sym step.answer ∙ c.if-not-branch-2.false);
       from = λ bytes has holds. from_block codings cmp bytes new (into bytes has holds).block;
       err = tt;
       gathers = read.gathers;

@@ -8,6 +8,7 @@ use Rattle.leveldb_table.specs.TableReads.{Has}
 use Rattle.leveldb_table.specs.TableWalk.{inner_place, inner_pairs, pairs_over, place_over}
 use Rattle.leveldb_table.proofs.TableCalls.{reads_weaker, reads_refused, reads_own, reads_ok}
 use Rattle.leveldb_table.proofs.TableMoves.{ok_refused, err_holds, none_there, from_none, from_block, block_lines, some_none, next_stands, next_lacks, IsInto, is_into}
+use Rattle.leveldb_table.proofs.TablePaces.{into_at}
 use Rattle.leveldb_table.proofs.table_reader.walk.TableCore.to_next_block.Goals as goal
 
 pub returns-in_err-load_line-clause-enters : goal.returns-in_err-load_line-clause-enters
@@ -20,6 +21,7 @@ returns-in_err-load_line-clause-enters g c =
       reads = reads_refused g.E.Env c.from_residual-in_err-load_line.result c.from_residual-in_err-load_line.ensures.1
           (reads_weaker g.E.Env _ (λ status lacking. (lacking.0, λ bytes has parts place right fit holds indexed. next_lacks right fit indexed c.advance.new.self c.in_ok-advance.ensures.block c.in_ok-advance.ensures.ok there (lacking.1 bytes has))) c.in_err-load_line.ensures.reads);
       ok = λ bytes has parts place right fit holds indexed. ok_refused _ _ c.from_residual-in_err-load_line.result c.from_residual-in_err-load_line.ensures.1;
+      steps = λ bytes has holds. ok_refused _ _ c.from_residual-in_err-load_line.result c.from_residual-in_err-load_line.ensures.1;
       from = λ bytes has holds. from_none codings cmp bytes c.load_line.new.self none;
       err = err_holds c.from_residual-in_err-load_line.result none;
       gathers = c.in_err-load_line.ensures.gathers;
@@ -47,6 +49,7 @@ returns-then-not-branch-2-clause-enters g c =
       reads = reads_own g.E.Env c.refuse_empty.result read.reads.looks read.reads.cause.ok c.refuse_empty.ensures
           (λ status code. inr (inl code, λ bytes has parts place right fit holds indexed. some_none (sym (next_stands right fit indexed new (into bytes has holds)).0 ∙ none)));
       ok = λ bytes has parts place right fit holds indexed. ok_refused _ _ c.refuse_empty.result c.refuse_empty.ensures;
+      steps = λ bytes has holds. ok_refused _ _ c.refuse_empty.result c.refuse_empty.ensures;
       from = λ bytes has holds. from_none codings cmp bytes new none;
       err = err_holds c.refuse_empty.result none;
       gathers = read.gathers;
@@ -72,6 +75,7 @@ returns-clause-enters g c =
     record {
       reads = reads_ok g.E.Env read.reads.looks read.reads.cause.ok;
       ok = λ bytes has parts place right fit holds indexed. (next_stands right fit indexed new (into bytes has holds)).1;
+      steps = λ bytes has holds. into_at codings cmp bytes old new (into bytes has holds) (sym step.answer ∙ c.if-not-branch-2.false);
       from = λ bytes has holds. from_block codings cmp bytes new (into bytes has holds).block;
       err = tt;
       gathers = read.gathers;
