@@ -1,4 +1,3 @@
-mod Rows
 mod Batches
 mod Entries
 mod Laying
@@ -10,12 +9,3 @@ mod Gaining
 mod Walking
 mod Memories
 mod Inserting
-pub mod WriterSteps
-pub mod Ranges
-pub mod ReaderSteps
-pub mod FragmentSteps
-pub mod NoFragments
-pub mod Takings
-pub mod BehindFiller
-pub mod Leads
-pub mod Joinings

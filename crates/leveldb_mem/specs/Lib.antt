@@ -1,15 +1,5 @@
-pub mod Log
-pub mod Honest
-pub mod LogLaws
 pub mod Batch
 pub mod BatchLaws
-pub mod Writing
-pub mod Reading
-pub mod Comings
-pub mod LogFiles
-pub mod ReadingLaws
-pub mod ReaderKept
-pub mod ReadingSteps
 pub mod Entries
 pub mod Searching
 pub mod Placed

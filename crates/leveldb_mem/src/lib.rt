@@ -1,8 +1,6 @@
-//! The record log and what lies in memory beside it.
+//! What lies in memory of a store: write batches, maps and memtables.
 #![tactic(auto)]
 
-pub mod log;
-pub mod log_laws;
 pub mod memtable;
 pub mod skipmap;
 pub mod write_batch;

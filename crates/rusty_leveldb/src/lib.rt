@@ -14,5 +14,6 @@ pub use leveldb_env::filter::FilterPolicy;
 pub use leveldb_env::mem_env::MemEnv;
 pub use leveldb_env::options::Options;
 pub use leveldb_env::{env, filter, mem_env, options};
+pub use leveldb_log::{log, log_laws};
+pub use leveldb_mem::write_batch;
 pub use leveldb_mem::write_batch::WriteBatch;
-pub use leveldb_mem::{log, log_laws, write_batch};

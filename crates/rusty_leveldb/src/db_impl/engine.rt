@@ -12,7 +12,7 @@ use leveldb_base::error::{Result, StatusCode, err};
 use leveldb_env::env::Env;
 use leveldb_env::filter::FilterPolicy;
 use leveldb_env::options::Options;
-use leveldb_mem::log::WriterCore;
+use leveldb_log::log::WriterCore;
 use std::alloc::Global;
 
 /// Whether a store may be read and written to.

@@ -1,0 +1,10 @@
+mod Rows
+pub mod WriterSteps
+pub mod Ranges
+pub mod ReaderSteps
+pub mod FragmentSteps
+pub mod NoFragments
+pub mod Takings
+pub mod BehindFiller
+pub mod Leads
+pub mod Joinings

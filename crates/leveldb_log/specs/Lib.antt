@@ -1,0 +1,10 @@
+pub mod Log
+pub mod Honest
+pub mod LogLaws
+pub mod Writing
+pub mod Reading
+pub mod Comings
+pub mod LogFiles
+pub mod ReadingLaws
+pub mod ReaderKept
+pub mod ReadingSteps
