@@ -5,7 +5,7 @@ use Rattle.leveldb_base.specs.Handle.{Handle}
 use Rattle.leveldb_base.specs.declared.error.Status.{Status}
 use Rattle.leveldb_base.specs.declared.error.StatusCode.TheVariants.{Corruption}
 use Rattle.leveldb_env.specs.Calls.{NoMemory}
-use Rattle.leveldb_env.specs.Coders.{Coding, Codings, IsUnset, decoded_by, decoded_under}
+use Rattle.leveldb_env.specs.Coders.{Coding, Codings, IsUnset, RefusesWith, decoded_by, decoded_under}
 use Rattle.leveldb_env.specs.declared.env.Env.{Ghosts}
 use Rattle.leveldb_table.specs.Block.{IsNoBlock, IsBlock}
 use Rattle.leveldb_table.specs.Table.{StoresAt}
@@ -48,17 +48,17 @@ module _ {E F : Type 0} (env : Ghosts E F) (codings : Codings) (cmp : List ℕ �
     )
 
     module _ {coding : Coding} (coder : codings id ≡ Some coding) where
-      decoded_is : decoded_by codings id stored ≡ coding stored
+      decoded_is : decoded_by codings id stored ≡ coding.decoded stored
       decoded_is = ap (λ o. decoded_under o stored) coder
 
       -- their coder refuses them
-      pub lacks_text : {status : Status} → NoMemory status ⊎ (coding stored ≡ None) → NoMemory status ⊎ Lacks status
-      lacks_text {status} why = ⊎_elim (λ memory. inl memory) (λ (none : coding stored ≡ None). inr (
+      pub lacks_text : {status : Status} → NoMemory status ⊎ ((coding.decoded stored ≡ None) × RefusesWith coding status) → NoMemory status ⊎ Lacks status
+      lacks_text {status} why = ⊎_elim (λ memory. inl memory) (λ (none : (coding.decoded stored ≡ None) × RefusesWith coding status). inr (
         inr (handle, id, stored, stands, subst (λ o. IsUndecodedBy o id stored status) (sym coder) none),
-        λ bytes has. no_block_decoded codings cmp (stands bytes has) (decoded_is ∙ none),
+        λ bytes has. no_block_decoded codings cmp (stands bytes has) (decoded_is ∙ none.0),
       )) why
 
       -- they are decoded to what is no block
-      pub lacks_block : {text : List ℕ} → coding stored ≡ Some text → (status : Status) → NoMemory status ⊎ ((status.code ≡ Corruption) × IsNoBlock cmp text) → NoMemory status ⊎ Lacks status
+      pub lacks_block : {text : List ℕ} → coding.decoded stored ≡ Some text → (status : Status) → NoMemory status ⊎ ((status.code ≡ Corruption) × IsNoBlock cmp text) → NoMemory status ⊎ Lacks status
       lacks_block {text} coded status why = ⊎_elim (λ memory. inl memory)
           (λ (damaged : (status.code ≡ Corruption) × IsNoBlock cmp text). inr (inl damaged.0, λ bytes has. no_block_in codings cmp (stands bytes has) (decoded_is ∙ coded) damaged.1)) why

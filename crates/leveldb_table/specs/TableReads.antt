@@ -6,7 +6,7 @@ use Rattle.leveldb_base.specs.Places.{Pair}
 use Rattle.leveldb_base.specs.declared.error.Status.{Status}
 use Rattle.leveldb_base.specs.declared.error.StatusCode.TheVariants.{Corruption}
 use Rattle.leveldb_env.specs.Calls.{Still, SameLocks, HasCause, IsMissing}
-use Rattle.leveldb_env.specs.Coders.{Coding, Codings, Decodes, IsUnset}
+use Rattle.leveldb_env.specs.Coders.{Coding, Codings, Decodes, IsUnset, RefusesWith}
 use Rattle.leveldb_env.specs.Disk.{bytes_of}
 use Rattle.leveldb_env.specs.FilterBlock.{IsFilterBlock}
 use Rattle.leveldb_env.specs.Runs.{Run}
@@ -35,7 +35,7 @@ HasNoFilters bytes handle = (text : List ℕ) (filters : List (List ℕ)) → St
 -- these bytes aren't decoded: their id has no coder, or its coder refuses them with a code of its own
 abbrev pub IsUndecodedBy : Option Coding → ℕ → List ℕ → Status → Type 0
 IsUndecodedBy None id stored status = IsUnset id status
-IsUndecodedBy (Some coding) id stored status = coding stored ≡ None
+IsUndecodedBy (Some coding) id stored status = (coding.decoded stored ≡ None) × RefusesWith coding status
 
 abbrev pub IsUndecoded : Codings → ℕ → List ℕ → Status → Type 0
 IsUndecoded codings id stored status = IsUndecodedBy (codings id) id stored status
