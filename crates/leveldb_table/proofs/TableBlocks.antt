@@ -1,5 +1,5 @@
 -- Why no block is read at a handle, though something may be stored there.
-use Rattle.std.proofs.Common.{◌≡◌, ◌⊎◌, ℕ, List, None, Some, sym, ◌∙◌, ap, subst, inl, inr, ⊎_elim}
+use Rattle.std.proofs.Common.{◌≡◌, ◌⊎◌, ℕ, List, None, Some, refl, sym, ◌∙◌, ap, subst, inl, inr, ⊎_elim}
 use Rattle.std.specs.declared.cmp.Ordering.{Ordering}
 use Rattle.leveldb_base.specs.Handle.{Handle}
 use Rattle.leveldb_base.specs.declared.error.Status.{Status}
@@ -33,7 +33,7 @@ module _ (codings : Codings) (cmp : List ℕ → List ℕ → Ordering) {bytes :
 -- why a block isn't read
 module _ {E F : Type 0} (env : Ghosts E F) (codings : Codings) (cmp : List ℕ → List ℕ → Ordering) (state : E) (file : F) (handle : Handle) where
   abbrev Lacks : Status → Type 0
-  Lacks status = IsLacking env codings (λ bytes. HasNoBlock codings cmp bytes handle) state file status
+  Lacks status = IsLacking env codings (λ other. other ≡ handle) (λ bytes. HasNoBlock codings cmp bytes handle) state file status
 
   -- the stored bytes weren't read
   pub lacks_stored : (status : Status) → IsDamaged env (λ bytes. StoresNothing bytes handle) state file status → Lacks status
@@ -43,7 +43,7 @@ module _ {E F : Type 0} (env : Ghosts E F) (codings : Codings) (cmp : List ℕ �
     -- their id has no coder
     pub lacks_coder : (status : Status) → codings id ≡ None → IsUnset id status → Lacks status
     lacks_coder status none unset = (
-      inr (handle, id, stored, stands, subst (λ o. IsUndecodedBy o id stored status) (sym none) unset),
+      inr (record { handle = handle; at = refl; id = id; stored = stored; stands = stands; undecoded = subst (λ o. IsUndecodedBy o id stored status) (sym none) unset }),
       λ bytes has. no_block_decoded codings cmp (stands bytes has) (ap (λ o. decoded_under o stored) none),
     )
 
@@ -54,7 +54,7 @@ module _ {E F : Type 0} (env : Ghosts E F) (codings : Codings) (cmp : List ℕ �
       -- their coder refuses them
       pub lacks_text : {status : Status} → NoMemory status ⊎ ((coding.decoded stored ≡ None) × RefusesWith coding status) → NoMemory status ⊎ Lacks status
       lacks_text {status} why = ⊎_elim (λ memory. inl memory) (λ (none : (coding.decoded stored ≡ None) × RefusesWith coding status). inr (
-        inr (handle, id, stored, stands, subst (λ o. IsUndecodedBy o id stored status) (sym coder) none),
+        inr (record { handle = handle; at = refl; id = id; stored = stored; stands = stands; undecoded = subst (λ o. IsUndecodedBy o id stored status) (sym coder) none }),
         λ bytes has. no_block_decoded codings cmp (stands bytes has) (decoded_is ∙ none.0),
       )) why
 

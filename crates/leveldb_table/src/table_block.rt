@@ -36,7 +36,7 @@ pub fn read_table_block<E: Env, C: Cmp + Drop>(
     coders: &CompressorList,
     location: BlockHandle,
 ) -> Result<Block<C>>
-    ensures reads { Reads E.Env (IsLacking E.Env (⟦<CompressorList as Coders>⟧.codings coders.now) (λ bytes. HasNoBlock (⟦<CompressorList as Coders>⟧.codings coders.now) (C.cmp cmp) bytes location) env.old file.now) env.old file.now env.new result }
+    ensures reads { Reads E.Env (IsLacking E.Env (⟦<CompressorList as Coders>⟧.codings coders.now) (λ handle. handle ≡ location) (λ bytes. HasNoBlock (⟦<CompressorList as Coders>⟧.codings coders.now) (C.cmp cmp) bytes location) env.old file.now) env.old file.now env.new result }
     ensures ok { IfOk result (λ block. Whatever E.Env env.old file.now (λ bytes. HasBlockAt (Decodes (⟦<CompressorList as Coders>⟧.codings coders.now)) bytes location block.contents)) }
     ensures order { IfOk result (λ block. block.cmp ≡ cmp) }
 {
