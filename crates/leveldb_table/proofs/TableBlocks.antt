@@ -9,7 +9,7 @@ use Rattle.leveldb_env.specs.Coders.{Coding, Codings, IsUnset, RefusesWith, deco
 use Rattle.leveldb_env.specs.declared.env.Env.{Ghosts}
 use Rattle.leveldb_table.specs.Block.{IsNoBlock, IsBlock}
 use Rattle.leveldb_table.specs.Table.{StoresAt}
-use Rattle.leveldb_table.specs.TableReads.{Whatever, StoresNothing, HasNoBlock, IsDamaged, IsLacking, IsUndecodedBy}
+use Rattle.leveldb_table.specs.TableReads.{Whatever, StoresNothing, HasNoBlock, IsDamaged, IsLacking, IsUndecodedBy, IsUndecoded}
 use Rattle.leveldb_table.proofs.TablePlaces.{stores_one, has_one_block}
 
 module _ (codings : Codings) (cmp : List ℕ → List ℕ → Ordering) {bytes : List ℕ} {handle : Handle} where
@@ -62,3 +62,26 @@ module _ {E F : Type 0} (env : Ghosts E F) (codings : Codings) (cmp : List ℕ �
       pub lacks_block : {text : List ℕ} → coding.decoded stored ≡ Some text → (status : Status) → NoMemory status ⊎ ((status.code ≡ Corruption) × IsNoBlock cmp text) → NoMemory status ⊎ Lacks status
       lacks_block {text} coded status why = ⊎_elim (λ memory. inl memory)
           (λ (damaged : (status.code ≡ Corruption) × IsNoBlock cmp text). inr (inl damaged.0, λ bytes has. no_block_in codings cmp (stands bytes has) (decoded_is ∙ coded) damaged.1)) why
+
+-- the one reason where the stored bytes aren't decoded, by what was read of them
+module _ (codings : Codings) {bytes : List ℕ} {handle : Handle} {id other : ℕ} {stored found : List ℕ} (there : StoresAt bytes handle id stored) (stands : StoresAt bytes handle other found) where
+  undecoded_as : (status : Status) → IsUndecoded codings other found status → IsUndecoded codings id stored status
+  undecoded_as status why =
+      let same = stores_one there stands in
+      subst (λ z. IsUndecoded codings z stored status) (sym same.0) (subst (λ z. IsUndecoded codings other z status) (sym same.1) why)
+
+  -- their id has no coder
+  pub undecoded_coder : (status : Status) → codings other ≡ None → IsUnset other status → IsUndecoded codings id stored status
+  undecoded_coder status none unset = undecoded_as status (subst (λ o. IsUndecodedBy o other found status) (sym none) unset)
+
+  module _ {coding : Coding} (coder : codings other ≡ Some coding) where
+    -- their coder refuses them
+    pub undecoded_text : (status : Status) → (coding.decoded found ≡ None) × RefusesWith coding status → IsUndecoded codings id stored status
+    undecoded_text status why = undecoded_as status (subst (λ o. IsUndecodedBy o other found status) (sym coder) why)
+
+    -- it doesn't
+    pub undecoded_not : {text : List ℕ} → decoded_by codings id stored ≡ None → coding.decoded found ≡ Some text → ⊥
+    undecoded_not {text} none coded =
+        let same = stores_one there stands in
+        let e : None ≡ Some text = sym none ∙ ap (λ z. decoded_by codings z stored) same.0 ∙ ap (decoded_by codings other) same.1 ∙ ap (λ o. decoded_under o found) coder ∙ coded in
+        cc
