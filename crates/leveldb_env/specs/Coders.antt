@@ -1,17 +1,23 @@
--- Coders: the block that stored bytes are decoded to, and which id stands for which coding.
-use Rattle.std.specs.Prelude.{◌≡◌, ◌==◌, ℕ, if◌then◌else◌, List, [], ◌∷◌, ◌++◌, Option, None, Some, IfSome, codes, string_bytes}
+-- Coders: the block that stored bytes are decoded to, how a coder refuses, and which id stands for which coding.
+use Rattle.std.specs.Prelude.{◌≡◌, ◌==◌, ℕ, Bool, false, if◌then◌else◌, List, [], ◌∷◌, ◌++◌, Option, None, Some, IfSome, IsTrue, codes, string_bytes}
 use Rattle.std.specs.Fmt.{decimal}
 use Rattle.std.specs.declared.vec.Vec.{Vec}
 use Rattle.leveldb_base.specs.declared.error.Status.{Status}
+use Rattle.leveldb_base.specs.declared.error.StatusCode.{StatusCode}
 use Rattle.leveldb_base.specs.declared.error.StatusCode.TheVariants.{NotSupported}
 
--- the block that stored bytes are decoded to, where there is one
-abbrev pub Coding : Type 0
-Coding = List ℕ → Option (List ℕ)
+-- The block that stored bytes are decoded to, where there is one, and the codes with which the coder may refuse.
+pub record Coding : Type 0 where
+  pub decoded : List ℕ → Option (List ℕ)
+  pub refuses : StatusCode → Bool
 
--- a block is stored as it is
+-- a block is stored as it is, and none is refused
 abbrev pub plain : Coding
-plain stored = Some stored
+plain = record { decoded = λ stored. Some stored; refuses = λ code. false }
+
+-- the status has a code with which this coder refuses
+abbrev pub RefusesWith : Coding → Status → Type 0
+RefusesWith coding status = IsTrue (coding.refuses status.code)
 
 -- the coding that an id stands for, where it is set
 abbrev pub Codings : Type 0
@@ -32,7 +38,7 @@ with_coding codings id coding other = if id == other then Some coding else codin
 -- the block, under a coding where there is one
 abbrev pub decoded_under : Option Coding → List ℕ → Option (List ℕ)
 decoded_under None stored = None
-decoded_under (Some coding) stored = coding stored
+decoded_under (Some coding) stored = coding.decoded stored
 
 -- the block that bytes stored under this id are decoded to, where there is one
 abbrev pub decoded_by : Codings → ℕ → List ℕ → Option (List ℕ)

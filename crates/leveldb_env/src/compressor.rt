@@ -2,24 +2,26 @@
 ghost use Rattle.std.specs.Prelude.{◌≡◌, ◌⊎◌, ℕ, Bool, true, false, if◌then◌else◌, List, [], ◌∷◌, Option, None, Some, map, length, ◌<◌, ◌≤◌, is_some, option_map, ◌==◌, IfOk, IfErr, IfSome, IfNone, OnOk, OnErr};
 ghost use Rattle.std.specs.List.{position_or_len};
 ghost use Rattle.leveldb_base.specs.Status.{IsOutOfMemory};
-ghost use Rattle.leveldb_env.specs.Coders.{plain, Coding, Codings, no_codings, plain_codings, with_coding, first_coding, listed_items, IsUnset};
+ghost use Rattle.leveldb_env.specs.Coders.{plain, Coding, RefusesWith, Codings, no_codings, plain_codings, with_coding, first_coding, listed_items, IsUnset};
 
 use leveldb_base::error::{Result, Status, StatusCode};
 use std::alloc::Global;
 
 /// What is stored for a block, and how the block is read from it. What was encoded decodes to the block.
 pub trait Compressor: Drop {
-    /// The block that stored bytes are decoded to, where there is one.
-    ghost decoded: { Self → List ℕ → Option (List ℕ) };
+    /// The block that stored bytes are decoded to, where there is one, and the codes with which the coder may refuse.
+    ghost coding: { Self → Coding };
 
-    /// What is to be stored for a block. A coder refuses a block for causes of its own.
+    /// What is to be stored for a block. A coder may refuse a block, with a code of its own.
     fn encode(&self, alloc: Global, block: Vec<u8>) -> Result<Vec<u8>>
-        ensures { IfOk result (λ stored. decoded self.now stored.items ≡ Some block.items) };
+        ensures ok { IfOk result (λ stored. (coding self.now).decoded stored.items ≡ Some block.items) }
+        ensures cause { IfErr result (λ status. IsOutOfMemory status ⊎ RefusesWith (coding self.now) status) };
 
-    /// The block that is stored so. It is refused only where there is none, or for want of memory.
+    /// The block that is stored so. It is refused only where there is none, with a code of the coder's own, or for want of
+    /// memory.
     fn decode(&self, alloc: Global, stored: Vec<u8>) -> Result<Vec<u8>>
-        ensures ok { IfOk result (λ block. decoded self.now stored.items ≡ Some block.items) }
-        ensures cause { IfErr result (λ status. IsOutOfMemory status ⊎ (decoded self.now stored.items ≡ None)) };
+        ensures ok { IfOk result (λ block. (coding self.now).decoded stored.items ≡ Some block.items) }
+        ensures cause { IfErr result (λ status. IsOutOfMemory status ⊎ (((coding self.now).decoded stored.items ≡ None) × RefusesWith (coding self.now) status)) };
 }
 
 /// The id under which a coder is known.
@@ -40,7 +42,7 @@ impl CompressorId for NoneCompressor {
 }
 
 impl Compressor for NoneCompressor {
-    ghost decoded = { λ _. plain };
+    ghost coding = { λ _. plain };
 
     fn encode(&self, _alloc: Global, block: Vec<u8>) -> Result<Vec<u8>> {
         Ok(block)
@@ -61,7 +63,7 @@ pub enum Coder<'a> {
 impl Compressor for Coder<'_> {
     ghost use Rattle.leveldb_env.specs.declared.compressor.Coder.TheVariants.{Plain, Boxed};
 
-    ghost decoded = { elim [ Plain _ ↦ plain | Boxed coder ↦ (Compressor-box coder.now).decoded coder.now.value ] };
+    ghost coding = { elim [ Plain _ ↦ plain | Boxed coder ↦ (Compressor-box coder.now).coding coder.now.value ] };
 
     fn encode(&self, alloc: Global, block: Vec<u8>) -> Result<Vec<u8>> {
         match self {
@@ -100,7 +102,7 @@ pub struct CompressorList {
 }
 
 impl Coders for CompressorList {
-    ghost codings = { λ list. first_coding (map (λ listed. (listed.id, (Compressor-box listed.compressor).decoded listed.compressor.value)) (listed_items list.listed)) (if list.plain then plain_codings else no_codings) };
+    ghost codings = { λ list. first_coding (map (λ listed. (listed.id, (Compressor-box listed.compressor).coding listed.compressor.value)) (listed_items list.listed)) (if list.plain then plain_codings else no_codings) };
 }
 
 impl CompressorList {
@@ -130,7 +132,7 @@ impl CompressorList {
         alloc: Global,
         compressor: Box<dyn Compressor>,
     ) -> Result<()>
-        ensures ok { OnOk result (⟦<CompressorList as Coders>⟧.codings self.new ≡ with_coding (⟦<CompressorList as Coders>⟧.codings self.old) I.ID (decoded compressor)) }
+        ensures ok { OnOk result (⟦<CompressorList as Coders>⟧.codings self.new ≡ with_coding (⟦<CompressorList as Coders>⟧.codings self.old) I.ID (coding compressor)) }
         ensures err { OnErr result (⟦<CompressorList as Coders>⟧.codings self.new ≡ ⟦<CompressorList as Coders>⟧.codings self.old) }
         ensures memory { IfErr result IsOutOfMemory }
     {
@@ -144,7 +146,7 @@ impl CompressorList {
         id: u8,
         compressor: Box<dyn Compressor>,
     ) -> Result<()>
-        ensures ok { OnOk result (⟦<CompressorList as Coders>⟧.codings self.new ≡ with_coding (⟦<CompressorList as Coders>⟧.codings self.old) id (decoded compressor)) }
+        ensures ok { OnOk result (⟦<CompressorList as Coders>⟧.codings self.new ≡ with_coding (⟦<CompressorList as Coders>⟧.codings self.old) id (coding compressor)) }
         ensures err { OnErr result (⟦<CompressorList as Coders>⟧.codings self.new ≡ ⟦<CompressorList as Coders>⟧.codings self.old) }
         ensures memory { IfErr result IsOutOfMemory }
     {
@@ -166,7 +168,7 @@ impl CompressorList {
 
     /// The coder of an id; `NotSupported` where it has none.
     pub fn get(&self, alloc: Global, id: u8) -> Result<Coder<'_>>
-        ensures ok { IfOk result (λ coder. ⟦<CompressorList as Coders>⟧.codings self.now id ≡ Some (⟦<Coder<'static> as Compressor>⟧.decoded coder)) }
+        ensures ok { IfOk result (λ coder. ⟦<CompressorList as Coders>⟧.codings self.now id ≡ Some (⟦<Coder<'static> as Compressor>⟧.coding coder)) }
         ensures unset { IfErr result (λ status. (⟦<CompressorList as Coders>⟧.codings self.now id ≡ None) × IsUnset id status) }
     {
         self.found(id).ok_or_else(|| Status {
@@ -186,7 +188,7 @@ impl CompressorList {
 
     // The coder of an id, where it has one.
     fn found(&self, id: u8) -> Option<Coder<'_>>
-        ensures { option_map ⟦<Coder<'static> as Compressor>⟧.decoded result ≡ ⟦<CompressorList as Coders>⟧.codings self.now id }
+        ensures { option_map ⟦<Coder<'static> as Compressor>⟧.coding result ≡ ⟦<CompressorList as Coders>⟧.codings self.now id }
     {
         let listed = self.listed();
         if let Some(at) = index_of(listed, id) {
@@ -214,8 +216,8 @@ fn index_of(listed: &[Listed], id: u8) -> Option<usize>
 
 // Puts a coder in the place of the first one with its id, or behind all others.
 fn put(listed: &mut Vec<Listed>, id: u8, compressor: Box<dyn Compressor>) -> Result<()>
-    ensures ok { OnOk result ((otherwise : Codings) → first_coding (map (λ l. (l.id, decoded l.compressor)) listed.new.items) otherwise
-        ≡ with_coding (first_coding (map (λ l. (l.id, decoded l.compressor)) listed.old.items) otherwise) id (decoded compressor)) }
+    ensures ok { OnOk result ((otherwise : Codings) → first_coding (map (λ l. (l.id, coding l.compressor)) listed.new.items) otherwise
+        ≡ with_coding (first_coding (map (λ l. (l.id, coding l.compressor)) listed.old.items) otherwise) id (coding compressor)) }
     ensures err { OnErr result (listed.new.items ≡ listed.old.items) }
     ensures memory { IfErr result IsOutOfMemory }
 {

@@ -2,7 +2,6 @@
 use Rattle.std.proofs.Common.{◌≡◌, ℕ, Bool, true, false, if◌then◌else◌, List, Option, None, Some, Result, Ok, Err, refl, sym, ◌∙◌, ap, subst}
 use Rattle.std.specs.Prelude.{IfOk, IfSome, Contains}
 use Rattle.std.specs.declared.cmp.Ordering.{Ordering}
-use Rattle.std.proofs.lemmas.Option.{slice_get_within, get_or_from_slice_get}
 use Rattle.leveldb_base.specs.Handle.{handle_bytes}
 use Rattle.leveldb_base.specs.Places.{Pair, seek_place, pair_at}
 use Rattle.leveldb_base.specs.declared.cmp.Cmp.{Ghosts as CmpGhosts}
@@ -14,6 +13,7 @@ use Rattle.leveldb_table.specs.TableReading.{pairs_in, found_in}
 use Rattle.leveldb_table.specs.TableWalk.{Stands, IsGiven, IsFrom, IsFromInner, inner_pairs, inner_place, current_of, pairs_over, place_over}
 use Rattle.leveldb_table.specs.declared.block.owned.BlockWalk.{BlockWalk}
 use Rattle.leveldb_table.specs.declared.table_reader.walk.TableCore.{TableCore}
+use Rattle.leveldb_table.proofs.TableForeign.{contains_at}
 use Rattle.leveldb_table.proofs.TableMoves.{some_none}
 use Rattle.leveldb_table.proofs.TablePlacesIn.{first_is, current_at}
 
@@ -21,11 +21,6 @@ use Rattle.leveldb_table.proofs.TablePlacesIn.{first_is, current_at}
 pub ok_says : {T E : Type 0} {P Q : T → Type 0} (result : Result T E) → ((answer : T) → P answer → Q answer) → IfOk result P → IfOk result Q
 ok_says (Ok answer) says h = says answer h
 ok_says (Err error) says h = tt
-
--- a pair at a place is one of the pairs
-contains_at : (pairs : List Pair) (place : Option ℕ) (pair : Pair) → pair_at pairs place ≡ Some pair → Contains pairs pair
-contains_at pairs None pair is = absurd (some_none (sym is))
-contains_at pairs (Some i) pair is = (i, slice_get_within pairs i pair is, get_or_from_slice_get pairs i pair pair is)
 
 module _ (cmp : List ℕ → List ℕ → Ordering) (lets : ℕ → List ℕ → Bool) (key : List ℕ) (parts : List Part) where
   at_passed : (b : Bool) → pair_at (pairs_in parts) (if b then seek_place cmp (pairs_in parts) key else None) ≡ (if b then first_from cmp key (pairs_in parts) else None)

@@ -25,6 +25,7 @@ use Rattle.leveldb_table.specs.declared.block.owned.BlockWalk.{BlockWalk}
 use Rattle.leveldb_table.specs.declared.block_cache.CachedBlock.{CachedBlock}
 use Rattle.leveldb_table.specs.declared.table_reader.walk.TableCore.{TableCore}
 use Rattle.leveldb_table.proofs.TableCalls.{reads_weaker}
+use Rattle.leveldb_table.proofs.TableForeign.{refused_at, named_along}
 use Rattle.leveldb_table.proofs.TablePlaces.{has_one_block}
 use Rattle.leveldb_table.proofs.TableSteps.{OnOk-with}
 use Rattle.leveldb_table.proofs.TablePlacesIn.{place_in, part_at, line_at, all_at, Passes, passes_last, to_block, to_end}
@@ -242,7 +243,7 @@ module _ {C : Type 0} {order : CmpGhosts C} where
   moves_enters {env = env} {codings = codings} {cmp = cmp} {to = to} {Part_step = Part_step} {Step = Step} {mid = mid} {new = new} {result = result} old lines same way step enters =
       let indexed : (parts : List Part) (place : Option ℕ) → Stands cmp parts old place → IsIndexed cmp parts mid = λ parts place stands. record { lines = lines ∙ stands.lines; ordered = ap order.cmp same ∙ stands.ordered } in
       record {
-        reads = reads_weaker env result (λ status lacking. (lacking.0, λ bytes has parts place right fit holds stands. lacking.1 bytes has parts (to (pairs_in parts) place) right (way parts place fit stands) holds (indexed parts place stands))) enters.reads;
+        reads = reads_weaker env result (λ status lacking. (refused_at env (named_along lines) lacking.0, λ bytes has parts place right fit holds stands. lacking.1 bytes has parts (to (pairs_in parts) place) right (way parts place fit stands) holds (indexed parts place stands))) enters.reads;
         ok = λ bytes has parts place right fit holds stands. enters.ok bytes has parts (to (pairs_in parts) place) right (way parts place fit stands) holds (indexed parts place stands);
         steps = λ bytes has holds. OnOk-with result (Part_step codings cmp bytes mid new) (Step codings cmp bytes old new) (step bytes) (enters.steps bytes has holds);
         from = λ bytes has holds from. enters.from bytes has holds;

@@ -23,7 +23,8 @@ use Rattle.leveldb_table.specs.Table.{Part, IsPart, StoresAt, HasBlockAt, HasFil
 use Rattle.leveldb_table.specs.TableReading.{Opens, OpensNot, OpensWell, HasFiltersBy, HasParts, AllFit, pairs_in}
 use Rattle.leveldb_table.specs.TableReads.{Looks, Has, IsDamaged, IsLacking, HasNoBlock}
 use Rattle.leveldb_table.proofs.MetaLines.{one_spelled}
-use Rattle.leveldb_table.proofs.TableCalls.{Has-after, Whatever-before}
+use Rattle.leveldb_table.proofs.TableCalls.{Has-after}
+use Rattle.leveldb_table.proofs.TableForeign.{refused_before}
 use Rattle.leveldb_table.proofs.TableOrders.{all_with}
 use Rattle.leveldb_table.proofs.TablePlaces.{has_one_block, stores_one}
 
@@ -45,13 +46,10 @@ blocks_one {cmp} same first second =
 
 module _ {E F : Type 0} (env : Ghosts E F) (codings : Codings) {old mid : E} {file : F} (looks : Looks env old mid) (Part Whole : List ℕ → Type 0) (more : (bytes : List ℕ) → Has env old file bytes → Part bytes → Whole bytes) where
   -- a part is missing behind Ok calls, and so is the whole
-  pub lacks : (status : Status) → IsLacking env codings Part mid file status → IsLacking env codings Whole old file status
-  lacks status why = (
-    ⊎_elim (λ damaged. inl damaged) (λ foreign. inr (foreign.0, foreign.1, foreign.2, Whatever-before env file _ looks foreign.3, foreign.4)) why.0,
-    λ bytes has. more bytes has (why.1 bytes (Has-after env looks has)),
-  )
+  pub lacks : {At Others : Handle → Type 0} → ((handle : Handle) → At handle → Others handle) → (status : Status) → IsLacking env codings At Part mid file status → IsLacking env codings Others Whole old file status
+  lacks others status why = (refused_before env others looks why.0, λ bytes has. more bytes has (why.1 bytes (Has-after env looks has)))
 
-  pub lacks_damaged : (status : Status) → IsDamaged env Part mid file status → IsLacking env codings Whole old file status
+  pub lacks_damaged : {At : Handle → Type 0} (status : Status) → IsDamaged env Part mid file status → IsLacking env codings At Whole old file status
   lacks_damaged status why = (inl why.0, λ bytes has. more bytes has (why.1 bytes (Has-after env looks has)))
 
 module _ (codings : Codings) (cmp : List ℕ → List ℕ → Ordering) (key bytes front : List ℕ) (meta index : Handle) (meta_fits : HandleFits meta) (index_fits : HandleFits index)

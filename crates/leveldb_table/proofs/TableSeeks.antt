@@ -28,6 +28,7 @@ use Rattle.leveldb_table.specs.declared.block_cache.CachedBlock.{CachedBlock}
 use Rattle.leveldb_table.specs.declared.table_reader.walk.TableCore.{TableCore}
 use Rattle.leveldb_table.proofs.TableCaches.{Gathers-refl, Gathers-trans, Gathers-weaker, HoldsOf-after}
 use Rattle.leveldb_table.proofs.TableCalls.{Looks-refl, Has-after, Whatever-before, reads_then, reads_weaker, reads_own, reads_ok, reads_refused}
+use Rattle.leveldb_table.proofs.TableForeign.{refused_at, refused_before, named_along}
 use Rattle.leveldb_table.proofs.TableMoves.{ok_refused, err_holds, some_none, some_there, same_handle, same_value, block_lines, lacks_line, IsLineOf, line_is_of, part_pairs, from_none, from_block, IsInto, stands_along}
 use Rattle.leveldb_table.proofs.TableSteps.{OnOk-with}
 use Rattle.leveldb_table.proofs.TablePlacesIn.{parts_some, named_at, named_none, seek_in, seek_passes, previous_block, previous_end}
@@ -122,7 +123,7 @@ module _ {C : Type 0} {order : CmpGhosts C} where
         let indexed : (parts : List Part) → IsIndexed cmp parts old → IsIndexed cmp parts mid = λ parts is. record { lines = lines ∙ is.lines; ordered = ap order.cmp same ∙ is.ordered } in
         record {
           reads = reads_then env result looks counted (λ status lacking. (
-            ⊎_elim inl (λ foreign. inr (foreign.0, foreign.1, foreign.2, Whatever-before env file _ looks foreign.3, foreign.4)) lacking.0,
+            refused_before env (named_along lines) looks lacking.0,
             λ bytes has parts place right fit holds is. lacking.1 bytes (Has-after env looks has) parts place right (way bytes has parts place right fit holds is) (held bytes has holds) (indexed parts is),
           )) enters.reads;
           ok = λ bytes has parts place right fit holds is. enters.ok bytes (Has-after env looks has) parts place right (way bytes has parts place right fit holds is) (held bytes has holds) (indexed parts is);
@@ -208,7 +209,7 @@ module _ {C : Type 0} {order : CmpGhosts C} where
           at = ap inner_place none;
         } in
         record {
-          reads = reads_weaker env result (λ status lacking. (lacking.0, λ bytes has parts place right fit holds stands. lacking.1 bytes has parts None right fit holds (at parts place stands))) moves.reads;
+          reads = reads_weaker env result (λ status lacking. (refused_at env (named_along (ap pairs_over index)) lacking.0, λ bytes has parts place right fit holds stands. lacking.1 bytes has parts None right fit holds (at parts place stands))) moves.reads;
           ok = λ bytes has parts place right fit holds stands. moves.ok bytes has parts None right fit holds (at parts place stands);
           steps = λ bytes has holds. OnOk-with result (Part_step codings cmp bytes mid new) (Step codings cmp bytes old new) (step bytes) (moves.steps bytes has holds);
           from = λ bytes has holds from. moves.from bytes has holds (from_none codings cmp bytes mid (ap inner_place none));

@@ -68,7 +68,8 @@ module _ {S : Type 0} (puts : S → List ℕ → Result (Unit {0}) Status → S 
 
   pub ends_block : (codings : Codings) (id : ℕ) (text : List ℕ) (offset : ℕ) (from : S) (status : Status) (to : S) → IsNotPut puts codings id text offset from status to → Ends (GivesUp codings id status) from status to
   ends_block codings id text offset from status to (inl (same, unset, is)) = ends_same from status to same (inr (inl is.0))
-  ends_block codings id text offset from status to (inr (inl (same, coder))) = ends_same from status to same (inr (inr coder))
+  ends_block codings id text offset from status to (inr (inl (same, inl memory))) = ends_same from status to same (inl memory)
+  ends_block codings id text offset from status to (inr (inl (same, inr coder))) = ends_same from status to same (inr (inr coder))
   ends_block codings id text offset from status to (inr (inr (stored, coded, refused))) = ends_refused from (with_trailer id stored) (offset + length stored + 5) status to refused
 
   -- the open block wasn't closed

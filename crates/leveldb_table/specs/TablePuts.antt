@@ -1,11 +1,10 @@
 -- Blocks put into a table's file.
-use Rattle.std.specs.Prelude.{◌≡◌, ◌⊎◌, ℕ, ◌+◌, ◌^◌, ◌≤◌, List, length, Result, Ok, Err, Option, None}
-use Rattle.std.specs.Option.{IsSome}
+use Rattle.std.specs.Prelude.{◌≡◌, ◌⊎◌, ℕ, ◌+◌, ◌^◌, ◌≤◌, List, length, Result, Ok, Err, Option, None, IsSomeAnd}
 use Rattle.leveldb_base.specs.Handle.{Handle, HandleFits}
 use Rattle.leveldb_base.specs.Status.{IsOutOfMemory}
 use Rattle.leveldb_base.specs.declared.error.Status.{Status}
 use Rattle.leveldb_base.specs.declared.error.StatusCode.TheVariants.{NotSupported}
-use Rattle.leveldb_env.specs.Coders.{Codings, Decodes, IsUnset}
+use Rattle.leveldb_env.specs.Coders.{Codings, Decodes, IsUnset, RefusesWith}
 use Rattle.leveldb_env.specs.Sinks.{PutsAll, PutsPart}
 use Rattle.leveldb_table.specs.Table.{with_trailer}
 
@@ -13,11 +12,11 @@ use Rattle.leveldb_table.specs.Table.{with_trailer}
 abbrev pub IsTooLong : ℕ → Status → Type 0
 IsTooLong count status = (status.code ≡ NotSupported) × (2 ^ 64 ≤ count)
 
--- A coder is set under the id, so that the status may be its own. Which codes a coder has is left open.
-pub record IsCoders (codings : Codings) (id : ℕ) (status : Status) : Type 0 where
-  pub set : IsSome (codings id)
+-- the coder that is set under the id refuses with this status's code
+abbrev pub IsCoders : Codings → ℕ → Status → Type 0
+IsCoders codings id status = IsSomeAnd (codings id) (λ coding. RefusesWith coding status)
 
--- why a builder gives up by itself: want of memory, or something is too large or has no coder, or the coder's own status
+-- why a builder gives up by itself: want of memory, or something is too large or has no coder, or its coder refused with a code of its own
 abbrev pub GivesUp : Codings → ℕ → Status → Type 0
 GivesUp codings id status = IsOutOfMemory status ⊎ (status.code ≡ NotSupported) ⊎ IsCoders codings id status
 
@@ -34,11 +33,12 @@ module _ {S : Type 0} (puts : S → List ℕ → Result (Unit {0}) Status → S 
   abbrev pub IsRefused : List ℕ → ℕ → S → Status → S → Type 0
   IsRefused bytes count from status to = puts from bytes (Err status) to ⊎ ((to ≡ from) × (IsOutOfMemory status ⊎ IsTooLong count status))
 
-  -- A block of this text wasn't put at this offset: no coder is set under the id, or the coder refused the text, or the put was refused.
+  -- A block of this text wasn't put at this offset: no coder is set under the id; or the coder refused the text, for want of memory or
+  -- with a code of its own; or the put was refused.
   abbrev pub IsNotPut : Codings → ℕ → List ℕ → ℕ → S → Status → S → Type 0
   IsNotPut codings id text offset from status to =
       ((to ≡ from) × (codings id ≡ None) × IsUnset id status)
-      ⊎ ((to ≡ from) × IsCoders codings id status)
+      ⊎ ((to ≡ from) × (IsOutOfMemory status ⊎ IsCoders codings id status))
       ⊎ ((stored : List ℕ) × Decodes codings id stored text × IsRefused (with_trailer id stored) (offset + length stored + 5) from status to)
 
   -- one put of some bytes was refused with this status, or none was tried

@@ -1,17 +1,18 @@
 -- What reading the blocks of a table's file gives.
-use Rattle.std.specs.Prelude.{◌≡◌, ◌⊎◌, ◌^◌, ◌<◌, ◌++◌, ℕ, Bool, List, [], ◌∷◌, length, take, drop, Option, None, Some, Result, IsTrue, IsSomeAnd}
+use Rattle.std.specs.Prelude.{◌≡◌, ◌⊎◌, ◌^◌, ◌<◌, ◌++◌, ℕ, Bool, List, [], ◌∷◌, length, take, drop, Option, None, Some, Result, IsTrue, IsSomeAnd, Contains}
 use Rattle.std.specs.declared.cmp.Ordering.{Ordering}
-use Rattle.leveldb_base.specs.Handle.{Handle}
+use Rattle.leveldb_base.specs.Handle.{Handle, handle_bytes}
 use Rattle.leveldb_base.specs.Places.{Pair}
 use Rattle.leveldb_base.specs.declared.error.Status.{Status}
 use Rattle.leveldb_base.specs.declared.error.StatusCode.TheVariants.{Corruption}
 use Rattle.leveldb_env.specs.Calls.{Still, SameLocks, HasCause, IsMissing}
-use Rattle.leveldb_env.specs.Coders.{Coding, Codings, Decodes, IsUnset}
+use Rattle.leveldb_env.specs.Coders.{Coding, Codings, Decodes, IsUnset, RefusesWith}
 use Rattle.leveldb_env.specs.Disk.{bytes_of}
 use Rattle.leveldb_env.specs.FilterBlock.{IsFilterBlock}
 use Rattle.leveldb_env.specs.Runs.{Run}
 use Rattle.leveldb_env.specs.declared.env.Env.{Ghosts}
 use Rattle.leveldb_table.specs.Block.{IsBlock}
+use Rattle.leveldb_table.specs.Footer.{footer_bytes}
 use Rattle.leveldb_table.specs.Table.{StoresAt, HasBlockAt}
 
 -- ---- what is not there
@@ -35,10 +36,20 @@ HasNoFilters bytes handle = (text : List ℕ) (filters : List (List ℕ)) → St
 -- these bytes aren't decoded: their id has no coder, or its coder refuses them with a code of its own
 abbrev pub IsUndecodedBy : Option Coding → ℕ → List ℕ → Status → Type 0
 IsUndecodedBy None id stored status = IsUnset id status
-IsUndecodedBy (Some coding) id stored status = coding stored ≡ None
+IsUndecodedBy (Some coding) id stored status = (coding.decoded stored ≡ None) × RefusesWith coding status
 
 abbrev pub IsUndecoded : Codings → ℕ → List ℕ → Status → Type 0
 IsUndecoded codings id stored status = IsUndecodedBy (codings id) id stored status
+
+-- ---- the handles of an index
+
+-- a line of the index names the handle
+abbrev pub IsNamedBy : Option Pair → Handle → Type 0
+IsNamedBy line handle = IsSomeAnd line (λ pair. pair.1 ≡ handle_bytes handle)
+
+-- some line of it does
+abbrev pub IsNamedIn : List Pair → Handle → Type 0
+IsNamedIn lines handle = (key : List ℕ) × Contains lines (key, handle_bytes handle)
 
 -- ---- calls that read
 
@@ -73,11 +84,20 @@ module _ {E F : Type 0} (env : Ghosts E F) where
   abbrev pub IsDamaged : (List ℕ → Type 0) → E → F → Status → Type 0
   IsDamaged Missing state file status = (status.code ≡ Corruption) × Whatever state file Missing
 
-  -- stored bytes of the file aren't decoded
-  abbrev pub IsForeign : Codings → E → F → Status → Type 0
-  IsForeign codings state file status =
-      (handle : Handle) × (id : ℕ) × (stored : List ℕ) × Whatever state file (λ bytes. StoresAt bytes handle id stored) × IsUndecoded codings id stored status
+  -- at one of these handles, which the call was to read, the file has stored bytes that aren't decoded
+  pub record IsForeign (codings : Codings) (At : Handle → Type 0) (state : E) (file : F) (status : Status) : Type 0 where
+    pub handle : Handle
+    pub at : At handle
+    pub id : ℕ
+    pub stored : List ℕ
+    pub stands : Whatever state file (λ bytes. StoresAt bytes handle id stored)
+    pub undecoded : IsUndecoded codings id stored status
 
-  -- a part of the file is missing: its bytes are damaged, or stored under an id that isn't decoded
-  abbrev pub IsLacking : Codings → (List ℕ → Type 0) → E → F → Status → Type 0
-  IsLacking codings Missing state file status = ((status.code ≡ Corruption) ⊎ IsForeign codings state file status) × Whatever state file Missing
+  -- a part of the file is missing: its bytes are damaged, or what is stored at one of these handles isn't decoded
+  abbrev pub IsLacking : Codings → (Handle → Type 0) → (List ℕ → Type 0) → E → F → Status → Type 0
+  IsLacking codings At Missing state file status = ((status.code ≡ Corruption) ⊎ IsForeign codings At state file status) × Whatever state file Missing
+
+  -- the footer of the file, where it has this size, names the handle for its metaindex or its index
+  abbrev pub IsInFooter : ℕ → E → F → Handle → Type 0
+  IsInFooter size state file handle =
+      Whatever state file (λ bytes. length bytes ≡ size → (front : List ℕ) × (meta index : Handle) × (bytes ≡ front ++ footer_bytes meta index) × ((handle ≡ meta) ⊎ (handle ≡ index)))

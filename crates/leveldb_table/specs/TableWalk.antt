@@ -12,7 +12,7 @@ use Rattle.leveldb_table.specs.Cache.{Cached}
 use Rattle.leveldb_table.specs.Table.{Part, HasBlockAt, index_pair}
 use Rattle.leveldb_table.specs.TableCached.{HoldsOf, IsOf, Gathers}
 use Rattle.leveldb_table.specs.TableReading.{pairs_in, HasParts}
-use Rattle.leveldb_table.specs.TableReads.{Has, Whatever, IsLacking, Reads}
+use Rattle.leveldb_table.specs.TableReads.{Has, Whatever, IsLacking, IsNamedIn, Reads}
 use Rattle.leveldb_table.specs.Walk.{place_of}
 use Rattle.leveldb_table.specs.declared.block.Block.{Block}
 use Rattle.leveldb_table.specs.declared.block.owned.BlockWalk.{BlockWalk}
@@ -102,7 +102,7 @@ module _ {C : Type 0} {order : CmpGhosts C} where
   -- after an Err on none.
   pub record Moves {E F T : Type 0} (env : EnvGhosts E F) (codings : Codings) (cmp : List ℕ → List ℕ → Ordering) (id : ℕ) (file : F) (Fit : List Part → Type 0) (to : List Pair → Option ℕ → Option ℕ)
       (Step : Codings → (List ℕ → List ℕ → Ordering) → List ℕ → TableCore C order → TableCore C order → Type 0) (old_env : E) (old_cache : Cached (CachedBlock C order)) (old : TableCore C order) (result : Result T Status) (new_env : E) (new_cache : Cached (CachedBlock C order)) (new : TableCore C order) : Type 0 where
-    pub reads : Reads env (IsLacking env codings (λ bytes. (parts : List Part) (place : Option ℕ) → HasParts codings cmp bytes parts → Fit parts → HoldsOf codings cmp id bytes old_cache → Stands cmp parts old place → ⊥) old_env file)
+    pub reads : Reads env (IsLacking env codings (IsNamedIn (pairs_over old.index)) (λ bytes. (parts : List Part) (place : Option ℕ) → HasParts codings cmp bytes parts → Fit parts → HoldsOf codings cmp id bytes old_cache → Stands cmp parts old place → ⊥) old_env file)
         old_env file new_env result
     pub ok : Whatever env old_env file (λ bytes. (parts : List Part) (place : Option ℕ) → HasParts codings cmp bytes parts → Fit parts → HoldsOf codings cmp id bytes old_cache → Stands cmp parts old place
         → OnOk result (Stands cmp parts new (to (pairs_in parts) place)))

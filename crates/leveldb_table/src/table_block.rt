@@ -1,10 +1,10 @@
 //! Blocks read from a table's file, each with its trailer.
-ghost use Rattle.std.specs.Prelude.{◌≡◌, ◌⊎◌, ◌≤◌, ◌<◌, ◌+◌, ◌^◌, ℕ, length, take, drop, List, IfOk, IfSome, IfNone, IsErrAnd};
+ghost use Rattle.std.specs.Prelude.{◌≡◌, ◌⊎◌, ◌≤◌, ◌<◌, ◌+◌, ◌^◌, ℕ, length, take, drop, List, None, IfOk, IfSome, IfNone, IsErrAnd};
 ghost use Rattle.leveldb_base.specs.declared.error.StatusCode.TheVariants.{InvalidArgument};
-ghost use Rattle.leveldb_env.specs.Coders.{Decodes};
+ghost use Rattle.leveldb_env.specs.Coders.{Decodes, decoded_by};
 ghost use Rattle.leveldb_env.specs.FilterBlock.{IsFilterBlock};
 ghost use Rattle.leveldb_table.specs.Table.{StoresAt, HasBlockAt, with_trailer};
-ghost use Rattle.leveldb_table.specs.TableReads.{EndsBefore, StoresNothing, HasNoBlock, HasNoFilters, Reads, Whatever, IsDamaged, IsLacking};
+ghost use Rattle.leveldb_table.specs.TableReads.{EndsBefore, StoresNothing, HasNoBlock, HasNoFilters, Reads, Whatever, FailsFor, IsUndecoded, IsDamaged, IsLacking};
 
 use crate::block::Block;
 use crate::table_builder::{TABLE_BLOCK_CKSUM_LEN, TABLE_BLOCK_COMPRESS_LEN};
@@ -27,7 +27,7 @@ const STEP: usize = 1 << 16;
 
 /// The block that a file has at a handle. Where a read is short, it goes on until all bytes came.
 /// `Corruption` for a handle past the file's end, a wrong checksum and bytes that are no block; `NotSupported` for an id
-/// without a coder; a coder's own code where it refuses the stored bytes.
+/// without a coder; a code of the coder's own, and no other, where it refuses the stored bytes.
 pub fn read_table_block<E: Env, C: Cmp + Drop>(
     alloc: Global,
     cmp: C,
@@ -36,7 +36,9 @@ pub fn read_table_block<E: Env, C: Cmp + Drop>(
     coders: &CompressorList,
     location: BlockHandle,
 ) -> Result<Block<C>>
-    ensures reads { Reads E.Env (IsLacking E.Env (⟦<CompressorList as Coders>⟧.codings coders.now) (λ bytes. HasNoBlock (⟦<CompressorList as Coders>⟧.codings coders.now) (C.cmp cmp) bytes location) env.old file.now) env.old file.now env.new result }
+    ensures reads { Reads E.Env (IsLacking E.Env (⟦<CompressorList as Coders>⟧.codings coders.now) (λ handle. handle ≡ location) (λ bytes. HasNoBlock (⟦<CompressorList as Coders>⟧.codings coders.now) (C.cmp cmp) bytes location) env.old file.now) env.old file.now env.new result }
+    ensures undecoded { Whatever E.Env env.old file.now (λ bytes. (id : ℕ) (stored : List ℕ) → StoresAt bytes location id stored → decoded_by (⟦<CompressorList as Coders>⟧.codings coders.now) id stored ≡ None
+        → FailsFor E.Env (IsUndecoded (⟦<CompressorList as Coders>⟧.codings coders.now) id stored) env.old file.now env.new result) }
     ensures ok { IfOk result (λ block. Whatever E.Env env.old file.now (λ bytes. HasBlockAt (Decodes (⟦<CompressorList as Coders>⟧.codings coders.now)) bytes location block.contents)) }
     ensures order { IfOk result (λ block. block.cmp ≡ cmp) }
 {

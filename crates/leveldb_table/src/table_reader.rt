@@ -10,7 +10,7 @@ ghost use Rattle.leveldb_table.specs.Block.{IsBlock, pairs_of};
 ghost use Rattle.leveldb_table.specs.Table.{Part, HasBlockAt, index_pair, filter_key, offset_for};
 ghost use Rattle.leveldb_table.specs.Cache.{looked_for};
 ghost use Rattle.leveldb_table.specs.TableCached.{HoldsOf, IsOf, Gathers, IsHeldAt, cache_key};
-ghost use Rattle.leveldb_table.specs.TableReads.{HasNoBlock, Reads, Has, Whatever, IsLacking};
+ghost use Rattle.leveldb_table.specs.TableReads.{HasNoBlock, Reads, Has, Whatever, IsLacking, IsInFooter, IsNamedIn};
 
 use crate::block::Block;
 use crate::block_cache::{BlockCache, CachedBlock, cache_key};
@@ -76,7 +76,7 @@ impl<E: Env, C: UserCmp + Copy + Drop, FP: FilterPolicy + Copy + Drop> Table<
         size: usize,
     ) -> Result<Table<E, InternalKeyCmp<C>, InternalFilterPolicy<FP>>>
         ensures reads { Reads E.Env (λ status. ((status.code ≡ NotSupported) × (cache.old.given + 1 ≡ 2 ^ 64)) ⊎
-            IsLacking E.Env (⟦<CompressorList as Coders>⟧.codings options.now.compressor_list) (λ bytes. length bytes ≡ size → OpensNot (⟦<CompressorList as Coders>⟧.codings options.now.compressor_list) (internal_cmp (C.cmp options.now.cmp)) (filter_key (FP.name options.now.filter_policy)) bytes) env.old file status) env.old file env.new result }
+            IsLacking E.Env (⟦<CompressorList as Coders>⟧.codings options.now.compressor_list) (IsInFooter E.Env size env.old file) (λ bytes. length bytes ≡ size → OpensNot (⟦<CompressorList as Coders>⟧.codings options.now.compressor_list) (internal_cmp (C.cmp options.now.cmp)) (filter_key (FP.name options.now.filter_policy)) bytes) env.old file status) env.old file env.new result }
         ensures ok { IfOk result (λ table. Whatever E.Env env.old file (λ bytes. length bytes ≡ size →
             Opens (⟦<CompressorList as Coders>⟧.codings options.now.compressor_list) (internal_cmp (C.cmp options.now.cmp)) (filter_key (FP.name options.now.filter_policy)) bytes (lines_of table) table.footer.meta_index table.footer.index (filters_of table))) }
         ensures file { IfOk result (λ table. table.file ≡ file) }
@@ -113,7 +113,7 @@ impl<E: Env, C: Cmp + Copy + Drop, FP: FilterPolicy + Drop> Table<E, C, FP> {
         size: usize,
     ) -> Result<Table<E, C, FP>>
         ensures reads { Reads E.Env (λ status. ((status.code ≡ NotSupported) × (cache.old.given + 1 ≡ 2 ^ 64)) ⊎
-            IsLacking E.Env (⟦<CompressorList as Coders>⟧.codings coders.now) (λ bytes. length bytes ≡ size → OpensNot (⟦<CompressorList as Coders>⟧.codings coders.now) (C.cmp cmp) (filter_key (FP.name policy)) bytes) env.old file status) env.old file env.new result }
+            IsLacking E.Env (⟦<CompressorList as Coders>⟧.codings coders.now) (IsInFooter E.Env size env.old file) (λ bytes. length bytes ≡ size → OpensNot (⟦<CompressorList as Coders>⟧.codings coders.now) (C.cmp cmp) (filter_key (FP.name policy)) bytes) env.old file status) env.old file env.new result }
         ensures ok { IfOk result (λ table. Whatever E.Env env.old file (λ bytes. length bytes ≡ size →
             Opens (⟦<CompressorList as Coders>⟧.codings coders.now) (C.cmp cmp) (filter_key (FP.name policy)) bytes (lines_of table) table.footer.meta_index table.footer.index (filters_of table))) }
         ensures file { IfOk result (λ table. table.file ≡ file) }
@@ -168,7 +168,7 @@ impl<E: Env, C: Cmp + Copy + Drop, FP: FilterPolicy> Table<E, C, FP> {
         coders: &CompressorList,
         key: &[u8],
     ) -> Result<Option<(Bytes, Bytes)>>
-        ensures reads { Reads E.Env (IsLacking E.Env (⟦<CompressorList as Coders>⟧.codings coders.now) (λ bytes. (parts : List Part) → lines_of self.now ≡ map index_pair parts → C.cmp self.now.index.cmp ≡ C.cmp self.now.cmp
+        ensures reads { Reads E.Env (IsLacking E.Env (⟦<CompressorList as Coders>⟧.codings coders.now) (IsNamedIn (lines_of self.now)) (λ bytes. (parts : List Part) → lines_of self.now ≡ map index_pair parts → C.cmp self.now.index.cmp ≡ C.cmp self.now.cmp
             → HasParts (⟦<CompressorList as Coders>⟧.codings coders.now) (C.cmp self.now.cmp) bytes parts → AreAccepted (C.accepts self.now.cmp) parts → C.accepts self.now.cmp key.now ≡ true
             → HoldsOf (⟦<CompressorList as Coders>⟧.codings coders.now) (C.cmp self.now.cmp) self.now.id bytes cache.old → ⊥) env.old self.now.file) env.old self.now.file env.new result }
         ensures ok { Whatever E.Env env.old self.now.file (λ bytes. (parts : List Part) → lines_of self.now ≡ map index_pair parts → C.cmp self.now.index.cmp ≡ C.cmp self.now.cmp
@@ -208,7 +208,7 @@ impl<E: Env, C: Cmp + Copy + Drop, FP: FilterPolicy> Table<E, C, FP> {
         coders: &CompressorList,
         handle: BlockHandle,
     ) -> Result<Block<C>>
-        ensures reads { Reads E.Env (IsLacking E.Env (⟦<CompressorList as Coders>⟧.codings coders.now) (λ bytes. HasNoBlock (⟦<CompressorList as Coders>⟧.codings coders.now) (C.cmp self.now.cmp) bytes handle) env.old self.now.file) env.old self.now.file env.new result }
+        ensures reads { Reads E.Env (IsLacking E.Env (⟦<CompressorList as Coders>⟧.codings coders.now) (λ there. there ≡ handle) (λ bytes. HasNoBlock (⟦<CompressorList as Coders>⟧.codings coders.now) (C.cmp self.now.cmp) bytes handle) env.old self.now.file) env.old self.now.file env.new result }
         ensures ok { IfOk result (λ block. Whatever E.Env env.old self.now.file (λ bytes. HoldsOf (⟦<CompressorList as Coders>⟧.codings coders.now) (C.cmp self.now.cmp) self.now.id bytes cache.old
             → HasBlockAt (Decodes (⟦<CompressorList as Coders>⟧.codings coders.now)) bytes handle block.contents × (C.cmp block.cmp ≡ C.cmp self.now.cmp))) }
         ensures gathers { Gathers self.now.id (λ offset held. Whatever E.Env env.old self.now.file (λ bytes. IsOf (⟦<CompressorList as Coders>⟧.codings coders.now) (C.cmp self.now.cmp) bytes offset held)) cache.old cache.new }

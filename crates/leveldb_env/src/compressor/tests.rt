@@ -1,5 +1,7 @@
 //! Coders, and lists of them.
-ghost use Rattle.std.specs.Prelude.{◌≡◌, ◌+◌, ◌%◌, Some, map, IfOk};
+ghost use Rattle.std.specs.Prelude.{◌≡◌, ◌+◌, ◌%◌, ◌⊎◌, Some, false, map, IfOk, IfErr};
+ghost use Rattle.leveldb_base.specs.Status.{IsOutOfMemory};
+ghost use Rattle.leveldb_env.specs.Coders.{RefusesWith};
 
 use super::*;
 
@@ -14,7 +16,7 @@ impl CompressorId for Shift {
 }
 
 impl Compressor for Shift {
-    ghost decoded = { λ _ stored. Some (map (λ byte. (byte + 255) % 256) stored) };
+    ghost coding = { λ _. record { decoded = λ stored. Some (map (λ byte. (byte + 255) % 256) stored); refuses = λ code. false } };
 
     fn encode(&self, alloc: Global, block: Vec<u8>) -> Result<Vec<u8>> {
         let mut stored = Vec::new(alloc);
@@ -33,9 +35,10 @@ impl Compressor for Shift {
     }
 }
 
-// A block that is stored and read again, under any coder.
+// A block that is stored and read again, under any coder. A refusal is that coder's, or for want of memory.
 fn read_again<C: Compressor>(coder: C, alloc: Global, block: Vec<u8>) -> Result<Vec<u8>>
-    ensures { IfOk result (λ read. read.items ≡ block.items) }
+    ensures same { IfOk result (λ read. read.items ≡ block.items) }
+    ensures cause { IfErr result (λ status. IsOutOfMemory status ⊎ RefusesWith (C.coding coder) status) }
 {
     let stored = coder.encode(alloc, block)?;
     coder.decode(alloc, stored)

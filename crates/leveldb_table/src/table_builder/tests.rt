@@ -18,9 +18,9 @@ use std::process::Abort;
 struct Raised;
 
 impl Compressor for Raised {
-    ghost use Rattle.std.specs.Prelude.{◌+◌, ◌%◌, Some, map};
+    ghost use Rattle.std.specs.Prelude.{◌+◌, ◌%◌, Some, false, map};
 
-    ghost decoded = { λ _ stored. Some (map (λ byte. (byte + 255) % 256) stored) };
+    ghost coding = { λ _. record { decoded = λ stored. Some (map (λ byte. (byte + 255) % 256) stored); refuses = λ code. false } };
 
     fn encode(&self, alloc: Global, block: Vec<u8>) -> Result<Vec<u8>> {
         let mut stored = Vec::new(alloc);
@@ -44,9 +44,10 @@ impl Compressor for Raised {
 struct Refusing;
 
 impl Compressor for Refusing {
-    ghost use Rattle.std.specs.Prelude.{None};
+    ghost use Rattle.std.specs.Prelude.{None, true, false};
+    ghost use Rattle.leveldb_base.specs.declared.error.StatusCode.TheVariants.{CompressionError};
 
-    ghost decoded = { λ _ _. None };
+    ghost coding = { λ _. record { decoded = λ stored. None; refuses = elim [ CompressionError ↦ true | _ ↦ false ] } };
 
     fn encode(&self, alloc: Global, _block: Vec<u8>) -> Result<Vec<u8>> {
         err(alloc, StatusCode::CompressionError, "too dense")

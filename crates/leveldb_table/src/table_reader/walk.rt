@@ -8,7 +8,7 @@ ghost use Rattle.leveldb_base.specs.declared.error.StatusCode.TheVariants.{Corru
 ghost use Rattle.leveldb_table.specs.Table.{Part, HasBlockAt};
 ghost use Rattle.leveldb_table.specs.TableCached.{HoldsOf, IsOf, Gathers};
 ghost use Rattle.leveldb_table.specs.TableEnters.{LacksLine, IsBehind, IsBefore, SeeksTo, LetTo};
-ghost use Rattle.leveldb_table.specs.TableReads.{HasNoBlock, Reads, Whatever, IsLacking};
+ghost use Rattle.leveldb_table.specs.TableReads.{HasNoBlock, Reads, Whatever, IsLacking, IsNamedBy};
 ghost use Rattle.leveldb_table.specs.Walk.{last_place};
 
 use crate::block::BlockWalk;
@@ -217,7 +217,7 @@ impl<C: Cmp + Copy + Drop> TableCore<C> {
     ) -> Result<()>
         requires none { self.old.inner ≡ None }
         requires line { place_over self.old.index ≡ seek_place (C.cmp self.old.index.block.cmp) (pairs_over self.old.index) key.now }
-        requires names { IsSomeAnd (line_of self.old) (λ line. line.1 ≡ handle_bytes handle) }
+        requires names { IsNamedBy (line_of self.old) handle }
         requires fits { HandleFits handle }
         ensures enters { Enters E.Env (⟦<CompressorList as Coders>⟧.codings coders.now) (C.cmp table.now.cmp) table.now.id table.now.file
             (SeeksTo (C.accepts table.now.cmp) (C.cmp table.now.cmp) key.now) (Sought key.now) env.old cache.old self.old result env.new cache.new self.new }
@@ -285,7 +285,7 @@ impl<C: Cmp + Copy + Drop> TableCore<C> {
         coders: &CompressorList,
     ) -> Result<()>
         requires { is_some (line_of self.old) ≡ true }
-        ensures reads { Reads E.Env (IsLacking E.Env (⟦<CompressorList as Coders>⟧.codings coders.now) (λ bytes. LacksLine (⟦<CompressorList as Coders>⟧.codings coders.now) (C.cmp table.now.cmp) bytes (line_of self.old)) env.old table.now.file) env.old table.now.file env.new result }
+        ensures reads { Reads E.Env (IsLacking E.Env (⟦<CompressorList as Coders>⟧.codings coders.now) (IsNamedBy (line_of self.old)) (λ bytes. LacksLine (⟦<CompressorList as Coders>⟧.codings coders.now) (C.cmp table.now.cmp) bytes (line_of self.old)) env.old table.now.file) env.old table.now.file env.new result }
         ensures block { OnOk result (Whatever E.Env env.old table.now.file (λ bytes. HoldsOf (⟦<CompressorList as Coders>⟧.codings coders.now) (C.cmp table.now.cmp) table.now.id bytes cache.old → IsBlockOf (⟦<CompressorList as Coders>⟧.codings coders.now) (C.cmp table.now.cmp) bytes (line_of self.old) (inner_block self.new.inner))) }
         ensures place { OnOk result (inner_place self.new.inner ≡ None) }
         ensures err { OnErr result (self.new.inner ≡ self.old.inner) }
@@ -308,7 +308,7 @@ impl<C: Cmp + Copy + Drop> TableCore<C> {
         coders: &CompressorList,
         handle: BlockHandle,
     ) -> Result<()>
-        ensures reads { Reads E.Env (IsLacking E.Env (⟦<CompressorList as Coders>⟧.codings coders.now) (λ bytes. HasNoBlock (⟦<CompressorList as Coders>⟧.codings coders.now) (C.cmp table.now.cmp) bytes handle) env.old table.now.file) env.old table.now.file env.new result }
+        ensures reads { Reads E.Env (IsLacking E.Env (⟦<CompressorList as Coders>⟧.codings coders.now) (λ there. there ≡ handle) (λ bytes. HasNoBlock (⟦<CompressorList as Coders>⟧.codings coders.now) (C.cmp table.now.cmp) bytes handle) env.old table.now.file) env.old table.now.file env.new result }
         ensures block { OnOk result (Whatever E.Env env.old table.now.file (λ bytes. HoldsOf (⟦<CompressorList as Coders>⟧.codings coders.now) (C.cmp table.now.cmp) table.now.id bytes cache.old → IsBlockAt (⟦<CompressorList as Coders>⟧.codings coders.now) (C.cmp table.now.cmp) bytes handle (inner_block self.new.inner))) }
         ensures place { OnOk result (inner_place self.new.inner ≡ None) }
         ensures err { OnErr result (self.new.inner ≡ self.old.inner) }

@@ -7,9 +7,9 @@ use crate::table_block::read_filter_block;
 struct Raised;
 
 impl Compressor for Raised {
-    ghost use Rattle.std.specs.Prelude.{◌+◌, ◌%◌, Some, map};
+    ghost use Rattle.std.specs.Prelude.{◌+◌, ◌%◌, Some, false, map};
 
-    ghost decoded = { λ _ stored. Some (map (λ byte. (byte + 255) % 256) stored) };
+    ghost coding = { λ _. record { decoded = λ stored. Some (map (λ byte. (byte + 255) % 256) stored); refuses = λ code. false } };
 
     fn encode(&self, alloc: Global, block: Vec<u8>) -> Result<Vec<u8>> {
         let mut stored = Vec::new(alloc);

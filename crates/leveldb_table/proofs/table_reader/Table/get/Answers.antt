@@ -5,6 +5,7 @@ use Rattle.leveldb_table.specs.TableReading.{lets}
 use Rattle.leveldb_table.specs.TableWalk.{inner_place, inner_pairs}
 use Rattle.leveldb_base.specs.Places.{pair_at}
 use Rattle.leveldb_table.proofs.TableCalls.{reads_weaker, reads_refused}
+use Rattle.leveldb_table.proofs.TableForeign.{refused_at, named_along}
 use Rattle.leveldb_table.proofs.TableLookups.{ok_says, found_by, given_from}
 use Rattle.leveldb_table.proofs.TableMoves.{none_there}
 use Rattle.leveldb_table.proofs.TablePaces.{finds_by}
@@ -16,7 +17,7 @@ returns-in_err-seek_let-clause-reads g c =
     let passes = lets g.FP.FilterPolicy.matches c.args.self.now in
     reads_refused g.E.Env c.from_residual-in_err-seek_let.result c.from_residual-in_err-seek_let.ensures.1
     (reads_weaker g.E.Env _ (λ status lacking. (
-      lacking.0,
+      refused_at g.E.Env (named_along made.lines) lacking.0,
       λ bytes has parts lines ordered right accepted fit holds. lacking.1 bytes has parts (let_place (g.C.Cmp.cmp c.args.self.now.cmp) passes c.args.key.now parts) right (accepted, fit, refl) holds
           (record { lines = made.lines ∙ lines; ordered = ap g.C.Cmp.cmp made.order ∙ ordered }),
     )) c.in_err-seek_let.ensures.enters.reads)

@@ -1,4 +1,4 @@
-use Rattle.std.proofs.Common.{None, refl, inr, ◌∙◌}
+use Rattle.std.proofs.Common.{None, refl, inl, inr, ◌∙◌}
 use Rattle.leveldb_table.specs.Block.{pairs_of}
 use Rattle.leveldb_table.proofs.TableCalls.{Looks-trans, Has-after, reads_then, reads_refused}
 use Rattle.leveldb_table.proofs.TableOpens.{lacks, lacks_damaged, opens_no_index, opens_no_meta, opens_no_filters}
@@ -9,7 +9,8 @@ returns-in_err-index-clause-reads g c =
     let footer = c.in_ok-footer.ensures in
     let looks = footer.reads.looks in
     reads_then g.E.Env c.from_residual-in_err-index.result looks footer.reads.cause.ok
-    (λ status why. inr (lacks g.E.Env _ looks _ _ (λ bytes has none size. let ends = footer.ok bytes has size in opens_no_index _ _ _ bytes ends.0 _ _ footer.fits.0 footer.fits.1 ends.1 none) status why))
+    (λ status why. inr (lacks g.E.Env _ looks _ _ (λ bytes has none size. let ends = footer.ok bytes has size in opens_no_index _ _ _ bytes ends.0 _ _ footer.fits.0 footer.fits.1 ends.1 none)
+    (λ handle is bytes has size. let ends = footer.ok bytes has size in (ends.0, c.in_ok-footer.footer.meta_index, c.in_ok-footer.footer.index, ends.1, inr is)) status why))
     (reads_refused g.E.Env c.from_residual-in_err-index.result c.from_residual-in_err-index.ensures.1 c.in_err-index.ensures.reads)
 
 pub returns-in_err-metas-clause-reads : goal.returns-in_err-metas-clause-reads
@@ -18,7 +19,8 @@ returns-in_err-metas-clause-reads g c =
     let index = c.in_ok-index.ensures in
     let looks = Looks-trans g.E.Env footer.reads.looks index.reads.looks in
     reads_then g.E.Env c.from_residual-in_err-metas.result looks (index.reads.cause.ok ∙ footer.reads.cause.ok)
-    (λ status why. inr (lacks g.E.Env _ looks _ _ (λ bytes has none size. let ends = footer.ok bytes has size in opens_no_meta _ _ _ bytes ends.0 _ _ footer.fits.0 footer.fits.1 ends.1 none) status why))
+    (λ status why. inr (lacks g.E.Env _ looks _ _ (λ bytes has none size. let ends = footer.ok bytes has size in opens_no_meta _ _ _ bytes ends.0 _ _ footer.fits.0 footer.fits.1 ends.1 none)
+    (λ handle is bytes has size. let ends = footer.ok bytes has size in (ends.0, c.in_ok-footer.footer.meta_index, c.in_ok-footer.footer.index, ends.1, inl is)) status why))
     (reads_refused g.E.Env c.from_residual-in_err-metas.result c.from_residual-in_err-metas.ensures.1 c.in_err-metas.ensures.reads)
 
 pub returns-in_err-filters-clause-reads : goal.returns-in_err-filters-clause-reads

@@ -1,10 +1,13 @@
 use Rattle.std.proofs.Common.{◌≡◌, List, ℕ, None, refl, sym, ◌∙◌, ap, subst}
+use Rattle.leveldb_base.specs.Handle.{Handle}
+use Rattle.leveldb_base.specs.Places.{pair_at}
 use Rattle.leveldb_env.specs.contracts.compressor.CompressorListCoders.TheImpl
 use Rattle.leveldb_table.specs.TableCached.{HoldsOf}
 use Rattle.leveldb_table.specs.TableEnters.{IsBehind}
-use Rattle.leveldb_table.specs.TableReads.{Has}
+use Rattle.leveldb_table.specs.TableReads.{Has, IsNamedBy, IsNamedIn}
 use Rattle.leveldb_table.specs.TableWalk.{Stands, inner_place, pairs_over, place_over}
 use Rattle.leveldb_table.proofs.TableCalls.{reads_weaker, reads_refused, reads_ok}
+use Rattle.leveldb_table.proofs.TableForeign.{refused_at, named_at}
 use Rattle.leveldb_table.proofs.TableMoves.{ok_refused, err_holds, none_there, from_none}
 use Rattle.leveldb_table.proofs.TableSeeks.{line_there, IsSought, is_sought, sought_from, sought_in, sought_behind, handle_lacks, enters_then, enters_ok, enters_refused}
 use Rattle.leveldb_table.proofs.TablePaces.{sought_inside, sought_next}
@@ -16,10 +19,12 @@ returns-in_err-load g c =
     let cmp = g.C.Cmp.cmp c.args.table.now.cmp in
     let read = c.in_err-load.ensures in
     let none : inner_place c.load.new.self.inner ≡ None = ap inner_place (read.err ∙ c.requires.none) in
+    let index = c.args.self.now.index in
+    let named : (handle : Handle) → handle ≡ c.args.handle → IsNamedIn (pairs_over index) handle = λ handle is. named_at (pairs_over index) (place_over index) handle (subst (IsNamedBy (pair_at (pairs_over index) (place_over index))) (sym is) c.requires.names) in
     record {
       enters = record {
         reads = reads_refused g.E.Env c.from_residual.result c.from_residual.ensures.1
-            (reads_weaker g.E.Env _ (λ status lacking. (lacking.0, λ bytes has parts place right fit holds indexed. handle_lacks c.args.handle right indexed c.requires.names (lacking.1 bytes has))) read.reads);
+            (reads_weaker g.E.Env _ (λ status lacking. (refused_at g.E.Env named lacking.0, λ bytes has parts place right fit holds indexed. handle_lacks c.args.handle right indexed c.requires.names (lacking.1 bytes has))) read.reads);
         ok = λ bytes has parts place right fit holds indexed. ok_refused _ _ c.from_residual.result c.from_residual.ensures.1;
         steps = λ bytes has holds. ok_refused _ _ c.from_residual.result c.from_residual.ensures.1;
         from = λ bytes has holds. from_none codings cmp bytes c.load.new.self none;

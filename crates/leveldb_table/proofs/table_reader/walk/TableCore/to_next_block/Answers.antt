@@ -1,12 +1,14 @@
 use Rattle.std.proofs.Common.{◌≡◌, List, ℕ, false, None, Some, refl, sym, ◌∙◌, ap, subst, inl, inr}
 use Rattle.std.specs.Prelude.{is_some}
-use Rattle.leveldb_base.specs.Places.{next_place, place_within}
+use Rattle.leveldb_base.specs.Handle.{Handle}
+use Rattle.leveldb_base.specs.Places.{pair_at, next_place, place_within}
 use Rattle.leveldb_env.specs.contracts.compressor.CompressorListCoders.TheImpl
 use Rattle.leveldb_table.specs.TableEnters.{line_of}
 use Rattle.leveldb_table.specs.TableCached.{HoldsOf}
-use Rattle.leveldb_table.specs.TableReads.{Has}
+use Rattle.leveldb_table.specs.TableReads.{Has, IsNamedBy, IsNamedIn}
 use Rattle.leveldb_table.specs.TableWalk.{inner_place, inner_pairs, pairs_over, place_over}
 use Rattle.leveldb_table.proofs.TableCalls.{reads_weaker, reads_refused, reads_own, reads_ok}
+use Rattle.leveldb_table.proofs.TableForeign.{refused_at, named_at, named_along}
 use Rattle.leveldb_table.proofs.TableMoves.{ok_refused, err_holds, none_there, from_none, from_block, block_lines, some_none, next_stands, next_lacks, IsInto, is_into}
 use Rattle.leveldb_table.proofs.TablePaces.{into_at}
 use Rattle.leveldb_table.proofs.table_reader.walk.TableCore.to_next_block.Goals as goal
@@ -17,9 +19,11 @@ returns-in_err-load_line-clause-enters g c =
     let cmp = g.C.Cmp.cmp c.args.table.now.cmp in
     let there = sym c.in_ok-advance.ensures.answer ∙ c.if-not-branch.false in
     let none : inner_place c.load_line.new.self.inner ≡ None = ap inner_place c.in_err-load_line.ensures.err in
+    let index = c.advance.new.self in
+    let named : (handle : Handle) → IsNamedBy (pair_at (pairs_over index) (place_over index)) handle → IsNamedIn (pairs_over c.args.self.now.index) handle = λ handle there. named_along (block_lines index c.args.self.now.index c.in_ok-advance.ensures.block) handle (named_at (pairs_over index) (place_over index) handle there) in
     record {
       reads = reads_refused g.E.Env c.from_residual-in_err-load_line.result c.from_residual-in_err-load_line.ensures.1
-          (reads_weaker g.E.Env _ (λ status lacking. (lacking.0, λ bytes has parts place right fit holds indexed. next_lacks right fit indexed c.advance.new.self c.in_ok-advance.ensures.block c.in_ok-advance.ensures.ok there (lacking.1 bytes has))) c.in_err-load_line.ensures.reads);
+          (reads_weaker g.E.Env _ (λ status lacking. (refused_at g.E.Env named lacking.0, λ bytes has parts place right fit holds indexed. next_lacks right fit indexed c.advance.new.self c.in_ok-advance.ensures.block c.in_ok-advance.ensures.ok there (lacking.1 bytes has))) c.in_err-load_line.ensures.reads);
       ok = λ bytes has parts place right fit holds indexed. ok_refused _ _ c.from_residual-in_err-load_line.result c.from_residual-in_err-load_line.ensures.1;
       steps = λ bytes has holds. ok_refused _ _ c.from_residual-in_err-load_line.result c.from_residual-in_err-load_line.ensures.1;
       from = λ bytes has holds. from_none codings cmp bytes c.load_line.new.self none;
