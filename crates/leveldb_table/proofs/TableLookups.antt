@@ -1,6 +1,6 @@
 -- What a look-up in a table gives: the pair on which a walk stands, and the block that it is from.
 use Rattle.std.proofs.Common.{◌≡◌, ℕ, Bool, true, false, if◌then◌else◌, List, Option, None, Some, Result, Ok, Err, refl, sym, ◌∙◌, ap, subst}
-use Rattle.std.specs.Prelude.{IfOk, IfSome, Contains}
+use Rattle.std.specs.Prelude.{IfOk, IfSome}
 use Rattle.std.specs.declared.cmp.Ordering.{Ordering}
 use Rattle.leveldb_base.specs.Handle.{handle_bytes}
 use Rattle.leveldb_base.specs.Places.{Pair, seek_place, pair_at}
