@@ -1,5 +1,5 @@
 -- Moves of a walk over a table from block to block, whatever its file is.
-use Rattle.std.proofs.Common.{◌≡◌, ◌≢◌, ℕ, ◌+◌, ◌<◌, Bool, true, false, List, [], ◌∷◌, length, Option, None, Some, Result, Ok, Err, refl, sym, ◌∙◌, ap, subst, arith}
+use Rattle.std.proofs.Common.{◌≡◌, ◌≢◌, ℕ, ◌+◌, ◌<◌, Bool, true, false, List, [], ◌∷◌, length, Option, None, Some, Ok, refl, sym, ◌∙◌, ap, subst, arith}
 use Rattle.std.specs.Prelude.{is_some}
 use Rattle.std.specs.Option.{IsSomeAnd}
 use Rattle.std.specs.declared.cmp.Ordering.{Ordering}
@@ -11,10 +11,10 @@ use Rattle.leveldb_env.specs.declared.env.Env.{Ghosts as EnvGhosts}
 use Rattle.leveldb_table.specs.Block.{IsSpelled}
 use Rattle.leveldb_table.specs.Cache.{Cached}
 use Rattle.leveldb_table.specs.Table.{Part}
-use Rattle.leveldb_table.specs.TableEnters.{IsBlockOf, line_of}
-use Rattle.leveldb_table.specs.TableMoves.{TablePlace, HasLine, IsNowhere, InsideOr, IsIn, IsAt, IsAtFirst, IsAtLast, GoesOn, GoesBack, SeeksIn, Seeks, SeeksIfLet, LooksIn, Looks, Finds, table_place, BlocksOf, line_for, Forward, Backward, ToFirst, ToNext, ToPrevious, Sought, LookedUp}
+use Rattle.leveldb_table.specs.TableEnters.{IsBlockOf}
+use Rattle.leveldb_table.specs.TableMoves.{TablePlace, HasLine, InsideOr, IsAt, IsAtFirst, IsAtLast, GoesOn, GoesBack, Seeks, SeeksIfLet, Looks, Finds, table_place, BlocksOf, line_for, Forward, Backward, ToFirst, ToNext, ToPrevious, Sought, LookedUp}
 use Rattle.leveldb_table.specs.TableReading.{pairs_in}
-use Rattle.leveldb_table.specs.TableWalk.{StandsAt, Stands, Moves, IsNamed, inner_block, inner_pairs, inner_place, current_of, pairs_over, place_over}
+use Rattle.leveldb_table.specs.TableWalk.{StandsAt, Moves, IsNamed, inner_block, inner_pairs, inner_place, current_of, pairs_over, place_over}
 use Rattle.leveldb_table.specs.WalkLaws.{IsWithin-place}
 use Rattle.leveldb_table.specs.declared.block.owned.BlockWalk.{BlockWalk}
 use Rattle.leveldb_table.specs.declared.block_cache.CachedBlock.{CachedBlock}

@@ -73,7 +73,8 @@ module _ {C : Type 0} {order : CmpGhosts C} where
 
   -- As a move does, but from a line of the index: where the file has data blocks, the walk goes to the place that is fit for them.
   pub record Enters {E F T : Type 0} (env : EnvGhosts E F) (codings : Codings) (cmp : List ℕ → List ℕ → Ordering) (id : ℕ) (file : F) (Fit : List Part → Option ℕ → Type 0)
-      (Step : Codings → (List ℕ → List ℕ → Ordering) → List ℕ → TableCore C order → TableCore C order → Type 0) (old_env : E) (old_cache : Cached (CachedBlock C order)) (old : TableCore C order) (result : Result T Status) (new_env : E) (new_cache : Cached (CachedBlock C order)) (new : TableCore C order) : Type 0 where
+      (Step : Codings → (List ℕ → List ℕ → Ordering) → List ℕ → TableCore C order → TableCore C order → Type 0)
+      (old_env : E) (old_cache : Cached (CachedBlock C order)) (old : TableCore C order) (result : Result T Status) (new_env : E) (new_cache : Cached (CachedBlock C order)) (new : TableCore C order) : Type 0 where
     pub reads : Reads env (IsLacking env codings (IsNamedIn (pairs_over old.index)) (λ bytes. (parts : List Part) (place : Option ℕ) → HasParts codings cmp bytes parts → Fit parts place → HoldsOf codings cmp id bytes old_cache → IsIndexed cmp parts old → ⊥) old_env file)
         old_env file new_env result
     pub ok : Whatever env old_env file (λ bytes. (parts : List Part) (place : Option ℕ) → HasParts codings cmp bytes parts → Fit parts place → HoldsOf codings cmp id bytes old_cache → IsIndexed cmp parts old

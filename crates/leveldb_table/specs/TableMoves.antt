@@ -72,7 +72,8 @@ module _ (HasBlock : ℕ → List Pair → Type 0) where
     pub record SeeksIn (cmp : List ℕ → List ℕ → Ordering) (key : List ℕ) (line : ℕ) (new : TablePlace) : Type 0 where
       pub pairs : List Pair
       pub block : HasBlock line pairs
-      pub goes : InsideOr (seek_place cmp pairs key) (record { line = Some line; pairs = pairs; inner = None }) new (IsAtFirst (next_place lines (Some line)) new)
+      pub goes : InsideOr (seek_place cmp pairs key) (record { line = Some line; pairs = pairs; inner = None }) new
+          (IsAtFirst (next_place lines (Some line)) new)
 
     abbrev pub Seeks : (List ℕ → List ℕ → Ordering) → List ℕ → Option ℕ → TablePlace → Type 0
     Seeks cmp key None new = IsNowhere new

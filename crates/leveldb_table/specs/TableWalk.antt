@@ -101,7 +101,8 @@ module _ {C : Type 0} {order : CmpGhosts C} where
   -- is, an Ok move is such a step from block to block, and the walk then stands on a pair of a block that the index names, or on none;
   -- after an Err on none.
   pub record Moves {E F T : Type 0} (env : EnvGhosts E F) (codings : Codings) (cmp : List ℕ → List ℕ → Ordering) (id : ℕ) (file : F) (Fit : List Part → Type 0) (to : List Pair → Option ℕ → Option ℕ)
-      (Step : Codings → (List ℕ → List ℕ → Ordering) → List ℕ → TableCore C order → TableCore C order → Type 0) (old_env : E) (old_cache : Cached (CachedBlock C order)) (old : TableCore C order) (result : Result T Status) (new_env : E) (new_cache : Cached (CachedBlock C order)) (new : TableCore C order) : Type 0 where
+      (Step : Codings → (List ℕ → List ℕ → Ordering) → List ℕ → TableCore C order → TableCore C order → Type 0)
+      (old_env : E) (old_cache : Cached (CachedBlock C order)) (old : TableCore C order) (result : Result T Status) (new_env : E) (new_cache : Cached (CachedBlock C order)) (new : TableCore C order) : Type 0 where
     pub reads : Reads env (IsLacking env codings (IsNamedIn (pairs_over old.index)) (λ bytes. (parts : List Part) (place : Option ℕ) → HasParts codings cmp bytes parts → Fit parts → HoldsOf codings cmp id bytes old_cache → Stands cmp parts old place → ⊥) old_env file)
         old_env file new_env result
     pub ok : Whatever env old_env file (λ bytes. (parts : List Part) (place : Option ℕ) → HasParts codings cmp bytes parts → Fit parts → HoldsOf codings cmp id bytes old_cache → Stands cmp parts old place

@@ -3,7 +3,7 @@ use Rattle.leveldb_env.specs.contracts.compressor.CompressorListCoders.TheImpl
 use Rattle.leveldb_table.specs.TableWalk.{StandsAt, inner_place, inner_pairs, pairs_over, place_over}
 use Rattle.leveldb_table.proofs.TableMoves.{none_there, not_none, moves_enters}
 use Rattle.leveldb_table.proofs.TableSeeks.{before_first}
-use Rattle.leveldb_table.proofs.TablePaces.{backward_previous, back_stays, back_inside}
+use Rattle.leveldb_table.proofs.TablePaces.{backward_previous}
 use Rattle.leveldb_table.proofs.table_reader.walk.TableCore.prev.Goals as goal
 
 pub returns-clause-moves : goal.returns-clause-moves
