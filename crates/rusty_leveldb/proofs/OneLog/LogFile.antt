@@ -1,10 +1,10 @@
 -- What the one log's file says: what it carries, and when a crash of it is safe. The rest of the disk has no part in it.
-use Rattle.std.proofs.Common.{◌≡◌, ◌≤◌, inl, ℕ, zero, suc, Bool, true, false, List, [], ◌++◌, refl, sym, ◌∙◌, ap, subst, arith, Option, Some, None, append-nil, append_assoc}
-use Rattle.std.specs.Prelude.{codes, All}
-use Rattle.std.specs.Char.{IsAsciiDigit}
+use Rattle.std.proofs.Common.{◌≡◌, ◌≤◌, inl, ℕ, Bool, true, false, List, [], ◌++◌, refl, sym, ◌∙◌, ap, subst, arith, Option, Some, None, append-nil, append_assoc, lit≤, lit<}
+use Rattle.std.specs.Prelude.{codes}
 use Rattle.std.specs.Str.{bytes_eq}
 use Rattle.std.specs.Cmp.Lexicographic.{bytes_decides}
 use Rattle.leveldb_base.specs.History.{History, IsBeginning}
+use Rattle.leveldb_base.specs.Names.{IsNumber}
 use Rattle.leveldb_env.specs.Disk.{File, Files, bytes_of, kept_file, with_file, AreBytes, LeavesFile, Leaves}
 use Rattle.leveldb_env.specs.FileLaws.{at_same, at_other}
 use Rattle.leveldb_mem.specs.Log.{log_block_size, End, IsLogFile}
@@ -110,15 +110,9 @@ cut_honest : (file : Option File) → Honest file (cut file)
 cut_honest None = λ was is same_was same_is. absurd (cc)
 cut_honest (Some file) = front_honest file [] file.since refl
 
--- the digits of the log's number
-zero_or_three : All IsAsciiDigit (codes "000003")
-zero_or_three zero d below = (omega arith, omega arith)
-zero_or_three (suc zero) d below = (omega arith, omega arith)
-zero_or_three (suc (suc zero)) d below = (omega arith, omega arith)
-zero_or_three (suc (suc (suc zero))) d below = (omega arith, omega arith)
-zero_or_three (suc (suc (suc (suc zero)))) d below = (omega arith, omega arith)
-zero_or_three (suc (suc (suc (suc (suc zero))))) d below = (omega arith, omega arith)
-zero_or_three (suc (suc (suc (suc (suc (suc k)))))) d below = absurd (let never : ⊥ = omega (arith, below) in never)
+-- the log's number
+is_three : IsNumber (codes "000003") 3
+is_three = record { digits = (lit≤ tt, (lit< tt, (lit< tt, (lit< tt, (lit< tt, (lit< tt, (lit< tt, tt))))))); value = refl; fits = omega arith }
 
 module _ (store : List ℕ) where
   abbrev name : List ℕ
@@ -135,7 +129,7 @@ module _ (store : List ℕ) where
 
   -- the log's name is a journal's
   pub is_journal : IsJournal store name
-  is_journal = inl (codes "000003", record { some = λ e. cc; digits = λ k d below. zero_or_three k d below; fits = omega arith }, refl)
+  is_journal = inl (codes "000003.log", 3, (codes "000003", is_three, refl), refl)
 
   -- where a crash of the log is safe, one of the disk is
   pub is_safe : (bound covered : ℕ) (history : History) (files : Files) → Safe bound covered history (files name) → IsSafe store reads bound covered history files
