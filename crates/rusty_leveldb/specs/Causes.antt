@@ -24,9 +24,9 @@ pub record Faults : Type 0 where
   pub after : ℕ
   pub coders : List StatusCode
 
--- a call of the device failed, or the count of those that did stands at its greatest
-abbrev pub DeviceFailed : Faults → Type 0
-DeviceFailed faults = (faults.before < faults.after) ⊎ (faults.before ≡ 2 ^ 64 - 1)
+-- between these counts of failed calls of the device one was counted, or the count stood at its greatest
+abbrev pub HasFailed : ℕ → ℕ → Type 0
+HasFailed before after = (before < after) ⊎ (before ≡ 2 ^ 64 - 1)
 
 -- ---- operands
 
@@ -110,7 +110,7 @@ ReachesBlocks _ = ⊥
 -- When a cause comes, and which code and text it has; damage is no cause, since the disk is whole.
 abbrev pub Comes : Faults → State → Request → Refusal → Cause → Type 0
 Comes faults old request refusal out_of_memory = TakesMemory request × (refusal.code ≡ OutOfMemory) × (refusal.text ≡ [])
-Comes faults old request refusal device_failed = ReachesDevice request × DeviceFailed faults
+Comes faults old request refusal device_failed = ReachesDevice request × HasFailed faults.before faults.after
 Comes faults old request refusal lock_is_held = TakesLock request × (refusal.code ≡ LockError) × IsTrue old.locked
 Comes faults old request refusal bad_operand = (refusal.code ≡ InvalidArgument) × Misfits old request
 Comes faults old request refusal store_exists = (refusal.code ≡ AlreadyExists) × Exists old request
