@@ -10,13 +10,14 @@ use Rattle.leveldb_base.specs.View.{LooksUp, SameView}
 use Rattle.leveldb_env.specs.declared.env.Env.{Ghosts}
 use Rattle.leveldb_env.specs.Disk.{Disk}
 use Rattle.leveldb_env.specs.Calls.{NoMemory}
+use Rattle.leveldb_mem.specs.Batch.{max_length}
 use Rattle.leveldb_mem.specs.Entries.{FindsNewest}
 use Rattle.rusty_leveldb.specs.declared.db_impl.engine.Mode.{Mode}
 use Rattle.rusty_leveldb.specs.declared.db_impl.engine.Mode.TheVariants.{Open, Broken, Closed}
 use Rattle.rusty_leveldb.specs.declared.db_impl.engine.Engine.{Engine}
 use Rattle.rusty_leveldb.specs.State as machine
 use Rattle.rusty_leveldb.specs.State.{State, IsState, Request, get, Refusal, Answer, found, refused}
-use Rattle.rusty_leveldb.specs.Causes.{Faults, max_length, bad_operand, out_of_memory, Misfits, IsLongKey}
+use Rattle.rusty_leveldb.specs.Causes.{Faults, bad_operand, out_of_memory, Misfits, IsLongKey}
 use Rattle.rusty_leveldb.specs.Machine.{StepIn, Responds}
 use Rattle.rusty_leveldb.specs.Serves.{refusal_of, found_or}
 use Rattle.rusty_leveldb.specs.Engine.{IsShut, mode_of, Remembers, Recalls, AnswersStill}
