@@ -55,7 +55,7 @@ module _ {E C FP F I : Type 0} {D : I → Type 0} (env : Ghosts E F) (cmp : List
 
   still : (answer : Answer) → ((store : List ℕ) (disk : Disk) (old : State) → IsState old → Recalls env store engine disk old → Stays answer old)
       → AnswersStill env cmp engine (get None key) answer
-  still answer stays at told store old represents = record {
+  still answer stays at store told old represents = record {
     new = old;
     represents = represents;
     step = record { later = omega arith; step = stays store (env.tells at).disk old represents.disk_is.is_state represents.memory_is _ };
