@@ -9,40 +9,14 @@ use Rattle.leveldb_env.specs.Disk.{File, Files, bytes_of, kept_file, with_file, 
 use Rattle.leveldb_env.specs.FileLaws.{at_same, at_other}
 use Rattle.leveldb_mem.specs.Log.{log_block_size, End, IsLogFile}
 use Rattle.leveldb_mem.specs.Honest.{HonestTail}
-use Rattle.leveldb_mem.specs.LogLaws.{log_laws, cut_is_honest}
+use Rattle.leveldb_mem.specs.LogLaws.{cut_is_honest}
 use Rattle.leveldb_mem.specs.Batch.{Batch}
-use Rattle.leveldb_mem.specs.BatchLaws.{BatchOf-one}
 use Rattle.rusty_leveldb.specs.Contents.{Contents}
-use Rattle.rusty_leveldb.specs.OneLog.{log_path, Each, IsRecordOf, AreInOrder, IsLogOf, contents_of, IsRead, IsOneLog}
+use Rattle.rusty_leveldb.specs.OneLog.{log_path, Each, IsRecordOf, AreInOrder, contents_of, IsRead, IsOneLog}
 use Rattle.rusty_leveldb.specs.Names.{IsJournal}
 use Rattle.rusty_leveldb.specs.Holds.{IsHonest, Tells, Carries, IsSafe}
-use Rattle.rusty_leveldb.proofs.OneLog.Batches.{each_one}
 
 -- ---- reading
-
-one_batch : (record' : List ℕ) (these those : Batch) → IsRecordOf record' these → IsRecordOf record' those → these ≡ those
-one_batch record' these those p q =
-    let same = BatchOf-one record' these.first those.first these.items those.items p q in
-    λ i. record { first = same.0 i; items = same.1 i }
-
--- records are one list of batches
-pub one_batches : (records : List (List ℕ)) (these those : List Batch) → Each IsRecordOf records these → Each IsRecordOf records those → these ≡ those
-one_batches records these those p q = each_one IsRecordOf one_batch records these those p q
-
--- bytes are a log of one list of batches
-pub one_log : (bytes : List ℕ) (these those : List Batch) → IsLogOf bytes these → IsLogOf bytes those → these ≡ those
-one_log bytes these those p q =
-    let same = log_laws.one bytes p.records q.records p.end q.end p.read q.read in
-    one_batches q.records these those (subst (λ rs. Each IsRecordOf rs these) same.0 p.each) q.each
-
--- two readings of one file are one
-pub one_reading : (file : Option File) (these those : Contents) → IsRead file these → IsRead file those → these ≡ those
-one_reading None these those p q = p ∙ sym q
-one_reading (Some file) these those p q = p.2 ∙ ap contents_of (one_log (bytes_of file) p.0 q.0 p.1 q.1) ∙ sym q.2
-
--- two readings of one disk are one
-pub one_contents : (name : List ℕ) (files : Files) (these those : Contents) → IsOneLog name files these → IsOneLog name files those → these ≡ those
-one_contents name files these those p q = one_reading (files name) these those p q
 
 -- a log whose records are batches in order is read as these batches
 pub log_read : (name : List ℕ) (files : Files) (file : File) (records : List (List ℕ)) (end : End) (batches : List Batch) → files name ≡ Some file → IsLogFile (bytes_of file) records end
