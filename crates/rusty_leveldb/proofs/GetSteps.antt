@@ -16,7 +16,7 @@ use Rattle.rusty_leveldb.specs.declared.db_impl.engine.Mode.{Mode}
 use Rattle.rusty_leveldb.specs.declared.db_impl.engine.Mode.TheVariants.{Open, Broken, Closed}
 use Rattle.rusty_leveldb.specs.declared.db_impl.engine.Engine.{Engine}
 use Rattle.rusty_leveldb.specs.State as machine
-use Rattle.rusty_leveldb.specs.State.{State, IsState, Request, get, Refusal, Answer, found, refused}
+use Rattle.rusty_leveldb.specs.State.{State, IsState, get, Answer, found, refused}
 use Rattle.rusty_leveldb.specs.Causes.{Faults, bad_operand, out_of_memory, Misfits, IsLongKey}
 use Rattle.rusty_leveldb.specs.Machine.{StepIn, Responds}
 use Rattle.rusty_leveldb.specs.Serves.{refusal_of, found_or}
