@@ -1,5 +1,5 @@
 -- Each number has one varint, no varint begins another, and how long they are.
-use Rattle.std.proofs.Common.{◌≡◌, ℕ, zero, suc, ◌+◌, ◌*◌, ◌/◌, ◌%◌, ◌^◌, ◌<◌, ◌≤◌, true, false, nat_lt, List, [], ◌∷◌, ◌++◌, length, take, drop, Option, None, Some, refl, sym, ◌∙◌, ap, arith, append_assoc}
+use Rattle.std.proofs.Common.{◌≡◌, ℕ, zero, suc, ◌+◌, ◌*◌, ◌/◌, ◌%◌, ◌^◌, ◌<◌, ◌≤◌, true, false, nat_lt, List, [], ◌∷◌, ◌++◌, length, take, drop, Option, None, Some, refl, sym, ◌∙◌, ap, arith, append_assoc, length-append}
 use Rattle.std.specs.List.{All}
 use Rattle.std.proofs.lemmas.List.{append_cancel_left, take-append-drop, length-take-le}
 use Rattle.std.proofs.lemmas.List.Elements.{All-nil, All-cons, All-append}
@@ -17,6 +17,10 @@ apart (c ∷ a) (d ∷ b) x y l e =
     let tail : a ++ x ≡ b ++ y = cc in
     let rest = apart a b x y (omega (arith, l)) tail in
     (ap (λ z. z ∷ a) head ∙ ap (λ z. d ∷ z) rest.0, rest.1)
+
+-- and so are backs
+pub apart_right : (a b x y : List ℕ) → length x ≡ length y → a ++ x ≡ b ++ y → (a ≡ b) × (x ≡ y)
+apart_right a b x y l e = apart a b x y (omega (arith, l, length-append a x, length-append b y, ap length e)) e
 
 -- one more byte in front
 pub IsVarint-front : (b : ℕ) (bytes : List ℕ) (n high : ℕ) → 128 ≤ b → b < 256 → 0 < high → n + 128 ≡ b + 128 * high → IsVarint bytes high → IsVarint (b ∷ bytes) n

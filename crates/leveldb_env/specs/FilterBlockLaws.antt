@@ -1,42 +1,17 @@
 -- The laws of filter blocks: bytes have one reading, filters one spelling, and a key that was added is found.
-use Rattle.std.proofs.Common.{◌≡◌, ℕ, zero, suc, ◌+◌, ◌-◌, ◌*◌, ◌/◌, ◌^◌, ◌<◌, inl, inr, Bool, true, List, [], ◌∷◌, ◌++◌, length, flat_map, get_or, replicate, slice_get, Option, None, Some, Contains, refl, sym, ◌∙◌, ap, subst, arith, append_assoc, length-append}
+use Rattle.std.proofs.Common.{◌≡◌, ℕ, zero, suc, ◌+◌, ◌-◌, ◌/◌, ◌^◌, ◌<◌, inl, inr, Bool, true, List, [], ◌∷◌, ◌++◌, length, flat_map, get_or, replicate, slice_get, Option, None, Some, Contains, refl, sym, ◌∙◌, ap, subst, arith, append_assoc, length-append}
 use Rattle.std.specs.Prelude.{IsSomeAnd}
 use Rattle.std.specs.List.{All, concat}
 use Rattle.std.specs.Option.{option_map_or}
 use Rattle.std.proofs.Props.{props}
 use mathlib.Core.HLevel.{Σ_prop_path}
 use Rattle.std.proofs.lemmas.List.{append-nil, length-replicate}
-use Rattle.std.proofs.lemmas.List.Elements.{All-nil, All-cons, All-head, All-tail, Contains-push, Contains-append_left}
-use Rattle.byteorder.specs.Endian.{little_from}
-use Rattle.byteorder.specs.Numbers.{little_number-reads_back}
+use Rattle.std.proofs.lemmas.List.Elements.{All-nil, All-cons, Contains-push, Contains-append_left}
 use Rattle.leveldb_base.specs.Varint.{little}
-use Rattle.leveldb_base.specs.VarintLaws.{apart}
+use Rattle.leveldb_base.specs.VarintLaws.{apart, apart_right}
 use Rattle.leveldb_env.specs.FilterBlock.{offsets_from, filter_block, OneReading, OneSpelling, Building, filter_of, with_filters, finished, IsKept, KeepsKeys}
 use Rattle.leveldb_env.specs.FilterBlockParts.{places_from, IsHeld, Held}
-
--- ---- numbers of four bytes
-
-pub length-fours : (ns : List ℕ) → length (flat_map (little 4) ns) ≡ 4 * length ns
-length-fours [] = refl
-length-fours (n ∷ ns) = let rest = length-fours ns in omega (arith, rest)
-
-one_fixed : (m n : ℕ) (x y : List ℕ) → m < 2 ^ 32 → n < 2 ^ 32 → little 4 m ++ x ≡ little 4 n ++ y → (m ≡ n) × (x ≡ y)
-one_fixed m n x y hm hn e = (
-  sym (little_number-reads_back 4 m x (omega (arith, hm))) ∙ ap (little_from 0 4) e ∙ little_number-reads_back 4 n y (omega (arith, hn)),
-  (apart (little 4 m) (little 4 n) x y refl e).1,
-)
-
-one_numbers : (ms ns : List ℕ) → All (λ n. n < 2 ^ 32) ms → All (λ n. n < 2 ^ 32) ns → flat_map (little 4) ms ≡ flat_map (little 4) ns → ms ≡ ns
-one_numbers [] [] hm hn e = refl
-one_numbers [] (n ∷ ns) hm hn e = absurd (omega (arith, ap length e))
-one_numbers (m ∷ ms) [] hm hn e = absurd (omega (arith, ap length e))
-one_numbers (m ∷ ms) (n ∷ ns) hm hn e =
-    let first = one_fixed m n (flat_map (little 4) ms) (flat_map (little 4) ns) (All-head (λ z. z < 2 ^ 32) m ms hm) (All-head (λ z. z < 2 ^ 32) n ns hn) e in
-    ap (λ z. z ∷ ms) first.0 ∙ ap (λ z. n ∷ z) (one_numbers ms ns (All-tail (λ z. z < 2 ^ 32) m ms hm) (All-tail (λ z. z < 2 ^ 32) n ns hn) first.1)
-
--- backs of one length of one text are the same
-apart_right : (a b x y : List ℕ) → length x ≡ length y → a ++ x ≡ b ++ y → (a ≡ b) × (x ≡ y)
-apart_right a b x y l e = apart a b x y (omega (arith, l, length-append a x, length-append b y, ap length e)) e
+use Rattle.leveldb_env.specs.NumberLaws.{one_fixed, one_numbers}
 
 -- ---- where texts begin
 

@@ -1,7 +1,6 @@
 -- How a filter block and the texts of its builder lie in memory, and what checking a filter block finds.
-use Rattle.std.specs.Prelude.{◌≡◌, ℕ, zero, suc, ◌+◌, ◌/◌, ◌≤◌, List, [], ◌∷◌, length, drop, Option, None, Some}
+use Rattle.std.specs.Prelude.{◌≡◌, ℕ, ◌+◌, ◌≤◌, List, [], ◌∷◌, length, Option, None, Some}
 use Rattle.std.specs.List.{concat}
-use Rattle.byteorder.specs.Endian.{little_number}
 use Rattle.leveldb_env.specs.FilterBlock.{offsets_from, IsFilterBlock, IsNoFilterBlock}
 
 -- the bytes are these texts one behind the other, each beginning at its offset
@@ -13,15 +12,6 @@ pub record AreTexts (bytes offsets : List ℕ) (texts : List (List ℕ)) : Type 
 abbrev pub places_from : ℕ → List (List ℕ) → List ℕ
 places_from at [] = at ∷ []
 places_from at (text ∷ texts) = at ∷ places_from (at + length text) texts
-
--- so many numbers of four bytes each
-abbrev pub numbers : ℕ → List ℕ → List ℕ
-numbers zero bytes = []
-numbers (suc count) bytes = little_number 4 bytes ∷ numbers count (drop 4 bytes)
-
--- all numbers of four bytes each
-unfoldable pub numbers_in : List ℕ → List ℕ
-numbers_in bytes = numbers (length bytes / 4) bytes
 
 -- the first number is this one
 abbrev pub BeginsAt : ℕ → List ℕ → Type 0

@@ -19,6 +19,8 @@ pub mod Picks
 pub mod Filters
 pub mod FilterBlock
 pub mod FilterBlockParts
+pub mod Numbers
+pub mod NumberLaws
 pub mod FilterBlockLaws
 pub mod JoinedKeys
 pub mod Bloom

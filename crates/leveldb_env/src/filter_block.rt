@@ -9,8 +9,9 @@ ghost use Rattle.leveldb_base.specs.Status.{IsOutOfMemory};
 ghost use Rattle.leveldb_base.specs.Varint.{little};
 ghost use Rattle.leveldb_base.specs.declared.error.StatusCode.TheVariants.{Corruption, NotSupported};
 ghost use Rattle.leveldb_env.specs.FilterBlock.{IsFilterBlock, IsNoFilterBlock, OneReading, OneSpelling, KeepsKeys, passes, filter_of, with_key, started, finished, IsTooLarge, IsNotMade};
-ghost use Rattle.leveldb_env.specs.FilterBlockParts.{places_from, numbers_in, BeginsAt, RiseFrom, Held, Checks};
+ghost use Rattle.leveldb_env.specs.FilterBlockParts.{places_from, BeginsAt, RiseFrom, Held, Checks};
 ghost use Rattle.leveldb_env.specs.FilterBlockLaws.{Held-prop};
+ghost use Rattle.leveldb_env.specs.Numbers.{numbers_in};
 
 use crate::filter::FilterPolicy;
 use byteorder::{ByteOrder, LittleEndian};

@@ -1,18 +1,16 @@
 -- Entries and their memtable keys.
-use Rattle.std.proofs.Common.{◌≡◌, ℕ, ◌+◌, ◌*◌, ◌^◌, ◌<◌, ◌≤◌, Bool, true, List, [], ◌∷◌, ◌++◌, length, drop, map, Option, Some, None, refl, sym, ◌∙◌, ap, subst, arith, append_assoc, append-nil, length-append}
-use Rattle.std.specs.Prelude.{sum_by}
+use Rattle.std.proofs.Common.{◌≡◌, ℕ, ◌+◌, ◌^◌, ◌<◌, ◌≤◌, Bool, true, List, [], ◌++◌, length, drop, Option, Some, None, refl, sym, ◌∙◌, ap, arith, append_assoc, append-nil, length-append}
 use Rattle.std.proofs.lemmas.List.{drop_at}
 use Rattle.std.specs.declared.cmp.Ordering.{Ordering}
 use Rattle.std.specs.Ordering.{ordering_then, nat_cmp}
 use Rattle.byteorder.specs.Numbers.{length-bytes_low_first}
 use Rattle.leveldb_base.specs.History.{Item, Entry}
-use Rattle.leveldb_base.specs.Varint.{little, varint, sized, ReadsSized}
+use Rattle.leveldb_base.specs.Varint.{little, varint, sized}
 use Rattle.leveldb_base.specs.VarintLaws.{length-varint_64, one_sized}
-use Rattle.leveldb_base.specs.Keys.{tag, internal_key, user_part, sequence_part, type_part, lookup_key, memtable_key, inner_key, internal_accepts, memtable_accepts, internal_cmp, memtable_cmp}
+use Rattle.leveldb_base.specs.Keys.{tag, internal_key, user_part, sequence_part, type_part, memtable_key, inner_key, internal_accepts, memtable_accepts, internal_cmp, memtable_cmp}
 use Rattle.leveldb_base.specs.KeyLaws.{length-internal_key, user_part-internal_key, sequence_part-internal_key, type_part-internal_key, internal_accepts-internal_key, inner_key-sized, inner_key-memtable_key}
 use Rattle.leveldb_base.specs.declared.key_types.ValueType.{ValueType}
-use Rattle.leveldb_base.specs.declared.key_types.ValueType.TheVariants.{TypeDeletion, TypeValue}
-use Rattle.leveldb_mem.specs.Entries.{value_length, bytes_in}
+use Rattle.leveldb_mem.specs.Entries.{value_length}
 use Rattle.leveldb_mem.specs.Batch.{spelling, entry_bytes}
 use Rattle.leveldb_mem.specs.MemTable.{entry_of, type_of, bytes_of_value, value_of, entry_key, entry_from, inner_value}
 

@@ -1,5 +1,5 @@
 -- The changes of a batch come to a memtable one after another.
-use Rattle.std.proofs.Common.{◌≡◌, ◌≤◌, ◌<◌, ◌+◌, ◌-◌, ◌^◌, ⊎_elim, ℕ, Result, Ok, Err, List, [], ◌∷◌, ◌++◌, length, max, refl, sym, ap, subst, arith, append-nil, append_assoc}
+use Rattle.std.proofs.Common.{◌≡◌, ◌≤◌, ◌<◌, ◌+◌, ◌-◌, ◌^◌, ⊎_elim, ℕ, Result, Ok, Err, List, [], ◌∷◌, ◌++◌, length, sym, ap, subst, arith, append-nil, append_assoc}
 use Rattle.std.specs.Prelude.{Contains, IsErrAnd}
 use Rattle.std.proofs.lemmas.List.Elements.{Contains-append_left, Contains-append_right, Contains-append_cases, Contains-push_cases}
 use Rattle.leveldb_base.specs.History.{Item, Entry, placed, greatest}

@@ -1,6 +1,6 @@
 -- How the pairs that lie in memory change as bytes and pairs come.
-use Rattle.std.proofs.Common.{◌≡◌, ℕ, ◌+◌, ◌-◌, ◌<◌, ◌≤◌, List, [], ◌∷◌, ◌++◌, length, take, drop, map, slice_range, refl, sym, ◌∙◌, ap, arith, append_assoc, length-append, length-drop, get_or}
-use Rattle.std.specs.Prelude.{All, sum_by, slice_index_or}
+use Rattle.std.proofs.Common.{◌≡◌, ℕ, ◌+◌, ◌-◌, ◌<◌, ◌≤◌, List, [], ◌∷◌, ◌++◌, length, take, drop, map, slice_range, refl, sym, ◌∙◌, ap, arith, length-append, length-drop, get_or}
+use Rattle.std.specs.Prelude.{All}
 use Rattle.std.specs.List.{insert}
 use Rattle.std.proofs.lemmas.List.{take-append-le, drop-append-le, take-map, drop-map, map-append, length-take-le, take_rest, drop-drop, get_or_append_left, get_or_push, length_push, take-append-drop}
 use Rattle.std.proofs.lemmas.List.Edits.{length-insert}

@@ -1,5 +1,5 @@
 -- A map of memtable keys as a list of internal keys with values.
-use Rattle.std.proofs.Common.{◌≡◌, ℕ, ◌+◌, ◌^◌, ◌<◌, ◌≤◌, Bool, true, false, cond, List, [], ◌∷◌, length, get_or, map, Option, Some, None, refl, sym, ◌∙◌, ap, subst, arith, ◌⊎◌, inl, inr, ⊎_elim}
+use Rattle.std.proofs.Common.{◌≡◌, ℕ, ◌+◌, ◌<◌, Bool, true, cond, List, [], ◌∷◌, length, get_or, map, Some, refl, sym, ◌∙◌, ap, subst, arith, ◌⊎◌, ⊎_elim}
 use Rattle.std.specs.Prelude.{All, slice_get}
 use Rattle.std.proofs.lemmas.Bool.{cases_order, lt-ltb}
 use Rattle.std.proofs.lemmas.Cmp.{ranked}
@@ -10,11 +10,10 @@ use Rattle.std.specs.declared.cmp.Ordering.{Ordering}
 use Rattle.std.specs.declared.cmp.Ordering.TheVariants.{Less, Equal, Greater}
 use Rattle.std.specs.Ordering.{is_lt, ordering_then, nat_cmp}
 use Rattle.std.specs.Prelude.{nat_eq}
-use Rattle.leveldb_base.specs.History.{Entry}
 use Rattle.leveldb_base.specs.Order.{IsPreorderOn}
 use Rattle.leveldb_base.specs.OrderLaws.{alike_right}
-use Rattle.leveldb_base.specs.Keys.{internal_key, user_part, sequence_part, inner_key, internal_cmp, memtable_accepts, memtable_cmp}
-use Rattle.leveldb_base.specs.KeyLaws.{inner_key-memtable_key, sequence_part-lt}
+use Rattle.leveldb_base.specs.Keys.{user_part, sequence_part, inner_key, internal_cmp, memtable_accepts, memtable_cmp}
+use Rattle.leveldb_base.specs.KeyLaws.{inner_key-memtable_key}
 use Rattle.leveldb_base.specs.Places.{Pair, count_before}
 use Rattle.leveldb_base.specs.View.{IsBeforeAll, AreRising}
 use Rattle.leveldb_mem.specs.Searching.{key_at, count_while, IsParted}

@@ -36,11 +36,15 @@ entry_bytes item = spelling item.key item.value
 unfoldable pub batch_bytes : ℕ → List Item → List ℕ
 batch_bytes first items = little 8 first ++ (little 4 (length items) ++ flat_map entry_bytes items)
 
+-- the greatest length of a batch, and so of each key and each value in one
+abbrev pub max_length : ℕ
+max_length = 2 ^ 30
+
 -- the bytes are these items, the first at this number, within the limit, which keeps keys and values within it too
 pub record BatchOf (bytes : List ℕ) (first : ℕ) (items : List Item) : Type 0 where
   pub spelled : bytes ≡ batch_bytes first items
   pub numbered : first < 2 ^ 64
-  pub limited : length bytes ≤ 2 ^ 30
+  pub limited : length bytes ≤ max_length
 
 -- the bytes are some batch
 abbrev pub IsBatch : List ℕ → Type 0
@@ -48,11 +52,11 @@ IsBatch bytes = (batch : Batch) × BatchOf bytes batch.first batch.items
 
 -- the batch is past the limit
 abbrev pub IsTooLong : Batch → Type 0
-IsTooLong batch = 2 ^ 30 < length (batch_bytes batch.first batch.items)
+IsTooLong batch = max_length < length (batch_bytes batch.first batch.items)
 
 -- key and value are within the limit
 abbrev pub IsShort : Item → Type 0
-IsShort item = (length item.key ≤ 2 ^ 30) × IfSome item.value (λ value. length value ≤ 2 ^ 30)
+IsShort item = (length item.key ≤ max_length) × IfSome item.value (λ value. length value ≤ max_length)
 
 -- the bytes are some entries, one behind the other
 abbrev pub AreEntries : List ℕ → Type 0

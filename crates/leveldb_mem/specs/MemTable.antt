@@ -1,13 +1,10 @@
 -- A memtable's entries, and the memtable keys that stand for them.
-use Rattle.std.specs.Prelude.{◌≡◌, ◌<◌, ◌≤◌, ◌+◌, ◌*◌, ℕ, List, [], ◌∷◌, ◌++◌, length, drop, map, sum_by, slice_get, Option, Some, None, All, Contains, ◌↔◌, refl}
-use Rattle.std.specs.Borrow.{Bor}
+use Rattle.std.specs.Prelude.{◌≡◌, ◌+◌, ◌*◌, ℕ, List, [], length, drop, map, sum_by, slice_get, Option, Some, None, refl}
 use Rattle.std.specs.Coded.{Coded, code_by, coded×, coded_list, coded_option, coded_ℕ}
-use Rattle.std.specs.declared.cmp.Ordering.{Ordering}
 use Rattle.leveldb_base.specs.History.{Entry}
-use Rattle.leveldb_base.specs.Keys.{internal_key, user_part, sequence_part, type_part, memtable_key, internal_cmp, inner_key}
+use Rattle.leveldb_base.specs.Keys.{internal_key, user_part, sequence_part, type_part, memtable_key, inner_key}
 use Rattle.leveldb_base.specs.Varint.{sized}
 use Rattle.leveldb_base.specs.Places.{Pair}
-use Rattle.leveldb_base.specs.View.{AreRising}
 use Rattle.leveldb_base.specs.declared.key_types.ValueType.{ValueType}
 use Rattle.leveldb_base.specs.declared.key_types.ValueType.TheVariants.{TypeDeletion, TypeValue}
 use Rattle.leveldb_mem.specs.Entries.{Kept}

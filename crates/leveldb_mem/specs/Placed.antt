@@ -1,5 +1,5 @@
 -- How the pairs of a map lie in memory: all keys and values in one text, nodes that cut it, and the nodes in order.
-use Rattle.std.specs.Prelude.{◌≡◌, ℕ, ◌+◌, ◌^◌, ◌<◌, ◌≤◌, List, length, map, sum_by, slice_range, slice_index_or, drop, All}
+use Rattle.std.specs.Prelude.{◌≡◌, ℕ, ◌+◌, ◌<◌, ◌≤◌, List, length, map, sum_by, slice_range, slice_index_or, All}
 use Rattle.leveldb_base.specs.Places.{Pair}
 use Rattle.leveldb_mem.specs.declared.skipmap.placed.Node.{Node}
 

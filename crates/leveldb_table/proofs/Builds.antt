@@ -14,8 +14,9 @@ use Rattle.std.specs.declared.cmp.Ordering.{Ordering}
 use Rattle.leveldb_base.specs.Places.{Pair}
 use Rattle.leveldb_base.specs.Varint.{little}
 use Rattle.leveldb_base.specs.VarintLaws.{length-varint_32}
+use Rattle.leveldb_env.specs.NumberLaws.{length-fours}
 use Rattle.leveldb_table.specs.Block.{Entry, spelling, entry_bytes, key_of, pairs_of, IsShort, SharesFrom, KeysRise, points_from, restart_points, block_bytes, IsSpelled, IsBlock}
-use Rattle.leveldb_table.specs.BlockLaws.{entry_of, length-entry_bytes-ge, length-points, one_whole}
+use Rattle.leveldb_table.specs.BlockLaws.{entry_of, length-entry_bytes-ge, one_whole}
 use Rattle.leveldb_table.specs.Reading.{key_before}
 use Rattle.leveldb_table.specs.Walk.{last_key}
 use Rattle.leveldb_table.specs.Built.{AreSpaced, IsTooLarge, IsBuilt, Built, estimate, points_more, last_added, shared_front, entry_behind}
@@ -211,7 +212,7 @@ unfolding block_bytes
 block_size entries =
     let points = restart_points entries in
     let last : length (little 4 (length points)) ≡ 4 = refl in
-    omega (arith, last, length-append (flat_map entry_bytes entries) (flat_map (little 4) points ++ little 4 (length points)), length-append (flat_map (little 4) points) (little 4 (length points)), length-points points)
+    omega (arith, last, length-append (flat_map entry_bytes entries) (flat_map (little 4) points ++ little 4 (length points)), length-append (flat_map (little 4) points) (little 4 (length points)), length-fours points)
 
 same_last : (last : List ℕ) (entries : List Entry) (before : Pair) → before.0 ≡ last → last_added (before ∷ pairs_of (Some last) entries) ≡ unwrap_or (last_key (Some last) entries) []
 same_last last [] before e = e

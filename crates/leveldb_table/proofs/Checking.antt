@@ -5,11 +5,13 @@ use Rattle.std.proofs.lemmas.Bool.{eqb-true}
 use Rattle.std.proofs.lemmas.List.{append-nil, append_cancel_left, nil_from_length}
 use Rattle.std.proofs.lemmas.List.Elements.{All-nil, All-push}
 use Rattle.std.specs.declared.cmp.Ordering.{Ordering}
+use Rattle.leveldb_env.specs.Numbers.{numbers_in}
+use Rattle.leveldb_env.specs.NumberLaws.{numbers_more, numbers_none}
 use Rattle.leveldb_table.specs.Block.{Entry, spelling, entry_bytes, key_of, pairs_of, IsShort, SharesFrom, AreEntries, RiseBehind, points_from, restart_points}
 use Rattle.leveldb_table.specs.BlockLaws.{entry_of, same_parts, one_entry, length-entry_bytes-ge, begins, points_after, restart_told, points_left}
-use Rattle.leveldb_table.specs.Reading.{ReadsEntry, numbers_in, key_before, CanFollow, AreParts, Checks}
+use Rattle.leveldb_table.specs.Reading.{ReadsEntry, key_before, CanFollow, AreParts, Checks}
 use Rattle.leveldb_table.specs.Walk.{last_key}
-use Rattle.leveldb_table.proofs.EntryReads.{numbers_more, numbers_none, zero_point, zero_point_only, begins_long}
+use Rattle.leveldb_table.proofs.EntryReads.{zero_point, zero_point_only, begins_long}
 use Rattle.leveldb_table.proofs.Sequences.{last_key-append, pairs_of-append, rise_parts, rise_both}
 
 -- the entries that these bytes and restart points are, behind a key and from an offset on

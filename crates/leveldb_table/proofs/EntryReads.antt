@@ -1,5 +1,5 @@
 -- What reading the parts of an entry, one behind the other, finds.
-use Rattle.std.proofs.Common.{◌≡◌, ℕ, suc, ◌+◌, ◌-◌, ◌/◌, ◌^◌, ◌<◌, ◌≤◌, true, false, nat_eq, List, [], ◌∷◌, ◌++◌, length, drop, None, sym, ◌∙◌, ap, arith, length-append, length-drop}
+use Rattle.std.proofs.Common.{◌≡◌, ℕ, ◌+◌, ◌-◌, ◌^◌, ◌<◌, ◌≤◌, true, false, nat_eq, List, [], ◌∷◌, ◌++◌, length, drop, None, sym, ◌∙◌, ap, arith, length-append, length-drop}
 use Rattle.std.proofs.Common.{inl, inr, leb}
 use Rattle.std.proofs.lemmas.Bool.{cases_lt, lt-leb, eqb-true}
 use Rattle.std.proofs.lemmas.List.{take-append-drop}
@@ -7,9 +7,11 @@ use Rattle.std.specs.List.{IsSplitAt}
 use Rattle.byteorder.specs.Endian.{little_number}
 use Rattle.leveldb_base.specs.Varint.{varint}
 use Rattle.leveldb_base.specs.VarintLaws.{one_number}
+use Rattle.leveldb_env.specs.Numbers.{numbers_in}
+use Rattle.leveldb_env.specs.NumberLaws.{numbers_more, numbers_none}
 use Rattle.leveldb_table.specs.Block.{Entry, spelling, entry_bytes, IsShort}
 use Rattle.leveldb_table.specs.BlockLaws.{spread, begins, points_after, entry_of}
-use Rattle.leveldb_table.specs.Reading.{ReadsNumber, ReadsEntry, numbers, numbers_in}
+use Rattle.leveldb_table.specs.Reading.{ReadsNumber, ReadsEntry}
 
 -- both sides of a cut are the whole
 split_whole : {xs front back : List ℕ} {n : ℕ} → IsSplitAt xs n front back → xs ≡ front ++ back
@@ -71,21 +73,6 @@ module _ (bytes : List ℕ) where
           )
 
 -- ---- numbers of four bytes
-
-step_count : (bytes : List ℕ) → 4 ≤ length bytes → (n : ℕ) × (length bytes / 4 ≡ suc n) × (length (drop 4 bytes) / 4 ≡ n)
-step_count bytes h = (length bytes / 4 - 1, omega arith, omega (arith, length-drop 4 bytes))
-
--- the first number, and the others
-pub numbers_more : (bytes : List ℕ) → 4 ≤ length bytes → numbers_in bytes ≡ little_number 4 bytes ∷ numbers_in (drop 4 bytes)
-unfolding numbers_in
-numbers_more bytes h =
-    let step = step_count bytes h in
-    ap (λ z. numbers z bytes) step.1 ∙ ap (λ z. little_number 4 bytes ∷ numbers z (drop 4 bytes)) (sym step.2)
-
--- too few bytes for a number
-pub numbers_none : (bytes : List ℕ) → length bytes < 4 → numbers_in bytes ≡ []
-unfolding numbers_in
-numbers_none bytes h = let none : length bytes / 4 ≡ 0 = omega arith in ap (λ z. numbers z bytes) none
 
 pub begins_read : (bytes : List ℕ) (offset n : ℕ) → 4 ≤ length bytes → n ≡ little_number 4 bytes → nat_eq n offset ≡ begins offset (numbers_in bytes)
 begins_read bytes offset n h e = ap (λ z. nat_eq z offset) e ∙ sym (ap (begins offset) (numbers_more bytes h))

@@ -1,5 +1,5 @@
 -- The restart points of a block in memory.
-use Rattle.std.proofs.Common.{◌≡◌, ℕ, zero, suc, ◌+◌, ◌-◌, ◌*◌, ◌^◌, ◌<◌, ◌≤◌, Bool, true, false, if◌then◌else◌, List, [], ◌∷◌, ◌++◌, length, take, drop, get_or, flat_map, slice_get, None, Some, refl, sym, ◌∙◌, ap, arith, append_assoc, length-append}
+use Rattle.std.proofs.Common.{◌≡◌, ℕ, zero, suc, ◌+◌, ◌-◌, ◌*◌, ◌<◌, ◌≤◌, Bool, true, false, if◌then◌else◌, List, [], ◌∷◌, ◌++◌, length, take, drop, get_or, flat_map, slice_get, None, Some, refl, sym, ◌∙◌, ap, arith, length-append}
 use Rattle.std.specs.Borrow.{Bor}
 use Rattle.std.specs.List.{All}
 use Rattle.std.specs.Ordering.{is_lt}
@@ -8,31 +8,16 @@ use Rattle.std.specs.declared.cmp.Ordering.TheVariants.{Less, Equal, Greater}
 use Rattle.std.proofs.lemmas.List.{drop_at, drop-drop}
 use Rattle.std.proofs.lemmas.List.Elements.{All-head, All-tail}
 use Rattle.byteorder.specs.Endian.{little_number}
-use Rattle.byteorder.specs.Numbers.{little_number-reads_back}
 use Rattle.leveldb_base.specs.Order.{IsPreorderOn}
 use Rattle.leveldb_base.specs.Places.{Pair, count_before}
 use Rattle.leveldb_base.specs.Varint.{little}
+use Rattle.leveldb_env.specs.NumberLaws.{length-fours, number_at}
 use Rattle.leveldb_table.specs.Block.{Entry, entry_bytes, pairs_of, RiseBehind, KeysRise, restart_points, block_bytes, IsHeld}
-use Rattle.leveldb_table.specs.BlockLaws.{length-points}
 use Rattle.leveldb_table.specs.Reading.{ReadsEntry}
 use Rattle.leveldb_table.specs.Walk.{begun, IsPoint, HasKeyAt, StartsBy, Loads}
 use Rattle.leveldb_table.specs.declared.block.entry.EntryParts.{EntryParts}
 use Rattle.leveldb_table.proofs.Walks.{begun-start, first_point}
 use Rattle.leveldb_table.proofs.Moves.{Fronts, is_loaded}
-
--- the number at a place
-number_at : (points last : List ℕ) (j : ℕ) → j < length points → All (λ offset. offset < 2 ^ 32) points → little_number 4 (drop (4 * j) (flat_map (little 4) points ++ last)) ≡ get_or points j 0
-number_at [] last j h fit = absurd (omega (arith, h))
-number_at (point ∷ points) last zero h fit =
-    ap (little_number 4) (append_assoc (little 4 point) (flat_map (little 4) points) last)
-    ∙ little_number-reads_back 4 point (flat_map (little 4) points ++ last) (omega (arith, All-head (λ z. z < 2 ^ 32) point points fit))
-number_at (point ∷ points) last (suc j) h fit =
-    let far : 4 * suc j ≡ 4 + 4 * j = omega arith in
-    ap (λ z. little_number 4 (drop z ((little 4 point ++ flat_map (little 4) points) ++ last))) far
-    ∙ ap (little_number 4) (sym (drop-drop (4 * j) 4 ((little 4 point ++ flat_map (little 4) points) ++ last)))
-    ∙ ap (λ z. little_number 4 (drop (4 * j) (drop 4 z))) (append_assoc (little 4 point) (flat_map (little 4) points) last)
-    ∙ ap (λ z. little_number 4 (drop (4 * j) z)) (drop_at (little 4 point) (flat_map (little 4) points ++ last) 4 refl)
-    ∙ number_at points last j (omega (arith, h)) (All-tail (λ z. z < 2 ^ 32) point points fit)
 
 module _ {accepts : List ℕ → Bool} {cmp : List ℕ → List ℕ → Ordering} {bytes : List ℕ} {limit : ℕ} {accepted : Bool} {entries : List Entry} (held : IsHeld accepts cmp bytes limit accepted entries) where
   -- how long a block is
@@ -45,7 +30,7 @@ module _ {accepts : List ℕ → Bool} {cmp : List ℕ → List ℕ → Ordering
         arith,
         ap length held.spelled.spelled,
         held.ends,
-        length-points points,
+        length-fours points,
         last,
         length-append (flat_map entry_bytes entries) (flat_map (little 4) points ++ little 4 (length points)),
         length-append (flat_map (little 4) points) (little 4 (length points)),

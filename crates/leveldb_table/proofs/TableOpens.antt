@@ -9,6 +9,7 @@ use Rattle.std.proofs.lemmas.Bool.{cases_eq}
 use Rattle.std.proofs.lemmas.Slice.Eq.{bytes_eq-Decides}
 use Rattle.leveldb_base.specs.Bytewise.{bytewise}
 use Rattle.leveldb_base.specs.Handle.{Handle, HandleFits, handle_bytes}
+use Rattle.leveldb_base.specs.VarintLaws.{apart_right}
 use Rattle.leveldb_base.specs.Places.{Pair}
 use Rattle.leveldb_base.specs.declared.error.Status.{Status}
 use Rattle.leveldb_env.specs.Coders.{Codings, Decodes}
@@ -16,7 +17,7 @@ use Rattle.leveldb_env.specs.FilterBlock.{IsFilterBlock}
 use Rattle.leveldb_env.specs.FilterBlockLaws.{one_reading}
 use Rattle.leveldb_env.specs.declared.env.Env.{Ghosts}
 use Rattle.leveldb_table.specs.Block.{IsBlock, IsSpelled, KeysRise, pairs_of}
-use Rattle.leveldb_table.specs.BlockLaws.{one_block, apart_right}
+use Rattle.leveldb_table.specs.BlockLaws.{one_block}
 use Rattle.leveldb_table.specs.Footer.{footer_bytes}
 use Rattle.leveldb_table.specs.FooterLaws.{one_footer, length-footer_bytes}
 use Rattle.leveldb_table.specs.Table.{Part, IsPart, StoresAt, HasBlockAt, HasFiltersAt, FiltersHold, AllPass, IsTabled, IsTable, DecodesOne, OneTable, index_pair, filter_key}

@@ -1,59 +1,17 @@
 -- The restart points and their count at a block's end.
-use Rattle.std.proofs.Common.{◌≡◌, ℕ, zero, suc, ◌+◌, ◌-◌, ◌*◌, ◌^◌, ◌<◌, ◌≤◌, Bool, true, List, [], ◌∷◌, ◌++◌, length, take, drop, get_or, flat_map, None, refl, sym, ◌∙◌, ap, subst, arith, append_assoc, length-append, length-drop}
+use Rattle.std.proofs.Common.{◌≡◌, ℕ, ◌+◌, ◌-◌, ◌*◌, ◌^◌, ◌<◌, ◌≤◌, Bool, true, List, [], ◌++◌, length, take, drop, flat_map, None, refl, sym, ◌∙◌, ap, subst, arith, append_assoc, length-append, length-drop}
 use Rattle.std.specs.List.{All}
-use Rattle.std.proofs.lemmas.List.{take-append-drop, take_at, drop_at, drop-drop, take_all, length-take-le, nil_from_length, append-nil}
-use Rattle.std.proofs.lemmas.List.Elements.{All-nil, All-cons, All-head, All-tail, All-drop, All-take}
+use Rattle.std.proofs.lemmas.List.{take-append-drop, take_at, drop_at, drop-drop, take_all, length-take-le, append-nil}
+use Rattle.std.proofs.lemmas.List.Elements.{All-drop, All-take}
 use Rattle.std.specs.declared.cmp.Ordering.{Ordering}
 use Rattle.byteorder.specs.Endian.{little_number}
-use Rattle.byteorder.specs.Numbers.{little_from-lt, little_number-reads_back, length-bytes_low_first}
+use Rattle.byteorder.specs.Numbers.{little_from-lt, little_number-reads_back}
 use Rattle.leveldb_base.specs.Varint.{little}
 use Rattle.leveldb_base.specs.LittleLaws.{little-little_number}
+use Rattle.leveldb_env.specs.Numbers.{numbers_in}
+use Rattle.leveldb_env.specs.NumberLaws.{length-fours, numbers_written, small_at, AreNumbers, are_numbers}
 use Rattle.leveldb_table.specs.Block.{Entry, entry_bytes, pairs_of, restart_points, block_bytes, IsSpelled, IsNoBlock, Held}
-use Rattle.leveldb_table.specs.BlockLaws.{length-points}
-use Rattle.leveldb_table.specs.Reading.{numbers_in, count_at_end, AreParts}
-use Rattle.leveldb_table.proofs.EntryReads.{numbers_more, numbers_none}
-
--- numbers that were written are read
-pub numbers_written : (points : List ℕ) → All (λ offset. offset < 2 ^ 32) points → numbers_in (flat_map (little 4) points) ≡ points
-numbers_written [] h = numbers_none [] (omega arith)
-numbers_written (point ∷ points) h =
-    let long : 4 ≤ length (little 4 point ++ flat_map (little 4) points) = omega (arith, length-append (little 4 point) (flat_map (little 4) points), length-bytes_low_first 0 4 point) in
-    numbers_more (little 4 point ++ flat_map (little 4) points) long
-    ∙ ap (λ z. z ∷ numbers_in (drop 4 (little 4 point ++ flat_map (little 4) points))) (little_number-reads_back 4 point (flat_map (little 4) points) (omega (arith, All-head (λ z. z < 2 ^ 32) point points h)))
-    ∙ ap (λ z. point ∷ numbers_in z) (drop_at (little 4 point) (flat_map (little 4) points) 4 refl)
-    ∙ ap (λ z. point ∷ z) (numbers_written points (All-tail (λ z. z < 2 ^ 32) point points h))
-
-small_at : (bytes : List ℕ) → All (λ b. b < 256) bytes → (i : ℕ) → get_or bytes i 0 < 256
-small_at [] h i = omega arith
-small_at (b ∷ bytes) h zero = All-head (λ z. z < 256) b bytes h
-small_at (b ∷ bytes) h (suc i) = small_at bytes (All-tail (λ z. z < 256) b bytes h) i
-
--- what bytes of so many numbers are
-pub record AreNumbers (bytes : List ℕ) (count : ℕ) : Type 0 where
-  pub written : flat_map (little 4) (numbers_in bytes) ≡ bytes
-  pub fit : All (λ offset. offset < 2 ^ 32) (numbers_in bytes)
-  pub counted : length (numbers_in bytes) ≡ count
-
-pub are_numbers : (count : ℕ) (bytes : List ℕ) → length bytes ≡ 4 * count → All (λ b. b < 256) bytes → AreNumbers bytes count
-are_numbers zero bytes e small =
-    let none = numbers_none bytes (omega (arith, e)) in
-    record {
-      written = ap (flat_map (little 4)) none ∙ sym (nil_from_length bytes (omega (arith, e)));
-      fit = subst (λ z. All (λ offset. offset < 2 ^ 32) z) (sym none) (All-nil (λ offset. offset < 2 ^ 32));
-      counted = ap length none;
-    }
-are_numbers (suc count) bytes e small =
-    let more = numbers_more bytes (omega (arith, e)) in
-    let rest = are_numbers count (drop 4 bytes) (omega (arith, e, length-drop 4 bytes)) (All-drop (λ b. b < 256) 4 bytes small) in
-    let first = little_from-lt 0 4 bytes (small_at bytes small) in
-    record {
-      written =
-          ap (flat_map (little 4)) more
-          ∙ ap (λ z. z ++ flat_map (little 4) (numbers_in (drop 4 bytes))) (little-little_number 4 bytes (omega (arith, e)) small)
-          ∙ ap (λ z. take 4 bytes ++ z) rest.written ∙ take-append-drop 4 bytes;
-      fit = subst (λ z. All (λ offset. offset < 2 ^ 32) z) (sym more) (All-cons (λ offset. offset < 2 ^ 32) (little_number 4 bytes) (numbers_in (drop 4 bytes)) (omega (arith, first)) rest.fit);
-      counted = let tail = rest.counted in omega (arith, tail, ap length more);
-    }
+use Rattle.leveldb_table.specs.Reading.{count_at_end, AreParts}
 
 -- the three parts of bytes, by where the first ends
 module _ (bytes : List ℕ) (limit count : ℕ) (fits : limit + (4 * count + 4) ≡ length bytes) where
@@ -127,7 +85,7 @@ pub has_parts : {cmp : List ℕ → List ℕ → Ordering} {bytes : List ℕ} {e
 unfolding block_bytes
 has_parts {cmp} {bytes} {entries} spelled =
     let points = restart_points entries in
-    let r = three_of (flat_map entry_bytes entries) (flat_map (little 4) points) (little 4 (length points)) 0 (length points) refl (length-points points) in
+    let r = three_of (flat_map entry_bytes entries) (flat_map (little 4) points) (little 4 (length points)) 0 (length points) refl (length-fours points) in
     let e = spelled.spelled in
     record {
       count =

@@ -1,16 +1,13 @@
 -- A block has one reading, and what is known of entries that stand one behind the other.
 use Rattle.std.proofs.Common.{◌≡◌, ℕ, ◌+◌, ◌*◌, ◌^◌, ◌<◌, ◌≤◌, Bool, true, false, nat_eq, if◌then◌else◌, List, [], ◌∷◌, ◌++◌, length, flat_map, Option, None, Some, refl, sym, ◌∙◌, ap, arith, append_assoc, length-append}
-use Rattle.std.specs.List.{All}
 use Rattle.std.proofs.Props.{props}
-use Rattle.std.proofs.lemmas.List.Elements.{All-head, All-tail}
 use Rattle.std.proofs.lemmas.Bool.Decides.{nat_tests}
 use Rattle.std.specs.declared.cmp.Ordering.{Ordering}
-use Rattle.byteorder.specs.Endian.{little_from}
-use Rattle.byteorder.specs.Numbers.{little_number-reads_back}
 use mathlib.Core.HLevel.{Σ_prop_path}
 use Rattle.leveldb_base.specs.Places.{Pair}
 use Rattle.leveldb_base.specs.Varint.{little, varint}
-use Rattle.leveldb_base.specs.VarintLaws.{apart, one_number, length-varint-pos}
+use Rattle.leveldb_base.specs.VarintLaws.{apart, apart_right, one_number, length-varint-pos}
+use Rattle.leveldb_env.specs.NumberLaws.{length-fours, one_fixed, one_numbers}
 use Rattle.leveldb_table.specs.Block.{Entry, spelling, entry_bytes, key_of, pairs_of, SharesFrom, AreEntries, RiseBehind, points_from, restart_points, block_bytes, IsSpelled, IsHeld, Held}
 
 -- ---- one entry
@@ -107,29 +104,6 @@ one_list offset at (x ∷ xs) (y ∷ ys) o e p =
     let behind = ap (λ z. length (entry_bytes z)) first in
     ap (λ z. z ∷ xs) first ∙ ap (λ z. y ∷ z) (one_list (offset + length (entry_bytes x)) (at + length (entry_bytes y)) xs ys (omega (arith, o, behind)) parts.3 left)
 
-one_fixed : (m n : ℕ) (x y : List ℕ) → m < 2 ^ 32 → n < 2 ^ 32 → little 4 m ++ x ≡ little 4 n ++ y → (m ≡ n) × (x ≡ y)
-one_fixed m n x y hm hn e = (
-  sym (little_number-reads_back 4 m x (omega (arith, hm))) ∙ ap (little_from 0 4) e ∙ little_number-reads_back 4 n y (omega (arith, hn)),
-  (apart (little 4 m) (little 4 n) x y refl e).1,
-)
-
-one_points : (ms ns : List ℕ) → All (λ offset. offset < 2 ^ 32) ms → All (λ offset. offset < 2 ^ 32) ns → flat_map (little 4) ms ≡ flat_map (little 4) ns → ms ≡ ns
-one_points [] [] hm hn e = refl
-one_points [] (n ∷ ns) hm hn e = absurd (omega (arith, ap length e))
-one_points (m ∷ ms) [] hm hn e = absurd (omega (arith, ap length e))
-one_points (m ∷ ms) (n ∷ ns) hm hn e =
-    let first = one_fixed m n (flat_map (little 4) ms) (flat_map (little 4) ns) (All-head (λ z. z < 2 ^ 32) m ms hm) (All-head (λ z. z < 2 ^ 32) n ns hn) e in
-    ap (λ z. z ∷ ms) first.0 ∙ ap (λ z. n ∷ z) (one_points ms ns (All-tail (λ z. z < 2 ^ 32) m ms hm) (All-tail (λ z. z < 2 ^ 32) n ns hn) first.1)
-
--- backs of one length of one text are the same
-pub apart_right : (a b x y : List ℕ) → length x ≡ length y → a ++ x ≡ b ++ y → (a ≡ b) × (x ≡ y)
-apart_right a b x y l e = apart a b x y (omega (arith, l, length-append a x, length-append b y, ap length e)) e
-
--- each restart point takes four bytes
-pub length-points : (points : List ℕ) → length (flat_map (little 4) points) ≡ 4 * length points
-length-points [] = refl
-length-points (point ∷ points) = let rest = length-points points in omega (arith, rest)
-
 -- the same bytes and restart points are the same entries
 pub one_whole : (xs ys : List Entry) → flat_map entry_bytes xs ≡ flat_map entry_bytes ys → restart_points xs ≡ restart_points ys → xs ≡ ys
 one_whole [] [] e p = refl
@@ -152,8 +126,8 @@ pub one_block : {cmp : List ℕ → List ℕ → Ordering} {bytes : List ℕ} {x
 unfolding block_bytes
 one_block {cmp} {bytes} {xs} {ys} f g =
     let parts = three_parts (flat_map entry_bytes xs) (flat_map entry_bytes ys) (flat_map (little 4) (restart_points xs)) (flat_map (little 4) (restart_points ys)) [] []
-    (length (restart_points xs)) (length (restart_points ys)) f.count_fits g.count_fits (length-points (restart_points xs)) (length-points (restart_points ys)) (sym f.spelled ∙ g.spelled) in
-    one_whole xs ys parts.0 (one_points (restart_points xs) (restart_points ys) f.points_fit g.points_fit parts.1)
+    (length (restart_points xs)) (length (restart_points ys)) f.count_fits g.count_fits (length-fours (restart_points xs)) (length-fours (restart_points ys)) (sym f.spelled ∙ g.spelled) in
+    one_whole xs ys parts.0 (one_numbers (restart_points xs) (restart_points ys) f.points_fit g.points_fit parts.1)
 
 -- ---- one proof
 

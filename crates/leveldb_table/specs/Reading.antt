@@ -1,5 +1,5 @@
 -- What reading and checking the bytes of a block gives.
-use Rattle.std.specs.Prelude.{◌≡◌, ℕ, zero, suc, ◌-◌, ◌/◌, ◌^◌, ◌<◌, Bool, true, false, List, [], ◌∷◌, ◌++◌, length, drop, flat_map, Option, None, Some}
+use Rattle.std.specs.Prelude.{◌≡◌, ℕ, ◌-◌, ◌^◌, ◌<◌, Bool, true, false, List, [], ◌∷◌, ◌++◌, length, drop, flat_map, Option, None, Some}
 use Rattle.std.specs.List.{All}
 use Rattle.std.specs.Borrow.{Bor}
 use Rattle.std.specs.declared.cmp.Ordering.{Ordering}
@@ -28,15 +28,6 @@ entry_in restart parts = entry_of restart parts.shared parts.rest.now parts.valu
 abbrev pub ReadsEntry : List ℕ → Option (EntryParts × Bor (List ℕ)) → Type 0
 ReadsEntry bytes (Some read) = IsShort (entry_in false read.0) × (bytes ≡ spelling read.0.shared read.0.rest.now read.0.value.now ++ read.1.now)
 ReadsEntry bytes None = (entry : Entry) (left : List ℕ) → IsShort entry → bytes ≡ entry_bytes entry ++ left → ⊥
-
--- so many numbers of four bytes each
-abbrev pub numbers : ℕ → List ℕ → List ℕ
-numbers zero bytes = []
-numbers (suc count) bytes = little_number 4 bytes ∷ numbers count (drop 4 bytes)
-
--- all numbers of four bytes each
-unfoldable pub numbers_in : List ℕ → List ℕ
-numbers_in bytes = numbers (length bytes / 4) bytes
 
 -- the number in the last four bytes
 abbrev pub count_at_end : List ℕ → ℕ

@@ -47,7 +47,7 @@ IsUnmade items status = IsOutOfMemory status ⊎ ((status.code ≡ InvalidArgume
 module _ {E C FP F I : Type 0} {D : I → Type 0} (env : Ghosts E F) (cmp : List ℕ → List ℕ → Ordering) (engine : Engine E C FP F I D)
     (is_open : (store : List ℕ) (disk : Disk) (state : State) → Recalls env store engine disk state → state.mode ≡ open_mode) (items : List Item) (sync : Bool) (status : Status) (why : IsUnmade items status) where
   pub not_written : AnswersStill env cmp engine (write items sync) (refused (refusal_of status))
-  not_written at tells store old represents = record {
+  not_written at store tells old represents = record {
     new = old;
     represents = represents;
     step = record { later = omega arith; step = subst (λ mode. StepIn cmp mode faults old (write items sync) (refused (refusal_of status)) old) (sym (is_open store disk old represents.memory_is)) (⊎_elim for_memory for_length why) };

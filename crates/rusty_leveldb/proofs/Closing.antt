@@ -106,7 +106,7 @@ module _ {E C FP F I : Type 0} {D : I → Type 0} (env : Ghosts E F) (cmp : List
   pub sync_refused : (before after : Engine E C FP F I D) (at now : E) (status : Status) → before.mode ≡ Open → OnlyLog before after → after.mode ≡ Broken
       → Flushes (Syncs env) before.writer (opened at before.log) (Err status) after.writer (opened now after.log)
       → Answers env cmp (Some before) at close (refused (refusal_of status)) (Some after) now
-  sync_refused before after at now status is_open only is_broken flushed told store old represents =
+  sync_refused before after at now status is_open only is_broken flushed store told old represents =
       let syncs = flushed.flushed in
       let mode : old.mode ≡ open_mode = sym represents.memory_is.mode ∙ ap mode_of is_open in
       let writes = represents.memory_is.writes mode in
@@ -167,7 +167,7 @@ module _ {E C FP F I : Type 0} {D : I → Type 0} (env : Ghosts E F) (cmp : List
     pub unlock_refused : (status : Status) → Does {T = Unit {0}} env.tells_disk same Still (env.tells mid) (env.tells now) (Err status)
         → Relocks {T = Unit {0}} env.tells_disk (lock_set lock false) (env.tells mid) (env.tells now) (Err status) → HasCause {T = Unit {0}} (λ _. ⊥) (env.failures mid) (env.failures now) (Err status)
         → Answers env cmp (Some before) at close (refused (refusal_of status)) (Some (record after { mode = Broken })) now
-    unlock_refused status does relocks caused told store old represents =
+    unlock_refused status does relocks caused store told old represents =
         let is = mode told store old represents (does.now told) in
         let counted : env.failures mid ≡ env.failures at = flushed.flushed.cause.ok in
         let cause = unlock_cause (env.failures at) (env.failures mid) (env.failures now) old close status tt counted caused in
@@ -189,7 +189,7 @@ module _ {E C FP F I : Type 0} {D : I → Type 0} (env : Ghosts E F) (cmp : List
     pub unlocked : Does {T = Unit {0}} env.tells_disk same Still (env.tells mid) (env.tells now) (Ok tt)
         → Relocks {T = Unit {0}} env.tells_disk (lock_set lock false) (env.tells mid) (env.tells now) (Ok tt) → HasCause {T = Unit {0}} (λ _. ⊥) (env.failures mid) (env.failures now) (Ok tt)
         → Answers env cmp (Some before) at close done (Some (record after { mode = Closed })) now
-    unlocked does relocks caused told store old represents =
+    unlocked does relocks caused store told old represents =
         let is = mode told store old represents (does.now told) in
         let counted : env.failures mid ≡ env.failures at = flushed.flushed.cause.ok in
         record {
@@ -212,7 +212,7 @@ module _ {E C FP F I : Type 0} {D : I → Type 0} (env : Ghosts E F) (cmp : List
 
   -- it was closed before
   pub abandoned_closed : (before : Engine E C FP F I D) (at : E) → before.mode ≡ Closed → Answers env cmp (Some before) at abandon done None at
-  abandoned_closed before at is_closed told store old represents =
+  abandoned_closed before at is_closed store told old represents =
       let is : old.mode ≡ closed = sym represents.memory_is.mode ∙ ap mode_of is_closed in
       record {
         new = old;
@@ -227,7 +227,7 @@ module _ {E C FP F I : Type 0} {D : I → Type 0} (env : Ghosts E F) (cmp : List
     pub abandon_refused : (status : Status) → Does {T = Unit {0}} env.tells_disk same Still (env.tells at) (env.tells now) (Err status)
         → Relocks {T = Unit {0}} env.tells_disk (lock_set lock false) (env.tells at) (env.tells now) (Err status) → HasCause {T = Unit {0}} (λ _. ⊥) (env.failures at) (env.failures now) (Err status)
         → Answers env cmp (Some before) at abandon (refused (refusal_of status)) None now
-    abandon_refused status does relocks caused told store old represents =
+    abandon_refused status does relocks caused store told old represents =
         let cause = unlock_cause (env.failures at) (env.failures at) (env.failures now) old abandon status tt refl caused in
         record {
           new = ended old old.covered old.locked;
@@ -248,7 +248,7 @@ module _ {E C FP F I : Type 0} {D : I → Type 0} (env : Ghosts E F) (cmp : List
     pub abandoned : Does {T = Unit {0}} env.tells_disk same Still (env.tells at) (env.tells now) (Ok tt)
         → Relocks {T = Unit {0}} env.tells_disk (lock_set lock false) (env.tells at) (env.tells now) (Ok tt) → HasCause {T = Unit {0}} (λ _. ⊥) (env.failures at) (env.failures now) (Ok tt)
         → Answers env cmp (Some before) at abandon done None now
-    abandoned does relocks caused told store old represents =
+    abandoned does relocks caused store told old represents =
         let same_lock : lock ≡ lock_path store = lock_is ∙ represents.memory_is.lock in
         record {
           new = ended old old.covered false;

@@ -10,13 +10,14 @@ use Rattle.leveldb_base.specs.View.{LooksUp, SameView}
 use Rattle.leveldb_env.specs.declared.env.Env.{Ghosts}
 use Rattle.leveldb_env.specs.Disk.{Disk}
 use Rattle.leveldb_env.specs.Calls.{NoMemory}
+use Rattle.leveldb_mem.specs.Batch.{max_length}
 use Rattle.leveldb_mem.specs.Entries.{FindsNewest}
 use Rattle.rusty_leveldb.specs.declared.db_impl.engine.Mode.{Mode}
 use Rattle.rusty_leveldb.specs.declared.db_impl.engine.Mode.TheVariants.{Open, Broken, Closed}
 use Rattle.rusty_leveldb.specs.declared.db_impl.engine.Engine.{Engine}
 use Rattle.rusty_leveldb.specs.State as machine
-use Rattle.rusty_leveldb.specs.State.{State, IsState, Request, get, Refusal, Answer, found, refused}
-use Rattle.rusty_leveldb.specs.Causes.{Faults, max_length, bad_operand, out_of_memory, Misfits, IsLongKey}
+use Rattle.rusty_leveldb.specs.State.{State, IsState, get, Answer, found, refused}
+use Rattle.rusty_leveldb.specs.Causes.{Faults, bad_operand, out_of_memory, Misfits, IsLongKey}
 use Rattle.rusty_leveldb.specs.Machine.{StepIn, Responds}
 use Rattle.rusty_leveldb.specs.Serves.{refusal_of, found_or}
 use Rattle.rusty_leveldb.specs.Engine.{IsShut, mode_of, Remembers, Recalls, AnswersStill}
@@ -54,7 +55,7 @@ module _ {E C FP F I : Type 0} {D : I → Type 0} (env : Ghosts E F) (cmp : List
 
   still : (answer : Answer) → ((store : List ℕ) (disk : Disk) (old : State) → IsState old → Recalls env store engine disk old → Stays answer old)
       → AnswersStill env cmp engine (get None key) answer
-  still answer stays at told store old represents = record {
+  still answer stays at store told old represents = record {
     new = old;
     represents = represents;
     step = record { later = omega arith; step = stays store (env.tells at).disk old represents.disk_is.is_state represents.memory_is _ };

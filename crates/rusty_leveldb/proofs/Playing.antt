@@ -46,7 +46,7 @@ module _ {E F C FP I : Type 0} {D : I → Type 0} (env : Ghosts E F) (cmp : List
       → Leads C FP env cmp store from requests answers engine mid old → Answers env cmp engine mid request answer after to
       → Leads C FP env cmp store from (requests ++ request ∷ []) (answers ++ answer ∷ []) after to old
   one_more from mid to requests answers engine after request answer old led answers_so =
-      let goes = answers_so tells store led.new led.represents in
+      let goes = answers_so store tells led.new led.represents in
       record {
         events = led.events ++ event_of request answer (env.failures to) ∷ [];
         asked = conversation_more requests answers led.events request answer (env.failures to) led.asked;

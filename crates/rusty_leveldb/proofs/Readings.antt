@@ -23,6 +23,7 @@ each_more R (a ∷ xs) (b ∷ ys) x y e r = (e.0, each_more R xs ys x y e.1 r)
 each_more R [] (b ∷ ys) x y e r = absurd e
 each_more R (a ∷ xs) [] x y e r = absurd e
 
+-- where each has one partner, two lists of partners are one
 pub each_one : {A B : Type 0} (R : A → B → Type 0) → ((a : A) (b c : B) → R a b → R a c → b ≡ c) → (xs : List A) (ys zs : List B) → Each R xs ys → Each R xs zs → ys ≡ zs
 each_one R one [] [] [] e f = refl
 each_one R one (x ∷ xs) (y ∷ ys) (z ∷ zs) e f =
@@ -36,19 +37,26 @@ each_one R one (x ∷ xs) (y ∷ ys) [] e f = absurd f
 
 -- ---- one reading
 
-pub one_record : (bytes : List ℕ) (a b : Batch) → IsRecordOf bytes a → IsRecordOf bytes b → a ≡ b
-one_record bytes a b p q =
-    let e = BatchOf-one bytes a.first b.first a.items b.items p q in
-    λ i. record { first = e.0 i; items = e.1 i }
+one_batch : (record' : List ℕ) (these those : Batch) → IsRecordOf record' these → IsRecordOf record' those → these ≡ those
+one_batch record' these those p q =
+    let same = BatchOf-one record' these.first those.first these.items those.items p q in
+    λ i. record { first = same.0 i; items = same.1 i }
 
+-- records are one list of batches
+pub one_batches : (records : List (List ℕ)) (these those : List Batch) → Each IsRecordOf records these → Each IsRecordOf records those → these ≡ those
+one_batches records these those p q = each_one IsRecordOf one_batch records these those p q
+
+-- bytes are a log of one list of batches
 pub one_log : (bytes : List ℕ) (these those : List Batch) → IsLogOf bytes these → IsLogOf bytes those → these ≡ those
-one_log bytes these those a b =
-    let records = (log_laws.one bytes b.records a.records b.end a.end b.read a.read).0 in
-    each_one IsRecordOf one_record a.records these those a.each (subst (λ rs. Each IsRecordOf rs those) records b.each)
+one_log bytes these those p q =
+    let same = log_laws.one bytes p.records q.records p.end q.end p.read q.read in
+    one_batches q.records these those (subst (λ rs. Each IsRecordOf rs these) same.0 p.each) q.each
 
-one_read : (file : Option File) (these those : Contents) → IsRead file these → IsRead file those → these ≡ those
+-- two readings of one file are one
+pub one_read : (file : Option File) (these those : Contents) → IsRead file these → IsRead file those → these ≡ those
 one_read None these those a b = a ∙ sym b
 one_read (Some file) these those a b = a.2 ∙ ap contents_of (one_log (bytes_of file) a.0 b.0 a.1 b.1) ∙ sym b.2
 
+-- and so are two of one disk
 pub one_reading : OneReading
 one_reading store files these those a b = one_read _ these those a b

@@ -13,8 +13,9 @@ use Rattle.leveldb_mem.specs.Entries.{Gains}
 use Rattle.rusty_leveldb.specs.OneLog.{Each, IsRecordOf, AreInOrder, entries_in, all_entries, max_sequence}
 use Rattle.rusty_leveldb.specs.Recent.{Numbered, Follows, Inserts}
 use Rattle.rusty_leveldb.specs.Replay.{AreBatches, IsReplayed, IsDamaged}
-use Rattle.rusty_leveldb.proofs.OneLog.Batches.{each_more, greatest_append, all_more, order_more}
-use Rattle.rusty_leveldb.proofs.OneLog.LogFile.{one_batches}
+use Rattle.rusty_leveldb.proofs.OneLog.Batches.{all_more, order_more}
+use Rattle.rusty_leveldb.proofs.Readings.{each_more, one_batches}
+use Rattle.rusty_leveldb.proofs.Histories.{greatest_append}
 
 -- ---- a batch's numbers
 

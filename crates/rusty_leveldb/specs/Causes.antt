@@ -3,7 +3,7 @@ use Rattle.std.specs.Prelude.{◌≡◌, ◌≢◌, ◌<◌, ◌≤◌, ◌+◌,
 use Rattle.leveldb_base.specs.declared.error.StatusCode.{StatusCode}
 use Rattle.leveldb_base.specs.declared.error.StatusCode.TheVariants.{OutOfMemory, LockError, InvalidArgument, AlreadyExists, NotSupported, IOError}
 use Rattle.leveldb_base.specs.History.{Item}
-use Rattle.leveldb_mem.specs.Batch.{batch_bytes}
+use Rattle.leveldb_mem.specs.Batch.{batch_bytes, max_length}
 use Rattle.rusty_leveldb.specs.Contents.{Store, missing, made}
 use Rattle.rusty_leveldb.specs.OneLog.{max_sequence}
 use Rattle.rusty_leveldb.specs.State.{State, Opening, Snapshot, Refusal, Request, open_store, write, get, walk, get_snapshot, release_snapshot, compact_range, abandon, Move, seek, reset}
@@ -24,15 +24,11 @@ pub record Faults : Type 0 where
   pub after : ℕ
   pub coders : List StatusCode
 
--- a call of the device failed, or the count of those that did stands at its greatest
-abbrev pub DeviceFailed : Faults → Type 0
-DeviceFailed faults = (faults.before < faults.after) ⊎ (faults.before ≡ 2 ^ 64 - 1)
+-- between these counts of failed calls of the device one was counted, or the count stood at its greatest
+abbrev pub HasFailed : ℕ → ℕ → Type 0
+HasFailed before after = (before < after) ⊎ (before ≡ 2 ^ 64 - 1)
 
 -- ---- operands
-
--- the greatest length of a key, a value and a batch
-abbrev pub max_length : ℕ
-max_length = 2 ^ 30
 
 -- the batch of these items would be too long
 abbrev pub IsLongBatch : List Item → Type 0
@@ -110,7 +106,7 @@ ReachesBlocks _ = ⊥
 -- When a cause comes, and which code and text it has; damage is no cause, since the disk is whole.
 abbrev pub Comes : Faults → State → Request → Refusal → Cause → Type 0
 Comes faults old request refusal out_of_memory = TakesMemory request × (refusal.code ≡ OutOfMemory) × (refusal.text ≡ [])
-Comes faults old request refusal device_failed = ReachesDevice request × DeviceFailed faults
+Comes faults old request refusal device_failed = ReachesDevice request × HasFailed faults.before faults.after
 Comes faults old request refusal lock_is_held = TakesLock request × (refusal.code ≡ LockError) × IsTrue old.locked
 Comes faults old request refusal bad_operand = (refusal.code ≡ InvalidArgument) × Misfits old request
 Comes faults old request refusal store_exists = (refusal.code ≡ AlreadyExists) × Exists old request

@@ -77,8 +77,7 @@ module _ {E C FP F I : Type 0} {D : I → Type 0} (env : Ghosts E F) (cmp : List
 
   -- the same, whatever store engine and disk stand for
   abbrev pub Answers : Option (Engine E C FP F I D) → E → Request → Answer → Option (Engine E C FP F I D) → E → Type 0
-  Answers before from request answer after to = IsTrue env.tells_disk → (store : List ℕ)
-      → Serves store (Reads store) (Recalls env store) cmp (scene before from) request answer (scene after to)
+  Answers before from request answer after to = (store : List ℕ) → AnswersAs store before from request answer after to
 
   -- the same of a call that leaves engine and environment as they are
   abbrev pub AnswersStill : Engine E C FP F I D → Request → Answer → Type 0

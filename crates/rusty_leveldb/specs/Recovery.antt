@@ -9,6 +9,7 @@ use Rattle.leveldb_log.specs.Writing.{Writing}
 use Rattle.rusty_leveldb.specs.Names.{lock_path}
 use Rattle.rusty_leveldb.specs.OneLog.{log_path, IsRead}
 use Rattle.rusty_leveldb.specs.Contents.{Contents}
+use Rattle.rusty_leveldb.specs.Causes.{HasFailed}
 use Rattle.rusty_leveldb.specs.Recent.{Numbered}
 use Rattle.rusty_leveldb.specs.Replay.{IsReplayed}
 
@@ -65,7 +66,7 @@ pub record IsRecovered (create : Bool) (was now : Option File) (writer : Writing
 pub record HasCauses {T : Type 0} (Excused : Status → Type 0) (before now : ℕ) (result : Result T Status) : Type 0 where
   pub later : before ≤ now
   pub ok : OnOk result (now ≡ before)
-  pub cause : IfErr result (λ e. Excused e ⊎ (before < now) ⊎ (before ≡ 2 ^ 64 - 1))
+  pub cause : IfErr result (λ e. Excused e ⊎ HasFailed before now)
 
 -- the same answer, but damage for a file that is missing
 abbrev pub IsFoundOr : {T : Type 0} → Result T Status → Result T Status → Type 0

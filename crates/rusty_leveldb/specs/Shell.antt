@@ -1,5 +1,5 @@
 -- Commands and replies as requests and answers, and what a run of commands is.
-use Rattle.std.specs.Prelude.{◌≡◌, ◌⊎◌, ◌<◌, ◌^◌, ◌-◌, ℕ, Bool, false, List, [], ◌∷◌, ◌++◌, map, Option, Some, None, Result, Ok, Err, IsTrue}
+use Rattle.std.specs.Prelude.{◌≡◌, ◌⊎◌, ℕ, Bool, false, List, [], ◌∷◌, ◌++◌, map, Option, Some, None, Result, Ok, Err, IsTrue}
 use Rattle.std.specs.declared.cmp.Ordering.{Ordering}
 use Rattle.leveldb_base.specs.declared.error.Status.{Status}
 use Rattle.leveldb_base.specs.History as history
@@ -67,7 +67,3 @@ module _ {E F : Type 0} (C FP : Type 0) (env : Ghosts E F) (cmp : List ℕ → L
   abbrev pub PlaysAlways : E → Bool → List Command → List Reply → Result (Unit {0}) Status → E → Type 0
   PlaysAlways from create_if_missing commands given result to = IsTrue env.tells_disk → (opening : Opening) → IsOpening store create_if_missing opening
       → (old : State) → Represents store (Reads store) (Recalls {C = C} {FP = FP} {I = Unit {0}} {D = NoCoder} env store) None (env.tells from).disk old → Plays from opening commands given result to old
-
--- a device's failure was counted, or can't be any more
-abbrev pub HasFailed : ℕ → ℕ → Type 0
-HasFailed before after = (before < after) ⊎ (before ≡ 2 ^ 64 - 1)

@@ -1,9 +1,10 @@
 //! The check of a block's bytes, in one pass.
 ghost use Rattle.std.specs.Prelude.{◌≡◌, ◌↔◌, All, ◌+◌, ◌*◌, ◌<◌, ◌≤◌, true, length, MatchOption, IsSome, List, [], ◌∷◌, ◌++◌, take, IfOk, OnOk, IfErr, IsTrue};
 ghost use Rattle.leveldb_base.specs.Status.{IsOutOfMemory};
+ghost use Rattle.leveldb_env.specs.Numbers.{numbers_in};
 ghost use Rattle.leveldb_table.specs.Block.{key_of, SharesFrom, RiseBehind};
 ghost use Rattle.leveldb_table.specs.BlockLaws.{begins, points_after};
-ghost use Rattle.leveldb_table.specs.Reading.{entry_in, key_before, CanFollow, numbers_in, count_at_end, Checks};
+ghost use Rattle.leveldb_table.specs.Reading.{entry_in, key_before, CanFollow, count_at_end, Checks};
 
 use crate::block::entry::{EntryParts, begins_at, take_entry};
 use byteorder::{ByteOrder, LittleEndian};

@@ -1,7 +1,8 @@
 //! Entries and restart points of a block, as they are read.
 ghost use Rattle.std.specs.Prelude.{◌≡◌};
+ghost use Rattle.leveldb_env.specs.Numbers.{numbers_in};
 ghost use Rattle.leveldb_table.specs.BlockLaws.{begins};
-ghost use Rattle.leveldb_table.specs.Reading.{lent_number, ReadsNumber, ReadsEntry, numbers_in};
+ghost use Rattle.leveldb_table.specs.Reading.{lent_number, ReadsNumber, ReadsEntry};
 
 use byteorder::{ByteOrder, LittleEndian};
 use leveldb_base::varint::get_varint32;

@@ -10,8 +10,10 @@ use Rattle.leveldb_log.specs.LogLaws.{log_laws, AreFirst}
 use Rattle.leveldb_mem.specs.Batch.{Batch, BatchOf, batch_bytes}
 use Rattle.rusty_leveldb.specs.OneLog.{Each, IsRecordOf, AreInOrder, contents_of, max_sequence}
 use Rattle.rusty_leveldb.specs.Holds.{Tells}
-use Rattle.rusty_leveldb.proofs.OneLog.Batches.{each_take, each_more, placed_length, batch_at, tells_more, order_one_more, order_take}
-use Rattle.rusty_leveldb.proofs.OneLog.LogFile.{Carried, CarriedBeginning, Safe, carried_more, front_honest, one_batches}
+use Rattle.rusty_leveldb.proofs.Histories.{placed_length}
+use Rattle.rusty_leveldb.proofs.Readings.{each_take, each_more, one_batches}
+use Rattle.rusty_leveldb.proofs.OneLog.Batches.{batch_at, tells_more, order_one_more, order_take}
+use Rattle.rusty_leveldb.proofs.OneLog.LogFile.{Carried, CarriedBeginning, Safe, carried_more, front_honest}
 
 -- a batch has bytes
 pub batch_some : (bytes : List ℕ) (first : ℕ) (items : List Item) → BatchOf bytes first items → bytes ≢ []

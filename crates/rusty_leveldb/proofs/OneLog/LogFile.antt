@@ -1,48 +1,22 @@
 -- What the one log's file says: what it carries, and when a crash of it is safe. The rest of the disk has no part in it.
-use Rattle.std.proofs.Common.{◌≡◌, ◌≤◌, inl, ℕ, zero, suc, Bool, true, false, List, [], ◌++◌, refl, sym, ◌∙◌, ap, subst, arith, Option, Some, None, append-nil, append_assoc}
-use Rattle.std.specs.Prelude.{codes, All}
-use Rattle.std.specs.Char.{IsAsciiDigit}
+use Rattle.std.proofs.Common.{◌≡◌, ◌≤◌, inl, ℕ, Bool, true, false, List, [], ◌++◌, refl, sym, ◌∙◌, ap, subst, arith, Option, Some, None, append-nil, append_assoc, lit≤, lit<}
+use Rattle.std.specs.Prelude.{codes}
 use Rattle.std.specs.Str.{bytes_eq}
 use Rattle.std.specs.Cmp.Lexicographic.{bytes_decides}
 use Rattle.leveldb_base.specs.History.{History, IsBeginning}
+use Rattle.leveldb_base.specs.Names.{IsNumber}
 use Rattle.leveldb_env.specs.Disk.{File, Files, bytes_of, kept_file, with_file, AreBytes, LeavesFile, Leaves}
 use Rattle.leveldb_env.specs.FileLaws.{at_same, at_other}
 use Rattle.leveldb_log.specs.Log.{log_block_size, End, IsLogFile}
 use Rattle.leveldb_log.specs.Honest.{HonestTail}
-use Rattle.leveldb_log.specs.LogLaws.{log_laws, cut_is_honest}
+use Rattle.leveldb_log.specs.LogLaws.{cut_is_honest}
 use Rattle.leveldb_mem.specs.Batch.{Batch}
-use Rattle.leveldb_mem.specs.BatchLaws.{BatchOf-one}
 use Rattle.rusty_leveldb.specs.Contents.{Contents}
-use Rattle.rusty_leveldb.specs.OneLog.{log_path, Each, IsRecordOf, AreInOrder, IsLogOf, contents_of, IsRead, IsOneLog}
+use Rattle.rusty_leveldb.specs.OneLog.{log_path, Each, IsRecordOf, AreInOrder, contents_of, IsRead, IsOneLog}
 use Rattle.rusty_leveldb.specs.Names.{IsJournal}
 use Rattle.rusty_leveldb.specs.Holds.{IsHonest, Tells, Carries, IsSafe}
-use Rattle.rusty_leveldb.proofs.OneLog.Batches.{each_one}
 
 -- ---- reading
-
-one_batch : (record' : List ℕ) (these those : Batch) → IsRecordOf record' these → IsRecordOf record' those → these ≡ those
-one_batch record' these those p q =
-    let same = BatchOf-one record' these.first those.first these.items those.items p q in
-    λ i. record { first = same.0 i; items = same.1 i }
-
--- records are one list of batches
-pub one_batches : (records : List (List ℕ)) (these those : List Batch) → Each IsRecordOf records these → Each IsRecordOf records those → these ≡ those
-one_batches records these those p q = each_one IsRecordOf one_batch records these those p q
-
--- bytes are a log of one list of batches
-pub one_log : (bytes : List ℕ) (these those : List Batch) → IsLogOf bytes these → IsLogOf bytes those → these ≡ those
-one_log bytes these those p q =
-    let same = log_laws.one bytes p.records q.records p.end q.end p.read q.read in
-    one_batches q.records these those (subst (λ rs. Each IsRecordOf rs these) same.0 p.each) q.each
-
--- two readings of one file are one
-pub one_reading : (file : Option File) (these those : Contents) → IsRead file these → IsRead file those → these ≡ those
-one_reading None these those p q = p ∙ sym q
-one_reading (Some file) these those p q = p.2 ∙ ap contents_of (one_log (bytes_of file) p.0 q.0 p.1 q.1) ∙ sym q.2
-
--- two readings of one disk are one
-pub one_contents : (name : List ℕ) (files : Files) (these those : Contents) → IsOneLog name files these → IsOneLog name files those → these ≡ those
-one_contents name files these those p q = one_reading (files name) these those p q
 
 -- a log whose records are batches in order is read as these batches
 pub log_read : (name : List ℕ) (files : Files) (file : File) (records : List (List ℕ)) (end : End) (batches : List Batch) → files name ≡ Some file → IsLogFile (bytes_of file) records end
@@ -110,15 +84,9 @@ cut_honest : (file : Option File) → Honest file (cut file)
 cut_honest None = λ was is same_was same_is. absurd (cc)
 cut_honest (Some file) = front_honest file [] file.since refl
 
--- the digits of the log's number
-zero_or_three : All IsAsciiDigit (codes "000003")
-zero_or_three zero d below = (omega arith, omega arith)
-zero_or_three (suc zero) d below = (omega arith, omega arith)
-zero_or_three (suc (suc zero)) d below = (omega arith, omega arith)
-zero_or_three (suc (suc (suc zero))) d below = (omega arith, omega arith)
-zero_or_three (suc (suc (suc (suc zero)))) d below = (omega arith, omega arith)
-zero_or_three (suc (suc (suc (suc (suc zero))))) d below = (omega arith, omega arith)
-zero_or_three (suc (suc (suc (suc (suc (suc k)))))) d below = absurd (let never : ⊥ = omega (arith, below) in never)
+-- the log's number
+is_three : IsNumber (codes "000003") 3
+is_three = record { digits = (lit≤ tt, (lit< tt, (lit< tt, (lit< tt, (lit< tt, (lit< tt, (lit< tt, tt))))))); value = refl; fits = omega arith }
 
 module _ (store : List ℕ) where
   abbrev name : List ℕ
@@ -135,7 +103,7 @@ module _ (store : List ℕ) where
 
   -- the log's name is a journal's
   pub is_journal : IsJournal store name
-  is_journal = inl (codes "000003", record { some = λ e. cc; digits = λ k d below. zero_or_three k d below; fits = omega arith }, refl)
+  is_journal = inl (codes "000003.log", 3, (codes "000003", is_three, refl), refl)
 
   -- where a crash of the log is safe, one of the disk is
   pub is_safe : (bound covered : ℕ) (history : History) (files : Files) → Safe bound covered history (files name) → IsSafe store reads bound covered history files

@@ -11,9 +11,9 @@ use Rattle.leveldb_mem.specs.Batch.{BatchOf}
 use Rattle.rusty_leveldb.specs.Contents.{Contents}
 use Rattle.rusty_leveldb.specs.OneLog.{log_path, IsOneLog, max_sequence}
 use Rattle.rusty_leveldb.specs.Holds.{Carries, IsSafe, Holds}
-use Rattle.rusty_leveldb.proofs.OneLog.Batches.{placed_length}
+use Rattle.rusty_leveldb.proofs.Histories.{placed_length}
 use Rattle.rusty_leveldb.proofs.OneLog.LogFile.{Carried, Safe, carried, carries, carried_more, is_safe, safe_of}
-use Rattle.rusty_leveldb.proofs.OneLog.Appending.{safe_longer, beginning_longer, beginning_whole, batch_some}
+use Rattle.rusty_leveldb.proofs.OneLog.Appending.{safe_longer, beginning_whole, batch_some}
 use Rattle.rusty_leveldb.proofs.OneLog.Appending as appending
 use Rattle.rusty_leveldb.proofs.OneLog.Kept.{IsKept, kept_is, kept_safe, kept_carries}
 use Rattle.rusty_leveldb.proofs.OneLog.Disks.{safe_more, carries_on, safe_on}

@@ -15,14 +15,14 @@ use Rattle.rusty_leveldb.specs.Contents.{Store, made}
 use Rattle.rusty_leveldb.specs.OneLog.{log_path}
 use Rattle.rusty_leveldb.specs.Holds.{Carries, Holds, HasStore, KeepsStore}
 use Rattle.rusty_leveldb.specs.State.{State, SuitsMode, open_mode, broken, closed}
-use Rattle.rusty_leveldb.specs.Causes.{DeviceFailed}
-use Rattle.rusty_leveldb.specs.Serves.{Reads, StandsFor, Represents, faults_between}
+use Rattle.rusty_leveldb.specs.Causes.{HasFailed}
+use Rattle.rusty_leveldb.specs.Serves.{Reads, StandsFor, Represents}
 use Rattle.rusty_leveldb.specs.Engine.{mode_of, WritesOn, Remembers, Recalls}
 use Rattle.rusty_leveldb.proofs.OneLog.Disks.{log_is_store, store_stays}
 
 -- why a log refused a call
 abbrev pub Fails : Status → ℕ → ℕ → Type 0
-Fails status before after = NoMemory status ⊎ DeviceFailed (faults_between before after)
+Fails status before after = NoMemory status ⊎ HasFailed before after
 
 -- the log's file is there, so it is want of memory or the device
 pub fails : (tells_disk : _) (name : List ℕ) (told : Told) (file : File) (before after : ℕ) (status : Status) → told.disk.files name ≡ Some file

@@ -55,7 +55,6 @@ pub(crate) fn check_not_closed(alloc: Global, mode: Mode) -> Result<()>
 pub(crate) fn check_open(alloc: Global, mode: Mode, writer: &WriterCore) -> Result<()>
     ensures ok { OnOk result ((mode ≡ Mode.Open) × (writer.now.broken ≡ false)) }
     ensures cause { IfErr result (λ status. ShutOut mode status ⊎ ShutDown mode writer.now status) }
-    ensures shut { IfErr result (λ status. IsShut mode → ShutOut mode status) }
     ensures stuck { IfErr result (λ status. status.code ≡ StatusCode.IOError → IsShut mode → ⊥) }
 {
     check_not_closed(alloc, mode)?;

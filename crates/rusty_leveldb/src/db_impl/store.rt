@@ -5,7 +5,7 @@ ghost use Rattle.leveldb_mem.specs.Batch.{item_of};
 ghost use Rattle.rusty_leveldb.specs.State.{Opening, open_store, write, get, flush, close, abandon, done, refused};
 ghost use Rattle.rusty_leveldb.specs.Serves.{done_or, found_or, refusal_of};
 ghost use Rattle.rusty_leveldb.specs.Engine.{IsOpening, no_engine, AnswersAs, Answers, OpenExcused, WriteExcused, SyncExcused, CloseExcused, GetExcused};
-ghost use Rattle.rusty_leveldb.specs.Shell.{HasFailed};
+ghost use Rattle.rusty_leveldb.specs.Causes.{HasFailed};
 
 use super::engine::Engine;
 use bytes::Bytes;

@@ -3,11 +3,11 @@ ghost use Rattle.std.specs.Prelude.{◌≡◌, ◌≤◌, ◌⊎◌, ◌++◌, L
 ghost use Rattle.leveldb_base.specs.Status.{IsOutOfMemory};
 ghost use Rattle.leveldb_env.specs.Calls.{NoMemory};
 ghost use Rattle.leveldb_mem.specs.Batch.{with_item, IsTooLong};
-ghost use Rattle.rusty_leveldb.specs.Causes.{IsLongBatch};
+ghost use Rattle.rusty_leveldb.specs.Causes.{IsLongBatch, HasFailed};
 ghost use Rattle.rusty_leveldb.specs.Engine.{Answers, OpenExcused};
 ghost use Rattle.rusty_leveldb.specs.Serves.{done_or};
 ghost use Rattle.rusty_leveldb.specs.State as machine;
-ghost use Rattle.rusty_leveldb.specs.Shell.{PlaysAlways, HasFailed, request_of, answer_of, change_of};
+ghost use Rattle.rusty_leveldb.specs.Shell.{PlaysAlways, request_of, answer_of, change_of};
 
 use super::commands::{Command, Item, Reply};
 use crate::db_impl::Engine;

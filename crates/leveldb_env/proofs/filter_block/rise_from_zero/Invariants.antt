@@ -1,5 +1,6 @@
 use Rattle.std.proofs.Common.{◌↔◌, length}
-use Rattle.leveldb_env.specs.FilterBlockParts.{numbers_in, RiseFrom}
+use Rattle.leveldb_env.specs.FilterBlockParts.{RiseFrom}
+use Rattle.leveldb_env.specs.Numbers.{numbers_in}
 use Rattle.leveldb_env.proofs.filter_block.rise_from_zero.Given as goal
 
 abbrev pub invariant-loop-left : goal.invariant-loop-left

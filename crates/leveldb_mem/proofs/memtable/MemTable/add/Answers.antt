@@ -1,11 +1,11 @@
-use Rattle.std.proofs.Common.{◌≡◌, ◌∙◌, [], ◌∷◌, List, ℕ, Option, sym, ap, subst, option_copied}
+use Rattle.std.proofs.Common.{◌≡◌, [], ◌∷◌, List, ℕ, Option, subst, option_copied}
 use Rattle.std.proofs.lemmas.Bool.{OnTrue_at, OnFalse_at}
 use Rattle.leveldb_base.specs.Status.{IsOutOfMemory}
 use Rattle.leveldb_base.specs.declared.error.Status.{Status}
 use Rattle.leveldb_base.specs.declared.error.StatusCode.TheVariants.{AlreadyExists}
 use Rattle.leveldb_base.specs.History.{Entry}
 use Rattle.leveldb_mem.specs.Entries.{Gains, IsNewTo}
-use Rattle.leveldb_mem.specs.MemTable.{entry_of, value_of, Grows}
+use Rattle.leveldb_mem.specs.MemTable.{entry_of, Grows}
 use Rattle.leveldb_mem.proofs.Gaining.{caused}
 use Rattle.leveldb_mem.proofs.memtable.MemTable.add.Goals as goal
 

@@ -1,8 +1,7 @@
-use Rattle.std.proofs.Common.{◌≡◌, List, ℕ, sym, ap, subst, ◌∙◌}
+use Rattle.std.proofs.Common.{◌≡◌, ap, ◌∙◌}
 use Rattle.leveldb_base.specs.Keys.{memtable_cmp}
 use Rattle.leveldb_base.specs.Places.{count_before}
 use Rattle.leveldb_base.specs.Varint.{sized}
-use Rattle.leveldb_mem.specs.MemTable.{GivesAt}
 use Rattle.leveldb_mem.proofs.Newest.{finds_given}
 use Rattle.leveldb_mem.proofs.memtable.MemTable.get.Goals as goal
 

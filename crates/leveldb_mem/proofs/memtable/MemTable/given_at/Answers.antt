@@ -1,6 +1,5 @@
-use Rattle.std.proofs.Common.{◌≡◌, [], List, Option, Some, ℕ, sym, ap, subst, ◌∙◌, arith}
+use Rattle.std.proofs.Common.{◌≡◌, [], List, Option, Some, ℕ, sym, subst, arith}
 use Rattle.std.proofs.lemmas.Bool.{iff_false}
-use Rattle.leveldb_base.specs.Keys.{type_part, user_part}
 use Rattle.leveldb_mem.specs.MemTable.{entries_in, value_of, GivesAt}
 use Rattle.leveldb_mem.proofs.Newest.{gives_nothing, gives_other, gives_read}
 use Rattle.leveldb_mem.proofs.memtable.MemTable.given_at.Goals as goal

@@ -1,11 +1,9 @@
-use Rattle.std.proofs.Common.{◌≡◌, ◌+◌, ◌*◌, ◌<◌, ◌≤◌, ◌++◌, [], ◌∷◌, true, false, List, ℕ, length, option_copied, ap, sym, subst, ◌∙◌, ⊎_elim, arith}
+use Rattle.std.proofs.Common.{◌≡◌, ◌++◌, true, false, List, option_copied, ap, sym, subst, ◌∙◌, ⊎_elim, arith}
 use Rattle.std.proofs.lemmas.Bool.{cases_Bool, OnTrue_at, OnTrue_from, OnFalse_at, OnFalse_from}
 use Rattle.std.specs.Prelude.{All}
-use Rattle.leveldb_base.specs.Keys.{memtable_cmp, memtable_accepts}
+use Rattle.leveldb_base.specs.Keys.{memtable_accepts}
 use Rattle.leveldb_base.specs.Places.{Pair}
-use Rattle.leveldb_mem.specs.SkipMap.{Inserts, HasKey}
-use Rattle.leveldb_mem.specs.Entries.{value_length}
-use Rattle.leveldb_mem.specs.MemTable.{Memory, entry_of, entry_key, entry_from, type_of, bytes_of_value, IsEntryPair, entries_in}
+use Rattle.leveldb_mem.specs.MemTable.{entry_of, entry_key, entry_from, type_of, bytes_of_value, IsEntryPair, entries_in}
 use Rattle.leveldb_mem.proofs.EntryKeys.{key_of_parts, length-parts, entry_again, accepted_key}
 use Rattle.leveldb_mem.proofs.Memories.{grows}
 use Rattle.leveldb_mem.proofs.Gaining.{gains_entry, still_entries, not_new, is_new}

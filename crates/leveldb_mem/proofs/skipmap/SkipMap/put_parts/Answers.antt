@@ -1,5 +1,4 @@
-use Rattle.std.proofs.Common.{◌≡◌, ◌++◌, ◌∙◌, [], ap, sym, subst, refl, length, List, ℕ, ◌≤◌, arith, append-nil, length-append}
-use Rattle.std.specs.List.{insert}
+use Rattle.std.proofs.Common.{◌≡◌, ◌++◌, ◌∙◌, [], ap, sym, subst, refl, length, List, ◌≤◌, arith, append-nil, length-append}
 use Rattle.leveldb_base.specs.Places.{Pair}
 use Rattle.leveldb_mem.specs.SkipMap.{IsSorted}
 use Rattle.leveldb_mem.proofs.Rising.{placed_at, inserts_at}

@@ -1,5 +1,5 @@
 -- the rest of the text becomes a pair at its place
-use Rattle.std.proofs.Common.{◌≡◌, ◌+◌, ◌<◌, ◌≤◌, ◌++◌, ◌∷◌, [], length, get_or, true, is_ok, arith, ap, ◌∙◌, length-drop}
+use Rattle.std.proofs.Common.{◌≡◌, ◌+◌, ◌≤◌, length, get_or, true, is_ok, arith, ap, ◌∙◌, length-drop}
 use Rattle.std.specs.List.{insert}
 use Rattle.std.proofs.lemmas.Bool.{cond-true}
 use Rattle.std.proofs.lemmas.List.{length-map}

@@ -10,19 +10,19 @@ use Rattle.rusty_leveldb.proofs.db_impl.engine.Engine.write.Goals as goal
 use Rattle.rusty_leveldb.proofs.db_impl.engine.Engine.write.Goals.{then-sync+in_ok-sync, else-sync}
 
 pub returns-in_err-first-clause-step : goal.returns-in_err-first-clause-step
-returns-in_err-first-clause-step g c tells store old was =
+returns-in_err-first-clause-step g c store tells old was =
     let p = err_from_is_err_and c.from_residual-in_err-first.result c.from_residual-in_err-first.ensures.1 in
     rw (p.1, p.2) (used_up_goes g.E.Env store c.args.self.now c.args.env.now old was (g.C.Cmp.cmp c.args.self.now.options.cmp) c.in_ok-check_open.ensures.ok.0 c.args.batch.items c.args.sync c.in_err-first.field-0.0 c.count.result c.count.ensures
     c.in_err-first.ensures.cause.0 c.in_err-first.ensures.cause.1)
 
 pub returns-in_err-prepare-clause-step : goal.returns-in_err-prepare-clause-step
-returns-in_err-prepare-clause-step g c tells store old was =
+returns-in_err-prepare-clause-step g c store tells old was =
     let p = err_from_is_err_and c.from_residual-in_err-prepare.result c.from_residual-in_err-prepare.ensures.1 in
     rw (p.1, p.2) (memory_goes g.E.Env store c.args.self.now c.args.env.now old was (g.C.Cmp.cmp c.args.self.now.options.cmp) c.in_ok-check_open.ensures.ok.0 c.args.batch.items c.args.sync c.in_err-prepare.field-0.0
     (record c.args.self.now { recent = c.prepare.new.self }) (prepared_was g.E.Env store c.args.self.now c.args.env.now old was c.prepare.new.self c.prepare.ensures.entries c.prepare.ensures.last) c.in_err-prepare.ensures.memory)
 
 pub returns-in_err-append-clause-step : goal.returns-in_err-append-clause-step
-returns-in_err-append-clause-step g c tells store old was =
+returns-in_err-append-clause-step g c store tells old was =
     let next : IsNext c.args.self.now.recent.last c.args.batch.items c.contents.result.now = is_next c.args.self.now.recent.last c.in_ok-first.first c.count.result c.args.batch.items c.set_sequence.new.self c.contents.result.now c.in_ok-first.ensures.ok.0 c.in_ok-first.ensures.ok.1 c.in_ok-first.ensures.ok.2 c.count.ensures c.set_sequence.ensures c.contents.ensures c.append.ensures.bytes in
     let p = err_from_is_err_and c.from_residual-in_err-append.result c.from_residual-in_err-append.ensures.1 in
     rw (p.1, p.2) (refused_append g.E.Env tells store (g.C.Cmp.cmp c.args.self.now.options.cmp) c.args.self.now c.args.env.now old was c.in_ok-check_open.ensures.ok.0 c.prepare.new.self c.prepare.ensures.entries c.prepare.ensures.last c.args.batch.items c.args.sync c.contents.result.now next c.append.new.self c.append.new.env c.in_err-append.field-0.0
@@ -36,7 +36,7 @@ returns-in_err-append-clause-cause g c =
     c.append.new.self.writer c.append.new.self.log c.append.new.env (c.in_err-append.ensures.err c.in_ok-check_open.ensures.ok.1))
 
 pub returns-in_err-sync-clause-step : goal.returns-in_err-sync-clause-step
-returns-in_err-sync-clause-step g c tells store old was =
+returns-in_err-sync-clause-step g c store tells old was =
     let next : IsNext c.args.self.now.recent.last c.args.batch.items c.contents.result.now = is_next c.args.self.now.recent.last c.in_ok-first.first c.count.result c.args.batch.items c.set_sequence.new.self c.contents.result.now c.in_ok-first.ensures.ok.0 c.in_ok-first.ensures.ok.1 c.in_ok-first.ensures.ok.2 c.count.ensures c.set_sequence.ensures c.contents.ensures c.append.ensures.bytes in
     let p = err_from_is_err_and c.from_residual-in_err-sync.result c.from_residual-in_err-sync.ensures.1 in
     rw (p.1, p.2) (refused_sync g.E.Env tells store (g.C.Cmp.cmp c.args.self.now.options.cmp) c.args.self.now c.args.env.now old was c.in_ok-check_open.ensures.ok.0 c.prepare.new.self c.prepare.ensures.entries c.prepare.ensures.last c.args.batch.items c.args.sync c.contents.result.now next c.append.new.self c.append.new.env c.append.ensures.rest c.append.ensures.mode c.in_ok-append.ensures.ok.0 c.in_ok-append.ensures.ok.1
@@ -61,7 +61,7 @@ insert-requires-clause-follows g c =
     ]
 
 pub returns-clause-step : goal.returns-clause-step
-returns-clause-step g c tells store old was =
+returns-clause-step g c store tells old was =
     let next : IsNext c.args.self.now.recent.last c.args.batch.items c.contents.result.now = is_next c.args.self.now.recent.last c.in_ok-first.first c.count.result c.args.batch.items c.set_sequence.new.self c.contents.result.now c.in_ok-first.ensures.ok.0 c.in_ok-first.ensures.ok.1 c.in_ok-first.ensures.ok.2 c.count.ensures c.set_sequence.ensures c.contents.ensures c.append.ensures.bytes in
     let batch_is : c.set_sequence.new.self ≡ batch_of (c.args.self.now.recent.last + 1) c.args.batch.items = batch_behind c.args.self.now.recent.last c.in_ok-first.first c.args.batch.items c.set_sequence.new.self c.in_ok-first.ensures.ok.0 c.set_sequence.ensures in
     elim c.if-sync.branch [
