@@ -1,5 +1,5 @@
 -- What the program does: it reads commands, runs them, and writes the replies.
-use Rattle.std.specs.Prelude.{◌≡◌, ℕ, List, [], ◌∷◌, length, Option, Ok, IfSome, true, String, string_bytes}
+use Rattle.std.specs.Prelude.{◌≡◌, ◌≢◌, ◌<◌, ◌≤◌, ◌^◌, ℕ, List, [], ◌∷◌, length, Option, Ok, IfSome, true, String, string_bytes}
 use Rattle.std.specs.Io.KnownBytes.{Appends}
 use Rattle.std.specs.declared.alloc.Global.{Global}
 use Rattle.leveldb_base.specs.Bytewise.{bytewise}
@@ -9,7 +9,7 @@ use Rattle.rusty_leveldb.specs.declared.shell.commands.Command.{Command}
 use Rattle.rusty_leveldb.specs.declared.shell.commands.Reply.{Reply}
 use Rattle.rusty_leveldb.specs.declared.shell.program.Fault.{Fault}
 use Rattle.rusty_leveldb.specs.declared.shell.program.Fault.TheVariants as fault
-use Rattle.rusty_leveldb.specs.Language.{IsScript, reply_lines}
+use Rattle.rusty_leveldb.specs.Language.{IsScript, IsBadLine, reply_lines}
 use Rattle.rusty_leveldb.specs.Shell.{PlaysAlways}
 
 -- the status that a fault ends the program with
@@ -19,9 +19,32 @@ status_of (fault.BadLine number) = 2
 status_of fault.TooLong = 2
 status_of (fault.Refused status) = 1
 
--- the input spells these commands, where its bytes are known
+-- the program stopped since a call was refused
+abbrev pub IsRefusal : Fault → Type 0
+IsRefusal fault = status_of fault ≡ 1
+
+-- A fault is the input's, whose bytes may be known: this line is its first that is no command, or it has more than 2^26 bytes; or reading it was
+-- refused.
+abbrev pub IsInputFault : Option (List ℕ) → Fault → Type 0
+IsInputFault input fault.Usage = ⊥
+IsInputFault input (fault.BadLine number) = IfSome input (λ bytes. IsBadLine bytes number)
+IsInputFault input fault.TooLong = IfSome input (λ bytes. 2 ^ 26 < length bytes)
+IsInputFault input (fault.Refused status) = Unit {0}
+
+-- a fault is the arguments', which aren't one folder, or the input's, or a call was refused
+abbrev pub IsFault : List (String Global) → Option (List ℕ) → Fault → Type 0
+IsFault args input fault.Usage = length args ≢ 1
+IsFault args input (fault.BadLine number) = IsInputFault input (fault.BadLine number)
+IsFault args input fault.TooLong = IsInputFault input fault.TooLong
+IsFault args input (fault.Refused status) = Unit {0}
+
+-- the program wasn't asked rightly
+abbrev pub IsMisasked : List (String Global) → Option (List ℕ) → Type 0
+IsMisasked args input = (why : Fault) × (status_of why ≡ 2) × IsFault args input why
+
+-- the input spells these commands in at most 2^26 bytes, where its bytes are known
 abbrev pub IsInput : Option (List ℕ) → List Command → Type 0
-IsInput input commands = (text : List ℕ) × IfSome input (λ bytes. text ≡ bytes) × IsScript text commands
+IsInput input commands = (text : List ℕ) × IfSome input (λ bytes. text ≡ bytes) × (length text ≤ 2 ^ 26) × IsScript text commands
 
 module _ {E F : Type 0} (env : Ghosts E F) where
   -- The commands were run in a folder, each was replied to, and the output grew by the replies' lines. The filter policy is seen as its

@@ -1,8 +1,9 @@
 //! The program: commands in, their replies out.
-ghost use Rattle.std.specs.Prelude.{◌≡◌, ◌≤◌, IfOk, IfErr, IfSome, OnOk};
+ghost use Rattle.std.specs.Prelude.{◌≡◌, ◌≢◌, ◌≤◌, ◌^◌, length, IfOk, IfErr, IfSome, OnOk, IsErrAnd};
 ghost use Rattle.std.specs.Io.KnownBytes.{Appends};
 ghost use Rattle.rusty_leveldb.specs.Language.{reply_lines};
-ghost use Rattle.rusty_leveldb.specs.Program.{status_of, IsInput, IsPlayed, IsAnswered};
+ghost use Rattle.rusty_leveldb.specs.Program.{status_of, IsInputFault, IsFault, IsMisasked, IsInput, IsPlayed, IsAnswered};
+ghost use Rattle.rusty_leveldb.specs.declared.shell.program.Fault.TheVariants.{Usage};
 
 use super::commands::{Command, Reply};
 use super::language::{Script, parse};
@@ -57,6 +58,8 @@ pub fn ldb_main<E: Env, I: Read, O: Write, F: Write>(
 ) -> u8
     ensures answered { result ≡ 0 → IsAnswered E.Env args.now env.old env.new (I.remaining input.old) (O.contents out.old) (O.contents out.new) }
     ensures untouched { result ≡ 2 → (env.new ≡ env.old) × (out.new ≡ out.old) }
+    ensures misasked { result ≡ 2 → IsMisasked args.now (I.remaining input.old) }
+    ensures usage { length args.now ≢ 1 → result ≡ 2 }
     ensures statuses { result ≤ 2 }
 {
     match serve(alloc, env, args, input, out) {
@@ -87,6 +90,8 @@ fn serve<E: Env, I: Read, O: Write>(
 ) -> Result<(), Fault>
     ensures answered { OnOk result (IsAnswered E.Env args.now env.old env.new (I.remaining input.old) (O.contents out.old) (O.contents out.new)) }
     ensures untouched { IfErr result (λ fault. status_of fault ≡ 2 → (env.new ≡ env.old) × (out.new ≡ out.old)) }
+    ensures fault { IfErr result (IsFault args.now (I.remaining input.old)) }
+    ensures usage { length args.now ≢ 1 → IsErrAnd result (λ fault. fault ≡ Usage) }
 {
     let [folder] = args else {
         return Err(Fault::Usage);
@@ -125,7 +130,8 @@ fn print<O: Write>(alloc: Global, out: &mut O, replies: &[Reply]) -> Result<(), 
 
 // The commands that the input spells.
 fn read_commands<I: Read>(alloc: Global, input: &mut I) -> Result<Vec<Command>, Fault>
-    ensures { IfOk result (λ commands. IsInput (I.remaining input.old) commands.items) }
+    ensures ok { IfOk result (λ commands. IsInput (I.remaining input.old) commands.items) }
+    ensures fault { IfErr result (IsInputFault (I.remaining input.old)) }
 {
     let text = read_input(alloc, input)?;
     match parse(alloc, &text)? {
@@ -136,7 +142,9 @@ fn read_commands<I: Read>(alloc: Global, input: &mut I) -> Result<Vec<Command>, 
 
 // All bytes of the input, where there aren't too many.
 fn read_input<I: Read>(alloc: Global, input: &mut I) -> Result<Vec<u8>, Fault>
-    ensures { IfOk result (λ text. IfSome (I.remaining input.old) (λ known. text.items ≡ known)) }
+    ensures ok { IfOk result (λ text. IfSome (I.remaining input.old) (λ known. text.items ≡ known)) }
+    ensures most { IfOk result (λ text. length text.items ≤ 2 ^ 26) }
+    ensures fault { IfErr result (IsInputFault (I.remaining input.old)) }
 {
     let mut text = Vec::new(alloc);
     input.take(MOST_INPUT + 1).read_to_end(&mut text)?;
@@ -157,12 +165,20 @@ impl From<Status> for Fault {
 }
 
 impl From<AllocError> for Fault {
+    ghost use Rattle.rusty_leveldb.specs.Program.{IsRefusal};
+
+    ghost from_gives = { λ _ fault. IsRefusal fault };
+
     fn from(error: AllocError) -> Fault {
         Fault::Refused(error.into())
     }
 }
 
 impl From<io::Error> for Fault {
+    ghost use Rattle.rusty_leveldb.specs.Program.{IsRefusal};
+
+    ghost from_gives = { λ _ fault. IsRefusal fault };
+
     fn from(error: io::Error) -> Fault {
         Fault::Refused(error.into())
     }
