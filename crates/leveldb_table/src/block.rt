@@ -99,6 +99,3 @@ fn damaged<T>(alloc: Global) -> Result<T>
 {
     err(alloc, StatusCode::Corruption, "not a block")
 }
-
-#[cfg(test)]
-mod tests;

@@ -284,6 +284,3 @@ fn put_points(buffer: &mut Vec<u8>, points: &Vec<u32>) -> Result<()>
     }
     put_number(buffer, points.len() as u32 + 1)
 }
-
-#[cfg(test)]
-mod tests;

@@ -5,8 +5,6 @@ pub mod block;
 pub mod block_builder;
 pub mod block_cache;
 pub mod cache;
-#[cfg(test)]
-mod short_reads;
 pub mod table_block;
 pub mod table_builder;
 pub mod table_reader;

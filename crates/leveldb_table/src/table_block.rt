@@ -147,6 +147,3 @@ pub(crate) fn read_bytes<E: Env>(
     }
     Ok(read)
 }
-
-#[cfg(test)]
-mod tests;

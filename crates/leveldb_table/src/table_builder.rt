@@ -184,6 +184,3 @@ impl<Dst: Sink, C: Cmp + Copy, FP: FilterPolicy + Copy> TableBuilder<Dst, C, FP>
         core.finish(&mut dst, coders)
     }
 }
-
-#[cfg(test)]
-mod tests;

@@ -262,6 +262,3 @@ fn whole_handle(alloc: Global, bytes: &[u8]) -> Result<BlockHandle>
         ),
     }
 }
-
-#[cfg(test)]
-mod tests;

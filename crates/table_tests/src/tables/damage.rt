@@ -1,6 +1,6 @@
 //! Tables of which a byte is wrong or the end is missing, and tables of a coder.
 use super::*;
-use crate::table_block::read_filter_block;
+use leveldb_table::table_block::read_filter_block;
 
 /// Adds 1 modulo 256 to each byte.
 #[derive(Clone, Copy)]

@@ -1,15 +1,20 @@
 //! Blocks and filters read from files: whole, damaged, cut, and at handles past the file.
-use super::*;
-use crate::block::BlockContents;
-use crate::block_builder::BlockBuilder;
 use crate::short_reads::ShortReads;
+use leveldb_base::blockhandle::BlockHandle;
 use leveldb_base::cmp::DefaultCmp;
+use leveldb_base::crc::{digest, mask_crc};
+use leveldb_base::error::{Result, StatusCode};
 use leveldb_base::types::LdbIterator;
+use leveldb_env::compressor::CompressorList;
+use leveldb_env::env::Env;
 use leveldb_env::filter::BloomPolicy;
-use leveldb_env::filter_block::FilterBlockBuilder;
+use leveldb_env::filter_block::{FilterBlockBuilder, FilterBlockReader};
 use leveldb_env::mem_env::MemEnv;
 use leveldb_env::options::Options;
-use std::alloc::AllocError;
+use leveldb_table::block::{Block, BlockContents};
+use leveldb_table::block_builder::BlockBuilder;
+use leveldb_table::table_block::{read_filter_block, read_table_block};
+use std::alloc::{AllocError, Global};
 use std::process::Abort;
 
 /// The first bytes of each file.
@@ -34,6 +39,13 @@ fn three_pairs(alloc: Global) -> Result<BlockContents> {
     builder.add(b"a", b"1")?;
     builder.add(b"ab", b"")?;
     builder.add(b"b", b"333")?;
+    builder.finish()
+}
+
+/// The block of one pair of this value.
+fn one_pair(alloc: Global, value: &[u8]) -> Result<BlockContents> {
+    let mut builder = BlockBuilder::new(alloc, &Options::default());
+    builder.add(b"a", value)?;
     builder.finish()
 }
 
@@ -106,6 +118,20 @@ fn assert_refused<T: Drop>(rt: &impl Abort, answer: Result<T>, code: StatusCode)
         return Err(status);
     }
     assert_eq!(rt; status.code, code);
+    Ok(())
+}
+
+/// A refusal for bytes past the file; want of memory is passed on.
+fn assert_past_file<T: Drop>(rt: &impl Abort, answer: Result<T>) -> Result<()> {
+    let Err(status) = answer else {
+        panic!(rt; "read");
+    };
+    if status.code == StatusCode::OutOfMemory {
+        return Err(status);
+    }
+    assert_eq!(rt; status.code, StatusCode::Corruption);
+    let text = status.err.ok_or(AllocError)?;
+    assert_eq!(rt; text.as_str(), "Corruption: a block is past the file");
     Ok(())
 }
 
@@ -255,14 +281,16 @@ fn id_without_a_coder(rt: HostRuntime) -> Result<()> {
 #[test]
 fn in_steps(rt: HostRuntime) -> Result<()> {
     let mut env = MemEnv::new(rt.alloc());
-    let mut bytes = Vec::new(rt.alloc());
+    let mut value = Vec::new(rt.alloc());
     for _ in 0..20000usize {
-        bytes.extend_from_slice(b"thirteen long")?;
+        value.extend_from_slice(b"thirteen long")?;
     }
-    let file = file_of(&mut env, &bytes)?;
-    let rest = bytes.as_slice().get(5..).unwrap_or_default();
-    let read = read_bytes(rt.alloc(), &mut env, &file, 5, rest.len())?;
-    assert!(rt; read.as_slice() == rest);
-    let past = read_bytes(rt.alloc(), &mut env, &file, 5, bytes.len());
-    assert_refused(&rt, past, StatusCode::Corruption)
+    let block = one_pair(rt.alloc(), &value)?;
+    let bytes = file_bytes(rt.alloc(), block.as_slice(), 0)?;
+    let location = BlockHandle::new(FRONT.len(), block.len());
+    let read = block_at(rt.alloc(), &mut env, &bytes, location)?;
+    assert!(rt; read.contents()?.as_slice() == block.as_slice());
+    let past = BlockHandle::new(FRONT.len(), block.len().saturating_add(5));
+    let answer = block_at(rt.alloc(), &mut env, &bytes, past);
+    assert_past_file(&rt, answer)
 }

@@ -1,11 +1,14 @@
 //! Blocks built, and read again.
 ghost use Rattle.std.specs.Prelude.{◌≡◌, ◌≤◌};
 
-use super::*;
-use crate::block::Block;
 use leveldb_base::cmp::DefaultCmp;
+use leveldb_base::error::Result;
 use leveldb_base::types::LdbIterator;
 use leveldb_env::filter::BloomPolicy;
+use leveldb_env::options::Options;
+use leveldb_table::block::Block;
+use leveldb_table::block_builder::BlockBuilder;
+use std::alloc::Global;
 
 fn spaced(interval: usize) -> Options<DefaultCmp, BloomPolicy>
     ensures { result.block_restart_interval ≡ interval }

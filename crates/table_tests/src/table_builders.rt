@@ -2,15 +2,18 @@
 ghost use Rattle.std.specs.Prelude.{◌≡◌, true, OnErr};
 ghost use Rattle.leveldb_table.specs.TableBuilding.{order_of};
 
-use super::*;
-use crate::block::Block;
 use bytes::Bytes;
 use leveldb_base::blockhandle::BlockHandle;
-use leveldb_base::cmp::DefaultCmp;
-use leveldb_base::error::{StatusCode, err};
+use leveldb_base::cmp::{Cmp, DefaultCmp, InternalKeyCmp};
+use leveldb_base::error::{Result, StatusCode, err};
 use leveldb_base::types::LdbIterator;
-use leveldb_env::compressor::Compressor;
-use leveldb_env::filter::BloomPolicy;
+use leveldb_env::compressor::{Compressor, CompressorList};
+use leveldb_env::env::Sink;
+use leveldb_env::filter::{BloomPolicy, FilterPolicy};
+use leveldb_env::options::Options;
+use leveldb_table::block::Block;
+use leveldb_table::table_builder::{FULL_FOOTER_LENGTH, Footer, TableBuilder};
+use std::alloc::Global;
 use std::process::Abort;
 
 /// Adds 1 modulo 256 to each byte.

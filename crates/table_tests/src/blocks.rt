@@ -1,9 +1,12 @@
 //! Blocks read and walked both ways, and compared with a slow reader of their grammar.
-use super::*;
 use byteorder::{ByteOrder, LittleEndian};
+use bytes::Bytes;
 use leveldb_base::cmp::DefaultCmp;
+use leveldb_base::error::{Result, StatusCode};
 use leveldb_base::types::{LdbIterator, current_key_val};
 use leveldb_base::varint::get_varint32;
+use leveldb_table::block::{Block, BlockIter};
+use std::alloc::Global;
 use std::process::Abort;
 
 /// The keys "", a, ab, abc and b, with the values 0 to 4 and restart points at the first and the fourth.

@@ -1,14 +1,21 @@
 //! Tables built, opened, looked up and walked, and compared with the lists of their pairs.
-use super::*;
-use crate::cache::Cache;
 use crate::short_reads::ShortReads;
-use crate::table_block::read_table_block;
-use crate::table_builder::TableBuilder;
-use leveldb_base::error::Status;
-use leveldb_env::compressor::Compressor;
-use leveldb_env::env::Sink;
-use leveldb_env::filter::{BloomPolicy, NoFilterPolicy};
+use leveldb_base::blockhandle::BlockHandle;
+use leveldb_base::cmp::{Cmp, DefaultCmp, InternalKeyCmp};
+use leveldb_base::error::{Result, Status, StatusCode};
+use leveldb_base::types::LdbIterator;
+use leveldb_env::compressor::{Compressor, CompressorList};
+use leveldb_env::env::{Env, Sink};
+use leveldb_env::filter::{BloomPolicy, FilterPolicy, NoFilterPolicy};
 use leveldb_env::mem_env::MemEnv;
+use leveldb_env::options::Options;
+use leveldb_table::block::Block;
+use leveldb_table::block_cache::BlockCache;
+use leveldb_table::cache::Cache;
+use leveldb_table::table_block::read_table_block;
+use leveldb_table::table_builder::{Footer, TableBuilder};
+use leveldb_table::table_reader::{Table, TableIterator};
+use std::alloc::Global;
 use std::process::Abort;
 
 mod caches;

@@ -1,0 +1,19 @@
+//! The tests of tables, from their blocks up.
+#![tactic(auto)]
+
+#[cfg(test)]
+mod block_builders;
+#[cfg(test)]
+mod blocks;
+#[cfg(test)]
+mod caches;
+#[cfg(test)]
+mod footers;
+#[cfg(test)]
+mod short_reads;
+#[cfg(test)]
+mod table_blocks;
+#[cfg(test)]
+mod table_builders;
+#[cfg(test)]
+mod tables;
