@@ -5,7 +5,7 @@ use super::*;
 use crate::block::Block;
 use leveldb_base::cmp::DefaultCmp;
 use leveldb_base::types::LdbIterator;
-use leveldb_env::filter::BloomPolicy;
+use leveldb_options::filter::BloomPolicy;
 
 fn spaced(interval: usize) -> Options<DefaultCmp, BloomPolicy>
     ensures { result.block_restart_interval ≡ interval }

@@ -5,10 +5,10 @@ use crate::block_builder::BlockBuilder;
 use crate::short_reads::ShortReads;
 use leveldb_base::cmp::DefaultCmp;
 use leveldb_base::types::LdbIterator;
-use leveldb_env::filter::BloomPolicy;
-use leveldb_env::filter_block::FilterBlockBuilder;
 use leveldb_env::mem_env::MemEnv;
-use leveldb_env::options::Options;
+use leveldb_options::filter::BloomPolicy;
+use leveldb_options::filter_block::FilterBlockBuilder;
+use leveldb_options::options::Options;
 use std::alloc::AllocError;
 use std::process::Abort;
 

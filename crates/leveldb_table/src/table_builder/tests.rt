@@ -9,8 +9,8 @@ use leveldb_base::blockhandle::BlockHandle;
 use leveldb_base::cmp::DefaultCmp;
 use leveldb_base::error::{StatusCode, err};
 use leveldb_base::types::LdbIterator;
-use leveldb_env::compressor::Compressor;
-use leveldb_env::filter::BloomPolicy;
+use leveldb_options::compressor::Compressor;
+use leveldb_options::filter::BloomPolicy;
 use std::process::Abort;
 
 /// Adds 1 modulo 256 to each byte.

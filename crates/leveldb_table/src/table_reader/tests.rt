@@ -5,10 +5,10 @@ use crate::short_reads::ShortReads;
 use crate::table_block::read_table_block;
 use crate::table_builder::TableBuilder;
 use leveldb_base::error::Status;
-use leveldb_env::compressor::Compressor;
 use leveldb_env::env::Sink;
-use leveldb_env::filter::{BloomPolicy, NoFilterPolicy};
 use leveldb_env::mem_env::MemEnv;
+use leveldb_options::compressor::Compressor;
+use leveldb_options::filter::{BloomPolicy, NoFilterPolicy};
 use std::process::Abort;
 
 mod caches;
