@@ -16,15 +16,4 @@ pub mod Mem
 pub mod Journal
 pub mod Record
 pub mod Picks
-pub mod Filters
-pub mod FilterBlock
-pub mod FilterBlockParts
-pub mod Numbers
-pub mod NumberLaws
-pub mod FilterBlockLaws
-pub mod JoinedKeys
-pub mod Bloom
-pub mod BloomLaws
-pub mod InternalFilters
-pub mod Coders
 pub mod RecordLaws

@@ -9,8 +9,8 @@ use Rattle.leveldb_base.specs.HandleLaws.{one_handle}
 use Rattle.leveldb_base.specs.Places.{Pair, IsPlace, place_within, next_place, previous_place, seek_place, pair_at}
 use Rattle.leveldb_base.specs.declared.cmp.Cmp.{Ghosts as CmpGhosts}
 use Rattle.leveldb_base.specs.declared.error.Status.{Status}
-use Rattle.leveldb_env.specs.Coders.{Codings, Decodes}
 use Rattle.leveldb_env.specs.declared.env.Env.{Ghosts as EnvGhosts}
+use Rattle.leveldb_options.specs.Coders.{Codings, Decodes}
 use Rattle.leveldb_table.specs.Cache.{Cached}
 use Rattle.leveldb_table.specs.Block.{IsSpelled, IsBlock, pairs_of}
 use Rattle.leveldb_table.specs.BlockLaws.{one_block}

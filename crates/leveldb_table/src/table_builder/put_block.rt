@@ -1,15 +1,15 @@
 //! Blocks put into a table's file, each with its trailer.
 ghost use Rattle.std.specs.Prelude.{◌≡◌, ◌+◌, ◌^◌, ◌<◌, ◌≤◌, ◌++◌, ◌∷◌, [], ℕ, List, None, IfOk, IfErr, IfSome, IfNone, OnOk, IsErrAnd, length};
 ghost use Rattle.leveldb_base.specs.Status.{IsOutOfMemory};
-ghost use Rattle.leveldb_env.specs.Coders.{Decodes, IsUnset};
+ghost use Rattle.leveldb_options.specs.Coders.{Decodes, IsUnset};
 ghost use Rattle.leveldb_table.specs.Table.{with_trailer};
 ghost use Rattle.leveldb_table.specs.TablePuts.{PutsBlock, IsNotPut, IsRefused, PutsNone};
 
 use leveldb_base::blockhandle::BlockHandle;
 use leveldb_base::crc::{digest, mask_crc};
 use leveldb_base::error::{Result, StatusCode, err};
-use leveldb_env::compressor::{Coders, Compressor, CompressorList};
 use leveldb_env::env::Sink;
+use leveldb_options::compressor::{Coders, Compressor, CompressorList};
 use std::alloc::Global;
 
 // How many bytes the trailer has: the coder's id and the checksum.

@@ -10,8 +10,8 @@ use super::recent::Recent;
 use leveldb_base::cmp::{Cmp, UserCmp};
 use leveldb_base::error::{Result, StatusCode, err};
 use leveldb_env::env::Env;
-use leveldb_env::filter::FilterPolicy;
-use leveldb_env::options::Options;
+use leveldb_options::filter::FilterPolicy;
+use leveldb_options::options::Options;
 use leveldb_log::log::WriterCore;
 use std::alloc::Global;
 

@@ -13,7 +13,7 @@ use super::engine::{Engine, Mode, check_open};
 use leveldb_base::cmp::UserCmp;
 use leveldb_base::error::Result;
 use leveldb_env::env::{Env, EnvFile};
-use leveldb_env::filter::FilterPolicy;
+use leveldb_options::filter::FilterPolicy;
 use leveldb_log::log::WriterCore;
 use leveldb_mem::write_batch::WriteBatch;
 

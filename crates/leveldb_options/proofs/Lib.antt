@@ -1,0 +1,10 @@
+pub mod JoinedTexts
+pub mod FilterBlocks
+pub mod FilterBuilds
+pub mod BloomBits
+pub mod BloomHashes
+pub mod KeyCuts
+pub mod BloomMatches
+pub mod BloomMade
+pub mod KeyStarts
+pub mod CoderLists

@@ -1,0 +1,11 @@
+pub mod Filters
+pub mod FilterBlock
+pub mod FilterBlockParts
+pub mod FilterBlockLaws
+pub mod JoinedKeys
+pub mod Bloom
+pub mod BloomLaws
+pub mod InternalFilters
+pub mod Coders
+pub mod Numbers
+pub mod NumberLaws
