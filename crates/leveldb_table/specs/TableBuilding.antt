@@ -43,6 +43,22 @@ IsReady accepts cmp core = AreReady (accepts core.block.cmp) (cmp core.block.cmp
 abbrev pub Ready : {C FP : Type 0} {order : CmpGhosts C} {policy : PolicyGhosts FP} → (C → List ℕ → Bool) → (C → List ℕ → List ℕ → Ordering) → BuilderCore C FP order policy → List ℕ → Type 0
 Ready accepts cmp core next = IsReady accepts cmp core × Follows (accepts core.block.cmp) (cmp core.block.cmp) (stage core) next
 
+-- the open block can be closed before this key: it has a pair, and the key is accepted and at or behind the last one
+pub record IsClosable {C FP : Type 0} {order : CmpGhosts C} {policy : PolicyGhosts FP} (accepts : C → List ℕ → Bool) (cmp : C → List ℕ → List ℕ → Ordering)
+    (core : BuilderCore C FP order policy) (next : List ℕ) : Type 0 where
+  pub ready : IsReady accepts cmp core
+  pub some : (stage core).open_pairs ≢ []
+  pub accepted : accepts (order_of core) next ≡ true
+  pub behind : cmp (order_of core) (last_of core) next ≢ Greater
+
+-- the comparator, the policy, the coder and the sizes stay
+pub record KeepsChoices {C FP : Type 0} {order : CmpGhosts C} {policy : PolicyGhosts FP} (old new : BuilderCore C FP order policy) : Type 0 where
+  pub same_order : order_of new ≡ order_of old
+  pub same_policy : policy_of new ≡ policy_of old
+  pub same_coder : new.compressor ≡ old.compressor
+  pub same_size : new.block_size ≡ old.block_size
+  pub same_intervals : (new.block.interval ≡ old.block.interval) × (new.index.interval ≡ old.index.interval)
+
 -- The builder has put these bytes, and these pairs were added. What its comparator accepts, how that orders and separates keys, and
 -- what its policy matches, are given for the comparator and the policy that it has.
 abbrev pub IsBegun : {C FP : Type 0} {order : CmpGhosts C} {policy : PolicyGhosts FP} → Codings → (C → List ℕ → Bool) → (C → List ℕ → List ℕ → Ordering) → (C → List ℕ → List ℕ → List ℕ) → (FP → List ℕ → List ℕ → Bool)
