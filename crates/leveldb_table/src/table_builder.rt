@@ -33,6 +33,9 @@ pub const TABLE_BLOCK_COMPRESS_LEN: usize = 1;
 /// How many bytes the checksum behind a block has.
 pub const TABLE_BLOCK_CKSUM_LEN: usize = 4;
 
+/// How many bytes the trailer behind a block has: the coder's id and the checksum.
+pub(crate) const TRAILER: usize = TABLE_BLOCK_COMPRESS_LEN + TABLE_BLOCK_CKSUM_LEN;
+
 /// A builder with the sink that its table goes to. The calls that store blocks are given the coders.
 #[derive(Drop)]
 pub struct TableBuilder<Dst: Sink, C: Cmp, FP: FilterPolicy> {
