@@ -168,23 +168,6 @@ pub spelling_room : (shared : ℕ) (rest value : List ℕ) → shared < 2 ^ 32 �
 spelling_room shared rest value a b c =
     omega (arith, length-varint_32 shared a, length-varint_32 (length rest) b, length-varint_32 (length value) c, length-append {A = ℕ})
 
--- nothing has been added
-pub built_none : (cmp : List ℕ → List ℕ → Ordering) (interval : ℕ) (bytes points last : List ℕ) (begun : Bool) → 1 ≤ interval → bytes ≡ [] → points ≡ [] → last ≡ [] → IsBuilt cmp interval bytes points last 0 begun []
-built_none cmp interval bytes points last begun some e f l = record {
-  some_interval = some;
-  spelled = e;
-  pointed = ap (λ z. 0 ∷ z) f;
-  spaced = tt;
-  allowed = tt;
-  sorted = tt;
-  reached = refl;
-  cleared = λ _. l;
-  counted = refl;
-  begins = λ h. absurd (omega (arith, h));
-  points_fit = subst (λ z. All (λ offset. offset < 2 ^ 32) z) (sym f) (λ k d h. absurd (omega (arith, h)));
-  count_fits = let none = ap length f in omega (arith, none);
-}
-
 -- what is finished is a block of what was added
 pub built_spelled : {cmp : List ℕ → List ℕ → Ordering} {interval : ℕ} {bytes points last : List ℕ} {count : ℕ} {begun : Bool} {entries : List Entry} → IsBuilt cmp interval bytes points last count begun entries
     → (whole : List ℕ) → whole ≡ bytes ++ (flat_map (little 4) (0 ∷ points) ++ little 4 (length points + 1)) → IsSpelled cmp whole entries
@@ -227,12 +210,6 @@ pub last_there : {cmp : List ℕ → List ℕ → Ordering} {interval : ℕ} {by
 last_there {last = last} {entries = entries} zero built = built.cleared refl ∙ sym (last_pair entries ∙ ap (λ z. unwrap_or z []) built.reached)
 last_there {last = last} {entries = entries} (suc count) built = sym (last_pair entries ∙ ap (λ z. unwrap_or z []) built.reached ∙ ap (λ z. unwrap_or (key_before z last) []) (suc_test count))
 
--- the estimate, with the first restart point set or not
-pub estimated : {cmp : List ℕ → List ℕ → Ordering} {interval : ℕ} {bytes points last : List ℕ} {count : ℕ} {entries : List Entry} (begun : Bool) → IsBuilt cmp interval bytes points last count begun entries
-    → (n : ℕ) → n ≡ (if begun then length points + 1 else 0) → length bytes + 4 * n + 4 ≡ estimate entries begun
-estimated true built n e = omega (arith, e, ap length built.pointed, ap length built.spelled)
-estimated false built n e = omega (arith, e, ap length built.spelled)
-
 -- what fits isn't too large, and what doesn't fit is
 pub too_large : (entries : List Entry) (bytes key value : List ℕ) → bytes ≡ flat_map entry_bytes entries → ((length bytes < 2 ^ 32) × (length key < 2 ^ 32) × (length value < 2 ^ 32) → ⊥) → IsTooLarge entries key value
 too_large entries bytes key value e h =
@@ -248,16 +225,6 @@ too_large entries bytes key value e h =
                 ]
           ]
     ]
-
-pub not_too_large : (entries : List Entry) (bytes key value : List ℕ) → bytes ≡ flat_map entry_bytes entries → (length bytes < 2 ^ 32) × (length key < 2 ^ 32) × (length value < 2 ^ 32) → IsTooLarge entries key value → ⊥
-not_too_large entries bytes key value e h (inl a) = omega (arith, a, h.0, ap length e)
-not_too_large entries bytes key value e h (inr (inl b)) = omega (arith, b, h.1)
-not_too_large entries bytes key value e h (inr (inr d)) = omega (arith, d, h.2)
-
--- want of memory isn't that
-pub other_cause : {T : Type 0} (r : Result T Status) → IsErrAnd r IsOutOfMemory → IsErrAnd r (λ status. status.code ≡ NotSupported) → ⊥
-other_cause (Ok x) h g = absurd h
-other_cause (Err status) h g = let a = h.0 in cc
 
 -- what a builder has are the entries that its bytes and points are
 pub built_are : {cmp : List ℕ → List ℕ → Ordering} {interval : ℕ} {bytes points last : List ℕ} {count : ℕ} {begun : Bool} (built : Built cmp interval bytes points last count begun) (entries : List Entry)

@@ -155,11 +155,6 @@ module _ {accepts : List ℕ → Bool} {cmp : List ℕ → List ℕ → Ordering
 
 -- ---- the loop
 
--- the key that was put together is the entry's
-pub key_put : (first : Bool) (key : List ℕ) (entry : Entry) → SharesFrom (key_before first key) entry → take entry.shared key ++ entry.rest ≡ key_of (key_before first key) entry
-key_put true key entry h = ap (λ z. take z key ++ entry.rest) h.1
-key_put false key entry h = refl
-
 -- what the loop of the check knows
 pub record IsChecking (accepts : List ℕ → Bool) (cmp : List ℕ → List ℕ → Ordering) (bytes points : List ℕ) (first : Bool) (key left points_left : List ℕ) (accepted : Bool) : Type 0 where
   pub checked : HasChecked accepts cmp bytes (numbers_in points) (key_before first key) (length bytes - length left) left (numbers_in points_left) accepted

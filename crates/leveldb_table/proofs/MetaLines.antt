@@ -86,31 +86,12 @@ value_here key found name value is same = rw (is, (bytes_eq-Decides key name).1 
 pub value_other : (key : List ℕ) (found : Option Pair) (name value : List ℕ) → found ≡ Some (name, value) → (name ≡ key → ⊥) → value_if key found ≡ None
 value_other key found name value is apart = rw (is, other_key key name (λ same. apart (sym same))) refl
 
-pub value_none : (key : List ℕ) (found : Option Pair) → found ≡ None → value_if key found ≡ None
-value_none key found is = rw is refl
-
 -- ---- filters
 
 pub one_spelled : (handle other : Handle) → handle_bytes handle ≡ handle_bytes other → handle ≡ other
 one_spelled handle other e = (one_handle handle other [] [] (ap (λ z. z ++ []) e)).0
 
 module _ (bytes : List ℕ) where
-  -- nothing is said of filters
-  pub filters_unsaid : (value : Option (List ℕ)) → SaysHandle value None → HasFiltersBy bytes value None
-  filters_unsaid None says = refl
-  filters_unsaid (Some value) says = absurd says
-
-  -- there are none
-  pub filters_none : (value : Option (List ℕ)) (handle : Handle) → SaysHandle value (Some handle) → handle.size ≡ 0 → HasFiltersBy bytes value None
-  filters_none None handle says none = cc
-  filters_none (Some value) handle says none = (handle, says.0, says.1, none)
-
-  -- there are these
-  pub filters_some : (value : Option (List ℕ)) (handle : Handle) (filters : List (List ℕ)) → SaysHandle value (Some handle) → handle.size ≢ 0
-      → (text : List ℕ) × StoresAt bytes handle 0 text × IsFilterBlock text filters → HasFiltersBy bytes value (Some filters)
-  filters_some None handle filters says some there = cc
-  filters_some (Some value) handle filters says some there = (handle, says.0, says.1, (some, there.0, there.1, there.2))
-
   lacking_at : (handle : Handle) (filters : Option (List (List ℕ))) → handle.size ≢ 0 → HasNoFilters bytes handle → IsFiltersAt bytes handle filters → ⊥
   lacking_at handle None some none is = some is
   lacking_at handle (Some filters) some none is = none is.1 filters is.2 is.3
@@ -120,8 +101,3 @@ module _ (bytes : List ℕ) where
   filters_lacking None handle says some none filters has = cc
   filters_lacking (Some value) handle says some none filters has =
       lacking_at handle filters some none (subst (λ h. IsFiltersAt bytes h filters) (one_spelled has.0 handle (sym has.2 ∙ says.1)) has.3)
-
-  -- it names no handle
-  pub filters_misnamed : (value : Option (List ℕ)) → SaysNoHandle value → (filters : Option (List (List ℕ))) → HasFiltersBy bytes value filters → ⊥
-  filters_misnamed None says filters has = says
-  filters_misnamed (Some value) says filters has = says has.0 has.1 has.2

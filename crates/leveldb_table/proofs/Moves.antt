@@ -212,14 +212,6 @@ place_before {entries = entries} f key (Some spot) next n h within e =
     let index : begun spot.start entries ≡ n = omega (arith, same) in
     ap (λ z. Some z) index
 
-pub stands_within : (bytes : List ℕ) (entries : List Entry) (key : List ℕ) (spot : Option Spot) (start next : ℕ) → StandsBetween bytes entries key spot start next → IsWithin bytes entries key spot
-stands_within bytes entries key None start next h = absurd h
-stands_within bytes entries key (Some spot) start next h = h.0
-
-pub before_within : (bytes : List ℕ) (entries : List Entry) (key : List ℕ) (spot : Option Spot) (next : ℕ) → StandsBefore bytes entries key spot next → IsWithin bytes entries key spot
-before_within bytes entries key None next h = absurd h
-before_within bytes entries key (Some spot) next h = h.0
-
 -- ---- forward
 
 -- where the next entry begins, which is the end where there is none
@@ -357,14 +349,6 @@ pub record Seeks (cmp : List ℕ → List ℕ → Ordering) (entries : List Entr
   pub begins : next ≡ start_of entries index
   pub before : index ≤ count_before cmp target (pairs_of None entries)
   pub loads : index < length entries → Loads entries key next
-
-count_if : (b : Bool) (n m : ℕ) → n ≤ m → (if b then n + 1 else 0) ≤ suc m
-count_if true n m h = omega (arith, h)
-count_if false n m h = omega arith
-
-count_le : (cmp : List ℕ → List ℕ → Ordering) (target : List ℕ) (pairs : List Pair) → count_before cmp target pairs ≤ length pairs
-count_le cmp target [] = omega arith
-count_le cmp target (pair ∷ pairs) = let rest = count_le cmp target pairs in count_if (is_lt (cmp pair.0 target)) (count_before cmp target pairs) (length pairs) rest
 
 if_true : (b : Bool) (n : ℕ) → b ≡ true → (if b then n + 1 else 0) ≡ n + 1
 if_true true n e = refl

@@ -16,7 +16,7 @@ use Rattle.leveldb_table.specs.Block.{Entry, entry_bytes, pairs_of, RiseBehind, 
 use Rattle.leveldb_table.specs.Reading.{ReadsEntry}
 use Rattle.leveldb_table.specs.Walk.{begun, IsPoint, HasKeyAt, StartsBy, Loads}
 use Rattle.leveldb_table.specs.declared.block.entry.EntryParts.{EntryParts}
-use Rattle.leveldb_table.proofs.Walks.{begun-start, first_point}
+use Rattle.leveldb_table.proofs.Walks.{begun-start}
 use Rattle.leveldb_table.proofs.Moves.{Fronts, is_loaded}
 
 module _ {accepts : List ℕ → Bool} {cmp : List ℕ → List ℕ → Ordering} {bytes : List ℕ} {limit : ℕ} {accepted : Bool} {entries : List Entry} (held : IsHeld accepts cmp bytes limit accepted entries) where
@@ -35,16 +35,6 @@ module _ {accepts : List ℕ → Bool} {cmp : List ℕ → List ℕ → Ordering
         length-append (flat_map entry_bytes entries) (flat_map (little 4) points ++ little 4 (length points)),
         length-append (flat_map (little 4) points) (little 4 (length points)),
       )
-
-  pub some_point : 0 < length (restart_points entries)
-  some_point = (first_point entries held.spelled.allowed).0
-
-  pub zero_first : get_or (restart_points entries) 0 0 ≡ 0
-  zero_first = (first_point entries held.spelled.allowed).1
-
-  -- the first restart point
-  pub zero_is_point : IsPoint entries 0
-  zero_is_point = (0, some_point, zero_first)
 
   -- the number at a restart point's place
   pub point_there : (j at : ℕ) → j < length (restart_points entries) → at ≡ limit + 4 * j → little_number 4 (drop at bytes) ≡ get_or (restart_points entries) j 0
@@ -118,12 +108,3 @@ pub starts_by : {accepts : List ℕ → Bool} {cmp : List ℕ → List ℕ → O
     → (target : List ℕ) → accepts target ≡ true → (point : ℕ) (key : List ℕ) → HasKeyAt entries point key → is_lt (cmp key target) ≡ true → StartsBy cmp entries target point
 starts_by {cmp = cmp} {entries = entries} o known held target a point key there lt =
     count_front o target a (pairs_of None entries) (begun point entries) key there.0 held.spelled.sorted (held.each_accepted known) there.1 (lt_less (cmp key target) lt)
-
-begun_zero : (entries : List Entry) → begun 0 entries ≡ 0
-begun_zero [] = refl
-begun_zero (entry ∷ entries) = refl
-
--- nothing is before the first
-pub starts_first : (cmp : List ℕ → List ℕ → Ordering) (entries : List Entry) (target : List ℕ) (point : ℕ) → point ≡ 0 → StartsBy cmp entries target point
-starts_first cmp entries target point e =
-    let none : begun point entries ≡ 0 = ap (λ z. begun z entries) e ∙ begun_zero entries in omega (arith, none)

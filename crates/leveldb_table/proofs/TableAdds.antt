@@ -54,18 +54,6 @@ module _ {C FP : Type 0} {order : CmpGhosts C} {policy : PolicyGhosts FP} (codin
   tries_taken pair from status to (inr (inl h)) = tries_closed pair.0 from status to h.1
   tries_taken pair from status to (inr (inr (full, handle, (stored, is, end, placed), why))) = inr (stored, is, Ok tt, placed.put)
 
-  some_same : (from : S) (status : Status) (to : S) → to ≡ from → PutsSome puts from status to
-  some_same from status to e = ([], inr (subst (λ s. PutsAll puts from [] s) (sym e) (PutsAll-none puts from)))
-
-  -- so some bytes were put
-  pub some_closed : (next : List ℕ) (from : S) (status : Status) (to : S) → IsNotClosed codings core puts next from status to → PutsSome puts from status to
-  some_closed next from status to (inl h) = some_same from status to h.0
-  some_closed next from status to (inr (inl (text, block, inl h))) = some_same from status to h.0
-  some_closed next from status to (inr (inl (text, block, inr (inl h)))) = some_same from status to h.0
-  some_closed next from status to (inr (inl (text, block, inr (inr (stored, coded, inl put))))) = (with_trailer core.compressor stored, inl (PutsPart-one puts put))
-  some_closed next from status to (inr (inl (text, block, inr (inr (stored, coded, inr h))))) = some_same from status to h.0
-  some_closed next from status to (inr (inr (handle, (stored, is, end, placed), why))) = (with_trailer core.compressor stored, inr (PutsAll-one puts placed.put))
-
   -- there was room, and the pair wasn't added
   pub taken_after : (pair : Pair) (new : BuilderCore C FP order policy) (from : S) (status : Status) (to : S) → HasRoom codings core puts pair.0 new from to → IsNotAdded new.block.built.0 core.count pair status
       → IsNotTaken codings core puts pair from status to

@@ -48,23 +48,8 @@ module _ {E F : Type 0} (env : Ghosts E F) where
     fits = has.fits;
   }
 
-  pub Has-before : {old new : E} {file : F} {bytes : List ℕ} → Looks env old new → Has env new file bytes → Has env old file bytes
-  Has-before {old} {new} {file} {bytes} looks has = record {
-    told = has.told;
-    there = subst (λ files. IsSomeAnd (files (env.name_of file)) (λ standing. bytes_of standing ≡ bytes)) (same_files looks has.told) has.there;
-    fits = has.fits;
-  }
-
-  -- what holds whatever the bytes are, from before a look to after it and back
-  pub Whatever-after : {old new : E} (file : F) (P : List ℕ → Type 0) → Looks env old new → Whatever env old file P → Whatever env new file P
-  Whatever-after file P looks all bytes has = all bytes (Has-before looks has)
-
   pub Whatever-before : {old new : E} (file : F) (P : List ℕ → Type 0) → Looks env old new → Whatever env new file P → Whatever env old file P
   Whatever-before file P looks all bytes has = all bytes (Has-after looks has)
-
-  -- less, whatever the bytes are
-  pub Whatever-weaker : (state : E) (file : F) (P Q : List ℕ → Type 0) → ((bytes : List ℕ) → P bytes → Q bytes) → Whatever env state file P → Whatever env state file Q
-  Whatever-weaker state file P Q weaker all bytes has = weaker bytes (all bytes has)
 
   -- ---- why a call fails
 

@@ -28,7 +28,7 @@ use Rattle.leveldb_table.proofs.TableCalls.{reads_weaker}
 use Rattle.leveldb_table.proofs.TableForeign.{refused_at, named_along}
 use Rattle.leveldb_table.proofs.TablePlaces.{has_one_block}
 use Rattle.leveldb_table.proofs.TableSteps.{OnOk-with}
-use Rattle.leveldb_table.proofs.TablePlacesIn.{place_in, part_at, line_at, all_at, Passes, passes_last, to_block, to_end}
+use Rattle.leveldb_table.proofs.TablePlacesIn.{place_in, part_at, all_at, behind_block, to_block}
 
 -- ---- answers
 
@@ -70,10 +70,6 @@ lacks_line codings cmp bytes {key} handle at none part is there =
     let same : part.handle ≡ handle = same_handle part.handle handle (same_value (index_pair part) (key, handle_bytes handle) (sym is ∙ at)) in
     none there.text part.pairs (subst (λ h. HasBlockAt (Decodes codings) bytes h there.text) same there.stands) there.block
 
--- nor where its value is no handle's
-pub lacks_handle : (codings : Codings) (cmp : List ℕ → List ℕ → Ordering) (bytes : List ℕ) {key value : List ℕ} {line : Option Pair} → line ≡ Some (key, value) → ((handle : Handle) → value ≡ handle_bytes handle → ⊥) → LacksLine codings cmp bytes line
-lacks_handle codings cmp bytes {key = key} {value = value} at none part is there = none part.handle (same_value (key, value) (index_pair part) (sym at ∙ is))
-
 -- ---- places
 
 first_in : (pairs : List Pair) → pairs ≢ [] → place_within pairs 0 ≡ Some 0
@@ -92,9 +88,7 @@ behind_none parts line at pairs inner (Some n) none out stands = absurd (some_no
 -- and from the last pair of a block, the one behind it
 pub behind_last : (parts : List Part) (line : Option ℕ) (pairs : List Pair) (inner place : Option ℕ) → inner ≢ None → next_place pairs inner ≡ None → StandsAt parts line pairs inner place → IsBehind parts line (next_place (pairs_in parts) place)
 behind_last parts line pairs inner None some last at = absurd (some at)
-behind_last parts line pairs inner (Some n) some last at =
-    let passes = passes_last at last in
-    record { before = passes.before; behind = passes.behind; parted = passes.parted; next = passes.next; to = ap (place_within (pairs_in parts)) passes.counts }
+behind_last parts line pairs inner (Some n) some last at = behind_block at last
 
 module _ {C : Type 0} {order : CmpGhosts C} where
   -- the line of the index is that of a data block of the file
@@ -198,9 +192,6 @@ module _ {C : Type 0} {order : CmpGhosts C} where
 
   module _ {codings : Codings} {cmp : List ℕ → List ℕ → Ordering} {bytes : List ℕ} {parts : List Part} {place : Option ℕ} {old : TableCore C order} (has : HasParts codings cmp bytes parts)
       (behind : IsBehind parts (place_over old.index) place) (indexed : IsIndexed cmp parts old) where
-    passes : Passes parts (place_over old.index) (length (pairs_in behind.before))
-    passes = record { before = behind.before; behind = behind.behind; parted = behind.parted; next = behind.next; counts = refl }
-
     -- where the file has no data block for that line, it isn't as it is said
     pub next_lacks : (index : BlockWalk C order) → index.block ≡ old.index.block → place_over index ≡ next_place (pairs_over old.index) (place_over old.index) → is_some (place_over index) ≡ true
         → LacksLine codings cmp bytes (pair_at (pairs_over index) (place_over index)) → ⊥
@@ -220,17 +211,9 @@ module _ {C : Type 0} {order : CmpGhosts C} where
           record {
             lines = lines;
             ordered = ap order.cmp next.same_order ∙ indexed.ordered;
-            at = subst (λ z. StandsAt parts (place_over new.index) (inner_pairs new.inner) (inner_place new.inner) z) (sym behind.to) (stands_along parts (place_within (pairs_in parts) (length (pairs_in behind.before))) at.at_line pairs first (to_block passes at.i at.part line at.there at.is.some));
+            at = stands_along parts place at.at_line pairs first (to_block behind at.i at.part line at.there at.is.some);
           },
         )
-
-    -- or there is none
-    pub next_ends : (new : TableCore C order) → pairs_over new.index ≡ pairs_over old.index → new.index.block.cmp ≡ old.index.block.cmp → next_place (pairs_over old.index) (place_over old.index) ≡ None → inner_place new.inner ≡ None → Stands cmp parts new place
-    next_ends new lines same_order line none = record {
-      lines = lines ∙ indexed.lines;
-      ordered = ap order.cmp same_order ∙ indexed.ordered;
-      at = subst (λ z. StandsAt parts (place_over new.index) (inner_pairs new.inner) (inner_place new.inner) z) (sym (behind.to ∙ to_end passes (ap (λ z. next_place z (place_over old.index)) (sym indexed.lines) ∙ line))) none;
-    }
 
   -- ---- moves by entering a block
 

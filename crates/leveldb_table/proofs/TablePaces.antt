@@ -103,11 +103,6 @@ module _ (HasBlock : ℕ → List Pair → Type 0) (lines : List Pair) where
   back_stays None old new none same = same
   back_stays (Some i) old new none same = absurd (some_none none)
 
-  -- nowhere, without a line
-  pub at_none : (to : List Pair → Option ℕ) (line : Option ℕ) (new : TablePlace) → line ≡ None → new.line ≡ line → new.inner ≡ None → IsAt HasBlock to line new
-  at_none to None new none at inner = record { line = at; inner = inner }
-  at_none to (Some i) new none at inner = absurd (some_none none)
-
   pub seeks_none : (cmp : List ℕ → List ℕ → Ordering) (key : List ℕ) (line : Option ℕ) (new : TablePlace) → line ≡ None → new.line ≡ line → new.inner ≡ None → Seeks HasBlock lines cmp key line new
   seeks_none cmp key None new none at inner = record { line = at; inner = inner }
   seeks_none cmp key (Some i) new none at inner = absurd (some_none none)

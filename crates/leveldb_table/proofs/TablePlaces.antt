@@ -63,11 +63,6 @@ stands_as {file} {handle} {id} {stored} there =
     ∙ ap (take (handle.size + 5)) (drop_at there.before (with_trailer id stored ++ there.behind) handle.offset there.offset)
     ∙ take_at (with_trailer id stored) there.behind (handle.size + 5) count
 
--- so many bytes stand there
-pub stores_within : {file : List ℕ} {handle : Handle} {id : ℕ} {stored : List ℕ} → StoresAt file handle id stored → handle.offset + handle.size + 5 ≤ length file
-stores_within {file} {handle} {id} {stored} there =
-    omega (arith, ap length there.whole, length-append there.before (with_trailer id stored ++ there.behind), length-append (with_trailer id stored) there.behind, length-with_trailer id stored, there.offset, there.size)
-
 -- what stands at a place is stored at the handle of it
 pub stores_from : (file : List ℕ) (handle : Handle) (id : ℕ) (stored : List ℕ) → HandleFits handle → length stored ≡ handle.size → take (handle.size + 5) (drop handle.offset file) ≡ with_trailer id stored → StoresAt file handle id stored
 stores_from file handle id stored fits size is =

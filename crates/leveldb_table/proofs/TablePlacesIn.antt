@@ -14,6 +14,7 @@ use Rattle.leveldb_base.specs.Places.{Pair, place_within, next_place, previous_p
 use Rattle.leveldb_options.specs.Coders.{Codings, Decodes}
 use Rattle.leveldb_table.specs.Table.{Part, IsPart, AreParted, UpTo, After, index_pair, first_from, named_part}
 use Rattle.leveldb_table.specs.Table.{AreAccepted}
+use Rattle.leveldb_table.specs.TableEnters.{IsBehind}
 use Rattle.leveldb_table.specs.TableReading.{pairs_in, HasParts}
 use Rattle.leveldb_table.specs.TableWalk.{StandsIn, StandsAt}
 use Rattle.leveldb_table.specs.Walk.{last_place}
@@ -63,18 +64,6 @@ split_at (first ∷ parts) (suc i) part e =
     let rest = split_at parts i part e in
     record { before = first ∷ rest.before; behind = rest.behind; parted = ap (λ z. first ∷ z) rest.parted; count = ap suc rest.count }
 
-pub line_at : (parts : List Part) (i : ℕ) (part : Part) → slice_get parts i ≡ Some part → pair_at (map index_pair parts) (Some i) ≡ Some (index_pair part)
-line_at [] i part e = cc
-line_at (first ∷ parts) zero part e = let same : first ≡ part = cc in ap (λ z. Some (index_pair z)) same
-line_at (first ∷ parts) (suc i) part e = line_at parts i part e
-
-slice_cut : {X : Type 0} (xs : List X) (x : X) (ys : List X) → slice_get (xs ++ x ∷ ys) (length xs) ≡ Some x
-slice_cut [] x ys = refl
-slice_cut (other ∷ xs) x ys = slice_cut xs x ys
-
-pub line_is : {parts : List Part} {i : ℕ} {part : Part} → IsLine parts i part → slice_get parts i ≡ Some part
-line_is {parts} {i} {part} l = ap (λ z. slice_get z i) l.parted ∙ ap (slice_get (l.before ++ part ∷ l.behind)) (sym l.count) ∙ slice_cut l.before part l.behind
-
 pub all_at : (P : Part → Type 0) (parts : List Part) (i : ℕ) (part : Part) → slice_get parts i ≡ Some part → AllByRecursion P parts → P part
 all_at P [] i part e all = absurd cc
 all_at P (first ∷ parts) zero part e all = let same : first ≡ part = cc in subst P same all.0
@@ -83,22 +72,6 @@ all_at P (first ∷ parts) (suc i) part e all = all_at P parts i part e all.1
 -- none of a file's data blocks is empty
 pub parts_some : {codings : Codings} {cmp : List ℕ → List ℕ → Ordering} {bytes : List ℕ} {parts : List Part} → HasParts codings cmp bytes parts → AllByRecursion (λ part. part.pairs ≢ []) parts
 parts_some {codings} {cmp} {bytes} {parts} has = all_with (IsPart (Decodes codings) cmp bytes) (λ part. part.pairs ≢ []) (λ part is. is.some) parts has.each
-
--- below their number there is a data block
-part_below : (parts : List Part) (i : ℕ) → i < length parts → (part : Part) × (slice_get parts i ≡ Some part)
-part_below [] i less = absurd (omega (arith, less))
-part_below (part ∷ parts) zero less = (part, refl)
-part_below (part ∷ parts) (suc i) less = part_below parts i (omega (arith, less))
-
-pub part_within : (parts : List Part) (n i : ℕ) → place_within (map index_pair parts) n ≡ Some i → (part : Part) × (slice_get parts i ≡ Some part)
-part_within parts n i e =
-    let there = place_some (map index_pair parts) n i e in
-    let same = there.0 in let less = there.1 in
-    part_below parts i (omega (arith, same, less, length-map parts index_pair))
-
-pub part_next : (parts : List Part) (line : Option ℕ) (i : ℕ) → next_place (map index_pair parts) line ≡ Some i → (part : Part) × (slice_get parts i ≡ Some part)
-part_next parts None i e = part_within parts 0 i e
-part_next parts (Some n) i e = part_within parts (n + 1) i e
 
 -- ---- where a walk stands
 
@@ -121,9 +94,6 @@ module _ {parts : List Part} {line : Option ℕ} {pairs : List Pair} {place : Op
 
   count_all : length (pairs_in parts) ≡ length (pairs_in s.before) + (length s.part.pairs + length (pairs_in s.behind))
   count_all = omega (arith, ap length all_pairs, length-append (pairs_in s.before) (s.part.pairs ++ pairs_in s.behind), length-append s.part.pairs (pairs_in s.behind))
-
-  pub stands_part : (part : Part) × (i : ℕ) × (line ≡ Some i) × (slice_get parts i ≡ Some part) × (pairs ≡ part.pairs)
-  stands_part = (s.part, length s.before, s.at_line, line_is (record { before = s.before; behind = s.behind; parted = s.parted; count = refl }), s.same)
 
   pub within_in : n < length (pairs_in parts)
   within_in = let within = s.within in let counts = s.counts in omega (arith, within, counts, count_all)
@@ -154,37 +124,28 @@ long_none : (parts : List Part) → length parts ≡ 0 → parts ≡ []
 long_none [] e = refl
 long_none (part ∷ parts) e = cc
 
--- the pairs of all lines up to this one are so many, and the next line's block begins behind them
-pub record Passes (parts : List Part) (line : Option ℕ) (n : ℕ) : Type 0 where
-  pub before : List Part
-  pub behind : List Part
-  pub parted : parts ≡ before ++ behind
-  pub next : next_place (map index_pair parts) line ≡ place_within (map index_pair parts) (length before)
-  pub counts : n ≡ length (pairs_in before)
-
-pub passes_none : (parts : List Part) → Passes parts None 0
-passes_none parts = record { before = []; behind = parts; parted = refl; next = refl; counts = refl }
-
 module _ {parts : List Part} {line : Option ℕ} {pairs : List Pair} {place : Option ℕ} {n : ℕ} (s : StandsIn parts line pairs place n) where
   -- the next place of the block, by the place in it
   next_inner : next_place pairs place ≡ place_within s.part.pairs (s.inner + 1)
   next_inner = ap (λ z. next_place z place) s.same ∙ ap (next_place s.part.pairs) s.at_place
 
-  -- so it is behind the last pair of a block
-  pub passes_last : next_place pairs place ≡ None → Passes parts line (n + 1)
-  passes_last e =
+  -- behind the last pair of a block is the place behind that block
+  pub behind_block : next_place pairs place ≡ None → IsBehind parts line (next_place (pairs_in parts) (Some n))
+  behind_block e =
       let past = place_none s.part.pairs (s.inner + 1) (sym next_inner ∙ e) in
       let within = s.within in
       let counts = s.counts in
       let front = s.before ++ s.part ∷ [] in
       let more : length front ≡ length s.before + 1 = length-append s.before (s.part ∷ []) in
       let here : pairs_in front ≡ pairs_in s.before ++ (s.part.pairs ++ []) = pairs_cut s.before (s.part ∷ []) in
+      let passed : n + 1 ≡ length (pairs_in front) =
+      omega (arith, past, within, counts, ap length here, length-append (pairs_in s.before) (s.part.pairs ++ []), length-append s.part.pairs []) in
       record {
         before = front;
         behind = s.behind;
         parted = s.parted ∙ sym (append_assoc s.before (s.part ∷ []) s.behind);
         next = ap (next_place (map index_pair parts)) s.at_line ∙ ap (place_within (map index_pair parts)) (sym more);
-        counts = omega (arith, past, within, counts, ap length here, length-append (pairs_in s.before) (s.part.pairs ++ []), length-append s.part.pairs []);
+        to = ap (place_within (pairs_in parts)) passed;
       }
 
   pub next_in : (k : ℕ) → next_place pairs place ≡ Some k → StandsAt parts line pairs (Some k) (next_place (pairs_in parts) (Some n))
@@ -207,9 +168,7 @@ module _ {parts : List Part} {line : Option ℕ} {pairs : List Pair} {place : Op
       } in
       subst (StandsAt parts line pairs (Some k)) (sym (place_in (pairs_in parts) (n + 1) (within_in stands))) stands
 
-module _ {parts : List Part} {line : Option ℕ} {n : ℕ} (p : Passes parts line n) where
-  passed_pairs : pairs_in parts ≡ pairs_in p.before ++ pairs_in p.behind
-  passed_pairs = ap pairs_in p.parted ∙ pairs_cut p.before p.behind
+module _ {parts : List Part} {line place : Option ℕ} (p : IsBehind parts line place) where
 
   -- the next line is that of the first block behind
   at_behind : (i : ℕ) → next_place (map index_pair parts) line ≡ Some i → (i ≡ length p.before) × (i < length parts)
@@ -220,14 +179,14 @@ module _ {parts : List Part} {line : Option ℕ} {n : ℕ} (p : Passes parts lin
       (same, omega (arith, same, less, length-map parts index_pair))
 
   -- to the first pair of the next block
-  pub to_block : (i : ℕ) (part : Part) → next_place (map index_pair parts) line ≡ Some i → slice_get parts i ≡ Some part → part.pairs ≢ [] → StandsAt parts (Some i) part.pairs (Some 0) (place_within (pairs_in parts) n)
+  pub to_block : (i : ℕ) (part : Part) → next_place (map index_pair parts) line ≡ Some i → slice_get parts i ≡ Some part → part.pairs ≢ [] → StandsAt parts (Some i) part.pairs (Some 0) place
   to_block i part e there some =
       let at = at_behind i e in
       let first : slice_get p.behind 0 ≡ Some part =
       sym (slice_behind p.before p.behind 0) ∙ (let same : length p.before + 0 ≡ i = let m = at.0 in omega (arith, m) in ap (slice_get (p.before ++ p.behind)) same)
       ∙ ap (λ z. slice_get z i) (sym p.parted) ∙ there in
       let rest = split_first p.behind part first in
-      let stands : StandsIn parts (Some i) part.pairs (Some 0) n = record {
+      let stands : StandsIn parts (Some i) part.pairs (Some 0) (length (pairs_in p.before)) = record {
         before = p.before;
         part = part;
         behind = rest.0;
@@ -237,34 +196,9 @@ module _ {parts : List Part} {line : Option ℕ} {n : ℕ} (p : Passes parts lin
         same = refl;
         at_place = refl;
         within = some_long part.pairs some;
-        counts = let c = p.counts in omega (arith, c);
+        counts = omega arith;
       } in
-      subst (StandsAt parts (Some i) part.pairs (Some 0)) (sym (place_in (pairs_in parts) n (within_in stands))) stands
-
-  -- or there is none
-  pub to_end : next_place (map index_pair parts) line ≡ None → place_within (pairs_in parts) n ≡ None
-  to_end e =
-      let past = place_none (map index_pair parts) (length p.before) (sym p.next ∙ e) in
-      let long = ap length p.parted ∙ length-append p.before p.behind in
-      let none : p.behind ≡ [] = long_none p.behind (omega (arith, past, long, length-map parts index_pair)) in
-      let all : length (pairs_in parts) ≡ length (pairs_in p.before) + length (pairs_in p.behind) = ap length passed_pairs ∙ length-append (pairs_in p.before) (pairs_in p.behind) in
-      let last : length (pairs_in p.behind) ≡ 0 = ap (λ z. length (pairs_in z)) none in
-      let counts = p.counts in
-      place_out (pairs_in parts) n (omega (arith, all, last, counts))
-
-module _ {parts : List Part} {line : Option ℕ} {pairs : List Pair} {place : Option ℕ} {n : ℕ} (s : StandsIn parts line pairs place n) where
-  pub next_block : next_place pairs place ≡ None → (i : ℕ) (part : Part) → next_place (map index_pair parts) line ≡ Some i → slice_get parts i ≡ Some part → part.pairs ≢ []
-      → StandsAt parts (Some i) part.pairs (Some 0) (next_place (pairs_in parts) (Some n))
-  next_block e i part l there some = to_block (passes_last s e) i part l there some
-
-  pub next_end : next_place pairs place ≡ None → next_place (map index_pair parts) line ≡ None → next_place (pairs_in parts) (Some n) ≡ None
-  next_end e l = to_end (passes_last s e) l
-
-pub first_block : (parts : List Part) (i : ℕ) (part : Part) → place_within (map index_pair parts) 0 ≡ Some i → slice_get parts i ≡ Some part → part.pairs ≢ [] → StandsAt parts (Some i) part.pairs (Some 0) (place_within (pairs_in parts) 0)
-first_block parts i part l there some = to_block (passes_none parts) i part l there some
-
-pub first_end : (parts : List Part) → place_within (map index_pair parts) 0 ≡ None → place_within (pairs_in parts) 0 ≡ None
-first_end parts l = to_end (passes_none parts) l
+      subst (StandsAt parts (Some i) part.pairs (Some 0)) (sym (p.to ∙ place_in (pairs_in parts) (length (pairs_in p.before)) (within_in stands))) stands
 
 -- ---- looking up
 
@@ -497,9 +431,9 @@ module _ {accepts : List ℕ → Bool} {cmp : List ℕ → List ℕ → Ordering
       subst (StandsAt parts (Some i) part.pairs (Some j)) (sym (place_in (pairs_in parts) (count_before cmp key (pairs_in parts)) (within_in stands))) stands
 
   -- or it has none, and the first key of the next block is the one
-  pub seek_passes : AllByRecursion (λ part. part.pairs ≢ []) parts → (i : ℕ) (part : Part) → seek_place cmp (map index_pair parts) key ≡ Some i → slice_get parts i ≡ Some part → seek_place cmp part.pairs key ≡ None
-      → Passes parts (Some i) (count_before cmp key (pairs_in parts))
-  seek_passes some i part e there none =
+  pub seek_behind : AllByRecursion (λ part. part.pairs ≢ []) parts → (i : ℕ) (part : Part) → seek_place cmp (map index_pair parts) key ≡ Some i → slice_get parts i ≡ Some part → seek_place cmp part.pairs key ≡ None
+      → IsBehind parts (Some i) (seek_place cmp (pairs_in parts) key)
+  seek_behind some i part e there none =
       let here = named_here i part e there in
       let rest = here.1 in
       let whole : parts ≡ it.before ++ part ∷ rest = it.whole ∙ ap (λ z. it.before ++ z) here.2 in
@@ -513,21 +447,15 @@ module _ {accepts : List ℕ → Bool} {cmp : List ℕ → List ℕ → Ordering
       let front = it.before ++ part ∷ [] in
       let more : i + 1 ≡ length front = let same = here.0 in omega (arith, same, length-append it.before (part ∷ [])) in
       let cut : pairs_in front ≡ pairs_in it.before ++ (part.pairs ++ []) = pairs_cut it.before (part ∷ []) in
+      let counts : count_before cmp key (pairs_in parts) ≡ length (pairs_in front) =
+      omega (arith, passed, inner, last, ap length cut, length-append (pairs_in it.before) (part.pairs ++ []), length-append part.pairs []) in
       record {
         before = front;
         behind = rest;
         parted = whole ∙ sym (append_assoc it.before (part ∷ []) rest);
         next = ap (place_within (map index_pair parts)) more;
-        counts = omega (arith, passed, inner, last, ap length cut, length-append (pairs_in it.before) (part.pairs ++ []), length-append part.pairs []);
+        to = ap (place_within (pairs_in parts)) counts;
       }
-
-  pub seek_next : AllByRecursion (λ part. part.pairs ≢ []) parts → (i : ℕ) (part : Part) → seek_place cmp (map index_pair parts) key ≡ Some i → slice_get parts i ≡ Some part → seek_place cmp part.pairs key ≡ None
-      → (k : ℕ) (next : Part) → next_place (map index_pair parts) (Some i) ≡ Some k → slice_get parts k ≡ Some next → StandsAt parts (Some k) next.pairs (Some 0) (seek_place cmp (pairs_in parts) key)
-  seek_next some i part e there none k next l next_there = to_block (seek_passes some i part e there none) k next l next_there (all_at (λ part. part.pairs ≢ []) parts k next next_there some)
-
-  pub seek_end : AllByRecursion (λ part. part.pairs ≢ []) parts → (i : ℕ) (part : Part) → seek_place cmp (map index_pair parts) key ≡ Some i → slice_get parts i ≡ Some part → seek_place cmp part.pairs key ≡ None
-      → next_place (map index_pair parts) (Some i) ≡ None → seek_place cmp (pairs_in parts) key ≡ None
-  seek_end some i part e there none l = to_end (seek_passes some i part e there none) l
 
 -- ---- back
 
@@ -550,31 +478,10 @@ last_some [] k e = cc
 last_some (pair ∷ pairs) k e = let same : length pairs ≡ k = cc in omega (arith, same)
 
 module _ {parts : List Part} {line : Option ℕ} {pairs : List Pair} {place : Option ℕ} {n : ℕ} (s : StandsIn parts line pairs place n) where
-  pub previous_in : (k : ℕ) → previous_place place ≡ Some k → StandsAt parts line pairs (Some k) (previous_place (Some n))
-  previous_in k e =
-      let back = prev_some s.inner k (ap previous_place (sym s.at_place) ∙ e) in
-      let within = s.within in
-      let counts = s.counts in
-      let stands : StandsIn parts line pairs (Some k) (length (pairs_in s.before) + k) = record {
-        before = s.before;
-        part = s.part;
-        behind = s.behind;
-        inner = k;
-        parted = s.parted;
-        at_line = s.at_line;
-        same = s.same;
-        at_place = refl;
-        within = omega (arith, within, back);
-        counts = refl;
-      } in
-      subst (StandsAt parts line pairs (Some k)) (sym (prev_is n (length (pairs_in s.before) + k) (omega (arith, counts, back)))) stands
 
   -- the line before
   line_back : (i : ℕ) → previous_place line ≡ Some i → length s.before ≡ i + 1
   line_back i e = prev_some (length s.before) i (ap previous_place (sym s.at_line) ∙ e)
-
-  pub part_previous : (i : ℕ) → previous_place line ≡ Some i → (part : Part) × (slice_get parts i ≡ Some part)
-  part_previous i e = part_below parts i (omega (arith, line_back i e, ap length s.parted, length-append s.before (s.part ∷ s.behind)))
 
   -- to the last pair of the block before
   pub previous_block : previous_place place ≡ None → (i : ℕ) (part : Part) (k : ℕ) → previous_place line ≡ Some i → slice_get parts i ≡ Some part → last_place part.pairs ≡ Some k
@@ -604,12 +511,3 @@ module _ {parts : List Part} {line : Option ℕ} {pairs : List Pair} {place : Op
         counts = refl;
       } in
       subst (StandsAt parts (Some i) part.pairs (Some k)) (sym (prev_is n (length (pairs_in cut.before) + k) many)) stands
-
-  pub previous_end : previous_place place ≡ None → previous_place line ≡ None → previous_place (Some n) ≡ None
-  previous_end e l =
-      let first = prev_none s.inner (ap previous_place (sym s.at_place) ∙ e) in
-      let none : s.before ≡ [] = long_none s.before (prev_none (length s.before) (ap previous_place (sym s.at_line) ∙ l)) in
-      let counts = s.counts in
-      let zero_pairs : length (pairs_in s.before) ≡ 0 = ap (λ z. length (pairs_in z)) none in
-      let here : n ≡ 0 = omega (arith, counts, first, zero_pairs) in
-      ap (λ z. previous_place (Some z)) here

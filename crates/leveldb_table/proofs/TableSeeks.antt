@@ -31,7 +31,7 @@ use Rattle.leveldb_table.proofs.TableCalls.{Looks-refl, Has-after, Whatever-befo
 use Rattle.leveldb_table.proofs.TableForeign.{refused_at, refused_before, named_along}
 use Rattle.leveldb_table.proofs.TableMoves.{ok_refused, err_holds, some_none, some_there, same_handle, same_value, block_lines, lacks_line, IsLineOf, line_is_of, part_pairs, from_none, from_block, IsInto, stands_along}
 use Rattle.leveldb_table.proofs.TableSteps.{OnOk-with}
-use Rattle.leveldb_table.proofs.TablePlacesIn.{parts_some, named_at, named_none, seek_in, seek_passes, previous_block, previous_end}
+use Rattle.leveldb_table.proofs.TablePlacesIn.{parts_some, named_at, named_none, seek_in, seek_behind, previous_block}
 
 -- for a block that the index names, and where it names none
 let_named : (cmp : List ℕ → List ℕ → Ordering) (lets : ℕ → List ℕ → Bool) (key : List ℕ) (parts : List Part) (part : Part) (b : Bool) → named_part cmp key parts ≡ Some part → lets part.handle.offset key ≡ b
@@ -281,13 +281,13 @@ module _ {C : Type 0} {order : CmpGhosts C} where
       sought_behind new some sought none =
           let at = line_is_of old.index has indexed.lines some in
           let pairs = part_pairs codings new.inner at.is (subst (λ l. IsBlockOf codings cmp bytes l (inner_block new.inner)) at.line sought.block) in
-          let passes = seek_passes preorder has.parted accepted key fit (parts_some has) at.i at.part (sought_line ∙ at.at_line) at.there (ap (λ z. seek_place cmp z key) (sym pairs) ∙ sym sought.place ∙ none) in
+          let after = seek_behind preorder has.parted accepted key fit (parts_some has) at.i at.part (sought_line ∙ at.at_line) at.there (ap (λ z. seek_place cmp z key) (sym pairs) ∙ sym sought.place ∙ none) in
           record {
-            before = passes.before;
-            behind = passes.behind;
-            parted = passes.parted;
-            next = ap (next_place (map index_pair parts)) (ap place_over sought.index ∙ at.at_line) ∙ passes.next;
-            to = ap (place_within (pairs_in parts)) passes.counts;
+            before = after.before;
+            behind = after.behind;
+            parted = after.parted;
+            next = ap (next_place (map index_pair parts)) (ap place_over sought.index ∙ at.at_line) ∙ after.next;
+            to = after.to;
           }
 
   -- where the line's value is no handle's, the file isn't as it is said
@@ -339,11 +339,3 @@ module _ {C : Type 0} {order : CmpGhosts C} where
                 (previous_block before.stands before.first at.i at.part last.0 (sym next.at_line ∙ at.at_line) at.there last.1));
           },
         )
-
-    -- or there is none
-    pub previous_ends : (new : TableCore C order) → pairs_over new.index ≡ pairs_over old.index → new.index.block.cmp ≡ old.index.block.cmp → previous_place (place_over old.index) ≡ None → inner_place new.inner ≡ None → Stands cmp parts new place
-    previous_ends new lines same_order line none = record {
-      lines = lines ∙ indexed.lines;
-      ordered = ap order.cmp same_order ∙ indexed.ordered;
-      at = subst (λ z. StandsAt parts (place_over new.index) (inner_pairs new.inner) (inner_place new.inner) z) (sym (before.to ∙ previous_end before.stands before.first line)) none;
-    }

@@ -17,10 +17,6 @@ use Rattle.leveldb_table.proofs.TableOrders.{all_append, all_left, all_right, la
 
 -- ---- answers
 
-pub IfErr-always : {T E : Type 0} (result : Result T E) (P : E → Type 0) → ((error : E) → P error) → IfErr result P
-IfErr-always (Ok value) P h = tt
-IfErr-always (Err error) P h = h error
-
 pub IfErr-with : {T E : Type 0} (result : Result T E) (P Q : E → Type 0) → ((error : E) → P error → Q error) → IfErr result P → IfErr result Q
 IfErr-with (Ok value) P Q f h = tt
 IfErr-with (Err error) P Q f h = f error h
@@ -42,10 +38,6 @@ module _ {S : Type 0} (puts : S → List ℕ → Result (Unit {0}) Status → S 
   pub some_none : (from : S) (status : Status) (to : S) → PutsNone puts from status to → PutsSome puts from status to
   some_none from status to (inl refused) = (refused.0, inl (PutsPart-one puts refused.1))
   some_none from status to (inr same) = ([], inr (subst (λ s. PutsAll puts from [] s) (sym same) (PutsAll-none puts from)))
-
-  -- a put, and no other
-  pub some_put : (from : S) (bytes : List ℕ) (to : S) (status : Status) → puts from bytes (Ok tt) to → PutsSome puts from status to
-  some_put from bytes to status put = (bytes, inr (PutsAll-one puts put))
 
 -- ---- a block is closed
 

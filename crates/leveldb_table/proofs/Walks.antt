@@ -238,22 +238,6 @@ pub point_names : (entries : List Entry) (j : ℕ) → 0 < length entries → j 
 point_names [] j some h = absurd (omega (arith, some))
 point_names (first ∷ entries) j some h = names_from 0 (first ∷ entries) j h
 
-first_if : (b : Bool) (points : List ℕ) → b ≡ true → (0 < length (if b then 0 ∷ points else points)) × (get_or (if b then 0 ∷ points else points) 0 0 ≡ 0)
-first_if true points e = (omega arith, refl)
-first_if false points e = cc
-
--- the first restart point is 0
-pub first_point : (entries : List Entry) → AreEntries None entries → (0 < length (restart_points entries)) × (get_or (restart_points entries) 0 0 ≡ 0)
-first_point [] h = (omega arith, refl)
-first_point (first ∷ entries) h =
-    let marked = h.1 in
-    first_if first.restart (points_from (0 + length (entry_bytes first)) entries) marked.0
-
--- without entries there is one restart point
-pub one_point : (entries : List Entry) → 1 < length (restart_points entries) → 0 < length entries
-one_point [] h = absurd (omega (arith, h))
-one_point (first ∷ entries) h = omega arith
-
 -- where a restart point before an end is, an entry can be loaded
 pub loads_point : {entries : List Entry} → AreEntries None entries → (key : List ℕ) (point : ℕ) → IsPoint entries point → 0 < length entries → Loads entries key point
 loads_point {entries} allowed key point p some =

@@ -1,5 +1,6 @@
 -- A block has one reading, and what is known of entries that stand one behind the other.
-use Rattle.std.proofs.Common.{◌≡◌, ℕ, ◌+◌, ◌*◌, ◌^◌, ◌<◌, ◌≤◌, Bool, true, false, nat_eq, if◌then◌else◌, List, [], ◌∷◌, ◌++◌, length, flat_map, Option, None, Some, refl, sym, ◌∙◌, ap, arith, append_assoc, length-append}
+use Rattle.std.proofs.Common.{◌≡◌, ℕ, ◌+◌, ◌*◌, ◌^◌, ◌<◌, ◌≤◌, Bool, true, false, nat_eq, if◌then◌else◌, List, [], ◌∷◌, ◌++◌, length, flat_map}
+use Rattle.std.proofs.Common.{Option, None, Some, refl, sym, ◌∙◌, ap, arith, append_assoc, length-append}
 use Rattle.std.proofs.Props.{props}
 use Rattle.std.proofs.lemmas.Bool.Decides.{nat_tests}
 use Rattle.std.specs.declared.cmp.Ordering.{Ordering}
@@ -86,7 +87,8 @@ after_here true offset points = refl
 after_here false offset points = refl
 
 -- the points that are left are those of the entries behind
-pub points_left : (offset : ℕ) (entry : Entry) (entries : List Entry) → points_after entry.restart (points_from offset (entry ∷ entries)) ≡ points_from (offset + length (entry_bytes entry)) entries
+pub points_left : (offset : ℕ) (entry : Entry) (entries : List Entry)
+    → points_after entry.restart (points_from offset (entry ∷ entries)) ≡ points_from (offset + length (entry_bytes entry)) entries
 points_left offset entry entries = after_here entry.restart offset (points_from (offset + length (entry_bytes entry)) entries)
 
 -- entries have one reading
@@ -114,7 +116,8 @@ one_whole (x ∷ xs) [] e p =
 one_whole (x ∷ xs) (y ∷ ys) e p = one_list 0 0 (x ∷ xs) (y ∷ ys) refl e p
 
 -- the three parts of a block
-pub three_parts : (a b x y c d : List ℕ) (m n : ℕ) → m < 2 ^ 32 → n < 2 ^ 32 → length x ≡ 4 * m → length y ≡ 4 * n → a ++ (x ++ little 4 m) ≡ b ++ (y ++ little 4 n) → (a ≡ b) × (x ≡ y) × (m ≡ n)
+pub three_parts : (a b x y c d : List ℕ) (m n : ℕ) → m < 2 ^ 32 → n < 2 ^ 32 → length x ≡ 4 * m → length y ≡ 4 * n
+    → a ++ (x ++ little 4 m) ≡ b ++ (y ++ little 4 n) → (a ≡ b) × (x ≡ y) × (m ≡ n)
 three_parts a b x y c d m n hm hn lx ly e =
     let last = apart_right (a ++ x) (b ++ y) (little 4 m) (little 4 n) refl (append_assoc a x (little 4 m) ∙ e ∙ sym (append_assoc b y (little 4 n))) in
     let count = (one_fixed m n [] [] hm hn (ap (λ z. z ++ []) last.1)).0 in
@@ -148,7 +151,8 @@ RiseBehind-prop cmp (Some last) (pair ∷ pairs) = hlevel (props, RiseBehind-pro
 IsSpelled-prop : (cmp : List ℕ → List ℕ → Ordering) (bytes : List ℕ) (entries : List Entry) → IsProp (IsSpelled cmp bytes entries)
 IsSpelled-prop cmp bytes entries = hlevel (props, AreEntries-prop None entries, RiseBehind-prop cmp None (pairs_of None entries))
 
-IsHeld-prop : (accepts : List ℕ → Bool) (cmp : List ℕ → List ℕ → Ordering) (bytes : List ℕ) (limit : ℕ) (accepted : Bool) (entries : List Entry) → IsProp (IsHeld accepts cmp bytes limit accepted entries)
+IsHeld-prop : (accepts : List ℕ → Bool) (cmp : List ℕ → List ℕ → Ordering) (bytes : List ℕ) (limit : ℕ) (accepted : Bool) (entries : List Entry)
+    → IsProp (IsHeld accepts cmp bytes limit accepted entries)
 IsHeld-prop accepts cmp bytes limit accepted entries = hlevel (props, IsSpelled-prop cmp bytes entries)
 
 -- a block is held in one way

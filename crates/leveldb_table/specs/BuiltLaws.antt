@@ -11,7 +11,8 @@ AreSpaced-prop : (interval i : ℕ) (entries : List Entry) → IsProp (AreSpaced
 AreSpaced-prop interval i [] = hlevel props
 AreSpaced-prop interval i (entry ∷ entries) = hlevel (props, AreSpaced-prop interval (i + 1) entries)
 
-IsBuilt-prop : (cmp : List ℕ → List ℕ → Ordering) (interval : ℕ) (bytes points last : List ℕ) (count : ℕ) (begun : Bool) (entries : List Entry) → IsProp (IsBuilt cmp interval bytes points last count begun entries)
+IsBuilt-prop : (cmp : List ℕ → List ℕ → Ordering) (interval : ℕ) (bytes points last : List ℕ) (count : ℕ) (begun : Bool) (entries : List Entry)
+    → IsProp (IsBuilt cmp interval bytes points last count begun entries)
 IsBuilt-prop cmp interval bytes points last count begun entries =
     hlevel (props, AreSpaced-prop interval 0 entries, AreEntries-prop None entries, RiseBehind-prop cmp None (pairs_of None entries))
 

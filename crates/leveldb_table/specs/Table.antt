@@ -1,6 +1,7 @@
 -- A table file: sorted pairs in blocks, an index of these, filters of their keys, and a footer. A list of pairs has many tables, as it is
 -- cut into blocks and as these are spelled.
-use Rattle.std.specs.Prelude.{◌≡◌, ◌≢◌, ◌==◌, ℕ, zero, suc, ◌+◌, ◌/◌, Bool, true, false, if◌then◌else◌, List, [], ◌∷◌, ◌++◌, length, flat_map, map, codes, Option, None, Some, IfSome}
+use Rattle.std.specs.Prelude.{◌≡◌, ◌≢◌, ◌==◌, ℕ, zero, suc, ◌+◌, ◌/◌, Bool, true, false, if◌then◌else◌}
+use Rattle.std.specs.Prelude.{List, [], ◌∷◌, ◌++◌, length, flat_map, map, codes, Option, None, Some, IfSome}
 use Rattle.std.specs.List.{AllByRecursion}
 use Rattle.std.specs.declared.cmp.Ordering.{Ordering}
 use Rattle.std.specs.declared.cmp.Ordering.TheVariants.{Less}
@@ -128,7 +129,8 @@ FiltersHold meaning user file parts meta =
 -- ---- the table
 
 -- Where the blocks of a table are, and what they hold: data blocks, the index of them, and the metaindex, which is in byte order.
-pub record IsTabled (Decodes : ℕ → List ℕ → List ℕ → Type 0) (cmp : List ℕ → List ℕ → Ordering) (file : List ℕ) (parts : List Part) (metas : List Pair) (meta index : Handle) : Type 0 where
+pub record IsTabled (Decodes : ℕ → List ℕ → List ℕ → Type 0) (cmp : List ℕ → List ℕ → Ordering) (file : List ℕ)
+    (parts : List Part) (metas : List Pair) (meta index : Handle) : Type 0 where
   pub front : List ℕ
   pub ends : file ≡ front ++ footer_bytes meta index
   pub index_text : List ℕ
@@ -142,7 +144,8 @@ pub record IsTabled (Decodes : ℕ → List ℕ → List ℕ → Type 0) (cmp : 
 
 -- The file is a table of these pairs, which rise strictly, with filters that let them pass under each policy whose meaning is known.
 -- The user's key is the part of a key that filters go by: the key itself, or what an internal key has before its tag.
-pub record IsTable (Decodes : ℕ → List ℕ → List ℕ → Type 0) (cmp : List ℕ → List ℕ → Ordering) (meaning : List ℕ → Option (List ℕ → List ℕ → Bool)) (user : List ℕ → List ℕ) (file : List ℕ) (pairs : List Pair) : Type 0 where
+pub record IsTable (Decodes : ℕ → List ℕ → List ℕ → Type 0) (cmp : List ℕ → List ℕ → Ordering)
+    (meaning : List ℕ → Option (List ℕ → List ℕ → Bool)) (user : List ℕ → List ℕ) (file : List ℕ) (pairs : List Pair) : Type 0 where
   pub parts : List Part
   pub metas : List Pair
   pub meta : Handle

@@ -20,7 +20,8 @@ use Rattle.leveldb_table.specs.declared.table_builder.builder_core.BuilderCore.{
 
 -- why a pair wasn't added behind these entries: want of memory, or it would be one pair too many, or it is too large for the block
 abbrev pub IsNotAdded : List Entry → ℕ → Pair → Status → Type 0
-IsNotAdded entries count pair status = IsOutOfMemory status ⊎ IsTooLong (count + 1) status ⊎ ((status.code ≡ NotSupported) × IsTooLarge entries pair.0 pair.1)
+IsNotAdded entries count pair status =
+    IsOutOfMemory status ⊎ IsTooLong (count + 1) status ⊎ ((status.code ≡ NotSupported) × IsTooLarge entries pair.0 pair.1)
 
 -- these bytes are stored under the id for a block of these pairs
 pub record IsStored (codings : Codings) (id : ℕ) (cmp : List ℕ → List ℕ → Ordering) (pairs : List Pair) (stored : List ℕ) : Type 0 where
@@ -56,11 +57,15 @@ module _ {C FP : Type 0} {order : CmpGhosts C} {policy : PolicyGhosts FP} (codin
 
     -- nothing was put, or the open block's put was tried, whatever came of it
     abbrev pub TriesOpen : S → S → Type 0
-    TriesOpen from to = (to ≡ from) ⊎ ((stored : List ℕ) × IsStored codings core.compressor (order.cmp core.block.cmp) (stage core).open_pairs stored × (result : Result (Unit {0}) Status) × puts from (with_trailer core.compressor stored) result to)
+    TriesOpen from to =
+        (to ≡ from) ⊎ ((stored : List ℕ) × IsStored codings core.compressor (order.cmp core.block.cmp) (stage core).open_pairs stored
+        × (result : Result (Unit {0}) Status) × puts from (with_trailer core.compressor stored) result to)
 
     -- the open block was put
     abbrev pub PutsOpen : S → Handle → S → Type 0
-    PutsOpen from handle to = (stored : List ℕ) × IsStored codings core.compressor (order.cmp core.block.cmp) (stage core).open_pairs stored × (end : ℕ) × PutsBlock puts core.compressor stored from core.offset handle end to
+    PutsOpen from handle to =
+        (stored : List ℕ) × IsStored codings core.compressor (order.cmp core.block.cmp) (stage core).open_pairs stored
+        × (end : ℕ) × PutsBlock puts core.compressor stored from core.offset handle end to
 
     -- why the open block wasn't closed before this key: want of memory, or it wasn't put, or it was put and got no line or no filter
     abbrev pub IsNotClosed : List ℕ → S → Status → S → Type 0

@@ -36,16 +36,35 @@ abbrev pub policy_of : {C FP : Type 0} {order : CmpGhosts C} {policy : PolicyGho
 policy_of core = core.filter.policy
 
 -- the index's keys and behind them those of the open block rise, and the open block's filter is open
-abbrev pub IsReady : {C FP : Type 0} {order : CmpGhosts C} {policy : PolicyGhosts FP} → (C → List ℕ → Bool) → (C → List ℕ → List ℕ → Ordering) → BuilderCore C FP order policy → Type 0
+abbrev pub IsReady : {C FP : Type 0} {order : CmpGhosts C} {policy : PolicyGhosts FP}
+    → (C → List ℕ → Bool) → (C → List ℕ → List ℕ → Ordering) → BuilderCore C FP order policy → Type 0
 IsReady accepts cmp core = AreReady (accepts core.block.cmp) (cmp core.block.cmp) (cmp core.index.cmp) (stage core)
 
 -- and this key is after them
-abbrev pub Ready : {C FP : Type 0} {order : CmpGhosts C} {policy : PolicyGhosts FP} → (C → List ℕ → Bool) → (C → List ℕ → List ℕ → Ordering) → BuilderCore C FP order policy → List ℕ → Type 0
+abbrev pub Ready : {C FP : Type 0} {order : CmpGhosts C} {policy : PolicyGhosts FP}
+    → (C → List ℕ → Bool) → (C → List ℕ → List ℕ → Ordering) → BuilderCore C FP order policy → List ℕ → Type 0
 Ready accepts cmp core next = IsReady accepts cmp core × Follows (accepts core.block.cmp) (cmp core.block.cmp) (stage core) next
+
+-- the open block can be closed before this key: it has a pair, and the key is accepted and at or behind the last one
+pub record IsClosable {C FP : Type 0} {order : CmpGhosts C} {policy : PolicyGhosts FP} (accepts : C → List ℕ → Bool) (cmp : C → List ℕ → List ℕ → Ordering)
+    (core : BuilderCore C FP order policy) (next : List ℕ) : Type 0 where
+  pub ready : IsReady accepts cmp core
+  pub some : (stage core).open_pairs ≢ []
+  pub accepted : accepts (order_of core) next ≡ true
+  pub behind : cmp (order_of core) (last_of core) next ≢ Greater
+
+-- the comparator, the policy, the coder and the sizes stay
+pub record KeepsChoices {C FP : Type 0} {order : CmpGhosts C} {policy : PolicyGhosts FP} (old new : BuilderCore C FP order policy) : Type 0 where
+  pub same_order : order_of new ≡ order_of old
+  pub same_policy : policy_of new ≡ policy_of old
+  pub same_coder : new.compressor ≡ old.compressor
+  pub same_size : new.block_size ≡ old.block_size
+  pub same_intervals : (new.block.interval ≡ old.block.interval) × (new.index.interval ≡ old.index.interval)
 
 -- The builder has put these bytes, and these pairs were added. What its comparator accepts, how that orders and separates keys, and
 -- what its policy matches, are given for the comparator and the policy that it has.
-abbrev pub IsBegun : {C FP : Type 0} {order : CmpGhosts C} {policy : PolicyGhosts FP} → Codings → (C → List ℕ → Bool) → (C → List ℕ → List ℕ → Ordering) → (C → List ℕ → List ℕ → List ℕ) → (FP → List ℕ → List ℕ → Bool)
+abbrev pub IsBegun : {C FP : Type 0} {order : CmpGhosts C} {policy : PolicyGhosts FP}
+    → Codings → (C → List ℕ → Bool) → (C → List ℕ → List ℕ → Ordering) → (C → List ℕ → List ℕ → List ℕ) → (FP → List ℕ → List ℕ → Bool)
     → BuilderCore C FP order policy → List ℕ → List Pair → Type 0
 IsBegun {policy = policy} codings accepts cmp sep matches core written pairs =
     IsLaid (Decodes codings) (accepts core.block.cmp) (cmp core.block.cmp) (sep core.block.cmp) (matches core.filter.policy) (policy.filter_for core.filter.policy) core.compressor
@@ -77,7 +96,8 @@ GoesByUsers user matches = (key other filter : List ℕ) → user key ≡ user o
 -- The file is a table of these pairs, its blocks stand one behind the other, and its one filter block is the named policy's: it has the
 -- filters of the blocks' keys. The index keys are separators, and the last one separates the last key from the successor of it.
 pub record BuildsTable (codings : Codings) (accepts : List ℕ → Bool) (cmp : List ℕ → List ℕ → Ordering) (sep : List ℕ → List ℕ → List ℕ) (succ : List ℕ → List ℕ)
-    (meaning : List ℕ → Option (List ℕ → List ℕ → Bool)) (user : List ℕ → List ℕ) (matches : List ℕ → List ℕ → Bool) (make : List (List ℕ) → List ℕ) (id : ℕ) (policy file : List ℕ) (pairs : List Pair) : Type 0 where
+    (meaning : List ℕ → Option (List ℕ → List ℕ → Bool)) (user : List ℕ → List ℕ) (matches : List ℕ → List ℕ → Bool)
+    (make : List (List ℕ) → List ℕ) (id : ℕ) (policy file : List ℕ) (pairs : List Pair) : Type 0 where
   pub table : IsTable (Decodes codings) cmp meaning user file pairs
   pub filter : Handle
   pub written : IsWritten file id policy table.parts table.metas filter table.meta table.index
@@ -102,7 +122,8 @@ abbrev pub IsPlaced : ℕ → List ℕ → Handle → Type 0
 IsPlaced offset stored handle = (handle.offset ≡ offset) × (handle.size ≡ length stored) × HandleFits handle
 
 -- no block is open, and where there are keys, this accepted key is the successor of the last and at or after it
-pub record IsLast {FP : Type 0} (accepts : List ℕ → Bool) (cmp : List ℕ → List ℕ → Ordering) (succ : List ℕ → List ℕ) (stage : Stage FP) (next : List ℕ) (pairs : List Pair) : Type 0 where
+pub record IsLast {FP : Type 0} (accepts : List ℕ → Bool) (cmp : List ℕ → List ℕ → Ordering) (succ : List ℕ → List ℕ)
+    (stage : Stage FP) (next : List ℕ) (pairs : List Pair) : Type 0 where
   pub none_open : stage.open_pairs ≡ []
   pub accepted : stage.lines ≢ [] → accepts next ≡ true
   pub behind : stage.lines ≢ [] → cmp (last_added pairs) next ≢ Greater
@@ -110,7 +131,8 @@ pub record IsLast {FP : Type 0} (accepts : List ℕ → Bool) (cmp : List ℕ �
 
 -- What follows the data blocks: the filters as they are, the metaindex and the index stored under the id, and the footer. With it the
 -- file has so many bytes.
-pub record IsEnd {FP : Type 0} (Decodes : ℕ → List ℕ → List ℕ → Type 0) (cmp : List ℕ → List ℕ → Ordering) (make : List (List ℕ) → List ℕ) (id : ℕ) (name : List ℕ) (stage : Stage FP) (bytes : List ℕ) (size : ℕ) : Type 0 where
+pub record IsEnd {FP : Type 0} (Decodes : ℕ → List ℕ → List ℕ → Type 0) (cmp : List ℕ → List ℕ → Ordering) (make : List (List ℕ) → List ℕ)
+    (id : ℕ) (name : List ℕ) (stage : Stage FP) (bytes : List ℕ) (size : ℕ) : Type 0 where
   pub filters : List ℕ
   pub meta_text : List ℕ
   pub meta_stored : List ℕ
@@ -132,7 +154,8 @@ pub record IsEnd {FP : Type 0} (Decodes : ℕ → List ℕ → List ℕ → Type
 
 module _ {S : Type 0} (puts : S → List ℕ → Result (Unit {0}) Status → S → Type 0) where
   -- The open block was put, or it had room: the file so far is laid out, and the next key goes into the open block.
-  pub record MakesRoom {FP : Type 0} (old : List ℕ → List Pair → Type 0) (Decodes : ℕ → List ℕ → List ℕ → Type 0) (accepts : List ℕ → Bool) (cmp : List ℕ → List ℕ → Ordering) (sep : List ℕ → List ℕ → List ℕ)
+  pub record MakesRoom {FP : Type 0} (old : List ℕ → List Pair → Type 0) (Decodes : ℕ → List ℕ → List ℕ → Type 0)
+      (accepts : List ℕ → Bool) (cmp : List ℕ → List ℕ → Ordering) (sep : List ℕ → List ℕ → List ℕ)
       (matches : List ℕ → List ℕ → Bool) (make : List (List ℕ) → List ℕ) (id : ℕ) (new : Stage FP) (next : List ℕ) (from to : S) : Type 0 where
     pub bytes : List ℕ
     pub put : PutsAll puts from bytes to
@@ -154,16 +177,18 @@ module _ {S : Type 0} (puts : S → List ℕ → Result (Unit {0}) Status → S 
     pub made : (written : List ℕ) (pairs : List Pair) → old written pairs → table (written ++ bytes) pairs × (size ≡ length (written ++ bytes))
 
   -- the open block was put, or it was empty: the file so far is laid out, and this key stands behind all blocks
-  pub record ClosesLast {FP : Type 0} (old : List ℕ → List Pair → Type 0) (Decodes : ℕ → List ℕ → List ℕ → Type 0) (accepts : List ℕ → Bool) (cmp : List ℕ → List ℕ → Ordering) (sep : List ℕ → List ℕ → List ℕ)
+  pub record ClosesLast {FP : Type 0} (old : List ℕ → List Pair → Type 0) (Decodes : ℕ → List ℕ → List ℕ → Type 0)
+      (accepts : List ℕ → Bool) (cmp : List ℕ → List ℕ → Ordering) (sep : List ℕ → List ℕ → List ℕ)
       (succ : List ℕ → List ℕ) (matches : List ℕ → List ℕ → Bool) (make : List (List ℕ) → List ℕ) (id : ℕ) (new : Stage FP) (from to : S) : Type 0 where
     pub next : List ℕ
     pub bytes : List ℕ
     pub put : PutsAll puts from bytes to
-    pub laid : (written : List ℕ) (pairs : List Pair) → old written pairs → IsLaid Decodes accepts cmp sep matches make id new next (written ++ bytes) pairs × IsLast accepts cmp succ new next pairs
+    pub laid : (written : List ℕ) (pairs : List Pair) → old written pairs
+        → IsLaid Decodes accepts cmp sep matches make id new next (written ++ bytes) pairs × IsLast accepts cmp succ new next pairs
 
   -- what follows the data blocks was put, and then the sink was flushed
-  pub record PutsEnd {FP : Type 0} (flushes : S → Result (Unit {0}) Status → S → Type 0) (Decodes : ℕ → List ℕ → List ℕ → Type 0) (cmp : List ℕ → List ℕ → Ordering) (make : List (List ℕ) → List ℕ)
-      (id : ℕ) (name : List ℕ) (stage : Stage FP) (from : S) (size : ℕ) (to : S) : Type 0 where
+  pub record PutsEnd {FP : Type 0} (flushes : S → Result (Unit {0}) Status → S → Type 0) (Decodes : ℕ → List ℕ → List ℕ → Type 0)
+      (cmp : List ℕ → List ℕ → Ordering) (make : List (List ℕ) → List ℕ) (id : ℕ) (name : List ℕ) (stage : Stage FP) (from : S) (size : ℕ) (to : S) : Type 0 where
     pub bytes : List ℕ
     pub mid : S
     pub ended : IsEnd Decodes cmp make id name stage bytes size

@@ -13,7 +13,7 @@ use Rattle.leveldb_table.specs.Table.{Part, IsPart, AreAccepted, HasBlockAt, ind
 use Rattle.leveldb_table.specs.TableCached.{HoldsOf, IsOf, Gathers}
 use Rattle.leveldb_table.specs.TableReading.{pairs_in, HasParts}
 use Rattle.leveldb_table.specs.TableReads.{Whatever, IsLacking, IsNamedIn, Reads}
-use Rattle.leveldb_table.specs.TableWalk.{IsNamed, StandsIn, Stands, IsFrom, inner_place, pairs_over, place_over}
+use Rattle.leveldb_table.specs.TableWalk.{IsNamed, StandsIn, Stands, GivenParts, IsFrom, inner_place, pairs_over, place_over}
 use Rattle.leveldb_table.specs.declared.block.Block.{Block}
 use Rattle.leveldb_table.specs.declared.block_cache.CachedBlock.{CachedBlock}
 use Rattle.leveldb_table.specs.declared.table_reader.walk.TableCore.{TableCore}
@@ -72,13 +72,15 @@ module _ {C : Type 0} {order : CmpGhosts C} where
     pub ordered : order.cmp core.index.block.cmp ≡ cmp
 
   -- As a move does, but from a line of the index: where the file has data blocks, the walk goes to the place that is fit for them.
-  pub record Enters {E F T : Type 0} (env : EnvGhosts E F) (codings : Codings) (cmp : List ℕ → List ℕ → Ordering) (id : ℕ) (file : F) (Fit : List Part → Option ℕ → Type 0)
-      (Step : Codings → (List ℕ → List ℕ → Ordering) → List ℕ → TableCore C order → TableCore C order → Type 0)
-      (old_env : E) (old_cache : Cached (CachedBlock C order)) (old : TableCore C order) (result : Result T Status) (new_env : E) (new_cache : Cached (CachedBlock C order)) (new : TableCore C order) : Type 0 where
-    pub reads : Reads env (IsLacking env codings (IsNamedIn (pairs_over old.index)) (λ bytes. (parts : List Part) (place : Option ℕ) → HasParts codings cmp bytes parts → Fit parts place → HoldsOf codings cmp id bytes old_cache → IsIndexed cmp parts old → ⊥) old_env file)
-        old_env file new_env result
-    pub ok : Whatever env old_env file (λ bytes. (parts : List Part) (place : Option ℕ) → HasParts codings cmp bytes parts → Fit parts place → HoldsOf codings cmp id bytes old_cache → IsIndexed cmp parts old
-        → OnOk result (Stands cmp parts new place))
+  pub record Enters {E F T : Type 0} (env : EnvGhosts E F) (codings : Codings) (cmp : List ℕ → List ℕ → Ordering) (id : ℕ) (file : F)
+      (Fit : List Part → Option ℕ → Type 0) (Step : Codings → (List ℕ → List ℕ → Ordering) → List ℕ → TableCore C order → TableCore C order → Type 0)
+      (old_env : E) (old_cache : Cached (CachedBlock C order)) (old : TableCore C order) (result : Result T Status)
+      (new_env : E) (new_cache : Cached (CachedBlock C order)) (new : TableCore C order) : Type 0 where
+    pub reads : Reads env (IsLacking env codings (IsNamedIn (pairs_over old.index)) (λ bytes.
+        GivenParts codings cmp id bytes old_cache Fit (λ parts place. IsIndexed cmp parts old) (λ parts place. ⊥))
+        old_env file) old_env file new_env result
+    pub ok : Whatever env old_env file (λ bytes.
+        GivenParts codings cmp id bytes old_cache Fit (λ parts place. IsIndexed cmp parts old) (λ parts place. OnOk result (Stands cmp parts new place)))
     pub steps : Whatever env old_env file (λ bytes. HoldsOf codings cmp id bytes old_cache → OnOk result (Step codings cmp bytes old new))
     pub from : Whatever env old_env file (λ bytes. HoldsOf codings cmp id bytes old_cache → IsFrom codings cmp bytes new)
     pub err : OnErr result (inner_place new.inner ≡ None)

@@ -1,14 +1,14 @@
 -- What a move of a walk over a table does from block to block, whatever its file is: it reads each block on its way, in order, and passes over
 -- none.
 use Rattle.std.specs.Prelude.{◌≡◌, ◌≢◌, ◌+◌, ℕ, Bool, true, false, List, [], Option, None, Some}
-use Rattle.std.specs.Option.{IsSomeAnd}
 use Rattle.std.specs.declared.cmp.Ordering.{Ordering}
-use Rattle.leveldb_base.specs.Handle.{Handle, handle_bytes}
+use Rattle.leveldb_base.specs.Handle.{Handle}
 use Rattle.leveldb_base.specs.Places.{Pair, place_within, next_place, previous_place, seek_place, pair_at}
 use Rattle.leveldb_base.specs.declared.cmp.Cmp.{Ghosts as CmpGhosts}
 use Rattle.leveldb_options.specs.Coders.{Codings}
 use Rattle.leveldb_table.specs.Block.{IsBlock}
 use Rattle.leveldb_table.specs.TableReading.{lines_of, lets}
+use Rattle.leveldb_table.specs.TableReads.{IsNamedBy}
 use Rattle.leveldb_table.specs.TableWalk.{IsNamed, inner_pairs, inner_place, pairs_over, place_over}
 use Rattle.leveldb_table.specs.Walk.{last_place}
 use Rattle.leveldb_table.specs.declared.table_reader.Table.{Table}
@@ -87,7 +87,7 @@ module _ (HasBlock : ℕ → List Pair → Type 0) where
     -- the same where the filters let the key pass at the offset of the handle that the line names
     pub record LooksIn (cmp : List ℕ → List ℕ → Ordering) (lets : ℕ → List ℕ → Bool) (key : List ℕ) (line : ℕ) (new : TablePlace) : Type 0 where
       pub handle : Handle
-      pub names : IsSomeAnd (pair_at lines (Some line)) (λ pair. pair.1 ≡ handle_bytes handle)
+      pub names : IsNamedBy (pair_at lines (Some line)) handle
       pub goes : SeeksIfLet (lets handle.offset key) cmp key line new
 
     abbrev pub Looks : (List ℕ → List ℕ → Ordering) → (ℕ → List ℕ → Bool) → List ℕ → Option ℕ → TablePlace → Type 0

@@ -1,5 +1,6 @@
 -- What an open table is, and what is found in it.
-use Rattle.std.specs.Prelude.{◌≡◌, ◌≢◌, ◌⊎◌, ◌+◌, ◌<◌, ◌^◌, ℕ, Bool, true, false, if◌then◌else◌, List, [], ◌∷◌, ◌++◌, length, map, flat_map, Option, None, Some, IfSome, IsTrue, IsSomeAnd}
+use Rattle.std.specs.Prelude.{◌≡◌, ◌≢◌, ◌⊎◌, ◌+◌, ◌<◌, ◌^◌, ℕ, Bool, true, false, if◌then◌else◌, List, [], ◌∷◌, ◌++◌, length, map, flat_map}
+use Rattle.std.specs.Prelude.{Option, None, Some, IfSome, IsTrue, IsSomeAnd}
 use Rattle.std.specs.List.{AllByRecursion}
 use Rattle.std.specs.Map.{lookup}
 use Rattle.std.specs.Str.{bytes_eq}
@@ -86,7 +87,8 @@ found_in cmp lets key parts =
 -- ---- what holds of tables that are opened
 
 -- The table can be opened, and the filters, where it has some, let pass what they must.
-pub record OpensWell (codings : Codings) (cmp : List ℕ → List ℕ → Ordering) (matches : List ℕ → List ℕ → Bool) (user : List ℕ → List ℕ) (name bytes : List ℕ) (parts : List Part) : Type 0 where
+pub record OpensWell (codings : Codings) (cmp : List ℕ → List ℕ → Ordering) (matches : List ℕ → List ℕ → Bool)
+    (user : List ℕ → List ℕ) (name bytes : List ℕ) (parts : List Part) : Type 0 where
   pub lines : List Pair
   pub meta : Handle
   pub index : Handle

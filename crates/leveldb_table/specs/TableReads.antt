@@ -100,4 +100,5 @@ module _ {E F : Type 0} (env : Ghosts E F) where
   -- the footer of the file, where it has this size, names the handle for its metaindex or its index
   abbrev pub IsInFooter : ℕ → E → F → Handle → Type 0
   IsInFooter size state file handle =
-      Whatever state file (λ bytes. length bytes ≡ size → (front : List ℕ) × (meta index : Handle) × (bytes ≡ front ++ footer_bytes meta index) × ((handle ≡ meta) ⊎ (handle ≡ index)))
+      Whatever state file (λ bytes. length bytes ≡ size
+          → (front : List ℕ) × (meta index : Handle) × (bytes ≡ front ++ footer_bytes meta index) × ((handle ≡ meta) ⊎ (handle ≡ index)))

@@ -40,10 +40,11 @@ AreSeparated sep (part ∷ other ∷ parts) next = (part.index_key ≡ sep (last
 abbrev pub KeepsAll : {FP : Type 0} → (List ℕ → List ℕ → Bool) → Building FP → ℕ → List Pair → Type 0
 KeepsAll matches building offset pairs = AllByRecursion (λ pair. IsKept matches building.filters building.keys offset pair.0) pairs
 
--- The file so far has these data blocks one behind the other, stored under the id, and they and the open block have these pairs. The next key, which stands
--- behind the blocks, is the open block's first where it has one. The filters that are made are those of these blocks.
-pub record IsLaid {FP : Type 0} (Decodes : ℕ → List ℕ → List ℕ → Type 0) (accepts : List ℕ → Bool) (cmp : List ℕ → List ℕ → Ordering) (sep : List ℕ → List ℕ → List ℕ) (matches : List ℕ → List ℕ → Bool)
-    (make : List (List ℕ) → List ℕ) (id : ℕ) (stage : Stage FP) (next written : List ℕ) (pairs : List Pair) : Type 0 where
+-- The file so far has these data blocks one behind the other, stored under the id, and they and the open block have these pairs. The next
+-- key, which stands behind the blocks, is the open block's first where it has one. The filters that are made are those of these blocks.
+pub record IsLaid {FP : Type 0} (Decodes : ℕ → List ℕ → List ℕ → Type 0) (accepts : List ℕ → Bool) (cmp : List ℕ → List ℕ → Ordering)
+    (sep : List ℕ → List ℕ → List ℕ) (matches : List ℕ → List ℕ → Bool) (make : List (List ℕ) → List ℕ) (id : ℕ)
+    (stage : Stage FP) (next written : List ℕ) (pairs : List Pair) : Type 0 where
   pub parts : List Part
   pub each : AllByRecursion (IsPart Decodes cmp written) parts
   pub under : AllByRecursion (λ part. StandsUnder written id part.handle) parts
@@ -80,8 +81,8 @@ pub record IsSound {FP : Type 0} (accepts : List ℕ → Bool) (cmp index_cmp : 
   pub none : stage.count ≡ 0 → stage.lines ++ stage.open_pairs ≡ []
 
 -- The open block is put behind the file, stored under the id, and gets its line in the index.
-pub record Closes {FP : Type 0} (Decodes : ℕ → List ℕ → List ℕ → Type 0) (cmp : List ℕ → List ℕ → Ordering) (sep : List ℕ → List ℕ → List ℕ) (make : List (List ℕ) → List ℕ)
-    (id : ℕ) (next : List ℕ) (old : Stage FP) (bytes : List ℕ) (new : Stage FP) : Type 0 where
+pub record Closes {FP : Type 0} (Decodes : ℕ → List ℕ → List ℕ → Type 0) (cmp : List ℕ → List ℕ → Ordering)
+    (sep : List ℕ → List ℕ → List ℕ) (make : List (List ℕ) → List ℕ) (id : ℕ) (next : List ℕ) (old : Stage FP) (bytes : List ℕ) (new : Stage FP) : Type 0 where
   pub text : List ℕ
   pub stored : List ℕ
   pub handle : Handle

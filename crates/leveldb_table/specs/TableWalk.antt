@@ -96,17 +96,27 @@ module _ {C : Type 0} {order : CmpGhosts C} where
   abbrev pub IsFrom : Codings → (List ℕ → List ℕ → Ordering) → List ℕ → TableCore C order → Type 0
   IsFrom codings cmp bytes core = IsFromInner codings cmp bytes (pair_at (pairs_over core.index) (place_over core.index)) core.inner
 
+  -- Then is so wherever the file has data blocks that are fit, what the cache holds under the number is the file's, and At says where the walk is.
+  abbrev pub GivenParts : Codings → (List ℕ → List ℕ → Ordering) → ℕ → List ℕ → Cached (CachedBlock C order)
+      → (Fit At Then : List Part → Option ℕ → Type 0) → Type 0
+  GivenParts codings cmp id bytes cache Fit At Then = (parts : List Part) (place : Option ℕ)
+      → HasParts codings cmp bytes parts → Fit parts place → HoldsOf codings cmp id bytes cache → At parts place → Then parts place
+
   -- A move of a walk over a table's file, with this number in a cache of blocks: where the file has data blocks that are fit, the walk
   -- goes from its place among their pairs to this one, or is refused for want of memory or at a failure of the device. Whatever the file
   -- is, an Ok move is such a step from block to block, and the walk then stands on a pair of a block that the index names, or on none;
   -- after an Err on none.
-  pub record Moves {E F T : Type 0} (env : EnvGhosts E F) (codings : Codings) (cmp : List ℕ → List ℕ → Ordering) (id : ℕ) (file : F) (Fit : List Part → Type 0) (to : List Pair → Option ℕ → Option ℕ)
+  pub record Moves {E F T : Type 0} (env : EnvGhosts E F) (codings : Codings) (cmp : List ℕ → List ℕ → Ordering) (id : ℕ) (file : F)
+      (Fit : List Part → Type 0) (to : List Pair → Option ℕ → Option ℕ)
       (Step : Codings → (List ℕ → List ℕ → Ordering) → List ℕ → TableCore C order → TableCore C order → Type 0)
-      (old_env : E) (old_cache : Cached (CachedBlock C order)) (old : TableCore C order) (result : Result T Status) (new_env : E) (new_cache : Cached (CachedBlock C order)) (new : TableCore C order) : Type 0 where
-    pub reads : Reads env (IsLacking env codings (IsNamedIn (pairs_over old.index)) (λ bytes. (parts : List Part) (place : Option ℕ) → HasParts codings cmp bytes parts → Fit parts → HoldsOf codings cmp id bytes old_cache → Stands cmp parts old place → ⊥) old_env file)
-        old_env file new_env result
-    pub ok : Whatever env old_env file (λ bytes. (parts : List Part) (place : Option ℕ) → HasParts codings cmp bytes parts → Fit parts → HoldsOf codings cmp id bytes old_cache → Stands cmp parts old place
-        → OnOk result (Stands cmp parts new (to (pairs_in parts) place)))
+      (old_env : E) (old_cache : Cached (CachedBlock C order)) (old : TableCore C order) (result : Result T Status)
+      (new_env : E) (new_cache : Cached (CachedBlock C order)) (new : TableCore C order) : Type 0 where
+    pub reads : Reads env (IsLacking env codings (IsNamedIn (pairs_over old.index)) (λ bytes.
+        GivenParts codings cmp id bytes old_cache (λ parts place. Fit parts) (λ parts place. Stands cmp parts old place) (λ parts place. ⊥))
+        old_env file) old_env file new_env result
+    pub ok : Whatever env old_env file (λ bytes.
+        GivenParts codings cmp id bytes old_cache (λ parts place. Fit parts) (λ parts place. Stands cmp parts old place)
+        (λ parts place. OnOk result (Stands cmp parts new (to (pairs_in parts) place))))
     pub steps : Whatever env old_env file (λ bytes. HoldsOf codings cmp id bytes old_cache → OnOk result (Step codings cmp bytes old new))
     pub from : Whatever env old_env file (λ bytes. HoldsOf codings cmp id bytes old_cache → IsFrom codings cmp bytes old → IsFrom codings cmp bytes new)
     pub err : OnErr result (inner_place new.inner ≡ None)

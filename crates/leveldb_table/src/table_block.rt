@@ -7,7 +7,7 @@ ghost use Rattle.leveldb_table.specs.Table.{StoresAt, HasBlockAt, with_trailer};
 ghost use Rattle.leveldb_table.specs.TableReads.{EndsBefore, StoresNothing, HasNoBlock, HasNoFilters, Reads, Whatever, FailsFor, IsUndecoded, IsDamaged, IsLacking};
 
 use crate::block::Block;
-use crate::table_builder::{TABLE_BLOCK_CKSUM_LEN, TABLE_BLOCK_COMPRESS_LEN};
+use crate::table_builder::{TABLE_BLOCK_COMPRESS_LEN, TRAILER};
 use bytes::Bytes;
 use leveldb_base::blockhandle::BlockHandle;
 use leveldb_base::cmp::Cmp;
@@ -18,9 +18,6 @@ use leveldb_options::compressor::{Coders, Compressor, CompressorList};
 use leveldb_options::filter::FilterPolicy;
 use leveldb_options::filter_block::FilterBlockReader;
 use std::alloc::Global;
-
-// How many bytes the trailer has.
-const TRAILER: usize = TABLE_BLOCK_COMPRESS_LEN + TABLE_BLOCK_CKSUM_LEN;
 
 // At least so much room is made for a read, and not more than twice of what the file gave.
 const STEP: usize = 1 << 16;

@@ -6,7 +6,7 @@ ghost use Rattle.leveldb_table.specs.TablePuts.{GivesUp, EndsEarly};
 ghost use Rattle.leveldb_base.specs.Status.{IsOutOfMemory};
 ghost use Rattle.leveldb_table.specs.TableStages.{with_pair};
 ghost use Rattle.leveldb_table.specs.TableAdds.{ClosesBlock, TriesOpen, IsRefusedAdd};
-ghost use Rattle.leveldb_table.specs.TableBuilding.{stage, last_of, order_of, policy_of, IsBegun, IsBroken, IsBuilt, IsFull, table_estimate, Adds, Finishes};
+ghost use Rattle.leveldb_table.specs.TableBuilding.{stage, last_of, order_of, policy_of, KeepsChoices, IsBegun, IsBroken, IsBuilt, IsFull, table_estimate, Adds, Finishes};
 
 use crate::table_builder::builder_core::BuilderCore;
 use leveldb_base::cmp::{Cmp, InternalKeyCmp, UserCmp};
@@ -32,6 +32,9 @@ pub const TABLE_BLOCK_COMPRESS_LEN: usize = 1;
 
 /// How many bytes the checksum behind a block has.
 pub const TABLE_BLOCK_CKSUM_LEN: usize = 4;
+
+/// How many bytes the trailer behind a block has: the coder's id and the checksum.
+pub(crate) const TRAILER: usize = TABLE_BLOCK_COMPRESS_LEN + TABLE_BLOCK_CKSUM_LEN;
 
 /// A builder with the sink that its table goes to. The calls that store blocks are given the coders.
 #[derive(Drop)]
@@ -147,11 +150,7 @@ impl<Dst: Sink, C: Cmp + Copy, FP: FilterPolicy + Copy> TableBuilder<Dst, C, FP>
         ensures last { OnOk result (last_of self.new.core ≡ key.now) }
         ensures count { OnOk result (self.new.core.count ≡ self.old.core.count + 1) }
         ensures unbroken { OnOk result ((self.old.core.broken ≡ false) × (self.new.core.broken ≡ false)) }
-        ensures order { order_of self.new.core ≡ order_of self.old.core }
-        ensures policy { policy_of self.new.core ≡ policy_of self.old.core }
-        ensures coder { self.new.core.compressor ≡ self.old.core.compressor }
-        ensures size { self.new.core.block_size ≡ self.old.core.block_size }
-        ensures interval { (self.new.core.block.interval ≡ self.old.core.block.interval) × (self.new.core.index.interval ≡ self.old.core.index.interval) }
+        ensures choices { KeepsChoices self.old.core self.new.core }
         ensures refused { OnErr result (self.new.core.broken ≡ true) }
         ensures still { OnErr result (self.new.core.count ≡ self.old.core.count) }
         ensures cause { IfErr result (λ status. IsRefusedAdd (⟦<CompressorList as Coders>⟧.codings coders.now) self.old.core Dst.puts (key.now, value.now) self.old.dst status self.new.dst) }

@@ -54,7 +54,7 @@ pub struct BuilderCore<C: Cmp, FP: FilterPolicy> {
 impl<C: Cmp + Copy, FP: FilterPolicy> BuilderCore<C, FP> {
     ghost use Rattle.leveldb_table.specs.Table.{filter_key};
     ghost use Rattle.leveldb_table.specs.TableStages.{Closes, first_key, with_pair};
-    ghost use Rattle.leveldb_table.specs.TableBuilding.{stage, last_of, order_of, policy_of, IsBegun, IsBroken, IsReady, Ready, IsBuilt, IsFull, table_estimate, PutsEnd, ClosesLast, MakesRoom, Adds, Finishes};
+    ghost use Rattle.leveldb_table.specs.TableBuilding.{stage, last_of, order_of, policy_of, IsBegun, IsBroken, IsReady, Ready, IsClosable, KeepsChoices, IsBuilt, IsFull, table_estimate, PutsEnd, ClosesLast, MakesRoom, Adds, Finishes};
     ghost use Rattle.leveldb_table.specs.TableAdds.{ClosesBlock, HasRoom, TriesOpen, IsNotClosed, IsRefusedAdd};
 
     /// A builder under the options' order and policy as they are.
@@ -143,11 +143,7 @@ impl<C: Cmp + Copy, FP: FilterPolicy> BuilderCore<C, FP> {
         ensures last { OnOk result (last_of self.new ≡ key.now) }
         ensures count { OnOk result (self.new.count ≡ self.old.count + 1) }
         ensures unbroken { OnOk result ((self.old.broken ≡ false) × (self.new.broken ≡ false)) }
-        ensures order { order_of self.new ≡ order_of self.old }
-        ensures policy { policy_of self.new ≡ policy_of self.old }
-        ensures coder { self.new.compressor ≡ self.old.compressor }
-        ensures size { self.new.block_size ≡ self.old.block_size }
-        ensures interval { (self.new.block.interval ≡ self.old.block.interval) × (self.new.index.interval ≡ self.old.index.interval) }
+        ensures choices { KeepsChoices self.old self.new }
         ensures refused { OnErr result (self.new.broken ≡ true) }
         ensures still { OnErr result (self.new.count ≡ self.old.count) }
         ensures cause { IfErr result (λ status. IsRefusedAdd (⟦<CompressorList as Coders>⟧.codings coders.now) self.old S.puts (key.now, value.now) sink.old status sink.new) }
@@ -214,11 +210,7 @@ impl<C: Cmp + Copy, FP: FilterPolicy> BuilderCore<C, FP> {
         ensures full { OnOk result (IsFull self.old → (stage self.new).open_pairs ≡ []) }
         ensures has_room { OnOk result (HasRoom (⟦<CompressorList as Coders>⟧.codings coders.now) self.old S.puts next.now self.new sink.old sink.new) }
         ensures ready { OnOk result (Ready C.accepts C.cmp self.new next.now) }
-        ensures order { order_of self.new ≡ order_of self.old }
-        ensures policy { policy_of self.new ≡ policy_of self.old }
-        ensures coder { self.new.compressor ≡ self.old.compressor }
-        ensures size { self.new.block_size ≡ self.old.block_size }
-        ensures interval { (self.new.block.interval ≡ self.old.block.interval) × (self.new.index.interval ≡ self.old.index.interval) }
+        ensures choices { KeepsChoices self.old self.new }
         ensures count { self.new.count ≡ self.old.count }
         ensures broken { self.new.broken ≡ true }
         ensures cause { IfErr result (λ status. IsFull self.old × IsNotClosed (⟦<CompressorList as Coders>⟧.codings coders.now) self.old S.puts next.now sink.old status sink.new) }
@@ -261,20 +253,13 @@ impl<C: Cmp + Copy, FP: FilterPolicy> BuilderCore<C, FP> {
         next: &[u8],
     ) -> Result<()>
         requires broken { self.old.broken ≡ true }
-        requires sound { IsReady C.accepts C.cmp self.old }
-        requires some { (stage self.old).open_pairs ≢ [] }
-        requires accepted { C.accepts (order_of self.old) next.now ≡ true }
-        requires behind { C.cmp (order_of self.old) (last_of self.old) next.now ≢ Greater }
+        requires closable { IsClosable C.accepts C.cmp self.old next.now }
         ensures ok { OnOk result ((bytes : List ℕ) × S.puts sink.old bytes (Ok tt) sink.new
             × Closes (Decodes (⟦<CompressorList as Coders>⟧.codings coders.now)) (C.cmp (order_of self.old)) (C.shortest_sep (order_of self.old)) (FP.filter_for (policy_of self.old))
             self.old.compressor next.now (stage self.old) bytes (stage self.new)) }
         ensures open_filter { OnOk result (IsReady C.accepts C.cmp self.new) }
-        ensures order { order_of self.new ≡ order_of self.old }
-        ensures policy { policy_of self.new ≡ policy_of self.old }
         ensures fresh { OnOk result (self.new.block.built.0 ≡ []) }
-        ensures coder { self.new.compressor ≡ self.old.compressor }
-        ensures size { self.new.block_size ≡ self.old.block_size }
-        ensures interval { (self.new.block.interval ≡ self.old.block.interval) × (self.new.index.interval ≡ self.old.index.interval) }
+        ensures choices { KeepsChoices self.old self.new }
         ensures broken { self.new.broken ≡ true }
         ensures count { self.new.count ≡ self.old.count }
         ensures cause { IfErr result (λ status. IsNotClosed (⟦<CompressorList as Coders>⟧.codings coders.now) self.old S.puts next.now sink.old status sink.new) }

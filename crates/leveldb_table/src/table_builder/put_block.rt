@@ -5,15 +5,13 @@ ghost use Rattle.leveldb_options.specs.Coders.{Decodes, IsUnset};
 ghost use Rattle.leveldb_table.specs.Table.{with_trailer};
 ghost use Rattle.leveldb_table.specs.TablePuts.{PutsBlock, IsNotPut, IsRefused, PutsNone};
 
+use super::TRAILER;
 use leveldb_base::blockhandle::BlockHandle;
 use leveldb_base::crc::{digest, mask_crc};
 use leveldb_base::error::{Result, StatusCode, err};
 use leveldb_env::env::Sink;
 use leveldb_options::compressor::{Coders, Compressor, CompressorList};
 use std::alloc::Global;
-
-// How many bytes the trailer has: the coder's id and the checksum.
-const TRAILER: usize = 5;
 
 /// Where a block was put, and where it ends with its trailer.
 #[derive(Clone, Copy)]

@@ -46,10 +46,10 @@ returns-clause-ok g c =
       put = made.put;
       begun = λ written pairs begun.
           let laid = made.laid written pairs begun in
-          rw (c.in_ok-add.ensures.order, c.in_ok-make_room.ensures.order, c.in_ok-add.ensures.ok, c.in_ok-add_key.ensures.ok, c.in_ok-self.ensures.ok, c.make_room.ensures.coder)
+          rw (c.in_ok-add.ensures.order, c.in_ok-make_room.ensures.choices.same_order, c.in_ok-add.ensures.ok, c.in_ok-add_key.ensures.ok, c.in_ok-self.ensures.ok, c.make_room.ensures.choices.same_coder)
           (laid_added _ (g.C.Cmp.accepts old.block.cmp) (g.C.Cmp.cmp old.block.cmp) (g.C.Cmp.shortest_sep old.block.cmp) g.FP.FilterPolicy.filter_for g.FP.FilterPolicy.matches keeps
           (stage c.make_room.new.self) c.args.key.now c.args.value.now (written ++ made.bytes) pairs (c.requires.accepted c.in_ok-check_unbroken.ensures.ok) laid.1 c.in_ok-make_room.ensures.ready.0.filtered
-          (rw (sym c.in_ok-make_room.ensures.policy) at laid.0));
+          (rw (sym c.in_ok-make_room.ensures.choices.same_policy) at laid.0));
     }
 
 pub returns-clause-last : goal.returns-clause-last

@@ -30,8 +30,8 @@ add_handle-requires-clause-rise g c =
     let order = g.met.C.Cmp.preorder c.args.self.now.block.cmp in
     let separates = g.met.C.Cmp.separates c.args.self.now.block.cmp in
     let line = is_line order (g.C.Cmp.shortest_sep c.args.self.now.block.cmp) separates (pairs_of _ c.args.self.now.index.built.0) (pairs_of _ c.args.self.now.block.built.0) c.args.next.now (handle_bytes c.in_ok-placed.placed.handle)
-    c.requires.some c.requires.sound.rise c.requires.sound.accepted c.requires.accepted c.requires.behind in
-    rw (c.requires.sound.order, c.deref.ensures.value, c.in_ok-separator.ensures.ok, c.order.ensures, c.last_key-last.ensures) line.rise
+    c.requires.closable.some c.requires.closable.ready.rise c.requires.closable.ready.accepted c.requires.closable.accepted c.requires.closable.behind in
+    rw (c.requires.closable.ready.order, c.deref.ensures.value, c.in_ok-separator.ensures.ok, c.order.ensures, c.last_key-last.ensures) line.rise
 
 pub returns-in_err-add_handle-clause-cause : goal.returns-in_err-add_handle-clause-cause
 returns-in_err-add_handle-clause-cause g c =
@@ -96,9 +96,9 @@ returns-clause-open_filter g c =
     let order = g.met.C.Cmp.preorder c.args.self.now.block.cmp in
     let separates = g.met.C.Cmp.separates c.args.self.now.block.cmp in
     let line = is_line order (g.C.Cmp.shortest_sep c.args.self.now.block.cmp) separates (pairs_of _ c.args.self.now.index.built.0) (pairs_of _ c.args.self.now.block.built.0) c.args.next.now (handle_bytes c.in_ok-placed.placed.handle)
-    c.requires.some c.requires.sound.rise c.requires.sound.accepted c.requires.accepted c.requires.behind in
+    c.requires.closable.some c.requires.closable.ready.rise c.requires.closable.ready.accepted c.requires.closable.accepted c.requires.closable.behind in
     OnOk-with c.start_block.result _ _ (λ opened. record {
-      order = rw (c.in_ok-add_handle.ensures.order, c.replace.ensures.after, c.fresh-fresh.ensures.order) c.requires.sound.order;
+      order = rw (c.in_ok-add_handle.ensures.order, c.replace.ensures.after, c.fresh-fresh.ensures.order) c.requires.closable.ready.order;
       rise = rw (c.replace.ensures.after, c.fresh-fresh.ensures.order, c.fresh-fresh.ensures.none, append-nil, c.in_ok-add_handle.ensures.ok, c.deref.ensures.value, c.in_ok-separator.ensures.ok, c.order.ensures, c.last_key-last.ensures) line.rise;
       accepted = rw (c.replace.ensures.after, c.fresh-fresh.ensures.order, c.fresh-fresh.ensures.none, append-nil, c.in_ok-add_handle.ensures.ok, c.deref.ensures.value, c.in_ok-separator.ensures.ok, c.order.ensures, c.last_key-last.ensures) line.accepted;
       filtered = sym opened;

@@ -12,21 +12,18 @@ use Rattle.leveldb_table.proofs.TableGrows.{laid_closed, last_open, some_pairs}
 use Rattle.leveldb_table.proofs.TableMade.{succeeds_last}
 use Rattle.leveldb_table.proofs.table_builder.builder_core.BuilderCore.close_last.Goals as goal
 
-pub close_block-requires-clause-accepted : goal.close_block-requires-clause-accepted
-close_block-requires-clause-accepted g c =
+pub close_block-requires-clause-closable : goal.close_block-requires-clause-closable
+close_block-requires-clause-closable g c =
     let self = c.args.self.now in
     let some = some_pairs self.block.built.0 (omega (arith, c.if-entries-eq0.false, c.entries.ensures)) in
     let is = succeeds_last (g.met.C.Cmp.preorder self.block.cmp) (g.C.Cmp.short_succ self.block.cmp) (g.met.C.Cmp.succeeds self.block.cmp) (pairs_of None self.index.built.0) (pairs_of None self.block.built.0)
     some c.requires.sound.accepted in
-    rw (c.deref.ensures.value, c.in_ok-next.ensures.ok, c.order.ensures, c.last_key-last.ensures) is.0
-
-pub close_block-requires-clause-behind : goal.close_block-requires-clause-behind
-close_block-requires-clause-behind g c =
-    let self = c.args.self.now in
-    let some = some_pairs self.block.built.0 (omega (arith, c.if-entries-eq0.false, c.entries.ensures)) in
-    let is = succeeds_last (g.met.C.Cmp.preorder self.block.cmp) (g.C.Cmp.short_succ self.block.cmp) (g.met.C.Cmp.succeeds self.block.cmp) (pairs_of None self.index.built.0) (pairs_of None self.block.built.0)
-    some c.requires.sound.accepted in
-    rw (c.deref.ensures.value, c.in_ok-next.ensures.ok, c.order.ensures, c.last_key-last.ensures) is.1
+    record {
+      ready = c.requires.sound;
+      some = some;
+      accepted = rw (c.deref.ensures.value, c.in_ok-next.ensures.ok, c.order.ensures, c.last_key-last.ensures) is.0;
+      behind = rw (c.deref.ensures.value, c.in_ok-next.ensures.ok, c.order.ensures, c.last_key-last.ensures) is.1;
+    }
 
 pub returns-clause-ok : goal.returns-clause-ok
 returns-clause-ok g c =
@@ -42,7 +39,7 @@ returns-clause-ok g c =
       put = PutsAll-one g.S.Sink.puts closed.1;
       laid = λ written pairs begun. (
         laid_closed _ (g.C.Cmp.accepts self.block.cmp) cmp (g.C.Cmp.shortest_sep self.block.cmp) g.FP.FilterPolicy.filter_for g.FP.FilterPolicy.matches keeps
-            (stage self) (stage c.close_block.new.self) self.compressor c.deref.result.now closed.0 written pairs some c.close_block.ensures.policy closed.2 begun,
+            (stage self) (stage c.close_block.new.self) self.compressor c.deref.result.now closed.0 written pairs some c.close_block.ensures.choices.same_policy closed.2 begun,
         record {
           none_open = closed.2.none_open;
           accepted = λ _. rw (c.deref.ensures.value, c.in_ok-next.ensures.ok, c.order.ensures, c.last_key-last.ensures) is.0;

@@ -11,11 +11,16 @@ use Rattle.leveldb_table.proofs.table_builder.builder_core.BuilderCore.make_room
 use Rattle.leveldb_table.proofs.TableGrows.{laid_anew, follows_closed, laid_room, follows_all, behind_open, some_pairs}
 use Rattle.leveldb_table.proofs.table_builder.builder_core.BuilderCore.make_room.Goals as goal
 
-pub close_block-requires-clause-behind : goal.close_block-requires-clause-behind
-close_block-requires-clause-behind g c =
+pub close_block-requires-clause-closable : goal.close_block-requires-clause-closable
+close_block-requires-clause-closable g c =
     let some = some_pairs c.args.self.now.block.built.0 (omega (arith, c.if-entries-gt0.true, c.entries.ensures)) in
     let less = behind_open (g.C.Cmp.cmp c.args.self.now.block.cmp) (pairs_of None c.args.self.now.index.built.0) (pairs_of None c.args.self.now.block.built.0) c.args.next.now some c.requires.sound.1.behind in
-    λ e. let clash : Less ≡ Greater = sym less ∙ e in cc
+    record {
+      ready = c.requires.sound.0;
+      some = some;
+      accepted = c.requires.sound.1.accepted;
+      behind = λ e. let clash : Less ≡ Greater = sym less ∙ e in cc;
+    }
 
 pub returns-then-size_estimate-self-clause-ok : goal.returns-then-size_estimate-self-clause-ok
 returns-then-size_estimate-self-clause-ok g c =
@@ -27,7 +32,7 @@ returns-then-size_estimate-self-clause-ok g c =
       put = PutsAll-one g.S.Sink.puts closed.1;
       laid = λ written pairs begun. (
         laid_anew _ (g.C.Cmp.accepts c.args.self.now.block.cmp) cmp (g.C.Cmp.shortest_sep c.args.self.now.block.cmp) g.FP.FilterPolicy.filter_for g.FP.FilterPolicy.matches keeps
-            (stage c.args.self.now) (stage c.close_block.new.self) c.args.self.now.compressor c.args.next.now closed.0 written pairs some c.close_block.ensures.policy closed.2 begun,
+            (stage c.args.self.now) (stage c.close_block.new.self) c.args.self.now.compressor c.args.next.now closed.0 written pairs some c.close_block.ensures.choices.same_policy closed.2 begun,
         follows_all _ (g.C.Cmp.accepts c.args.self.now.block.cmp) cmp (g.C.Cmp.shortest_sep c.args.self.now.block.cmp) g.FP.FilterPolicy.filter_for g.FP.FilterPolicy.matches keeps (g.FP.FilterPolicy.matches c.args.self.now.filter.policy)
             (stage c.args.self.now) (first_key (stage c.args.self.now).open_pairs) c.args.next.now written pairs c.requires.some c.requires.sound.1 begun,
       );
@@ -59,7 +64,7 @@ returns-then-size_estimate-self-clause-ready g c =
     (λ e. let clash : Less ≡ Greater = sym less ∙ e in cc) in
     OnOk-both c.close_block.result _ _ _ (λ closed ready. (
       ready,
-      subst (λ o. Follows (g.C.Cmp.accepts o) (g.C.Cmp.cmp o) (stage c.close_block.new.self) c.args.next.now) (sym c.close_block.ensures.order)
+      subst (λ o. Follows (g.C.Cmp.accepts o) (g.C.Cmp.cmp o) (stage c.close_block.new.self) c.args.next.now) (sym c.close_block.ensures.choices.same_order)
           (follows_closed _ (g.C.Cmp.accepts c.args.self.now.block.cmp) cmp (g.C.Cmp.shortest_sep c.args.self.now.block.cmp) g.FP.FilterPolicy.filter_for g.FP.FilterPolicy.matches keeps
           (stage c.args.self.now) (stage c.close_block.new.self) c.args.self.now.compressor c.args.next.now closed.0 closed.2 c.requires.sound.1.accepted (line.before less)),
     ))
