@@ -173,16 +173,19 @@ fn points_fit(points: &[u8], starts: &Vec<usize>) -> bool {
     before.is_some()
 }
 
+/// The bytes of a block's entries, and those of its restart points.
+fn raw_parts(bytes: &[u8]) -> Option<(&[u8], &[u8])> {
+    let end = bytes.len().checked_sub(4)?;
+    let (front, last) = bytes.split_at(end);
+    let limit = end.checked_sub(4 * LittleEndian::read_u32(last) as usize)?;
+    Some(front.split_at(limit))
+}
+
 /// The pairs of a block, read from its grammar alone.
 fn slow_pairs(alloc: Global, bytes: &[u8]) -> Result<Option<Pairs>> {
-    let Some(end) = bytes.len().checked_sub(4) else {
+    let Some((entries, points)) = raw_parts(bytes) else {
         return Ok(None);
     };
-    let (front, last) = bytes.split_at(end);
-    let Some(limit) = end.checked_sub(4 * LittleEndian::read_u32(last) as usize) else {
-        return Ok(None);
-    };
-    let (entries, points) = front.split_at(limit);
     let mut pairs = Vec::new(alloc);
     let mut starts = Vec::new(alloc);
     let mut key = Vec::new(alloc);
