@@ -18,9 +18,9 @@ use leveldb_base::cmp::UserCmp;
 use leveldb_base::error::{Result, StatusCode, err};
 use leveldb_env::env::Env;
 use leveldb_env::env::whole_files::replace_file;
+use leveldb_log::log::{WriterCore, read_log_file};
 use leveldb_options::filter::FilterPolicy;
 use leveldb_options::options::Options;
-use leveldb_log::log::{WriterCore, read_log_file};
 use std::alloc::Global;
 
 impl<E: Env, C: UserCmp + Copy, FP: FilterPolicy + Copy> Engine<E, C, FP> {

@@ -5,9 +5,9 @@ use leveldb_base::cmp::DefaultCmp;
 use leveldb_base::error::{Result, StatusCode};
 use leveldb_env::env::Env;
 use leveldb_env::mem_env::{MemEnv, Pick, RecordEnv};
+use leveldb_mem::write_batch::WriteBatch;
 use leveldb_options::filter::BloomPolicy;
 use leveldb_options::options::Options;
-use leveldb_mem::write_batch::WriteBatch;
 use std::alloc::Global;
 
 const LOG: &str = "db/000003.log";

@@ -13,9 +13,9 @@ use super::engine::{Engine, Mode, check_open};
 use leveldb_base::cmp::UserCmp;
 use leveldb_base::error::Result;
 use leveldb_env::env::{Env, EnvFile};
-use leveldb_options::filter::FilterPolicy;
 use leveldb_log::log::WriterCore;
 use leveldb_mem::write_batch::WriteBatch;
+use leveldb_options::filter::FilterPolicy;
 
 impl<E: Env, C: UserCmp + Copy, FP: FilterPolicy + Copy> Engine<E, C, FP> {
     /// Gives the key this value, without a sync.
