@@ -169,7 +169,6 @@ module _ {parts : List Part} {line : Option ℕ} {pairs : List Pair} {place : Op
       subst (StandsAt parts line pairs (Some k)) (sym (place_in (pairs_in parts) (n + 1) (within_in stands))) stands
 
 module _ {parts : List Part} {line place : Option ℕ} (p : IsBehind parts line place) where
-
   -- the next line is that of the first block behind
   at_behind : (i : ℕ) → next_place (map index_pair parts) line ≡ Some i → (i ≡ length p.before) × (i < length parts)
   at_behind i e =
@@ -478,7 +477,6 @@ last_some [] k e = cc
 last_some (pair ∷ pairs) k e = let same : length pairs ≡ k = cc in omega (arith, same)
 
 module _ {parts : List Part} {line : Option ℕ} {pairs : List Pair} {place : Option ℕ} {n : ℕ} (s : StandsIn parts line pairs place n) where
-
   -- the line before
   line_back : (i : ℕ) → previous_place line ≡ Some i → length s.before ≡ i + 1
   line_back i e = prev_some (length s.before) i (ap previous_place (sym s.at_line) ∙ e)

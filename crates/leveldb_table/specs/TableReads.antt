@@ -101,4 +101,4 @@ module _ {E F : Type 0} (env : Ghosts E F) where
   abbrev pub IsInFooter : ℕ → E → F → Handle → Type 0
   IsInFooter size state file handle =
       Whatever state file (λ bytes. length bytes ≡ size
-          → (front : List ℕ) × (meta index : Handle) × (bytes ≡ front ++ footer_bytes meta index) × ((handle ≡ meta) ⊎ (handle ≡ index)))
+      → (front : List ℕ) × (meta index : Handle) × (bytes ≡ front ++ footer_bytes meta index) × ((handle ≡ meta) ⊎ (handle ≡ index)))

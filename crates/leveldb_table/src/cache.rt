@@ -111,23 +111,3 @@ impl<T: Drop> Cache<T> {
         self.recent.pop(key)
     }
 }
-
-#[cfg(test)]
-mod tests {
-    use super::*;
-
-    /// Behind the last number there is none, and no number is given twice.
-    #[test]
-    fn last_id(rt: HostRuntime) -> Result<()> {
-        let mut cache: Cache<u8> = Cache::new(rt.alloc(), 1)?;
-        cache.id = u64::MAX - 1;
-        assert_eq!(rt; cache.new_cache_id()?, u64::MAX);
-        for _ in 0..2 {
-            let Err(status) = cache.new_cache_id() else {
-                panic!(rt; "a number behind the last");
-            };
-            assert_eq!(rt; status.code, StatusCode::NotSupported);
-        }
-        Ok(())
-    }
-}
