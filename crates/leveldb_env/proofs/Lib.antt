@@ -13,3 +13,13 @@ pub mod Appends
 pub mod Picks
 pub mod Leaving
 pub mod PickLaws
+pub mod JoinedTexts
+pub mod FilterBlocks
+pub mod FilterBuilds
+pub mod BloomBits
+pub mod BloomHashes
+pub mod KeyCuts
+pub mod BloomMatches
+pub mod BloomMade
+pub mod KeyStarts
+pub mod CoderLists

@@ -17,3 +17,14 @@ pub mod Journal
 pub mod Record
 pub mod Picks
 pub mod RecordLaws
+pub mod Filters
+pub mod FilterBlock
+pub mod FilterBlockParts
+pub mod FilterBlockLaws
+pub mod JoinedKeys
+pub mod Bloom
+pub mod BloomLaws
+pub mod InternalFilters
+pub mod Coders
+pub mod Numbers
+pub mod NumberLaws

@@ -1,3 +1,13 @@
+mod Rows
+pub mod WriterSteps
+pub mod Ranges
+pub mod ReaderSteps
+pub mod FragmentSteps
+pub mod NoFragments
+pub mod Takings
+pub mod BehindFiller
+pub mod Leads
+pub mod Joinings
 mod Batches
 mod Entries
 mod Laying

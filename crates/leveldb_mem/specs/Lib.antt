@@ -1,3 +1,13 @@
+pub mod Log
+pub mod Honest
+pub mod LogLaws
+pub mod Writing
+pub mod Reading
+pub mod Comings
+pub mod LogFiles
+pub mod ReadingLaws
+pub mod ReaderKept
+pub mod ReadingSteps
 pub mod Batch
 pub mod BatchLaws
 pub mod Entries

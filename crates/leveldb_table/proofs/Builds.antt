@@ -14,7 +14,7 @@ use Rattle.std.specs.declared.cmp.Ordering.{Ordering}
 use Rattle.leveldb_base.specs.Places.{Pair}
 use Rattle.leveldb_base.specs.Varint.{little}
 use Rattle.leveldb_base.specs.VarintLaws.{length-varint_32}
-use Rattle.leveldb_options.specs.NumberLaws.{length-fours}
+use Rattle.leveldb_env.specs.NumberLaws.{length-fours}
 use Rattle.leveldb_table.specs.Block.{Entry, spelling, entry_bytes, key_of, pairs_of, IsShort, SharesFrom, KeysRise, points_from, restart_points, block_bytes, IsSpelled, IsBlock}
 use Rattle.leveldb_table.specs.BlockLaws.{entry_of, length-entry_bytes-ge, one_whole}
 use Rattle.leveldb_table.specs.Reading.{key_before}

@@ -7,8 +7,8 @@ use Rattle.std.specs.List.{IsSplitAt}
 use Rattle.byteorder.specs.Endian.{little_number}
 use Rattle.leveldb_base.specs.Varint.{varint}
 use Rattle.leveldb_base.specs.VarintLaws.{one_number}
-use Rattle.leveldb_options.specs.Numbers.{numbers_in}
-use Rattle.leveldb_options.specs.NumberLaws.{numbers_more, numbers_none}
+use Rattle.leveldb_env.specs.Numbers.{numbers_in}
+use Rattle.leveldb_env.specs.NumberLaws.{numbers_more, numbers_none}
 use Rattle.leveldb_table.specs.Block.{Entry, spelling, entry_bytes, IsShort}
 use Rattle.leveldb_table.specs.BlockLaws.{spread, begins, points_after, entry_of}
 use Rattle.leveldb_table.specs.Reading.{ReadsNumber, ReadsEntry}

@@ -9,8 +9,8 @@ use Rattle.std.proofs.lemmas.Bool.{and_parts}
 use Rattle.leveldb_base.specs.Keys.{internal_accepts, internal_cmp, sequence_part, user_part}
 use Rattle.leveldb_base.specs.Order.{IsPreorderOn}
 use Rattle.leveldb_base.specs.Places.{Pair}
-use Rattle.leveldb_options.specs.Coders.{Codings}
-use Rattle.leveldb_options.specs.FilterBlock.{passes}
+use Rattle.leveldb_env.specs.Coders.{Codings}
+use Rattle.leveldb_env.specs.FilterBlock.{passes}
 use Rattle.leveldb_table.specs.Block.{RiseBehind, KeysRise}
 use Rattle.leveldb_table.specs.Table.{Part, UpTo, After, AreParted, PartPasses, AllPass, named_part}
 use Rattle.leveldb_table.specs.TableBuilding.{GoesByUsers}

@@ -6,8 +6,8 @@ use Rattle.leveldb_base.specs.declared.cmp.Cmp.{Ghosts as CmpGhosts}
 use Rattle.leveldb_base.specs.declared.error.Status.{Status}
 use Rattle.leveldb_env.specs.SinkLaws.{PutsAll-none, PutsAll-one, PutsPart-one}
 use Rattle.leveldb_env.specs.Sinks.{PutsAll}
-use Rattle.leveldb_options.specs.Coders.{Codings}
-use Rattle.leveldb_options.specs.declared.filter.FilterPolicy.{Ghosts as PolicyGhosts}
+use Rattle.leveldb_env.specs.Coders.{Codings}
+use Rattle.leveldb_env.specs.declared.filter.FilterPolicy.{Ghosts as PolicyGhosts}
 use Rattle.leveldb_table.specs.Block.{Entry}
 use Rattle.leveldb_table.specs.Built.{estimate}
 use Rattle.leveldb_table.specs.Table.{with_trailer}

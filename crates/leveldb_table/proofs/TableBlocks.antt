@@ -6,7 +6,7 @@ use Rattle.leveldb_base.specs.declared.error.Status.{Status}
 use Rattle.leveldb_base.specs.declared.error.StatusCode.TheVariants.{Corruption}
 use Rattle.leveldb_env.specs.Calls.{NoMemory}
 use Rattle.leveldb_env.specs.declared.env.Env.{Ghosts}
-use Rattle.leveldb_options.specs.Coders.{Coding, Codings, IsUnset, RefusesWith, decoded_by, decoded_under}
+use Rattle.leveldb_env.specs.Coders.{Coding, Codings, IsUnset, RefusesWith, decoded_by, decoded_under}
 use Rattle.leveldb_table.specs.Block.{IsNoBlock, IsBlock}
 use Rattle.leveldb_table.specs.Table.{StoresAt}
 use Rattle.leveldb_table.specs.TableReads.{Whatever, StoresNothing, HasNoBlock, IsDamaged, IsLacking, IsUndecodedBy, IsUndecoded}

@@ -8,7 +8,7 @@ use Rattle.std.specs.declared.cmp.Ordering.TheVariants.{Less, Equal, Greater}
 use Rattle.leveldb_base.specs.Order.{IsPreorderOn, IsSeparator}
 use Rattle.leveldb_base.specs.OrderLaws.{itself_equal}
 use Rattle.leveldb_base.specs.Places.{Pair}
-use Rattle.leveldb_options.specs.FilterBlock.{Building, IsKept, KeepsKeys, finished, passes}
+use Rattle.leveldb_env.specs.FilterBlock.{Building, IsKept, KeepsKeys, finished, passes}
 use Rattle.leveldb_table.specs.Block.{RiseBehind, KeysRise}
 use Rattle.leveldb_table.specs.Built.{last_added}
 use Rattle.leveldb_table.specs.Table.{Part, IsPart, UpTo, After, AreParted, PartPasses, AllPass, filter_key}

@@ -7,7 +7,7 @@ use Rattle.leveldb_base.specs.Places.{Pair, pair_at}
 use Rattle.leveldb_base.specs.declared.error.Status.{Status}
 use Rattle.leveldb_base.specs.declared.error.StatusCode.TheVariants.{Corruption}
 use Rattle.leveldb_env.specs.declared.env.Env.{Ghosts}
-use Rattle.leveldb_options.specs.Coders.{Codings}
+use Rattle.leveldb_env.specs.Coders.{Codings}
 use Rattle.leveldb_table.specs.TableReads.{Looks, IsForeign, IsNamedBy, IsNamedIn}
 use Rattle.leveldb_table.proofs.TableCalls.{Looks-refl, Whatever-before}
 

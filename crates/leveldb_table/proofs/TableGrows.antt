@@ -8,7 +8,7 @@ use Rattle.std.specs.declared.cmp.Ordering.{Ordering}
 use Rattle.std.specs.declared.cmp.Ordering.TheVariants.{Less}
 use Rattle.leveldb_base.specs.Handle.{Handle, handle_bytes}
 use Rattle.leveldb_base.specs.Places.{Pair}
-use Rattle.leveldb_options.specs.FilterBlock.{Building, with_key, started, IsKept, KeepsKeys}
+use Rattle.leveldb_env.specs.FilterBlock.{Building, with_key, started, IsKept, KeepsKeys}
 use Rattle.leveldb_table.specs.Block.{Entry, pairs_of, KeysRise}
 use Rattle.leveldb_table.specs.Built.{last_added}
 use Rattle.leveldb_table.specs.Table.{Part, IsPart, keys_for, filters_before, HasBlockAt, StoresAt, StandsUnder, with_trailer, index_pair, AreLinked, blocks_len}

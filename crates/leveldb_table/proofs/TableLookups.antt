@@ -5,7 +5,7 @@ use Rattle.std.specs.declared.cmp.Ordering.{Ordering}
 use Rattle.leveldb_base.specs.Handle.{handle_bytes}
 use Rattle.leveldb_base.specs.Places.{Pair, seek_place, pair_at}
 use Rattle.leveldb_base.specs.declared.cmp.Cmp.{Ghosts as CmpGhosts}
-use Rattle.leveldb_options.specs.Coders.{Codings}
+use Rattle.leveldb_env.specs.Coders.{Codings}
 use Rattle.leveldb_table.specs.Block.{IsSpelled}
 use Rattle.leveldb_table.specs.Table.{Part, first_from, named_part}
 use Rattle.leveldb_table.specs.TableEnters.{let_place}

@@ -8,8 +8,8 @@ use Rattle.std.specs.declared.cmp.Ordering.TheVariants.{Greater}
 use Rattle.leveldb_base.specs.Handle.{Handle, handle_bytes}
 use Rattle.leveldb_base.specs.Order.{IsPreorderOn, IsSeparator, IsSuccessor}
 use Rattle.leveldb_base.specs.Places.{Pair}
-use Rattle.leveldb_options.specs.Coders.{Codings, Decodes}
-use Rattle.leveldb_options.specs.FilterBlock.{finished, KeepsKeys}
+use Rattle.leveldb_env.specs.Coders.{Codings, Decodes}
+use Rattle.leveldb_env.specs.FilterBlock.{finished, KeepsKeys}
 use Rattle.leveldb_table.specs.Block.{IsBlock}
 use Rattle.leveldb_table.specs.Built.{last_added}
 use Rattle.leveldb_table.specs.Footer.{footer_bytes}

@@ -10,7 +10,7 @@ use Rattle.leveldb_base.specs.Places.{Pair, IsPlace, place_within, next_place, p
 use Rattle.leveldb_base.specs.declared.cmp.Cmp.{Ghosts as CmpGhosts}
 use Rattle.leveldb_base.specs.declared.error.Status.{Status}
 use Rattle.leveldb_env.specs.declared.env.Env.{Ghosts as EnvGhosts}
-use Rattle.leveldb_options.specs.Coders.{Codings, Decodes}
+use Rattle.leveldb_env.specs.Coders.{Codings, Decodes}
 use Rattle.leveldb_table.specs.Cache.{Cached}
 use Rattle.leveldb_table.specs.Block.{IsSpelled, IsBlock, pairs_of}
 use Rattle.leveldb_table.specs.BlockLaws.{one_block}

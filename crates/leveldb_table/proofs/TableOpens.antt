@@ -13,9 +13,9 @@ use Rattle.leveldb_base.specs.VarintLaws.{apart_right}
 use Rattle.leveldb_base.specs.Places.{Pair}
 use Rattle.leveldb_base.specs.declared.error.Status.{Status}
 use Rattle.leveldb_env.specs.declared.env.Env.{Ghosts}
-use Rattle.leveldb_options.specs.Coders.{Codings, Decodes}
-use Rattle.leveldb_options.specs.FilterBlock.{IsFilterBlock}
-use Rattle.leveldb_options.specs.FilterBlockLaws.{one_reading}
+use Rattle.leveldb_env.specs.Coders.{Codings, Decodes}
+use Rattle.leveldb_env.specs.FilterBlock.{IsFilterBlock}
+use Rattle.leveldb_env.specs.FilterBlockLaws.{one_reading}
 use Rattle.leveldb_table.specs.Block.{IsBlock, IsSpelled, KeysRise, pairs_of}
 use Rattle.leveldb_table.specs.BlockLaws.{one_block}
 use Rattle.leveldb_table.specs.Footer.{footer_bytes}

@@ -11,7 +11,7 @@ use Rattle.std.specs.declared.cmp.Ordering.{Ordering}
 use Rattle.std.specs.declared.cmp.Ordering.TheVariants.{Less, Equal, Greater}
 use Rattle.leveldb_base.specs.Order.{IsPreorderOn}
 use Rattle.leveldb_base.specs.Places.{Pair, place_within, next_place, previous_place, count_before, seek_place, pair_at}
-use Rattle.leveldb_options.specs.Coders.{Codings, Decodes}
+use Rattle.leveldb_env.specs.Coders.{Codings, Decodes}
 use Rattle.leveldb_table.specs.Table.{Part, IsPart, AreParted, UpTo, After, index_pair, first_from, named_part}
 use Rattle.leveldb_table.specs.Table.{AreAccepted}
 use Rattle.leveldb_table.specs.TableEnters.{IsBehind}

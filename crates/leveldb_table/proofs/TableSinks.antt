@@ -7,9 +7,9 @@ use Rattle.leveldb_base.specs.declared.error.Status.{Status}
 use Rattle.leveldb_base.specs.declared.error.StatusCode.TheVariants.{NotSupported}
 use Rattle.leveldb_env.specs.Sinks.{PutsAll}
 use Rattle.leveldb_env.specs.SinkLaws.{PutsAll-none, PutsAll-one, PutsAll-trans, PutsPart-one, PutsPart-trans}
-use Rattle.leveldb_options.specs.Coders.{Codings}
-use Rattle.leveldb_options.specs.FilterBlock.{IsNotMade}
-use Rattle.leveldb_options.specs.declared.filter.FilterPolicy.{Ghosts as PolicyGhosts}
+use Rattle.leveldb_env.specs.Coders.{Codings}
+use Rattle.leveldb_env.specs.FilterBlock.{IsNotMade}
+use Rattle.leveldb_env.specs.declared.filter.FilterPolicy.{Ghosts as PolicyGhosts}
 use Rattle.leveldb_table.specs.Table.{with_trailer}
 use Rattle.leveldb_table.specs.TableBuilding.{IsPlaced}
 use Rattle.leveldb_table.specs.TablePuts.{PutsBlock, IsNotPut, IsRefused, IsTooLong, GivesUp, EndsEarly}

@@ -11,7 +11,7 @@ use Rattle.leveldb_base.specs.Crc.{crc_of, masked}
 use Rattle.leveldb_base.specs.Handle.{Handle, handle_bytes, HandleFits}
 use Rattle.leveldb_base.specs.Places.{Pair}
 use Rattle.leveldb_base.specs.Varint.{little}
-use Rattle.leveldb_options.specs.FilterBlock.{IsFilterBlock, filter_of, finished, passes}
+use Rattle.leveldb_env.specs.FilterBlock.{IsFilterBlock, filter_of, finished, passes}
 use Rattle.leveldb_table.specs.Block.{IsBlock, KeysRise}
 use Rattle.leveldb_table.specs.Footer.{footer_bytes}
 

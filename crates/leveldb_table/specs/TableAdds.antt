@@ -7,9 +7,9 @@ use Rattle.leveldb_base.specs.Status.{IsOutOfMemory}
 use Rattle.leveldb_base.specs.declared.cmp.Cmp.{Ghosts as CmpGhosts}
 use Rattle.leveldb_base.specs.declared.error.Status.{Status}
 use Rattle.leveldb_base.specs.declared.error.StatusCode.TheVariants.{NotSupported}
-use Rattle.leveldb_options.specs.Coders.{Codings, Decodes}
-use Rattle.leveldb_options.specs.FilterBlock.{IsNotMade}
-use Rattle.leveldb_options.specs.declared.filter.FilterPolicy.{Ghosts as PolicyGhosts}
+use Rattle.leveldb_env.specs.Coders.{Codings, Decodes}
+use Rattle.leveldb_env.specs.FilterBlock.{IsNotMade}
+use Rattle.leveldb_env.specs.declared.filter.FilterPolicy.{Ghosts as PolicyGhosts}
 use Rattle.leveldb_table.specs.Block.{Entry, IsBlock}
 use Rattle.leveldb_table.specs.Built.{IsTooLarge}
 use Rattle.leveldb_table.specs.Table.{with_trailer}

@@ -9,15 +9,15 @@ use Rattle.leveldb_base.specs.Bytewise.{bytewise}
 use Rattle.leveldb_base.specs.Handle.{Handle, handle_bytes, HandleFits}
 use Rattle.leveldb_base.specs.Places.{Pair}
 use Rattle.leveldb_env.specs.Sinks.{PutsAll}
-use Rattle.leveldb_options.specs.Coders.{Codings, Decodes}
-use Rattle.leveldb_options.specs.FilterBlock.{IsFilterBlock, finished}
+use Rattle.leveldb_env.specs.Coders.{Codings, Decodes}
+use Rattle.leveldb_env.specs.FilterBlock.{IsFilterBlock, finished}
 use Rattle.leveldb_table.specs.Block.{IsBlock, pairs_of}
 use Rattle.leveldb_table.specs.Built.{last_added, estimate}
 use Rattle.leveldb_table.specs.Footer.{footer_bytes}
 use Rattle.leveldb_table.specs.Table.{IsTable, IsWritten, AreAccepted, HasFiltersAt, filters_for, filter_key, with_trailer}
 use Rattle.leveldb_table.specs.TableStages.{Stage, stage_of, IsLaid, AreSeparated, AreReady, Follows, first_key}
 use Rattle.leveldb_base.specs.declared.cmp.Cmp.{Ghosts as CmpGhosts}
-use Rattle.leveldb_options.specs.declared.filter.FilterPolicy.{Ghosts as PolicyGhosts}
+use Rattle.leveldb_env.specs.declared.filter.FilterPolicy.{Ghosts as PolicyGhosts}
 use Rattle.leveldb_table.specs.declared.table_builder.builder_core.BuilderCore.{BuilderCore}
 
 -- how far a builder's table is built

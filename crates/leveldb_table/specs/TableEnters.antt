@@ -7,7 +7,7 @@ use Rattle.leveldb_base.specs.Places.{Pair, next_place, previous_place, seek_pla
 use Rattle.leveldb_base.specs.declared.cmp.Cmp.{Ghosts as CmpGhosts}
 use Rattle.leveldb_base.specs.declared.error.Status.{Status}
 use Rattle.leveldb_env.specs.declared.env.Env.{Ghosts as EnvGhosts}
-use Rattle.leveldb_options.specs.Coders.{Codings, Decodes}
+use Rattle.leveldb_env.specs.Coders.{Codings, Decodes}
 use Rattle.leveldb_table.specs.Cache.{Cached}
 use Rattle.leveldb_table.specs.Table.{Part, IsPart, AreAccepted, HasBlockAt, index_pair, named_part}
 use Rattle.leveldb_table.specs.TableCached.{HoldsOf, IsOf, Gathers}

@@ -5,7 +5,7 @@ use Rattle.std.specs.declared.cmp.Ordering.{Ordering}
 use Rattle.leveldb_base.specs.Handle.{Handle}
 use Rattle.leveldb_base.specs.Places.{Pair, place_within, next_place, previous_place, seek_place, pair_at}
 use Rattle.leveldb_base.specs.declared.cmp.Cmp.{Ghosts as CmpGhosts}
-use Rattle.leveldb_options.specs.Coders.{Codings}
+use Rattle.leveldb_env.specs.Coders.{Codings}
 use Rattle.leveldb_table.specs.Block.{IsBlock}
 use Rattle.leveldb_table.specs.TableReading.{lines_of, lets}
 use Rattle.leveldb_table.specs.TableReads.{IsNamedBy}

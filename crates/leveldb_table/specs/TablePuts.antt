@@ -5,7 +5,7 @@ use Rattle.leveldb_base.specs.Status.{IsOutOfMemory}
 use Rattle.leveldb_base.specs.declared.error.Status.{Status}
 use Rattle.leveldb_base.specs.declared.error.StatusCode.TheVariants.{NotSupported}
 use Rattle.leveldb_env.specs.Sinks.{PutsAll, PutsPart}
-use Rattle.leveldb_options.specs.Coders.{Codings, Decodes, IsUnset, RefusesWith}
+use Rattle.leveldb_env.specs.Coders.{Codings, Decodes, IsUnset, RefusesWith}
 use Rattle.leveldb_table.specs.Table.{with_trailer}
 
 -- a number of bytes can't be counted in 64 bits

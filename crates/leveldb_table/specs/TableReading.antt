@@ -10,8 +10,8 @@ use Rattle.leveldb_base.specs.Bytewise.{bytewise}
 use Rattle.leveldb_base.specs.Handle.{Handle, handle_bytes, HandleFits}
 use Rattle.leveldb_base.specs.Places.{Pair, pair_at}
 use Rattle.leveldb_base.specs.declared.cmp.Cmp.{Ghosts as CmpGhosts}
-use Rattle.leveldb_options.specs.Coders.{Codings, Decodes}
-use Rattle.leveldb_options.specs.FilterBlock.{IsFilterBlock, Reading, passes}
+use Rattle.leveldb_env.specs.Coders.{Codings, Decodes}
+use Rattle.leveldb_env.specs.FilterBlock.{IsFilterBlock, Reading, passes}
 use Rattle.leveldb_table.specs.Block.{IsBlock, KeysRise, pairs_of}
 use Rattle.leveldb_table.specs.Footer.{footer_bytes}
 use Rattle.leveldb_table.specs.Table.{Part, IsPart, HasBlockAt, StoresAt, AreParted, AreAccepted, AllPass, index_pair, filter_key, first_from, named_part, IsTabled}

@@ -9,8 +9,8 @@ use Rattle.leveldb_env.specs.Calls.{Still, SameLocks, HasCause, IsMissing}
 use Rattle.leveldb_env.specs.Disk.{bytes_of}
 use Rattle.leveldb_env.specs.Runs.{Run}
 use Rattle.leveldb_env.specs.declared.env.Env.{Ghosts}
-use Rattle.leveldb_options.specs.Coders.{Coding, Codings, Decodes, IsUnset, RefusesWith}
-use Rattle.leveldb_options.specs.FilterBlock.{IsFilterBlock}
+use Rattle.leveldb_env.specs.Coders.{Coding, Codings, Decodes, IsUnset, RefusesWith}
+use Rattle.leveldb_env.specs.FilterBlock.{IsFilterBlock}
 use Rattle.leveldb_table.specs.Block.{IsBlock}
 use Rattle.leveldb_table.specs.Footer.{footer_bytes}
 use Rattle.leveldb_table.specs.Table.{StoresAt, HasBlockAt}

@@ -5,7 +5,7 @@ use Rattle.std.specs.declared.cmp.Ordering.{Ordering}
 use Rattle.std.specs.declared.cmp.Ordering.TheVariants.{Less}
 use Rattle.leveldb_base.specs.Handle.{Handle, handle_bytes, HandleFits}
 use Rattle.leveldb_base.specs.Places.{Pair}
-use Rattle.leveldb_options.specs.FilterBlock.{Building, started, with_key, IsKept}
+use Rattle.leveldb_env.specs.FilterBlock.{Building, started, with_key, IsKept}
 use Rattle.leveldb_table.specs.Block.{IsBlock, KeysRise}
 use Rattle.leveldb_table.specs.Built.{last_added}
 use Rattle.leveldb_table.specs.Table.{Part, IsPart, StandsUnder, index_pair, keys_for, filters_before, with_trailer, AreLinked, blocks_len}

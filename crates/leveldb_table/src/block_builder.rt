@@ -13,7 +13,7 @@ use bytes::Bytes;
 use leveldb_base::cmp::Cmp;
 use leveldb_base::error::{Result, StatusCode, err};
 use leveldb_base::varint::encode_varint64;
-use leveldb_options::options::Options;
+use leveldb_env::options::Options;
 use std::alloc::Global;
 
 /// Pairs in strictly rising order, put into the bytes of a block.

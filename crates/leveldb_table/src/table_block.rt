@@ -1,8 +1,8 @@
 //! Blocks read from a table's file, each with its trailer.
 ghost use Rattle.std.specs.Prelude.{◌≡◌, ◌⊎◌, ◌≤◌, ◌<◌, ◌+◌, ◌^◌, ℕ, length, take, drop, List, None, IfOk, IfSome, IfNone, IsErrAnd};
 ghost use Rattle.leveldb_base.specs.declared.error.StatusCode.TheVariants.{InvalidArgument};
-ghost use Rattle.leveldb_options.specs.Coders.{Decodes, decoded_by};
-ghost use Rattle.leveldb_options.specs.FilterBlock.{IsFilterBlock};
+ghost use Rattle.leveldb_env.specs.Coders.{Decodes, decoded_by};
+ghost use Rattle.leveldb_env.specs.FilterBlock.{IsFilterBlock};
 ghost use Rattle.leveldb_table.specs.Table.{StoresAt, HasBlockAt, with_trailer};
 ghost use Rattle.leveldb_table.specs.TableReads.{EndsBefore, StoresNothing, HasNoBlock, HasNoFilters, Reads, Whatever, FailsFor, IsUndecoded, IsDamaged, IsLacking};
 
@@ -13,10 +13,10 @@ use leveldb_base::blockhandle::BlockHandle;
 use leveldb_base::cmp::Cmp;
 use leveldb_base::crc::{digest, mask_crc};
 use leveldb_base::error::{Result, StatusCode, err};
+use leveldb_env::compressor::{Coders, Compressor, CompressorList};
 use leveldb_env::env::Env;
-use leveldb_options::compressor::{Coders, Compressor, CompressorList};
-use leveldb_options::filter::FilterPolicy;
-use leveldb_options::filter_block::FilterBlockReader;
+use leveldb_env::filter::FilterPolicy;
+use leveldb_env::filter_block::FilterBlockReader;
 use std::alloc::Global;
 
 // At least so much room is made for a read, and not more than twice of what the file gave.

@@ -1,7 +1,7 @@
 //! Table builders, and the parts of a table's file that they share with its readers.
 ghost use Rattle.std.specs.Prelude.{◌≡◌, ◌+◌, ◌-◌, ◌^◌, ◌<◌, ◌++◌, ◌∷◌, ◌⊎◌, [], List, None, max, true, false, min, IfOk, IfErr, OnOk, OnErr, IsErrAnd};
 ghost use Rattle.std.specs.declared.cmp.Ordering.TheVariants.{Less};
-ghost use Rattle.leveldb_options.specs.Coders.{Codings, IsUnset};
+ghost use Rattle.leveldb_env.specs.Coders.{Codings, IsUnset};
 ghost use Rattle.leveldb_table.specs.TablePuts.{GivesUp, EndsEarly};
 ghost use Rattle.leveldb_base.specs.Status.{IsOutOfMemory};
 ghost use Rattle.leveldb_table.specs.TableStages.{with_pair};
@@ -11,10 +11,10 @@ ghost use Rattle.leveldb_table.specs.TableBuilding.{stage, last_of, order_of, po
 use crate::table_builder::builder_core::BuilderCore;
 use leveldb_base::cmp::{Cmp, InternalKeyCmp, UserCmp};
 use leveldb_base::error::Result;
+use leveldb_env::compressor::{Coders, CompressorList};
 use leveldb_env::env::Sink;
-use leveldb_options::compressor::{Coders, CompressorList};
-use leveldb_options::filter::{FilterPolicy, InternalFilterPolicy, NoFilterPolicy};
-use leveldb_options::options::Options;
+use leveldb_env::filter::{FilterPolicy, InternalFilterPolicy, NoFilterPolicy};
+use leveldb_env::options::Options;
 use std::alloc::Global;
 
 pub mod builder_core;

@@ -3,10 +3,10 @@ use Rattle.std.proofs.Common.{◌≡◌, ◌<◌, ◌≤◌, ℕ, false, List, [
 use Rattle.std.specs.Prelude.{Result}
 use Rattle.leveldb_base.specs.declared.error.Status.{Status}
 use Rattle.leveldb_env.specs.Sinks.{PutsBehind}
-use Rattle.leveldb_log.specs.Log.{log_block_size, behind, framed_record, framed}
-use Rattle.leveldb_log.specs.LogLaws.{usual_size}
-use Rattle.leveldb_log.specs.LogLaws.Framing.{behind_both, behind_none, behind-lt}
-use Rattle.leveldb_log.specs.Writing.{Writing, Adds}
+use Rattle.leveldb_mem.specs.Log.{log_block_size, behind, framed_record, framed}
+use Rattle.leveldb_mem.specs.LogLaws.{usual_size}
+use Rattle.leveldb_mem.specs.LogLaws.Framing.{behind_both, behind_none, behind-lt}
+use Rattle.leveldb_mem.specs.Writing.{Writing, Adds}
 
 -- an empty record has no frame
 no_frame : (size place : ℕ) (text : List ℕ) → text ≡ [] → framed_record size text place ≡ []

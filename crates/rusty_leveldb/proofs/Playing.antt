@@ -8,7 +8,7 @@ use Rattle.std.proofs.lemmas.List.Elements.{All-nil, All-cons, All-append}
 use Rattle.leveldb_base.specs.declared.error.Status.{Status}
 use Rattle.leveldb_env.specs.declared.env.Env.{Ghosts}
 use Rattle.leveldb_env.specs.Disk.{Files, Disk}
-use Rattle.leveldb_options.specs.declared.options.Options.{Options}
+use Rattle.leveldb_env.specs.declared.options.Options.{Options}
 use Rattle.rusty_leveldb.specs.declared.db_impl.engine.Engine.{Engine}
 use Rattle.rusty_leveldb.specs.declared.shell.commands.Command.{Command}
 use Rattle.rusty_leveldb.specs.declared.shell.commands.Reply.{Reply}

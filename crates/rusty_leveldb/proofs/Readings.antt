@@ -3,7 +3,7 @@ use Rattle.std.proofs.Common.{◌≡◌, ℕ, zero, suc, List, [], ◌∷◌, �
 use Rattle.leveldb_env.specs.Disk.{File, bytes_of}
 use Rattle.leveldb_mem.specs.Batch.{Batch}
 use Rattle.leveldb_mem.specs.BatchLaws.{BatchOf-one}
-use Rattle.leveldb_log.specs.LogLaws.{log_laws}
+use Rattle.leveldb_mem.specs.LogLaws.{log_laws}
 use Rattle.rusty_leveldb.specs.Contents.{Contents}
 use Rattle.rusty_leveldb.specs.OneLog.{Each, IsRecordOf, IsLogOf, IsRead, contents_of}
 use Rattle.rusty_leveldb.specs.Laws.{OneReading}

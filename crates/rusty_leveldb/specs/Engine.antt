@@ -9,9 +9,9 @@ use Rattle.leveldb_env.specs.declared.env.Env.{Ghosts}
 use Rattle.leveldb_env.specs.Disk.{File, Disk, bytes_of, AreBytes}
 use Rattle.leveldb_env.specs.Times.{Told}
 use Rattle.leveldb_env.specs.Calls.{NoMemory, IsGone}
-use Rattle.leveldb_options.specs.declared.options.Options.{Options}
-use Rattle.leveldb_log.specs.Log.{log_block_size, clean, IsLogFile}
-use Rattle.leveldb_log.specs.Writing.{Writing, IsBroken}
+use Rattle.leveldb_env.specs.declared.options.Options.{Options}
+use Rattle.leveldb_mem.specs.Log.{log_block_size, clean, IsLogFile}
+use Rattle.leveldb_mem.specs.Writing.{Writing, IsBroken}
 use Rattle.rusty_leveldb.specs.declared.db_impl.engine.Mode.{Mode}
 use Rattle.rusty_leveldb.specs.declared.db_impl.engine.Mode.TheVariants.{Open, Broken, Closed}
 use Rattle.rusty_leveldb.specs.declared.db_impl.engine.Engine.{Engine}

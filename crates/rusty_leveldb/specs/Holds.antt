@@ -4,8 +4,8 @@ use Rattle.std.specs.Prelude.{◌≡◌, ◌≤◌, ◌+◌, ◌⊎◌, ℕ, Lis
 use Rattle.leveldb_base.specs.History.{Entry, History, IsBeginning, entries_of, greatest, joined, count_of}
 use Rattle.leveldb_base.specs.View.{SameView}
 use Rattle.leveldb_env.specs.Disk.{File, Files, Leaves, bytes_of}
-use Rattle.leveldb_log.specs.Log.{log_block_size}
-use Rattle.leveldb_log.specs.Honest.{HonestTail}
+use Rattle.leveldb_mem.specs.Log.{log_block_size}
+use Rattle.leveldb_mem.specs.Honest.{HonestTail}
 use Rattle.rusty_leveldb.specs.Names.{IsJournal}
 use Rattle.rusty_leveldb.specs.Contents.{Store, Contents, Stays}
 

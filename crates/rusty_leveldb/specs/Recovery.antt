@@ -4,8 +4,8 @@ use Rattle.leveldb_base.specs.declared.error.Status.{Status}
 use Rattle.leveldb_base.specs.declared.error.StatusCode.TheVariants.{InvalidArgument, NotFound, Corruption}
 use Rattle.leveldb_env.specs.Disk.{File, Disk, bytes_of, kept_file, file_kept}
 use Rattle.leveldb_env.specs.Calls.{NoMemory}
-use Rattle.leveldb_log.specs.Log.{log_block_size, End, clean, IsLogFile, framed}
-use Rattle.leveldb_log.specs.Writing.{Writing}
+use Rattle.leveldb_mem.specs.Log.{log_block_size, End, clean, IsLogFile, framed}
+use Rattle.leveldb_mem.specs.Writing.{Writing}
 use Rattle.rusty_leveldb.specs.Names.{lock_path}
 use Rattle.rusty_leveldb.specs.OneLog.{log_path, IsRead}
 use Rattle.rusty_leveldb.specs.Contents.{Contents}

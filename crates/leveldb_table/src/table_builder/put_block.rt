@@ -1,7 +1,7 @@
 //! Blocks put into a table's file, each with its trailer.
 ghost use Rattle.std.specs.Prelude.{◌≡◌, ◌+◌, ◌^◌, ◌<◌, ◌≤◌, ◌++◌, ◌∷◌, [], ℕ, List, None, IfOk, IfErr, IfSome, IfNone, OnOk, IsErrAnd, length};
 ghost use Rattle.leveldb_base.specs.Status.{IsOutOfMemory};
-ghost use Rattle.leveldb_options.specs.Coders.{Decodes, IsUnset};
+ghost use Rattle.leveldb_env.specs.Coders.{Decodes, IsUnset};
 ghost use Rattle.leveldb_table.specs.Table.{with_trailer};
 ghost use Rattle.leveldb_table.specs.TablePuts.{PutsBlock, IsNotPut, IsRefused, PutsNone};
 
@@ -9,8 +9,8 @@ use super::TRAILER;
 use leveldb_base::blockhandle::BlockHandle;
 use leveldb_base::crc::{digest, mask_crc};
 use leveldb_base::error::{Result, StatusCode, err};
+use leveldb_env::compressor::{Coders, Compressor, CompressorList};
 use leveldb_env::env::Sink;
-use leveldb_options::compressor::{Coders, Compressor, CompressorList};
 use std::alloc::Global;
 
 /// Where a block was put, and where it ends with its trailer.

@@ -7,9 +7,9 @@ use crate::block_cache::BlockCache;
 use crate::table_reader::{Table, TableCore};
 use leveldb_base::cmp::Cmp;
 use leveldb_base::error::Result;
+use leveldb_env::compressor::{Coders, CompressorList};
 use leveldb_env::env::Env;
-use leveldb_options::compressor::{Coders, CompressorList};
-use leveldb_options::filter::FilterPolicy;
+use leveldb_env::filter::FilterPolicy;
 use std::alloc::Global;
 
 /// A walk over a table's pairs, with the table, the `Env` that has its file and the cache of blocks lent to it. Each move

@@ -17,8 +17,8 @@ use leveldb_base::cmp::DefaultCmp;
 use leveldb_base::error::{Result, StatusCode, err};
 use leveldb_base::types::LdbIterator;
 use leveldb_env::env::Env;
-use leveldb_options::filter::FilterPolicy;
-use leveldb_options::filter_block::FilterBlockReader;
+use leveldb_env::filter::FilterPolicy;
+use leveldb_env::filter_block::FilterBlockReader;
 use std::alloc::Global;
 
 /// The footer of a file of so many bytes.

@@ -19,9 +19,9 @@ use leveldb_base::blockhandle::BlockHandle;
 use leveldb_base::cmp::Cmp;
 use leveldb_base::error::{Result, StatusCode, err};
 use leveldb_base::types::LdbIterator;
+use leveldb_env::compressor::{Coders, CompressorList};
 use leveldb_env::env::Env;
-use leveldb_options::compressor::{Coders, CompressorList};
-use leveldb_options::filter::FilterPolicy;
+use leveldb_env::filter::FilterPolicy;
 use std::alloc::Global;
 
 /// A place in a table, or none. Each move is given the table, always the same one, the `Env` that has its file, the cache

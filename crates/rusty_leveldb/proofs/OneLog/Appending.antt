@@ -4,9 +4,9 @@ use Rattle.std.proofs.lemmas.List.{get_or-take, get_or_past, take_all, take-appe
 use Rattle.std.proofs.lemmas.Bool.{cases_lt}
 use Rattle.leveldb_base.specs.History.{Item, Entry, History, IsBeginning, placed, entries_of, greatest}
 use Rattle.leveldb_env.specs.Disk.{File, bytes_of, kept_file, longer_file, AreBytes}
-use Rattle.leveldb_log.specs.Log.{log_block_size, End, clean, IsLogFile, frame_at}
-use Rattle.leveldb_log.specs.Honest.{HonestTail}
-use Rattle.leveldb_log.specs.LogLaws.{log_laws, AreFirst}
+use Rattle.leveldb_mem.specs.Log.{log_block_size, End, clean, IsLogFile, frame_at}
+use Rattle.leveldb_mem.specs.Honest.{HonestTail}
+use Rattle.leveldb_mem.specs.LogLaws.{log_laws, AreFirst}
 use Rattle.leveldb_mem.specs.Batch.{Batch, BatchOf, batch_bytes}
 use Rattle.rusty_leveldb.specs.OneLog.{Each, IsRecordOf, AreInOrder, contents_of, max_sequence}
 use Rattle.rusty_leveldb.specs.Holds.{Tells}

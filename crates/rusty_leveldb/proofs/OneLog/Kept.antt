@@ -6,8 +6,8 @@ use Rattle.std.proofs.lemmas.List.{nil_from_length}
 use Rattle.std.proofs.lemmas.List.Elements.{All-nil, All-cons}
 use Rattle.leveldb_base.specs.History.{History, IsBeginning}
 use Rattle.leveldb_env.specs.Disk.{File, bytes_of, kept_file, file_kept, LeavesFile}
-use Rattle.leveldb_log.specs.Log.{log_block_size, End, clean, IsLogFile, framed}
-use Rattle.leveldb_log.specs.LogLaws.{log_laws, framing_reads, records_framed, usual_size}
+use Rattle.leveldb_mem.specs.Log.{log_block_size, End, clean, IsLogFile, framed}
+use Rattle.leveldb_mem.specs.LogLaws.{log_laws, framing_reads, records_framed, usual_size}
 use Rattle.leveldb_mem.specs.Batch.{Batch}
 use Rattle.rusty_leveldb.specs.OneLog.{Each, IsRecordOf, contents_of}
 use Rattle.rusty_leveldb.specs.Contents.{nothing_there}

@@ -4,7 +4,7 @@ use Rattle.leveldb_base.specs.History.{Entry, History, IsBeginning, joined, coun
 use Rattle.leveldb_env.specs.Disk.{File, Files, bytes_of, kept_file, created, renamed, deleted, or_empty}
 use Rattle.leveldb_env.specs.Calls.{EitherSide}
 use Rattle.leveldb_env.specs.FileLaws.{at_same, renamed-there}
-use Rattle.leveldb_log.specs.Log.{End, IsLogFile}
+use Rattle.leveldb_mem.specs.Log.{End, IsLogFile}
 use Rattle.rusty_leveldb.specs.Contents.{Contents, nothing_there}
 use Rattle.rusty_leveldb.specs.OneLog.{log_path, IsOneLog}
 use Rattle.rusty_leveldb.specs.Holds.{Carries, IsSafe, Holds}

@@ -8,8 +8,8 @@ use Rattle.leveldb_env.specs.Disk.{File, Files, bytes_of, file_kept, or_empty, c
 use Rattle.leveldb_env.specs.Times.{Told}
 use Rattle.leveldb_env.specs.Calls.{Does, EitherSide, NoMemory}
 use Rattle.leveldb_env.specs.FileLaws.{at_same}
-use Rattle.leveldb_log.specs.Log.{log_block_size, End, clean, bad}
-use Rattle.leveldb_log.specs.Writing.{Writing}
+use Rattle.leveldb_mem.specs.Log.{log_block_size, End, clean, bad}
+use Rattle.leveldb_mem.specs.Writing.{Writing}
 use Rattle.rusty_leveldb.specs.Recent.{Numbered}
 use Rattle.rusty_leveldb.specs.Replay.{AreBatches, IsReplayed, IsDamaged}
 use Rattle.rusty_leveldb.specs.Recovery.{IsFoundAs, framed_file, kept_log, SparesLog, IsRecovered, HasCauses, IsFoundOr, IsUntold, IsNotMade, IsNoLog}

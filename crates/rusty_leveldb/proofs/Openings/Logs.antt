@@ -3,9 +3,9 @@ use Rattle.std.proofs.Common.{◌≡◌, ◌⊎◌, ◌%◌, inl, inr, ⊎_elim,
 use Rattle.std.specs.Prelude.{if◌then◌else◌}
 use Rattle.leveldb_base.specs.History.{History}
 use Rattle.leveldb_env.specs.Disk.{File, bytes_of, kept_file, file_kept}
-use Rattle.leveldb_log.specs.Log.{log_block_size, End, clean, bad, IsLogFile, framed}
-use Rattle.leveldb_log.specs.LogLaws.{log_laws}
-use Rattle.leveldb_log.specs.Writing.{Writing}
+use Rattle.leveldb_mem.specs.Log.{log_block_size, End, clean, bad, IsLogFile, framed}
+use Rattle.leveldb_mem.specs.LogLaws.{log_laws}
+use Rattle.leveldb_mem.specs.Writing.{Writing}
 use Rattle.rusty_leveldb.specs.Contents.{Contents, nothing_there}
 use Rattle.rusty_leveldb.specs.OneLog.{IsRead, contents_of}
 use Rattle.rusty_leveldb.specs.Recent.{Numbered}

@@ -8,7 +8,7 @@ use Rattle.leveldb_base.specs.ViewLaws.Elements.{in_none}
 use Rattle.leveldb_env.specs.declared.env.Env.{Ghosts}
 use Rattle.leveldb_env.specs.Disk.{File, AreBytes}
 use Rattle.leveldb_env.specs.Times.{Told}
-use Rattle.leveldb_log.specs.Log.{clean}
+use Rattle.leveldb_mem.specs.Log.{clean}
 use Rattle.rusty_leveldb.specs.Contents.{Store, missing, made, Contents}
 use Rattle.rusty_leveldb.specs.OneLog.{log_path, IsRead, all_entries, contents_of}
 use Rattle.rusty_leveldb.specs.Names.{lock_path}

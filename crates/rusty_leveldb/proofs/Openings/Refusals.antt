@@ -4,7 +4,7 @@ use Rattle.std.specs.Prelude.{IsTrue}
 use Rattle.leveldb_base.specs.declared.error.Status.{Status}
 use Rattle.leveldb_env.specs.Disk.{File}
 use Rattle.leveldb_env.specs.Calls.{HasCause, NoMemory}
-use Rattle.leveldb_log.specs.Log.{End}
+use Rattle.leveldb_mem.specs.Log.{End}
 use Rattle.rusty_leveldb.specs.Replay.{IsDamaged}
 use Rattle.rusty_leveldb.specs.Recovery.{IsFoundAs, HasCauses, IsUntold, IsNoLog}
 use Rattle.rusty_leveldb.proofs.Openings.Logs.{found_batches}

@@ -2,7 +2,7 @@
 use Rattle.std.proofs.Common.{◌≡◌, ◌≤◌, ◌+◌, inl, inr, ⊎_elim, ℕ, Bool, List, length, refl, sym, ◌∙◌, ap, subst, Option, Some, None}
 use Rattle.leveldb_base.specs.History.{Entry, History, joined, count_of}
 use Rattle.leveldb_env.specs.Disk.{File, Files, Disk}
-use Rattle.leveldb_log.specs.Log.{End}
+use Rattle.leveldb_mem.specs.Log.{End}
 use Rattle.rusty_leveldb.specs.Contents.{Store, missing, made, Contents, Stays}
 use Rattle.rusty_leveldb.specs.OneLog.{log_path, IsRead}
 use Rattle.rusty_leveldb.specs.Holds.{Holds, HasStore, KeepsStore}

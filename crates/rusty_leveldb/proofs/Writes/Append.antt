@@ -8,7 +8,7 @@ use Rattle.leveldb_env.specs.declared.env.Env.{Ghosts}
 use Rattle.leveldb_env.specs.Disk.{File, Files, bytes_of, longer_file, AreBytes}
 use Rattle.leveldb_env.specs.Calls.{Appending}
 use Rattle.leveldb_env.specs.FileLaws.{extended-same}
-use Rattle.leveldb_log.specs.Log.{frame_at}
+use Rattle.leveldb_mem.specs.Log.{frame_at}
 use Rattle.leveldb_mem.specs.Batch.{BatchOf}
 use Rattle.rusty_leveldb.specs.declared.db_impl.engine.Mode.TheVariants.{Broken}
 use Rattle.rusty_leveldb.specs.declared.db_impl.engine.Engine.{Engine}

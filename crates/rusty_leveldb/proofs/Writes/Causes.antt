@@ -9,8 +9,8 @@ use Rattle.leveldb_env.specs.Calls.{HasCause, IsGone}
 use Rattle.leveldb_env.specs.FileLaws.{at_same}
 use Rattle.leveldb_env.specs.OpenFiles.{opened, Appends, Syncs}
 use Rattle.leveldb_env.specs.Runs.{cause_after, cause_same}
-use Rattle.leveldb_log.specs.Writing.{Adds, Refuses, Flushes}
-use Rattle.leveldb_log.specs.Writing as writing
+use Rattle.leveldb_mem.specs.Writing.{Adds, Refuses, Flushes}
+use Rattle.leveldb_mem.specs.Writing as writing
 use Rattle.rusty_leveldb.specs.declared.db_impl.engine.Mode.TheVariants.{Open, Broken, Closed}
 use Rattle.rusty_leveldb.specs.declared.db_impl.engine.Engine.{Engine}
 use Rattle.rusty_leveldb.specs.Engine.{WriteExcused, LogExcused}

@@ -8,9 +8,9 @@ use Rattle.leveldb_base.specs.ViewLaws.{AreUpTo, same_with_more}
 use Rattle.leveldb_env.specs.declared.env.Env.{Ghosts}
 use Rattle.leveldb_env.specs.Disk.{File, Files, bytes_of, longer_file, file_kept, extended, synced, AreBytes}
 use Rattle.leveldb_env.specs.FileLaws.{extended-same, synced-same}
-use Rattle.leveldb_log.specs.Log.{log_block_size, clean, IsLogFile}
-use Rattle.leveldb_log.specs.LogLaws.{log_laws}
-use Rattle.leveldb_log.specs.Writing.{behind_frame}
+use Rattle.leveldb_mem.specs.Log.{log_block_size, clean, IsLogFile}
+use Rattle.leveldb_mem.specs.LogLaws.{log_laws}
+use Rattle.leveldb_mem.specs.Writing.{behind_frame}
 use Rattle.leveldb_mem.specs.Batch.{batch_of}
 use Rattle.rusty_leveldb.specs.declared.db_impl.engine.Mode.TheVariants.{Open}
 use Rattle.rusty_leveldb.specs.declared.db_impl.engine.Engine.{Engine}

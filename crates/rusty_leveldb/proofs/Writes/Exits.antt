@@ -12,8 +12,8 @@ use Rattle.leveldb_env.specs.FileLaws.{extended-same, appended}
 use Rattle.leveldb_env.specs.OpenFiles.{opened, Appends, Syncs}
 use Rattle.leveldb_env.specs.Runs.{cause_after}
 use Rattle.leveldb_mem.specs.Batch.{batch_of}
-use Rattle.leveldb_log.specs.Writing.{Adds, Refuses, Flushes}
-use Rattle.leveldb_log.specs.Writing as writing
+use Rattle.leveldb_mem.specs.Writing.{Adds, Refuses, Flushes}
+use Rattle.leveldb_mem.specs.Writing as writing
 use Rattle.rusty_leveldb.specs.declared.db_impl.engine.Mode.TheVariants.{Open, Broken}
 use Rattle.rusty_leveldb.specs.declared.db_impl.engine.Engine.{Engine}
 use Rattle.rusty_leveldb.specs.OneLog.{log_path}

@@ -9,8 +9,8 @@ use Rattle.leveldb_env.specs.declared.env.Env.{Ghosts}
 use Rattle.leveldb_env.specs.Disk.{File, Files, bytes_of, file_kept, synced}
 use Rattle.leveldb_env.specs.FileLaws.{synced-same}
 use Rattle.leveldb_env.specs.OpenFiles.{opened, Syncs}
-use Rattle.leveldb_log.specs.Log.{log_block_size, clean, IsLogFile}
-use Rattle.leveldb_log.specs.Writing.{Flushes}
+use Rattle.leveldb_mem.specs.Log.{log_block_size, clean, IsLogFile}
+use Rattle.leveldb_mem.specs.Writing.{Flushes}
 use Rattle.rusty_leveldb.specs.declared.db_impl.engine.Mode.TheVariants.{Open, Broken}
 use Rattle.rusty_leveldb.specs.declared.db_impl.engine.Engine.{Engine}
 use Rattle.rusty_leveldb.specs.Names.{lock_path}

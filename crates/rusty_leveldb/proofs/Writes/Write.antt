@@ -9,7 +9,7 @@ use Rattle.leveldb_env.specs.declared.env.Env.{Ghosts}
 use Rattle.leveldb_env.specs.Disk.{AreBytes}
 use Rattle.leveldb_env.specs.OpenFiles.{opened, Appends, Syncs}
 use Rattle.leveldb_mem.specs.Batch.{Batch, BatchOf, batch_of, with_item}
-use Rattle.leveldb_log.specs.Writing.{Writing, broken_off, Adds, Refuses, Flushes}
+use Rattle.leveldb_mem.specs.Writing.{Writing, broken_off, Adds, Refuses, Flushes}
 use Rattle.rusty_leveldb.specs.declared.db_impl.engine.Mode.{Mode}
 use Rattle.rusty_leveldb.specs.declared.db_impl.engine.Mode.TheVariants.{Open, Broken}
 use Rattle.rusty_leveldb.specs.declared.db_impl.engine.Engine.{Engine}

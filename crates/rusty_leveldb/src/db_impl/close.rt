@@ -10,7 +10,7 @@ use super::engine::{Engine, Mode, check_open};
 use leveldb_base::cmp::UserCmp;
 use leveldb_base::error::{Result, StatusCode};
 use leveldb_env::env::Env;
-use leveldb_options::filter::FilterPolicy;
+use leveldb_env::filter::FilterPolicy;
 
 impl<E: Env, C: UserCmp + Copy, FP: FilterPolicy + Copy> Engine<E, C, FP> {
     /// Makes a crash keep all batches and gives back the lock. A store that is refused this is broken, and keeps its lock.

@@ -10,9 +10,9 @@ use super::recent::Recent;
 use leveldb_base::cmp::{Cmp, UserCmp};
 use leveldb_base::error::{Result, StatusCode, err};
 use leveldb_env::env::Env;
-use leveldb_log::log::WriterCore;
-use leveldb_options::filter::FilterPolicy;
-use leveldb_options::options::Options;
+use leveldb_env::filter::FilterPolicy;
+use leveldb_env::options::Options;
+use leveldb_mem::log::WriterCore;
 use std::alloc::Global;
 
 /// Whether a store may be read and written to.

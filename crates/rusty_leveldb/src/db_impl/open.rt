@@ -2,7 +2,7 @@
 ghost use Rattle.std.specs.Prelude.{◌≡◌, ◌⊎◌, if◌then◌else◌, length, map, Some, None, IsTrue, IfOk, OnOk, OnErr};
 ghost use Rattle.leveldb_env.specs.Disk.{bytes_of};
 ghost use Rattle.leveldb_env.specs.Calls.{HasCause, NoMemory, SameLocks};
-ghost use Rattle.leveldb_log.specs.Log.{clean, bad};
+ghost use Rattle.leveldb_mem.specs.Log.{clean, bad};
 ghost use Rattle.rusty_leveldb.specs.OneLog.{log_path};
 ghost use Rattle.rusty_leveldb.specs.State.{Opening, open_store};
 ghost use Rattle.rusty_leveldb.specs.Serves.{Reads, IsUnreadable, done_or, given_engine};
@@ -18,9 +18,9 @@ use leveldb_base::cmp::UserCmp;
 use leveldb_base::error::{Result, StatusCode, err};
 use leveldb_env::env::Env;
 use leveldb_env::env::whole_files::replace_file;
-use leveldb_log::log::{WriterCore, read_log_file};
-use leveldb_options::filter::FilterPolicy;
-use leveldb_options::options::Options;
+use leveldb_env::filter::FilterPolicy;
+use leveldb_env::options::Options;
+use leveldb_mem::log::{WriterCore, read_log_file};
 use std::alloc::Global;
 
 impl<E: Env, C: UserCmp + Copy, FP: FilterPolicy + Copy> Engine<E, C, FP> {

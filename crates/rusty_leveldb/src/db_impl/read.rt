@@ -9,7 +9,7 @@ use bytes::Bytes;
 use leveldb_base::cmp::UserCmp;
 use leveldb_base::error::{Result, StatusCode, err};
 use leveldb_env::env::Env;
-use leveldb_options::filter::FilterPolicy;
+use leveldb_env::filter::FilterPolicy;
 
 /// The greatest length of a key, in bytes.
 const MAX_KEY_SIZE: usize = 1 << 30;

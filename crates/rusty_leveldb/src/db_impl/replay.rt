@@ -3,7 +3,7 @@ ghost use Rattle.std.specs.Prelude.{◌≡◌, ◌⊎◌, OnOk, IfOk, IfErr, map
 ghost use Rattle.leveldb_base.specs.Status.{IsOutOfMemory};
 ghost use Rattle.leveldb_base.specs.declared.error.StatusCode.TheVariants.{Corruption};
 ghost use Rattle.leveldb_mem.specs.Batch.{IsBatch};
-ghost use Rattle.leveldb_log.specs.Log.{log_block_size, framed};
+ghost use Rattle.leveldb_mem.specs.Log.{log_block_size, framed};
 ghost use Rattle.rusty_leveldb.specs.OneLog.{IsRecordOf};
 ghost use Rattle.rusty_leveldb.specs.Recent.{Follows};
 ghost use Rattle.rusty_leveldb.specs.Replay.{IsReplayed, IsDamaged};
@@ -12,7 +12,7 @@ use super::recent::Recent;
 use leveldb_base::cmp::UserCmp;
 use leveldb_base::error::{Result, StatusCode, err};
 use leveldb_base::types::{MAX_SEQUENCE_NUMBER, SequenceNumber};
-use leveldb_log::log::LogWriter;
+use leveldb_mem::log::LogWriter;
 use leveldb_mem::write_batch::WriteBatch;
 use std::alloc::Global;
 

@@ -12,9 +12,9 @@ use bytes::Bytes;
 use leveldb_base::cmp::UserCmp;
 use leveldb_base::error::Result;
 use leveldb_env::env::Env;
+use leveldb_env::filter::FilterPolicy;
+use leveldb_env::options::Options;
 use leveldb_mem::write_batch::WriteBatch;
-use leveldb_options::filter::FilterPolicy;
-use leveldb_options::options::Options;
 use std::alloc::Global;
 
 /// A store's state beside a borrow of its environment, for as long as the store is used.

@@ -4,10 +4,10 @@ use super::{DB, Engine, Store};
 use leveldb_base::cmp::DefaultCmp;
 use leveldb_base::error::{Result, StatusCode};
 use leveldb_env::env::Env;
+use leveldb_env::filter::BloomPolicy;
 use leveldb_env::mem_env::{MemEnv, Pick, RecordEnv};
+use leveldb_env::options::Options;
 use leveldb_mem::write_batch::WriteBatch;
-use leveldb_options::filter::BloomPolicy;
-use leveldb_options::options::Options;
 use std::alloc::Global;
 
 const LOG: &str = "db/000003.log";

@@ -4,7 +4,7 @@ ghost use Rattle.leveldb_env.specs.Calls.{HasCause};
 ghost use Rattle.leveldb_env.specs.Disk.{AreBytes};
 ghost use Rattle.leveldb_env.specs.OpenFiles.{opened, Appends, Syncs};
 ghost use Rattle.leveldb_mem.specs.Batch.{item_of};
-ghost use Rattle.leveldb_log.specs.Writing.{Adds, Refuses, Flushes};
+ghost use Rattle.leveldb_mem.specs.Writing.{Adds, Refuses, Flushes};
 ghost use Rattle.rusty_leveldb.specs.State.{write, flush};
 ghost use Rattle.rusty_leveldb.specs.Serves.{done_or};
 ghost use Rattle.rusty_leveldb.specs.Engine.{Answers, WriteExcused, SyncExcused};
@@ -13,9 +13,9 @@ use super::engine::{Engine, Mode, check_open};
 use leveldb_base::cmp::UserCmp;
 use leveldb_base::error::Result;
 use leveldb_env::env::{Env, EnvFile};
-use leveldb_log::log::WriterCore;
+use leveldb_env::filter::FilterPolicy;
+use leveldb_mem::log::WriterCore;
 use leveldb_mem::write_batch::WriteBatch;
-use leveldb_options::filter::FilterPolicy;
 
 impl<E: Env, C: UserCmp + Copy, FP: FilterPolicy + Copy> Engine<E, C, FP> {
     /// Gives the key this value, without a sync.

@@ -11,7 +11,7 @@ use super::replies::put_replies;
 use super::runs::run;
 use leveldb_base::error::Status;
 use leveldb_env::env::Env;
-use leveldb_options::options::Options;
+use leveldb_env::options::Options;
 use std::alloc::{AllocError, Global};
 use std::fmt;
 use std::io::{self, Read, Write};

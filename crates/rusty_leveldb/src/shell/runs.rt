@@ -14,9 +14,9 @@ use crate::db_impl::Engine;
 use leveldb_base::cmp::UserCmp;
 use leveldb_base::error::{Result, StatusCode};
 use leveldb_env::env::Env;
+use leveldb_env::filter::FilterPolicy;
+use leveldb_env::options::Options;
 use leveldb_mem::write_batch::WriteBatch;
-use leveldb_options::filter::FilterPolicy;
-use leveldb_options::options::Options;
 use std::alloc::Global;
 
 /// Opens a store, answers the commands one after another, and gives back its lock where no command did. A refused command is

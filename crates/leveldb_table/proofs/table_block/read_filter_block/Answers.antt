@@ -1,6 +1,6 @@
 use Rattle.std.proofs.Common.{sym, subst, inl, inr, ⊎_elim}
 use Rattle.std.proofs.lemmas.Result.{IfErr-weaker}
-use Rattle.leveldb_options.specs.FilterBlock.{IsFilterBlock}
+use Rattle.leveldb_env.specs.FilterBlock.{IsFilterBlock}
 use Rattle.leveldb_table.proofs.TableCalls.{damaged_or_memory, reads_ends, reads_own, reads_weaker, reads_refused}
 use Rattle.leveldb_table.proofs.TablePlaces.{stores_one}
 use Rattle.leveldb_table.proofs.table_block.read_filter_block.Goals as goal

@@ -1,6 +1,6 @@
 use Rattle.std.proofs.Common.{sym, ap, ◌∙◌, Some, inl, inr, ⊎_elim}
 use Rattle.std.proofs.lemmas.Result.{IfErr-weaker}
-use Rattle.leveldb_options.specs.contracts.compressor.CompressorListCoders.TheImpl
+use Rattle.leveldb_env.specs.contracts.compressor.CompressorListCoders.TheImpl
 use Rattle.leveldb_table.specs.TableReads.{IsUndecoded}
 use Rattle.leveldb_table.proofs.TableBlocks.{lacks_stored, lacks_coder, lacks_text, lacks_block, undecoded_coder, undecoded_text, undecoded_not}
 use Rattle.leveldb_table.proofs.TableCalls.{damaged_or_memory, reads_ends, reads_passed, reads_weaker, reads_refused, fails_weaker, fails_refused}

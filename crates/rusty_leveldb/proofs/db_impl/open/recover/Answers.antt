@@ -1,7 +1,7 @@
 use Rattle.std.proofs.Common.{◌∙◌, ap}
 use Rattle.std.specs.Prelude.{map, if◌then◌else◌}
 use Rattle.std.proofs.lemmas.Result.{err_from_is_err_and}
-use Rattle.leveldb_log.specs.Log.{clean, bad}
+use Rattle.leveldb_mem.specs.Log.{clean, bad}
 use Rattle.rusty_leveldb.specs.OneLog.{log_path}
 use Rattle.rusty_leveldb.proofs.Openings.Calls.{mend_spares, open_spares, open_recovers, read_refused, replay_refused}
 use Rattle.rusty_leveldb.proofs.db_impl.open.recover.Goals as goal

@@ -1,7 +1,7 @@
 -- Each record's frame is put behind the others.
 use Rattle.std.proofs.Common.{ℕ, take, sym, ◌∙◌, ap, Vec}
 use Rattle.std.specs.Global.{Global}
-use Rattle.leveldb_log.specs.Log.{log_block_size, framed}
+use Rattle.leveldb_mem.specs.Log.{log_block_size, framed}
 use Rattle.rusty_leveldb.proofs.Texts.{texts, texts_more}
 use Rattle.rusty_leveldb.proofs.Frames.{frames_more, writer_more}
 use Rattle.rusty_leveldb.proofs.db_impl.replay.frame_all.Goals as goal

@@ -1,6 +1,6 @@
 -- The frames of the records walked so far are written, one behind the other, and the writer stands behind them.
 use Rattle.std.proofs.Common.{◌≡◌, map, take, false}
-use Rattle.leveldb_log.specs.Log.{log_block_size, framed, behind}
+use Rattle.leveldb_mem.specs.Log.{log_block_size, framed, behind}
 use Rattle.rusty_leveldb.proofs.db_impl.replay.frame_all.Given as goal
 
 abbrev pub invariant-loop-bytes : goal.invariant-loop-bytes

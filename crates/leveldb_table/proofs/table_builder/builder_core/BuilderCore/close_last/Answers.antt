@@ -2,8 +2,8 @@ use Rattle.std.proofs.Common.{◌≢◌, sym, ap, subst, arith, None, inl}
 use Rattle.std.specs.declared.cmp.Ordering.TheVariants.{Greater}
 use Rattle.std.proofs.lemmas.Result.{err_from_is_err_and}
 use Rattle.leveldb_env.specs.SinkLaws.{PutsAll-none, PutsAll-one}
-use Rattle.leveldb_options.specs.contracts.compressor.CompressorListCoders.TheImpl.{ghosts as coders}
-use Rattle.leveldb_options.specs.FilterBlockLaws.{keeps_keys}
+use Rattle.leveldb_env.specs.contracts.compressor.CompressorListCoders.TheImpl.{ghosts as coders}
+use Rattle.leveldb_env.specs.FilterBlockLaws.{keeps_keys}
 use Rattle.leveldb_table.specs.Block.{pairs_of}
 use Rattle.leveldb_table.specs.TableBuilding.{stage, last_of}
 use Rattle.leveldb_table.proofs.TableSteps.{OnOk-with, IfErr-with}

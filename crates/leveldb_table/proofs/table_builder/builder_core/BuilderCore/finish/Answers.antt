@@ -1,7 +1,7 @@
 use Rattle.std.proofs.Common.{◌++◌, sym, append_assoc, inl, inr}
 use Rattle.std.proofs.lemmas.Result.{err_from_is_err_and, IfOk-weaker}
 use Rattle.leveldb_env.specs.SinkLaws.{PutsAll-none, PutsAll-trans}
-use Rattle.leveldb_options.specs.FilterBlockLaws.{keeps_keys}
+use Rattle.leveldb_env.specs.FilterBlockLaws.{keeps_keys}
 use Rattle.leveldb_table.specs.TableBuilding.{stage}
 use Rattle.leveldb_table.proofs.TableSteps.{IfErr-with}
 use Rattle.leveldb_table.proofs.TableSinks.{ends_with, ends_own, ends_after}

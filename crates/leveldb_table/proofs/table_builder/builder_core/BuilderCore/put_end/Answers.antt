@@ -1,7 +1,7 @@
 use Rattle.std.proofs.Common.{sym, ap, refl, ◌∙◌, subst, ◌+◌, inl, inr}
 use Rattle.std.proofs.lemmas.Result.{err_from_is_err_and, IfOk-weaker}
 use Rattle.leveldb_env.specs.SinkLaws.{PutsAll-none, PutsAll-one, PutsAll-trans}
-use Rattle.leveldb_options.specs.contracts.compressor.CompressorListCoders.TheImpl.{ghosts as coders}
+use Rattle.leveldb_env.specs.contracts.compressor.CompressorListCoders.TheImpl.{ghosts as coders}
 use Rattle.leveldb_table.specs.TableBuilding.{IsPlaced}
 use Rattle.leveldb_table.proofs.TableSteps.{IfErr-with}
 use Rattle.leveldb_table.proofs.TableSinks.{own_filter, own_block, ends_with, ends_own, ends_refused, ends_block, ends_after, block_placed, block_ends}

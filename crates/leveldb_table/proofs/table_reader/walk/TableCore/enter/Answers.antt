@@ -1,7 +1,7 @@
 use Rattle.std.proofs.Common.{◌≡◌, List, ℕ, None, refl, sym, ◌∙◌, ap, subst}
 use Rattle.leveldb_base.specs.Handle.{Handle}
 use Rattle.leveldb_base.specs.Places.{pair_at}
-use Rattle.leveldb_options.specs.contracts.compressor.CompressorListCoders.TheImpl
+use Rattle.leveldb_env.specs.contracts.compressor.CompressorListCoders.TheImpl
 use Rattle.leveldb_table.specs.TableCached.{HoldsOf}
 use Rattle.leveldb_table.specs.TableEnters.{IsBehind}
 use Rattle.leveldb_table.specs.TableReads.{Has, IsNamedBy, IsNamedIn}

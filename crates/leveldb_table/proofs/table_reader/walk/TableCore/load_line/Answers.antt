@@ -1,7 +1,7 @@
 use Rattle.std.proofs.Common.{◌≡◌, Some, ap, ◌∙◌, subst, sym}
 use Rattle.leveldb_base.specs.Handle.{Handle, handle_bytes}
 use Rattle.leveldb_base.specs.Places.{pair_of}
-use Rattle.leveldb_options.specs.contracts.compressor.CompressorListCoders.TheImpl
+use Rattle.leveldb_env.specs.contracts.compressor.CompressorListCoders.TheImpl
 use Rattle.leveldb_table.specs.TableEnters.{line_of}
 use Rattle.leveldb_table.specs.TableReads.{IsNamedBy}
 use Rattle.leveldb_table.proofs.TableCalls.{reads_weaker}

@@ -1,6 +1,6 @@
 use Rattle.std.proofs.Common.{◌≡◌, None, refl, sym, ◌∙◌, ap, inr}
 use Rattle.leveldb_base.specs.Places.{seek_place, pair_of}
-use Rattle.leveldb_options.specs.contracts.compressor.CompressorListCoders.TheImpl
+use Rattle.leveldb_env.specs.contracts.compressor.CompressorListCoders.TheImpl
 use Rattle.leveldb_table.specs.TableEnters.{SeeksTo}
 use Rattle.leveldb_table.specs.TableMoves.{HasLine, line_for, Sought}
 use Rattle.leveldb_table.specs.TableWalk.{pairs_over}

@@ -2,7 +2,7 @@ use Rattle.std.proofs.Common.{◌≡◌, List, ℕ, false, None, Some, refl, sym
 use Rattle.std.specs.Prelude.{is_some}
 use Rattle.leveldb_base.specs.Handle.{Handle}
 use Rattle.leveldb_base.specs.Places.{pair_at, next_place, place_within}
-use Rattle.leveldb_options.specs.contracts.compressor.CompressorListCoders.TheImpl
+use Rattle.leveldb_env.specs.contracts.compressor.CompressorListCoders.TheImpl
 use Rattle.leveldb_table.specs.TableEnters.{line_of}
 use Rattle.leveldb_table.specs.TableCached.{HoldsOf}
 use Rattle.leveldb_table.specs.TableReads.{Has, IsNamedBy, IsNamedIn}

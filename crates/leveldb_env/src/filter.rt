@@ -1,0 +1,164 @@
+//! Filters: what tells of most keys that they are in none of the blocks that it was made for.
+ghost use Rattle.std.specs.Prelude.{◌≡◌, ◌<◌, ◌≤◌, ℕ, Bool, true, List, [], length, All, Contains, IfOk, IfErr, OnOk, slice_index_or};
+ghost use Rattle.std.specs.List.Sorted.{IsNonDecreasing};
+ghost use Rattle.leveldb_env.specs.Filters.{keys_at, IsNoFilter};
+
+use leveldb_base::error::Result;
+use std::alloc::Global;
+
+mod bloom;
+mod internal;
+
+pub use bloom::BloomPolicy;
+pub use internal::InternalFilterPolicy;
+
+/// How a filter is made for keys, and how a key is looked for in it. A key from which a filter was
+/// made matches it; of another key the answer is open.
+pub trait FilterPolicy {
+    ghost name: { Self → List ℕ };
+
+    /// The filter that is made for these keys.
+    ghost filter_for: { Self → List (List ℕ) → List ℕ };
+
+    /// Whether that filter is too large.
+    ghost too_large: { Self → List (List ℕ) → Type 0 };
+
+    /// Whether a key matches a filter.
+    ghost matches: { Self → List ℕ → List ℕ → Bool };
+
+    /// The policy's name, under which a table keeps its filters.
+    fn name(&self) -> &'static str
+        ensures { result.now ≡ name self.now };
+
+    /// A filter for keys that stand one after another, each from its offset on to the next one or
+    /// to the end. `NotSupported` where the filter is too large.
+    fn create_filter(&self, alloc: Global, keys: &[u8], key_offsets: &[usize]) -> Result<Vec<u8>>
+        requires rising { IsNonDecreasing key_offsets.now }
+        requires within { All (λ offset. offset ≤ length keys.now) key_offsets.now }
+        ensures ok { IfOk result (λ filter. filter.items ≡ filter_for self.now (keys_at key_offsets.now keys.now)) }
+        ensures fits { OnOk result (too_large self.now (keys_at key_offsets.now keys.now) → ⊥) }
+        ensures cause { IfErr result (IsNoFilter (too_large self.now (keys_at key_offsets.now keys.now))) };
+
+    /// Whether the key may be one of those that the filter was made for. It takes no memory.
+    fn key_may_match(&self, key: &[u8], filter: &[u8]) -> bool
+        ensures { result ≡ matches self.now key.now filter.now };
+
+    /// A key from which a filter was made matches it.
+    ghost finds: { (policy : Self) (keys : List (List ℕ)) (key : List ℕ) → Contains keys key → matches policy key (filter_for policy keys) ≡ true };
+}
+
+/// A reference to a policy is one too.
+impl<FP: FilterPolicy> FilterPolicy for &FP {
+    ghost name = { λ policy. FP.name policy.now };
+
+    ghost filter_for = { λ policy. FP.filter_for policy.now };
+
+    ghost too_large = { λ policy. FP.too_large policy.now };
+
+    ghost matches = { λ policy. FP.matches policy.now };
+
+    fn name(&self) -> &'static str {
+        (**self).name()
+    }
+
+    fn create_filter(&self, alloc: Global, keys: &[u8], key_offsets: &[usize]) -> Result<Vec<u8>> {
+        (**self).create_filter(alloc, keys, key_offsets)
+    }
+
+    fn key_may_match(&self, key: &[u8], filter: &[u8]) -> bool {
+        (**self).key_may_match(key, filter)
+    }
+
+    ghost finds = { λ policy. FP.finds policy.now };
+}
+
+/// No filter: an empty one, which every key matches.
+#[derive(Clone, Copy, Debug, Default)]
+pub struct NoFilterPolicy;
+
+impl NoFilterPolicy {
+    pub fn new() -> NoFilterPolicy {
+        NoFilterPolicy
+    }
+}
+
+impl FilterPolicy for NoFilterPolicy {
+    ghost use Rattle.std.specs.Prelude.{codes, refl};
+
+    ghost name = { λ _. codes "_" };
+
+    ghost filter_for = { λ _ _. [] };
+
+    ghost too_large = { λ _ _. ⊥ };
+
+    ghost matches = { λ _ _ _. true };
+
+    fn name(&self) -> &'static str {
+        "_"
+    }
+
+    fn create_filter(
+        &self,
+        alloc: Global,
+        _keys: &[u8],
+        _key_offsets: &[usize],
+    ) -> Result<Vec<u8>> {
+        Ok(Vec::new(alloc))
+    }
+
+    fn key_may_match(&self, _key: &[u8], _filter: &[u8]) -> bool {
+        true
+    }
+
+    ghost finds = { λ _ _ _ _. refl };
+}
+
+// The key of this number among those that stand one after another.
+#[inline]
+fn key_at<'a>(keys: &'a [u8], key_offsets: &[usize], index: usize) -> &'a [u8]
+    requires rising { IsNonDecreasing key_offsets.now }
+    requires within { All (λ offset. offset ≤ length keys.now) key_offsets.now }
+    requires there { index < length key_offsets.now }
+    ensures { result.now ≡ slice_index_or (keys_at key_offsets.now keys.now) index [] }
+{
+    let end = if index + 1 < key_offsets.len() {
+        key_offsets[index + 1]
+    } else {
+        keys.len()
+    };
+    &keys[key_offsets[index]..end]
+}
+
+#[cfg(test)]
+mod tests {
+    use super::*;
+
+    /// A key of those that a filter is made for, looked for in it under any policy.
+    fn is_found<FP: FilterPolicy + Drop>(
+        policy: FP,
+        alloc: Global,
+        keys: &[u8],
+        key_offsets: &[usize],
+        key: &[u8],
+    ) -> Result<bool>
+        requires rising { IsNonDecreasing key_offsets.now }
+        requires within { All (λ offset. offset ≤ length keys.now) key_offsets.now }
+        requires there { Contains (keys_at key_offsets.now keys.now) key.now }
+        ensures { IfOk result (λ found. found ≡ true) }
+    {
+        let filter = policy.create_filter(alloc, keys, key_offsets)?;
+        Ok(policy.key_may_match(key, &filter))
+    }
+
+    #[test]
+    fn no_filter_matches_all(rt: HostRuntime) -> Result<()> {
+        let policy = NoFilterPolicy::new();
+        assert_eq!(rt; policy.name(), "_");
+        let filter = policy.create_filter(rt.alloc(), b"abcde", &[0, 3])?;
+        assert!(rt; filter.is_empty());
+        assert!(rt; policy.key_may_match(b"abc", &filter));
+        assert!(rt; policy.key_may_match(b"x", b"any filter"));
+        assert!(rt; is_found(&policy, rt.alloc(), b"abcde", &[0, 3], b"abc")?);
+        Ok(())
+    }
+}

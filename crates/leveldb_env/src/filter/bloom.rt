@@ -1,0 +1,347 @@
+//! Bloom filters: each key sets some bits, and a key of which all are set may be one of those.
+//!
+//! A filter is its bits, eight a byte from the lowest on, and in one more byte how many of them stand for a key.
+ghost use Rattle.std.specs.Prelude.{◌≡◌, ◌==◌, ◌||◌, false, ◌*◌, ◌^◌, ◌<◌, ◌≤◌, ℕ, List, IfOk, IfErr, All, MatchOption, length, fold, slice_index};
+ghost use Rattle.std.specs.List.{list_all, list_any};
+ghost use Rattle.std.specs.List.Sorted.{IsNonDecreasing};
+ghost use Rattle.byteorder.specs.Endian.{little_number};
+ghost use Rattle.leveldb_env.specs.Filters.{keys_at};
+ghost use Rattle.leveldb_env.specs.Bloom.{mixed, hash_behind, bloom_hash, probe_count, probes, has_bit, bits_len, is_probe, bits_of, count_in, tells_nothing};
+
+use crate::filter::{FilterPolicy, key_at};
+use leveldb_base::error::{Result, StatusCode, err};
+use std::alloc::Global;
+use std::marker::Model;
+
+const SEED: u32 = 0xbc9f_1d34;
+
+const FACTOR: u32 = 0xc6a4_a793;
+
+// A filter with more probes a key is none that this policy reads.
+const MAX_PROBES: u8 = 30;
+
+// 32 bits can't number the bits of so many bytes.
+const TOO_LONG: usize = 1 << 29;
+
+/// LevelDB's filters, of so many bits a key. Clauses see the policy as that number.
+#[derive(Clone, Copy, Debug)]
+pub struct BloomPolicy {
+    bits_per_key: u32,
+}
+
+impl Model for BloomPolicy {
+    ghost Value = { ℕ };
+
+    ghost view = { λ policy. policy.bits_per_key };
+
+    ghost inverse = { λ bits_per_key. record { bits_per_key = bits_per_key } };
+}
+
+impl BloomPolicy {
+    /// Filters of so many bits a key. With ten, one key in a hundred matches a filter that it isn't in.
+    pub fn new(bits_per_key: u32) -> BloomPolicy
+        ensures { result ≡ bits_per_key }
+    {
+        BloomPolicy { bits_per_key }
+    }
+}
+
+impl FilterPolicy for BloomPolicy {
+    ghost use Rattle.std.specs.Prelude.{codes};
+    ghost use Rattle.leveldb_env.specs.Bloom.{bloom_filter, bloom_matches, IsTooLarge};
+    ghost use Rattle.leveldb_env.specs.BloomLaws.{bloom_finds};
+
+    ghost name = { λ _. codes "leveldb.BuiltinBloomFilter2" };
+
+    ghost filter_for = { bloom_filter };
+
+    ghost too_large = { IsTooLarge };
+
+    ghost matches = { λ _. bloom_matches };
+
+    fn name(&self) -> &'static str {
+        "leveldb.BuiltinBloomFilter2"
+    }
+
+    fn create_filter(&self, alloc: Global, keys: &[u8], key_offsets: &[usize]) -> Result<Vec<u8>> {
+        let Some(len) = checked_bits_len(self.bits_per_key, key_offsets.len()) else {
+            return err(
+                alloc,
+                StatusCode::NotSupported,
+                "a filter of 2^32 bits or more",
+            );
+        };
+        let count = probe_count(self.bits_per_key);
+        let mut filter = Vec::with_capacity(alloc, len + 1)?;
+        filter.resize(len, 0)?;
+        set_keys(&mut filter, count, keys, key_offsets);
+        filter.push(count)?;
+        Ok(filter)
+    }
+
+    fn key_may_match(&self, key: &[u8], filter: &[u8]) -> bool {
+        tells_nothing(filter) || has_probes(filter, key)
+    }
+
+    ghost finds = { bloom_finds };
+}
+
+// How many bytes so many keys take, where 32 bits can number their bits.
+fn checked_bits_len(bits_per_key: u32, keys: usize) -> Option<usize>
+    ensures { MatchOption result (2 ^ 32 ≤ 8 * bits_len bits_per_key keys) (λ len. (len ≡ bits_len bits_per_key keys) × (8 * len < 2 ^ 32)) }
+{
+    let bits = keys.checked_mul(bits_per_key as usize)?;
+    let len = bits.max(64).div_ceil(8);
+    if len < TOO_LONG { Some(len) } else { None }
+}
+
+fn probe_count(bits_per_key: u32) -> u8
+    ensures { result ≡ probe_count bits_per_key }
+{
+    (u64::from(bits_per_key) * 69 / 100).clamp(1, MAX_PROBES as u64) as u8
+}
+
+// Sets the bits of the keys.
+fn set_keys(bytes: &mut [u8], count: u8, keys: &[u8], key_offsets: &[usize])
+    requires some { 0 < length bytes.old }
+    requires fits { 8 * length bytes.old < 2 ^ 32 }
+    requires rising { IsNonDecreasing key_offsets.now }
+    requires within { All (λ offset. offset ≤ length keys.now) key_offsets.now }
+    ensures bits { (bit : ℕ) → has_bit bytes.new bit ≡ (has_bit bytes.old bit || is_probe (8 * length bytes.old) count (keys_at key_offsets.now keys.now) bit) }
+    ensures bytes { (k : ℕ) → slice_index bytes.new k < 256 }
+{
+    for i in 0..key_offsets.len() {
+        set_probes(bytes, count, key_at(keys, key_offsets, i));
+    }
+}
+
+// Sets the bits of a key.
+fn set_probes(bytes: &mut [u8], count: u8, key: &[u8])
+    requires some { 0 < length bytes.old }
+    requires fits { 8 * length bytes.old < 2 ^ 32 }
+    ensures { (bit : ℕ) → has_bit bytes.new bit ≡ (has_bit bytes.old bit || list_any (λ probe. probe == bit) (probes (8 * length bytes.old) count key.now)) }
+{
+    let bits = 8 * bytes.len() as u32;
+    let mut probe = bloom_hash(key);
+    let delta = probe.rotate_left(15);
+    for _ in 0..count {
+        set_bit(bytes, probe % bits);
+        probe = probe.wrapping_add(delta);
+    }
+}
+
+#[inline]
+fn set_bit(bytes: &mut [u8], bit: u32)
+    requires { bit < 8 * length bytes.old }
+    ensures { (other : ℕ) → has_bit bytes.new other ≡ (has_bit bytes.old other || bit == other) }
+{
+    bytes[(bit / 8) as usize] |= 1 << (bit % 8);
+}
+
+// Whether a filter lets every key pass.
+fn tells_nothing(filter: &[u8]) -> bool
+    ensures { result ≡ tells_nothing filter.now }
+{
+    let len = filter.len().saturating_sub(1);
+    len == 0 || filter[len] > MAX_PROBES || len >= TOO_LONG
+}
+
+// Whether each bit of the key is set.
+fn has_probes(filter: &[u8], key: &[u8]) -> bool
+    requires { tells_nothing filter.now ≡ false }
+    ensures { result ≡ list_all (has_bit filter.now) (probes (bits_of filter.now) (count_in filter.now) key.now) }
+{
+    let len = filter.len() - 1;
+    let bits = 8 * len as u32;
+    let mut probe = bloom_hash(key);
+    let delta = probe.rotate_left(15);
+    for _ in 0..filter[len] {
+        let bit = probe % bits;
+        if filter[(bit / 8) as usize] & (1 << (bit % 8)) == 0 {
+            return false;
+        }
+        probe = probe.wrapping_add(delta);
+    }
+    true
+}
+
+fn bloom_hash(key: &[u8]) -> u32
+    ensures { result ≡ bloom_hash key.now }
+{
+    let len = (key.len() % (1 << 32)) as u32;
+    let (words, rest) = key.as_chunks::<4>();
+    let hash = behind_words(SEED ^ len.wrapping_mul(FACTOR), words);
+    if rest.is_empty() {
+        return hash;
+    }
+    let mut word = [0; 4];
+    word[..rest.len()].copy_from_slice(rest);
+    mixed(24, hash, word)
+}
+
+fn behind_words(mut hash: u32, words: &[[u8; 4]]) -> u32
+    ensures { result ≡ fold (λ hash word. mixed 16 hash (little_number 4 word)) hash words.now }
+{
+    for word in words {
+        hash = mixed(16, hash, *word);
+    }
+    hash
+}
+
+#[inline]
+fn mixed(shift: u32, hash: u32, word: [u8; 4]) -> u32
+    requires { shift < 32 }
+    ensures { result ≡ mixed shift hash (little_number 4 word) }
+{
+    let product = hash
+        .wrapping_add(u32::from_le_bytes(word))
+        .wrapping_mul(FACTOR);
+    product ^ (product >> shift)
+}
+
+#[cfg(test)]
+mod tests {
+    use super::*;
+
+    const KEYS: &[u8] = b"abc123def456xxx111xxx222ab00cd00ab908070605040302010";
+
+    const OFFSETS: &[usize] = &[0, 12, 24, 34];
+
+    // The hash by the bytes of each word, from the last on.
+    fn slow_hash(key: &[u8]) -> u32 {
+        let mut hash = SEED ^ FACTOR.wrapping_mul((key.len() % (1 << 32)) as u32);
+        for word in key.chunks(4) {
+            let mut number = 0u32;
+            for byte in word.iter().rev() {
+                number = number.wrapping_mul(256).wrapping_add(u32::from(*byte));
+            }
+            hash = hash.wrapping_add(number).wrapping_mul(FACTOR);
+            hash ^= if word.len() == 4 {
+                hash >> 16
+            } else {
+                hash >> 24
+            };
+        }
+        hash
+    }
+
+    // Whether so many bits of the key are set in these bytes, each found by its number.
+    fn slow_match(key: &[u8], bytes: &[u8], count: u8) -> bool {
+        let hash = u64::from(slow_hash(key));
+        let delta = hash * 0x8000 % 0x1_0000_0000 + hash / 0x2_0000;
+        let bits = (bytes.len() as u64).wrapping_mul(8).max(1);
+        let mut found = true;
+        for turn in 0..u64::from(count) {
+            let bit = hash.wrapping_add(turn.wrapping_mul(delta)) % 0x1_0000_0000 % bits;
+            let byte = bytes.get((bit / 8) as usize).copied().unwrap_or(0);
+            found &= byte >> (bit % 8) & 1 == 1;
+        }
+        found
+    }
+
+    // These hashes are LevelDB's.
+    #[test]
+    fn known_hashes(rt: HostRuntime) {
+        assert_eq!(rt; bloom_hash(b""), 0xbc9f_1d34);
+        assert_eq!(rt; bloom_hash(&[0x62]), 0xef13_45c4);
+        assert_eq!(rt; bloom_hash(&[0xc3, 0x97]), 0x5b66_3814);
+        assert_eq!(rt; bloom_hash(&[0xe2, 0x99, 0xa5]), 0x323c_078f);
+        assert_eq!(rt; bloom_hash(&[0xe1, 0x80, 0xb9, 0x32]), 0xed21_633a);
+    }
+
+    #[test]
+    fn every_length_is_hashed_by_words(rt: HostRuntime) {
+        for len in 0..KEYS.len() + 1 {
+            assert_eq!(rt;
+                bloom_hash(&KEYS[..len]),
+                slow_hash(&KEYS[..len]),
+                "length {len}"
+            );
+        }
+    }
+
+    // The crate's tests have the two filters.
+    #[test]
+    fn known_filters(rt: HostRuntime) -> Result<()> {
+        let policy = BloomPolicy::new(12);
+        assert_eq!(rt; policy.name(), "leveldb.BuiltinBloomFilter2");
+        let filter = policy.create_filter(rt.alloc(), KEYS, OFFSETS)?;
+        assert_eq!(rt;
+            filter.as_slice(),
+            [194, 148, 129, 140, 192, 196, 132, 164, 8].as_slice()
+        );
+        for key in [b"abc123def456", b"xxx111xxx222"] {
+            assert!(rt; policy.key_may_match(key, &filter));
+        }
+        assert!(rt; policy.key_may_match(b"908070605040302010", &filter));
+        assert!(rt; policy.key_may_match(b"ab00cd00ab", &filter));
+        assert!(rt; !policy.key_may_match(b"ab00cd00ac", &filter));
+        let policy = BloomPolicy::new(32);
+        let filter = policy.create_filter(
+            rt.alloc(),
+            b"abcdefghijklmnopqrstuvwxyz",
+            &[0, 4, 8, 12],
+        )?;
+        let bytes = [
+            234, 195, 25, 155, 61, 141, 173, 140, 221, 28, 222, 92, 220, 112, 234, 227, 22,
+        ];
+        assert_eq!(rt; filter.as_slice(), bytes.as_slice());
+        Ok(())
+    }
+
+    #[test]
+    fn bits_are_those_of_the_keys(rt: HostRuntime) -> Result<()> {
+        for bits_per_key in [0, 1, 2, 10, 14, 15, 16, 32, 43, 44, 100] {
+            let policy = BloomPolicy::new(bits_per_key);
+            let filter = policy.create_filter(rt.alloc(), KEYS, OFFSETS)?;
+            let Some((count, bits)) = filter.split_last() else {
+                panic!(rt; "no count");
+            };
+            for i in 0..OFFSETS.len() {
+                assert!(rt; slow_match(key_at(KEYS, OFFSETS, i), bits, *count));
+            }
+            for len in 0..KEYS.len() + 1 {
+                let key = &KEYS[..len];
+                assert_eq!(rt;
+                    policy.key_may_match(key, &filter),
+                    slow_match(key, bits, *count)
+                );
+            }
+        }
+        Ok(())
+    }
+
+    #[test]
+    fn filters_that_tell_nothing(rt: HostRuntime) -> Result<()> {
+        let policy = BloomPolicy::new(10);
+        let rows: [(&[u8], bool); 7] = [
+            (&[], true),
+            (&[6], true),
+            (&[0, 0, 31], true),
+            (&[0, 0, 255], true),
+            (&[0, 0, 0], true),
+            (&[0, 0, 30], false),
+            (&[0, 1], false),
+        ];
+        for (filter, matches) in rows {
+            assert_eq!(rt; policy.key_may_match(b"abc", filter), matches, "{filter:?}");
+        }
+        let none = policy.create_filter(rt.alloc(), b"", &[])?;
+        assert_eq!(rt; none.as_slice(), [0, 0, 0, 0, 0, 0, 0, 0, 6].as_slice());
+        Ok(())
+    }
+
+    #[test]
+    fn filters_past_32_bits_are_refused(rt: HostRuntime) {
+        for (bits_per_key, offsets) in [(u32::MAX, &[0][..]), (u32::MAX / 3, &[0, 0, 0, 0][..])] {
+            let Err(status) = BloomPolicy::new(bits_per_key).create_filter(
+                rt.alloc(),
+                b"abc",
+                offsets,
+            ) else {
+                panic!(rt; "a filter of {bits_per_key} bits a key");
+            };
+            assert_eq!(rt; status.code, StatusCode::NotSupported);
+        }
+    }
+}

@@ -1,0 +1,119 @@
+//! Filters of internal keys, into which the users' keys alone go.
+ghost use Rattle.std.specs.Prelude.{◌≡◌, ◌≤◌, ℕ, List, IfOk, IfErr, All, length, map};
+ghost use Rattle.std.specs.List.Sorted.{IsNonDecreasing};
+ghost use Rattle.leveldb_base.specs.Keys.{user_part};
+ghost use Rattle.leveldb_base.specs.Status.{IsOutOfMemory};
+ghost use Rattle.leveldb_env.specs.Filters.{keys_at};
+
+use crate::filter::{FilterPolicy, key_at};
+use leveldb_base::error::Result;
+use leveldb_base::key_types::{InternalKey, UserKey};
+use std::alloc::Global;
+use std::marker::Model;
+
+/// A policy for users' keys, put to internal keys: the eight bytes of the tag are cut off each. A key of fewer bytes
+/// has no user's key, and is taken as empty. Clauses see it as the policy for users' keys.
+#[derive(Clone, Copy, Debug, Drop)]
+pub struct InternalFilterPolicy<FP> {
+    internal: FP,
+}
+
+impl<FP> Model for InternalFilterPolicy<FP> {
+    ghost Value = { FP };
+
+    ghost view = { λ policy. policy.internal };
+
+    ghost inverse = { λ inner. record { internal = inner } };
+}
+
+impl<FP> InternalFilterPolicy<FP> {
+    /// This policy, put to internal keys.
+    pub fn new(inner: FP) -> InternalFilterPolicy<FP>
+        ensures { result ≡ inner }
+    {
+        InternalFilterPolicy { internal: inner }
+    }
+}
+
+impl<FP: FilterPolicy> FilterPolicy for InternalFilterPolicy<FP> {
+    ghost use Rattle.leveldb_env.specs.InternalFilters.{cut_keys_find};
+
+    ghost name = { λ inner. FP.name inner };
+
+    ghost filter_for = { λ inner keys. FP.filter_for inner (map user_part keys) };
+
+    ghost too_large = { λ inner keys. FP.too_large inner (map user_part keys) };
+
+    ghost matches = { λ inner key. FP.matches inner (user_part key) };
+
+    fn name(&self) -> &'static str {
+        self.internal.name()
+    }
+
+    fn create_filter(&self, alloc: Global, keys: &[u8], key_offsets: &[usize]) -> Result<Vec<u8>> {
+        let (users, offsets) = user_keys(alloc, keys, key_offsets)?;
+        self.internal.create_filter(alloc, &users, &offsets)
+    }
+
+    fn key_may_match(&self, key: &[u8], filter: &[u8]) -> bool {
+        self.internal.key_may_match(user_key(key), filter)
+    }
+
+    ghost finds = { λ inner. cut_keys_find (FP.filter_for inner) (FP.matches inner) (FP.finds inner) };
+}
+
+// An internal key's tag has so many bytes.
+const TAG_LEN: usize = 8;
+
+#[inline]
+fn user_key(key: InternalKey<'_>) -> UserKey<'_>
+    ensures { result.now ≡ user_part key.now }
+{
+    &key[..key.len().saturating_sub(TAG_LEN)]
+}
+
+// The users' keys, one after another, and where each begins.
+fn user_keys(alloc: Global, keys: &[u8], key_offsets: &[usize]) -> Result<(Vec<u8>, Vec<usize>)>
+    requires rising { IsNonDecreasing key_offsets.now }
+    requires within { All (λ offset. offset ≤ length keys.now) key_offsets.now }
+    ensures keys { IfOk result (λ made. keys_at made.1.items made.0.items ≡ map user_part (keys_at key_offsets.now keys.now)) }
+    ensures rising { IfOk result (λ made. IsNonDecreasing made.1.items) }
+    ensures within { IfOk result (λ made. All (λ offset. offset ≤ length made.0.items) made.1.items) }
+    ensures cause { IfErr result IsOutOfMemory }
+{
+    let mut users = Vec::with_capacity(alloc, keys.len())?;
+    let mut offsets = Vec::with_capacity(alloc, key_offsets.len())?;
+    for i in 0..key_offsets.len() {
+        offsets.push(users.len())?;
+        users.extend_from_slice(user_key(key_at(keys, key_offsets, i)))?;
+    }
+    Ok((users, offsets))
+}
+
+#[cfg(test)]
+mod tests {
+    use super::*;
+    use crate::filter::BloomPolicy;
+
+    // The keys of the Bloom filter's vector, each with eight bytes behind it.
+    const KEYS: &[u8] =
+        b"abc123def456 8 bytesxxx111xxx222________ab00cd00ab00000000908070605040302010\0\0\0\0\0\0\0\x01";
+
+    const OFFSETS: &[usize] = &[0, 20, 40, 58];
+
+    #[test]
+    fn users_keys_alone(rt: HostRuntime) -> Result<()> {
+        let policy = InternalFilterPolicy::new(BloomPolicy::new(12));
+        assert_eq!(rt; policy.name(), "leveldb.BuiltinBloomFilter2");
+        let filter = policy.create_filter(rt.alloc(), KEYS, OFFSETS)?;
+        assert_eq!(rt;
+            filter.as_slice(),
+            [194, 148, 129, 140, 192, 196, 132, 164, 8].as_slice()
+        );
+        for key in [b"xxx111xxx222________", b"xxx111xxx222other wo"] {
+            assert!(rt; policy.key_may_match(key, &filter));
+        }
+        assert!(rt; !policy.key_may_match(b"xxx111xxx222", &filter));
+        Ok(())
+    }
+}

@@ -1,0 +1,70 @@
+//! What a store is opened with.
+ghost use Rattle.std.specs.Prelude.{◌≡◌, true};
+ghost use Rattle.leveldb_env.specs.Coders.{plain_codings};
+
+use crate::compressor::{Coders, CompressorId, CompressorList, NoneCompressor};
+use crate::filter::BloomPolicy;
+use leveldb_base::cmp::DefaultCmp;
+
+/// What a store is opened with: its comparator, its filter policy, its coders and its choices.
+#[derive(Drop)]
+pub struct Options<C, FP> {
+    pub cmp: C,
+    pub filter_policy: FP,
+    pub create_if_missing: bool,
+
+    /// A block of a table that has more bytes than this takes no further entry; at least 1.
+    pub block_size: usize,
+
+    /// How many entries of a block lie between the starts of two restart points, at least 1.
+    pub block_restart_interval: usize,
+
+    /// The id of the coder by which blocks are stored.
+    pub compressor: u8,
+
+    /// The coders by which blocks are stored and read, each under its id.
+    pub compressor_list: CompressorList,
+}
+
+impl Options<DefaultCmp, BloomPolicy> {
+    /// LevelDB's order of bytes and its filters, with ten bits a key; a missing store is created, a block is full above
+    /// 4096 bytes, every sixteenth entry of a block is a restart point, and blocks are stored as they are.
+    pub fn default() -> Options<DefaultCmp, BloomPolicy>
+        ensures filters { result.filter_policy ≡ 10 }
+        ensures create { result.create_if_missing ≡ true }
+        ensures size { result.block_size ≡ 4096 }
+        ensures interval { result.block_restart_interval ≡ 16 }
+        ensures id { result.compressor ≡ 0 }
+        ensures coders { ⟦<CompressorList as Coders>⟧.codings result.compressor_list ≡ plain_codings }
+    {
+        Options {
+            cmp: DefaultCmp,
+            filter_policy: BloomPolicy::new(10),
+            create_if_missing: true,
+            block_size: 4096,
+            block_restart_interval: 16,
+            compressor: NoneCompressor::ID,
+            compressor_list: CompressorList::default(),
+        }
+    }
+}
+
+#[cfg(test)]
+mod tests {
+    use super::*;
+    use crate::filter::FilterPolicy;
+    use leveldb_base::cmp::Cmp;
+
+    #[test]
+    fn defaults(rt: HostRuntime) {
+        let options = Options::default();
+        assert_eq!(rt; options.cmp.id(), "leveldb.BytewiseComparator");
+        assert_eq!(rt; options.filter_policy.name(), "leveldb.BuiltinBloomFilter2");
+        assert!(rt; options.create_if_missing);
+        assert_eq!(rt; options.block_size, 4096);
+        assert_eq!(rt; options.block_restart_interval, 16);
+        assert_eq!(rt; options.compressor, 0);
+        assert!(rt; options.compressor_list.is_set(0));
+        assert!(rt; !options.compressor_list.is_set(1));
+    }
+}

@@ -1,0 +1,280 @@
+//! The writer of a log: it frames records and hands each on in one put.
+ghost use Rattle.std.specs.Prelude.{◌≡◌, ◌≢◌, ◌%◌, ◌<◌, ◌≤◌, ◌++◌, true, false, [], length, OnOk, IfOk, IfErr, IsErrAnd};
+ghost use Rattle.leveldb_base.specs.Status.{IsOutOfMemory};
+ghost use Rattle.leveldb_mem.specs.Log.{IsBlockSize, log_block_size, filler, room, checksum, fragment_bytes, fragment_at, framed_record};
+ghost use Rattle.leveldb_mem.specs.LogLaws.Fragments.{fragment_of};
+ghost use Rattle.leveldb_mem.specs.Writing.{IsBroken, Adds, Keeps, Refuses, Flushes};
+
+use super::{BLOCK_SIZE, HEADER_SIZE, type_of};
+use leveldb_base::crc::{digest, mask_crc};
+use leveldb_base::error::{Result, StatusCode, err};
+use leveldb_env::env::Sink;
+use std::alloc::Global;
+use std::marker::Model;
+
+/// What a writer knows of its log, without the sink that the log goes to: each call is given that.
+#[derive(Drop)]
+pub struct WriterCore {
+    block_size: usize,
+    place: usize,
+    broken: bool,
+    // The framing of one record.
+    frame: Vec<u8>,
+}
+
+impl Model for WriterCore {
+    ghost use Rattle.std.specs.Prelude.{◌<◌};
+    ghost use Rattle.leveldb_mem.specs.Log.{IsBlockSize};
+    ghost use Rattle.leveldb_mem.specs.Writing.{Writing};
+
+    ghost Value = { Writing };
+
+    ghost view = { λ core. record { size = core.block_size; place = core.place; broken = core.broken } };
+
+    ghost invariant = { λ core. IsBlockSize core.block_size × (core.place < core.block_size) };
+}
+
+impl WriterCore {
+    /// For a log that begins with what is written.
+    pub fn new(alloc: Global) -> WriterCore
+        ensures { result ≡ record { size = log_block_size; place = 0; broken = false } }
+    {
+        WriterCore::new_with_off(alloc, 0)
+    }
+
+    /// For a log that has `off` bytes.
+    pub fn new_with_off(alloc: Global, off: usize) -> WriterCore
+        ensures { result ≡ record { size = log_block_size; place = off % log_block_size; broken = false } }
+    {
+        WriterCore {
+            block_size: BLOCK_SIZE,
+            place: off % BLOCK_SIZE,
+            broken: false,
+            frame: Vec::new(alloc),
+        }
+    }
+
+    /// For a log that begins with what is written, in blocks of so many bytes.
+    pub fn sized(alloc: Global, block_size: usize) -> WriterCore
+        requires { IsBlockSize block_size }
+        ensures { result ≡ record { size = block_size; place = 0; broken = false } }
+    {
+        WriterCore {
+            block_size,
+            place: 0,
+            broken: false,
+            frame: Vec::new(alloc),
+        }
+    }
+
+    /// Frames a record and puts it into the sink. How many bytes the framing has is answered.
+    /// An empty record puts nothing.
+    pub fn add_record<S: Sink>(&mut self, sink: &mut S, text: &[u8]) -> Result<usize>
+        ensures ok { IfOk result (λ count. Adds S.puts self.old sink.old text.now count self.new sink.new) }
+        ensures err { self.old.broken ≡ false
+            → IfErr result (λ status. Refuses S.puts self.old sink.old text.now status self.new sink.new) }
+        ensures broken { self.old.broken ≡ true → IsErrAnd result IsBroken × Keeps self.old sink.old self.new sink.new }
+    {
+        self.check_unbroken()?;
+        if text.is_empty() {
+            return Ok(0);
+        }
+        self.frame.clear();
+        put_framing(&mut self.frame, self.block_size, self.place, text)?;
+        let count = self.frame.len();
+        let place = (self.place + count) % self.block_size;
+        match sink.put_all(&self.frame) {
+            Ok(()) => {
+                self.place = place;
+                Ok(count)
+            }
+            Err(status) => {
+                self.broken = true;
+                Err(status)
+            }
+        }
+    }
+
+    /// Flushes the sink.
+    pub fn flush<S: Sink>(&mut self, sink: &mut S) -> Result<()>
+        ensures usable { self.old.broken ≡ false → Flushes S.flushes self.old sink.old result self.new sink.new }
+        ensures broken { self.old.broken ≡ true → IsErrAnd result IsBroken × Keeps self.old sink.old self.new sink.new }
+    {
+        self.check_unbroken()?;
+        let flushed = sink.flush();
+        if flushed.is_err() {
+            self.broken = true;
+        }
+        flushed
+    }
+
+    /// Whether the sink has refused a call.
+    pub fn is_broken(&self) -> bool
+        ensures { result ≡ self.now.broken }
+    {
+        self.broken
+    }
+
+    fn check_unbroken(&self) -> Result<()>
+        ensures ok { OnOk result (self.now.broken ≡ false) }
+        ensures err { IfErr result (λ status. (self.now.broken ≡ true) × IsBroken status) }
+    {
+        if self.broken {
+            return err(
+                *self.frame.allocator(),
+                StatusCode::IOError,
+                "reopen the store",
+            );
+        }
+        Ok(())
+    }
+}
+
+// Puts the framing of a record at this place behind what is there.
+fn put_framing(dst: &mut Vec<u8>, block_size: usize, place: usize, text: &[u8]) -> Result<()>
+    requires size { IsBlockSize block_size }
+    requires inside { place < block_size }
+    requires some { text.now ≢ [] }
+    ensures ok { OnOk result (dst.new.items ≡ dst.old.items ++ framed_record block_size text.now place) }
+    ensures memory { IfErr result IsOutOfMemory }
+{
+    let mut place = place;
+    let mut first = true;
+    let mut rest = text;
+    while rest.len() > room(block_size, place) {
+        let (part, others) = rest.split_at(room(block_size, place));
+        put_fragment(dst, block_size, place, type_of(first, false), part)?;
+        place = 0;
+        first = false;
+        rest = others;
+    }
+    put_fragment(dst, block_size, place, type_of(first, true), rest)
+}
+
+// Puts filler, where the fragment needs it, and the fragment behind what is there.
+fn put_fragment(
+    dst: &mut Vec<u8>,
+    block_size: usize,
+    place: usize,
+    kind: u8,
+    part: &[u8],
+) -> Result<()>
+    requires size { IsBlockSize block_size }
+    requires inside { place < block_size }
+    requires fits { length part.now ≤ room block_size place }
+    ensures ok { OnOk result (dst.new.items ≡ dst.old.items ++ fragment_at block_size (fragment_of kind part.now) place) }
+    ensures memory { IfErr result IsOutOfMemory }
+{
+    put_filler(dst, block_size, place)?;
+    dst.extend_from_slice(&header_of(kind, part))?;
+    dst.extend_from_slice(part)?;
+    Ok(())
+}
+
+// Puts zeros up to the block's end where no header fits.
+fn put_filler(dst: &mut Vec<u8>, block_size: usize, place: usize) -> Result<()>
+    requires size { IsBlockSize block_size }
+    requires inside { place < block_size }
+    ensures ok { OnOk result (dst.new.items ≡ dst.old.items ++ filler block_size place) }
+    ensures memory { IfErr result IsOutOfMemory }
+{
+    let space = block_size - place;
+    if space < HEADER_SIZE {
+        dst.extend_from_slice(&[0; HEADER_SIZE][..space])?;
+    }
+    Ok(())
+}
+
+// The header of a fragment.
+fn header_of(kind: u8, part: &[u8]) -> [u8; HEADER_SIZE]
+    requires { length part.now < 65536 }
+    ensures { result ++ part.now ≡ fragment_bytes (checksum (fragment_of kind part.now)) (fragment_of kind part.now) }
+{
+    let mut digest = digest();
+    digest.update(&[kind]);
+    digest.update(part);
+    let [a, b, c, d] = mask_crc(digest.finalize()).to_le_bytes();
+    let [low, high] = (part.len() as u16).to_le_bytes();
+    [a, b, c, d, low, high, kind]
+}
+
+// The most data that the next fragment can have.
+#[inline]
+fn room(block_size: usize, place: usize) -> usize
+    requires size { IsBlockSize block_size }
+    requires inside { place < block_size }
+    ensures { result ≡ room block_size place }
+{
+    let space = block_size - place;
+    if space < HEADER_SIZE {
+        block_size - HEADER_SIZE
+    } else {
+        space - HEADER_SIZE
+    }
+}
+
+/// A writer with the sink that its log goes to.
+#[derive(Drop)]
+pub struct LogWriter<W: Sink> {
+    pub core: WriterCore,
+    pub sink: W,
+}
+
+impl<W: Sink> LogWriter<W> {
+    /// For a log that begins with what is written.
+    pub fn new(alloc: Global, sink: W) -> LogWriter<W>
+        ensures core { result.core ≡ record { size = log_block_size; place = 0; broken = false } }
+        ensures sink { result.sink ≡ sink }
+    {
+        LogWriter {
+            core: WriterCore::new(alloc),
+            sink,
+        }
+    }
+
+    /// For a log that has `off` bytes.
+    pub fn new_with_off(alloc: Global, sink: W, off: usize) -> LogWriter<W>
+        ensures core { result.core ≡ record { size = log_block_size; place = off % log_block_size; broken = false } }
+        ensures sink { result.sink ≡ sink }
+    {
+        LogWriter {
+            core: WriterCore::new_with_off(alloc, off),
+            sink,
+        }
+    }
+
+    /// For a log that begins with what is written, in blocks of so many bytes.
+    pub fn sized(alloc: Global, sink: W, block_size: usize) -> LogWriter<W>
+        requires { IsBlockSize block_size }
+        ensures core { result.core ≡ record { size = block_size; place = 0; broken = false } }
+        ensures sink { result.sink ≡ sink }
+    {
+        LogWriter {
+            core: WriterCore::sized(alloc, block_size),
+            sink,
+        }
+    }
+
+    /// Frames a record and puts it into the sink. How many bytes the framing has is answered.
+    /// An empty record puts nothing.
+    pub fn add_record(&mut self, text: &[u8]) -> Result<usize>
+        ensures ok { IfOk result
+            (λ count. Adds W.puts self.old.core self.old.sink text.now count self.new.core self.new.sink) }
+        ensures err { self.old.core.broken ≡ false → IfErr result
+            (λ status. Refuses W.puts self.old.core self.old.sink text.now status self.new.core self.new.sink) }
+        ensures broken { self.old.core.broken ≡ true
+            → IsErrAnd result IsBroken × Keeps self.old.core self.old.sink self.new.core self.new.sink }
+    {
+        self.core.add_record(&mut self.sink, text)
+    }
+
+    /// Flushes the sink.
+    pub fn flush(&mut self) -> Result<()>
+        ensures usable { self.old.core.broken ≡ false
+            → Flushes W.flushes self.old.core self.old.sink result self.new.core self.new.sink }
+        ensures broken { self.old.core.broken ≡ true
+            → IsErrAnd result IsBroken × Keeps self.old.core self.old.sink self.new.core self.new.sink }
+    {
+        self.core.flush(&mut self.sink)
+    }
+}
