@@ -1,19 +1,18 @@
 -- The steps of a table builder: a block that is closed, and a pair that is added.
-use Rattle.std.proofs.Common.{◌≡◌, ◌≢◌, ℕ, ◌+◌, Bool, true, List, [], ◌∷◌, ◌++◌, length, Result, Ok, Err, refl, sym, ◌∙◌, ap, subst, inl, inr, ◌⊎◌}
-use Rattle.std.specs.Prelude.{OnOk, OnErr, IfErr, ◌/◌}
+use Rattle.std.proofs.Common.{◌≡◌, ◌≢◌, ℕ, Bool, true, List, [], ◌∷◌, ◌++◌, Result, Ok, Err, refl, sym, subst, inl, inr}
+use Rattle.std.specs.Prelude.{OnOk, OnErr, IfErr}
 use Rattle.std.specs.List.{AllByRecursion}
 use Rattle.std.specs.declared.cmp.Ordering.{Ordering}
-use Rattle.std.specs.declared.cmp.Ordering.TheVariants.{Less, Equal, Greater}
+use Rattle.std.specs.declared.cmp.Ordering.TheVariants.{Less, Greater}
 use Rattle.leveldb_base.specs.Order.{IsPreorderOn, IsSeparator}
 use Rattle.leveldb_base.specs.Places.{Pair}
 use Rattle.leveldb_base.specs.declared.error.Status.{Status}
-use Rattle.leveldb_env.specs.Sinks.{PutsAll, PutsPart}
-use Rattle.leveldb_env.specs.SinkLaws.{PutsAll-none, PutsAll-one, PutsPart-one}
+use Rattle.leveldb_env.specs.Sinks.{PutsAll}
+use Rattle.leveldb_env.specs.SinkLaws.{PutsAll-none, PutsPart-one}
 use Rattle.leveldb_table.specs.Block.{KeysRise}
 use Rattle.leveldb_table.specs.Built.{last_added}
 use Rattle.leveldb_table.specs.TablePuts.{PutsNone, PutsSome}
-use Rattle.leveldb_table.specs.TableStages.{Stage, AreReady, Follows}
-use Rattle.leveldb_table.proofs.TableOrders.{all_append, all_left, all_right, last_holds, last_behind, line_rises, turned_from, less_then, rise_push}
+use Rattle.leveldb_table.proofs.TableOrders.{all_append, all_left, all_right, last_holds, line_rises, turned_from}
 
 -- ---- answers
 
