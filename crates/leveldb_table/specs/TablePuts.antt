@@ -4,7 +4,6 @@ use Rattle.leveldb_base.specs.Handle.{Handle, HandleFits, handle_bytes}
 use Rattle.leveldb_base.specs.Status.{IsOutOfMemory}
 use Rattle.leveldb_base.specs.declared.error.Status.{Status}
 use Rattle.leveldb_base.specs.declared.error.StatusCode.TheVariants.{NotSupported}
-use Rattle.leveldb_env.specs.Sinks.{PutsAll, PutsPart}
 use Rattle.leveldb_options.specs.Coders.{Codings, Decodes, IsUnset, RefusesWith}
 use Rattle.leveldb_table.specs.Built.{IsTooLarge}
 use Rattle.leveldb_table.specs.Table.{with_trailer, filter_key}
@@ -66,7 +65,3 @@ module _ {S : Type 0} (puts : S → List ℕ → Result (Unit {0}) Status → S 
       ((to ≡ from) × IsTooLong (offset + 48) status)
       ⊎ puts from bytes (Err status) to
       ⊎ ((mid : S) × puts from bytes (Ok tt) mid × flushes mid (Err status) to)
-
-  -- some bytes were put, and then the sink refused others with this status, or none were tried
-  abbrev pub PutsSome : S → Status → S → Type 0
-  PutsSome from status to = (bytes : List ℕ) × (PutsPart puts from bytes status to ⊎ PutsAll puts from bytes to)
