@@ -1,8 +1,8 @@
 //! Table builders, and the parts of a table's file that they share with its readers.
-ghost use Rattle.std.specs.Prelude.{◌≡◌, ◌+◌, ◌-◌, ◌^◌, ◌<◌, ◌++◌, ◌∷◌, ◌⊎◌, ◌≢◌, [], List, None, max, true, false, min, IfOk, IfErr, OnOk, OnErr, IsErr, IsErrAnd};
+ghost use Rattle.std.specs.Prelude.{◌≡◌, ◌+◌, ◌-◌, ◌^◌, ◌<◌, ◌++◌, ◌∷◌, ◌⊎◌, ◌≢◌, [], List, None, max, true, false, min, IfOk, IfErr, OnOk, OnErr, IsErrAnd};
 ghost use Rattle.std.specs.declared.cmp.Ordering.TheVariants.{Less};
 ghost use Rattle.leveldb_options.specs.Coders.{Codings, IsUnset};
-ghost use Rattle.leveldb_table.specs.TableEnds.{IsRefusedFinish};
+ghost use Rattle.leveldb_table.specs.TableEnds.{IsRefusedFinish, StopsUnset};
 ghost use Rattle.leveldb_base.specs.Status.{IsOutOfMemory};
 ghost use Rattle.leveldb_table.specs.TableStages.{with_pair};
 ghost use Rattle.leveldb_table.specs.TableAdds.{ClosesBlock, TriesOpen, IsRefusedAdd};
@@ -177,8 +177,9 @@ impl<Dst: Sink, C: Cmp + Copy, FP: FilterPolicy + Copy> TableBuilder<Dst, C, FP>
             self.dst size after) }
         ensures unbroken { OnOk result (self.core.broken ≡ false) }
         ensures cause { IfErr result (λ status. (after : Dst) × IsRefusedFinish (⟦<CompressorList as Coders>⟧.codings coders.now) self.core Dst.puts Dst.flushes self.dst status after) }
-        ensures unset { self.core.broken ≡ false → ⟦<CompressorList as Coders>⟧.codings coders.now self.core.compressor ≡ None → IsErr result }
-        ensures unset_open { self.core.broken ≡ false → (stage self.core).open_pairs ≢ [] → ⟦<CompressorList as Coders>⟧.codings coders.now self.core.compressor ≡ None
+        ensures unset_rest { self.core.broken ≡ false → (stage self.core).open_pairs ≡ [] → ⟦<CompressorList as Coders>⟧.codings coders.now self.core.compressor ≡ None
+            → IsErrAnd result (λ status. (after : Dst) × StopsUnset (FP.too_large (policy_of self.core)) (FP.filter_for (policy_of self.core)) self.core.compressor (FP.name (policy_of self.core)) (stage self.core) Dst.puts self.dst status after) }
+        ensures unset { self.core.broken ≡ false → (stage self.core).open_pairs ≢ [] → ⟦<CompressorList as Coders>⟧.codings coders.now self.core.compressor ≡ None
             → IsErrAnd result (λ status. IsUnset self.core.compressor status ⊎ IsOutOfMemory status) }
         ensures broken { self.core.broken ≡ true → IsErrAnd result IsBroken }
     {

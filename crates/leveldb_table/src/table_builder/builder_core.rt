@@ -56,7 +56,7 @@ impl<C: Cmp + Copy, FP: FilterPolicy> BuilderCore<C, FP> {
     ghost use Rattle.leveldb_table.specs.TableStages.{Closes, first_key, with_pair};
     ghost use Rattle.leveldb_table.specs.TableBuilding.{stage, last_of, order_of, policy_of, IsBegun, IsBroken, IsReady, Ready, IsClosable, KeepsChoices, IsBuilt, IsFull, table_estimate, PutsEnd, ClosesLast, MakesRoom, Adds, Finishes};
     ghost use Rattle.leveldb_table.specs.TableAdds.{ClosesBlock, HasRoom, TriesOpen, IsNotClosed, IsRefusedAdd};
-    ghost use Rattle.leveldb_table.specs.TableEnds.{StopsFromFilters, ClosesRest, IsLeftOpen, IsRefusedFinish};
+    ghost use Rattle.leveldb_table.specs.TableEnds.{StopsFromFilters, StopsUnset, ClosesRest, IsLeftOpen, IsRefusedFinish};
 
     /// A builder under the options' order and policy as they are.
     pub fn new(alloc: Global, options: &Options<C, FP>) -> BuilderCore<C, FP>
@@ -176,8 +176,9 @@ impl<C: Cmp + Copy, FP: FilterPolicy> BuilderCore<C, FP> {
             sink.old size sink.new) }
         ensures unbroken { OnOk result (self.broken ≡ false) }
         ensures cause { IfErr result (λ status. IsRefusedFinish (⟦<CompressorList as Coders>⟧.codings coders.now) self S.puts S.flushes sink.old status sink.new) }
-        ensures unset { self.broken ≡ false → ⟦<CompressorList as Coders>⟧.codings coders.now self.compressor ≡ None → IsErr result }
-        ensures unset_open { self.broken ≡ false → (stage self).open_pairs ≢ [] → ⟦<CompressorList as Coders>⟧.codings coders.now self.compressor ≡ None
+        ensures unset_rest { self.broken ≡ false → (stage self).open_pairs ≡ [] → ⟦<CompressorList as Coders>⟧.codings coders.now self.compressor ≡ None
+            → IsErrAnd result (λ status. StopsUnset (FP.too_large (policy_of self)) (FP.filter_for (policy_of self)) self.compressor (FP.name (policy_of self)) (stage self) S.puts sink.old status sink.new) }
+        ensures unset { self.broken ≡ false → (stage self).open_pairs ≢ [] → ⟦<CompressorList as Coders>⟧.codings coders.now self.compressor ≡ None
             → IsErrAnd result (λ status. IsUnset self.compressor status ⊎ IsOutOfMemory status) × (sink.new ≡ sink.old) }
         ensures broken { self.broken ≡ true → IsErrAnd result IsBroken × (sink.new ≡ sink.old) }
     {
