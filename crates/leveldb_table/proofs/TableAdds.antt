@@ -1,18 +1,13 @@
 -- What follows from how a pair is added and why one is refused.
-use Rattle.std.proofs.Common.{◌≡◌, ◌≢◌, ℕ, ◌<◌, ◌≤◌, refl, true, false, List, [], ◌∷◌, ◌++◌, length, Result, Ok, Err, inl, inr, ◌⊎◌, sym, ap, subst, arith}
-use Rattle.leveldb_base.specs.Handle.{Handle}
+use Rattle.std.proofs.Common.{◌≡◌, ◌≢◌, ℕ, ◌<◌, ◌≤◌, refl, List, [], ◌∷◌, length, Result, Ok, Err, inl, inr, ◌⊎◌, ap, subst, arith}
 use Rattle.leveldb_base.specs.Places.{Pair}
 use Rattle.leveldb_base.specs.declared.cmp.Cmp.{Ghosts as CmpGhosts}
 use Rattle.leveldb_base.specs.declared.error.Status.{Status}
-use Rattle.leveldb_env.specs.SinkLaws.{PutsAll-none, PutsAll-one, PutsPart-one}
-use Rattle.leveldb_env.specs.Sinks.{PutsAll}
 use Rattle.leveldb_env.specs.Coders.{Codings}
 use Rattle.leveldb_env.specs.declared.filter.FilterPolicy.{Ghosts as PolicyGhosts}
 use Rattle.leveldb_table.specs.Block.{Entry}
 use Rattle.leveldb_table.specs.Built.{estimate}
-use Rattle.leveldb_table.specs.Table.{with_trailer}
 use Rattle.leveldb_table.specs.TableStages.{Stage}
-use Rattle.leveldb_table.specs.TablePuts.{PutsSome}
 use Rattle.leveldb_table.specs.TableBuilding.{stage, IsFull}
 use Rattle.leveldb_table.specs.TableAdds.{IsNotAdded, ClosesOpen, HasRoom, TriesOpen, PutsOpen, IsNotClosed, IsNotTaken, IsRefusedAdd}
 use Rattle.leveldb_table.specs.declared.table_builder.builder_core.BuilderCore.{BuilderCore}

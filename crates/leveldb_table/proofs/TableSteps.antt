@@ -1,19 +1,14 @@
 -- The steps of a table builder: a block that is closed, and a pair that is added.
-use Rattle.std.proofs.Common.{◌≡◌, ◌≢◌, ℕ, ◌+◌, Bool, true, List, [], ◌∷◌, ◌++◌, length, Result, Ok, Err, refl, sym, ◌∙◌, ap, subst, inl, inr, ◌⊎◌}
-use Rattle.std.specs.Prelude.{OnOk, OnErr, IfErr, ◌/◌}
+use Rattle.std.proofs.Common.{◌≡◌, ◌≢◌, ℕ, Bool, true, List, [], ◌∷◌, ◌++◌, Result, Ok, Err, refl}
+use Rattle.std.specs.Prelude.{OnOk, OnErr, IfErr}
 use Rattle.std.specs.List.{AllByRecursion}
 use Rattle.std.specs.declared.cmp.Ordering.{Ordering}
-use Rattle.std.specs.declared.cmp.Ordering.TheVariants.{Less, Equal, Greater}
+use Rattle.std.specs.declared.cmp.Ordering.TheVariants.{Less, Greater}
 use Rattle.leveldb_base.specs.Order.{IsPreorderOn, IsSeparator}
 use Rattle.leveldb_base.specs.Places.{Pair}
-use Rattle.leveldb_base.specs.declared.error.Status.{Status}
-use Rattle.leveldb_env.specs.Sinks.{PutsAll, PutsPart}
-use Rattle.leveldb_env.specs.SinkLaws.{PutsAll-none, PutsAll-one, PutsPart-one}
 use Rattle.leveldb_table.specs.Block.{KeysRise}
 use Rattle.leveldb_table.specs.Built.{last_added}
-use Rattle.leveldb_table.specs.TablePuts.{PutsNone, PutsSome}
-use Rattle.leveldb_table.specs.TableStages.{Stage, AreReady, Follows}
-use Rattle.leveldb_table.proofs.TableOrders.{all_append, all_left, all_right, last_holds, last_behind, line_rises, turned_from, less_then, rise_push}
+use Rattle.leveldb_table.proofs.TableOrders.{all_append, all_left, all_right, last_holds, line_rises, turned_from}
 
 -- ---- answers
 
@@ -32,12 +27,6 @@ OnOk-with (Err error) P Q f h = tt
 pub OnOk-both : {T E : Type 0} (result : Result T E) (P Q R : Type 0) → (P → Q → R) → OnOk result P → OnOk result Q → OnOk result R
 OnOk-both (Ok value) P Q R f h k = f h k
 OnOk-both (Err error) P Q R f h k = tt
-
-module _ {S : Type 0} (puts : S → List ℕ → Result (Unit {0}) Status → S → Type 0) where
-  -- a put that was refused, or none
-  pub some_none : (from : S) (status : Status) (to : S) → PutsNone puts from status to → PutsSome puts from status to
-  some_none from status to (inl refused) = (refused.0, inl (PutsPart-one puts refused.1))
-  some_none from status to (inr same) = ([], inr (subst (λ s. PutsAll puts from [] s) (sym same) (PutsAll-none puts from)))
 
 -- ---- a block is closed
 

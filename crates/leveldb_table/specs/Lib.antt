@@ -11,6 +11,7 @@ pub mod TableStages
 pub mod TableStageLaws
 pub mod TableBuilding
 pub mod TableAdds
+pub mod TableEnds
 pub mod Footer
 pub mod FooterLaws
 pub mod Cache

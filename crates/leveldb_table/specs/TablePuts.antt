@@ -1,12 +1,12 @@
 -- Blocks put into a table's file.
-use Rattle.std.specs.Prelude.{◌≡◌, ◌⊎◌, ℕ, ◌+◌, ◌^◌, ◌≤◌, List, length, Result, Ok, Err, Option, None, IsSomeAnd}
-use Rattle.leveldb_base.specs.Handle.{Handle, HandleFits}
+use Rattle.std.specs.Prelude.{◌≡◌, ◌⊎◌, ℕ, ◌+◌, ◌^◌, ◌≤◌, List, [], length, Result, Ok, Err, None, IsSomeAnd}
+use Rattle.leveldb_base.specs.Handle.{Handle, HandleFits, handle_bytes}
 use Rattle.leveldb_base.specs.Status.{IsOutOfMemory}
 use Rattle.leveldb_base.specs.declared.error.Status.{Status}
 use Rattle.leveldb_base.specs.declared.error.StatusCode.TheVariants.{NotSupported}
-use Rattle.leveldb_env.specs.Sinks.{PutsAll, PutsPart}
 use Rattle.leveldb_env.specs.Coders.{Codings, Decodes, IsUnset, RefusesWith}
-use Rattle.leveldb_table.specs.Table.{with_trailer}
+use Rattle.leveldb_table.specs.Built.{IsTooLarge}
+use Rattle.leveldb_table.specs.Table.{with_trailer, filter_key}
 
 -- a number of bytes can't be counted in 64 bits
 abbrev pub IsTooLong : ℕ → Status → Type 0
@@ -16,9 +16,9 @@ IsTooLong count status = (status.code ≡ NotSupported) × (2 ^ 64 ≤ count)
 abbrev pub IsCoders : Codings → ℕ → Status → Type 0
 IsCoders codings id status = IsSomeAnd (codings id) (λ coding. RefusesWith coding status)
 
--- why a builder gives up by itself: want of memory, or something is too large or has no coder, or its coder refused with a code of its own
-abbrev pub GivesUp : Codings → ℕ → Status → Type 0
-GivesUp codings id status = IsOutOfMemory status ⊎ (status.code ≡ NotSupported) ⊎ IsCoders codings id status
+-- why there is no metaindex that says where the filters of a name stand: want of memory, or its one line is too large
+abbrev pub IsNoMetaindex : List ℕ → Handle → Status → Type 0
+IsNoMetaindex name filters status = IsOutOfMemory status ⊎ ((status.code ≡ NotSupported) × IsTooLarge [] (filter_key name) (handle_bytes filters))
 
 module _ {S : Type 0} (puts : S → List ℕ → Result (Unit {0}) Status → S → Type 0) where
   -- a stored block was put with its trailer at this offset: where it is, and where the trailer ends
@@ -41,6 +41,13 @@ module _ {S : Type 0} (puts : S → List ℕ → Result (Unit {0}) Status → S 
       ⊎ ((to ≡ from) × (IsOutOfMemory status ⊎ IsCoders codings id status))
       ⊎ ((stored : List ℕ) × Decodes codings id stored text × IsRefused (with_trailer id stored) (offset + length stored + 5) from status to)
 
+  -- A block of this text wasn't put at this offset; or it was, and then came what is said of its handle, its end and the sink.
+  abbrev pub StopsFrom : Codings → ℕ → List ℕ → ℕ → (Handle → ℕ → S → Status → S → Type 0) → S → Status → S → Type 0
+  StopsFrom codings id text offset Behind from status to =
+      IsNotPut codings id text offset from status to
+      ⊎ ((stored : List ℕ) × Decodes codings id stored text
+      × (handle : Handle) × (end : ℕ) × (mid : S) × PutsBlock id stored from offset handle end mid × Behind handle end mid status to)
+
   -- one put of some bytes was refused with this status, or none was tried
   abbrev pub PutsNone : S → Status → S → Type 0
   PutsNone from status to = ((bytes : List ℕ) × puts from bytes (Err status) to) ⊎ (to ≡ from)
@@ -52,11 +59,9 @@ module _ {S : Type 0} (puts : S → List ℕ → Result (Unit {0}) Status → S 
     pub flushed : flushes mid (Ok tt) to
     pub ends : end ≡ offset + 48
 
-  -- some bytes were put, and then the sink refused others with this status, or none were tried
-  abbrev pub PutsSome : S → Status → S → Type 0
-  PutsSome from status to = (bytes : List ℕ) × (PutsPart puts from bytes status to ⊎ PutsAll puts from bytes to)
-
-  -- Some bytes were put, and then the sink refused others, or to be flushed, with this status; or none were tried, for this reason.
-  abbrev pub EndsEarly : (S → Result (Unit {0}) Status → S → Type 0) → (Status → Type 0) → S → Status → S → Type 0
-  EndsEarly flushes reason from status to =
-      (bytes : List ℕ) × (PutsPart puts from bytes status to ⊎ ((mid : S) × PutsAll puts from bytes mid × flushes mid (Err status) to) ⊎ (PutsAll puts from bytes to × reason status))
+  -- the footer would end at too large an offset, or the sink refused it, or to be flushed behind it
+  abbrev pub StopsAtFooter : (S → Result (Unit {0}) Status → S → Type 0) → List ℕ → ℕ → S → Status → S → Type 0
+  StopsAtFooter flushes bytes offset from status to =
+      ((to ≡ from) × IsTooLong (offset + 48) status)
+      ⊎ puts from bytes (Err status) to
+      ⊎ ((mid : S) × puts from bytes (Ok tt) mid × flushes mid (Err status) to)

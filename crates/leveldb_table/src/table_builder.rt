@@ -1,8 +1,8 @@
 //! Table builders, and the parts of a table's file that they share with its readers.
-ghost use Rattle.std.specs.Prelude.{◌≡◌, ◌+◌, ◌-◌, ◌^◌, ◌<◌, ◌++◌, ◌∷◌, ◌⊎◌, [], List, None, max, true, false, min, IfOk, IfErr, OnOk, OnErr, IsErrAnd};
+ghost use Rattle.std.specs.Prelude.{◌≡◌, ◌+◌, ◌-◌, ◌^◌, ◌<◌, ◌++◌, ◌∷◌, ◌⊎◌, ◌≢◌, [], List, None, max, true, false, min, IfOk, IfErr, OnOk, OnErr, IsErrAnd};
 ghost use Rattle.std.specs.declared.cmp.Ordering.TheVariants.{Less};
 ghost use Rattle.leveldb_env.specs.Coders.{Codings, IsUnset};
-ghost use Rattle.leveldb_table.specs.TablePuts.{GivesUp, EndsEarly};
+ghost use Rattle.leveldb_table.specs.TableEnds.{IsRefusedFinish, StopsUnset};
 ghost use Rattle.leveldb_base.specs.Status.{IsOutOfMemory};
 ghost use Rattle.leveldb_table.specs.TableStages.{with_pair};
 ghost use Rattle.leveldb_table.specs.TableAdds.{ClosesBlock, TriesOpen, IsRefusedAdd};
@@ -176,7 +176,11 @@ impl<Dst: Sink, C: Cmp + Copy, FP: FilterPolicy + Copy> TableBuilder<Dst, C, FP>
             (FP.matches (policy_of self.core)) (FP.filter_for (policy_of self.core)) self.core.compressor (FP.name (policy_of self.core)))
             self.dst size after) }
         ensures unbroken { OnOk result (self.core.broken ≡ false) }
-        ensures cause { IfErr result (λ status. (after : Dst) × EndsEarly Dst.puts Dst.flushes (λ status. ((self.core.broken ≡ true) × IsBroken status) ⊎ GivesUp (⟦<CompressorList as Coders>⟧.codings coders.now) self.core.compressor status) self.dst status after) }
+        ensures cause { IfErr result (λ status. (after : Dst) × IsRefusedFinish (⟦<CompressorList as Coders>⟧.codings coders.now) self.core Dst.puts Dst.flushes self.dst status after) }
+        ensures unset_rest { self.core.broken ≡ false → (stage self.core).open_pairs ≡ [] → ⟦<CompressorList as Coders>⟧.codings coders.now self.core.compressor ≡ None
+            → IsErrAnd result (λ status. (after : Dst) × StopsUnset (FP.too_large (policy_of self.core)) (FP.filter_for (policy_of self.core)) self.core.compressor (FP.name (policy_of self.core)) (stage self.core) Dst.puts self.dst status after) }
+        ensures unset { self.core.broken ≡ false → (stage self.core).open_pairs ≢ [] → ⟦<CompressorList as Coders>⟧.codings coders.now self.core.compressor ≡ None
+            → IsErrAnd result (λ status. IsUnset self.core.compressor status ⊎ IsOutOfMemory status) }
         ensures broken { self.core.broken ≡ true → IsErrAnd result IsBroken }
     {
         let TableBuilder { core, mut dst } = self;

@@ -1,5 +1,5 @@
 //! What a table builder knows of its table, without the sink that the table goes to.
-ghost use Rattle.std.specs.Prelude.{◌≡◌, ◌≢◌, ◌⊎◌, ◌+◌, ◌-◌, ◌^◌, min, ◌<◌, ◌≤◌, ◌++◌, ◌∷◌, [], ℕ, List, Bool, true, false, Option, None, Some, Ok, IfOk, IfErr, IfSome, OnOk, OnErr, IsErrAnd, length, codes, max};
+ghost use Rattle.std.specs.Prelude.{◌≡◌, ◌≢◌, ◌⊎◌, ◌+◌, ◌-◌, ◌^◌, min, ◌<◌, ◌≤◌, ◌++◌, ◌∷◌, [], ℕ, List, Bool, true, false, Option, None, Some, Ok, IfOk, IfErr, IfSome, OnOk, OnErr, IsErr, IsErrAnd, length, codes, max};
 ghost use Rattle.std.specs.declared.cmp.Ordering.TheVariants.{Less, Greater};
 ghost use Rattle.leveldb_base.specs.Bytewise.{bytewise};
 ghost use Rattle.leveldb_base.specs.Handle.{Handle, handle_bytes, HandleFits};
@@ -11,7 +11,7 @@ ghost use Rattle.leveldb_table.specs.Block.{IsBlock, KeysRise, pairs_of};
 ghost use Rattle.leveldb_table.specs.Built.{IsTooLarge, last_added};
 ghost use Rattle.leveldb_table.specs.Footer.{footer_bytes};
 ghost use Rattle.leveldb_table.specs.Table.{filter_key};
-ghost use Rattle.leveldb_table.specs.TablePuts.{IsTooLong, GivesUp, PutsFooter, EndsEarly};
+ghost use Rattle.leveldb_table.specs.TablePuts.{IsTooLong, IsNoMetaindex, PutsFooter, StopsAtFooter};
 ghost use Rattle.leveldb_table.specs.TableStages.{IsSound, stage_of};
 ghost use Rattle.leveldb_table.specs.TableStageLaws.{IsSound-prop};
 
@@ -56,6 +56,7 @@ impl<C: Cmp + Copy, FP: FilterPolicy> BuilderCore<C, FP> {
     ghost use Rattle.leveldb_table.specs.TableStages.{Closes, first_key, with_pair};
     ghost use Rattle.leveldb_table.specs.TableBuilding.{stage, last_of, order_of, policy_of, IsBegun, IsBroken, IsReady, Ready, IsClosable, KeepsChoices, IsBuilt, IsFull, table_estimate, PutsEnd, ClosesLast, MakesRoom, Adds, Finishes};
     ghost use Rattle.leveldb_table.specs.TableAdds.{ClosesBlock, HasRoom, TriesOpen, IsNotClosed, IsRefusedAdd};
+    ghost use Rattle.leveldb_table.specs.TableEnds.{StopsFromFilters, StopsUnset, ClosesRest, IsLeftOpen, IsRefusedFinish};
 
     /// A builder under the options' order and policy as they are.
     pub fn new(alloc: Global, options: &Options<C, FP>) -> BuilderCore<C, FP>
@@ -174,7 +175,11 @@ impl<C: Cmp + Copy, FP: FilterPolicy> BuilderCore<C, FP> {
             (FP.matches (policy_of self)) (FP.filter_for (policy_of self)) self.compressor (FP.name (policy_of self)))
             sink.old size sink.new) }
         ensures unbroken { OnOk result (self.broken ≡ false) }
-        ensures cause { IfErr result (λ status. EndsEarly S.puts S.flushes (λ status. ((self.broken ≡ true) × IsBroken status) ⊎ GivesUp (⟦<CompressorList as Coders>⟧.codings coders.now) self.compressor status) sink.old status sink.new) }
+        ensures cause { IfErr result (λ status. IsRefusedFinish (⟦<CompressorList as Coders>⟧.codings coders.now) self S.puts S.flushes sink.old status sink.new) }
+        ensures unset_rest { self.broken ≡ false → (stage self).open_pairs ≡ [] → ⟦<CompressorList as Coders>⟧.codings coders.now self.compressor ≡ None
+            → IsErrAnd result (λ status. StopsUnset (FP.too_large (policy_of self)) (FP.filter_for (policy_of self)) self.compressor (FP.name (policy_of self)) (stage self) S.puts sink.old status sink.new) }
+        ensures unset { self.broken ≡ false → (stage self).open_pairs ≢ [] → ⟦<CompressorList as Coders>⟧.codings coders.now self.compressor ≡ None
+            → IsErrAnd result (λ status. IsUnset self.compressor status ⊎ IsOutOfMemory status) × (sink.new ≡ sink.old) }
         ensures broken { self.broken ≡ true → IsErrAnd result IsBroken × (sink.new ≡ sink.old) }
     {
         self.check_unbroken()?;
@@ -235,7 +240,10 @@ impl<C: Cmp + Copy, FP: FilterPolicy> BuilderCore<C, FP> {
         ensures order { OnOk result (C.cmp self.new.index.cmp ≡ C.cmp (order_of self.old)) }
         ensures policy { policy_of self.new ≡ policy_of self.old }
         ensures coder { self.new.compressor ≡ self.old.compressor }
-        ensures cause { IfErr result (λ status. EndsEarly S.puts S.flushes (GivesUp (⟦<CompressorList as Coders>⟧.codings coders.now) self.old.compressor) sink.old status sink.new) }
+        ensures rest { OnOk result (ClosesRest (⟦<CompressorList as Coders>⟧.codings coders.now) self.old S.puts (stage self.new) sink.old sink.new) }
+        ensures cause { IfErr result (λ status. IsLeftOpen (⟦<CompressorList as Coders>⟧.codings coders.now) self.old S.puts sink.old status sink.new) }
+        ensures unset { (stage self.old).open_pairs ≢ [] → ⟦<CompressorList as Coders>⟧.codings coders.now self.old.compressor ≡ None
+            → IsErrAnd result (λ status. IsUnset self.old.compressor status ⊎ IsOutOfMemory status) × (sink.new ≡ sink.old) }
     {
         if self.block.entries() == 0 {
             return Ok(());
@@ -292,7 +300,8 @@ impl<C: Cmp + Copy, FP: FilterPolicy> BuilderCore<C, FP> {
         C: Drop,
         FP: Drop,
         ensures ok { IfOk result (λ size. PutsEnd S.puts S.flushes (Decodes (⟦<CompressorList as Coders>⟧.codings coders.now)) (C.cmp self.index.cmp) (FP.filter_for (policy_of self)) self.compressor (FP.name (policy_of self)) (stage self) sink.old size sink.new) }
-        ensures cause { IfErr result (λ status. EndsEarly S.puts S.flushes (GivesUp (⟦<CompressorList as Coders>⟧.codings coders.now) self.compressor) sink.old status sink.new) }
+        ensures cause { IfErr result (λ status. StopsFromFilters (⟦<CompressorList as Coders>⟧.codings coders.now) (C.cmp self.index.cmp) (FP.too_large (policy_of self)) (FP.filter_for (policy_of self)) self.compressor (FP.name (policy_of self)) (stage self) S.puts S.flushes sink.old status sink.new) }
+        ensures unset { ⟦<CompressorList as Coders>⟧.codings coders.now self.compressor ≡ None → IsErr result }
     {
         let BuilderCore {
             alloc,
@@ -358,7 +367,7 @@ fn metaindex(alloc: Global, interval: usize, name: &str, filters: BlockHandle) -
     requires some { 1 ≤ interval }
     requires fits { HandleFits filters }
     ensures ok { IfOk result (λ block. IsBlock bytewise block.items ((filter_key name.now, handle_bytes filters) ∷ [])) }
-    ensures cause { IfErr result (λ status. (status.code ≡ NotSupported) ⊎ IsOutOfMemory status) }
+    ensures cause { IfErr result (IsNoMetaindex name.now filters) }
 {
     let mut builder = BlockBuilder::spaced(alloc, DefaultCmp, interval);
     let key = format!(in alloc; "filter.{name}")?;
@@ -371,7 +380,7 @@ fn put_footer<S: Sink>(alloc: Global, sink: &mut S, offset: usize, footer: Foote
     requires meta { HandleFits footer.meta_index }
     requires index { HandleFits footer.index }
     ensures ok { IfOk result (λ end. PutsFooter S.puts S.flushes (footer_bytes footer.meta_index footer.index) offset sink.old end sink.new) }
-    ensures cause { IfErr result (λ status. EndsEarly S.puts S.flushes (λ status. status.code ≡ NotSupported) sink.old status sink.new) }
+    ensures cause { IfErr result (λ status. StopsAtFooter S.puts S.flushes (footer_bytes footer.meta_index footer.index) offset sink.old status sink.new) }
 {
     let Some(end) = offset.checked_add(FULL_FOOTER_LENGTH) else {
         return err(

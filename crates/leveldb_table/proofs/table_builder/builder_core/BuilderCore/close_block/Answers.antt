@@ -1,12 +1,9 @@
-use Rattle.std.proofs.Common.{◌≡◌, ◌∷◌, [], ◌++◌, ◌+◌, ◌∙◌, sym, ap, subst, refl, length, arith, rules, inl, inr}
-use Rattle.std.specs.Prelude.{◌/◌}
+use Rattle.std.proofs.Common.{◌∙◌, sym, refl, inl, inr}
 use Rattle.std.proofs.lemmas.List.{append-nil}
 use Rattle.std.proofs.lemmas.Result.{err_from_is_err_and}
 use Rattle.leveldb_base.specs.Handle.{handle_bytes}
-use Rattle.leveldb_table.specs.Block.{KeysRise, pairs_of}
-use Rattle.leveldb_table.specs.Built.{last_added}
+use Rattle.leveldb_table.specs.Block.{pairs_of}
 use Rattle.leveldb_table.specs.Table.{with_trailer}
-use Rattle.leveldb_table.specs.TableBuilding.{last_of}
 use Rattle.leveldb_table.proofs.TableSteps.{IfErr-with, OnOk-with, is_line}
 use Rattle.leveldb_table.proofs.table_builder.builder_core.BuilderCore.close_block.Goals as goal
 

@@ -1,13 +1,11 @@
-use Rattle.std.proofs.Common.{◌≢◌, sym, ap, subst, arith, None, inl}
+use Rattle.std.proofs.Common.{◌≢◌, sym, ap, subst, arith, refl, None, inl, inr}
 use Rattle.std.specs.declared.cmp.Ordering.TheVariants.{Greater}
 use Rattle.std.proofs.lemmas.Result.{err_from_is_err_and}
-use Rattle.leveldb_env.specs.SinkLaws.{PutsAll-none, PutsAll-one}
-use Rattle.leveldb_env.specs.contracts.compressor.CompressorListCoders.TheImpl.{ghosts as coders}
+use Rattle.leveldb_env.specs.SinkLaws.{PutsAll-one}
 use Rattle.leveldb_env.specs.FilterBlockLaws.{keeps_keys}
 use Rattle.leveldb_table.specs.Block.{pairs_of}
 use Rattle.leveldb_table.specs.TableBuilding.{stage, last_of}
 use Rattle.leveldb_table.proofs.TableSteps.{OnOk-with, IfErr-with}
-use Rattle.leveldb_table.proofs.TableSinks.{ends_own, ends_open}
 use Rattle.leveldb_table.proofs.TableGrows.{laid_closed, last_open, some_pairs}
 use Rattle.leveldb_table.proofs.TableMade.{succeeds_last}
 use Rattle.leveldb_table.proofs.table_builder.builder_core.BuilderCore.close_last.Goals as goal
@@ -53,9 +51,17 @@ returns-clause-ok g c =
 
 pub returns-in_err-next-clause-cause : goal.returns-in_err-next-clause-cause
 returns-in_err-next-clause-cause g c =
+    let some = some_pairs c.args.self.now.block.built.0 (omega (arith, c.if-entries-eq0.false, c.entries.ensures)) in
     let p = err_from_is_err_and c.from_residual.result c.from_residual.ensures.1 in
-    rw (p.1, p.2) (ends_own g.S.Sink.puts g.S.Sink.flushes (PutsAll-none g.S.Sink.puts c.args.sink.now) (inl c.in_err-next.ensures.cause))
+    rw (p.1, p.2) (some, inl (refl, c.in_err-next.ensures.cause))
 
 pub returns-clause-cause : goal.returns-clause-cause
 returns-clause-cause g c =
-    IfErr-with c.close_block.result _ _ (λ status. ends_open g.S.Sink.puts g.S.Sink.flushes ((coders g.dyn-1).codings c.args.coders.now) c.args.self.now c.deref.result.now c.args.sink.now status c.close_block.new.sink) c.close_block.ensures.cause
+    let some = some_pairs c.args.self.now.block.built.0 (omega (arith, c.if-entries-eq0.false, c.entries.ensures)) in
+    IfErr-with c.close_block.result _ _ (λ status why. (some, why)) (rw (c.deref.ensures.value, c.in_ok-next.ensures.ok, c.order.ensures, c.last_key-last.ensures) at c.close_block.ensures.cause)
+
+pub returns-clause-rest : goal.returns-clause-rest
+returns-clause-rest g c =
+    let some = some_pairs c.args.self.now.block.built.0 (omega (arith, c.if-entries-eq0.false, c.entries.ensures)) in
+    let next = rw (c.deref.ensures.value, c.in_ok-next.ensures.ok, c.order.ensures, c.last_key-last.ensures) at c.close_block.ensures.ok in
+    OnOk-with c.close_block.result _ _ (λ closed. inr (some, closed.0, closed.1, closed.2)) next

@@ -1,27 +1,43 @@
-use Rattle.std.proofs.Common.{◌++◌, sym, append_assoc, inl, inr}
+use Rattle.std.proofs.Common.{◌++◌, sym, refl, append_assoc, inl, inr}
 use Rattle.std.proofs.lemmas.Result.{err_from_is_err_and, IfOk-weaker}
-use Rattle.leveldb_env.specs.SinkLaws.{PutsAll-none, PutsAll-trans}
+use Rattle.leveldb_env.specs.SinkLaws.{PutsAll-trans}
+use Rattle.leveldb_env.specs.contracts.compressor.CompressorListCoders.TheImpl.{ghosts as coders}
 use Rattle.leveldb_env.specs.FilterBlockLaws.{keeps_keys}
 use Rattle.leveldb_table.specs.TableBuilding.{stage}
 use Rattle.leveldb_table.proofs.TableSteps.{IfErr-with}
-use Rattle.leveldb_table.proofs.TableSinks.{ends_with, ends_own, ends_after}
+use Rattle.leveldb_table.proofs.TableSinks.{refused_with, stops_unset_at}
 use Rattle.leveldb_table.proofs.TableMade.{table_made}
 use Rattle.leveldb_table.proofs.table_builder.builder_core.BuilderCore.finish.Goals as goal
 
 pub returns-in_err-check_unbroken-clause-cause : goal.returns-in_err-check_unbroken-clause-cause
 returns-in_err-check_unbroken-clause-cause g c =
     let p = err_from_is_err_and c.from_residual.result c.from_residual.ensures.1 in
-    rw (p.1, p.2) (ends_own g.S.Sink.puts g.S.Sink.flushes (PutsAll-none g.S.Sink.puts c.args.sink.now) (inl c.in_err-check_unbroken.ensures.err))
+    rw (p.1, p.2) (inl (c.in_err-check_unbroken.ensures.err.0, c.in_err-check_unbroken.ensures.err.1, refl))
 
 pub returns-in_err-close_last-clause-cause : goal.returns-in_err-close_last-clause-cause
 returns-in_err-close_last-clause-cause g c =
     let p = err_from_is_err_and c.from_residual-in_err-close_last.result c.from_residual-in_err-close_last.ensures.1 in
-    rw (p.1, p.2) (ends_with g.S.Sink.puts g.S.Sink.flushes (λ own. inr own) c.in_err-close_last.ensures.cause)
+    rw (p.1, p.2) (inr (inl (c.in_ok-check_unbroken.ensures.ok, c.in_err-close_last.ensures.cause)))
 
 pub returns-clause-cause : goal.returns-clause-cause
 returns-clause-cause g c =
-    IfErr-with c.put_end.result _ _ (λ status early.
-    ends_after g.S.Sink.puts g.S.Sink.flushes c.in_ok-close_last.ensures.ok.put (ends_with g.S.Sink.puts g.S.Sink.flushes (λ own. inr own) early)) (rw c.close_last.ensures.coder at c.put_end.ensures.cause)
+    let cause = rw (c.in_ok-close_last.ensures.order, c.close_last.ensures.policy, c.close_last.ensures.coder) at c.put_end.ensures.cause in
+    IfErr-with c.put_end.result _ _ (λ status why. inr (inr (c.in_ok-check_unbroken.ensures.ok, stage c.close_last.new.self, c.close_last.new.sink, c.in_ok-close_last.ensures.rest, why))) cause
+
+pub returns-in_err-close_last-clause-unset_rest : goal.returns-in_err-close_last-clause-unset_rest
+returns-in_err-close_last-clause-unset_rest g c = λ unbroken none unset. absurd (c.in_err-close_last.ensures.cause.0 none)
+
+pub returns-clause-unset_rest : goal.returns-clause-unset_rest
+returns-clause-unset_rest g c = λ unbroken none unset.
+    let self = c.args.self in
+    let cause = rw (c.in_ok-close_last.ensures.order, c.close_last.ensures.policy, c.close_last.ensures.coder) at c.put_end.ensures.cause in
+    elim c.in_ok-close_last.ensures.rest [
+      | inl (left, same, still) ↦
+          refused_with c.put_end.result _ _ (λ status. stops_unset_at ((coders g.dyn-1).codings c.args.coders.now) (g.C.Cmp.cmp self.block.cmp) (g.FP.FilterPolicy.too_large self.filter.policy) (g.FP.FilterPolicy.filter_for self.filter.policy) self.compressor
+          (g.FP.FilterPolicy.name self.filter.policy) (stage c.close_last.new.self) g.S.Sink.puts g.S.Sink.flushes unset (stage self) c.close_last.new.sink c.args.sink.now status c.put_end.new.sink same still)
+          (c.put_end.ensures.unset (rw c.close_last.ensures.coder unset)) cause
+      | inr closed ↦ absurd (closed.0 none)
+    ]
 
 pub returns-clause-ok : goal.returns-clause-ok
 returns-clause-ok g c =

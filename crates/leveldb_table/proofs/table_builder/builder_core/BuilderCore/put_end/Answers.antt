@@ -1,54 +1,121 @@
 use Rattle.std.proofs.Common.{sym, ap, refl, ◌∙◌, subst, ◌+◌, inl, inr}
 use Rattle.std.proofs.lemmas.Result.{err_from_is_err_and, IfOk-weaker}
-use Rattle.leveldb_env.specs.SinkLaws.{PutsAll-none, PutsAll-one, PutsAll-trans}
-use Rattle.leveldb_env.specs.contracts.compressor.CompressorListCoders.TheImpl.{ghosts as coders}
+use Rattle.leveldb_env.specs.SinkLaws.{PutsAll-one, PutsAll-trans}
 use Rattle.leveldb_table.specs.TableBuilding.{IsPlaced}
 use Rattle.leveldb_table.proofs.TableSteps.{IfErr-with}
-use Rattle.leveldb_table.proofs.TableSinks.{own_filter, own_block, ends_with, ends_own, ends_refused, ends_block, ends_after, block_placed, block_ends}
+use Rattle.leveldb_table.proofs.TableSinks.{block_placed, block_ends}
 use Rattle.leveldb_table.proofs.table_builder.builder_core.BuilderCore.put_end.Goals as goal
 
 pub returns-in_err-finish-clause-cause : goal.returns-in_err-finish-clause-cause
 returns-in_err-finish-clause-cause g c =
     let p = err_from_is_err_and c.from_residual.result c.from_residual.ensures.1 in
-    rw (p.1, p.2) (ends_own g.S.Sink.puts g.S.Sink.flushes (PutsAll-none g.S.Sink.puts c.args.sink.now) (own_filter c.in_err-finish.field-0.0 c.in_err-finish.ensures.cause))
+    rw (p.1, p.2) (inl (refl, c.in_err-finish.ensures.cause))
 
 pub returns-in_err-filters-clause-cause : goal.returns-in_err-filters-clause-cause
 returns-in_err-filters-clause-cause g c =
     let p = err_from_is_err_and c.from_residual-in_err-filters.result c.from_residual-in_err-filters.ensures.1 in
-    rw (p.1, p.2) (ends_refused g.S.Sink.puts g.S.Sink.flushes _ _ _ _ _ c.in_err-filters.ensures.err)
+    rw (p.1, p.2) (inr (c.in_ok-finish.field-0.items, c.in_ok-finish.ensures.ok, inl c.in_err-filters.ensures.err))
 
 pub returns-in_err-meta-clause-cause : goal.returns-in_err-meta-clause-cause
 returns-in_err-meta-clause-cause g c =
-    let first = PutsAll-one g.S.Sink.puts c.in_ok-filters.ensures.ok.put in
+    let placed = c.in_ok-filters.filters in
     let p = err_from_is_err_and c.from_residual-in_err-meta.result c.from_residual-in_err-meta.ensures.1 in
-    rw (p.1, p.2) (ends_own g.S.Sink.puts g.S.Sink.flushes first (own_block _ c.in_err-meta.ensures.cause))
+    rw (p.1, p.2) (inr (c.in_ok-finish.field-0.items, c.in_ok-finish.ensures.ok, inr (placed.handle, placed.end, _, c.in_ok-filters.ensures.ok, inl (refl, rw (sym c.filter_name-name.ensures) c.in_err-meta.ensures.cause))))
 
 pub returns-in_err-meta-2-clause-cause : goal.returns-in_err-meta-2-clause-cause
 returns-in_err-meta-2-clause-cause g c =
-    let first = PutsAll-one g.S.Sink.puts c.in_ok-filters.ensures.ok.put in
+    let placed = c.in_ok-filters.filters in
     let p = err_from_is_err_and c.from_residual-in_err-meta-2.result c.from_residual-in_err-meta-2.ensures.1 in
-    rw (p.1, p.2) (ends_after g.S.Sink.puts g.S.Sink.flushes first (ends_block g.S.Sink.puts g.S.Sink.flushes ((coders g.dyn-1).codings c.args.coders.now) c.args.self.compressor _ _ _ _ _ c.in_err-meta-2.ensures.cause))
+    rw (p.1, p.2) (
+    inr (
+      c.in_ok-finish.field-0.items,
+      c.in_ok-finish.ensures.ok,
+      inr (placed.handle, placed.end, _, c.in_ok-filters.ensures.ok, inr (c.in_ok-meta.meta.items, rw (sym c.filter_name-name.ensures) c.in_ok-meta.ensures.ok, inl c.in_err-meta-2.ensures.cause)),
+    )
+    )
 
 pub returns-in_err-into_bytes-clause-cause : goal.returns-in_err-into_bytes-clause-cause
 returns-in_err-into_bytes-clause-cause g c =
-    let first = PutsAll-one g.S.Sink.puts c.in_ok-filters.ensures.ok.put in
-    let second = PutsAll-trans g.S.Sink.puts first (PutsAll-one g.S.Sink.puts c.in_ok-meta-2.ensures.ok.2.put) in
+    let placed = c.in_ok-filters.filters in
+    let meta = c.in_ok-meta-2.ensures.ok in
     let p = err_from_is_err_and c.from_residual-in_err-into_bytes.result c.from_residual-in_err-into_bytes.ensures.1 in
-    rw (p.1, p.2) (ends_own g.S.Sink.puts g.S.Sink.flushes second (inl c.in_err-into_bytes.ensures.memory))
+    rw (p.1, p.2) (
+    inr (
+      c.in_ok-finish.field-0.items,
+      c.in_ok-finish.ensures.ok,
+      inr (
+        placed.handle,
+        placed.end,
+        _,
+        c.in_ok-filters.ensures.ok,
+        inr (
+          c.in_ok-meta.meta.items,
+          rw (sym c.filter_name-name.ensures) c.in_ok-meta.ensures.ok,
+          inr (meta.0, meta.1, c.in_ok-meta-2.meta.handle, c.in_ok-meta-2.meta.end, _, meta.2, inl (refl, c.in_err-into_bytes.ensures.memory)),
+        ),
+      ),
+    )
+    )
 
 pub returns-in_err-index-clause-cause : goal.returns-in_err-index-clause-cause
 returns-in_err-index-clause-cause g c =
-    let first = PutsAll-one g.S.Sink.puts c.in_ok-filters.ensures.ok.put in
-    let second = PutsAll-trans g.S.Sink.puts first (PutsAll-one g.S.Sink.puts c.in_ok-meta-2.ensures.ok.2.put) in
+    let placed = c.in_ok-filters.filters in
+    let meta = c.in_ok-meta-2.ensures.ok in
     let p = err_from_is_err_and c.from_residual-in_err-index.result c.from_residual-in_err-index.ensures.1 in
-    rw (p.1, p.2) (ends_after g.S.Sink.puts g.S.Sink.flushes second (ends_block g.S.Sink.puts g.S.Sink.flushes ((coders g.dyn-1).codings c.args.coders.now) c.args.self.compressor _ _ _ _ _ c.in_err-index.ensures.cause))
+    rw (p.1, p.2) (
+    inr (
+      c.in_ok-finish.field-0.items,
+      c.in_ok-finish.ensures.ok,
+      inr (
+        placed.handle,
+        placed.end,
+        _,
+        c.in_ok-filters.ensures.ok,
+        inr (
+          c.in_ok-meta.meta.items,
+          rw (sym c.filter_name-name.ensures) c.in_ok-meta.ensures.ok,
+          inr (meta.0, meta.1, c.in_ok-meta-2.meta.handle, c.in_ok-meta-2.meta.end, _, meta.2, inr (c.in_ok-into_bytes.field-0.items, c.in_ok-into_bytes.ensures.ok, inl c.in_err-index.ensures.cause)),
+        ),
+      ),
+    )
+    )
 
 pub returns-clause-cause : goal.returns-clause-cause
 returns-clause-cause g c =
-    let first = PutsAll-one g.S.Sink.puts c.in_ok-filters.ensures.ok.put in
-    let second = PutsAll-trans g.S.Sink.puts first (PutsAll-one g.S.Sink.puts c.in_ok-meta-2.ensures.ok.2.put) in
-    let third = PutsAll-trans g.S.Sink.puts second (PutsAll-one g.S.Sink.puts c.in_ok-index.ensures.ok.2.put) in
-    IfErr-with c.put_footer.result _ _ (λ status early. ends_after g.S.Sink.puts g.S.Sink.flushes third (ends_with g.S.Sink.puts g.S.Sink.flushes (λ code. inr (inl code)) early)) c.put_footer.ensures.cause
+    let placed = c.in_ok-filters.filters in
+    let meta = c.in_ok-meta-2.ensures.ok in
+    let index = c.in_ok-index.ensures.ok in
+    IfErr-with c.put_footer.result _ _ (λ status why.
+    inr (
+      c.in_ok-finish.field-0.items,
+      c.in_ok-finish.ensures.ok,
+      inr (
+        placed.handle,
+        placed.end,
+        _,
+        c.in_ok-filters.ensures.ok,
+        inr (
+          c.in_ok-meta.meta.items,
+          rw (sym c.filter_name-name.ensures) c.in_ok-meta.ensures.ok,
+          inr (
+            meta.0,
+            meta.1,
+            c.in_ok-meta-2.meta.handle,
+            c.in_ok-meta-2.meta.end,
+            _,
+            meta.2,
+            inr (
+              c.in_ok-into_bytes.field-0.items,
+              c.in_ok-into_bytes.ensures.ok,
+              inr (index.0, index.1, c.in_ok-index.index.handle, c.in_ok-index.index.end, _, index.2, rw c.new.ensures at why),
+            ),
+          ),
+        ),
+      ),
+    )) c.put_footer.ensures.cause
+
+pub returns-clause-unset : goal.returns-clause-unset
+returns-clause-unset g c = λ unset. let clash = rw unset at c.in_ok-meta-2.ensures.ok.1 in cc
 
 pub returns-clause-ok : goal.returns-clause-ok
 returns-clause-ok g c =
