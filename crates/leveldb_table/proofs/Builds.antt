@@ -1,12 +1,9 @@
 -- One more entry of a block builder.
 use Rattle.std.proofs.Common.{◌≡◌, ℕ, zero, suc, ◌+◌, ◌*◌, ◌%◌, ◌^◌, ◌<◌, ◌≤◌, Bool, true, false, nat_eq, if◌then◌else◌, List, [], ◌∷◌, ◌++◌, length, take, drop, flat_map, get_or, min, None, Some, refl, sym, ◌∙◌, ap, subst, arith, length-append, length-drop}
 use Rattle.std.specs.List.{All}
-use Rattle.std.specs.Prelude.{IsErrAnd, OnErr, unwrap_or}
+use Rattle.std.specs.Prelude.{OnErr, unwrap_or}
 use Rattle.std.proofs.Common.{Result, Ok, Err, inl, inr}
 use Rattle.std.proofs.lemmas.Bool.{cases_lt, eqb-true, ne_eqb, eq-eqb}
-use Rattle.leveldb_base.specs.Status.{IsOutOfMemory}
-use Rattle.leveldb_base.specs.declared.error.Status.{Status}
-use Rattle.leveldb_base.specs.declared.error.StatusCode.TheVariants.{NotSupported}
 use Rattle.std.proofs.lemmas.List.{append-nil, take-append-drop, length_push}
 use Rattle.std.proofs.lemmas.List.Concat.{flat_map-append}
 use Rattle.std.proofs.lemmas.List.Elements.{All-cons, All-push}
@@ -15,11 +12,11 @@ use Rattle.leveldb_base.specs.Places.{Pair}
 use Rattle.leveldb_base.specs.Varint.{little}
 use Rattle.leveldb_base.specs.VarintLaws.{length-varint_32}
 use Rattle.leveldb_env.specs.NumberLaws.{length-fours}
-use Rattle.leveldb_table.specs.Block.{Entry, spelling, entry_bytes, key_of, pairs_of, IsShort, SharesFrom, KeysRise, points_from, restart_points, block_bytes, IsSpelled, IsBlock}
+use Rattle.leveldb_table.specs.Block.{Entry, spelling, entry_bytes, key_of, pairs_of, IsShort, SharesFrom, KeysRise, points_from, restart_points, block_bytes, IsSpelled}
 use Rattle.leveldb_table.specs.BlockLaws.{entry_of, length-entry_bytes-ge, one_whole}
 use Rattle.leveldb_table.specs.Reading.{key_before}
 use Rattle.leveldb_table.specs.Walk.{last_key}
-use Rattle.leveldb_table.specs.Built.{AreSpaced, IsTooLarge, IsBuilt, Built, estimate, points_more, last_added, shared_front, entry_behind}
+use Rattle.leveldb_table.specs.Built.{AreSpaced, IsTooLarge, IsBuilt, Built, estimate, points_more, last_added, shared_front, entry_behind, entries_behind, IsMade}
 use Rattle.leveldb_table.proofs.Sequences.{last_key-append, pairs_of-append, AreEntries-append}
 
 spaced_push : (interval i : ℕ) (entries : List Entry) (entry : Entry) → AreSpaced interval i entries → entry.restart ≡ nat_eq ((i + length entries) % interval) 0 → AreSpaced interval i (entries ++ entry ∷ [])
@@ -100,6 +97,45 @@ fit_push : (b : Bool) (points : List ℕ) (offset : ℕ) → offset < 2 ^ 32 →
 fit_push true points offset h all = All-push (λ z. z < 2 ^ 32) points offset all h
 fit_push false points offset h all = subst (λ z. All (λ z. z < 2 ^ 32) z) (sym (append-nil points)) all
 
+same_last : (last : List ℕ) (entries : List Entry) (before : Pair) → before.0 ≡ last → last_added (before ∷ pairs_of (Some last) entries) ≡ unwrap_or (last_key (Some last) entries) []
+same_last last [] before e = e
+same_last last (entry ∷ entries) before e = same_last (key_of (Some last) entry) entries (key_of (Some last) entry, entry.value) refl
+
+last_pair : (entries : List Entry) → last_added (pairs_of None entries) ≡ unwrap_or (last_key None entries) []
+last_pair [] = refl
+last_pair (entry ∷ entries) = same_last (key_of None entry) entries (key_of None entry, entry.value) refl
+
+-- the key that was added last
+pub last_there : {cmp : List ℕ → List ℕ → Ordering} {interval : ℕ} {bytes points last : List ℕ} {begun : Bool} {entries : List Entry} (count : ℕ) → IsBuilt cmp interval bytes points last count begun entries → last ≡ last_added (pairs_of None entries)
+last_there {last = last} {entries = entries} zero built = built.cleared refl ∙ sym (last_pair entries ∙ ap (λ z. unwrap_or z []) built.reached)
+last_there {last = last} {entries = entries} (suc count) built = sym (last_pair entries ∙ ap (λ z. unwrap_or z []) built.reached ∙ ap (λ z. unwrap_or (key_before z last) []) (suc_test count))
+
+chosen : (restart : Bool) (shared front : ℕ) → (restart ≡ true → shared ≡ 0) → (restart ≡ false → shared ≡ front) → shared ≡ (if restart then 0 else front)
+chosen true shared front none longest = none refl
+chosen false shared front none longest = longest refl
+
+entry_by : ℕ → List ℕ → List ℕ → ℕ → List ℕ → Entry
+entry_by interval key value count last =
+    let restart = nat_eq (count % interval) 0 in
+    let shared = if restart then 0 else shared_front last key in
+    record { restart = restart; shared = shared; rest = drop shared key; value = value }
+
+-- what is put is the entry behind the others
+pub entry_is : {cmp : List ℕ → List ℕ → Ordering} {interval : ℕ} {bytes points last : List ℕ} {begun : Bool} {entries : List Entry} (count : ℕ) (built : IsBuilt cmp interval bytes points last count begun entries)
+    → (key value : List ℕ) (shared : ℕ) → (nat_eq (count % interval) 0 ≡ true → shared ≡ 0) → (nat_eq (count % interval) 0 ≡ false → shared ≡ shared_front last key)
+    → entry_of (nat_eq (count % interval) 0) shared (drop shared key) value ≡ entry_behind interval entries key value
+unfolding entry_by
+entry_is {interval = interval} {last = last} {entries = entries} count built key value shared none longest =
+    ap (λ n. entry_of (nat_eq (count % interval) 0) n (drop n key) value) (chosen (nat_eq (count % interval) 0) shared (shared_front last key) none longest)
+    ∙ ap (λ n. entry_by interval key value n last) built.counted
+    ∙ ap (λ z. entry_by interval key value (length entries) z) (last_there count built)
+
+-- one more pair behind others
+entries_push : (interval : ℕ) (before : List Entry) (pairs : List Pair) (pair : Pair)
+    → entries_behind interval before (pairs ++ pair ∷ []) ≡ entries_behind interval before pairs ++ entry_behind interval (entries_behind interval before pairs) pair.0 pair.1 ∷ []
+entries_push interval before [] pair = refl
+entries_push interval before (first ∷ pairs) pair = entries_push interval (before ++ entry_behind interval before first.0 first.1 ∷ []) pairs pair
+
 module _ {cmp : List ℕ → List ℕ → Ordering} {interval : ℕ} {bytes points last : List ℕ} {count : ℕ} {begun : Bool} {entries : List Entry} (built : IsBuilt cmp interval bytes points last count begun entries) where
   module _ (restart : Bool) (key value : List ℕ) (shared : ℕ) (told : restart ≡ nat_eq (count % interval) 0) (within : shared ≤ length last) (shares : take shared last ≡ take shared key) (none : restart ≡ true → shared ≡ 0)
       (key_fits : length key < 2 ^ 32) (value_fits : length value < 2 ^ 32) (within_key : shared ≤ length key) (offset_fits : length bytes < 2 ^ 32) (all_rise : KeysRise cmp (pairs_of None entries ++ (key, value) ∷ [])) where
@@ -132,10 +168,21 @@ module _ {cmp : List ℕ → List ℕ → Ordering} {interval : ℕ} {bytes poin
     fit_by zero more f g = subst (λ z. All (λ offset. offset < 2 ^ 32) z) (sym (f refl)) built.points_fit
     fit_by (suc n) more f g = subst (λ z. All (λ offset. offset < 2 ^ 32) z) (sym (g (omega arith))) (fit_push restart points (length bytes) offset_fits built.points_fit)
 
-    pub built_more : (more : List ℕ) → (count ≡ 0 → more ≡ points) → (0 < count → more ≡ points ++ points_more restart (length bytes)) → (after : List ℕ) → after ≡ bytes ++ spelling shared (drop shared key) value
+    -- the entry that is put is the one behind the others
+    new_is : (restart ≡ false → shared ≡ shared_front last key) → new_entry ≡ entry_behind interval entries key value
+    new_is longest =
+        ap (λ b. entry_of b shared (drop shared key) value) told
+        ∙ entry_is count built key value shared (λ yes. none (told ∙ yes)) (λ no. longest (told ∙ no))
+
+    new_exact : (restart ≡ false → shared ≡ shared_front last key) → entries_behind interval [] (pairs_of None (entries ++ new_entry ∷ [])) ≡ entries ++ new_entry ∷ []
+    new_exact longest =
+        ap (entries_behind interval []) new_pairs ∙ entries_push interval [] (pairs_of None entries) (key, value)
+        ∙ ap (λ z. z ++ entry_behind interval z key value ∷ []) built.exact ∙ ap (λ e. entries ++ e ∷ []) (sym (new_is longest))
+
+    pub built_more : (restart ≡ false → shared ≡ shared_front last key) → (more : List ℕ) → (count ≡ 0 → more ≡ points) → (0 < count → more ≡ points ++ points_more restart (length bytes)) → (after : List ℕ) → after ≡ bytes ++ spelling shared (drop shared key) value
         → IsBuilt cmp interval after more key (count + 1) true (entries ++ new_entry ∷ [])
     unfolding entry_bytes
-    built_more more first_more other_more after e =
+    built_more longest more first_more other_more after e =
         let counted = built.counted in
         let size = ap length built.spelled in
         let pointed = restarts_push entries new_entry points more built.pointed
@@ -148,6 +195,7 @@ module _ {cmp : List ℕ → List ℕ → Ordering} {interval : ℕ} {bytes poin
           pointed = pointed;
           spaced = spaced_push interval 0 entries new_entry built.spaced
               (told ∙ ap (λ z. nat_eq (z % interval) 0) (counted ∙ zero_plus (length entries)));
+          exact = new_exact longest;
           allowed = AreEntries-append None entries (new_entry ∷ []) built.allowed
               (short, subst (λ z. SharesFrom z new_entry) (sym built.reached) (shares_last (nat_eq count 0) last (drop shared key) restart shared value within first_restart none), tt);
           sorted = subst (λ z. KeysRise cmp z) (sym new_pairs) all_rise;
@@ -186,8 +234,13 @@ built_spelled {bytes = bytes} {points = points} {entries = entries} built whole 
       count_fits = let few = built.count_fits in omega (arith, few, size);
     }
 
-pub built_block : {cmp : List ℕ → List ℕ → Ordering} {whole : List ℕ} {entries : List Entry} → IsSpelled cmp whole entries → IsBlock cmp whole (pairs_of None entries)
-built_block {entries = entries} spelled = record { entries = entries; spelled = spelled; stands_for = refl }
+-- and it is as it is made of their pairs
+pub built_made : {cmp : List ℕ → List ℕ → Ordering} {interval : ℕ} {bytes points last : List ℕ} {count : ℕ} {begun : Bool} {entries : List Entry} → IsBuilt cmp interval bytes points last count begun entries
+    → {whole : List ℕ} → IsSpelled cmp whole entries → IsMade cmp interval (pairs_of None entries) whole
+built_made {entries = entries} built spelled = record {
+  block = record { entries = entries; spelled = spelled; stands_for = refl };
+  exact = spelled.spelled ∙ ap block_bytes (sym built.exact);
+}
 
 -- a block has as many bytes as were estimated
 pub block_size : (entries : List Entry) → length (block_bytes entries) ≡ estimate entries true
@@ -196,19 +249,6 @@ block_size entries =
     let points = restart_points entries in
     let last : length (little 4 (length points)) ≡ 4 = refl in
     omega (arith, last, length-append (flat_map entry_bytes entries) (flat_map (little 4) points ++ little 4 (length points)), length-append (flat_map (little 4) points) (little 4 (length points)), length-fours points)
-
-same_last : (last : List ℕ) (entries : List Entry) (before : Pair) → before.0 ≡ last → last_added (before ∷ pairs_of (Some last) entries) ≡ unwrap_or (last_key (Some last) entries) []
-same_last last [] before e = e
-same_last last (entry ∷ entries) before e = same_last (key_of (Some last) entry) entries (key_of (Some last) entry, entry.value) refl
-
-last_pair : (entries : List Entry) → last_added (pairs_of None entries) ≡ unwrap_or (last_key None entries) []
-last_pair [] = refl
-last_pair (entry ∷ entries) = same_last (key_of None entry) entries (key_of None entry, entry.value) refl
-
--- the key that was added last
-pub last_there : {cmp : List ℕ → List ℕ → Ordering} {interval : ℕ} {bytes points last : List ℕ} {begun : Bool} {entries : List Entry} (count : ℕ) → IsBuilt cmp interval bytes points last count begun entries → last ≡ last_added (pairs_of None entries)
-last_there {last = last} {entries = entries} zero built = built.cleared refl ∙ sym (last_pair entries ∙ ap (λ z. unwrap_or z []) built.reached)
-last_there {last = last} {entries = entries} (suc count) built = sym (last_pair entries ∙ ap (λ z. unwrap_or z []) built.reached ∙ ap (λ z. unwrap_or (key_before z last) []) (suc_test count))
 
 -- what fits isn't too large, and what doesn't fit is
 pub too_large : (entries : List Entry) (bytes key value : List ℕ) → bytes ≡ flat_map entry_bytes entries → ((length bytes < 2 ^ 32) × (length key < 2 ^ 32) × (length value < 2 ^ 32) → ⊥) → IsTooLarge entries key value
@@ -245,7 +285,7 @@ pub OnErr-always : {T E P : Type 0} (r : Result T E) → P → OnErr r P
 OnErr-always (Ok x) h = tt
 OnErr-always (Err e) h = h
 
--- ---- the entry that comes
+-- ---- how much of a key is shared
 
 -- where the keys differ first
 pub front_differs : (last key : List ℕ) (i : ℕ) → take i last ≡ take i key → i < length last → i < length key → (get_or last i 0 ≡ get_or key i 0 → ⊥) → i ≡ shared_front last key
@@ -266,23 +306,3 @@ front_whole (b ∷ last) (c ∷ key) (suc i) e h =
     let first : b ≡ c = cc in
     let behind : take i last ≡ take i key = cc in
     rw (eq-eqb b c first) (ap suc (front_whole last key i behind (omega (arith, h))))
-
-chosen : (restart : Bool) (shared front : ℕ) → (restart ≡ true → shared ≡ 0) → (restart ≡ false → shared ≡ front) → shared ≡ (if restart then 0 else front)
-chosen true shared front none longest = none refl
-chosen false shared front none longest = longest refl
-
-entry_by : ℕ → List ℕ → List ℕ → ℕ → List ℕ → Entry
-entry_by interval key value count last =
-    let restart = nat_eq (count % interval) 0 in
-    let shared = if restart then 0 else shared_front last key in
-    record { restart = restart; shared = shared; rest = drop shared key; value = value }
-
--- what is put is the entry behind the others
-pub entry_is : {cmp : List ℕ → List ℕ → Ordering} {interval : ℕ} {bytes points last : List ℕ} {begun : Bool} {entries : List Entry} (count : ℕ) (built : IsBuilt cmp interval bytes points last count begun entries)
-    → (key value : List ℕ) (shared : ℕ) → (nat_eq (count % interval) 0 ≡ true → shared ≡ 0) → (nat_eq (count % interval) 0 ≡ false → shared ≡ shared_front last key)
-    → entry_of (nat_eq (count % interval) 0) shared (drop shared key) value ≡ entry_behind interval entries key value
-unfolding entry_by
-entry_is {interval = interval} {last = last} {entries = entries} count built key value shared none longest =
-    ap (λ n. entry_of (nat_eq (count % interval) 0) n (drop n key) value) (chosen (nat_eq (count % interval) 0) shared (shared_front last key) none longest)
-    ∙ ap (λ n. entry_by interval key value n last) built.counted
-    ∙ ap (λ z. entry_by interval key value (length entries) z) (last_there count built)

@@ -1,10 +1,10 @@
 -- What a cache's pairs are after a put and a look-up, from the words of the map below it.
-use Rattle.std.proofs.Common.{◌≡◌, ℕ, ◌-◌, Bool, true, false, ◌⊎◌, List, [], ◌∷◌, take, Option, None, Some, refl, sym, ◌∙◌, ap, inl, inr}
+use Rattle.std.proofs.Common.{◌≡◌, ℕ, true, false, ◌⊎◌, List, [], ◌∷◌, None, Some, refl, sym, ap, inl, inr}
 use Rattle.std.specs.Str.{bytes_eq}
-use Rattle.std.specs.Map.{lookup, lookup_entry, remove_entry}
+use Rattle.std.specs.Map.{lookup, lookup_entry}
 use Rattle.std.specs.Cmp.Lexicographic.{same_text}
 use Rattle.lru.specs.LruCache.{LruCache, promoted, put_entries}
-use Rattle.leveldb_table.specs.Cache.{Cached, value_of, others, looked_for, put_first}
+use Rattle.leveldb_table.specs.Cache.{Cached, looked_for, put_first}
 
 -- a cache over a map, with the number that was given last
 abbrev pub cached_of : {T : Type 0} → LruCache (List ℕ) T → ℕ → Cached T

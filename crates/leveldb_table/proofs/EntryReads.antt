@@ -1,5 +1,5 @@
 -- What reading the parts of an entry, one behind the other, finds.
-use Rattle.std.proofs.Common.{◌≡◌, ℕ, ◌+◌, ◌-◌, ◌^◌, ◌<◌, ◌≤◌, true, false, nat_eq, List, [], ◌∷◌, ◌++◌, length, drop, None, sym, ◌∙◌, ap, arith, length-append, length-drop}
+use Rattle.std.proofs.Common.{◌≡◌, ℕ, ◌+◌, ◌^◌, ◌<◌, ◌≤◌, true, false, nat_eq, List, [], ◌∷◌, ◌++◌, length, drop, None, sym, ◌∙◌, ap, arith, length-append, length-drop}
 use Rattle.std.proofs.Common.{inl, inr, leb}
 use Rattle.std.proofs.lemmas.Bool.{cases_lt, lt-leb, eqb-true}
 use Rattle.std.proofs.lemmas.List.{take-append-drop}

@@ -1,13 +1,14 @@
 -- What the bytes of a footer are, part by part, and how they are written one part behind the other.
 use Rattle.std.proofs.Common.{◌≡◌, ℕ, ◌+◌, ◌-◌, ◌≤◌, List, [], ◌++◌, length, take, drop, replicate, None, Some, refl, sym, ◌∙◌, ap, subst, arith, append_assoc, append-nil, length-append}
-use Rattle.std.proofs.lemmas.List.{take_rest, drop-drop, take-append-drop, length-take-le, length-drop, length-replicate}
+use Rattle.std.proofs.lemmas.List.{take_rest, drop-drop, drop-take, drop_at, take-append-drop, length-take, length-take-le, length-drop, length-replicate}
 use Rattle.std.proofs.Math.Seq.{take-append_seam, drop-append_seam}
 use Rattle.std.proofs.Math.ListN.{drop_of_length-le}
 use borrow.Rule.Slice.PartMut.{put_mid}
 use Rattle.leveldb_base.specs.Handle.{Handle, HandleFits, handle_bytes, ReadsHandle}
 use Rattle.leveldb_base.specs.HandleLaws.{one_handle}
 use Rattle.leveldb_table.specs.Footer.{magic, filled, footer_bytes, ReadsFooter}
-use Rattle.leveldb_table.specs.FooterLaws.{zeros, footer-append, length-filled, length-footer_bytes}
+use Rattle.leveldb_table.specs.TableReading.{EndsIn}
+use Rattle.leveldb_table.specs.FooterLaws.{zeros, length-filled, length-footer_bytes}
 
 -- the parts of bytes that are a footer
 module _ (bytes : List ℕ) (meta index : Handle) (meta_fits : HandleFits meta) (index_fits : HandleFits index) (e : bytes ≡ footer_bytes meta index) where
@@ -139,3 +140,29 @@ module _ (meta index : Handle) (old one two : List ℕ) (used more : ℕ) (room 
       write_part handles old (zeros meta index) behind_handles three (used + more) (40 - (used + more)) wrote length-handles filler ∙ ap (λ n. filled 40 handles ++ drop n old) forty in
       let long : length (filled 40 handles) ≡ 40 = omega (arith, length-handles, length-append handles (zeros meta index), length-replicate {A = ℕ} (40 - length handles) 0) in
       write_part (filled 40 handles) old magic (put_mid (used + more) (40 - (used + more)) behind_handles three) four 40 8 filled_is long fourth
+
+-- ---- where so many bytes of a file end in a footer
+
+module _ {bytes : List ℕ} {size : ℕ} {meta index : Handle} where
+  -- those are as many as a footer has, at least
+  pub ends_long : EndsIn bytes size meta index → 48 ≤ size
+  ends_long ends =
+      omega (arith, length-take-le size bytes ends.within, ap length ends.ends, length-append ends.front (footer_bytes meta index), length-footer_bytes meta index ends.meta_fits ends.index_fits)
+
+  -- they do where the last of them are read as one
+  pub ends_at : (place : ℕ) {read : List ℕ} → place + 48 ≡ size → HandleFits meta → HandleFits index → length read ≡ 48 → read ≡ take 48 (drop place bytes) → read ≡ footer_bytes meta index → EndsIn bytes size meta index
+  ends_at place {read} past meta_fits index_fits long is spelled = record {
+    within = omega (arith, past, long, ap length is, length-take 48 (drop place bytes), length-drop place bytes);
+    front = take place (take size bytes);
+    ends = sym (take-append-drop place (take size bytes)) ∙ ap (λ z. take place (take size bytes) ++ z)
+        (ap (λ n. drop place (take n bytes)) (sym past) ∙ drop-take place 48 bytes ∙ sym is ∙ spelled);
+    meta_fits = meta_fits;
+    index_fits = index_fits;
+  }
+
+  -- and then the last of them are one
+  pub ends_with : (place : ℕ) → place + 48 ≡ size → EndsIn bytes size meta index → take 48 (drop place bytes) ≡ footer_bytes meta index
+  ends_with place past ends =
+      let before : length ends.front ≡ place =
+      omega (arith, past, length-take-le size bytes ends.within, ap length ends.ends, length-append ends.front (footer_bytes meta index), length-footer_bytes meta index ends.meta_fits ends.index_fits) in
+      sym (drop-take place 48 bytes) ∙ ap (λ n. drop place (take n bytes)) past ∙ ap (drop place) ends.ends ∙ drop_at ends.front (footer_bytes meta index) place before

@@ -12,7 +12,6 @@ pub mod TablePlaces
 pub mod TablePlacesIn
 pub mod TableCalls
 pub mod TableBlocks
-pub mod TableForeign
 pub mod Gathering
 pub mod TableMade
 pub mod EntryReads

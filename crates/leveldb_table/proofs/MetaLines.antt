@@ -15,10 +15,9 @@ use Rattle.leveldb_base.specs.OrderLaws.{itself_equal}
 use Rattle.leveldb_base.specs.Handle.{Handle, handle_bytes}
 use Rattle.leveldb_base.specs.HandleLaws.{one_handle}
 use Rattle.leveldb_base.specs.Places.{Pair, count_before, seek_place, pair_at}
-use Rattle.leveldb_env.specs.FilterBlock.{IsFilterBlock}
 use Rattle.leveldb_table.specs.Block.{RiseBehind, KeysRise}
-use Rattle.leveldb_table.specs.Table.{StoresAt, first_from}
-use Rattle.leveldb_table.specs.TableReading.{SaysHandle, SaysNoHandle, HasFiltersBy, IsFiltersAt}
+use Rattle.leveldb_table.specs.Table.{first_from}
+use Rattle.leveldb_table.specs.TableReading.{SaysHandle, HasFiltersBy, IsFiltersAt}
 use Rattle.leveldb_table.specs.TableReads.{HasNoFilters}
 
 -- ---- the pair that a seek finds

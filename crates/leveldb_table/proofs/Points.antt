@@ -14,7 +14,7 @@ use Rattle.leveldb_base.specs.Varint.{little}
 use Rattle.leveldb_env.specs.NumberLaws.{length-fours, number_at}
 use Rattle.leveldb_table.specs.Block.{Entry, entry_bytes, pairs_of, RiseBehind, KeysRise, restart_points, block_bytes, IsHeld}
 use Rattle.leveldb_table.specs.Reading.{ReadsEntry}
-use Rattle.leveldb_table.specs.Walk.{begun, IsPoint, HasKeyAt, StartsBy, Loads}
+use Rattle.leveldb_table.specs.Walk.{begun, HasKeyAt, StartsBy, Loads}
 use Rattle.leveldb_table.specs.declared.block.entry.EntryParts.{EntryParts}
 use Rattle.leveldb_table.proofs.Walks.{begun-start}
 use Rattle.leveldb_table.proofs.Moves.{Fronts, is_loaded}

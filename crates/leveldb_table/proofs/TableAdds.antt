@@ -30,7 +30,7 @@ module _ {C FP : Type 0} {order : CmpGhosts C} {policy : PolicyGhosts FP} (codin
   pub closed_put : (next bytes : List ℕ) (new : Stage FP) (from to : S) (closes : ClosesOpen codings core next bytes new) → puts from bytes (Ok tt) to → PutsOpen codings core puts from closes.handle to
   closed_put next bytes new from to closes put = (
     closes.stored,
-    record { text = closes.text; block = closes.block; coded = closes.coded },
+    record { text = closes.text; made = closes.made; coded = closes.coded },
     new.offset,
     record { put = subst (λ z. puts from z (Ok tt) to) closes.spelled put; begins = closes.begins; size = closes.size; fits = closes.fits; ends = closes.ends },
   )
@@ -38,10 +38,10 @@ module _ {C FP : Type 0} {order : CmpGhosts C} {policy : PolicyGhosts FP} (codin
   -- what a refusal leaves in the sink
   pub tries_closed : (next : List ℕ) (from : S) (status : Status) (to : S) → IsNotClosed codings core puts next from status to → TriesOpen codings core puts from to
   tries_closed next from status to (inl h) = inl h.0
-  tries_closed next from status to (inr (inl (text, block, inl h))) = inl h.0
-  tries_closed next from status to (inr (inl (text, block, inr (inl h)))) = inl h.0
-  tries_closed next from status to (inr (inl (text, block, inr (inr (stored, coded, inl put))))) = inr (stored, record { text = text; block = block; coded = coded }, Err status, put)
-  tries_closed next from status to (inr (inl (text, block, inr (inr (stored, coded, inr h))))) = inl h.0
+  tries_closed next from status to (inr (inl (text, made, inl h))) = inl h.0
+  tries_closed next from status to (inr (inl (text, made, inr (inl h)))) = inl h.0
+  tries_closed next from status to (inr (inl (text, made, inr (inr (stored, coded, inl put))))) = inr (stored, record { text = text; made = made; coded = coded }, Err status, put)
+  tries_closed next from status to (inr (inl (text, made, inr (inr (stored, coded, inr h))))) = inl h.0
   tries_closed next from status to (inr (inr (handle, (stored, is, end, placed), why))) = inr (stored, is, Ok tt, placed.put)
 
   pub tries_taken : (pair : Pair) (from : S) (status : Status) (to : S) → IsNotTaken codings core puts pair from status to → TriesOpen codings core puts from to

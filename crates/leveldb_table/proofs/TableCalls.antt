@@ -58,6 +58,11 @@ module _ {E F : Type 0} (env : Ghosts E F) where
   missing_before {name = name} looks missing = ⊎_elim (λ memory. inl memory)
       (λ none. inr (none.0, λ tells. sym (ap (λ files. files name) (same_files looks tells)) ∙ none.1 tells)) missing
 
+  -- and one that was missing before it is missing after it
+  missing_after : {old mid : E} {name : List ℕ} {status : Status} → Looks env old mid → IsMissing env.tells_disk name (env.tells old) status → IsMissing env.tells_disk name (env.tells mid) status
+  missing_after {name = name} looks missing = ⊎_elim (λ memory. inl memory)
+      (λ none. inr (none.0, λ tells. ap (λ files. files name) (same_files looks tells) ∙ none.1 tells)) missing
+
   -- an Ok call
   pub fails_ok : {T : Type 0} {Why : Status → Type 0} {old new : E} {file : F} {answer : T} → env.failures new ≡ env.failures old → FailsFor env Why old file new (Ok answer)
   fails_ok counted = record { later = omega (arith, counted); ok = counted; uncounted = tt; cause = tt }
@@ -70,7 +75,7 @@ module _ {E F : Type 0} (env : Ghosts E F) where
     later = omega (arith, counted);
     ok = tt;
     uncounted = λ excuse. counted;
-    cause = inl (counted, ⊎_elim (λ memory. inl (inl memory)) (λ own. inr own) (why status refused));
+    cause = inl (⊎_elim (λ memory. inl (inl memory)) (λ own. inr (counted, own)) (why status refused));
   }
 
   -- one call of the environment
@@ -80,8 +85,8 @@ module _ {E F : Type 0} (env : Ghosts E F) where
   fails_call (Err status) cause = record {
     later = cause.later;
     ok = tt;
-    uncounted = λ excuse. excuse.0;
-    cause = ⊎_elim (λ missing. inl (cause.uncounted missing, inl missing)) (λ counted. inr counted) cause.cause;
+    uncounted = λ excuse. ⊎_elim (λ missing. cause.uncounted missing) (λ own. own.0) excuse;
+    cause = ⊎_elim (λ missing. inl (inl missing)) (λ counted. inr counted) cause.cause;
   }
 
   -- a call behind Ok ones, whose reason is one of the whole's
@@ -91,8 +96,8 @@ module _ {E F : Type 0} (env : Ghosts E F) where
   fails_after (Err status) looks counted why cause = record {
     later = omega (arith, counted, cause.later);
     ok = tt;
-    uncounted = λ excuse. excuse.0;
-    cause = ⊎_elim (λ excuse. inl (excuse.0 ∙ counted, ⊎_elim (λ missing. inl (missing_before looks missing)) (λ own. inr (why status own)) excuse.1))
+    uncounted = λ excuse. ⊎_elim (λ missing. cause.uncounted (inl (missing_after looks missing)) ∙ counted) (λ own. own.0) excuse;
+    cause = ⊎_elim (λ excuse. inl (⊎_elim (λ missing. inl (missing_before looks missing)) (λ own. inr (own.0 ∙ counted, why status own.1)) excuse))
         (λ more. inr (⊎_elim (λ one. inl (one ∙ ap (λ n. n + 1) counted)) (λ full. inr (sym counted ∙ full.0, full.1 ∙ counted)) more)) cause.cause;
   }
 

@@ -10,9 +10,9 @@ use Rattle.leveldb_base.specs.Handle.{Handle, handle_bytes}
 use Rattle.leveldb_base.specs.Places.{Pair}
 use Rattle.leveldb_env.specs.FilterBlock.{Building, with_key, started, IsKept, KeepsKeys}
 use Rattle.leveldb_table.specs.Block.{Entry, pairs_of, KeysRise}
-use Rattle.leveldb_table.specs.Built.{last_added}
+use Rattle.leveldb_table.specs.Built.{last_added, block_made}
 use Rattle.leveldb_table.specs.Table.{Part, IsPart, keys_for, filters_before, HasBlockAt, StoresAt, StandsUnder, with_trailer, index_pair, AreLinked, blocks_len}
-use Rattle.leveldb_table.specs.TableStages.{Follows, AreReady, IsSound, Stage, stage_of, first_key, AreSeparated, KeepsAll, IsLaid, Closes}
+use Rattle.leveldb_table.specs.TableStages.{Follows, AreReady, IsSound, Stage, with_pair, first_key, AreSeparated, KeepsAll, IsLaid, Closes}
 use Rattle.leveldb_table.proofs.Sequences.{length-pairs_of}
 use Rattle.leveldb_table.proofs.TableFilters.{begin_before, filters_closed}
 use Rattle.leveldb_table.proofs.TableOrders.{all_append, all_with, last_behind, last_pushed, rise_push, rise_right}
@@ -35,6 +35,11 @@ block_more more there = record { id = there.id; stored = there.stored; stands = 
 
 pub part_more : (Decodes : ℕ → List ℕ → List ℕ → Type 0) (cmp : List ℕ → List ℕ → Ordering) (file more : List ℕ) (part : Part) → IsPart Decodes cmp file part → IsPart Decodes cmp (file ++ more) part
 part_more Decodes cmp file more part there = record { text = there.text; stands = block_more more there.stands; block = there.block; some = there.some }
+
+pub made_more : (Decodes : ℕ → List ℕ → List ℕ → Type 0) (interval : ℕ) (file more : List ℕ) (parts : List Part) → AllByRecursion (λ part. HasBlockAt Decodes file part.handle (block_made interval part.pairs)) parts
+    → AllByRecursion (λ part. HasBlockAt Decodes (file ++ more) part.handle (block_made interval part.pairs)) parts
+made_more Decodes interval file more =
+    all_with (λ part. HasBlockAt Decodes file part.handle (block_made interval part.pairs)) (λ part. HasBlockAt Decodes (file ++ more) part.handle (block_made interval part.pairs)) (λ part there. block_more more there)
 
 pub under_more : (id : ℕ) (file more : List ℕ) (part : Part) → StandsUnder file id part.handle → StandsUnder (file ++ more) id part.handle
 under_more id file more part there = (there.0, stores_more more there.1)
@@ -78,7 +83,7 @@ open_rises {cmp = cmp} stage key value ready follows =
 
 -- a builder to which a pair was added is sound
 pub sound_added : {FP : Type 0} {accepts : List ℕ → Bool} {cmp index_cmp : List ℕ → List ℕ → Ordering} (stage : Stage FP) (key value : List ℕ) → AreReady accepts cmp index_cmp stage → Follows accepts cmp stage key
-    → IsSound accepts cmp index_cmp (stage_of (with_key key stage.filter) stage.offset stage.lines (stage.open_pairs ++ (key, value) ∷ []) (stage.count + 1))
+    → IsSound accepts cmp index_cmp (with_pair (key, value) stage)
 sound_added {accepts = accepts} {cmp = cmp} stage key value ready follows =
     let seam = append_assoc stage.lines stage.open_pairs ((key, value) ∷ []) in
     record {
@@ -126,11 +131,16 @@ module _ {FP : Type 0} (Decodes : ℕ → List ℕ → List ℕ → Type 0) (acc
           record {
             text = closes.text;
             stands = record { id = id; stored = closes.stored; stands = stands; coded = closes.coded };
-            block = closes.block;
+            block = closes.made.block;
             some = some;
           },
           tt,
         );
+        exact = subst (λ n. AllByRecursion (λ part. HasBlockAt Decodes (written ++ bytes) part.handle (block_made n part.pairs)) (laid.parts ++ part ∷ [])) (sym closes.same_intervals.0)
+            (all_append (λ part. HasBlockAt Decodes (written ++ bytes) part.handle (block_made old.interval part.pairs)) laid.parts (part ∷ []) (made_more Decodes old.interval written bytes laid.parts laid.exact) (
+              record { id = id; stored = closes.stored; stands = stands; coded = subst (Decodes id closes.stored) closes.made.exact closes.coded },
+              tt,
+            ));
         under = all_append (λ part. StandsUnder (written ++ bytes) id part.handle) laid.parts (part ∷ [])
             (all_with (λ part. StandsUnder written id part.handle) (λ part. StandsUnder (written ++ bytes) id part.handle) (under_more id written bytes) laid.parts laid.under) ((closes.stored, stands), tt);
         lined = closes.line ∙ ap (λ z. z ++ (sep (last_added old.open_pairs) next, handle_bytes closes.handle) ∷ []) laid.lined ∙ sym (map-append index_pair laid.parts (part ∷ []));
@@ -182,7 +192,7 @@ module _ {FP : Type 0} (Decodes : ℕ → List ℕ → List ℕ → Type 0) (acc
   -- a pair is added to the open block
   pub laid_added : {id : ℕ} (mid : Stage FP) (key value written : List ℕ) (pairs : List Pair) → accepts key ≡ true → (pairs ≢ [] → cmp (last_added pairs) key ≡ Less) → mid.offset / 2048 ≡ length mid.filter.filters
       → IsLaid Decodes accepts cmp sep (matches mid.filter.policy) (make mid.filter.policy) id mid (first_key (mid.open_pairs ++ (key, []) ∷ [])) written pairs
-      → IsLaid Decodes accepts cmp sep (matches mid.filter.policy) (make mid.filter.policy) id (stage_of (with_key key mid.filter) mid.offset mid.lines (mid.open_pairs ++ (key, value) ∷ []) (mid.count + 1))
+      → IsLaid Decodes accepts cmp sep (matches mid.filter.policy) (make mid.filter.policy) id (with_pair (key, value) mid)
       (first_key (mid.open_pairs ++ (key, value) ∷ [])) written (pairs ++ (key, value) ∷ [])
   laid_added mid key value written pairs accepted behind opened laid =
       let Kept : ℕ → List Pair → Type 0 = KeepsAll (matches mid.filter.policy) mid.filter in
@@ -193,6 +203,7 @@ module _ {FP : Type 0} (Decodes : ℕ → List ℕ → List ℕ → Type 0) (acc
       record {
         parts = laid.parts;
         each = laid.each;
+        exact = laid.exact;
         under = laid.under;
         lined = laid.lined;
         separated = subst (AreSeparated sep laid.parts) (first_same mid.open_pairs key value) laid.separated;
@@ -230,6 +241,7 @@ module _ {FP : Type 0} (Decodes : ℕ → List ℕ → List ℕ → Type 0) (acc
       (record {
         parts = laid.parts;
         each = laid.each;
+        exact = laid.exact;
         under = laid.under;
         lined = laid.lined;
         separated = same_next stage.lines laid.parts stage.open_pairs next none laid.lined laid.separated;

@@ -11,13 +11,13 @@ use Rattle.leveldb_base.specs.Places.{Pair}
 use Rattle.leveldb_env.specs.Coders.{Codings, Decodes}
 use Rattle.leveldb_env.specs.FilterBlock.{finished, KeepsKeys}
 use Rattle.leveldb_table.specs.Block.{IsBlock}
-use Rattle.leveldb_table.specs.Built.{last_added}
+use Rattle.leveldb_table.specs.Built.{last_added, block_made}
 use Rattle.leveldb_table.specs.Footer.{footer_bytes}
 use Rattle.leveldb_table.specs.FooterLaws.{length-footer_bytes}
 use Rattle.leveldb_table.specs.Table.{Part, IsPart, StoresAt, StandsUnder, with_trailer, index_pair, AreLinked, blocks_len, PartPasses, keys_for, filters_before, filters_for, HasFiltersAt, FiltersHold, filter_key, IsTabled, IsWritten}
-use Rattle.leveldb_table.specs.TableBuilding.{IsEnd, IsPlaced, SeparatesUsers, GoesByUsers, Knows, BuildsTable, IsBuilt, IsLast}
+use Rattle.leveldb_table.specs.TableBuilding.{IsEnd, IsPlaced, SeparatesUsers, GoesByUsers, Knows, AreMade, BuildsTable, IsBuilt, IsLast}
 use Rattle.leveldb_table.specs.TableStages.{Stage, KeepsAll, IsLaid}
-use Rattle.leveldb_table.proofs.TableGrows.{part_more, under_more}
+use Rattle.leveldb_table.proofs.TableGrows.{part_more, made_more, under_more}
 use Rattle.leveldb_table.proofs.TableOrders.{all_append, all_right, all_with, last_holds, turned_from}
 use Rattle.leveldb_table.proofs.TableEnds.{AreClosed, laid_pairs, laid_closed_parts, parted, lines_accepted, separated_last, parts_pass, filter_key_injective, all_pass}
 
@@ -146,6 +146,13 @@ module _ {FP : Type 0} (codings : Codings) (accepts : List ℕ → Bool) (cmp : 
         named = refl;
       }
 
+  are_made : AreMade (Decodes codings) stage.interval stage.index_interval (written ++ bytes) laid.parts ((filter_key name, handle_bytes end.filter) ∷ []) end.meta end.index
+  are_made = record {
+    each = made_more (Decodes codings) stage.interval written bytes laid.parts laid.exact;
+    of_metas = record { id = id; stored = end.meta_stored; stands = meta_stands; coded = subst (Decodes codings id end.meta_stored) end.meta_made.exact end.meta_coded };
+    of_lines = record { id = id; stored = end.index_stored; stands = index_stands; coded = subst (Decodes codings id end.index_stored) (end.index_made.exact ∙ ap (block_made stage.index_interval) laid.lined) end.index_coded };
+  }
+
   module _ (order : IsPreorderOn accepts cmp) (separates : (a b : List ℕ) → accepts a ≡ true → accepts b ≡ true → cmp a b ≢ Greater → IsSeparator accepts cmp a b (sep a b)) (keeps : KeepsKeys FP make matches)
       (same : stage.filter.policy ≡ policy) (succ : List ℕ → List ℕ) (last : IsLast accepts cmp succ stage next pairs) where
     in_parts : pairs ≡ flat_map (λ (part : Part). part.pairs) laid.parts
@@ -162,12 +169,12 @@ module _ {FP : Type 0} (codings : Codings) (accepts : List ℕ → Bool) (cmp : 
       ends = from_footer;
       index_text = end.index_text;
       index_stands = record { id = id; stored = end.index_stored; stands = index_stands; coded = end.index_coded };
-      index_block = subst (IsBlock cmp end.index_text) laid.lined end.index_block;
+      index_block = subst (IsBlock cmp end.index_text) laid.lined end.index_made.block;
       each = all_with (IsPart (Decodes codings) cmp written) (IsPart (Decodes codings) cmp (written ++ bytes)) (part_more (Decodes codings) cmp written bytes) laid.parts laid.each;
       parted = parted order sep separates laid.parts next closed;
       meta_text = end.meta_text;
       meta_stands = record { id = id; stored = end.meta_stored; stands = meta_stands; coded = end.meta_coded };
-      meta_block = end.meta_block;
+      meta_block = end.meta_made.block;
     }
 
     abbrev filters : List (List ℕ)
@@ -206,7 +213,7 @@ module _ {FP : Type 0} (codings : Codings) (accepts : List ℕ → Bool) (cmp : 
           ))
           (subst (λ n. Knows meaning n (matches policy)) (filter_key_injective name other e) knows)
 
-      builds : BuildsTable codings accepts cmp sep succ meaning user (matches policy) (make policy) id name (written ++ bytes) pairs
+      builds : BuildsTable codings accepts cmp sep succ meaning user (matches policy) (make policy) id name stage.interval stage.index_interval (written ++ bytes) pairs
       unfolding has_filters
       builds = record {
         table = record {
@@ -221,6 +228,7 @@ module _ {FP : Type 0} (codings : Codings) (accepts : List ℕ → Bool) (cmp : 
         };
         filter = end.filter;
         written = is_written;
+        exact = are_made;
         separated = separated_last sep laid.parts next (succ (last_added pairs)) (λ some. last.successor (lines_some stage.lines laid.parts laid.lined some)) laid.separated;
         accepted = record { pairs = closed.accepted; lines = lines_accepted order sep separates laid.parts next closed };
         filtered = has_filters;
@@ -228,18 +236,19 @@ module _ {FP : Type 0} (codings : Codings) (accepts : List ℕ → Bool) (cmp : 
       }
 
     -- the whole is a table of the pairs, and has so many bytes
-    made : IsBuilt codings accepts cmp sep succ (matches policy) (make policy) id name (written ++ bytes) pairs × (size ≡ length (written ++ bytes))
+    made : IsBuilt codings accepts cmp sep succ (matches policy) (make policy) id name stage.interval stage.index_interval (written ++ bytes) pairs × (size ≡ length (written ++ bytes))
     made = (builds, end.ends ∙ sym length-whole)
 
 -- The same, where what was put behind the data blocks is told by the order of the index and the policy of the filters, which are those
--- of the table.
+-- of the table, and the intervals are told otherwise.
 pub table_made : {FP : Type 0} (codings : Codings) {accepts : List ℕ → Bool} {cmp : List ℕ → List ℕ → Ordering} (order : IsPreorderOn accepts cmp) (sep : List ℕ → List ℕ → List ℕ)
     (separates : (a b : List ℕ) → accepts a ≡ true → accepts b ≡ true → cmp a b ≢ Greater → IsSeparator accepts cmp a b (sep a b)) (make : FP → List (List ℕ) → List ℕ) (matches : FP → List ℕ → List ℕ → Bool)
-    (keeps : KeepsKeys FP make matches) (name : FP → List ℕ) (policy : FP) (index_cmp : List ℕ → List ℕ → Ordering) (succ : List ℕ → List ℕ) (id : ℕ) (stage : Stage FP) (next written bytes : List ℕ) (pairs : List Pair) (size : ℕ)
-    → index_cmp ≡ cmp → stage.filter.policy ≡ policy → IsLaid (Decodes codings) accepts cmp sep (matches policy) (make policy) id stage next written pairs → IsLast accepts cmp succ stage next pairs
+    (keeps : KeepsKeys FP make matches) (name : FP → List ℕ) (policy : FP) (index_cmp : List ℕ → List ℕ → Ordering) (succ : List ℕ → List ℕ) (id : ℕ) (stage : Stage FP) (next written bytes : List ℕ) (pairs : List Pair) (size interval index_interval : ℕ)
+    → index_cmp ≡ cmp → stage.filter.policy ≡ policy → (stage.interval ≡ interval) × (stage.index_interval ≡ index_interval) → IsLaid (Decodes codings) accepts cmp sep (matches policy) (make policy) id stage next written pairs → IsLast accepts cmp succ stage next pairs
     → IsEnd (Decodes codings) index_cmp (make stage.filter.policy) id (name stage.filter.policy) stage bytes size
-    → IsBuilt codings accepts cmp sep succ (matches policy) (make policy) id (name policy) (written ++ bytes) pairs × (size ≡ length (written ++ bytes))
-table_made codings {accepts} {cmp} order sep separates make matches keeps name policy index_cmp succ id stage next written bytes pairs size ordered same laid last end =
-    made codings accepts cmp sep make matches policy id (name policy) stage next written bytes pairs size laid
+    → IsBuilt codings accepts cmp sep succ (matches policy) (make policy) id (name policy) interval index_interval (written ++ bytes) pairs × (size ≡ length (written ++ bytes))
+table_made codings {accepts} {cmp} order sep separates make matches keeps name policy index_cmp succ id stage next written bytes pairs size interval index_interval ordered same intervals laid last end =
+    let Built : ℕ → ℕ → Type 0 = λ n m. IsBuilt codings accepts cmp sep succ (matches policy) (make policy) id (name policy) n m (written ++ bytes) pairs × (size ≡ length (written ++ bytes)) in
+    subst (λ n. Built n index_interval) intervals.0 (subst (Built stage.interval) intervals.1 (made codings accepts cmp sep make matches policy id (name policy) stage next written bytes pairs size laid
     (subst (λ p. IsEnd (Decodes codings) cmp (make p) id (name p) stage bytes size) same (subst (λ o. IsEnd (Decodes codings) o (make stage.filter.policy) id (name stage.filter.policy) stage bytes size) ordered end))
-    order separates keeps same succ last
+    order separates keeps same succ last))

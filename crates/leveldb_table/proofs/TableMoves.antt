@@ -1,31 +1,30 @@
 -- Moves of a walk over a table: into which block they lead, and where the walk then stands.
-use Rattle.std.proofs.Common.{◌≡◌, ◌≢◌, ◌⊎◌, ℕ, ◌<◌, Bool, true, false, List, [], ◌∷◌, ◌++◌, length, map, slice_get, get_or, Option, None, Some, Result, Ok, Err, refl, sym, ◌∙◌, ap, subst, inl, inr, arith}
-use Rattle.std.specs.Prelude.{OnOk, OnErr, IfOk, IfErr, IsErrAnd, is_some}
-use Rattle.std.specs.List.{AllByRecursion}
+use Rattle.std.proofs.Common.{◌≡◌, ◌≢◌, ℕ, ◌<◌, true, false, List, [], ◌∷◌, ◌++◌, length, map, slice_get, get_or, Option, None, Some, Result, Ok, Err, refl, sym, ◌∙◌, ap, subst, arith}
+use Rattle.std.specs.Prelude.{OnOk, OnErr, IsErrAnd, is_some}
 use Rattle.std.specs.declared.cmp.Ordering.{Ordering}
 use Rattle.std.proofs.lemmas.Option.{slice_get-get_or}
 use Rattle.leveldb_base.specs.Handle.{Handle, handle_bytes}
 use Rattle.leveldb_base.specs.HandleLaws.{one_handle}
-use Rattle.leveldb_base.specs.Places.{Pair, IsPlace, place_within, next_place, previous_place, seek_place, pair_at}
+use Rattle.leveldb_base.specs.Places.{Pair, IsPlace, place_within, next_place, pair_at}
 use Rattle.leveldb_base.specs.declared.cmp.Cmp.{Ghosts as CmpGhosts}
 use Rattle.leveldb_base.specs.declared.error.Status.{Status}
 use Rattle.leveldb_env.specs.declared.env.Env.{Ghosts as EnvGhosts}
 use Rattle.leveldb_env.specs.Coders.{Codings, Decodes}
 use Rattle.leveldb_table.specs.Cache.{Cached}
-use Rattle.leveldb_table.specs.Block.{IsSpelled, IsBlock, pairs_of}
+use Rattle.leveldb_table.specs.Block.{IsSpelled, pairs_of}
 use Rattle.leveldb_table.specs.BlockLaws.{one_block}
 use Rattle.leveldb_table.specs.Table.{Part, HasBlockAt, IsPart, index_pair}
-use Rattle.leveldb_table.specs.TableEnters.{LacksLine, IsBehind, IsBefore, IsBlockAt, IsBlockOf, line_of, IsIndexed, Enters}
+use Rattle.leveldb_table.specs.TableEnters.{IsBehind, IsBlockOf, line_of, IsIndexed, Enters}
 use Rattle.leveldb_table.specs.TableReading.{pairs_in, HasParts}
-use Rattle.leveldb_table.specs.TableReads.{HasNoBlock}
-use Rattle.leveldb_table.specs.TableWalk.{StandsAt, Stands, Moves, IsNamed, IsFrom, IsFromInner, inner_block, inner_pairs, inner_place, pairs_over, place_over}
+use Rattle.leveldb_table.specs.TableReads.{LacksBlock, LacksLine, unnamed, lacking, IsNamedBy, NamesNone}
+use Rattle.leveldb_table.specs.TableWalk.{StandsAt, Stands, Moves, Outcome, inner_block, inner_pairs, inner_place, pairs_over, place_over, table_place}
 use Rattle.leveldb_table.specs.WalkLaws.{IsWithin-place}
 use Rattle.leveldb_table.specs.declared.block.Block.{Block}
 use Rattle.leveldb_table.specs.declared.block.owned.BlockWalk.{BlockWalk}
 use Rattle.leveldb_table.specs.declared.block_cache.CachedBlock.{CachedBlock}
 use Rattle.leveldb_table.specs.declared.table_reader.walk.TableCore.{TableCore}
+use Rattle.leveldb_table.proofs.TableBlocks.{lacks_none}
 use Rattle.leveldb_table.proofs.TableCalls.{reads_weaker}
-use Rattle.leveldb_table.proofs.TableForeign.{refused_at, named_along}
 use Rattle.leveldb_table.proofs.TablePlaces.{has_one_block}
 use Rattle.leveldb_table.proofs.TableSteps.{OnOk-with}
 use Rattle.leveldb_table.proofs.TablePlacesIn.{place_in, part_at, all_at, behind_block, to_block}
@@ -64,17 +63,31 @@ same_handle g h e = (one_handle g h [] [] (ap (λ z. z ++ []) e)).0
 pub same_value : (p q : Pair) → Some p ≡ Some q → p.1 ≡ q.1
 same_value p q e = let same : p ≡ q = cc in ap (λ z. z.1) same
 
--- where no block is at the handle of a line, the line stands for no data block
-pub lacks_line : (codings : Codings) (cmp : List ℕ → List ℕ → Ordering) (bytes : List ℕ) {key : List ℕ} {line : Option Pair} (handle : Handle) → line ≡ Some (key, handle_bytes handle) → HasNoBlock codings cmp bytes handle → LacksLine codings cmp bytes line
-lacks_line codings cmp bytes {key} handle at none part is there =
-    let same : part.handle ≡ handle = same_handle part.handle handle (same_value (index_pair part) (key, handle_bytes handle) (sym is ∙ at)) in
-    none there.text part.pairs (subst (λ h. HasBlockAt (Decodes codings) bytes h there.text) same there.stands) there.block
+-- a line whose block is lacking is there
+pub lacks_some : {codings : Codings} {cmp : List ℕ → List ℕ → Ordering} {bytes : List ℕ} {status : Status} → LacksLine codings cmp bytes None status → ⊥
+lacks_some (unnamed none code) = absurd none
+lacks_some (lacking handle names lacks) = absurd names
+
+lacks_there : {codings : Codings} {cmp : List ℕ → List ℕ → Ordering} {bytes : List ℕ} {status : Status} (lines : List Pair) (place : Option ℕ) → LacksLine codings cmp bytes (pair_at lines place) status → is_some place ≡ true
+lacks_there lines None lacks = absurd (lacks_some lacks)
+lacks_there lines (Some i) lacks = refl
+
+-- and stands for no data block
+lacks_part : {codings : Codings} {cmp : List ℕ → List ℕ → Ordering} {bytes : List ℕ} {line : Option Pair} {status : Status} (part : Part) → LacksLine codings cmp bytes line status → line ≡ Some (index_pair part) → IsPart (Decodes codings) cmp bytes part → ⊥
+lacks_part part (unnamed none code) is there = subst NamesNone is none part.handle there.stands.stands.fits refl
+lacks_part {codings} {cmp} {bytes} {status = status} part (lacking handle names lacks) is there =
+    let same = same_handle handle part.handle (sym (subst (λ z. IsNamedBy z handle) is names)) in
+    lacks_none (subst (λ h. LacksBlock codings cmp bytes h status) same lacks) there.text part.pairs there.stands there.block
 
 -- ---- places
 
 first_in : (pairs : List Pair) → pairs ≢ [] → place_within pairs 0 ≡ Some 0
 first_in [] some = absurd (some refl)
 first_in (pair ∷ pairs) some = place_in (pair ∷ pairs) 0 (omega arith)
+
+pub first_none : (pairs : List Pair) → place_within pairs 0 ≡ None → pairs ≡ []
+first_none [] none = refl
+first_none (pair ∷ pairs) none = absurd (some_none (sym (place_in (pair ∷ pairs) 0 (omega arith)) ∙ none))
 
 pub stands_along : (parts : List Part) (place : Option ℕ) {line other : Option ℕ} {pairs others : List Pair} {inner spot : Option ℕ} → line ≡ other → pairs ≡ others → inner ≡ spot → StandsAt parts other others spot place → StandsAt parts line pairs inner place
 stands_along parts place {line} {other} {pairs} {others} {inner} {spot} l p i s =
@@ -122,6 +135,13 @@ module _ {C : Type 0} {order : CmpGhosts C} where
         is = all_at (IsPart (Decodes codings) cmp bytes) parts at.0 found.0 found.1 has.each;
       }
 
+  -- where the line's block is lacking, the file isn't as it is said
+  pub line_lacks : {codings : Codings} {cmp : List ℕ → List ℕ → Ordering} {bytes : List ℕ} {parts : List Part} {status : Status} (index : BlockWalk C order) → HasParts codings cmp bytes parts → pairs_over index ≡ map index_pair parts
+      → LacksLine codings cmp bytes (pair_at (pairs_over index) (place_over index)) status → ⊥
+  line_lacks index has lines lacks =
+      let at = line_is_of index has lines (lacks_there (pairs_over index) (place_over index) lacks) in
+      lacks_part at.part lacks at.line at.is
+
   -- ---- blocks
 
   -- the block that the file has for a data block has its pairs
@@ -135,34 +155,6 @@ module _ {C : Type 0} {order : CmpGhosts C} where
       let text = has_one_block codings is.stands (subst (λ h. HasBlockAt (Decodes codings) bytes h block.contents) (sym same) named.stands) in
       let spelled = subst (λ (o : List ℕ → List ℕ → Ordering). IsSpelled o block.contents block.held.0) of.1 block.held.1.spelled in
       sym (is.block.stands_for ∙ ap (pairs_of None) (one_block is.block.spelled (subst (λ t. IsSpelled cmp t block.held.0) (sym text) spelled)))
-
-  -- whatever the file is, a block that the line names is the one that it is from
-  from_inner_none : (codings : Codings) (cmp : List ℕ → List ℕ → Ordering) (bytes : List ℕ) (line : Option Pair) (inner : Option (BlockWalk C order)) → inner_place inner ≡ None → IsFromInner codings cmp bytes line inner
-  from_inner_none codings cmp bytes line None e = tt
-  from_inner_none codings cmp bytes line (Some walk) e = λ some. absurd (some e)
-
-  from_inner_of : (codings : Codings) (cmp : List ℕ → List ℕ → Ordering) (bytes : List ℕ) (line : Option Pair) (inner : Option (BlockWalk C order)) → IsBlockOf codings cmp bytes line (inner_block inner) → IsFromInner codings cmp bytes line inner
-  from_inner_of codings cmp bytes line None of = tt
-  from_inner_of codings cmp bytes line (Some walk) of = λ some. of
-
-  of_from_inner : (codings : Codings) (cmp : List ℕ → List ℕ → Ordering) (bytes : List ℕ) (line : Option Pair) (inner : Option (BlockWalk C order)) → inner_place inner ≢ None → IsFromInner codings cmp bytes line inner
-      → IsBlockOf codings cmp bytes line (inner_block inner)
-  of_from_inner codings cmp bytes line None some from = absurd (some refl)
-  of_from_inner codings cmp bytes line (Some walk) some from = from some
-
-  pub from_none : (codings : Codings) (cmp : List ℕ → List ℕ → Ordering) (bytes : List ℕ) (core : TableCore C order) → inner_place core.inner ≡ None → IsFrom codings cmp bytes core
-  from_none codings cmp bytes core e = from_inner_none codings cmp bytes (line_of core) core.inner e
-
-  pub from_block : (codings : Codings) (cmp : List ℕ → List ℕ → Ordering) (bytes : List ℕ) (core : TableCore C order) → IsBlockOf codings cmp bytes (line_of core) (inner_block core.inner) → IsFrom codings cmp bytes core
-  from_block codings cmp bytes core of = from_inner_of codings cmp bytes (line_of core) core.inner of
-
-  -- a step inside the block
-  pub from_step : (codings : Codings) (cmp : List ℕ → List ℕ → Ordering) (bytes : List ℕ) (old new : TableCore C order) → inner_place old.inner ≢ None → inner_block new.inner ≡ inner_block old.inner → new.index ≡ old.index
-      → IsFrom codings cmp bytes old → IsFrom codings cmp bytes new
-  from_step codings cmp bytes old new some block index from =
-      let of = of_from_inner codings cmp bytes (line_of old) old.inner some from in
-      let there = subst (λ b. IsBlockOf codings cmp bytes (line_of old) b) (sym block) of in
-      from_block codings cmp bytes new (subst (λ (z : BlockWalk C order). IsBlockOf codings cmp bytes (pair_at (pairs_over z) (place_over z)) (inner_block new.inner)) (sym index) there)
 
   -- ---- into the next block
 
@@ -192,13 +184,6 @@ module _ {C : Type 0} {order : CmpGhosts C} where
 
   module _ {codings : Codings} {cmp : List ℕ → List ℕ → Ordering} {bytes : List ℕ} {parts : List Part} {place : Option ℕ} {old : TableCore C order} (has : HasParts codings cmp bytes parts)
       (behind : IsBehind parts (place_over old.index) place) (indexed : IsIndexed cmp parts old) where
-    -- where the file has no data block for that line, it isn't as it is said
-    pub next_lacks : (index : BlockWalk C order) → index.block ≡ old.index.block → place_over index ≡ next_place (pairs_over old.index) (place_over old.index) → is_some (place_over index) ≡ true
-        → LacksLine codings cmp bytes (pair_at (pairs_over index) (place_over index)) → ⊥
-    next_lacks index block line some lacks =
-        let at = line_is_of index has (block_lines index old.index block ∙ indexed.lines) some in
-        lacks at.part at.line at.is
-
     -- to its first pair
     pub next_stands : (new : TableCore C order) → IsInto codings cmp bytes (next_place (pairs_over old.index) (place_over old.index)) (λ pairs. place_within pairs 0) old new → (inner_place new.inner ≡ Some 0) × Stands cmp parts new place
     next_stands new next =
@@ -218,18 +203,23 @@ module _ {C : Type 0} {order : CmpGhosts C} where
   -- ---- moves by entering a block
 
   pub moves_enters : {E F T : Type 0} {env : EnvGhosts E F} {codings : Codings} {cmp : List ℕ → List ℕ → Ordering} {id : ℕ} {file : F} {Fit : List Part → Type 0} {Way : List Part → Option ℕ → Type 0} {to : List Pair → Option ℕ → Option ℕ}
-      {Part_step Step : Codings → (List ℕ → List ℕ → Ordering) → List ℕ → TableCore C order → TableCore C order → Type 0} {old_env new_env : E} {old_cache new_cache : Cached (CachedBlock C order)} {mid new : TableCore C order} {result : Result T Status} (old : TableCore C order)
+      {Part_step Step : Codings → (List ℕ → List ℕ → Ordering) → List ℕ → TableCore C order → Outcome → Type 0} {old_env new_env : E} {old_cache new_cache : Cached (CachedBlock C order)} {mid new : TableCore C order} {result : Result T Status} (old : TableCore C order)
       → pairs_over mid.index ≡ pairs_over old.index → mid.index.block.cmp ≡ old.index.block.cmp
       → ((parts : List Part) (place : Option ℕ) → Fit parts → Stands cmp parts old place → Way parts (to (pairs_in parts) place))
-      → ((bytes : List ℕ) → Part_step codings cmp bytes mid new → Step codings cmp bytes old new)
+      → ((bytes : List ℕ) (out : Outcome) → Part_step codings cmp bytes mid out → Step codings cmp bytes old out)
       → Enters env codings cmp id file Way Part_step old_env old_cache mid result new_env new_cache new → Moves env codings cmp id file Fit to Step old_env old_cache old result new_env new_cache new
   moves_enters {env = env} {codings = codings} {cmp = cmp} {to = to} {Part_step = Part_step} {Step = Step} {mid = mid} {new = new} {result = result} old lines same way step enters =
       let indexed : (parts : List Part) (place : Option ℕ) → Stands cmp parts old place → IsIndexed cmp parts mid = λ parts place stands. record { lines = lines ∙ stands.lines; ordered = ap order.cmp same ∙ stands.ordered } in
       record {
-        reads = reads_weaker env result (λ status lacking. (refused_at env (named_along lines) lacking.0, λ bytes has parts place right fit holds stands. lacking.1 bytes has parts (to (pairs_in parts) place) right (way parts place fit stands) holds (indexed parts place stands))) enters.reads;
+        reads = reads_weaker env result (λ status lacks. (
+          lacks.0,
+          λ bytes has. (
+            λ parts place right fit holds stands. (lacks.1 bytes has).0 parts (to (pairs_in parts) place) right (way parts place fit stands) holds (indexed parts place stands),
+            λ holds. step bytes (Err status) ((lacks.1 bytes has).1 holds),
+          ),
+        )) enters.reads;
         ok = λ bytes has parts place right fit holds stands. enters.ok bytes has parts (to (pairs_in parts) place) right (way parts place fit stands) holds (indexed parts place stands);
-        steps = λ bytes has holds. OnOk-with result (Part_step codings cmp bytes mid new) (Step codings cmp bytes old new) (step bytes) (enters.steps bytes has holds);
-        from = λ bytes has holds from. enters.from bytes has holds;
+        steps = λ bytes has holds. OnOk-with result (Part_step codings cmp bytes mid (Ok (table_place new))) (Step codings cmp bytes old (Ok (table_place new))) (step bytes (Ok (table_place new))) (enters.steps bytes has holds);
         err = enters.err;
         gathers = enters.gathers;
         same_lines = enters.same_lines ∙ lines;

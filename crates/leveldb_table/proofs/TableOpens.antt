@@ -1,17 +1,19 @@
 -- Which tables can be opened, and as what.
-use Rattle.std.proofs.Common.{◌≡◌, ◌≢◌, ◌⊎◌, ℕ, Bool, true, false, cond, List, [], ◌∷◌, ◌++◌, map, Option, None, Some, inl, ⊎_elim, refl, sym, ◌∙◌, ap, subst}
+use Rattle.std.proofs.Common.{◌≡◌, ◌≢◌, ◌⊎◌, ℕ, Bool, true, false, cond, List, [], ◌∷◌, ◌++◌, length, map, Option, None, Some, inl, inr, ⊎_elim, refl, sym, ◌∙◌, ap, subst, arith}
 use Rattle.std.specs.Prelude.{IfSome}
 use Rattle.std.specs.List.{AllByRecursion}
 use Rattle.std.specs.Map.{lookup}
 use Rattle.std.specs.Str.{bytes_eq}
 use Rattle.std.specs.declared.cmp.Ordering.{Ordering}
 use Rattle.std.proofs.lemmas.Bool.{cases_eq}
+use Rattle.std.proofs.lemmas.List.{take_all}
 use Rattle.std.proofs.lemmas.Slice.Eq.{bytes_eq-Decides}
 use Rattle.leveldb_base.specs.Bytewise.{bytewise}
 use Rattle.leveldb_base.specs.Handle.{Handle, HandleFits, handle_bytes}
 use Rattle.leveldb_base.specs.VarintLaws.{apart_right}
 use Rattle.leveldb_base.specs.Places.{Pair}
 use Rattle.leveldb_base.specs.declared.error.Status.{Status}
+use Rattle.leveldb_base.specs.declared.error.StatusCode.TheVariants.{Corruption}
 use Rattle.leveldb_env.specs.declared.env.Env.{Ghosts}
 use Rattle.leveldb_env.specs.Coders.{Codings, Decodes}
 use Rattle.leveldb_env.specs.FilterBlock.{IsFilterBlock}
@@ -21,11 +23,11 @@ use Rattle.leveldb_table.specs.BlockLaws.{one_block}
 use Rattle.leveldb_table.specs.Footer.{footer_bytes}
 use Rattle.leveldb_table.specs.FooterLaws.{one_footer, length-footer_bytes}
 use Rattle.leveldb_table.specs.Table.{Part, IsPart, StoresAt, HasBlockAt, HasFiltersAt, FiltersHold, AllPass, IsTabled, IsTable, DecodesOne, OneTable, index_pair, filter_key}
-use Rattle.leveldb_table.specs.TableReading.{Opens, OpensNot, OpensWell, HasFiltersBy, HasParts, AllFit, pairs_in}
-use Rattle.leveldb_table.specs.TableReads.{Looks, Has, IsDamaged, IsLacking, HasNoBlock}
+use Rattle.leveldb_table.specs.TableReading.{EndsIn, Opens, LacksPart, footer, index, metaindex, filters, OpensNot, OpensWell, HasFiltersBy, HasParts, AllFit, pairs_in}
+use Rattle.leveldb_table.specs.TableReads.{Looks, Has, IsDamaged, IsLacking}
 use Rattle.leveldb_table.proofs.MetaLines.{one_spelled}
+use Rattle.leveldb_table.proofs.TableBlocks.{HasNoBlock, lacks_none}
 use Rattle.leveldb_table.proofs.TableCalls.{Has-after}
-use Rattle.leveldb_table.proofs.TableForeign.{refused_before}
 use Rattle.leveldb_table.proofs.TableOrders.{all_with}
 use Rattle.leveldb_table.proofs.TablePlaces.{has_one_block, stores_one}
 
@@ -38,6 +40,12 @@ ends_one front other {meta} {index} {other_meta} {other_index} mf jf nf kf e f =
     one_footer meta index other_meta other_index
     (apart_right front other (footer_bytes meta index) (footer_bytes other_meta other_index) (length-footer_bytes meta index mf jf ∙ sym (length-footer_bytes other_meta other_index nf kf)) (sym e ∙ f)).1
 
+-- all of them are read as that
+ends_read : {bytes : List ℕ} (front : List ℕ) {meta index read_meta read_index : Handle} → HandleFits meta → HandleFits index → bytes ≡ front ++ footer_bytes meta index → EndsIn bytes (length bytes) read_meta read_index
+    → (read_meta ≡ meta) × (read_index ≡ index)
+ends_read {bytes} front meta_fits index_fits ends read =
+    ends_one read.front front read.meta_fits read.index_fits meta_fits index_fits (sym (take_all (length bytes) bytes (omega arith)) ∙ read.ends) ends
+
 -- a block is of one list of pairs
 pub blocks_one : {cmp : List ℕ → List ℕ → Ordering} {text other : List ℕ} {pairs others : List Pair} → text ≡ other → IsBlock cmp text pairs → IsBlock cmp other others → pairs ≡ others
 blocks_one {cmp} same first second =
@@ -45,36 +53,55 @@ blocks_one {cmp} same first second =
 
 -- ---- why a table isn't opened
 
-module _ {E F : Type 0} (env : Ghosts E F) (codings : Codings) {old mid : E} {file : F} (looks : Looks env old mid) (Part Whole : List ℕ → Type 0) (more : (bytes : List ℕ) → Has env old file bytes → Part bytes → Whole bytes) where
-  -- a part is missing behind Ok calls, and so is the whole
-  pub lacks : {At Others : Handle → Type 0} → ((handle : Handle) → At handle → Others handle) → (status : Status) → IsLacking env codings At Part mid file status → IsLacking env codings Others Whole old file status
-  lacks others status why = (refused_before env others looks why.0, λ bytes has. more bytes has (why.1 bytes (Has-after env looks has)))
+module _ {codings : Codings} {cmp : List ℕ → List ℕ → Ordering} {key bytes : List ℕ} {size : ℕ} {meta index : Handle} (ends : EndsIn bytes size meta index) where
+  -- a file that can be opened ends in these handles
+  opens_at : {lines : List Pair} {other_meta other_index : Handle} {read : Option (List (List ℕ))} → Opens codings cmp key bytes size lines other_meta other_index read → (meta ≡ other_meta) × (index ≡ other_index)
+  opens_at opens =
+      let other = opens.footer in
+      ends_one ends.front other.front ends.meta_fits ends.index_fits other.meta_fits other.index_fits ends.ends other.ends
 
-  pub lacks_damaged : {At : Handle → Type 0} (status : Status) → IsDamaged env Part mid file status → IsLacking env codings At Whole old file status
-  lacks_damaged status why = (inl why.0, λ bytes has. more bytes has (why.1 bytes (Has-after env looks has)))
+  opens_no_index : HasNoBlock codings cmp bytes index → OpensNot codings cmp key bytes size
+  opens_no_index none lines other_meta other_index read opens =
+      none opens.index_text lines (subst (λ h. HasBlockAt (Decodes codings) bytes h opens.index_text) (sym (opens_at opens).1) opens.index_stands) opens.index_block
 
-module _ (codings : Codings) (cmp : List ℕ → List ℕ → Ordering) (key bytes front : List ℕ) (meta index : Handle) (meta_fits : HandleFits meta) (index_fits : HandleFits index)
-    (ends : bytes ≡ front ++ footer_bytes meta index) where
-  -- no index
-  pub opens_no_index : HasNoBlock codings cmp bytes index → OpensNot codings cmp key bytes
-  opens_no_index none lines other_meta other_index filters opens =
-      let same = ends_one front opens.front meta_fits index_fits opens.meta_fits opens.index_fits ends opens.ends in
-      none opens.index_text lines (subst (λ h. HasBlockAt (Decodes codings) bytes h opens.index_text) (sym same.1) opens.index_stands) opens.index_block
-
-  -- no metaindex
-  pub opens_no_meta : HasNoBlock codings bytewise bytes meta → OpensNot codings cmp key bytes
-  opens_no_meta none lines other_meta other_index filters opens =
-      let same = ends_one front opens.front meta_fits index_fits opens.meta_fits opens.index_fits ends opens.ends in
-      none opens.meta_text opens.metas (subst (λ h. HasBlockAt (Decodes codings) bytes h opens.meta_text) (sym same.0) opens.meta_stands) opens.meta_block
+  opens_no_meta : HasNoBlock codings bytewise bytes meta → OpensNot codings cmp key bytes size
+  opens_no_meta none lines other_meta other_index read opens =
+      none opens.meta_text opens.metas (subst (λ h. HasBlockAt (Decodes codings) bytes h opens.meta_text) (sym (opens_at opens).0) opens.meta_stands) opens.meta_block
 
   -- no filters where the metaindex names some
-  pub opens_no_filters : (text : List ℕ) (metas : List Pair) → HasBlockAt (Decodes codings) bytes meta text → IsBlock bytewise text metas
-      → ((filters : Option (List (List ℕ))) → HasFiltersBy bytes (lookup (bytes_eq key) metas) filters → ⊥) → OpensNot codings cmp key bytes
-  opens_no_filters text metas there block none lines other_meta other_index filters opens =
-      let same = ends_one front opens.front meta_fits index_fits opens.meta_fits opens.index_fits ends opens.ends in
-      let stands = subst (λ h. HasBlockAt (Decodes codings) bytes h opens.meta_text) (sym same.0) opens.meta_stands in
+  opens_no_filters : (text : List ℕ) (metas : List Pair) → HasBlockAt (Decodes codings) bytes meta text → IsBlock bytewise text metas
+      → ((read : Option (List (List ℕ))) → HasFiltersBy bytes (lookup (bytes_eq key) metas) read → ⊥) → OpensNot codings cmp key bytes size
+  opens_no_filters text metas there block none lines other_meta other_index read opens =
+      let stands = subst (λ h. HasBlockAt (Decodes codings) bytes h opens.meta_text) (sym (opens_at opens).0) opens.meta_stands in
       let pairs = blocks_one (has_one_block codings there stands) block opens.meta_block in
-      none filters (subst (λ ms. HasFiltersBy bytes (lookup (bytes_eq key) ms) filters) (sym pairs) opens.filtered)
+      none read (subst (λ ms. HasFiltersBy bytes (lookup (bytes_eq key) ms) read) (sym pairs) opens.filtered)
+
+opens_not : {codings : Codings} {cmp : List ℕ → List ℕ → Ordering} {key bytes : List ℕ} {size : ℕ} {status : Status} → LacksPart codings cmp key bytes size status → OpensNot codings cmp key bytes size
+opens_not (footer none code) = λ lines meta at read opens.
+    none meta at opens.footer
+opens_not (index meta at ends why) = opens_no_index ends (lacks_none why)
+opens_not (metaindex meta at ends why) = opens_no_meta ends (lacks_none why)
+opens_not (filters meta at ends text metas there block none code) = opens_no_filters ends text metas there block none
+
+-- a file of so many bytes can't be opened, since it lacks a part
+abbrev pub IsNoTable : Codings → (List ℕ → List ℕ → Ordering) → List ℕ → ℕ → List ℕ → Status → Type 0
+IsNoTable codings cmp key size bytes status = OpensNot codings cmp key bytes size × LacksPart codings cmp key bytes size status
+
+module _ {E F : Type 0} (env : Ghosts E F) {codings : Codings} {cmp : List ℕ → List ℕ → Ordering} {key : List ℕ} {size : ℕ} {old mid : E} {file : F} (looks : Looks env old mid) (Other : Status → Type 0) where
+  -- what is lacking behind Ok calls is a part of it
+  pub lacks : (Part : List ℕ → Status → Type 0)
+      → ((bytes : List ℕ) (status : Status) → Has env old file bytes → Part bytes status → LacksPart codings cmp key bytes size status)
+      → (status : Status) → IsLacking env codings Part mid file status → Other status ⊎ IsLacking env codings (IsNoTable codings cmp key size) old file status
+  lacks Part part status why =
+      inr (why.0, λ bytes has. let lacking = part bytes status has (why.1 bytes (Has-after env looks has)) in (opens_not lacking, lacking))
+
+  -- what is damaged behind them is
+  pub lacks_damaged : (Missing : List ℕ → Type 0)
+      → ((bytes : List ℕ) (status : Status) → Has env old file bytes → Missing bytes → status.code ≡ Corruption → LacksPart codings cmp key bytes size status)
+      → (status : Status) → IsDamaged env Missing mid file status → Other status ⊎ IsLacking env codings (IsNoTable codings cmp key size) old file status
+  lacks_damaged Missing part status why =
+      lacks (λ bytes other. Missing bytes × (other.code ≡ Corruption)) (λ bytes other has none. part bytes other has none.0 none.1) status
+      (inl why.0, λ bytes has. (why.1 bytes has, why.0))
 
 -- ---- a table that is opened
 
@@ -118,28 +145,28 @@ module _ (matches : List ℕ → List ℕ → Bool) (user : List ℕ → List �
 
 module _ {codings : Codings} {cmp : List ℕ → List ℕ → Ordering} {bytes : List ℕ} {parts : List Part} {metas : List Pair} {meta index : Handle} (tabled : IsTabled (Decodes codings) cmp bytes parts metas meta index) where
   -- its metaindex and its index are what is read
-  pub index_read : {key : List ℕ} {lines : List Pair} {read_meta read_index : Handle} {filters : Option (List (List ℕ))} → Opens codings cmp key bytes lines read_meta read_index filters
+  pub index_read : {key : List ℕ} {lines : List Pair} {read_meta read_index : Handle} {filters : Option (List (List ℕ))} → Opens codings cmp key bytes (length bytes) lines read_meta read_index filters
       → (lines ≡ map index_pair parts) × (read_meta ≡ meta) × (read_index ≡ index) × AllFit parts
   index_read opens =
-      let same = ends_one opens.front tabled.front opens.meta_fits opens.index_fits tabled.meta_stands.stands.fits tabled.index_stands.stands.fits opens.ends tabled.ends in
+      let same = ends_read tabled.front tabled.meta_stands.stands.fits tabled.index_stands.stands.fits tabled.ends opens.footer in
       let text = has_one_block codings opens.index_stands (subst (λ h. HasBlockAt (Decodes codings) bytes h tabled.index_text) (sym same.1) tabled.index_stands) in
       (blocks_one text opens.index_block tabled.index_block, same.0, same.1, all_with (IsPart (Decodes codings) cmp bytes) (λ part. HandleFits part.handle) (λ part is. is.stands.stands.fits) parts tabled.each)
 
-  pub metas_read : {key : List ℕ} {lines : List Pair} {read_meta read_index : Handle} {filters : Option (List (List ℕ))} → (opens : Opens codings cmp key bytes lines read_meta read_index filters) → opens.metas ≡ metas
+  pub metas_read : {key : List ℕ} {lines : List Pair} {read_meta read_index : Handle} {filters : Option (List (List ℕ))} → (opens : Opens codings cmp key bytes (length bytes) lines read_meta read_index filters) → opens.metas ≡ metas
   metas_read opens =
-      let same = ends_one opens.front tabled.front opens.meta_fits opens.index_fits tabled.meta_stands.stands.fits tabled.index_stands.stands.fits opens.ends tabled.ends in
+      let same = ends_read tabled.front tabled.meta_stands.stands.fits tabled.index_stands.stands.fits tabled.ends opens.footer in
       blocks_one (has_one_block codings opens.meta_stands (subst (λ h. HasBlockAt (Decodes codings) bytes h tabled.meta_text) (sym same.0) tabled.meta_stands)) opens.meta_block tabled.meta_block
 
 module _ {codings : Codings} {cmp : List ℕ → List ℕ → Ordering} {meaning : List ℕ → Option (List ℕ → List ℕ → Bool)} {user : List ℕ → List ℕ} {bytes : List ℕ} {pairs : List Pair} (table : IsTable (Decodes codings) cmp meaning user bytes pairs) where
   pub parts_there : HasParts codings cmp bytes table.parts
   parts_there = record { each = table.tabled.each; parted = table.tabled.parted; sorted = subst (KeysRise cmp) table.stands_for table.sorted }
 
-  pub opened_pass : {name : List ℕ} {matches : List ℕ → List ℕ → Bool} {lines : List Pair} {meta index : Handle} {filters : Option (List (List ℕ))} → Opens codings cmp (filter_key name) bytes lines meta index filters → meaning name ≡ Some matches
+  pub opened_pass : {name : List ℕ} {matches : List ℕ → List ℕ → Bool} {lines : List Pair} {meta index : Handle} {filters : Option (List (List ℕ))} → Opens codings cmp (filter_key name) bytes (length bytes) lines meta index filters → meaning name ≡ Some matches
       → IfSome filters (λ texts. AllPass matches user texts table.parts)
-  opened_pass {name} {matches} {filters = filters} opens known =
-      filters_pass matches user bytes table.parts (lookup (bytes_eq (filter_key name)) table.metas) filters
+  opened_pass {name} {matches} {filters = read} opens known =
+      filters_pass matches user bytes table.parts (lookup (bytes_eq (filter_key name)) table.metas) read
       (says_of meaning matches user name bytes table.parts table.metas known table.filters)
-      (subst (λ ms. HasFiltersBy bytes (lookup (bytes_eq (filter_key name)) ms) filters) (metas_read table.tabled opens) opens.filtered)
+      (subst (λ ms. HasFiltersBy bytes (lookup (bytes_eq (filter_key name)) ms) read) (metas_read table.tabled opens) opens.filtered)
 
   pub opens_well : (name : List ℕ) (matches : List ℕ → List ℕ → Bool) → meaning name ≡ Some matches → OpensWell codings cmp matches user name bytes table.parts
   opens_well name matches known =
@@ -151,10 +178,13 @@ module _ {codings : Codings} {cmp : List ℕ → List ℕ → Ordering} {meaning
         index = table.index;
         filters = said.0;
         opens = record {
-          front = tabled.front;
-          ends = tabled.ends;
-          meta_fits = tabled.meta_stands.stands.fits;
-          index_fits = tabled.index_stands.stands.fits;
+          footer = record {
+            within = omega arith;
+            front = tabled.front;
+            ends = take_all (length bytes) bytes (omega arith) ∙ tabled.ends;
+            meta_fits = tabled.meta_stands.stands.fits;
+            index_fits = tabled.index_stands.stands.fits;
+          };
           index_text = tabled.index_text;
           index_stands = tabled.index_stands;
           index_block = tabled.index_block;

@@ -1,27 +1,29 @@
 -- Moves of a walk over a table from block to block, whatever its file is.
-use Rattle.std.proofs.Common.{◌≡◌, ◌≢◌, ℕ, ◌+◌, ◌<◌, Bool, true, false, List, [], ◌∷◌, length, Option, None, Some, Ok, refl, sym, ◌∙◌, ap, subst, arith}
+use Rattle.std.proofs.Common.{◌≡◌, ◌≢◌, ℕ, ◌+◌, ◌<◌, Bool, true, false, List, [], ◌∷◌, length, Option, None, Some, Ok, Err, refl, sym, ◌∙◌, ap, subst, inl, inr, arith}
 use Rattle.std.specs.Prelude.{is_some}
-use Rattle.std.specs.Option.{IsSomeAnd}
 use Rattle.std.specs.declared.cmp.Ordering.{Ordering}
-use Rattle.leveldb_base.specs.Handle.{Handle, handle_bytes}
+use Rattle.leveldb_base.specs.Handle.{Handle, HandleFits}
 use Rattle.leveldb_base.specs.Places.{Pair, IsPlace, place_within, next_place, previous_place, seek_place, pair_at}
 use Rattle.leveldb_base.specs.declared.cmp.Cmp.{Ghosts as CmpGhosts}
+use Rattle.leveldb_base.specs.declared.error.Status.{Status}
+use Rattle.leveldb_base.specs.declared.error.StatusCode.TheVariants.{Corruption}
 use Rattle.leveldb_env.specs.declared.env.Env.{Ghosts as EnvGhosts}
 use Rattle.leveldb_env.specs.Coders.{Codings}
 use Rattle.leveldb_table.specs.Block.{IsSpelled}
 use Rattle.leveldb_table.specs.Cache.{Cached}
 use Rattle.leveldb_table.specs.Table.{Part}
-use Rattle.leveldb_table.specs.TableEnters.{IsBlockOf}
-use Rattle.leveldb_table.specs.TableMoves.{TablePlace, HasLine, InsideOr, IsAt, IsAtFirst, IsAtLast, GoesOn, GoesBack, Seeks, SeeksIfLet, Looks, Finds, table_place, BlocksOf, line_for, Forward, Backward, ToFirst, ToNext, ToPrevious, Sought, LookedUp}
+use Rattle.leveldb_table.specs.TableEnters.{IsBlockOf, line_of}
+use Rattle.leveldb_table.specs.TableMoves.{HasLine, InsideOr, GoesInto, GoesToFirst, GoesToLast, GoesOn, GoesBack, SeeksIn, Seeks, SeeksIfLet, LooksForIn, LooksFor, line_for, Forward, Backward, ToFirst, ToNext, ToPrevious, Sought, LookedUp}
 use Rattle.leveldb_table.specs.TableReading.{pairs_in}
-use Rattle.leveldb_table.specs.TableWalk.{StandsAt, Moves, IsNamed, inner_block, inner_pairs, inner_place, current_of, pairs_over, place_over}
+use Rattle.leveldb_table.specs.TableReads.{LacksLine, IsNamedBy, NamesNone}
+use Rattle.leveldb_table.specs.TableWalk.{TablePlace, Outcome, StandsAt, Moves, IsNamed, inner_block, inner_pairs, inner_place, pairs_over, place_over, table_place}
 use Rattle.leveldb_table.specs.WalkLaws.{IsWithin-place}
 use Rattle.leveldb_table.specs.declared.block.owned.BlockWalk.{BlockWalk}
 use Rattle.leveldb_table.specs.declared.block_cache.CachedBlock.{CachedBlock}
 use Rattle.leveldb_table.specs.declared.table_reader.walk.TableCore.{TableCore}
 use Rattle.leveldb_table.proofs.TableCaches.{Gathers-refl}
 use Rattle.leveldb_table.proofs.TableCalls.{Looks-refl, reads_ok}
-use Rattle.leveldb_table.proofs.TableMoves.{IsInto, some_none, some_there, stands_along, from_step}
+use Rattle.leveldb_table.proofs.TableMoves.{IsInto, some_none, some_there, lacks_some, stands_along}
 use Rattle.leveldb_table.proofs.TablePlacesIn.{next_in}
 use Rattle.leveldb_table.proofs.TableSeeks.{IsSought}
 
@@ -33,12 +35,12 @@ stands_on parts line pairs inner None k some on at = absurd (some at)
 stands_on parts line pairs inner (Some n) k some on at = next_in at k on
 
 module _ {C E F T : Type 0} {order : CmpGhosts C} {env : EnvGhosts E F} {codings : Codings} {cmp : List ℕ → List ℕ → Ordering} {id : ℕ} {file : F} {Fit : List Part → Type 0}
-    {Step : Codings → (List ℕ → List ℕ → Ordering) → List ℕ → TableCore C order → TableCore C order → Type 0} {state : E} {cache : Cached (CachedBlock C order)} where
+    {Step : Codings → (List ℕ → List ℕ → Ordering) → List ℕ → TableCore C order → Outcome → Type 0} {state : E} {cache : Cached (CachedBlock C order)} where
   -- a step to the next pair of the block
-  pub moves_inside : (old new : TableCore C order) (answer : T) → inner_place old.inner ≢ None → new.index ≡ old.index → inner_block new.inner ≡ inner_block old.inner → inner_pairs new.inner ≡ inner_pairs old.inner
-      → inner_place new.inner ≡ next_place (inner_pairs old.inner) (inner_place old.inner) → is_some (inner_place new.inner) ≡ true → ((bytes : List ℕ) → Step codings cmp bytes old new)
+  pub moves_inside : (old new : TableCore C order) (answer : T) → inner_place old.inner ≢ None → new.index ≡ old.index → inner_pairs new.inner ≡ inner_pairs old.inner
+      → inner_place new.inner ≡ next_place (inner_pairs old.inner) (inner_place old.inner) → is_some (inner_place new.inner) ≡ true → ((bytes : List ℕ) → Step codings cmp bytes old (Ok (table_place new)))
       → Moves env codings cmp id file Fit next_place Step state cache old (Ok answer) state cache new
-  moves_inside old new answer some index block pairs on there step =
+  moves_inside old new answer some index pairs on there step =
       let found = some_there (inner_place new.inner) there in
       record {
         reads = reads_ok env (Looks-refl env state) refl;
@@ -48,7 +50,6 @@ module _ {C E F T : Type 0} {order : CmpGhosts C} {env : EnvGhosts E F} {codings
           at = stands_along parts (next_place (pairs_in parts) place) (ap place_over index) pairs found.1 (stands_on parts (place_over old.index) (inner_pairs old.inner) (inner_place old.inner) place found.0 some (sym on ∙ found.1) stands.at);
         };
         steps = λ bytes has holds. step bytes;
-        from = λ bytes has holds from. from_step codings cmp bytes old new some block index from;
         err = tt;
         gathers = Gathers-refl id _ cache;
         same_lines = ap pairs_over index;
@@ -66,69 +67,97 @@ same_place a b line pairs inner =
     by_line ∙ by_pairs ∙ by_inner
 
 -- a step inside a block, and one out of it
-inside : (to : Option ℕ) (old new : TablePlace) (Else : Type 0) → new.line ≡ old.line → new.pairs ≡ old.pairs → new.inner ≡ to → is_some new.inner ≡ true → InsideOr to old new Else
+inside : (to : Option ℕ) (old new : TablePlace) (Else : Type 0) → new.line ≡ old.line → new.pairs ≡ old.pairs → new.inner ≡ to → is_some new.inner ≡ true → InsideOr to old (Ok new) Else
 inside None old new Else line pairs inner there = let found = some_there new.inner there in absurd (some_none (sym found.1 ∙ inner))
-inside (Some i) old new Else line pairs inner there = same_place new (record old { inner = Some i }) line pairs inner
+inside (Some i) old new Else line pairs inner there = ap (λ z. Ok z) (same_place new (record old { inner = Some i }) line pairs inner)
 
-outside : (to : Option ℕ) (old new : TablePlace) (Else : Type 0) → to ≡ None → Else → InsideOr to old new Else
-outside None old new Else none h = h
-outside (Some i) old new Else none h = absurd (some_none none)
+outside : (to : Option ℕ) (old : TablePlace) (out : Outcome) (Else : Type 0) → to ≡ None → Else → InsideOr to old out Else
+outside None old out Else none h = h
+outside (Some i) old out Else none h = absurd (some_none none)
 
-module _ (HasBlock : ℕ → List Pair → Type 0) (lines : List Pair) where
-  on_inside : (at : Option ℕ) (old new : TablePlace) → at ≢ None → new.line ≡ old.line → new.pairs ≡ old.pairs → new.inner ≡ next_place old.pairs at → is_some new.inner ≡ true → GoesOn HasBlock lines at old new
+module _ (codings : Codings) (cmp : List ℕ → List ℕ → Ordering) (bytes : List ℕ) (lines : List Pair) where
+  on_inside : (at : Option ℕ) (old new : TablePlace) → at ≢ None → new.line ≡ old.line → new.pairs ≡ old.pairs → new.inner ≡ next_place old.pairs at → is_some new.inner ≡ true → GoesOn codings cmp bytes lines at old (Ok new)
   on_inside None old new some line pairs inner there = absurd (some refl)
-  on_inside (Some i) old new some line pairs inner there = inside (place_within old.pairs (i + 1)) old new (IsAtFirst HasBlock (next_place lines old.line) new) line pairs inner there
+  on_inside (Some i) old new some line pairs inner there = inside (place_within old.pairs (i + 1)) old new (GoesToFirst codings cmp bytes lines (next_place lines old.line) (Ok new)) line pairs inner there
 
-  on_outside : (at : Option ℕ) (old new : TablePlace) → at ≢ None → next_place old.pairs at ≡ None → IsAtFirst HasBlock (next_place lines old.line) new → GoesOn HasBlock lines at old new
-  on_outside None old new some last first = absurd (some refl)
-  on_outside (Some i) old new some last first = outside (place_within old.pairs (i + 1)) old new (IsAtFirst HasBlock (next_place lines old.line) new) last first
+  on_outside : (at : Option ℕ) (old : TablePlace) (out : Outcome) → at ≢ None → next_place old.pairs at ≡ None → GoesToFirst codings cmp bytes lines (next_place lines old.line) out → GoesOn codings cmp bytes lines at old out
+  on_outside None old out some last first = absurd (some refl)
+  on_outside (Some i) old out some last first = outside (place_within old.pairs (i + 1)) old out (GoesToFirst codings cmp bytes lines (next_place lines old.line) out) last first
 
-  on_from_none : (at : Option ℕ) (old new : TablePlace) → at ≡ None → IsAtFirst HasBlock (place_within lines 0) new → GoesOn HasBlock lines at old new
-  on_from_none None old new none first = first
-  on_from_none (Some i) old new none first = absurd (some_none none)
+  on_from_none : (at : Option ℕ) (old : TablePlace) (out : Outcome) → at ≡ None → GoesToFirst codings cmp bytes lines (place_within lines 0) out → GoesOn codings cmp bytes lines at old out
+  on_from_none None old out none first = first
+  on_from_none (Some i) old out none first = absurd (some_none none)
 
-  on_to_first : (at : Option ℕ) (old new : TablePlace) → at ≡ None → GoesOn HasBlock lines at old new → IsAtFirst HasBlock (place_within lines 0) new
-  on_to_first None old new none on = on
-  on_to_first (Some i) old new none on = absurd (some_none none)
+  on_to_first : (at : Option ℕ) (old : TablePlace) (out : Outcome) → at ≡ None → GoesOn codings cmp bytes lines at old out → GoesToFirst codings cmp bytes lines (place_within lines 0) out
+  on_to_first None old out none on = on
+  on_to_first (Some i) old out none on = absurd (some_none none)
 
-  pub back_inside : (at : Option ℕ) (old new : TablePlace) → at ≢ None → new.line ≡ old.line → new.pairs ≡ old.pairs → new.inner ≡ previous_place at → is_some new.inner ≡ true → GoesBack HasBlock lines at old new
-  back_inside None old new some line pairs inner there = absurd (some refl)
-  back_inside (Some i) old new some line pairs inner there = inside (previous_place (Some i)) old new (IsAtLast HasBlock (previous_place old.line) new) line pairs inner there
+  back_outside : (at : Option ℕ) (old : TablePlace) (out : Outcome) → at ≢ None → previous_place at ≡ None → GoesToLast codings cmp bytes lines (previous_place old.line) out → GoesBack codings cmp bytes lines at old out
+  back_outside None old out some first last = absurd (some refl)
+  back_outside (Some i) old out some first last = outside (previous_place (Some i)) old out (GoesToLast codings cmp bytes lines (previous_place old.line) out) first last
 
-  back_outside : (at : Option ℕ) (old new : TablePlace) → at ≢ None → previous_place at ≡ None → IsAtLast HasBlock (previous_place old.line) new → GoesBack HasBlock lines at old new
-  back_outside None old new some first last = absurd (some refl)
-  back_outside (Some i) old new some first last = outside (previous_place (Some i)) old new (IsAtLast HasBlock (previous_place old.line) new) first last
+  pub seeks_none : (key : List ℕ) (line : Option ℕ) (new : TablePlace) → line ≡ None → new.line ≡ line → new.inner ≡ None → Seeks codings cmp bytes lines key line (Ok new)
+  seeks_none key None new none at inner = (at, inner)
+  seeks_none key (Some i) new none at inner = absurd (some_none none)
 
-  pub back_stays : (at : Option ℕ) (old new : TablePlace) → at ≡ None → new ≡ old → GoesBack HasBlock lines at old new
-  back_stays None old new none same = same
-  back_stays (Some i) old new none same = absurd (some_none none)
+  pub looks_none : (lets : ℕ → List ℕ → Bool) (key : List ℕ) (line : Option ℕ) (new : TablePlace) → line ≡ None → new.line ≡ line → new.inner ≡ None → LooksFor codings cmp bytes lines lets key line (Ok new)
+  looks_none lets key None new none at inner = (at, inner)
+  looks_none lets key (Some i) new none at inner = absurd (some_none none)
 
-  pub seeks_none : (cmp : List ℕ → List ℕ → Ordering) (key : List ℕ) (line : Option ℕ) (new : TablePlace) → line ≡ None → new.line ≡ line → new.inner ≡ None → Seeks HasBlock lines cmp key line new
-  seeks_none cmp key None new none at inner = record { line = at; inner = inner }
-  seeks_none cmp key (Some i) new none at inner = absurd (some_none none)
+  -- a line's block that is lacking shuts the way
+  shut_lacking : (to : List Pair → Option ℕ) (line : Option ℕ) {status : Status} → LacksLine codings cmp bytes (pair_at lines line) status → GoesInto codings cmp bytes lines to line (Err status)
+  shut_lacking to None lacks = absurd (lacks_some lacks)
+  shut_lacking to (Some i) lacks = inl lacks
 
-  pub looks_none : (cmp : List ℕ → List ℕ → Ordering) (lets : ℕ → List ℕ → Bool) (key : List ℕ) (line : Option ℕ) (new : TablePlace) → line ≡ None → new.line ≡ line → new.inner ≡ None → Looks HasBlock lines cmp lets key line new
-  looks_none cmp lets key None new none at inner = record { line = at; inner = inner }
-  looks_none cmp lets key (Some i) new none at inner = absurd (some_none none)
+  pub seeks_lacking : (key : List ℕ) (line : Option ℕ) {status : Status} → LacksLine codings cmp bytes (pair_at lines line) status → Seeks codings cmp bytes lines key line (Err status)
+  seeks_lacking key None lacks = absurd (lacks_some lacks)
+  seeks_lacking key (Some i) lacks = inl lacks
+
+  -- and so does a line that names no handle
+  pub looks_unnamed : (lets : ℕ → List ℕ → Bool) (key : List ℕ) (line : Option ℕ) (status : Status) → NamesNone (pair_at lines line) → status.code ≡ Corruption → LooksFor codings cmp bytes lines lets key line (Err status)
+  looks_unnamed lets key None status none code = absurd none
+  looks_unnamed lets key (Some i) status none code = inl (none, code)
+
+  -- in the line's block, whatever comes of it
+  seeks_in : (key : List ℕ) (i : ℕ) (out : Outcome) → SeeksIn codings cmp bytes lines key i out → Seeks codings cmp bytes lines key (Some i) out
+  seeks_in key i (Ok new) seeks = seeks
+  seeks_in key i (Err status) seeks = inr seeks
+
+  looks_in : (lets : ℕ → List ℕ → Bool) (key : List ℕ) (i : ℕ) (out : Outcome) → LooksForIn codings cmp bytes lines lets key i out → LooksFor codings cmp bytes lines lets key (Some i) out
+  looks_in lets key i (Ok new) looks = looks
+  looks_in lets key i (Err status) looks = inr looks
 
   -- where the filters let the key pass, and where they don't
-  pub looks_passed : (cmp : List ℕ → List ℕ → Ordering) (lets : ℕ → List ℕ → Bool) (key : List ℕ) (line : Option ℕ) (new : TablePlace) (handle : Handle) → IsSomeAnd (pair_at lines line) (λ pair. pair.1 ≡ handle_bytes handle)
-      → lets handle.offset key ≡ true → Seeks HasBlock lines cmp key line new → Looks HasBlock lines cmp lets key line new
-  looks_passed cmp lets key None new handle names passes seeks = absurd names
-  looks_passed cmp lets key (Some i) new handle names passes seeks =
-      record { handle = handle; names = names; goes = subst (λ b. SeeksIfLet HasBlock lines b cmp key i new) (sym passes) seeks }
+  looks_passed : (lets : ℕ → List ℕ → Bool) (key : List ℕ) (line : Option ℕ) (out : Outcome) (handle : Handle) → HandleFits handle → IsNamedBy (pair_at lines line) handle → lets handle.offset key ≡ true → Seeks codings cmp bytes lines key line out
+      → LooksFor codings cmp bytes lines lets key line out
+  looks_passed lets key None out handle fits names passes seeks = absurd names
+  looks_passed lets key (Some i) out handle fits names passes seeks =
+      looks_in lets key i out (record { handle = handle; fits = fits; names = names; goes = subst (λ b. SeeksIfLet codings cmp bytes lines b key i out) (sym passes) seeks })
 
-  pub looks_refused : (cmp : List ℕ → List ℕ → Ordering) (lets : ℕ → List ℕ → Bool) (key : List ℕ) (line : Option ℕ) (new : TablePlace) (handle : Handle) → IsSomeAnd (pair_at lines line) (λ pair. pair.1 ≡ handle_bytes handle)
-      → lets handle.offset key ≡ false → new.inner ≡ None → Looks HasBlock lines cmp lets key line new
-  looks_refused cmp lets key None new handle names refuses none = absurd names
-  looks_refused cmp lets key (Some i) new handle names refuses none =
-      record { handle = handle; names = names; goes = subst (λ b. SeeksIfLet HasBlock lines b cmp key i new) (sym refuses) none }
+  pub looks_refused : (lets : ℕ → List ℕ → Bool) (key : List ℕ) (line : Option ℕ) (new : TablePlace) (handle : Handle) → HandleFits handle → IsNamedBy (pair_at lines line) handle → lets handle.offset key ≡ false → new.inner ≡ None
+      → LooksFor codings cmp bytes lines lets key line (Ok new)
+  looks_refused lets key None new handle fits names refuses none = absurd names
+  looks_refused lets key (Some i) new handle fits names refuses none =
+      record { handle = handle; fits = fits; names = names; goes = subst (λ b. SeeksIfLet codings cmp bytes lines b key i (Ok new)) (sym refuses) none }
+
+  -- the next line's block, by another list of the same lines
+  next_along : {others : List Pair} {line other : Option ℕ} (out : Outcome) → others ≡ lines → other ≡ line → GoesToFirst codings cmp bytes others (next_place others other) out → GoesToFirst codings cmp bytes lines (next_place lines line) out
+  next_along {others} {line} {other} out same at first =
+      subst (λ z. GoesToFirst codings cmp bytes z (next_place z line) out) same (subst (λ z. GoesToFirst codings cmp bytes others (next_place others z) out) at first)
+
+  previous_along : {others : List Pair} {line other : Option ℕ} (out : Outcome) → others ≡ lines → other ≡ line → GoesToLast codings cmp bytes others (previous_place other) out → GoesToLast codings cmp bytes lines (previous_place line) out
+  previous_along {others} {line} {other} out same at last =
+      subst (λ z. GoesToLast codings cmp bytes z (previous_place line) out) same (subst (λ z. GoesToLast codings cmp bytes others (previous_place z) out) at last)
+
+  -- the block of a line of this list that is lacking, by another list of the same lines
+  pub into_lacking : {others : List Pair} (to : List Pair → Option ℕ) {line other : Option ℕ} {status : Status} → others ≡ lines → other ≡ line → LacksLine codings cmp bytes (pair_at others other) status
+      → GoesInto codings cmp bytes lines to line (Err status)
+  into_lacking {others} to {line} {other} {status} same at lacks =
+      shut_lacking to line (subst (λ z. LacksLine codings cmp bytes (pair_at z line) status) same (subst (λ z. LacksLine codings cmp bytes (pair_at others z) status) at lacks))
 
 -- a line by the one of another list of the same lines
-pub named_by : {lines others : List Pair} {line other : Option ℕ} {key value : List ℕ} (handle : Handle) → others ≡ lines → other ≡ line → pair_at others other ≡ Some (key, value) → value ≡ handle_bytes handle
-    → IsSomeAnd (pair_at lines line) (λ pair. pair.1 ≡ handle_bytes handle)
-named_by {lines} {others} {line} {other} {key} {value} handle same at is names =
-    subst (λ z. IsSomeAnd z (λ pair. pair.1 ≡ handle_bytes handle)) (sym is ∙ ap (λ z. pair_at z other) same ∙ ap (pair_at lines) at) names
+pub line_by : {lines others : List Pair} {line other : Option ℕ} {pair : Pair} → others ≡ lines → other ≡ line → pair_at others other ≡ Some pair → pair_at lines line ≡ Some pair
+line_by {lines} {others} {line} {other} same at is = sym (ap (λ z. pair_at z other) same ∙ ap (pair_at lines) at) ∙ is
 
 -- ---- blocks
 
@@ -144,16 +173,6 @@ module _ {C : Type 0} {order : CmpGhosts C} where
       let at = some_there (place_over walk) there in
       let P : Option ℕ → Type 0 = IsPlace (pairs_over walk) in
       no_place_in (pairs_over walk) at.0 (subst P at.1 (IsWithin-place walk.block.contents walk.block.held.0 walk.core.key.items walk.core.spot walk.within))
-
-module _ (codings : Codings) (cmp : List ℕ → List ℕ → Ordering) (bytes : List ℕ) where
-  -- the next line's block, by another list of the same lines
-  next_along : {lines others : List Pair} {line other : Option ℕ} (new : TablePlace) → others ≡ lines → other ≡ line → IsAtFirst (HasLine codings cmp bytes others) (next_place others other) new → IsAtFirst (HasLine codings cmp bytes lines) (next_place lines line) new
-  next_along {lines} {others} {line} {other} new same at first =
-      subst (λ z. IsAtFirst (HasLine codings cmp bytes z) (next_place z line) new) same (subst (λ z. IsAtFirst (HasLine codings cmp bytes others) (next_place others z) new) at first)
-
-  previous_along : {lines others : List Pair} {line other : Option ℕ} (new : TablePlace) → others ≡ lines → other ≡ line → IsAtLast (HasLine codings cmp bytes others) (previous_place other) new → IsAtLast (HasLine codings cmp bytes lines) (previous_place line) new
-  previous_along {lines} {others} {line} {other} new same at last =
-      subst (λ z. IsAtLast (HasLine codings cmp bytes z) (previous_place line) new) same (subst (λ z. IsAtLast (HasLine codings cmp bytes others) (previous_place z) new) at last)
 
 module _ {C : Type 0} {order : CmpGhosts C} (codings : Codings) (cmp : List ℕ → List ℕ → Ordering) (bytes : List ℕ) where
   -- the block of a line has the walk's pairs
@@ -174,89 +193,104 @@ module _ {C : Type 0} {order : CmpGhosts C} (codings : Codings) (cmp : List ℕ 
   -- ---- to a line's block
 
   into_line : (lines : List Pair) (to : List Pair → Option ℕ) (line : Option ℕ) (new : TableCore C order) → is_some line ≡ true → place_over new.index ≡ line → IsBlockOf codings cmp bytes (pair_at lines line) (inner_block new.inner)
-      → inner_place new.inner ≡ to (inner_pairs new.inner) → is_some (inner_place new.inner) ≡ true → IsAt (HasLine codings cmp bytes lines) to line (table_place new)
+      → inner_place new.inner ≡ to (inner_pairs new.inner) → is_some (inner_place new.inner) ≡ true → GoesInto codings cmp bytes lines to line (Ok (table_place new))
   into_line lines to None new some at of place there = cc
   into_line lines to (Some i) new some at of place there =
       record { at_line = at; block = has_line lines (Some i) i new.inner refl of; some = some_pairs new.inner there; place = place }
 
-  pub into_at : {line : Option ℕ} {to : List Pair → Option ℕ} (old new : TableCore C order) → IsInto codings cmp bytes line to old new → is_some (inner_place new.inner) ≡ true → IsAt (BlocksOf codings cmp bytes old) to line (table_place new)
-  into_at {line} {to} old new into there =
-      into_line (pairs_over old.index) to line new (ap is_some (sym into.at_line) ∙ into.some) into.at_line
-      (subst (λ z. IsBlockOf codings cmp bytes (pair_at z line) (inner_block new.inner)) into.lines (subst (λ z. IsBlockOf codings cmp bytes (pair_at (pairs_over new.index) z) (inner_block new.inner)) into.at_line into.block))
-      into.place there
+  -- an empty one shuts the way
+  empty_line : (lines : List Pair) (to : List Pair → Option ℕ) (line : Option ℕ) (inner : Option (BlockWalk C order)) (status : Status) → is_some line ≡ true → IsBlockOf codings cmp bytes (pair_at lines line) (inner_block inner) → inner_pairs inner ≡ []
+      → status.code ≡ Corruption → GoesInto codings cmp bytes lines to line (Err status)
+  empty_line lines to None inner status some of empty code = cc
+  empty_line lines to (Some i) inner status some of empty code = inr (subst (HasLine codings cmp bytes lines i) empty (has_line lines (Some i) i inner refl of), code)
+
+  module _ {line : Option ℕ} {to : List Pair → Option ℕ} (old new : TableCore C order) (into : IsInto codings cmp bytes line to old new) where
+    into_some : is_some line ≡ true
+    into_some = ap is_some (sym into.at_line) ∙ into.some
+
+    into_block : IsBlockOf codings cmp bytes (pair_at (pairs_over old.index) line) (inner_block new.inner)
+    into_block = subst (λ z. IsBlockOf codings cmp bytes (pair_at z line) (inner_block new.inner)) into.lines (subst (λ z. IsBlockOf codings cmp bytes (pair_at (pairs_over new.index) z) (inner_block new.inner)) into.at_line into.block)
+
+    pub into_at : is_some (inner_place new.inner) ≡ true → GoesInto codings cmp bytes (pairs_over old.index) to line (Ok (table_place new))
+    into_at there = into_line (pairs_over old.index) to line new into_some into.at_line into_block into.place there
+
+    pub into_empty : (status : Status) → inner_pairs new.inner ≡ [] → status.code ≡ Corruption → GoesInto codings cmp bytes (pairs_over old.index) to line (Err status)
+    into_empty status empty code = empty_line (pairs_over old.index) to line new.inner status into_some into_block empty code
 
   -- ---- moves
 
-  pub forward_first : (old mid new : TableCore C order) → pairs_over mid.index ≡ pairs_over old.index → place_over mid.index ≡ None → inner_place old.inner ≡ None → ToNext codings cmp bytes mid new → Forward codings cmp bytes old new
-  forward_first old mid new lines line none next =
-      on_from_none (HasLine codings cmp bytes (pairs_over old.index)) (pairs_over old.index) (inner_place old.inner) (table_place old) (table_place new) none (next_along codings cmp bytes {line = None} (table_place new) lines line next)
+  pub forward_first : (old mid : TableCore C order) (out : Outcome) → pairs_over mid.index ≡ pairs_over old.index → place_over mid.index ≡ None → inner_place old.inner ≡ None → ToNext codings cmp bytes mid out → Forward codings cmp bytes old out
+  forward_first old mid out lines line none next =
+      on_from_none codings cmp bytes (pairs_over old.index) (inner_place old.inner) (table_place old) out none (next_along codings cmp bytes (pairs_over old.index) {line = None} out lines line next)
 
   pub forward_inside : (old new : TableCore C order) → inner_place old.inner ≢ None → new.index ≡ old.index → inner_pairs new.inner ≡ inner_pairs old.inner
-      → inner_place new.inner ≡ next_place (inner_pairs old.inner) (inner_place old.inner) → is_some (inner_place new.inner) ≡ true → Forward codings cmp bytes old new
-  forward_inside old new some index pairs on there =
-      on_inside (HasLine codings cmp bytes (pairs_over old.index)) (pairs_over old.index) (inner_place old.inner) (table_place old) (table_place new) some (ap place_over index) pairs on there
+      → inner_place new.inner ≡ next_place (inner_pairs old.inner) (inner_place old.inner) → is_some (inner_place new.inner) ≡ true → Forward codings cmp bytes old (Ok (table_place new))
+  forward_inside old new some index pairs on there = on_inside codings cmp bytes (pairs_over old.index) (inner_place old.inner) (table_place old) (table_place new) some (ap place_over index) pairs on there
 
-  pub forward_next : (old mid new : TableCore C order) → mid.index ≡ old.index → inner_place old.inner ≢ None → next_place (inner_pairs old.inner) (inner_place old.inner) ≡ None → ToNext codings cmp bytes mid new → Forward codings cmp bytes old new
-  forward_next old mid new index some last next =
-      on_outside (HasLine codings cmp bytes (pairs_over old.index)) (pairs_over old.index) (inner_place old.inner) (table_place old) (table_place new) some last (next_along codings cmp bytes (table_place new) (ap pairs_over index) (ap place_over index) next)
+  pub forward_next : (old mid : TableCore C order) (out : Outcome) → mid.index ≡ old.index → inner_place old.inner ≢ None → next_place (inner_pairs old.inner) (inner_place old.inner) ≡ None → ToNext codings cmp bytes mid out → Forward codings cmp bytes old out
+  forward_next old mid out index some last next =
+      on_outside codings cmp bytes (pairs_over old.index) (inner_place old.inner) (table_place old) out some last (next_along codings cmp bytes (pairs_over old.index) out (ap pairs_over index) (ap place_over index) next)
 
-  pub forward_to_first : (old mid new : TableCore C order) → mid.index ≡ old.index → mid.inner ≡ None → Forward codings cmp bytes mid new → ToFirst codings cmp bytes old new
-  forward_to_first old mid new index none forward =
-      subst (λ (z : BlockWalk C order). IsAtFirst (HasLine codings cmp bytes (pairs_over z)) (place_within (pairs_over z) 0) (table_place new)) index
-      (on_to_first (HasLine codings cmp bytes (pairs_over mid.index)) (pairs_over mid.index) (inner_place mid.inner) (table_place mid) (table_place new) (ap inner_place none) forward)
+  pub forward_to_first : (old mid : TableCore C order) (out : Outcome) → mid.index ≡ old.index → mid.inner ≡ None → Forward codings cmp bytes mid out → ToFirst codings cmp bytes old out
+  forward_to_first old mid out index none forward =
+      subst (λ (z : BlockWalk C order). GoesToFirst codings cmp bytes (pairs_over z) (place_within (pairs_over z) 0) out) index
+      (on_to_first codings cmp bytes (pairs_over mid.index) (inner_place mid.inner) (table_place mid) out (ap inner_place none) forward)
 
-  pub backward_previous : (old mid new : TableCore C order) → mid.index ≡ old.index → inner_place old.inner ≢ None → previous_place (inner_place old.inner) ≡ None → ToPrevious codings cmp bytes mid new → Backward codings cmp bytes old new
-  backward_previous old mid new index some first previous =
-      back_outside (HasLine codings cmp bytes (pairs_over old.index)) (pairs_over old.index) (inner_place old.inner) (table_place old) (table_place new) some first (previous_along codings cmp bytes (table_place new) (ap pairs_over index) (ap place_over index) previous)
+  pub backward_previous : (old mid : TableCore C order) (out : Outcome) → mid.index ≡ old.index → inner_place old.inner ≢ None → previous_place (inner_place old.inner) ≡ None → ToPrevious codings cmp bytes mid out → Backward codings cmp bytes old out
+  backward_previous old mid out index some first previous =
+      back_outside codings cmp bytes (pairs_over old.index) (inner_place old.inner) (table_place old) out some first (previous_along codings cmp bytes (pairs_over old.index) out (ap pairs_over index) (ap place_over index) previous)
 
   -- ---- a key
 
-  seeks_along : (lines : List Pair) (line : Option ℕ) (key : List ℕ) (old mid new : TableCore C order) → pairs_over old.index ≡ lines → is_some line ≡ true → place_over old.index ≡ line → IsSought codings cmp bytes key old mid
-      → InsideOr (seek_place cmp (inner_pairs mid.inner) key) (record { line = line; pairs = inner_pairs mid.inner; inner = None }) (table_place new) (IsAtFirst (HasLine codings cmp bytes lines) (next_place lines line) (table_place new))
-      → Seeks (HasLine codings cmp bytes lines) lines cmp key line (table_place new)
-  seeks_along lines None key old mid new same some at sought goes = cc
-  seeks_along lines (Some i) key old mid new same some at sought goes = record {
+  seeks_along : (lines : List Pair) (line : Option ℕ) (key : List ℕ) (old mid : TableCore C order) (out : Outcome) → pairs_over old.index ≡ lines → is_some line ≡ true → place_over old.index ≡ line → IsSought codings cmp bytes key old mid
+      → InsideOr (seek_place cmp (inner_pairs mid.inner) key) (record { line = line; pairs = inner_pairs mid.inner; inner = None }) out (GoesToFirst codings cmp bytes lines (next_place lines line) out)
+      → Seeks codings cmp bytes lines key line out
+  seeks_along lines None key old mid out same some at sought goes = cc
+  seeks_along lines (Some i) key old mid out same some at sought goes = seeks_in codings cmp bytes lines key i out (record {
     pairs = inner_pairs mid.inner;
     block = has_line lines (place_over old.index) i mid.inner at (subst (λ z. IsBlockOf codings cmp bytes (pair_at z (place_over old.index)) (inner_block mid.inner)) same sought.block);
     goes = goes;
-  }
+  })
 
   -- in its line's block, and in the next
-  pub sought_inside : (key : List ℕ) (old new : TableCore C order) → place_over old.index ≡ line_for key old → is_some (place_over old.index) ≡ true → IsSought codings cmp bytes key old new → is_some (inner_place new.inner) ≡ true → Sought key codings cmp bytes old new
+  pub sought_inside : (key : List ℕ) (old new : TableCore C order) → place_over old.index ≡ line_for key old → is_some (place_over old.index) ≡ true → IsSought codings cmp bytes key old new → is_some (inner_place new.inner) ≡ true
+      → Sought key codings cmp bytes old (Ok (table_place new))
   sought_inside key old new line some sought there =
       let lines = pairs_over old.index in
-      seeks_along lines (line_for key old) key old new new refl (ap is_some (sym line) ∙ some) line sought
-      (inside (seek_place cmp (inner_pairs new.inner) key) (record { line = line_for key old; pairs = inner_pairs new.inner; inner = None }) (table_place new) (IsAtFirst (HasLine codings cmp bytes lines) (next_place lines (line_for key old)) (table_place new))
+      seeks_along lines (line_for key old) key old new (Ok (table_place new)) refl (ap is_some (sym line) ∙ some) line sought
+      (inside (seek_place cmp (inner_pairs new.inner) key) (record { line = line_for key old; pairs = inner_pairs new.inner; inner = None }) (table_place new) (GoesToFirst codings cmp bytes lines (next_place lines (line_for key old)) (Ok (table_place new)))
       (ap place_over sought.index ∙ line) refl sought.place there)
 
-  pub sought_next : (key : List ℕ) (old mid new : TableCore C order) → place_over old.index ≡ line_for key old → is_some (place_over old.index) ≡ true → IsSought codings cmp bytes key old mid → inner_place mid.inner ≡ None
-      → ToNext codings cmp bytes mid new → Sought key codings cmp bytes old new
-  sought_next key old mid new line some sought none next =
+  pub sought_next : (key : List ℕ) (old mid : TableCore C order) (out : Outcome) → place_over old.index ≡ line_for key old → is_some (place_over old.index) ≡ true → IsSought codings cmp bytes key old mid → inner_place mid.inner ≡ None
+      → ToNext codings cmp bytes mid out → Sought key codings cmp bytes old out
+  sought_next key old mid out line some sought none next =
       let lines = pairs_over old.index in
-      seeks_along lines (line_for key old) key old mid new refl (ap is_some (sym line) ∙ some) line sought
-      (outside (seek_place cmp (inner_pairs mid.inner) key) (record { line = line_for key old; pairs = inner_pairs mid.inner; inner = None }) (table_place new) (IsAtFirst (HasLine codings cmp bytes lines) (next_place lines (line_for key old)) (table_place new))
-      (sym sought.place ∙ none) (next_along codings cmp bytes (table_place new) (ap pairs_over sought.index) (ap place_over sought.index ∙ line) next))
+      seeks_along lines (line_for key old) key old mid out refl (ap is_some (sym line) ∙ some) line sought
+      (outside (seek_place cmp (inner_pairs mid.inner) key) (record { line = line_for key old; pairs = inner_pairs mid.inner; inner = None }) out (GoesToFirst codings cmp bytes lines (next_place lines (line_for key old)) out)
+      (sym sought.place ∙ none) (next_along codings cmp bytes lines out (ap pairs_over sought.index) (ap place_over sought.index ∙ line) next))
+
+  -- refused at its line
+  pub sought_lacking : (key : List ℕ) (old : TableCore C order) {status : Status} → place_over old.index ≡ line_for key old → LacksLine codings cmp bytes (line_of old) status → Sought key codings cmp bytes old (Err status)
+  sought_lacking key old {status} line lacks =
+      seeks_lacking codings cmp bytes (pairs_over old.index) key (line_for key old) (subst (λ z. LacksLine codings cmp bytes (pair_at (pairs_over old.index) z) status) line lacks)
 
   -- by another walk's index of the same lines and order
-  pub sought_along : (key : List ℕ) (old mid new : TableCore C order) → pairs_over mid.index ≡ pairs_over old.index → mid.index.block.cmp ≡ old.index.block.cmp → Sought key codings cmp bytes mid new → Sought key codings cmp bytes old new
-  sought_along key old mid new lines same sought =
-      subst (λ (o : C). Seeks (BlocksOf codings cmp bytes old) (pairs_over old.index) cmp key (seek_place (order.cmp o) (pairs_over old.index) key) (table_place new)) same
-      (subst (λ z. Seeks (HasLine codings cmp bytes z) z cmp key (seek_place (order.cmp mid.index.block.cmp) z key) (table_place new)) lines sought)
+  pub sought_along : (key : List ℕ) (old mid : TableCore C order) (out : Outcome) → pairs_over mid.index ≡ pairs_over old.index → mid.index.block.cmp ≡ old.index.block.cmp → Sought key codings cmp bytes mid out → Sought key codings cmp bytes old out
+  sought_along key old mid out lines same sought =
+      subst (λ (o : C). Seeks codings cmp bytes (pairs_over old.index) key (seek_place (order.cmp o) (pairs_over old.index) key) out) same
+      (subst (λ z. Seeks codings cmp bytes z key (seek_place (order.cmp mid.index.block.cmp) z key) out) lines sought)
 
   -- ---- a look-up
 
   -- where the filters let the key pass
-  pub looked_up : (lets : ℕ → List ℕ → Bool) (key : List ℕ) (handle : Handle) (old mid new : TableCore C order) → pairs_over mid.index ≡ pairs_over old.index → mid.index.block.cmp ≡ old.index.block.cmp
-      → IsSomeAnd (pair_at (pairs_over old.index) (line_for key old)) (λ pair. pair.1 ≡ handle_bytes handle) → lets handle.offset key ≡ true → Sought key codings cmp bytes mid new → LookedUp lets key codings cmp bytes old new
-  looked_up lets key handle old mid new lines same names passes sought =
-      looks_passed (HasLine codings cmp bytes (pairs_over old.index)) (pairs_over old.index) cmp lets key (line_for key old) (table_place new) handle names passes (sought_along key old mid new lines same sought)
+  pub looked_up : (lets : ℕ → List ℕ → Bool) (key : List ℕ) (handle : Handle) (old mid : TableCore C order) (out : Outcome) → pairs_over mid.index ≡ pairs_over old.index → mid.index.block.cmp ≡ old.index.block.cmp
+      → HandleFits handle → IsNamedBy (pair_at (pairs_over old.index) (line_for key old)) handle → lets handle.offset key ≡ true → Sought key codings cmp bytes mid out → LookedUp lets key codings cmp bytes old out
+  looked_up lets key handle old mid out lines same fits names passes sought =
+      looks_passed codings cmp bytes (pairs_over old.index) lets key (line_for key old) out handle fits names passes (sought_along key old mid out lines same sought)
 
-  -- what it finds is where the walk then stands
-  pub finds_by : {key : List ℕ} {lets : ℕ → List ℕ → Bool} {lines : List Pair} {index_cmp : List ℕ → List ℕ → Ordering} (old new : TableCore C order) (found : Option Pair) → pairs_over old.index ≡ lines → order.cmp old.index.block.cmp ≡ index_cmp
-      → LookedUp lets key codings cmp bytes old new → found ≡ current_of new → Finds codings cmp bytes lines index_cmp lets key found
-  finds_by {key} {lets} {lines} {index_cmp} old new found same ordered looked is = record {
-    place = table_place new;
-    looks = subst (λ (o : List ℕ → List ℕ → Ordering). Looks (HasLine codings cmp bytes lines) lines cmp lets key (seek_place o lines key) (table_place new)) ordered
-        (subst (λ z. Looks (HasLine codings cmp bytes z) z cmp lets key (seek_place (order.cmp old.index.block.cmp) z key) (table_place new)) same looked);
-    is = is;
-  }
+  -- by other lines and another order that are the same
+  pub looked_along : (lets : ℕ → List ℕ → Bool) (key : List ℕ) {lines : List Pair} {index_cmp : List ℕ → List ℕ → Ordering} (old : TableCore C order) (out : Outcome) → pairs_over old.index ≡ lines → order.cmp old.index.block.cmp ≡ index_cmp
+      → LookedUp lets key codings cmp bytes old out → LooksFor codings cmp bytes lines lets key (seek_place index_cmp lines key) out
+  looked_along lets key {lines} {index_cmp} old out same ordered looked =
+      subst (λ (o : List ℕ → List ℕ → Ordering). LooksFor codings cmp bytes lines lets key (seek_place o lines key) out) ordered
+      (subst (λ z. LooksFor codings cmp bytes z lets key (seek_place (order.cmp old.index.block.cmp) z key) out) same looked)

@@ -1,25 +1,25 @@
 -- Moves of a walk over a table that seek a key, and moves to the block before.
-use Rattle.std.proofs.Common.{◌≡◌, ◌≢◌, ◌⊎◌, ℕ, Bool, true, false, if◌then◌else◌, List, [], ◌∷◌, ◌++◌, length, map, slice_get, Option, None, Some, Result, Ok, Err, refl, sym, ◌∙◌, ap, subst, inl, inr, ⊎_elim}
-use Rattle.std.specs.Prelude.{OnOk, OnErr, IfOk, IfErr, IfSome, IsErrAnd, is_some}
+use Rattle.std.proofs.Common.{◌≡◌, ◌≢◌, ◌⊎◌, ℕ, Bool, true, if◌then◌else◌, List, [], ◌∷◌, length, map, Option, None, Some, Result, Ok, Err, refl, sym, ◌∙◌, ap, subst, inl, inr, ⊎_elim}
+use Rattle.std.specs.Prelude.{IfSome, IsErrAnd, is_some}
 use Rattle.std.specs.Option.{IsSomeAnd}
 use Rattle.std.specs.declared.cmp.Ordering.{Ordering}
 use Rattle.std.proofs.lemmas.Option.{slice_get-get_or}
 use Rattle.leveldb_base.specs.Handle.{Handle, handle_bytes, HandleFits}
 use Rattle.leveldb_base.specs.Order.{IsPreorderOn}
-use Rattle.leveldb_base.specs.Places.{Pair, IsPlace, place_within, next_place, previous_place, count_before, seek_place, pair_at}
+use Rattle.leveldb_base.specs.Places.{Pair, IsPlace, place_within, next_place, previous_place, seek_place, pair_at}
 use Rattle.leveldb_base.specs.declared.cmp.Cmp.{Ghosts as CmpGhosts}
 use Rattle.leveldb_base.specs.declared.error.Status.{Status}
 use Rattle.leveldb_base.specs.declared.error.StatusCode.TheVariants.{Corruption}
 use Rattle.leveldb_env.specs.Calls.{NoMemory}
 use Rattle.leveldb_env.specs.declared.env.Env.{Ghosts as EnvGhosts}
-use Rattle.leveldb_env.specs.Coders.{Codings, Decodes}
+use Rattle.leveldb_env.specs.Coders.{Codings}
 use Rattle.leveldb_table.specs.Cache.{Cached}
-use Rattle.leveldb_table.specs.Table.{Part, HasBlockAt, IsPart, index_pair, named_part, AreAccepted}
+use Rattle.leveldb_table.specs.Table.{Part, index_pair, named_part, AreAccepted}
 use Rattle.leveldb_table.specs.TableCached.{HoldsOf, IsOf, Gathers}
-use Rattle.leveldb_table.specs.TableEnters.{LacksLine, IsBehind, IsBefore, let_place, IsBlockAt, IsBlockOf, line_of, IsIndexed, Enters}
+use Rattle.leveldb_table.specs.TableEnters.{IsBehind, IsBefore, let_place, IsBlockAt, IsBlockOf, line_of, IsIndexed, Enters}
 use Rattle.leveldb_table.specs.TableReading.{pairs_in, HasParts}
-use Rattle.leveldb_table.specs.TableReads.{Looks, Has, HasNoBlock, Whatever, IsLacking}
-use Rattle.leveldb_table.specs.TableWalk.{StandsAt, Stands, Moves, IsNamed, IsFrom, inner_block, inner_pairs, inner_place, pairs_over, place_over}
+use Rattle.leveldb_table.specs.TableReads.{Looks, Has, Whatever, IsNamedBy, NamesNone}
+use Rattle.leveldb_table.specs.TableWalk.{StandsAt, Stands, Moves, Outcome, inner_block, inner_pairs, inner_place, pairs_over, place_over, table_place}
 use Rattle.leveldb_table.specs.Walk.{last_place}
 use Rattle.leveldb_table.specs.WalkLaws.{IsWithin-place}
 use Rattle.leveldb_table.specs.declared.block.Block.{Block}
@@ -28,8 +28,7 @@ use Rattle.leveldb_table.specs.declared.block_cache.CachedBlock.{CachedBlock}
 use Rattle.leveldb_table.specs.declared.table_reader.walk.TableCore.{TableCore}
 use Rattle.leveldb_table.proofs.TableCaches.{Gathers-refl, Gathers-trans, Gathers-weaker, HoldsOf-after}
 use Rattle.leveldb_table.proofs.TableCalls.{Looks-refl, Has-after, Whatever-before, reads_then, reads_weaker, reads_own, reads_ok, reads_refused}
-use Rattle.leveldb_table.proofs.TableForeign.{refused_at, refused_before, named_along}
-use Rattle.leveldb_table.proofs.TableMoves.{ok_refused, err_holds, some_none, some_there, same_handle, same_value, block_lines, lacks_line, IsLineOf, line_is_of, part_pairs, from_none, from_block, IsInto, stands_along}
+use Rattle.leveldb_table.proofs.TableMoves.{ok_refused, err_holds, some_none, some_there, same_handle, same_value, line_is_of, part_pairs, IsInto, stands_along}
 use Rattle.leveldb_table.proofs.TableSteps.{OnOk-with}
 use Rattle.leveldb_table.proofs.TablePlacesIn.{parts_some, named_at, named_none, seek_in, seek_behind, previous_block}
 
@@ -48,6 +47,13 @@ let_none cmp lets key parts none = ap (λ o. elim o [ None ↦ None | Some part 
 named_line : (line : Option Pair) (handle : Handle) → IsSomeAnd line (λ pair. pair.1 ≡ handle_bytes handle) → (key : List ℕ) × (line ≡ Some (key, handle_bytes handle))
 named_line None handle names = absurd names
 named_line (Some pair) handle names = (pair.0, ap (λ z. Some (pair.0, z)) names)
+
+-- a line names what its value spells, and one whose value is no handle's names none
+pub names_one : (handle : Handle) {line : Option Pair} {key value : List ℕ} → line ≡ Some (key, value) → value ≡ handle_bytes handle → IsNamedBy line handle
+names_one handle is names = subst (λ z. IsNamedBy z handle) (sym is) names
+
+pub names_none : {line : Option Pair} {key value : List ℕ} → line ≡ Some (key, value) → ((handle : Handle) → HandleFits handle → value ≡ handle_bytes handle → ⊥) → NamesNone line
+names_none is none = subst NamesNone (sym is) none
 
 -- a line is there only at a place
 pub line_there : (lines : List Pair) (place : Option ℕ) (handle : Handle) → IsSomeAnd (pair_at lines place) (λ pair. pair.1 ≡ handle_bytes handle) → is_some place ≡ true
@@ -71,6 +77,10 @@ before_first parts line pairs inner (Some n) some first at = record { pairs = pa
 last_there : (pairs : List Pair) → pairs ≢ [] → (k : ℕ) × (last_place pairs ≡ Some k)
 last_there [] some = absurd (some refl)
 last_there (pair ∷ pairs) some = (length pairs, refl)
+
+pub last_none : (pairs : List Pair) → last_place pairs ≡ None → pairs ≡ []
+last_none [] none = refl
+last_none (pair ∷ pairs) none = absurd (some_none none)
 
 module _ {C : Type 0} {order : CmpGhosts C} where
   -- the block at the handle is that of the line
@@ -105,30 +115,28 @@ module _ {C : Type 0} {order : CmpGhosts C} where
         place = sought_inner codings cmp bytes (line_of old) loaded.inner (inner_place new.inner) key sought of ∙ ap (λ z. seek_place cmp z key) (sym pairs);
       }
 
-  pub sought_from : (codings : Codings) (cmp : List ℕ → List ℕ → Ordering) (bytes : List ℕ) {key : List ℕ} (old new : TableCore C order) → IsSought codings cmp bytes key old new → IsFrom codings cmp bytes new
-  sought_from codings cmp bytes old new sought =
-      from_block codings cmp bytes new (subst (λ (z : BlockWalk C order). IsBlockOf codings cmp bytes (pair_at (pairs_over z) (place_over z)) (inner_block new.inner)) (sym sought.index) sought.block)
-
   -- ---- one call after another
 
   module _ {E F : Type 0} {env : EnvGhosts E F} {codings : Codings} {cmp : List ℕ → List ℕ → Ordering} {id : ℕ} {file : F} where
     -- behind Ok calls that leave the index
-    pub enters_then : {T : Type 0} {Fit Way : List Part → Option ℕ → Type 0} {Part_step Step : Codings → (List ℕ → List ℕ → Ordering) → List ℕ → TableCore C order → TableCore C order → Type 0} {old_env mid_env new_env : E} {old_cache mid_cache new_cache : Cached (CachedBlock C order)} {mid new : TableCore C order} {result : Result T Status} (old : TableCore C order)
+    pub enters_then : {T : Type 0} {Fit Way : List Part → Option ℕ → Type 0} {Part_step Step : Codings → (List ℕ → List ℕ → Ordering) → List ℕ → TableCore C order → Outcome → Type 0} {old_env mid_env new_env : E} {old_cache mid_cache new_cache : Cached (CachedBlock C order)} {mid new : TableCore C order} {result : Result T Status} (old : TableCore C order)
         → Looks env old_env mid_env → env.failures mid_env ≡ env.failures old_env → Gathers id (λ offset held. Whatever env old_env file (λ bytes. IsOf codings cmp bytes offset held)) old_cache mid_cache → pairs_over mid.index ≡ pairs_over old.index → mid.index.block.cmp ≡ old.index.block.cmp
         → ((bytes : List ℕ) → Has env old_env file bytes → (parts : List Part) (place : Option ℕ) → HasParts codings cmp bytes parts → Fit parts place → HoldsOf codings cmp id bytes old_cache → IsIndexed cmp parts old → Way parts place)
-        → ((bytes : List ℕ) → Has env old_env file bytes → HoldsOf codings cmp id bytes old_cache → Part_step codings cmp bytes mid new → Step codings cmp bytes old new)
+        → ((bytes : List ℕ) → Has env old_env file bytes → HoldsOf codings cmp id bytes old_cache → (out : Outcome) → Part_step codings cmp bytes mid out → Step codings cmp bytes old out)
         → Enters env codings cmp id file Way Part_step mid_env mid_cache mid result new_env new_cache new → Enters env codings cmp id file Fit Step old_env old_cache old result new_env new_cache new
     enters_then {Part_step = Part_step} {Step = Step} {old_env = old_env} {old_cache = old_cache} {mid_cache = mid_cache} {mid = mid} {new = new} {result = result} old looks counted gathers lines same way step enters =
         let held : (bytes : List ℕ) → Has env old_env file bytes → HoldsOf codings cmp id bytes old_cache → HoldsOf codings cmp id bytes mid_cache = λ bytes has. HoldsOf-after (λ offset held right. right bytes has) gathers in
         let indexed : (parts : List Part) → IsIndexed cmp parts old → IsIndexed cmp parts mid = λ parts is. record { lines = lines ∙ is.lines; ordered = ap order.cmp same ∙ is.ordered } in
         record {
-          reads = reads_then env result looks counted (λ status lacking. (
-            refused_before env (named_along lines) looks lacking.0,
-            λ bytes has parts place right fit holds is. lacking.1 bytes (Has-after env looks has) parts place right (way bytes has parts place right fit holds is) (held bytes has holds) (indexed parts is),
+          reads = reads_then env result looks counted (λ status lacks. (
+            lacks.0,
+            λ bytes has. (
+              λ parts place right fit holds is. (lacks.1 bytes (Has-after env looks has)).0 parts place right (way bytes has parts place right fit holds is) (held bytes has holds) (indexed parts is),
+              λ holds. step bytes has holds (Err status) ((lacks.1 bytes (Has-after env looks has)).1 (held bytes has holds)),
+            ),
           )) enters.reads;
           ok = λ bytes has parts place right fit holds is. enters.ok bytes (Has-after env looks has) parts place right (way bytes has parts place right fit holds is) (held bytes has holds) (indexed parts is);
-          steps = λ bytes has holds. OnOk-with result (Part_step codings cmp bytes mid new) (Step codings cmp bytes old new) (step bytes has holds) (enters.steps bytes (Has-after env looks has) (held bytes has holds));
-          from = λ bytes has holds. enters.from bytes (Has-after env looks has) (held bytes has holds);
+          steps = λ bytes has holds. OnOk-with result (Part_step codings cmp bytes mid (Ok (table_place new))) (Step codings cmp bytes old (Ok (table_place new))) (step bytes has holds (Ok (table_place new))) (enters.steps bytes (Has-after env looks has) (held bytes has holds));
           err = enters.err;
           gathers = Gathers-trans gathers (Gathers-weaker (λ offset held right. Whatever-before env file _ looks right) enters.gathers);
           same_lines = enters.same_lines ∙ lines;
@@ -136,13 +144,12 @@ module _ {C : Type 0} {order : CmpGhosts C} where
         }
 
     -- with another answer
-    pub enters_ok : {T U : Type 0} {Fit : List Part → Option ℕ → Type 0} {Step : Codings → (List ℕ → List ℕ → Ordering) → List ℕ → TableCore C order → TableCore C order → Type 0} {old_env new_env : E} {old_cache new_cache : Cached (CachedBlock C order)} {old new : TableCore C order} {answer : T} (other : U)
+    pub enters_ok : {T U : Type 0} {Fit : List Part → Option ℕ → Type 0} {Step : Codings → (List ℕ → List ℕ → Ordering) → List ℕ → TableCore C order → Outcome → Type 0} {old_env new_env : E} {old_cache new_cache : Cached (CachedBlock C order)} {old new : TableCore C order} {answer : T} (other : U)
         → Enters env codings cmp id file Fit Step old_env old_cache old (Ok answer) new_env new_cache new → Enters env codings cmp id file Fit Step old_env old_cache old (Ok other) new_env new_cache new
     enters_ok other enters = record {
       reads = reads_ok env enters.reads.looks enters.reads.cause.ok;
       ok = enters.ok;
       steps = enters.steps;
-      from = enters.from;
       err = tt;
       gathers = enters.gathers;
       same_lines = enters.same_lines;
@@ -150,13 +157,12 @@ module _ {C : Type 0} {order : CmpGhosts C} where
     }
 
     -- or a refusal that is passed on
-    pub enters_refused : {T U : Type 0} {Fit : List Part → Option ℕ → Type 0} {Step : Codings → (List ℕ → List ℕ → Ordering) → List ℕ → TableCore C order → TableCore C order → Type 0} {old_env new_env : E} {old_cache new_cache : Cached (CachedBlock C order)} {old new : TableCore C order} {status : Status} (result : Result U Status) → IsErrAnd result (λ other. other ≡ status)
+    pub enters_refused : {T U : Type 0} {Fit : List Part → Option ℕ → Type 0} {Step : Codings → (List ℕ → List ℕ → Ordering) → List ℕ → TableCore C order → Outcome → Type 0} {old_env new_env : E} {old_cache new_cache : Cached (CachedBlock C order)} {old new : TableCore C order} {status : Status} (result : Result U Status) → IsErrAnd result (λ other. other ≡ status)
         → Enters {T = T} env codings cmp id file Fit Step old_env old_cache old (Err status) new_env new_cache new → Enters env codings cmp id file Fit Step old_env old_cache old result new_env new_cache new
     enters_refused result same enters = record {
       reads = reads_refused env result same enters.reads;
       ok = λ bytes has parts place right fit holds is. ok_refused _ _ result same;
       steps = λ bytes has holds. ok_refused _ _ result same;
-      from = enters.from;
       err = err_holds result enters.err;
       gathers = enters.gathers;
       same_lines = enters.same_lines;
@@ -164,9 +170,9 @@ module _ {C : Type 0} {order : CmpGhosts C} where
     }
 
     -- no call, and no place
-    pub enters_ends : {T : Type 0} {Fit : List Part → Option ℕ → Type 0} {Step : Codings → (List ℕ → List ℕ → Ordering) → List ℕ → TableCore C order → TableCore C order → Type 0} {state : E} {cache : Cached (CachedBlock C order)} (old new : TableCore C order) (answer : T) → pairs_over new.index ≡ pairs_over old.index → new.index.block.cmp ≡ old.index.block.cmp
+    pub enters_ends : {T : Type 0} {Fit : List Part → Option ℕ → Type 0} {Step : Codings → (List ℕ → List ℕ → Ordering) → List ℕ → TableCore C order → Outcome → Type 0} {state : E} {cache : Cached (CachedBlock C order)} (old new : TableCore C order) (answer : T) → pairs_over new.index ≡ pairs_over old.index → new.index.block.cmp ≡ old.index.block.cmp
         → inner_place new.inner ≡ None → ((bytes : List ℕ) → (parts : List Part) (place : Option ℕ) → HasParts codings cmp bytes parts → Fit parts place → IsIndexed cmp parts old → place ≡ None)
-        → ((bytes : List ℕ) → Step codings cmp bytes old new) → Enters env codings cmp id file Fit Step state cache old (Ok answer) state cache new
+        → ((bytes : List ℕ) → Step codings cmp bytes old (Ok (table_place new))) → Enters env codings cmp id file Fit Step state cache old (Ok answer) state cache new
     enters_ends {state = state} {cache = cache} old new answer lines same none way step = record {
       reads = reads_ok env (Looks-refl env state) refl;
       ok = λ bytes has parts place right fit holds is. record {
@@ -175,7 +181,6 @@ module _ {C : Type 0} {order : CmpGhosts C} where
         at = subst (λ z. StandsAt parts (place_over new.index) (inner_pairs new.inner) (inner_place new.inner) z) (sym (way bytes parts place right fit is)) none;
       };
       steps = λ bytes has holds. step bytes;
-      from = λ bytes has holds. from_none codings cmp bytes new none;
       err = tt;
       gathers = Gathers-refl id _ cache;
       same_lines = lines;
@@ -183,15 +188,14 @@ module _ {C : Type 0} {order : CmpGhosts C} where
     }
 
     -- no call, and a refusal
-    pub enters_own : {T : Type 0} {P : Status → Type 0} {Fit : List Part → Option ℕ → Type 0} {Step : Codings → (List ℕ → List ℕ → Ordering) → List ℕ → TableCore C order → TableCore C order → Type 0} {state : E} {cache : Cached (CachedBlock C order)} (old new : TableCore C order) (result : Result T Status) → pairs_over new.index ≡ pairs_over old.index → new.index.block.cmp ≡ old.index.block.cmp
+    pub enters_own : {T : Type 0} {P : Status → Type 0} {Fit : List Part → Option ℕ → Type 0} {Step : Codings → (List ℕ → List ℕ → Ordering) → List ℕ → TableCore C order → Outcome → Type 0} {state : E} {cache : Cached (CachedBlock C order)} (old new : TableCore C order) (result : Result T Status) → pairs_over new.index ≡ pairs_over old.index → new.index.block.cmp ≡ old.index.block.cmp
         → inner_place new.inner ≡ None → IsErrAnd result P
-        → ((status : Status) → P status → NoMemory status ⊎ ((status.code ≡ Corruption) × ((bytes : List ℕ) → (parts : List Part) (place : Option ℕ) → HasParts codings cmp bytes parts → Fit parts place → IsIndexed cmp parts old → ⊥)))
+        → ((status : Status) → P status → NoMemory status ⊎ ((status.code ≡ Corruption) × ((bytes : List ℕ) → ((parts : List Part) (place : Option ℕ) → HasParts codings cmp bytes parts → Fit parts place → IsIndexed cmp parts old → ⊥) × Step codings cmp bytes old (Err status))))
         → Enters env codings cmp id file Fit Step state cache old result state cache new
     enters_own {state = state} {cache = cache} old new result lines same none refused why = record {
-      reads = reads_own env result (Looks-refl env state) refl refused (λ status is. ⊎_elim inl (λ lacks. inr (inl lacks.0, λ bytes has parts place right fit holds indexed. lacks.1 bytes parts place right fit indexed)) (why status is));
+      reads = reads_own env result (Looks-refl env state) refl refused (λ status is. ⊎_elim inl (λ lacks. inr (inl lacks.0, λ bytes has. (λ parts place right fit holds indexed. (lacks.1 bytes).0 parts place right fit indexed, λ holds. (lacks.1 bytes).1))) (why status is));
       ok = λ bytes has parts place right fit holds is. ok_refused _ _ result refused;
       steps = λ bytes has holds. ok_refused _ _ result refused;
-      from = λ bytes has holds. from_none codings cmp bytes new none;
       err = err_holds result none;
       gathers = Gathers-refl id _ cache;
       same_lines = lines;
@@ -199,8 +203,8 @@ module _ {C : Type 0} {order : CmpGhosts C} where
     }
 
     -- from no place to the first pair is by a step
-    pub moves_first : {T : Type 0} {Part_step Step : Codings → (List ℕ → List ℕ → Ordering) → List ℕ → TableCore C order → TableCore C order → Type 0} {old_env new_env : E} {old_cache new_cache : Cached (CachedBlock C order)} {mid new : TableCore C order} {result : Result T Status} (old : TableCore C order) → mid.index ≡ old.index → mid.inner ≡ None
-        → ((bytes : List ℕ) → Part_step codings cmp bytes mid new → Step codings cmp bytes old new) → Moves env codings cmp id file (λ _. Unit {0}) next_place Part_step old_env old_cache mid result new_env new_cache new
+    pub moves_first : {T : Type 0} {Part_step Step : Codings → (List ℕ → List ℕ → Ordering) → List ℕ → TableCore C order → Outcome → Type 0} {old_env new_env : E} {old_cache new_cache : Cached (CachedBlock C order)} {mid new : TableCore C order} {result : Result T Status} (old : TableCore C order) → mid.index ≡ old.index → mid.inner ≡ None
+        → ((bytes : List ℕ) (out : Outcome) → Part_step codings cmp bytes mid out → Step codings cmp bytes old out) → Moves env codings cmp id file (λ _. Unit {0}) next_place Part_step old_env old_cache mid result new_env new_cache new
         → Moves env codings cmp id file (λ _. Unit {0}) (λ pairs _. place_within pairs 0) Step old_env old_cache old result new_env new_cache new
     moves_first {Part_step = Part_step} {Step = Step} {mid = mid} {new = new} {result = result} old index none step moves =
         let at : (parts : List Part) (place : Option ℕ) → Stands cmp parts old place → Stands cmp parts mid None = λ parts place stands. record {
@@ -209,36 +213,39 @@ module _ {C : Type 0} {order : CmpGhosts C} where
           at = ap inner_place none;
         } in
         record {
-          reads = reads_weaker env result (λ status lacking. (refused_at env (named_along (ap pairs_over index)) lacking.0, λ bytes has parts place right fit holds stands. lacking.1 bytes has parts None right fit holds (at parts place stands))) moves.reads;
+          reads = reads_weaker env result (λ status lacks. (
+            lacks.0,
+            λ bytes has. (
+              λ parts place right fit holds stands. (lacks.1 bytes has).0 parts None right fit holds (at parts place stands),
+              λ holds. step bytes (Err status) ((lacks.1 bytes has).1 holds),
+            ),
+          )) moves.reads;
           ok = λ bytes has parts place right fit holds stands. moves.ok bytes has parts None right fit holds (at parts place stands);
-          steps = λ bytes has holds. OnOk-with result (Part_step codings cmp bytes mid new) (Step codings cmp bytes old new) (step bytes) (moves.steps bytes has holds);
-          from = λ bytes has holds from. moves.from bytes has holds (from_none codings cmp bytes mid (ap inner_place none));
+          steps = λ bytes has holds. OnOk-with result (Part_step codings cmp bytes mid (Ok (table_place new))) (Step codings cmp bytes old (Ok (table_place new))) (step bytes (Ok (table_place new))) (moves.steps bytes has holds);
           err = moves.err;
           gathers = moves.gathers;
           same_lines = moves.same_lines ∙ ap pairs_over index;
           same_order = moves.same_order ∙ ap (λ (z : BlockWalk C order). z.block.cmp) index;
         }
 
-    pub moves_ok : {T U : Type 0} {Fit : List Part → Type 0} {to : List Pair → Option ℕ → Option ℕ} {Step : Codings → (List ℕ → List ℕ → Ordering) → List ℕ → TableCore C order → TableCore C order → Type 0} {old_env new_env : E} {old_cache new_cache : Cached (CachedBlock C order)} {old new : TableCore C order} {answer : T} (other : U)
+    pub moves_ok : {T U : Type 0} {Fit : List Part → Type 0} {to : List Pair → Option ℕ → Option ℕ} {Step : Codings → (List ℕ → List ℕ → Ordering) → List ℕ → TableCore C order → Outcome → Type 0} {old_env new_env : E} {old_cache new_cache : Cached (CachedBlock C order)} {old new : TableCore C order} {answer : T} (other : U)
         → Moves env codings cmp id file Fit to Step old_env old_cache old (Ok answer) new_env new_cache new → Moves env codings cmp id file Fit to Step old_env old_cache old (Ok other) new_env new_cache new
     moves_ok other moves = record {
       reads = reads_ok env moves.reads.looks moves.reads.cause.ok;
       ok = moves.ok;
       steps = moves.steps;
-      from = moves.from;
       err = tt;
       gathers = moves.gathers;
       same_lines = moves.same_lines;
       same_order = moves.same_order;
     }
 
-    pub moves_refused : {T U : Type 0} {Fit : List Part → Type 0} {to : List Pair → Option ℕ → Option ℕ} {Step : Codings → (List ℕ → List ℕ → Ordering) → List ℕ → TableCore C order → TableCore C order → Type 0} {old_env new_env : E} {old_cache new_cache : Cached (CachedBlock C order)} {old new : TableCore C order} {status : Status} (result : Result U Status)
+    pub moves_refused : {T U : Type 0} {Fit : List Part → Type 0} {to : List Pair → Option ℕ → Option ℕ} {Step : Codings → (List ℕ → List ℕ → Ordering) → List ℕ → TableCore C order → Outcome → Type 0} {old_env new_env : E} {old_cache new_cache : Cached (CachedBlock C order)} {old new : TableCore C order} {status : Status} (result : Result U Status)
         → IsErrAnd result (λ other. other ≡ status) → Moves {T = T} env codings cmp id file Fit to Step old_env old_cache old (Err status) new_env new_cache new → Moves env codings cmp id file Fit to Step old_env old_cache old result new_env new_cache new
     moves_refused result same moves = record {
       reads = reads_refused env result same moves.reads;
       ok = λ bytes has parts place right fit holds stands. ok_refused _ _ result same;
       steps = λ bytes has holds. ok_refused _ _ result same;
-      from = moves.from;
       err = err_holds result moves.err;
       gathers = moves.gathers;
       same_lines = moves.same_lines;
@@ -290,20 +297,6 @@ module _ {C : Type 0} {order : CmpGhosts C} where
             to = after.to;
           }
 
-  -- where the line's value is no handle's, the file isn't as it is said
-  pub value_lacks : {codings : Codings} {cmp : List ℕ → List ℕ → Ordering} {bytes : List ℕ} {parts : List Part} (index : BlockWalk C order) (key value : List ℕ) → HasParts codings cmp bytes parts → pairs_over index ≡ map index_pair parts
-      → pair_at (pairs_over index) (place_over index) ≡ Some (key, value) → ((handle : Handle) → HandleFits handle → value ≡ handle_bytes handle → ⊥) → ⊥
-  value_lacks index key value has lines is none =
-      let at = line_is_of index has lines (place_there (pairs_over index) (place_over index) is) in
-      none at.part.handle at.is.stands.stands.fits (same_value (key, value) (index_pair at.part) (sym is ∙ at.line))
-
-  -- where the file has no block at the line's handle, it isn't as it is said
-  pub handle_lacks : {codings : Codings} {cmp : List ℕ → List ℕ → Ordering} {bytes : List ℕ} {parts : List Part} {old : TableCore C order} (handle : Handle) → HasParts codings cmp bytes parts → IsIndexed cmp parts old
-      → IsSomeAnd (line_of old) (λ pair. pair.1 ≡ handle_bytes handle) → HasNoBlock codings cmp bytes handle → ⊥
-  handle_lacks {codings} {cmp} {bytes} {old = old} handle has indexed names lacks =
-      let at = line_is_of old.index has indexed.lines (line_there (pairs_over old.index) (place_over old.index) handle names) in
-      lacks_line codings cmp bytes handle (named_line (line_of old) handle names).1 lacks at.part at.line at.is
-
   -- where the filters let the key pass or not at the handle of the line
   pub let_by : {codings : Codings} {cmp : List ℕ → List ℕ → Ordering} {bytes : List ℕ} {parts : List Part} (index : BlockWalk C order) (key line_key value : List ℕ) (handle : Handle) (lets : ℕ → List ℕ → Bool) (b : Bool)
       → HasParts codings cmp bytes parts → pairs_over index ≡ map index_pair parts → seek_place cmp (map index_pair parts) key ≡ place_over index → pair_at (pairs_over index) (place_over index) ≡ Some (line_key, value)
@@ -317,12 +310,6 @@ module _ {C : Type 0} {order : CmpGhosts C} where
 
   module _ {codings : Codings} {cmp : List ℕ → List ℕ → Ordering} {bytes : List ℕ} {parts : List Part} {place : Option ℕ} {old : TableCore C order} (has : HasParts codings cmp bytes parts)
       (before : IsBefore parts (place_over old.index) place) (indexed : IsIndexed cmp parts old) where
-    -- where the file has no data block for that line, it isn't as it is said
-    pub previous_lacks : (index : BlockWalk C order) → index.block ≡ old.index.block → is_some (place_over index) ≡ true → LacksLine codings cmp bytes (pair_at (pairs_over index) (place_over index)) → ⊥
-    previous_lacks index block some lacks =
-        let at = line_is_of index has (block_lines index old.index block ∙ indexed.lines) some in
-        lacks at.part at.line at.is
-
     -- to its last pair
     pub previous_stands : (new : TableCore C order) → IsInto codings cmp bytes (previous_place (place_over old.index)) last_place old new → ((k : ℕ) × (inner_place new.inner ≡ Some k)) × Stands cmp parts new place
     previous_stands new next =

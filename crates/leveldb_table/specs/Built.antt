@@ -1,10 +1,10 @@
 -- What a block builder has, and what it makes of it.
 use Rattle.std.specs.Prelude.{◌≡◌, ℕ, suc, ◌+◌, ◌*◌, ◌%◌, ◌^◌, ◌<◌, ◌≤◌, ◌⊎◌}
-use Rattle.std.specs.Prelude.{Bool, true, false, nat_eq, if◌then◌else◌, List, [], ◌∷◌, length, drop, flat_map, None}
+use Rattle.std.specs.Prelude.{Bool, true, false, nat_eq, if◌then◌else◌, List, [], ◌∷◌, ◌++◌, length, drop, flat_map, None}
 use Rattle.std.specs.List.{All}
 use Rattle.std.specs.declared.cmp.Ordering.{Ordering}
 use Rattle.leveldb_base.specs.Places.{Pair}
-use Rattle.leveldb_table.specs.Block.{Entry, entry_bytes, pairs_of, AreEntries, KeysRise, restart_points}
+use Rattle.leveldb_table.specs.Block.{Entry, entry_bytes, pairs_of, AreEntries, KeysRise, restart_points, block_bytes, IsBlock}
 use Rattle.leveldb_table.specs.Reading.{key_before}
 use Rattle.leveldb_table.specs.Walk.{last_key}
 
@@ -37,6 +37,20 @@ entry_behind interval entries key value =
     let shared = if restart then 0 else shared_front (last_added (pairs_of None entries)) key in
     record { restart = restart; shared = shared; rest = drop shared key; value = value }
 
+-- entries, and behind them those of further pairs
+abbrev pub entries_behind : ℕ → List Entry → List Pair → List Entry
+entries_behind interval entries [] = entries
+entries_behind interval entries (pair ∷ pairs) = entries_behind interval (entries ++ entry_behind interval entries pair.0 pair.1 ∷ []) pairs
+
+-- the block of these pairs with a restart point every so many, each key without what it shares with the one before it
+abbrev pub block_made : ℕ → List Pair → List ℕ
+block_made interval pairs = block_bytes (entries_behind interval [] pairs)
+
+-- the text is that block, and a block under a comparator
+pub record IsMade (cmp : List ℕ → List ℕ → Ordering) (interval : ℕ) (pairs : List Pair) (text : List ℕ) : Type 0 where
+  pub block : IsBlock cmp text pairs
+  pub exact : text ≡ block_made interval pairs
+
 -- the bytes of the entries, four for each restart point that is set, and four for their count
 abbrev pub estimate : List Entry → Bool → ℕ
 estimate entries begun = length (flat_map entry_bytes entries) + 4 * (if begun then length (restart_points entries) else 0) + 4
@@ -45,13 +59,14 @@ estimate entries begun = length (flat_map entry_bytes entries) + 4 * (if begun t
 abbrev pub IsTooLarge : List Entry → List ℕ → List ℕ → Type 0
 IsTooLarge entries key value = (2 ^ 32 ≤ length (flat_map entry_bytes entries)) ⊎ (2 ^ 32 ≤ length key) ⊎ (2 ^ 32 ≤ length value)
 
--- The bytes are these entries, a restart point every so many; the further points are the restart points behind the first,
--- which is set where there are entries.
+-- The bytes are these entries, a restart point every so many, each key without what it shares with the one before it; the further
+-- points are the restart points behind the first, which is set where there are entries.
 pub record IsBuilt (cmp : List ℕ → List ℕ → Ordering) (interval : ℕ) (bytes points last : List ℕ) (count : ℕ) (begun : Bool) (entries : List Entry) : Type 0 where
   pub some_interval : 1 ≤ interval
   pub spelled : bytes ≡ flat_map entry_bytes entries
   pub pointed : 0 ∷ points ≡ restart_points entries
   pub spaced : AreSpaced interval 0 entries
+  pub exact : entries_behind interval [] (pairs_of None entries) ≡ entries
   pub allowed : AreEntries None entries
   pub sorted : KeysRise cmp (pairs_of None entries)
   pub reached : last_key None entries ≡ key_before (nat_eq count 0) last

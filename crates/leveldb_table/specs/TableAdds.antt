@@ -10,8 +10,8 @@ use Rattle.leveldb_base.specs.declared.error.StatusCode.TheVariants.{NotSupporte
 use Rattle.leveldb_env.specs.Coders.{Codings, Decodes}
 use Rattle.leveldb_env.specs.FilterBlock.{IsNotMade}
 use Rattle.leveldb_env.specs.declared.filter.FilterPolicy.{Ghosts as PolicyGhosts}
-use Rattle.leveldb_table.specs.Block.{Entry, IsBlock}
-use Rattle.leveldb_table.specs.Built.{IsTooLarge}
+use Rattle.leveldb_table.specs.Block.{Entry}
+use Rattle.leveldb_table.specs.Built.{IsMade, IsTooLarge}
 use Rattle.leveldb_table.specs.Table.{with_trailer}
 use Rattle.leveldb_table.specs.TablePuts.{PutsBlock, IsNotPut, IsTooLong}
 use Rattle.leveldb_table.specs.TableStages.{Stage, with_pair, Closes}
@@ -23,10 +23,10 @@ abbrev pub IsNotAdded : List Entry → ℕ → Pair → Status → Type 0
 IsNotAdded entries count pair status =
     IsOutOfMemory status ⊎ IsTooLong (count + 1) status ⊎ ((status.code ≡ NotSupported) × IsTooLarge entries pair.0 pair.1)
 
--- these bytes are stored under the id for a block of these pairs
-pub record IsStored (codings : Codings) (id : ℕ) (cmp : List ℕ → List ℕ → Ordering) (pairs : List Pair) (stored : List ℕ) : Type 0 where
+-- these bytes are stored under the id for the block of these pairs as it is made at an interval
+pub record IsStored (codings : Codings) (id : ℕ) (cmp : List ℕ → List ℕ → Ordering) (interval : ℕ) (pairs : List Pair) (stored : List ℕ) : Type 0 where
   pub text : List ℕ
-  pub block : IsBlock cmp text pairs
+  pub made : IsMade cmp interval pairs text
   pub coded : Decodes codings id stored text
 
 module _ {C FP : Type 0} {order : CmpGhosts C} {policy : PolicyGhosts FP} (codings : Codings) (core : BuilderCore C FP order policy) where
@@ -58,20 +58,20 @@ module _ {C FP : Type 0} {order : CmpGhosts C} {policy : PolicyGhosts FP} (codin
     -- nothing was put, or the open block's put was tried, whatever came of it
     abbrev pub TriesOpen : S → S → Type 0
     TriesOpen from to =
-        (to ≡ from) ⊎ ((stored : List ℕ) × IsStored codings core.compressor (order.cmp core.block.cmp) (stage core).open_pairs stored
+        (to ≡ from) ⊎ ((stored : List ℕ) × IsStored codings core.compressor (order.cmp core.block.cmp) core.block.interval (stage core).open_pairs stored
         × (result : Result (Unit {0}) Status) × puts from (with_trailer core.compressor stored) result to)
 
     -- the open block was put
     abbrev pub PutsOpen : S → Handle → S → Type 0
     PutsOpen from handle to =
-        (stored : List ℕ) × IsStored codings core.compressor (order.cmp core.block.cmp) (stage core).open_pairs stored
+        (stored : List ℕ) × IsStored codings core.compressor (order.cmp core.block.cmp) core.block.interval (stage core).open_pairs stored
         × (end : ℕ) × PutsBlock puts core.compressor stored from core.offset handle end to
 
     -- why the open block wasn't closed before this key: want of memory, or it wasn't put, or it was put and got no line or no filter
     abbrev pub IsNotClosed : List ℕ → S → Status → S → Type 0
     IsNotClosed next from status to =
         ((to ≡ from) × IsOutOfMemory status)
-        ⊎ ((text : List ℕ) × IsBlock (order.cmp core.block.cmp) text (stage core).open_pairs × IsNotPut puts codings core.compressor text core.offset from status to)
+        ⊎ ((text : List ℕ) × IsMade (order.cmp core.block.cmp) core.block.interval (stage core).open_pairs text × IsNotPut puts codings core.compressor text core.offset from status to)
         ⊎ ((handle : Handle) × PutsOpen from handle to × IsNotLined next handle status)
 
     -- Why an unbroken builder refused a pair: the open block had room and the pair wasn't added to it, or the block was full and wasn't

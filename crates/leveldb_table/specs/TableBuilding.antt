@@ -1,6 +1,6 @@
 -- What the calls of a table builder do to it and to its sink.
-use Rattle.std.specs.Prelude.{◌≡◌, ◌≢◌, ℕ, ◌+◌, ◌*◌, ◌<◌, Bool, true, List, [], ◌∷◌, ◌++◌, length, Result, Ok, Option, None, IfSome, codes, string_bytes}
-use Rattle.std.specs.List.{concat}
+use Rattle.std.specs.Prelude.{◌≡◌, ◌≢◌, ℕ, ◌+◌, ◌*◌, ◌<◌, Bool, true, List, [], ◌∷◌, ◌++◌, length, map, Result, Ok, Option, None, IfSome, codes, string_bytes}
+use Rattle.std.specs.List.{AllByRecursion, concat}
 use Rattle.std.specs.declared.cmp.Ordering.{Ordering}
 use Rattle.std.specs.declared.cmp.Ordering.TheVariants.{Less, Greater}
 use Rattle.leveldb_base.specs.declared.error.Status.{Status}
@@ -11,10 +11,10 @@ use Rattle.leveldb_base.specs.Places.{Pair}
 use Rattle.leveldb_env.specs.Sinks.{PutsAll}
 use Rattle.leveldb_env.specs.Coders.{Codings, Decodes}
 use Rattle.leveldb_env.specs.FilterBlock.{IsFilterBlock, finished}
-use Rattle.leveldb_table.specs.Block.{IsBlock, pairs_of}
-use Rattle.leveldb_table.specs.Built.{last_added, estimate}
+use Rattle.leveldb_table.specs.Block.{pairs_of}
+use Rattle.leveldb_table.specs.Built.{last_added, block_made, IsMade, estimate}
 use Rattle.leveldb_table.specs.Footer.{footer_bytes}
-use Rattle.leveldb_table.specs.Table.{IsTable, IsWritten, AreAccepted, HasFiltersAt, filters_for, filter_key, with_trailer}
+use Rattle.leveldb_table.specs.Table.{Part, HasBlockAt, index_pair, IsTable, IsWritten, AreAccepted, HasFiltersAt, filters_for, filter_key, with_trailer}
 use Rattle.leveldb_table.specs.TableStages.{Stage, stage_of, IsLaid, AreSeparated, AreReady, Follows, first_key}
 use Rattle.leveldb_base.specs.declared.cmp.Cmp.{Ghosts as CmpGhosts}
 use Rattle.leveldb_env.specs.declared.filter.FilterPolicy.{Ghosts as PolicyGhosts}
@@ -22,7 +22,7 @@ use Rattle.leveldb_table.specs.declared.table_builder.builder_core.BuilderCore.{
 
 -- how far a builder's table is built
 abbrev pub stage : {C FP : Type 0} {order : CmpGhosts C} {policy : PolicyGhosts FP} → BuilderCore C FP order policy → Stage FP
-stage core = stage_of core.filter core.offset (pairs_of None core.index.built.0) (pairs_of None core.block.built.0) core.count
+stage core = stage_of core.filter core.offset (pairs_of None core.index.built.0) (pairs_of None core.block.built.0) core.count core.block.interval core.index.interval
 
 -- the key that was added last
 abbrev pub last_of : {C FP : Type 0} {order : CmpGhosts C} {policy : PolicyGhosts FP} → BuilderCore C FP order policy → List ℕ
@@ -93,14 +93,22 @@ SeparatesUsers accepts cmp sep user =
 abbrev pub GoesByUsers : (List ℕ → List ℕ) → (List ℕ → List ℕ → Bool) → Type 0
 GoesByUsers user matches = (key other filter : List ℕ) → user key ≡ user other → matches key filter ≡ matches other filter
 
--- The file is a table of these pairs, its blocks stand one behind the other, and its one filter block is the named policy's: it has the
--- filters of the blocks' keys. The index keys are separators, and the last one separates the last key from the successor of it.
+-- the data blocks are as they are made at an interval, and the metaindex and the index as at another
+pub record AreMade (Decodes : ℕ → List ℕ → List ℕ → Type 0) (interval index_interval : ℕ) (file : List ℕ) (parts : List Part) (metas : List Pair) (meta index : Handle) : Type 0 where
+  pub each : AllByRecursion (λ part. HasBlockAt Decodes file part.handle (block_made interval part.pairs)) parts
+  pub of_metas : HasBlockAt Decodes file meta (block_made index_interval metas)
+  pub of_lines : HasBlockAt Decodes file index (block_made index_interval (map index_pair parts))
+
+-- The file is a table of these pairs, its blocks stand one behind the other as they are made at these intervals, and its one filter block is
+-- the named policy's: it has the filters of the blocks' keys. The index keys are separators, and the last one separates the last key from the
+-- successor of it.
 pub record BuildsTable (codings : Codings) (accepts : List ℕ → Bool) (cmp : List ℕ → List ℕ → Ordering) (sep : List ℕ → List ℕ → List ℕ) (succ : List ℕ → List ℕ)
     (meaning : List ℕ → Option (List ℕ → List ℕ → Bool)) (user : List ℕ → List ℕ) (matches : List ℕ → List ℕ → Bool)
-    (make : List (List ℕ) → List ℕ) (id : ℕ) (policy file : List ℕ) (pairs : List Pair) : Type 0 where
+    (make : List (List ℕ) → List ℕ) (id : ℕ) (policy : List ℕ) (interval index_interval : ℕ) (file : List ℕ) (pairs : List Pair) : Type 0 where
   pub table : IsTable (Decodes codings) cmp meaning user file pairs
   pub filter : Handle
   pub written : IsWritten file id policy table.parts table.metas filter table.meta table.index
+  pub exact : AreMade (Decodes codings) interval index_interval file table.parts table.metas table.meta table.index
   pub separated : AreSeparated sep table.parts (succ (last_added pairs))
   pub accepted : AreAccepted accepts table.parts
   pub filtered : HasFiltersAt matches user file table.parts filter
@@ -112,10 +120,10 @@ Knows meaning name matches = IfSome (meaning name) (λ known. known ≡ matches)
 
 -- The file is such a table by whatever part of a key the filters go, if separators keep the order of these parts.
 abbrev pub IsBuilt : Codings → (List ℕ → Bool) → (List ℕ → List ℕ → Ordering) → (List ℕ → List ℕ → List ℕ) → (List ℕ → List ℕ) → (List ℕ → List ℕ → Bool)
-    → (List (List ℕ) → List ℕ) → ℕ → List ℕ → List ℕ → List Pair → Type 0
-IsBuilt codings accepts cmp sep succ matches make id name file pairs =
+    → (List (List ℕ) → List ℕ) → ℕ → List ℕ → ℕ → ℕ → List ℕ → List Pair → Type 0
+IsBuilt codings accepts cmp sep succ matches make id name interval index_interval file pairs =
     (meaning : List ℕ → Option (List ℕ → List ℕ → Bool)) (user : List ℕ → List ℕ) → SeparatesUsers accepts cmp sep user → GoesByUsers user matches → Knows meaning name matches
-    → BuildsTable codings accepts cmp sep succ meaning user matches make id name file pairs
+    → BuildsTable codings accepts cmp sep succ meaning user matches make id name interval index_interval file pairs
 
 -- the handle is that of stored bytes at this offset
 abbrev pub IsPlaced : ℕ → List ℕ → Handle → Type 0
@@ -129,8 +137,8 @@ pub record IsLast {FP : Type 0} (accepts : List ℕ → Bool) (cmp : List ℕ �
   pub behind : stage.lines ≢ [] → cmp (last_added pairs) next ≢ Greater
   pub successor : stage.lines ≢ [] → next ≡ succ (last_added pairs)
 
--- What follows the data blocks: the filters as they are, the metaindex and the index stored under the id, and the footer. With it the
--- file has so many bytes.
+-- What follows the data blocks: the filters as they are, the metaindex and the index as they are made at the index's interval and stored
+-- under the id, and the footer. With it the file has so many bytes.
 pub record IsEnd {FP : Type 0} (Decodes : ℕ → List ℕ → List ℕ → Type 0) (cmp : List ℕ → List ℕ → Ordering) (make : List (List ℕ) → List ℕ)
     (id : ℕ) (name : List ℕ) (stage : Stage FP) (bytes : List ℕ) (size : ℕ) : Type 0 where
   pub filters : List ℕ
@@ -142,8 +150,8 @@ pub record IsEnd {FP : Type 0} (Decodes : ℕ → List ℕ → List ℕ → Type
   pub meta : Handle
   pub index : Handle
   pub filter_block : IsFilterBlock filters (finished make stage.filter.filters stage.filter.keys)
-  pub meta_block : IsBlock bytewise meta_text ((filter_key name, handle_bytes filter) ∷ [])
-  pub index_block : IsBlock cmp index_text stage.lines
+  pub meta_made : IsMade bytewise stage.index_interval ((filter_key name, handle_bytes filter) ∷ []) meta_text
+  pub index_made : IsMade cmp stage.index_interval stage.lines index_text
   pub meta_coded : Decodes id meta_stored meta_text
   pub index_coded : Decodes id index_stored index_text
   pub filter_placed : IsPlaced stage.offset filters filter

@@ -9,7 +9,7 @@ use Rattle.leveldb_base.specs.declared.error.Status.{Status}
 use Rattle.leveldb_env.specs.Coders.{Codings, IsUnset}
 use Rattle.leveldb_env.specs.FilterBlock.{IsFilterBlock, IsNotMade, finished}
 use Rattle.leveldb_env.specs.declared.filter.FilterPolicy.{Ghosts as PolicyGhosts}
-use Rattle.leveldb_table.specs.Block.{IsBlock}
+use Rattle.leveldb_table.specs.Built.{IsMade}
 use Rattle.leveldb_table.specs.Footer.{footer_bytes}
 use Rattle.leveldb_table.specs.Table.{with_trailer, filter_key}
 use Rattle.leveldb_table.specs.TablePuts.{PutsBlock, IsRefused, IsNoMetaindex, StopsFrom, StopsAtFooter}
@@ -42,14 +42,14 @@ module _ {FP : Type 0} (codings : Codings) (cmp : List ℕ → List ℕ → Orde
   abbrev pub StopsFromIndex : Handle → ℕ → S → Status → S → Type 0
   StopsFromIndex meta offset from status to =
       ((to ≡ from) × IsOutOfMemory status)
-      ⊎ ((text : List ℕ) × IsBlock cmp text last.lines
+      ⊎ ((text : List ℕ) × IsMade cmp last.index_interval last.lines text
       × StopsFrom puts codings id text offset (λ index. StopsAtFooter puts flushes (footer_bytes meta index)) from status to)
 
   -- The metaindex wasn't made or wasn't put; or it was, and what follows it wasn't. The filters have this handle.
   abbrev pub StopsFromMetaindex : Handle → ℕ → S → Status → S → Type 0
   StopsFromMetaindex filters offset from status to =
       ((to ≡ from) × IsNoMetaindex name filters status)
-      ⊎ ((text : List ℕ) × IsBlock bytewise text ((filter_key name, handle_bytes filters) ∷ [])
+      ⊎ ((text : List ℕ) × IsMade bytewise last.index_interval ((filter_key name, handle_bytes filters) ∷ []) text
       × StopsFrom puts codings id text offset StopsFromIndex from status to)
 
   -- The filters weren't made or weren't put; or they were, and what follows them wasn't.

@@ -1,5 +1,5 @@
 -- How a walk over a table goes into the data block that a line of the index names.
-use Rattle.std.specs.Prelude.{◌≡◌, ◌++◌, ℕ, Bool, true, if◌then◌else◌, List, length, map, Option, None, Some, Result, OnOk, OnErr}
+use Rattle.std.specs.Prelude.{◌≡◌, ◌++◌, ℕ, Bool, true, if◌then◌else◌, List, length, map, Option, None, Some, Result, Ok, Err, OnOk, OnErr}
 use Rattle.std.specs.Option.{IsSomeAnd}
 use Rattle.std.specs.declared.cmp.Ordering.{Ordering}
 use Rattle.leveldb_base.specs.Handle.{Handle}
@@ -9,18 +9,14 @@ use Rattle.leveldb_base.specs.declared.error.Status.{Status}
 use Rattle.leveldb_env.specs.declared.env.Env.{Ghosts as EnvGhosts}
 use Rattle.leveldb_env.specs.Coders.{Codings, Decodes}
 use Rattle.leveldb_table.specs.Cache.{Cached}
-use Rattle.leveldb_table.specs.Table.{Part, IsPart, AreAccepted, HasBlockAt, index_pair, named_part}
+use Rattle.leveldb_table.specs.Table.{Part, AreAccepted, HasBlockAt, index_pair, named_part}
 use Rattle.leveldb_table.specs.TableCached.{HoldsOf, IsOf, Gathers}
-use Rattle.leveldb_table.specs.TableReading.{pairs_in, HasParts}
-use Rattle.leveldb_table.specs.TableReads.{Whatever, IsLacking, IsNamedIn, Reads}
-use Rattle.leveldb_table.specs.TableWalk.{IsNamed, StandsIn, Stands, GivenParts, IsFrom, inner_place, pairs_over, place_over}
+use Rattle.leveldb_table.specs.TableReading.{pairs_in}
+use Rattle.leveldb_table.specs.TableReads.{Whatever, IsLacking, Reads}
+use Rattle.leveldb_table.specs.TableWalk.{Outcome, IsNamed, StandsIn, Stands, GivenParts, inner_place, pairs_over, place_over, table_place}
 use Rattle.leveldb_table.specs.declared.block.Block.{Block}
 use Rattle.leveldb_table.specs.declared.block_cache.CachedBlock.{CachedBlock}
 use Rattle.leveldb_table.specs.declared.table_reader.walk.TableCore.{TableCore}
-
--- the file has no data block that this line of the index stands for
-abbrev pub LacksLine : Codings → (List ℕ → List ℕ → Ordering) → List ℕ → Option Pair → Type 0
-LacksLine codings cmp bytes line = (part : Part) → line ≡ Some (index_pair part) → IsPart (Decodes codings) cmp bytes part → ⊥
 
 -- Behind a line of the index comes the line of the first data block that isn't among those in front, and the place is that of the first
 -- pair behind theirs.
@@ -73,16 +69,16 @@ module _ {C : Type 0} {order : CmpGhosts C} where
 
   -- As a move does, but from a line of the index: where the file has data blocks, the walk goes to the place that is fit for them.
   pub record Enters {E F T : Type 0} (env : EnvGhosts E F) (codings : Codings) (cmp : List ℕ → List ℕ → Ordering) (id : ℕ) (file : F)
-      (Fit : List Part → Option ℕ → Type 0) (Step : Codings → (List ℕ → List ℕ → Ordering) → List ℕ → TableCore C order → TableCore C order → Type 0)
+      (Fit : List Part → Option ℕ → Type 0) (Step : Codings → (List ℕ → List ℕ → Ordering) → List ℕ → TableCore C order → Outcome → Type 0)
       (old_env : E) (old_cache : Cached (CachedBlock C order)) (old : TableCore C order) (result : Result T Status)
       (new_env : E) (new_cache : Cached (CachedBlock C order)) (new : TableCore C order) : Type 0 where
-    pub reads : Reads env (IsLacking env codings (IsNamedIn (pairs_over old.index)) (λ bytes.
-        GivenParts codings cmp id bytes old_cache Fit (λ parts place. IsIndexed cmp parts old) (λ parts place. ⊥))
+    pub reads : Reads env (IsLacking env codings (λ bytes status.
+        GivenParts codings cmp id bytes old_cache Fit (λ parts place. IsIndexed cmp parts old) (λ parts place. ⊥)
+        × (HoldsOf codings cmp id bytes old_cache → Step codings cmp bytes old (Err status)))
         old_env file) old_env file new_env result
     pub ok : Whatever env old_env file (λ bytes.
         GivenParts codings cmp id bytes old_cache Fit (λ parts place. IsIndexed cmp parts old) (λ parts place. OnOk result (Stands cmp parts new place)))
-    pub steps : Whatever env old_env file (λ bytes. HoldsOf codings cmp id bytes old_cache → OnOk result (Step codings cmp bytes old new))
-    pub from : Whatever env old_env file (λ bytes. HoldsOf codings cmp id bytes old_cache → IsFrom codings cmp bytes new)
+    pub steps : Whatever env old_env file (λ bytes. HoldsOf codings cmp id bytes old_cache → OnOk result (Step codings cmp bytes old (Ok (table_place new))))
     pub err : OnErr result (inner_place new.inner ≡ None)
     pub gathers : Gathers id (λ offset held. Whatever env old_env file (λ bytes. IsOf codings cmp bytes offset held)) old_cache new_cache
     pub same_lines : pairs_over new.index ≡ pairs_over old.index

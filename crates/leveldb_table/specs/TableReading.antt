@@ -1,6 +1,6 @@
 -- What an open table is, and what is found in it.
-use Rattle.std.specs.Prelude.{◌≡◌, ◌≢◌, ◌⊎◌, ◌+◌, ◌<◌, ◌^◌, ℕ, Bool, true, false, if◌then◌else◌, List, [], ◌∷◌, ◌++◌, length, map, flat_map}
-use Rattle.std.specs.Prelude.{Option, None, Some, IfSome, IsTrue, IsSomeAnd}
+use Rattle.std.specs.Prelude.{◌≡◌, ◌≢◌, ◌≤◌, ℕ, Bool, true, if◌then◌else◌, List, ◌++◌, length, take, flat_map}
+use Rattle.std.specs.Prelude.{Option, None, Some, IfSome, IsSomeAnd}
 use Rattle.std.specs.List.{AllByRecursion}
 use Rattle.std.specs.Map.{lookup}
 use Rattle.std.specs.Str.{bytes_eq}
@@ -8,13 +8,16 @@ use Rattle.std.specs.declared.cmp.Ordering.{Ordering}
 use Rattle.std.specs.declared.cmp.Ordering.TheVariants.{Less, Greater}
 use Rattle.leveldb_base.specs.Bytewise.{bytewise}
 use Rattle.leveldb_base.specs.Handle.{Handle, handle_bytes, HandleFits}
-use Rattle.leveldb_base.specs.Places.{Pair, pair_at}
+use Rattle.leveldb_base.specs.Places.{Pair, seek_place, pair_at}
 use Rattle.leveldb_base.specs.declared.cmp.Cmp.{Ghosts as CmpGhosts}
+use Rattle.leveldb_base.specs.declared.error.Status.{Status}
+use Rattle.leveldb_base.specs.declared.error.StatusCode.TheVariants.{Corruption}
 use Rattle.leveldb_env.specs.Coders.{Codings, Decodes}
 use Rattle.leveldb_env.specs.FilterBlock.{IsFilterBlock, Reading, passes}
 use Rattle.leveldb_table.specs.Block.{IsBlock, KeysRise, pairs_of}
 use Rattle.leveldb_table.specs.Footer.{footer_bytes}
-use Rattle.leveldb_table.specs.Table.{Part, IsPart, HasBlockAt, StoresAt, AreParted, AreAccepted, AllPass, index_pair, filter_key, first_from, named_part, IsTabled}
+use Rattle.leveldb_table.specs.Table.{Part, IsPart, HasBlockAt, StoresAt, AreParted, AreAccepted, AllPass, filter_key, first_from, named_part}
+use Rattle.leveldb_table.specs.TableReads.{LacksBlock}
 use Rattle.leveldb_table.specs.declared.block.Block.{Block}
 use Rattle.leveldb_table.specs.declared.table_reader.Table.{Table}
 
@@ -39,12 +42,17 @@ abbrev pub HasFiltersBy : List ℕ → Option (List ℕ) → Option (List (List 
 HasFiltersBy bytes None filters = filters ≡ None
 HasFiltersBy bytes (Some value) filters = (handle : Handle) × HandleFits handle × (value ≡ handle_bytes handle) × IsFiltersAt bytes handle filters
 
--- The file ends in a footer; where that says, the index has these lines, and the metaindex says under this key where the filters are.
-pub record Opens (codings : Codings) (cmp : List ℕ → List ℕ → Ordering) (key bytes : List ℕ) (lines : List Pair) (meta index : Handle) (filters : Option (List (List ℕ))) : Type 0 where
+-- so many bytes at the front of a file end in a footer of these handles
+pub record EndsIn (bytes : List ℕ) (size : ℕ) (meta index : Handle) : Type 0 where
+  pub within : size ≤ length bytes
   pub front : List ℕ
-  pub ends : bytes ≡ front ++ footer_bytes meta index
+  pub ends : take size bytes ≡ front ++ footer_bytes meta index
   pub meta_fits : HandleFits meta
   pub index_fits : HandleFits index
+
+-- So many bytes of a file end in a footer; where that says, the index has these lines, and the metaindex says under this key where the filters are.
+pub record Opens (codings : Codings) (cmp : List ℕ → List ℕ → Ordering) (key bytes : List ℕ) (size : ℕ) (lines : List Pair) (meta index : Handle) (filters : Option (List (List ℕ))) : Type 0 where
+  pub footer : EndsIn bytes size meta index
   pub index_text : List ℕ
   pub index_stands : HasBlockAt (Decodes codings) bytes index index_text
   pub index_block : IsBlock cmp index_text lines
@@ -54,9 +62,18 @@ pub record Opens (codings : Codings) (cmp : List ℕ → List ℕ → Ordering) 
   pub meta_block : IsBlock bytewise meta_text metas
   pub filtered : HasFiltersBy bytes (lookup (bytes_eq key) metas) filters
 
+-- A part of the file is lacking, as a status tells: so many of its bytes end in no footer, or the index or the metaindex is lacking where the footer says, or
+-- there are no filters as that says under the key.
+pub data LacksPart (codings : Codings) (cmp : List ℕ → List ℕ → Ordering) (key bytes : List ℕ) (size : ℕ) (status : Status) : Type 0 where
+  footer : ((meta index : Handle) → EndsIn bytes size meta index → ⊥) → status.code ≡ Corruption → LacksPart codings cmp key bytes size status
+  index : (meta index : Handle) → EndsIn bytes size meta index → LacksBlock codings cmp bytes index status → LacksPart codings cmp key bytes size status
+  metaindex : (meta index : Handle) → EndsIn bytes size meta index → LacksBlock codings bytewise bytes meta status → LacksPart codings cmp key bytes size status
+  filters : (meta index : Handle) → EndsIn bytes size meta index → (text : List ℕ) (metas : List Pair) → HasBlockAt (Decodes codings) bytes meta text → IsBlock bytewise text metas
+      → ((filters : Option (List (List ℕ))) → HasFiltersBy bytes (lookup (bytes_eq key) metas) filters → ⊥) → status.code ≡ Corruption → LacksPart codings cmp key bytes size status
+
 -- the file can't be opened so
-abbrev pub OpensNot : Codings → (List ℕ → List ℕ → Ordering) → List ℕ → List ℕ → Type 0
-OpensNot codings cmp key bytes = (lines : List Pair) (meta index : Handle) (filters : Option (List (List ℕ))) → Opens codings cmp key bytes lines meta index filters → ⊥
+abbrev pub OpensNot : Codings → (List ℕ → List ℕ → Ordering) → List ℕ → List ℕ → ℕ → Type 0
+OpensNot codings cmp key bytes size = (lines : List Pair) (meta index : Handle) (filters : Option (List (List ℕ))) → Opens codings cmp key bytes size lines meta index filters → ⊥
 
 -- ---- data blocks that an index names
 
@@ -84,6 +101,15 @@ abbrev pub found_in : (List ℕ → List ℕ → Ordering) → (ℕ → List ℕ
 found_in cmp lets key parts =
     elim (named_part cmp key parts) [ None ↦ None | Some part ↦ if lets part.handle.offset key then first_from cmp key (pairs_in parts) else None ]
 
+-- the line that an index has for a key: the first whose key is at or after it
+abbrev pub key_line : (List ℕ → List ℕ → Ordering) → List ℕ → List Pair → Option Pair
+key_line cmp key lines = pair_at lines (seek_place cmp lines key)
+
+-- The offset of a block by its line, that of the handle which the line names; and without a line this one.
+abbrev pub IsOffsetBy : Option Pair → ℕ → ℕ → Type 0
+IsOffsetBy None past offset = offset ≡ past
+IsOffsetBy (Some line) past offset = (handle : Handle) × HandleFits handle × (line.1 ≡ handle_bytes handle) × (offset ≡ handle.offset)
+
 -- ---- what holds of tables that are opened
 
 -- The table can be opened, and the filters, where it has some, let pass what they must.
@@ -93,7 +119,7 @@ pub record OpensWell (codings : Codings) (cmp : List ℕ → List ℕ → Orderi
   pub meta : Handle
   pub index : Handle
   pub filters : Option (List (List ℕ))
-  pub opens : Opens codings cmp (filter_key name) bytes lines meta index filters
+  pub opens : Opens codings cmp (filter_key name) bytes (length bytes) lines meta index filters
   pub pass : IfSome filters (λ texts. AllPass matches user texts parts)
 
 -- between keys of one user's key stand none of another's

@@ -1,7 +1,7 @@
 -- What reading the blocks of a table's file gives.
-use Rattle.std.specs.Prelude.{◌≡◌, ◌⊎◌, ◌^◌, ◌<◌, ◌++◌, ℕ, Bool, List, [], ◌∷◌, length, take, drop, Option, None, Some, Result, IsTrue, IsSomeAnd, Contains}
+use Rattle.std.specs.Prelude.{◌≡◌, ◌⊎◌, ◌^◌, ◌<◌, ℕ, List, length, drop, Option, None, Some, Result, IsTrue, IsSomeAnd}
 use Rattle.std.specs.declared.cmp.Ordering.{Ordering}
-use Rattle.leveldb_base.specs.Handle.{Handle, handle_bytes}
+use Rattle.leveldb_base.specs.Handle.{Handle, handle_bytes, HandleFits}
 use Rattle.leveldb_base.specs.Places.{Pair}
 use Rattle.leveldb_base.specs.declared.error.Status.{Status}
 use Rattle.leveldb_base.specs.declared.error.StatusCode.TheVariants.{Corruption}
@@ -11,8 +11,7 @@ use Rattle.leveldb_env.specs.Runs.{Run}
 use Rattle.leveldb_env.specs.declared.env.Env.{Ghosts}
 use Rattle.leveldb_env.specs.Coders.{Coding, Codings, Decodes, IsUnset, RefusesWith}
 use Rattle.leveldb_env.specs.FilterBlock.{IsFilterBlock}
-use Rattle.leveldb_table.specs.Block.{IsBlock}
-use Rattle.leveldb_table.specs.Footer.{footer_bytes}
+use Rattle.leveldb_table.specs.Block.{IsNoBlock}
 use Rattle.leveldb_table.specs.Table.{StoresAt, HasBlockAt}
 
 -- ---- what is not there
@@ -24,10 +23,6 @@ EndsBefore bytes place size = length (drop place bytes) < size
 -- nothing is stored at the handle
 abbrev pub StoresNothing : List ℕ → Handle → Type 0
 StoresNothing bytes handle = (id : ℕ) (stored : List ℕ) → StoresAt bytes handle id stored → ⊥
-
--- no block is at the handle
-abbrev pub HasNoBlock : Codings → (List ℕ → List ℕ → Ordering) → List ℕ → Handle → Type 0
-HasNoBlock codings cmp bytes handle = (text : List ℕ) (pairs : List Pair) → HasBlockAt (Decodes codings) bytes handle text → IsBlock cmp text pairs → ⊥
 
 -- no filter block is at the handle
 abbrev pub HasNoFilters : List ℕ → Handle → Type 0
@@ -41,15 +36,26 @@ IsUndecodedBy (Some coding) id stored status = (coding.decoded stored ≡ None) 
 abbrev pub IsUndecoded : Codings → ℕ → List ℕ → Status → Type 0
 IsUndecoded codings id stored status = IsUndecodedBy (codings id) id stored status
 
--- ---- the handles of an index
+-- No block is at the handle, as a status tells: nothing is stored there, or what is stored isn't decoded, or it is decoded to what is no block.
+pub data LacksBlock (codings : Codings) (cmp : List ℕ → List ℕ → Ordering) (bytes : List ℕ) (handle : Handle) (status : Status) : Type 0 where
+  unstored : StoresNothing bytes handle → status.code ≡ Corruption → LacksBlock codings cmp bytes handle status
+  undecoded : (id : ℕ) (stored : List ℕ) → StoresAt bytes handle id stored → IsUndecoded codings id stored status → LacksBlock codings cmp bytes handle status
+  no_block : (text : List ℕ) → HasBlockAt (Decodes codings) bytes handle text → IsNoBlock cmp text → status.code ≡ Corruption → LacksBlock codings cmp bytes handle status
+
+-- ---- the lines of an index
 
 -- a line of the index names the handle
 abbrev pub IsNamedBy : Option Pair → Handle → Type 0
 IsNamedBy line handle = IsSomeAnd line (λ pair. pair.1 ≡ handle_bytes handle)
 
--- some line of it does
-abbrev pub IsNamedIn : List Pair → Handle → Type 0
-IsNamedIn lines handle = (key : List ℕ) × Contains lines (key, handle_bytes handle)
+-- there is a line, and it names no handle
+abbrev pub NamesNone : Option Pair → Type 0
+NamesNone line = IsSomeAnd line (λ pair. (handle : Handle) → HandleFits handle → pair.1 ≡ handle_bytes handle → ⊥)
+
+-- The line leads to no block, as a status tells: it names no handle, or no block is there.
+pub data LacksLine (codings : Codings) (cmp : List ℕ → List ℕ → Ordering) (bytes : List ℕ) (line : Option Pair) (status : Status) : Type 0 where
+  unnamed : NamesNone line → status.code ≡ Corruption → LacksLine codings cmp bytes line status
+  lacking : (handle : Handle) → IsNamedBy line handle → LacksBlock codings cmp bytes handle status → LacksLine codings cmp bytes line status
 
 -- ---- calls that read
 
@@ -65,10 +71,11 @@ module _ {E F : Type 0} (env : Ghosts E F) where
     pub there : IsSomeAnd ((env.tells state).disk.files (env.name_of file)) (λ standing. bytes_of standing ≡ bytes)
     pub fits : length bytes < 2 ^ 64
 
-  -- a call that reads a file fails for want of memory, since the file is missing, for another cause, or at a failure that is counted
+  -- a call that reads a file fails for want of memory, since the file is missing, for another cause with no failure counted, or at a failure
+  -- that is counted
   abbrev pub FailsFor : {T : Type 0} → (Status → Type 0) → E → F → E → Result T Status → Type 0
   FailsFor Why old file new result =
-      HasCause (λ status. (env.failures new ≡ env.failures old) × (IsMissing env.tells_disk (env.name_of file) (env.tells old) status ⊎ Why status))
+      HasCause (λ status. IsMissing env.tells_disk (env.name_of file) (env.tells old) status ⊎ ((env.failures new ≡ env.failures old) × Why status))
       (env.failures old) (env.failures new) result
 
   -- it reads so, and leaves the disk as it is
@@ -84,21 +91,10 @@ module _ {E F : Type 0} (env : Ghosts E F) where
   abbrev pub IsDamaged : (List ℕ → Type 0) → E → F → Status → Type 0
   IsDamaged Missing state file status = (status.code ≡ Corruption) × Whatever state file Missing
 
-  -- at one of these handles, which the call was to read, the file has stored bytes that aren't decoded
-  pub record IsForeign (codings : Codings) (At : Handle → Type 0) (state : E) (file : F) (status : Status) : Type 0 where
-    pub handle : Handle
-    pub at : At handle
-    pub id : ℕ
-    pub stored : List ℕ
-    pub stands : Whatever state file (λ bytes. StoresAt bytes handle id stored)
-    pub undecoded : IsUndecoded codings id stored status
+  -- a status may tell that a block is lacking: of damage, or of stored bytes without a coder or refused by theirs
+  abbrev pub TellsLack : Codings → Status → Type 0
+  TellsLack codings status = (status.code ≡ Corruption) ⊎ ((id : ℕ) × (stored : List ℕ) × IsUndecoded codings id stored status)
 
-  -- a part of the file is missing: its bytes are damaged, or what is stored at one of these handles isn't decoded
-  abbrev pub IsLacking : Codings → (Handle → Type 0) → (List ℕ → Type 0) → E → F → Status → Type 0
-  IsLacking codings At Missing state file status = ((status.code ≡ Corruption) ⊎ IsForeign codings At state file status) × Whatever state file Missing
-
-  -- the footer of the file, where it has this size, names the handle for its metaindex or its index
-  abbrev pub IsInFooter : ℕ → E → F → Handle → Type 0
-  IsInFooter size state file handle =
-      Whatever state file (λ bytes. length bytes ≡ size
-      → (front : List ℕ) × (meta index : Handle) × (bytes ≡ front ++ footer_bytes meta index) × ((handle ≡ meta) ⊎ (handle ≡ index)))
+  -- a part of the file is lacking, as the status tells
+  abbrev pub IsLacking : Codings → (List ℕ → Status → Type 0) → E → F → Status → Type 0
+  IsLacking codings Lacks state file status = TellsLack codings status × Whatever state file (λ bytes. Lacks bytes status)

@@ -6,24 +6,29 @@ use Rattle.std.specs.declared.cmp.Ordering.TheVariants.{Less}
 use Rattle.leveldb_base.specs.Handle.{Handle, handle_bytes, HandleFits}
 use Rattle.leveldb_base.specs.Places.{Pair}
 use Rattle.leveldb_env.specs.FilterBlock.{Building, started, with_key, IsKept}
-use Rattle.leveldb_table.specs.Block.{IsBlock, KeysRise}
-use Rattle.leveldb_table.specs.Built.{last_added}
-use Rattle.leveldb_table.specs.Table.{Part, IsPart, StandsUnder, index_pair, keys_for, filters_before, with_trailer, AreLinked, blocks_len}
+use Rattle.leveldb_table.specs.Block.{KeysRise}
+use Rattle.leveldb_table.specs.Built.{last_added, block_made, IsMade}
+use Rattle.leveldb_table.specs.Table.{Part, IsPart, HasBlockAt, StandsUnder, index_pair, keys_for, filters_before, with_trailer, AreLinked, blocks_len}
 
--- What a builder keeps: its filters, how many bytes it has put, the index's pairs, those of the open block, and the count of all pairs.
+-- What a builder keeps: its filters, how many bytes it has put, the index's pairs, those of the open block, and the count of all pairs; and
+-- after how many pairs restart points come in the data blocks and in the index.
 pub record Stage (FP : Type 0) : Type 0 where
   pub filter : Building FP
   pub offset : ℕ
   pub lines : List Pair
   pub open_pairs : List Pair
   pub count : ℕ
+  pub interval : ℕ
+  pub index_interval : ℕ
 
-abbrev pub stage_of : {FP : Type 0} → Building FP → ℕ → List Pair → List Pair → ℕ → Stage FP
-stage_of filter offset lines open_pairs count = record { filter = filter; offset = offset; lines = lines; open_pairs = open_pairs; count = count }
+abbrev pub stage_of : {FP : Type 0} → Building FP → ℕ → List Pair → List Pair → ℕ → ℕ → ℕ → Stage FP
+stage_of filter offset lines open_pairs count interval index_interval =
+    record { filter = filter; offset = offset; lines = lines; open_pairs = open_pairs; count = count; interval = interval; index_interval = index_interval }
 
 -- one more pair in the open block, and its key in the open filter
 abbrev pub with_pair : {FP : Type 0} → Pair → Stage FP → Stage FP
-with_pair pair stage = stage_of (with_key pair.0 stage.filter) stage.offset stage.lines (stage.open_pairs ++ pair ∷ []) (stage.count + 1)
+with_pair pair stage =
+    stage_of (with_key pair.0 stage.filter) stage.offset stage.lines (stage.open_pairs ++ pair ∷ []) (stage.count + 1) stage.interval stage.index_interval
 
 -- the first key, or none
 abbrev pub first_key : List Pair → List ℕ
@@ -40,13 +45,15 @@ AreSeparated sep (part ∷ other ∷ parts) next = (part.index_key ≡ sep (last
 abbrev pub KeepsAll : {FP : Type 0} → (List ℕ → List ℕ → Bool) → Building FP → ℕ → List Pair → Type 0
 KeepsAll matches building offset pairs = AllByRecursion (λ pair. IsKept matches building.filters building.keys offset pair.0) pairs
 
--- The file so far has these data blocks one behind the other, stored under the id, and they and the open block have these pairs. The next
--- key, which stands behind the blocks, is the open block's first where it has one. The filters that are made are those of these blocks.
+-- The file so far has these data blocks one behind the other, as they are made at the interval and stored under the id, and they and the
+-- open block have these pairs. The next key, which stands behind the blocks, is the open block's first where it has one. The filters that
+-- are made are those of these blocks.
 pub record IsLaid {FP : Type 0} (Decodes : ℕ → List ℕ → List ℕ → Type 0) (accepts : List ℕ → Bool) (cmp : List ℕ → List ℕ → Ordering)
     (sep : List ℕ → List ℕ → List ℕ) (matches : List ℕ → List ℕ → Bool) (make : List (List ℕ) → List ℕ) (id : ℕ)
     (stage : Stage FP) (next written : List ℕ) (pairs : List Pair) : Type 0 where
   pub parts : List Part
   pub each : AllByRecursion (IsPart Decodes cmp written) parts
+  pub exact : AllByRecursion (λ part. HasBlockAt Decodes written part.handle (block_made stage.interval part.pairs)) parts
   pub under : AllByRecursion (λ part. StandsUnder written id part.handle) parts
   pub lined : stage.lines ≡ map index_pair parts
   pub separated : AreSeparated sep parts next
@@ -80,13 +87,13 @@ pub record IsSound {FP : Type 0} (accepts : List ℕ → Bool) (cmp index_cmp : 
   pub some : 0 < stage.count → stage.open_pairs ≢ []
   pub none : stage.count ≡ 0 → stage.lines ++ stage.open_pairs ≡ []
 
--- The open block is put behind the file, stored under the id, and gets its line in the index.
+-- The open block is put behind the file, as it is made at the interval and stored under the id, and gets its line in the index.
 pub record Closes {FP : Type 0} (Decodes : ℕ → List ℕ → List ℕ → Type 0) (cmp : List ℕ → List ℕ → Ordering)
     (sep : List ℕ → List ℕ → List ℕ) (make : List (List ℕ) → List ℕ) (id : ℕ) (next : List ℕ) (old : Stage FP) (bytes : List ℕ) (new : Stage FP) : Type 0 where
   pub text : List ℕ
   pub stored : List ℕ
   pub handle : Handle
-  pub block : IsBlock cmp text old.open_pairs
+  pub made : IsMade cmp old.interval old.open_pairs text
   pub coded : Decodes id stored text
   pub begins : handle.offset ≡ old.offset
   pub size : handle.size ≡ length stored
@@ -97,3 +104,4 @@ pub record Closes {FP : Type 0} (Decodes : ℕ → List ℕ → List ℕ → Typ
   pub none_open : new.open_pairs ≡ []
   pub started : new.filter ≡ started make new.offset old.filter
   pub count : new.count ≡ old.count
+  pub same_intervals : (new.interval ≡ old.interval) × (new.index_interval ≡ old.index_interval)

@@ -1,5 +1,5 @@
 -- Where a walk over a table stands: at a line of the index, and at a pair of the data block that the line names.
-use Rattle.std.specs.Prelude.{◌≡◌, ◌≢◌, ◌+◌, ◌<◌, ℕ, List, [], ◌∷◌, ◌++◌, length, map, Option, None, Some, Result, OnOk, OnErr, Contains}
+use Rattle.std.specs.Prelude.{◌≡◌, ◌+◌, ◌<◌, ℕ, List, [], ◌∷◌, ◌++◌, length, map, Option, None, Some, Result, Ok, Err, OnOk, OnErr}
 use Rattle.std.specs.declared.cmp.Ordering.{Ordering}
 use Rattle.leveldb_base.specs.Handle.{Handle, handle_bytes, HandleFits}
 use Rattle.leveldb_base.specs.Places.{Pair, pair_at}
@@ -7,17 +7,27 @@ use Rattle.leveldb_base.specs.declared.cmp.Cmp.{Ghosts as CmpGhosts}
 use Rattle.leveldb_base.specs.declared.error.Status.{Status}
 use Rattle.leveldb_env.specs.declared.env.Env.{Ghosts as EnvGhosts}
 use Rattle.leveldb_env.specs.Coders.{Codings, Decodes}
-use Rattle.leveldb_table.specs.Block.{IsBlock, pairs_of}
+use Rattle.leveldb_table.specs.Block.{pairs_of}
 use Rattle.leveldb_table.specs.Cache.{Cached}
 use Rattle.leveldb_table.specs.Table.{Part, HasBlockAt, index_pair}
 use Rattle.leveldb_table.specs.TableCached.{HoldsOf, IsOf, Gathers}
 use Rattle.leveldb_table.specs.TableReading.{pairs_in, HasParts}
-use Rattle.leveldb_table.specs.TableReads.{Has, Whatever, IsLacking, IsNamedIn, Reads}
+use Rattle.leveldb_table.specs.TableReads.{Whatever, IsLacking, Reads}
 use Rattle.leveldb_table.specs.Walk.{place_of}
 use Rattle.leveldb_table.specs.declared.block.Block.{Block}
 use Rattle.leveldb_table.specs.declared.block.owned.BlockWalk.{BlockWalk}
 use Rattle.leveldb_table.specs.declared.block_cache.CachedBlock.{CachedBlock}
 use Rattle.leveldb_table.specs.declared.table_reader.walk.TableCore.{TableCore}
+
+-- a place in a table: a line of its index, the pairs of that line's block, and the place among these
+pub record TablePlace : Type 0 where
+  pub line : Option ℕ
+  pub pairs : List Pair
+  pub inner : Option ℕ
+
+-- what a step comes to: a place, or a refusal
+abbrev pub Outcome : Type 0
+Outcome = Result TablePlace Status
 
 -- So many pairs of data blocks stand before the place: those of the blocks before the one of the index's line, and those before the
 -- place in that one.
@@ -45,17 +55,6 @@ pub record IsNamed (codings : Codings) (bytes : List ℕ) (line : Option Pair) (
   pub fits : HandleFits handle
   pub names : line ≡ Some (key, handle_bytes handle)
   pub stands : HasBlockAt (Decodes codings) bytes handle contents
-
--- The pair is one of a block that the file has where a line of the index says.
-pub record IsGiven (codings : Codings) (cmp : List ℕ → List ℕ → Ordering) (bytes : List ℕ) (lines : List Pair) (pair : Pair) : Type 0 where
-  pub key : List ℕ
-  pub handle : Handle
-  pub text : List ℕ
-  pub pairs : List Pair
-  pub named : Contains lines (key, handle_bytes handle)
-  pub stands : HasBlockAt (Decodes codings) bytes handle text
-  pub block : IsBlock cmp text pairs
-  pub has : Contains pairs pair
 
 module _ {C : Type 0} {order : CmpGhosts C} where
   -- a block walk's pairs, and its place
@@ -88,13 +87,9 @@ module _ {C : Type 0} {order : CmpGhosts C} where
     pub ordered : order.cmp core.index.block.cmp ≡ cmp
     pub at : StandsAt parts (place_over core.index) (inner_pairs core.inner) (inner_place core.inner) place
 
-  -- where it stands on a pair, that is one of the block that the index's line names
-  abbrev pub IsFromInner : Codings → (List ℕ → List ℕ → Ordering) → List ℕ → Option Pair → Option (BlockWalk C order) → Type 0
-  IsFromInner codings cmp bytes line None = Unit {0}
-  IsFromInner codings cmp bytes line (Some walk) = place_over walk ≢ None → IsNamed codings bytes line walk.block.contents × (order.cmp walk.block.cmp ≡ cmp)
-
-  abbrev pub IsFrom : Codings → (List ℕ → List ℕ → Ordering) → List ℕ → TableCore C order → Type 0
-  IsFrom codings cmp bytes core = IsFromInner codings cmp bytes (pair_at (pairs_over core.index) (place_over core.index)) core.inner
+  -- a walk's place
+  abbrev pub table_place : TableCore C order → TablePlace
+  table_place core = record { line = place_over core.index; pairs = inner_pairs core.inner; inner = inner_place core.inner }
 
   -- Then is so wherever the file has data blocks that are fit, what the cache holds under the number is the file's, and At says where the walk is.
   abbrev pub GivenParts : Codings → (List ℕ → List ℕ → Ordering) → ℕ → List ℕ → Cached (CachedBlock C order)
@@ -102,23 +97,23 @@ module _ {C : Type 0} {order : CmpGhosts C} where
   GivenParts codings cmp id bytes cache Fit At Then = (parts : List Part) (place : Option ℕ)
       → HasParts codings cmp bytes parts → Fit parts place → HoldsOf codings cmp id bytes cache → At parts place → Then parts place
 
-  -- A move of a walk over a table's file, with this number in a cache of blocks: where the file has data blocks that are fit, the walk
-  -- goes from its place among their pairs to this one, or is refused for want of memory or at a failure of the device. Whatever the file
-  -- is, an Ok move is such a step from block to block, and the walk then stands on a pair of a block that the index names, or on none;
-  -- after an Err on none.
+  -- A move of a walk over a table's file, with this number in a cache of blocks. Whatever the file is, the move is a step from block to block:
+  -- it leads to where the walk then stands, or it is refused, for want of memory, at a failure of the device, or since a block on its way is
+  -- shut, as the step says; after an Err the walk stands on no pair. Where the file has data blocks that are fit, none is shut, and the walk
+  -- goes from its place among all their pairs to this one.
   pub record Moves {E F T : Type 0} (env : EnvGhosts E F) (codings : Codings) (cmp : List ℕ → List ℕ → Ordering) (id : ℕ) (file : F)
       (Fit : List Part → Type 0) (to : List Pair → Option ℕ → Option ℕ)
-      (Step : Codings → (List ℕ → List ℕ → Ordering) → List ℕ → TableCore C order → TableCore C order → Type 0)
+      (Step : Codings → (List ℕ → List ℕ → Ordering) → List ℕ → TableCore C order → Outcome → Type 0)
       (old_env : E) (old_cache : Cached (CachedBlock C order)) (old : TableCore C order) (result : Result T Status)
       (new_env : E) (new_cache : Cached (CachedBlock C order)) (new : TableCore C order) : Type 0 where
-    pub reads : Reads env (IsLacking env codings (IsNamedIn (pairs_over old.index)) (λ bytes.
-        GivenParts codings cmp id bytes old_cache (λ parts place. Fit parts) (λ parts place. Stands cmp parts old place) (λ parts place. ⊥))
+    pub reads : Reads env (IsLacking env codings (λ bytes status.
+        GivenParts codings cmp id bytes old_cache (λ parts place. Fit parts) (λ parts place. Stands cmp parts old place) (λ parts place. ⊥)
+        × (HoldsOf codings cmp id bytes old_cache → Step codings cmp bytes old (Err status)))
         old_env file) old_env file new_env result
     pub ok : Whatever env old_env file (λ bytes.
         GivenParts codings cmp id bytes old_cache (λ parts place. Fit parts) (λ parts place. Stands cmp parts old place)
         (λ parts place. OnOk result (Stands cmp parts new (to (pairs_in parts) place))))
-    pub steps : Whatever env old_env file (λ bytes. HoldsOf codings cmp id bytes old_cache → OnOk result (Step codings cmp bytes old new))
-    pub from : Whatever env old_env file (λ bytes. HoldsOf codings cmp id bytes old_cache → IsFrom codings cmp bytes old → IsFrom codings cmp bytes new)
+    pub steps : Whatever env old_env file (λ bytes. HoldsOf codings cmp id bytes old_cache → OnOk result (Step codings cmp bytes old (Ok (table_place new))))
     pub err : OnErr result (inner_place new.inner ≡ None)
     pub gathers : Gathers id (λ offset held. Whatever env old_env file (λ bytes. IsOf codings cmp bytes offset held)) old_cache new_cache
     pub same_lines : pairs_over new.index ≡ pairs_over old.index

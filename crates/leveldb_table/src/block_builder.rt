@@ -4,7 +4,7 @@ ghost use Rattle.leveldb_base.specs.Status.{IsOutOfMemory};
 ghost use Rattle.leveldb_base.specs.Varint.{little, varint};
 ghost use Rattle.leveldb_base.specs.declared.error.StatusCode.TheVariants.{NotSupported};
 ghost use Rattle.leveldb_table.specs.Block.{IsBlock, IsSpelled, KeysRise, pairs_of, spelling};
-ghost use Rattle.leveldb_table.specs.Built.{AreSpaced, last_added, shared_front, entry_behind, IsTooLarge, Built, estimate, points_more};
+ghost use Rattle.leveldb_table.specs.Built.{AreSpaced, last_added, shared_front, entry_behind, block_made, IsMade, IsTooLarge, Built, estimate, points_more};
 ghost use Rattle.leveldb_table.specs.BuiltLaws.{Built-prop};
 
 use crate::block::BlockContents;
@@ -171,6 +171,7 @@ impl<C: Cmp> BlockBuilder<C> {
         C: Drop,
         ensures ok { IfOk result (λ contents. IsBlock (C.cmp self.cmp) contents (pairs_of None self.built.0)) }
         ensures spelled { IfOk result (λ contents. IsSpelled (C.cmp self.cmp) contents self.built.0) }
+        ensures exact { IfOk result (λ contents. contents ≡ block_made self.interval (pairs_of None self.built.0)) }
         ensures size { IfOk result (λ contents. length contents ≡ estimate self.built.0 true) }
         ensures spaced { AreSpaced self.interval 0 self.built.0 }
         ensures memory { IfErr result IsOutOfMemory }
@@ -182,7 +183,7 @@ impl<C: Cmp> BlockBuilder<C> {
     pub(crate) fn into_bytes(self) -> Result<Vec<u8>>
     where
         C: Drop,
-        ensures ok { IfOk result (λ block. IsBlock (C.cmp self.cmp) block.items (pairs_of None self.built.0)) }
+        ensures ok { IfOk result (λ block. IsMade (C.cmp self.cmp) self.interval (pairs_of None self.built.0) block.items) }
         ensures spelled { IfOk result (λ block. IsSpelled (C.cmp self.cmp) block.items self.built.0) }
         ensures size { IfOk result (λ block. length block.items ≡ estimate self.built.0 true) }
         ensures memory { IfErr result IsOutOfMemory }

@@ -1,10 +1,10 @@
 //! Blocks read from a table's file, each with its trailer.
 ghost use Rattle.std.specs.Prelude.{◌≡◌, ◌⊎◌, ◌≤◌, ◌<◌, ◌+◌, ◌^◌, ℕ, length, take, drop, List, None, IfOk, IfSome, IfNone, IsErrAnd};
 ghost use Rattle.leveldb_base.specs.declared.error.StatusCode.TheVariants.{InvalidArgument};
-ghost use Rattle.leveldb_env.specs.Coders.{Decodes, decoded_by};
+ghost use Rattle.leveldb_env.specs.Coders.{Decodes};
 ghost use Rattle.leveldb_env.specs.FilterBlock.{IsFilterBlock};
 ghost use Rattle.leveldb_table.specs.Table.{StoresAt, HasBlockAt, with_trailer};
-ghost use Rattle.leveldb_table.specs.TableReads.{EndsBefore, StoresNothing, HasNoBlock, HasNoFilters, Reads, Whatever, FailsFor, IsUndecoded, IsDamaged, IsLacking};
+ghost use Rattle.leveldb_table.specs.TableReads.{EndsBefore, StoresNothing, HasNoFilters, LacksBlock, Reads, Whatever, IsDamaged, IsLacking};
 
 use crate::block::Block;
 use crate::table_builder::{TABLE_BLOCK_COMPRESS_LEN, TRAILER};
@@ -33,9 +33,7 @@ pub fn read_table_block<E: Env, C: Cmp + Drop>(
     coders: &CompressorList,
     location: BlockHandle,
 ) -> Result<Block<C>>
-    ensures reads { Reads E.Env (IsLacking E.Env (⟦<CompressorList as Coders>⟧.codings coders.now) (λ handle. handle ≡ location) (λ bytes. HasNoBlock (⟦<CompressorList as Coders>⟧.codings coders.now) (C.cmp cmp) bytes location) env.old file.now) env.old file.now env.new result }
-    ensures undecoded { Whatever E.Env env.old file.now (λ bytes. (id : ℕ) (stored : List ℕ) → StoresAt bytes location id stored → decoded_by (⟦<CompressorList as Coders>⟧.codings coders.now) id stored ≡ None
-        → FailsFor E.Env (IsUndecoded (⟦<CompressorList as Coders>⟧.codings coders.now) id stored) env.old file.now env.new result) }
+    ensures reads { Reads E.Env (IsLacking E.Env (⟦<CompressorList as Coders>⟧.codings coders.now) (λ bytes. LacksBlock (⟦<CompressorList as Coders>⟧.codings coders.now) (C.cmp cmp) bytes location) env.old file.now) env.old file.now env.new result }
     ensures ok { IfOk result (λ block. Whatever E.Env env.old file.now (λ bytes. HasBlockAt (Decodes (⟦<CompressorList as Coders>⟧.codings coders.now)) bytes location block.contents)) }
     ensures order { IfOk result (λ block. block.cmp ≡ cmp) }
 {

@@ -173,7 +173,7 @@ impl<Dst: Sink, C: Cmp + Copy, FP: FilterPolicy + Copy> TableBuilder<Dst, C, FP>
         Dst: Drop,
         ensures ok { IfOk result (λ size. (after : Dst) × Finishes Dst.puts Dst.flushes (IsBegun (⟦<CompressorList as Coders>⟧.codings coders.now) C.accepts C.cmp C.shortest_sep FP.matches self.core)
             (IsBuilt (⟦<CompressorList as Coders>⟧.codings coders.now) (C.accepts (order_of self.core)) (C.cmp (order_of self.core)) (C.shortest_sep (order_of self.core)) (C.short_succ (order_of self.core))
-            (FP.matches (policy_of self.core)) (FP.filter_for (policy_of self.core)) self.core.compressor (FP.name (policy_of self.core)))
+            (FP.matches (policy_of self.core)) (FP.filter_for (policy_of self.core)) self.core.compressor (FP.name (policy_of self.core)) self.core.block.interval self.core.index.interval)
             self.dst size after) }
         ensures unbroken { OnOk result (self.core.broken ≡ false) }
         ensures cause { IfErr result (λ status. (after : Dst) × IsRefusedFinish (⟦<CompressorList as Coders>⟧.codings coders.now) self.core Dst.puts Dst.flushes self.dst status after) }

@@ -1,5 +1,5 @@
 //! Tables: files that are opened once, and then looked up and walked block by block.
-ghost use Rattle.std.specs.Prelude.{◌≡◌, ◌⊎◌, ◌+◌, ◌^◌, ◌<◌, List, ℕ, Bool, true, None, Some, length, map, IfOk, IfSome, IfErr, OnErr, IsErrAnd};
+ghost use Rattle.std.specs.Prelude.{◌≡◌, ◌⊎◌, ◌+◌, ◌^◌, ◌<◌, List, ℕ, Bool, true, None, Some, length, map, IfOk, IfSome, IfErr, Err, OnErr, IsErrAnd};
 ghost use Rattle.leveldb_base.specs.Bytewise.{bytewise};
 ghost use Rattle.leveldb_base.specs.Handle.{Handle, handle_bytes, HandleFits};
 ghost use Rattle.leveldb_base.specs.Places.{Pair};
@@ -10,7 +10,7 @@ ghost use Rattle.leveldb_table.specs.Block.{IsBlock, pairs_of};
 ghost use Rattle.leveldb_table.specs.Table.{Part, HasBlockAt, index_pair, filter_key, offset_for};
 ghost use Rattle.leveldb_table.specs.Cache.{looked_for};
 ghost use Rattle.leveldb_table.specs.TableCached.{HoldsOf, IsOf, Gathers, IsHeldAt, cache_key};
-ghost use Rattle.leveldb_table.specs.TableReads.{HasNoBlock, Reads, Has, Whatever, IsLacking, IsInFooter, IsNamedIn};
+ghost use Rattle.leveldb_table.specs.TableReads.{LacksBlock, NamesNone, Reads, Has, Whatever, IsLacking};
 
 use crate::block::Block;
 use crate::block_cache::{BlockCache, CachedBlock, cache_key};
@@ -61,10 +61,10 @@ impl<E: Env, C: UserCmp + Copy + Drop, FP: FilterPolicy + Copy + Drop> Table<
     InternalFilterPolicy<FP>,
 > {
     ghost use Rattle.leveldb_base.specs.Keys.{internal_cmp};
-    ghost use Rattle.leveldb_table.specs.TableReading.{Opens, OpensNot, lines_of, filters_of};
+    ghost use Rattle.leveldb_table.specs.TableReading.{Opens, OpensNot, LacksPart, lines_of, filters_of};
 
-    /// Opens the table of internal keys that a file of `size` bytes is, under the options' order of users' keys and their
-    /// filter policy. It gets a number of its own for its blocks in the cache.
+    /// Opens the table of internal keys that the first `size` bytes of a file are, all of it where it has so many, under the
+    /// options' order of users' keys and their filter policy. It gets a number of its own for its blocks in the cache.
     /// `Corruption` where the file is no table; the causes of `read_table_block`; `NotSupported` where the cache's numbers
     /// are used up.
     pub fn new(
@@ -76,9 +76,9 @@ impl<E: Env, C: UserCmp + Copy + Drop, FP: FilterPolicy + Copy + Drop> Table<
         size: usize,
     ) -> Result<Table<E, InternalKeyCmp<C>, InternalFilterPolicy<FP>>>
         ensures reads { Reads E.Env (λ status. ((status.code ≡ NotSupported) × (cache.old.given + 1 ≡ 2 ^ 64)) ⊎
-            IsLacking E.Env (⟦<CompressorList as Coders>⟧.codings options.now.compressor_list) (IsInFooter E.Env size env.old file) (λ bytes. length bytes ≡ size → OpensNot (⟦<CompressorList as Coders>⟧.codings options.now.compressor_list) (internal_cmp (C.cmp options.now.cmp)) (filter_key (FP.name options.now.filter_policy)) bytes) env.old file status) env.old file env.new result }
-        ensures ok { IfOk result (λ table. Whatever E.Env env.old file (λ bytes. length bytes ≡ size →
-            Opens (⟦<CompressorList as Coders>⟧.codings options.now.compressor_list) (internal_cmp (C.cmp options.now.cmp)) (filter_key (FP.name options.now.filter_policy)) bytes (lines_of table) table.footer.meta_index table.footer.index (filters_of table))) }
+            IsLacking E.Env (⟦<CompressorList as Coders>⟧.codings options.now.compressor_list) (λ bytes status. OpensNot (⟦<CompressorList as Coders>⟧.codings options.now.compressor_list) (internal_cmp (C.cmp options.now.cmp)) (filter_key (FP.name options.now.filter_policy)) bytes size × LacksPart (⟦<CompressorList as Coders>⟧.codings options.now.compressor_list) (internal_cmp (C.cmp options.now.cmp)) (filter_key (FP.name options.now.filter_policy)) bytes size status) env.old file status) env.old file env.new result }
+        ensures ok { IfOk result (λ table. Whatever E.Env env.old file (λ bytes.
+            Opens (⟦<CompressorList as Coders>⟧.codings options.now.compressor_list) (internal_cmp (C.cmp options.now.cmp)) (filter_key (FP.name options.now.filter_policy)) bytes size (lines_of table) table.footer.meta_index table.footer.index (filters_of table))) }
         ensures file { IfOk result (λ table. table.file ≡ file) }
         ensures order { IfOk result (λ table. (table.cmp ≡ record { 0 = options.now.cmp }) × (table.index.cmp ≡ record { 0 = options.now.cmp })) }
         ensures policy { IfOk result (λ table. IfSome table.filters (λ reader. reader.policy ≡ options.now.filter_policy)) }
@@ -99,9 +99,9 @@ impl<E: Env, C: UserCmp + Copy + Drop, FP: FilterPolicy + Copy + Drop> Table<
 }
 
 impl<E: Env, C: Cmp + Copy + Drop, FP: FilterPolicy + Drop> Table<E, C, FP> {
-    ghost use Rattle.leveldb_table.specs.TableReading.{Opens, OpensNot, lines_of, filters_of};
+    ghost use Rattle.leveldb_table.specs.TableReading.{Opens, OpensNot, LacksPart, lines_of, filters_of};
 
-    /// Opens the table that a file of `size` bytes is, under this order and this policy as they are.
+    /// Opens the table that the first `size` bytes of a file are, under this order and this policy as they are.
     pub fn open(
         alloc: Global,
         cmp: C,
@@ -113,9 +113,9 @@ impl<E: Env, C: Cmp + Copy + Drop, FP: FilterPolicy + Drop> Table<E, C, FP> {
         size: usize,
     ) -> Result<Table<E, C, FP>>
         ensures reads { Reads E.Env (λ status. ((status.code ≡ NotSupported) × (cache.old.given + 1 ≡ 2 ^ 64)) ⊎
-            IsLacking E.Env (⟦<CompressorList as Coders>⟧.codings coders.now) (IsInFooter E.Env size env.old file) (λ bytes. length bytes ≡ size → OpensNot (⟦<CompressorList as Coders>⟧.codings coders.now) (C.cmp cmp) (filter_key (FP.name policy)) bytes) env.old file status) env.old file env.new result }
-        ensures ok { IfOk result (λ table. Whatever E.Env env.old file (λ bytes. length bytes ≡ size →
-            Opens (⟦<CompressorList as Coders>⟧.codings coders.now) (C.cmp cmp) (filter_key (FP.name policy)) bytes (lines_of table) table.footer.meta_index table.footer.index (filters_of table))) }
+            IsLacking E.Env (⟦<CompressorList as Coders>⟧.codings coders.now) (λ bytes status. OpensNot (⟦<CompressorList as Coders>⟧.codings coders.now) (C.cmp cmp) (filter_key (FP.name policy)) bytes size × LacksPart (⟦<CompressorList as Coders>⟧.codings coders.now) (C.cmp cmp) (filter_key (FP.name policy)) bytes size status) env.old file status) env.old file env.new result }
+        ensures ok { IfOk result (λ table. Whatever E.Env env.old file (λ bytes.
+            Opens (⟦<CompressorList as Coders>⟧.codings coders.now) (C.cmp cmp) (filter_key (FP.name policy)) bytes size (lines_of table) table.footer.meta_index table.footer.index (filters_of table))) }
         ensures file { IfOk result (λ table. table.file ≡ file) }
         ensures order { IfOk result (λ table. (table.cmp ≡ cmp) × (table.index.cmp ≡ cmp)) }
         ensures policy { IfOk result (λ table. IfSome table.filters (λ reader. reader.policy ≡ policy)) }
@@ -140,15 +140,15 @@ impl<E: Env, C: Cmp + Copy + Drop, FP: FilterPolicy + Drop> Table<E, C, FP> {
 
 impl<E: Env, C: Cmp + Copy + Drop, FP: FilterPolicy> Table<E, C, FP> {
     ghost use Rattle.leveldb_table.specs.Table.{AreAccepted};
-    ghost use Rattle.leveldb_table.specs.TableReading.{HasParts, AllFit, found_in, lines_of, lets};
-    ghost use Rattle.leveldb_table.specs.TableMoves.{FindsIn};
-    ghost use Rattle.leveldb_table.specs.TableWalk.{IsGiven};
+    ghost use Rattle.leveldb_table.specs.TableReading.{HasParts, AllFit, IsOffsetBy, found_in, key_line, lines_of, lets};
+    ghost use Rattle.leveldb_table.specs.TableMoves.{LooksUpIn, Finds};
 
     /// The offset of the block that would hold the key, and past the last that of the metaindex.
-    /// `Corruption` where the index names no place for the key.
+    /// `Corruption` where the index's line for the key names no block.
     pub fn approx_offset_of(&self, alloc: Global, key: &[u8]) -> Result<usize>
         ensures ok { (parts : List Part) → lines_of self.now ≡ map index_pair parts → AllFit parts → IfOk result (λ offset. offset ≡ offset_for (C.cmp self.now.index.cmp) key.now parts self.now.footer.meta_index) }
-        ensures cause { IfErr result (λ status. IsOutOfMemory status ⊎ ((status.code ≡ Corruption) × ((parts : List Part) → lines_of self.now ≡ map index_pair parts → AllFit parts → ⊥))) }
+        ensures line { IfOk result (IsOffsetBy (key_line (C.cmp self.now.index.cmp) key.now (lines_of self.now)) self.now.footer.meta_index.offset) }
+        ensures cause { IfErr result (λ status. IsOutOfMemory status ⊎ ((status.code ≡ Corruption) × NamesNone (key_line (C.cmp self.now.index.cmp) key.now (lines_of self.now)))) }
     {
         let mut lines = self.index.iter(alloc);
         lines.seek(key)?;
@@ -168,18 +168,17 @@ impl<E: Env, C: Cmp + Copy + Drop, FP: FilterPolicy> Table<E, C, FP> {
         coders: &CompressorList,
         key: &[u8],
     ) -> Result<Option<(Bytes, Bytes)>>
-        ensures reads { Reads E.Env (IsLacking E.Env (⟦<CompressorList as Coders>⟧.codings coders.now) (IsNamedIn (lines_of self.now)) (λ bytes. (parts : List Part) → lines_of self.now ≡ map index_pair parts → C.cmp self.now.index.cmp ≡ C.cmp self.now.cmp
+        ensures reads { Reads E.Env (IsLacking E.Env (⟦<CompressorList as Coders>⟧.codings coders.now) (λ bytes status. ((parts : List Part) → lines_of self.now ≡ map index_pair parts → C.cmp self.now.index.cmp ≡ C.cmp self.now.cmp
             → HasParts (⟦<CompressorList as Coders>⟧.codings coders.now) (C.cmp self.now.cmp) bytes parts → AreAccepted (C.accepts self.now.cmp) parts → C.accepts self.now.cmp key.now ≡ true
-            → HoldsOf (⟦<CompressorList as Coders>⟧.codings coders.now) (C.cmp self.now.cmp) self.now.id bytes cache.old → ⊥) env.old self.now.file) env.old self.now.file env.new result }
+            → HoldsOf (⟦<CompressorList as Coders>⟧.codings coders.now) (C.cmp self.now.cmp) self.now.id bytes cache.old → ⊥)
+            × (HoldsOf (⟦<CompressorList as Coders>⟧.codings coders.now) (C.cmp self.now.cmp) self.now.id bytes cache.old → LooksUpIn (⟦<CompressorList as Coders>⟧.codings coders.now) FP.matches self.now key.now bytes (Err status))) env.old self.now.file) env.old self.now.file env.new result }
         ensures ok { Whatever E.Env env.old self.now.file (λ bytes. (parts : List Part) → lines_of self.now ≡ map index_pair parts → C.cmp self.now.index.cmp ≡ C.cmp self.now.cmp
             → HasParts (⟦<CompressorList as Coders>⟧.codings coders.now) (C.cmp self.now.cmp) bytes parts → AreAccepted (C.accepts self.now.cmp) parts → C.accepts self.now.cmp key.now ≡ true
             → HoldsOf (⟦<CompressorList as Coders>⟧.codings coders.now) (C.cmp self.now.cmp) self.now.id bytes cache.old
             → IfOk result (λ found. found ≡ found_in (C.cmp self.now.cmp) (lets FP.matches self.now) key.now parts)) }
         ensures finds { Whatever E.Env env.old self.now.file (λ bytes.
             HoldsOf (⟦<CompressorList as Coders>⟧.codings coders.now) (C.cmp self.now.cmp) self.now.id bytes cache.old
-            → IfOk result (FindsIn (⟦<CompressorList as Coders>⟧.codings coders.now) FP.matches self.now key.now bytes)) }
-        ensures given { Whatever E.Env env.old self.now.file (λ bytes. HoldsOf (⟦<CompressorList as Coders>⟧.codings coders.now) (C.cmp self.now.cmp) self.now.id bytes cache.old
-            → IfOk result (λ found. IfSome found (IsGiven (⟦<CompressorList as Coders>⟧.codings coders.now) (C.cmp self.now.cmp) bytes (lines_of self.now)))) }
+            → IfOk result (Finds (⟦<CompressorList as Coders>⟧.codings coders.now) FP.matches self.now key.now bytes)) }
         ensures gathers { Gathers self.now.id (λ offset held. Whatever E.Env env.old self.now.file (λ bytes. IsOf (⟦<CompressorList as Coders>⟧.codings coders.now) (C.cmp self.now.cmp) bytes offset held)) cache.old cache.new }
     {
         let mut core = TableCore::new(alloc, self)?;
@@ -208,7 +207,7 @@ impl<E: Env, C: Cmp + Copy + Drop, FP: FilterPolicy> Table<E, C, FP> {
         coders: &CompressorList,
         handle: BlockHandle,
     ) -> Result<Block<C>>
-        ensures reads { Reads E.Env (IsLacking E.Env (⟦<CompressorList as Coders>⟧.codings coders.now) (λ there. there ≡ handle) (λ bytes. HasNoBlock (⟦<CompressorList as Coders>⟧.codings coders.now) (C.cmp self.now.cmp) bytes handle) env.old self.now.file) env.old self.now.file env.new result }
+        ensures reads { Reads E.Env (IsLacking E.Env (⟦<CompressorList as Coders>⟧.codings coders.now) (λ bytes. LacksBlock (⟦<CompressorList as Coders>⟧.codings coders.now) (C.cmp self.now.cmp) bytes handle) env.old self.now.file) env.old self.now.file env.new result }
         ensures ok { IfOk result (λ block. Whatever E.Env env.old self.now.file (λ bytes. HoldsOf (⟦<CompressorList as Coders>⟧.codings coders.now) (C.cmp self.now.cmp) self.now.id bytes cache.old
             → HasBlockAt (Decodes (⟦<CompressorList as Coders>⟧.codings coders.now)) bytes handle block.contents × (C.cmp block.cmp ≡ C.cmp self.now.cmp))) }
         ensures gathers { Gathers self.now.id (λ offset held. Whatever E.Env env.old self.now.file (λ bytes. IsOf (⟦<CompressorList as Coders>⟧.codings coders.now) (C.cmp self.now.cmp) bytes offset held)) cache.old cache.new }

@@ -7,8 +7,8 @@ ghost use Rattle.leveldb_base.specs.Places.{Pair};
 ghost use Rattle.leveldb_base.specs.Status.{IsOutOfMemory};
 ghost use Rattle.leveldb_base.specs.declared.error.StatusCode.TheVariants.{NotSupported};
 ghost use Rattle.leveldb_env.specs.Coders.{Codings, Decodes, IsUnset};
-ghost use Rattle.leveldb_table.specs.Block.{IsBlock, KeysRise, pairs_of};
-ghost use Rattle.leveldb_table.specs.Built.{IsTooLarge, last_added};
+ghost use Rattle.leveldb_table.specs.Block.{KeysRise, pairs_of};
+ghost use Rattle.leveldb_table.specs.Built.{IsMade, IsTooLarge, last_added};
 ghost use Rattle.leveldb_table.specs.Footer.{footer_bytes};
 ghost use Rattle.leveldb_table.specs.Table.{filter_key};
 ghost use Rattle.leveldb_table.specs.TablePuts.{IsTooLong, IsNoMetaindex, PutsFooter, StopsAtFooter};
@@ -48,7 +48,7 @@ pub struct BuilderCore<C: Cmp, FP: FilterPolicy> {
     offset: usize,
     count: usize,
     broken: bool,
-    pub ghost sound: { broken ≡ false → IsSound (C.accepts block.cmp) (C.cmp block.cmp) (C.cmp index.cmp) (stage_of filter offset (pairs_of None index.built.0) (pairs_of None block.built.0) count) } by { λ u v. λ i h. IsSound-prop (C.accepts block.cmp) (C.cmp block.cmp) (C.cmp index.cmp) (stage_of filter offset (pairs_of None index.built.0) (pairs_of None block.built.0) count) (u h) (v h) i },
+    pub ghost sound: { broken ≡ false → IsSound (C.accepts block.cmp) (C.cmp block.cmp) (C.cmp index.cmp) (stage_of filter offset (pairs_of None index.built.0) (pairs_of None block.built.0) count block.interval index.interval) } by { λ u v. λ i h. IsSound-prop (C.accepts block.cmp) (C.cmp block.cmp) (C.cmp index.cmp) (stage_of filter offset (pairs_of None index.built.0) (pairs_of None block.built.0) count block.interval index.interval) (u h) (v h) i },
 }
 
 impl<C: Cmp + Copy, FP: FilterPolicy> BuilderCore<C, FP> {
@@ -172,7 +172,7 @@ impl<C: Cmp + Copy, FP: FilterPolicy> BuilderCore<C, FP> {
         FP: Drop,
         ensures ok { IfOk result (λ size. Finishes S.puts S.flushes (IsBegun (⟦<CompressorList as Coders>⟧.codings coders.now) C.accepts C.cmp C.shortest_sep FP.matches self)
             (IsBuilt (⟦<CompressorList as Coders>⟧.codings coders.now) (C.accepts (order_of self)) (C.cmp (order_of self)) (C.shortest_sep (order_of self)) (C.short_succ (order_of self))
-            (FP.matches (policy_of self)) (FP.filter_for (policy_of self)) self.compressor (FP.name (policy_of self)))
+            (FP.matches (policy_of self)) (FP.filter_for (policy_of self)) self.compressor (FP.name (policy_of self)) self.block.interval self.index.interval)
             sink.old size sink.new) }
         ensures unbroken { OnOk result (self.broken ≡ false) }
         ensures cause { IfErr result (λ status. IsRefusedFinish (⟦<CompressorList as Coders>⟧.codings coders.now) self S.puts S.flushes sink.old status sink.new) }
@@ -240,6 +240,7 @@ impl<C: Cmp + Copy, FP: FilterPolicy> BuilderCore<C, FP> {
         ensures order { OnOk result (C.cmp self.new.index.cmp ≡ C.cmp (order_of self.old)) }
         ensures policy { policy_of self.new ≡ policy_of self.old }
         ensures coder { self.new.compressor ≡ self.old.compressor }
+        ensures intervals { (self.new.block.interval ≡ self.old.block.interval) × (self.new.index.interval ≡ self.old.index.interval) }
         ensures rest { OnOk result (ClosesRest (⟦<CompressorList as Coders>⟧.codings coders.now) self.old S.puts (stage self.new) sink.old sink.new) }
         ensures cause { IfErr result (λ status. IsLeftOpen (⟦<CompressorList as Coders>⟧.codings coders.now) self.old S.puts sink.old status sink.new) }
         ensures unset { (stage self.old).open_pairs ≢ [] → ⟦<CompressorList as Coders>⟧.codings coders.now self.old.compressor ≡ None
@@ -366,7 +367,7 @@ fn add_handle<C: Cmp>(index: &mut BlockBuilder<C>, key: &[u8], handle: BlockHand
 fn metaindex(alloc: Global, interval: usize, name: &str, filters: BlockHandle) -> Result<Vec<u8>>
     requires some { 1 ≤ interval }
     requires fits { HandleFits filters }
-    ensures ok { IfOk result (λ block. IsBlock bytewise block.items ((filter_key name.now, handle_bytes filters) ∷ [])) }
+    ensures ok { IfOk result (λ block. IsMade bytewise interval ((filter_key name.now, handle_bytes filters) ∷ []) block.items) }
     ensures cause { IfErr result (IsNoMetaindex name.now filters) }
 {
     let mut builder = BlockBuilder::spaced(alloc, DefaultCmp, interval);

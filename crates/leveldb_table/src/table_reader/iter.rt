@@ -1,7 +1,9 @@
 //! A walk over a table, beside borrows of what it takes.
-ghost use Rattle.std.specs.Prelude.{◌≡◌, None, Some, IfOk, IfErr, is_some, true};
-ghost use Rattle.leveldb_base.specs.Places.{next_place, previous_place, seek_place, place_within, pair_of};
+ghost use Rattle.std.specs.Prelude.{◌≡◌, ℕ, List, Option, None, Some, IfOk, IfErr, is_some, true};
+ghost use Rattle.std.specs.declared.cmp.Ordering.{Ordering};
+ghost use Rattle.leveldb_base.specs.Places.{next_place, previous_place, seek_place, place_within, pair_of, pair_at};
 ghost use Rattle.leveldb_base.specs.Status.{IsOutOfMemory};
+ghost use Rattle.leveldb_table.specs.Table.{Part};
 
 use crate::block_cache::BlockCache;
 use crate::table_reader::{Table, TableCore};
@@ -36,6 +38,8 @@ impl<E: Env, C: Cmp + Copy + Drop, FP: FilterPolicy> Table<E, C, FP> {
         ensures lines { IfOk result (λ it. pairs_over it.core.index ≡ lines_of self.entry.now) }
         ensures order { IfOk result (λ it. it.core.index.block.cmp ≡ self.entry.now.index.cmp) }
         ensures place { IfOk result (λ it. it.core.inner ≡ None) }
+        ensures env_reference { IfOk result (λ it. it.env.ghost_name ≡ env.entry.ghost_name) }
+        ensures cache_reference { IfOk result (λ it. it.cache.ghost_name ≡ cache.entry.ghost_name) }
         ensures table { IfOk result (λ it. it.table.now ≡ self.entry.now) }
         ensures env { IfOk result (λ it. it.env.now ≡ env.entry.now) }
         ensures cache { IfOk result (λ it. it.cache.now ≡ cache.entry.now) }
@@ -52,8 +56,8 @@ impl<E: Env, C: Cmp + Copy + Drop, FP: FilterPolicy> Table<E, C, FP> {
 
 impl<'a, E: Env, C: Cmp + Copy + Drop, FP: FilterPolicy> TableIterator<'a, E, C, FP> {
     ghost use Rattle.leveldb_table.specs.TableMoves.{Forward, Backward, ToFirst, Sought};
-    ghost use Rattle.leveldb_table.specs.TableReading.{CanSeek};
-    ghost use Rattle.leveldb_table.specs.TableWalk.{Moves, current_of, inner_place};
+    ghost use Rattle.leveldb_table.specs.TableReading.{CanSeek, pairs_in};
+    ghost use Rattle.leveldb_table.specs.TableWalk.{Moves, Stands, current_of, inner_place};
 
     /// Goes to the next pair, from no place to the first, and from the last to no place.
     /// Answers whether it stands on a pair.
@@ -61,6 +65,8 @@ impl<'a, E: Env, C: Cmp + Copy + Drop, FP: FilterPolicy> TableIterator<'a, E, C,
         ensures moves { Moves E.Env (⟦<CompressorList as Coders>⟧.codings coders.now) (C.cmp self.old.table.now.cmp) self.old.table.now.id self.old.table.now.file
             (λ _. Unit {0}) next_place Forward
             self.old.env.now self.old.cache.now self.old.core result self.new.env.now self.new.cache.now self.new.core }
+        ensures env_reference { self.new.env.ghost_name ≡ self.old.env.ghost_name }
+        ensures cache_reference { self.new.cache.ghost_name ≡ self.old.cache.ghost_name }
         ensures table { self.new.table.now ≡ self.old.table.now }
         ensures answer { IfOk result (λ there. there ≡ is_some (inner_place self.new.core.inner)) }
     {
@@ -73,6 +79,8 @@ impl<'a, E: Env, C: Cmp + Copy + Drop, FP: FilterPolicy> TableIterator<'a, E, C,
         ensures moves { Moves E.Env (⟦<CompressorList as Coders>⟧.codings coders.now) (C.cmp self.old.table.now.cmp) self.old.table.now.id self.old.table.now.file
             (λ _. Unit {0}) (λ _. previous_place) Backward
             self.old.env.now self.old.cache.now self.old.core result self.new.env.now self.new.cache.now self.new.core }
+        ensures env_reference { self.new.env.ghost_name ≡ self.old.env.ghost_name }
+        ensures cache_reference { self.new.cache.ghost_name ≡ self.old.cache.ghost_name }
         ensures table { self.new.table.now ≡ self.old.table.now }
         ensures answer { IfOk result (λ there. there ≡ is_some (inner_place self.new.core.inner)) }
     {
@@ -84,6 +92,8 @@ impl<'a, E: Env, C: Cmp + Copy + Drop, FP: FilterPolicy> TableIterator<'a, E, C,
         ensures moves { Moves E.Env (⟦<CompressorList as Coders>⟧.codings coders.now) (C.cmp self.old.table.now.cmp) self.old.table.now.id self.old.table.now.file
             (CanSeek (C.accepts self.old.table.now.cmp) key.now) (λ pairs _. seek_place (C.cmp self.old.table.now.cmp) pairs key.now) (Sought key.now)
             self.old.env.now self.old.cache.now self.old.core result self.new.env.now self.new.cache.now self.new.core }
+        ensures env_reference { self.new.env.ghost_name ≡ self.old.env.ghost_name }
+        ensures cache_reference { self.new.cache.ghost_name ≡ self.old.cache.ghost_name }
         ensures table { self.new.table.now ≡ self.old.table.now }
     {
         self.core
@@ -95,6 +105,8 @@ impl<'a, E: Env, C: Cmp + Copy + Drop, FP: FilterPolicy> TableIterator<'a, E, C,
         ensures moves { Moves E.Env (⟦<CompressorList as Coders>⟧.codings coders.now) (C.cmp self.old.table.now.cmp) self.old.table.now.id self.old.table.now.file
             (λ _. Unit {0}) (λ pairs _. place_within pairs 0) ToFirst
             self.old.env.now self.old.cache.now self.old.core result self.new.env.now self.new.cache.now self.new.core }
+        ensures env_reference { self.new.env.ghost_name ≡ self.old.env.ghost_name }
+        ensures cache_reference { self.new.cache.ghost_name ≡ self.old.cache.ghost_name }
         ensures table { self.new.table.now ≡ self.old.table.now }
     {
         self.core
@@ -103,7 +115,8 @@ impl<'a, E: Env, C: Cmp + Copy + Drop, FP: FilterPolicy> TableIterator<'a, E, C,
 
     /// The key and the value of the pair on which it stands, lent until the walk moves.
     pub fn current(&self) -> Option<(&[u8], &[u8])>
-        ensures { pair_of result ≡ current_of self.now.core }
+        ensures pair { pair_of result ≡ current_of self.now.core }
+        ensures place { (cmp : List ℕ → List ℕ → Ordering) (parts : List Part) (place : Option ℕ) → Stands cmp parts self.now.core place → pair_of result ≡ pair_at (pairs_in parts) place }
     {
         self.core.current()
     }
@@ -112,6 +125,8 @@ impl<'a, E: Env, C: Cmp + Copy + Drop, FP: FilterPolicy> TableIterator<'a, E, C,
     pub fn reset(&mut self)
         ensures place { self.new.core.inner ≡ None }
         ensures index { self.new.core.index ≡ self.old.core.index }
+        ensures env_reference { self.new.env.ghost_name ≡ self.old.env.ghost_name }
+        ensures cache_reference { self.new.cache.ghost_name ≡ self.old.cache.ghost_name }
         ensures table { self.new.table.now ≡ self.old.table.now }
         ensures env { self.new.env.now ≡ self.old.env.now }
         ensures cache { self.new.cache.now ≡ self.old.cache.now }

@@ -1,5 +1,5 @@
 //! What holds of each table: how it is opened, which pairs it has, and what a filter's refusal tells.
-ghost use Rattle.std.specs.Prelude.{◌≡◌, ℕ, Bool, true, false, List, map, Option, Some, IfSome};
+ghost use Rattle.std.specs.Prelude.{◌≡◌, ℕ, Bool, true, false, List, length, map, Option, Some, IfSome};
 ghost use Rattle.std.specs.declared.cmp.Ordering.{Ordering};
 ghost use Rattle.leveldb_base.specs.Handle.{Handle};
 ghost use Rattle.leveldb_base.specs.Keys.{user_part};
@@ -19,11 +19,11 @@ use leveldb_base::cmp::{Cmp, InternalKeyCmp, UserCmp};
 /// must find, where it is known what the name means.
 pub fn opened_tables_are_theirs()
     ensures lines { (codings : Codings) (cmp : List ℕ → List ℕ → Ordering) (key bytes : List ℕ) (lines : List Pair) (meta index : Handle) (filters : Option (List (List ℕ))) (parts : List Part) (metas : List Pair) (other_meta other_index : Handle)
-        → Opens codings cmp key bytes lines meta index filters → IsTabled (Decodes codings) cmp bytes parts metas other_meta other_index → (lines ≡ map index_pair parts) × (meta ≡ other_meta) × (index ≡ other_index) × AllFit parts }
+        → Opens codings cmp key bytes (length bytes) lines meta index filters → IsTabled (Decodes codings) cmp bytes parts metas other_meta other_index → (lines ≡ map index_pair parts) × (meta ≡ other_meta) × (index ≡ other_index) × AllFit parts }
     ensures parts { (codings : Codings) (cmp : List ℕ → List ℕ → Ordering) (meaning : List ℕ → Option (List ℕ → List ℕ → Bool)) (user : List ℕ → List ℕ) (bytes : List ℕ) (pairs : List Pair)
         → (table : IsTable (Decodes codings) cmp meaning user bytes pairs) → HasParts codings cmp bytes table.parts × (pairs ≡ pairs_in table.parts) }
     ensures filters { (codings : Codings) (cmp : List ℕ → List ℕ → Ordering) (meaning : List ℕ → Option (List ℕ → List ℕ → Bool)) (matches : List ℕ → List ℕ → Bool) (user : List ℕ → List ℕ) (name bytes : List ℕ) (pairs lines : List Pair) (meta index : Handle) (filters : Option (List (List ℕ)))
-        → Opens codings cmp (filter_key name) bytes lines meta index filters → (table : IsTable (Decodes codings) cmp meaning user bytes pairs) → meaning name ≡ Some matches → IfSome filters (λ texts. AllPass matches user texts table.parts) }
+        → Opens codings cmp (filter_key name) bytes (length bytes) lines meta index filters → (table : IsTable (Decodes codings) cmp meaning user bytes pairs) → meaning name ≡ Some matches → IfSome filters (λ texts. AllPass matches user texts table.parts) }
 {}
 
 /// A table can be opened under each policy whose name's meaning is known, so it is refused for no damage.

@@ -1,11 +1,10 @@
 //! What is read when a table is opened.
-ghost use Rattle.std.specs.Prelude.{◌≡◌, ◌⊎◌, ◌++◌, ℕ, List, Option, length, IfOk, IfErr, IfSome};
-ghost use Rattle.leveldb_base.specs.Handle.{Handle, HandleFits};
+ghost use Rattle.std.specs.Prelude.{◌≡◌, ◌⊎◌, ℕ, List, Option, IfOk, IfErr, IfSome};
+ghost use Rattle.leveldb_base.specs.Handle.{Handle};
 ghost use Rattle.leveldb_base.specs.Status.{IsOutOfMemory};
 ghost use Rattle.leveldb_base.specs.declared.error.StatusCode.TheVariants.{Corruption};
-ghost use Rattle.leveldb_table.specs.Footer.{footer_bytes};
 ghost use Rattle.leveldb_table.specs.Table.{filter_key};
-ghost use Rattle.leveldb_table.specs.TableReading.{HasFiltersBy, SaysHandle, SaysNoHandle, value_under, filters_in};
+ghost use Rattle.leveldb_table.specs.TableReading.{EndsIn, HasFiltersBy, SaysHandle, SaysNoHandle, value_under, filters_in};
 ghost use Rattle.leveldb_table.specs.TableReads.{Reads, Whatever, IsDamaged};
 
 use super::whole_handle;
@@ -21,16 +20,15 @@ use leveldb_env::filter::FilterPolicy;
 use leveldb_env::filter_block::FilterBlockReader;
 use std::alloc::Global;
 
-/// The footer of a file of so many bytes.
+/// The footer in which so many bytes of a file end.
 pub fn read_footer<E: Env>(
     alloc: Global,
     env: &mut E,
     file: &E::File,
     size: usize,
 ) -> Result<Footer>
-    ensures reads { Reads E.Env (IsDamaged E.Env (λ bytes. length bytes ≡ size → (front : List ℕ) (meta index : Handle) → HandleFits meta → HandleFits index → bytes ≡ front ++ footer_bytes meta index → ⊥) env.old file.now) env.old file.now env.new result }
-    ensures ok { IfOk result (λ footer. Whatever E.Env env.old file.now (λ bytes. length bytes ≡ size → (front : List ℕ) × (bytes ≡ front ++ footer_bytes footer.meta_index footer.index))) }
-    ensures fits { IfOk result (λ footer. HandleFits footer.meta_index × HandleFits footer.index) }
+    ensures reads { Reads E.Env (IsDamaged E.Env (λ bytes. (meta index : Handle) → EndsIn bytes size meta index → ⊥) env.old file.now) env.old file.now env.new result }
+    ensures ok { IfOk result (λ footer. Whatever E.Env env.old file.now (λ bytes. EndsIn bytes size footer.meta_index footer.index)) }
 {
     let Some(place) = size.checked_sub(FULL_FOOTER_LENGTH) else {
         return err(

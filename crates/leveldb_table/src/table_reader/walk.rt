@@ -1,14 +1,15 @@
 //! A walk over a table that keeps no borrow of it.
-ghost use Rattle.std.specs.Prelude.{◌≡◌, ◌⊎◌, List, ℕ, None, Some, IfOk, IfErr, IfSome, OnOk, OnErr, IsErrAnd, is_some, true, map};
+ghost use Rattle.std.specs.Prelude.{◌≡◌, ◌⊎◌, List, ℕ, None, Some, IfOk, IfErr, IfSome, OnOk, OnErr, IsErrAnd, Option, is_some, true, map};
 ghost use Rattle.std.specs.Option.{IsSomeAnd};
+ghost use Rattle.std.specs.declared.cmp.Ordering.{Ordering};
 ghost use Rattle.leveldb_base.specs.Handle.{handle_bytes, HandleFits};
 ghost use Rattle.leveldb_base.specs.Places.{next_place, previous_place, seek_place, place_within, pair_of, pair_at};
 ghost use Rattle.leveldb_base.specs.Status.{IsOutOfMemory};
 ghost use Rattle.leveldb_base.specs.declared.error.StatusCode.TheVariants.{Corruption};
 ghost use Rattle.leveldb_table.specs.Table.{Part, HasBlockAt};
 ghost use Rattle.leveldb_table.specs.TableCached.{HoldsOf, IsOf, Gathers};
-ghost use Rattle.leveldb_table.specs.TableEnters.{LacksLine, IsBehind, IsBefore, SeeksTo, LetTo};
-ghost use Rattle.leveldb_table.specs.TableReads.{HasNoBlock, Reads, Whatever, IsLacking, IsNamedBy};
+ghost use Rattle.leveldb_table.specs.TableEnters.{IsBehind, IsBefore, SeeksTo, LetTo};
+ghost use Rattle.leveldb_table.specs.TableReads.{LacksBlock, LacksLine, Reads, Whatever, IsLacking, IsNamedBy};
 ghost use Rattle.leveldb_table.specs.Walk.{last_place};
 
 use crate::block::BlockWalk;
@@ -38,8 +39,8 @@ pub struct TableCore<C: Cmp> {
 impl<C: Cmp + Copy + Drop> TableCore<C> {
     ghost use Rattle.leveldb_table.specs.TableEnters.{IsBlockAt, IsBlockOf, line_of, Enters};
     ghost use Rattle.leveldb_table.specs.TableMoves.{Forward, Backward, ToFirst, ToNext, ToPrevious, Sought, LookedUp};
-    ghost use Rattle.leveldb_table.specs.TableReading.{CanSeek, lines_of, lets};
-    ghost use Rattle.leveldb_table.specs.TableWalk.{Moves, Stands, IsFrom, inner_block, inner_place, inner_pairs, current_of, pairs_over, place_over};
+    ghost use Rattle.leveldb_table.specs.TableReading.{CanSeek, pairs_in, lines_of, lets};
+    ghost use Rattle.leveldb_table.specs.TableWalk.{Moves, Stands, inner_block, inner_place, inner_pairs, current_of, pairs_over, place_over};
 
     /// At no place.
     pub fn new<E: Env, FP: FilterPolicy>(
@@ -141,7 +142,8 @@ impl<C: Cmp + Copy + Drop> TableCore<C> {
 
     /// The key and the value of the pair on which it stands.
     pub fn current(&self) -> Option<(&[u8], &[u8])>
-        ensures { pair_of result ≡ current_of self.now }
+        ensures pair { pair_of result ≡ current_of self.now }
+        ensures place { (cmp : List ℕ → List ℕ → Ordering) (parts : List Part) (place : Option ℕ) → Stands cmp parts self.now place → pair_of result ≡ pair_at (pairs_in parts) place }
     {
         self.inner.as_ref()?.current()
     }
@@ -285,7 +287,7 @@ impl<C: Cmp + Copy + Drop> TableCore<C> {
         coders: &CompressorList,
     ) -> Result<()>
         requires { is_some (line_of self.old) ≡ true }
-        ensures reads { Reads E.Env (IsLacking E.Env (⟦<CompressorList as Coders>⟧.codings coders.now) (IsNamedBy (line_of self.old)) (λ bytes. LacksLine (⟦<CompressorList as Coders>⟧.codings coders.now) (C.cmp table.now.cmp) bytes (line_of self.old)) env.old table.now.file) env.old table.now.file env.new result }
+        ensures reads { Reads E.Env (IsLacking E.Env (⟦<CompressorList as Coders>⟧.codings coders.now) (λ bytes. LacksLine (⟦<CompressorList as Coders>⟧.codings coders.now) (C.cmp table.now.cmp) bytes (line_of self.old)) env.old table.now.file) env.old table.now.file env.new result }
         ensures block { OnOk result (Whatever E.Env env.old table.now.file (λ bytes. HoldsOf (⟦<CompressorList as Coders>⟧.codings coders.now) (C.cmp table.now.cmp) table.now.id bytes cache.old → IsBlockOf (⟦<CompressorList as Coders>⟧.codings coders.now) (C.cmp table.now.cmp) bytes (line_of self.old) (inner_block self.new.inner))) }
         ensures place { OnOk result (inner_place self.new.inner ≡ None) }
         ensures err { OnErr result (self.new.inner ≡ self.old.inner) }
@@ -308,7 +310,7 @@ impl<C: Cmp + Copy + Drop> TableCore<C> {
         coders: &CompressorList,
         handle: BlockHandle,
     ) -> Result<()>
-        ensures reads { Reads E.Env (IsLacking E.Env (⟦<CompressorList as Coders>⟧.codings coders.now) (λ there. there ≡ handle) (λ bytes. HasNoBlock (⟦<CompressorList as Coders>⟧.codings coders.now) (C.cmp table.now.cmp) bytes handle) env.old table.now.file) env.old table.now.file env.new result }
+        ensures reads { Reads E.Env (IsLacking E.Env (⟦<CompressorList as Coders>⟧.codings coders.now) (λ bytes. LacksBlock (⟦<CompressorList as Coders>⟧.codings coders.now) (C.cmp table.now.cmp) bytes handle) env.old table.now.file) env.old table.now.file env.new result }
         ensures block { OnOk result (Whatever E.Env env.old table.now.file (λ bytes. HoldsOf (⟦<CompressorList as Coders>⟧.codings coders.now) (C.cmp table.now.cmp) table.now.id bytes cache.old → IsBlockAt (⟦<CompressorList as Coders>⟧.codings coders.now) (C.cmp table.now.cmp) bytes handle (inner_block self.new.inner))) }
         ensures place { OnOk result (inner_place self.new.inner ≡ None) }
         ensures err { OnErr result (self.new.inner ≡ self.old.inner) }

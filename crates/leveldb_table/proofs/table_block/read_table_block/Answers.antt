@@ -1,9 +1,8 @@
-use Rattle.std.proofs.Common.{sym, ap, ◌∙◌, Some, inl, inr, ⊎_elim}
+use Rattle.std.proofs.Common.{sym, ap, ◌∙◌, Some, inr}
 use Rattle.std.proofs.lemmas.Result.{IfErr-weaker}
 use Rattle.leveldb_env.specs.contracts.compressor.CompressorListCoders.TheImpl
-use Rattle.leveldb_table.specs.TableReads.{IsUndecoded}
-use Rattle.leveldb_table.proofs.TableBlocks.{lacks_stored, lacks_coder, lacks_text, lacks_block, undecoded_coder, undecoded_text, undecoded_not}
-use Rattle.leveldb_table.proofs.TableCalls.{damaged_or_memory, reads_ends, reads_passed, reads_weaker, reads_refused, fails_weaker, fails_refused}
+use Rattle.leveldb_table.proofs.TableBlocks.{lacks_stored, lacks_coder, lacks_text, lacks_block}
+use Rattle.leveldb_table.proofs.TableCalls.{damaged_or_memory, reads_ends, reads_passed, reads_weaker, reads_refused}
 use Rattle.leveldb_table.proofs.table_block.read_table_block.Goals as goal
 
 pub returns-in_err-id-clause-reads : goal.returns-in_err-id-clause-reads
@@ -36,29 +35,3 @@ returns-clause-reads g c =
     let missing = damaged_or_memory result c.new.ensures.damage c.new.ensures.cause in
     reads_ends g.E.Env result before.looks before.cause.ok (IfErr-weaker result _ _
     (lacks_block g.E.Env codings (g.C.Cmp.cmp c.args.cmp) c.args.env.now c.args.file.now c.args.location c.in_ok-id.ensures.ok c.in_ok-get.ensures.ok (c.in_ok-block.ensures.ok ∙ ap Some (sym shared))) missing)
-
-pub returns-in_err-id-clause-undecoded : goal.returns-in_err-id-clause-undecoded
-returns-in_err-id-clause-undecoded g c = λ bytes has id stored there none.
-    let codings = (TheImpl.ghosts g.dyn-1).codings c.args.coders.now in
-    fails_refused g.E.Env {Why = IsUndecoded codings id stored} c.from_residual.result c.from_residual.ensures.1
-    (fails_weaker g.E.Env _ (λ status damaged. absurd (damaged.1 bytes has id stored there)) c.in_err-id.ensures.reads.cause)
-
-pub returns-in_err-get-clause-undecoded : goal.returns-in_err-get-clause-undecoded
-returns-in_err-get-clause-undecoded g c = λ bytes has id stored there none.
-    let codings = (TheImpl.ghosts g.dyn-1).codings c.args.coders.now in
-    let before = c.in_ok-id.ensures.reads in
-    let unset = c.in_err-get.ensures.unset in
-    (reads_passed g.E.Env {Why = IsUndecoded codings id stored} c.from_residual-in_err-get.result before.looks before.cause.ok c.from_residual-in_err-get.ensures.1
-    (inr (undecoded_coder codings there (c.in_ok-id.ensures.ok bytes has) _ unset.0 unset.1))).cause
-
-pub returns-in_err-block-clause-undecoded : goal.returns-in_err-block-clause-undecoded
-returns-in_err-block-clause-undecoded g c = λ bytes has id stored there none.
-    let codings = (TheImpl.ghosts g.dyn-1).codings c.args.coders.now in
-    let before = c.in_ok-id.ensures.reads in
-    (reads_passed g.E.Env {Why = IsUndecoded codings id stored} c.from_residual-in_err-block.result before.looks before.cause.ok c.from_residual-in_err-block.ensures.1
-    (⊎_elim (λ memory. inl memory) (λ why. inr (undecoded_text codings there (c.in_ok-id.ensures.ok bytes has) c.in_ok-get.ensures.ok _ why)) c.in_err-block.ensures.cause)).cause
-
-pub returns-clause-undecoded : goal.returns-clause-undecoded
-returns-clause-undecoded g c = λ bytes has id stored there none.
-    let codings = (TheImpl.ghosts g.dyn-1).codings c.args.coders.now in
-    absurd (undecoded_not codings there (c.in_ok-id.ensures.ok bytes has) c.in_ok-get.ensures.ok none c.in_ok-block.ensures.ok)

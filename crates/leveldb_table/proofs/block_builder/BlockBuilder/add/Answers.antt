@@ -61,9 +61,10 @@ invariant_of-self-2 g c =
     let size : c.len-2.result ≡ length c.args.self.now.buffer.items = omega (arith, c.len-2.ensures, c.reserve.ensures.len, c.args.self.now.buffer.ok.0) in
     let written = rw take_rest at c.put_entry.ensures in
     let after = written ∙ ap (λ z. z ++ spelling shared (drop shared key) value) c.reserve.ensures.items in
+    let longest = λ (no : restart ≡ false). c.shared_with-shared.ensures.longest no ∙ ap (λ z. shared_front z key) c.as_slice.ensures.value in
     let more =
     built_more built restart key value shared refl within same c.shared_with-shared.ensures.none fit.1 fit.2 c.shared_with-shared.ensures.within_key offset_fits c.requires
-    c.put_point.new.points.items (λ h. c.put_point.ensures.first h ∙ c.reserve-3.ensures.items)
+    longest c.put_point.new.points.items (λ h. c.put_point.ensures.first h ∙ c.reserve-3.ensures.items)
     (λ h. c.put_point.ensures.others h ∙ ap (λ z. z ++ points_more restart c.len-2.result) c.reserve-3.ensures.items ∙ ap (λ z. c.args.self.now.points.items ++ points_more restart z) size)
     c.put_entry.new.buffer.items after in
     let last = (rw c.unwrap.ensures at c.extend_from_slice.ensures.items) ∙ ap (λ z. z ++ key) c.clear.ensures.items in
@@ -90,9 +91,10 @@ returns-clause-ok g c =
     let size : c.len-2.result ≡ length c.args.self.now.buffer.items = omega (arith, c.len-2.ensures, c.reserve.ensures.len, c.args.self.now.buffer.ok.0) in
     let written = rw take_rest at c.put_entry.ensures in
     let after = written ∙ ap (λ z. z ++ spelling shared (drop shared key) value) c.reserve.ensures.items in
+    let longest = λ (no : restart ≡ false). c.shared_with-shared.ensures.longest no ∙ ap (λ z. shared_front z key) c.as_slice.ensures.value in
     let more =
     built_more built restart key value shared refl within same c.shared_with-shared.ensures.none fit.1 fit.2 c.shared_with-shared.ensures.within_key offset_fits c.requires
-    c.put_point.new.points.items (λ h. c.put_point.ensures.first h ∙ c.reserve-3.ensures.items)
+    longest c.put_point.new.points.items (λ h. c.put_point.ensures.first h ∙ c.reserve-3.ensures.items)
     (λ h. c.put_point.ensures.others h ∙ ap (λ z. z ++ points_more restart c.len-2.result) c.reserve-3.ensures.items ∙ ap (λ z. c.args.self.now.points.items ++ points_more restart z) size)
     c.put_entry.new.buffer.items after in
     let spelled = more.spelled in
@@ -115,13 +117,13 @@ returns-clause-entry g c =
     let size : c.len-2.result ≡ length c.args.self.now.buffer.items = omega (arith, c.len-2.ensures, c.reserve.ensures.len, c.args.self.now.buffer.ok.0) in
     let written = rw take_rest at c.put_entry.ensures in
     let after = written ∙ ap (λ z. z ++ spelling shared (drop shared key) value) c.reserve.ensures.items in
+    let longest = λ (no : restart ≡ false). c.shared_with-shared.ensures.longest no ∙ ap (λ z. shared_front z key) c.as_slice.ensures.value in
     let more =
     built_more built restart key value shared refl within same c.shared_with-shared.ensures.none fit.1 fit.2 c.shared_with-shared.ensures.within_key offset_fits c.requires
-    c.put_point.new.points.items (λ h. c.put_point.ensures.first h ∙ c.reserve-3.ensures.items)
+    longest c.put_point.new.points.items (λ h. c.put_point.ensures.first h ∙ c.reserve-3.ensures.items)
     (λ h. c.put_point.ensures.others h ∙ ap (λ z. z ++ points_more restart c.len-2.result) c.reserve-3.ensures.items ∙ ap (λ z. c.args.self.now.points.items ++ points_more restart z) size)
     c.put_entry.new.buffer.items after in
     let spelled = more.spelled in
     let pointed = more.pointed in
-    let longest = λ (no : restart ≡ false). c.shared_with-shared.ensures.longest no ∙ ap (λ z. shared_front z key) c.as_slice.ensures.value in
     let put = ap (λ z. c.args.self.now.built.0 ++ z ∷ []) (entry_is c.args.self.now.count built key value shared c.shared_with-shared.ensures.none longest) in
     search (entries_are, rules)

@@ -1,14 +1,13 @@
-use Rattle.std.proofs.Common.{◌≡◌, None, refl, sym, ◌∙◌, ap}
+use Rattle.std.proofs.Common.{Ok, Err, refl, sym, ◌∙◌, ap}
 use Rattle.leveldb_env.specs.contracts.compressor.CompressorListCoders.TheImpl
 use Rattle.leveldb_table.specs.TableEnters.{let_place}
 use Rattle.leveldb_table.specs.TableReading.{lets}
-use Rattle.leveldb_table.specs.TableWalk.{inner_place, inner_pairs}
+use Rattle.leveldb_table.specs.TableWalk.{inner_place, inner_pairs, table_place}
 use Rattle.leveldb_base.specs.Places.{pair_at}
 use Rattle.leveldb_table.proofs.TableCalls.{reads_weaker, reads_refused}
-use Rattle.leveldb_table.proofs.TableForeign.{refused_at, named_along}
-use Rattle.leveldb_table.proofs.TableLookups.{ok_says, found_by, given_from}
+use Rattle.leveldb_table.proofs.TableLookups.{ok_says, found_by}
 use Rattle.leveldb_table.proofs.TableMoves.{none_there}
-use Rattle.leveldb_table.proofs.TablePaces.{finds_by}
+use Rattle.leveldb_table.proofs.TablePaces.{looked_along}
 use Rattle.leveldb_table.proofs.table_reader.Table.get.Goals as goal
 
 pub returns-in_err-seek_let-clause-reads : goal.returns-in_err-seek_let-clause-reads
@@ -16,10 +15,13 @@ returns-in_err-seek_let-clause-reads g c =
     let made = c.in_ok-core.ensures in
     let passes = lets g.FP.FilterPolicy.matches c.args.self.now in
     reads_refused g.E.Env c.from_residual-in_err-seek_let.result c.from_residual-in_err-seek_let.ensures.1
-    (reads_weaker g.E.Env _ (λ status lacking. (
-      refused_at g.E.Env (named_along made.lines) lacking.0,
-      λ bytes has parts lines ordered right accepted fit holds. lacking.1 bytes has parts (let_place (g.C.Cmp.cmp c.args.self.now.cmp) passes c.args.key.now parts) right (accepted, fit, refl) holds
-          (record { lines = made.lines ∙ lines; ordered = ap g.C.Cmp.cmp made.order ∙ ordered }),
+    (reads_weaker g.E.Env _ (λ status lacks. (
+      lacks.0,
+      λ bytes has. (
+        λ parts lines ordered right accepted fit holds. (lacks.1 bytes has).0 parts (let_place (g.C.Cmp.cmp c.args.self.now.cmp) passes c.args.key.now parts) right (accepted, fit, refl) holds
+            (record { lines = made.lines ∙ lines; ordered = ap g.C.Cmp.cmp made.order ∙ ordered }),
+        λ holds. looked_along ((TheImpl.ghosts g.dyn-1).codings c.args.coders.now) (g.C.Cmp.cmp c.args.self.now.cmp) bytes (lets g.FP.FilterPolicy.matches c.args.self.now) c.args.key.now c.in_ok-core.core (Err status) made.lines (ap g.C.Cmp.cmp made.order) ((lacks.1 bytes has).1 holds),
+      ),
     )) c.in_err-seek_let.ensures.enters.reads)
 
 pub returns-then-branch-clause-ok : goal.returns-then-branch-clause-ok
@@ -31,27 +33,26 @@ returns-then-branch-clause-ok g c =
     (c.in_ok-seek_let.ensures.enters.ok bytes has parts (let_place (g.C.Cmp.cmp c.args.self.now.cmp) passes c.args.key.now parts) right (accepted, fit, refl) holds
     (record { lines = made.lines ∙ lines; ordered = ap g.C.Cmp.cmp made.order ∙ ordered }))) c.into_pair.ensures.ok
 
-pub returns-then-branch-clause-given : goal.returns-then-branch-clause-given
-returns-then-branch-clause-given g c =
-    let sought = c.in_ok-seek_let.ensures.enters in
-    λ bytes has holds. ok_says c.into_pair.result
-    (λ found is. given_from ((TheImpl.ghosts g.dyn-1).codings c.args.coders.now) (g.C.Cmp.cmp c.args.self.now.cmp) bytes c.seek_let.new.self found (sought.same_lines ∙ c.in_ok-core.ensures.lines) is (sought.from bytes has holds))
-    c.into_pair.ensures.ok
-
 pub returns-then-branch-clause-finds : goal.returns-then-branch-clause-finds
 returns-then-branch-clause-finds g c =
     let made = c.in_ok-core.ensures in
-    λ bytes has holds. ok_says c.into_pair.result
-    (λ found is. finds_by ((TheImpl.ghosts g.dyn-1).codings c.args.coders.now) (g.C.Cmp.cmp c.args.self.now.cmp) bytes c.in_ok-core.core c.seek_let.new.self found made.lines (ap g.C.Cmp.cmp made.order)
-    (c.in_ok-seek_let.ensures.enters.steps bytes has holds) is) c.into_pair.ensures.ok
+    let new = table_place c.seek_let.new.self in
+    λ bytes has holds. ok_says c.into_pair.result (λ found is. record {
+      place = new;
+      looks = looked_along ((TheImpl.ghosts g.dyn-1).codings c.args.coders.now) (g.C.Cmp.cmp c.args.self.now.cmp) bytes (lets g.FP.FilterPolicy.matches c.args.self.now) c.args.key.now c.in_ok-core.core (Ok new) made.lines (ap g.C.Cmp.cmp made.order) (c.in_ok-seek_let.ensures.enters.steps bytes has holds);
+      is = is;
+    }) c.into_pair.ensures.ok
 
 pub returns-clause-finds : goal.returns-clause-finds
 returns-clause-finds g c =
     let made = c.in_ok-core.ensures in
-    let new = c.seek_let.new.self in
-    let none = none_there (inner_place new.inner) (sym c.in_ok-seek_let.ensures.answer ∙ c.if-branch.false) in
-    λ bytes has holds. finds_by ((TheImpl.ghosts g.dyn-1).codings c.args.coders.now) (g.C.Cmp.cmp c.args.self.now.cmp) bytes c.in_ok-core.core new None made.lines (ap g.C.Cmp.cmp made.order)
-    (c.in_ok-seek_let.ensures.enters.steps bytes has holds) (sym (ap (pair_at (inner_pairs new.inner)) none))
+    let new = table_place c.seek_let.new.self in
+    let none = none_there new.inner (sym c.in_ok-seek_let.ensures.answer ∙ c.if-branch.false) in
+    λ bytes has holds. record {
+      place = new;
+      looks = looked_along ((TheImpl.ghosts g.dyn-1).codings c.args.coders.now) (g.C.Cmp.cmp c.args.self.now.cmp) bytes (lets g.FP.FilterPolicy.matches c.args.self.now) c.args.key.now c.in_ok-core.core (Ok new) made.lines (ap g.C.Cmp.cmp made.order) (c.in_ok-seek_let.ensures.enters.steps bytes has holds);
+      is = sym (ap (pair_at new.pairs) none);
+    }
 
 pub returns-clause-ok : goal.returns-clause-ok
 returns-clause-ok g c =

@@ -32,7 +32,7 @@ pub invariant_of-self-2 : goal.invariant_of-self-2
 invariant_of-self-2 g c =
     let ready = c.in_ok-make_room.ensures.ready in
     record {
-      sound = λ _. rw (c.in_ok-add.ensures.order, c.in_ok-add.ensures.ok, c.in_ok-add_key.ensures.ok, c.in_ok-self.ensures.ok)
+      sound = λ _. rw (c.in_ok-add.ensures.order, c.in_ok-add.ensures.interval, c.in_ok-add.ensures.ok, c.in_ok-add_key.ensures.ok, c.in_ok-self.ensures.ok)
           (sound_added (stage c.make_room.new.self) c.args.key.now c.args.value.now ready.0 ready.1);
     }
 
@@ -46,7 +46,7 @@ returns-clause-ok g c =
       put = made.put;
       begun = λ written pairs begun.
           let laid = made.laid written pairs begun in
-          rw (c.in_ok-add.ensures.order, c.in_ok-make_room.ensures.choices.same_order, c.in_ok-add.ensures.ok, c.in_ok-add_key.ensures.ok, c.in_ok-self.ensures.ok, c.make_room.ensures.choices.same_coder)
+          rw (c.in_ok-add.ensures.order, c.in_ok-add.ensures.interval, c.in_ok-make_room.ensures.choices.same_order, c.in_ok-add.ensures.ok, c.in_ok-add_key.ensures.ok, c.in_ok-self.ensures.ok, c.make_room.ensures.choices.same_coder)
           (laid_added _ (g.C.Cmp.accepts old.block.cmp) (g.C.Cmp.cmp old.block.cmp) (g.C.Cmp.shortest_sep old.block.cmp) g.FP.FilterPolicy.filter_for g.FP.FilterPolicy.matches keeps
           (stage c.make_room.new.self) c.args.key.now c.args.value.now (written ++ made.bytes) pairs (c.requires.accepted c.in_ok-check_unbroken.ensures.ok) laid.1 c.in_ok-make_room.ensures.ready.0.filtered
           (rw (sym c.in_ok-make_room.ensures.choices.same_policy) at laid.0));
@@ -121,7 +121,7 @@ returns-clause-closed g c = λ full.
             mid = stage c.make_room.new.self;
             put = put;
             closes = closes;
-            added = rw (c.in_ok-add.ensures.ok, c.in_ok-add_key.ensures.ok, c.in_ok-self.ensures.ok) refl;
+            added = rw (c.in_ok-add.ensures.interval, c.in_ok-add.ensures.ok, c.in_ok-add_key.ensures.ok, c.in_ok-self.ensures.ok) refl;
           }
     ]
 
@@ -129,7 +129,7 @@ pub returns-clause-room : goal.returns-clause-room
 returns-clause-room g c = λ room.
     elim c.in_ok-make_room.ensures.has_room [
       | inl left ↦ (
-        rw (c.in_ok-add.ensures.ok, c.in_ok-add_key.ensures.ok, c.in_ok-self.ensures.ok) (ap (with_pair (c.args.key.now, c.args.value.now)) left.1),
+        rw (c.in_ok-add.ensures.interval, c.in_ok-add.ensures.ok, c.in_ok-add_key.ensures.ok, c.in_ok-self.ensures.ok) (ap (with_pair (c.args.key.now, c.args.value.now)) left.1),
         left.3,
       )
       | inr closed ↦ absurd (room closed.0)

@@ -40,7 +40,7 @@ returns-in_err-add_handle-clause-cause g c =
     inr (
     inr (
       c.in_ok-placed.placed.handle,
-      (placed.0, record { text = c.in_ok-block.block.items; block = rw (sym c.replace.ensures.value) c.in_ok-block.ensures.ok; coded = placed.1 }, c.in_ok-placed.placed.end, placed.2),
+      (placed.0, record { text = c.in_ok-block.block.items; made = rw (sym c.replace.ensures.value) c.in_ok-block.ensures.ok; coded = placed.1 }, c.in_ok-placed.placed.end, placed.2),
       elim why [ inl code ↦ inl (code, large code) | inr memory ↦ inr (inl memory) ],
     )
     )
@@ -53,7 +53,7 @@ returns-clause-cause g c =
     inr (
     inr (
       c.in_ok-placed.placed.handle,
-      (placed.0, record { text = c.in_ok-block.block.items; block = rw (sym c.replace.ensures.value) c.in_ok-block.ensures.ok; coded = placed.1 }, c.in_ok-placed.placed.end, placed.2),
+      (placed.0, record { text = c.in_ok-block.block.items; made = rw (sym c.replace.ensures.value) c.in_ok-block.ensures.ok; coded = placed.1 }, c.in_ok-placed.placed.end, placed.2),
       inr why,
     )
     )) c.start_block.ensures.cause
@@ -74,7 +74,7 @@ returns-clause-ok g c =
         text = c.in_ok-block.block.items;
         stored = placed.0;
         handle = c.in_ok-placed.placed.handle;
-        block = rw (sym old) c.in_ok-block.ensures.ok;
+        made = rw (sym old) c.in_ok-block.ensures.ok;
         coded = placed.1;
         begins = placed.2.begins;
         size = placed.2.size;
@@ -85,6 +85,7 @@ returns-clause-ok g c =
         none_open = rw (c.replace.ensures.after, c.fresh-fresh.ensures.none) refl;
         started = made;
         count = refl;
+        same_intervals = (rw (c.replace.ensures.after, c.fresh-fresh.ensures.interval) refl, c.in_ok-add_handle.ensures.interval);
       },
     )) c.start_block.ensures.ok
 

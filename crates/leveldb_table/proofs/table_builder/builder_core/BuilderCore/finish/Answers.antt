@@ -53,6 +53,6 @@ returns-clause-ok g c =
       made = λ written pairs begun.
           let laid = last.laid written pairs begun in
           rw (sym (append_assoc written last.bytes end.bytes)) (table_made _ (g.met.C.Cmp.preorder self.block.cmp) (g.C.Cmp.shortest_sep self.block.cmp) (g.met.C.Cmp.separates self.block.cmp)
-          g.FP.FilterPolicy.filter_for g.FP.FilterPolicy.matches keeps g.FP.FilterPolicy.name self.filter.policy (g.C.Cmp.cmp mid.index.cmp) (g.C.Cmp.short_succ self.block.cmp) self.compressor (stage mid) last.next (written ++ last.bytes) end.bytes pairs size
-          c.in_ok-close_last.ensures.order c.close_last.ensures.policy laid.0 laid.1 (rw c.close_last.ensures.coder at end.ended));
+          g.FP.FilterPolicy.filter_for g.FP.FilterPolicy.matches keeps g.FP.FilterPolicy.name self.filter.policy (g.C.Cmp.cmp mid.index.cmp) (g.C.Cmp.short_succ self.block.cmp) self.compressor (stage mid) last.next (written ++ last.bytes) end.bytes pairs size self.block.interval self.index.interval
+          c.in_ok-close_last.ensures.order c.close_last.ensures.policy c.close_last.ensures.intervals laid.0 laid.1 (rw c.close_last.ensures.coder at end.ended));
     }) c.put_end.ensures.ok

@@ -30,7 +30,7 @@ returns-in_err-meta-2-clause-cause g c =
     inr (
       c.in_ok-finish.field-0.items,
       c.in_ok-finish.ensures.ok,
-      inr (placed.handle, placed.end, _, c.in_ok-filters.ensures.ok, inr (c.in_ok-meta.meta.items, rw (sym c.filter_name-name.ensures) c.in_ok-meta.ensures.ok, inl c.in_err-meta-2.ensures.cause)),
+      inr (placed.handle, placed.end, _, c.in_ok-filters.ensures.ok, inr (c.in_ok-meta.meta.items, rw (sym c.filter_name-name.ensures, sym c.interval.ensures.same) c.in_ok-meta.ensures.ok, inl c.in_err-meta-2.ensures.cause)),
     )
     )
 
@@ -50,7 +50,7 @@ returns-in_err-into_bytes-clause-cause g c =
         c.in_ok-filters.ensures.ok,
         inr (
           c.in_ok-meta.meta.items,
-          rw (sym c.filter_name-name.ensures) c.in_ok-meta.ensures.ok,
+          rw (sym c.filter_name-name.ensures, sym c.interval.ensures.same) c.in_ok-meta.ensures.ok,
           inr (meta.0, meta.1, c.in_ok-meta-2.meta.handle, c.in_ok-meta-2.meta.end, _, meta.2, inl (refl, c.in_err-into_bytes.ensures.memory)),
         ),
       ),
@@ -73,7 +73,7 @@ returns-in_err-index-clause-cause g c =
         c.in_ok-filters.ensures.ok,
         inr (
           c.in_ok-meta.meta.items,
-          rw (sym c.filter_name-name.ensures) c.in_ok-meta.ensures.ok,
+          rw (sym c.filter_name-name.ensures, sym c.interval.ensures.same) c.in_ok-meta.ensures.ok,
           inr (meta.0, meta.1, c.in_ok-meta-2.meta.handle, c.in_ok-meta-2.meta.end, _, meta.2, inr (c.in_ok-into_bytes.field-0.items, c.in_ok-into_bytes.ensures.ok, inl c.in_err-index.ensures.cause)),
         ),
       ),
@@ -96,7 +96,7 @@ returns-clause-cause g c =
         c.in_ok-filters.ensures.ok,
         inr (
           c.in_ok-meta.meta.items,
-          rw (sym c.filter_name-name.ensures) c.in_ok-meta.ensures.ok,
+          rw (sym c.filter_name-name.ensures, sym c.interval.ensures.same) c.in_ok-meta.ensures.ok,
           inr (
             meta.0,
             meta.1,
@@ -136,8 +136,8 @@ returns-clause-ok g c =
         meta = c.in_ok-meta-2.meta.handle;
         index = c.in_ok-index.index.handle;
         filter_block = c.in_ok-finish.ensures.ok;
-        meta_block = rw (sym c.filter_name-name.ensures) c.in_ok-meta.ensures.ok;
-        index_block = c.in_ok-into_bytes.ensures.ok;
+        meta_made = rw (sym c.filter_name-name.ensures, sym c.interval.ensures.same) c.in_ok-meta.ensures.ok;
+        index_made = c.in_ok-into_bytes.ensures.ok;
         meta_coded = meta.1;
         index_coded = index.1;
         filter_placed = block_placed puts filters;

@@ -7,6 +7,7 @@ pub returns-clause-begun : goal.returns-clause-begun
 returns-clause-begun g c codings = record {
   parts = [];
   each = tt;
+  exact = tt;
   under = tt;
   lined = ap (pairs_of None) c.spaced-2.ensures.none;
   separated = tt;

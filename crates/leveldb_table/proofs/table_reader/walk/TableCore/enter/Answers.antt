@@ -1,16 +1,13 @@
-use Rattle.std.proofs.Common.{◌≡◌, List, ℕ, None, refl, sym, ◌∙◌, ap, subst}
-use Rattle.leveldb_base.specs.Handle.{Handle}
-use Rattle.leveldb_base.specs.Places.{pair_at}
+use Rattle.std.proofs.Common.{◌≡◌, List, ℕ, None, sym, ◌∙◌, ap, subst}
 use Rattle.leveldb_env.specs.contracts.compressor.CompressorListCoders.TheImpl
 use Rattle.leveldb_table.specs.TableCached.{HoldsOf}
 use Rattle.leveldb_table.specs.TableEnters.{IsBehind}
-use Rattle.leveldb_table.specs.TableReads.{Has, IsNamedBy, IsNamedIn}
+use Rattle.leveldb_table.specs.TableReads.{Has, lacking}
 use Rattle.leveldb_table.specs.TableWalk.{Stands, inner_place, pairs_over, place_over}
 use Rattle.leveldb_table.proofs.TableCalls.{reads_weaker, reads_refused, reads_ok}
-use Rattle.leveldb_table.proofs.TableForeign.{refused_at, named_at}
-use Rattle.leveldb_table.proofs.TableMoves.{ok_refused, err_holds, none_there, from_none}
-use Rattle.leveldb_table.proofs.TableSeeks.{line_there, IsSought, is_sought, sought_from, sought_in, sought_behind, handle_lacks, enters_then, enters_ok, enters_refused}
-use Rattle.leveldb_table.proofs.TablePaces.{sought_inside, sought_next}
+use Rattle.leveldb_table.proofs.TableMoves.{ok_refused, err_holds, none_there, line_lacks}
+use Rattle.leveldb_table.proofs.TableSeeks.{line_there, IsSought, is_sought, sought_in, sought_behind, enters_then, enters_ok, enters_refused}
+use Rattle.leveldb_table.proofs.TablePaces.{sought_inside, sought_next, sought_lacking}
 use Rattle.leveldb_table.proofs.table_reader.walk.TableCore.enter.Goals as goal
 
 pub returns-in_err-load : goal.returns-in_err-load
@@ -19,15 +16,19 @@ returns-in_err-load g c =
     let cmp = g.C.Cmp.cmp c.args.table.now.cmp in
     let read = c.in_err-load.ensures in
     let none : inner_place c.load.new.self.inner ≡ None = ap inner_place (read.err ∙ c.requires.none) in
-    let index = c.args.self.now.index in
-    let named : (handle : Handle) → handle ≡ c.args.handle → IsNamedIn (pairs_over index) handle = λ handle is. named_at (pairs_over index) (place_over index) handle (subst (IsNamedBy (pair_at (pairs_over index) (place_over index))) (sym is) c.requires.names) in
+    let old = c.args.self.now in
     record {
       enters = record {
         reads = reads_refused g.E.Env c.from_residual.result c.from_residual.ensures.1
-            (reads_weaker g.E.Env _ (λ status lacking. (refused_at g.E.Env named lacking.0, λ bytes has parts place right fit holds indexed. handle_lacks c.args.handle right indexed c.requires.names (lacking.1 bytes has))) read.reads);
+            (reads_weaker g.E.Env _ (λ status lacks. (
+              lacks.0,
+              λ bytes has. (
+                λ parts place right fit holds indexed. line_lacks old.index right indexed.lines (lacking c.args.handle c.requires.names (lacks.1 bytes has)),
+                λ holds. sought_lacking codings cmp bytes c.args.key.now old c.requires.line (lacking c.args.handle c.requires.names (lacks.1 bytes has)),
+              ),
+            )) read.reads);
         ok = λ bytes has parts place right fit holds indexed. ok_refused _ _ c.from_residual.result c.from_residual.ensures.1;
         steps = λ bytes has holds. ok_refused _ _ c.from_residual.result c.from_residual.ensures.1;
-        from = λ bytes has holds. from_none codings cmp bytes c.load.new.self none;
         err = err_holds c.from_residual.result none;
         gathers = read.gathers;
         same_lines = ap pairs_over read.index;
@@ -52,7 +53,6 @@ returns-then-branch g c =
             (sought_in c.args.key.now right indexed c.requires.line (g.met.C.Cmp.preorder c.args.table.now.cmp) fit.0 fit.1 new (line_there (pairs_over old.index) (place_over old.index) c.args.handle c.requires.names) (sought bytes has holds)
             (sym step.answer ∙ c.if-branch.true));
         steps = λ bytes has holds. sought_inside codings cmp bytes c.args.key.now old new c.requires.line (line_there (pairs_over old.index) (place_over old.index) c.args.handle c.requires.names) (sought bytes has holds) (sym step.answer ∙ c.if-branch.true);
-        from = λ bytes has holds. sought_from codings cmp bytes old new (sought bytes has holds);
         err = tt;
         gathers = read.gathers;
         same_lines = ap pairs_over (step.index ∙ read.index);
@@ -75,7 +75,7 @@ returns-in_err-to_next_block g c =
           (sought_behind c.args.key.now right indexed c.requires.line (g.met.C.Cmp.preorder c.args.table.now.cmp) fit.0 fit.1 mid (line_there (pairs_over old.index) (place_over old.index) c.args.handle c.requires.names)
           (is_sought codings cmp bytes c.args.key.now old c.load.new.self mid c.args.handle c.requires.fits c.requires.names read.index (read.block bytes has holds) step.index step.block step.pairs step.ok)
           (none_there (inner_place mid.inner) (sym step.answer ∙ c.if-branch.false))))
-          (λ bytes has holds. sought_next codings cmp bytes c.args.key.now old mid c.to_next_block.new.self c.requires.line (line_there (pairs_over old.index) (place_over old.index) c.args.handle c.requires.names)
+          (λ bytes has holds out. sought_next codings cmp bytes c.args.key.now old mid out c.requires.line (line_there (pairs_over old.index) (place_over old.index) c.args.handle c.requires.names)
           (is_sought codings cmp bytes c.args.key.now old c.load.new.self mid c.args.handle c.requires.fits c.requires.names read.index (read.block bytes has holds) step.index step.block step.pairs step.ok)
           (none_there (inner_place mid.inner) (sym step.answer ∙ c.if-branch.false))) c.in_err-to_next_block.ensures.enters);
     }
@@ -95,7 +95,7 @@ returns g c =
           (sought_behind c.args.key.now right indexed c.requires.line (g.met.C.Cmp.preorder c.args.table.now.cmp) fit.0 fit.1 mid (line_there (pairs_over old.index) (place_over old.index) c.args.handle c.requires.names)
           (is_sought codings cmp bytes c.args.key.now old c.load.new.self mid c.args.handle c.requires.fits c.requires.names read.index (read.block bytes has holds) step.index step.block step.pairs step.ok)
           (none_there (inner_place mid.inner) (sym step.answer ∙ c.if-branch.false))))
-          (λ bytes has holds. sought_next codings cmp bytes c.args.key.now old mid c.to_next_block.new.self c.requires.line (line_there (pairs_over old.index) (place_over old.index) c.args.handle c.requires.names)
+          (λ bytes has holds out. sought_next codings cmp bytes c.args.key.now old mid out c.requires.line (line_there (pairs_over old.index) (place_over old.index) c.args.handle c.requires.names)
           (is_sought codings cmp bytes c.args.key.now old c.load.new.self mid c.args.handle c.requires.fits c.requires.names read.index (read.block bytes has holds) step.index step.block step.pairs step.ok)
           (none_there (inner_place mid.inner) (sym step.answer ∙ c.if-branch.false))) c.in_ok-to_next_block.ensures.enters);
     }

@@ -1,4 +1,4 @@
-use Rattle.std.proofs.Common.{◌≡◌, sym, ◌∙◌, ap, subst}
+use Rattle.std.proofs.Common.{sym, ◌∙◌, ap, subst}
 use Rattle.leveldb_env.specs.contracts.compressor.CompressorListCoders.TheImpl
 use Rattle.leveldb_table.specs.TableWalk.{StandsAt, inner_place, inner_pairs, pairs_over, place_over}
 use Rattle.leveldb_table.proofs.TableMoves.{none_there, not_none, moves_enters}
@@ -14,4 +14,4 @@ returns-clause-moves g c =
     moves_enters old (ap pairs_over step.index) (ap (λ z. z.block.cmp) step.index)
     (λ parts place fit stands. before_first parts (place_over c.step_back.new.self.index) (inner_pairs old.inner) (inner_place old.inner) place (not_none (inner_place old.inner) (sym c.valid.ensures ∙ c.if-not-valid.false))
     (sym step.ok ∙ none) (subst (λ z. StandsAt parts z (inner_pairs old.inner) (inner_place old.inner) place) (ap place_over (sym step.index)) stands.at))
-    (λ bytes. backward_previous ((TheImpl.ghosts g.dyn-1).codings c.args.coders.now) (g.C.Cmp.cmp c.args.table.now.cmp) bytes old c.step_back.new.self c.to_block_before.new.self step.index (not_none (inner_place old.inner) (sym c.valid.ensures ∙ c.if-not-valid.false)) (sym step.ok ∙ none)) c.to_block_before.ensures.enters
+    (λ bytes out. backward_previous ((TheImpl.ghosts g.dyn-1).codings c.args.coders.now) (g.C.Cmp.cmp c.args.table.now.cmp) bytes old c.step_back.new.self out step.index (not_none (inner_place old.inner) (sym c.valid.ensures ∙ c.if-not-valid.false)) (sym step.ok ∙ none)) c.to_block_before.ensures.enters

@@ -1,37 +1,38 @@
-use Rattle.std.proofs.Common.{◌≡◌, List, ℕ, false, None, Some, refl, sym, ◌∙◌, ap, subst, inl, inr}
-use Rattle.std.specs.Prelude.{is_some}
-use Rattle.leveldb_base.specs.Handle.{Handle}
-use Rattle.leveldb_base.specs.Places.{pair_at, previous_place}
+use Rattle.std.proofs.Common.{◌≡◌, List, ℕ, None, sym, ◌∙◌, ap, inl, inr}
+use Rattle.leveldb_base.specs.Places.{previous_place}
 use Rattle.leveldb_env.specs.contracts.compressor.CompressorListCoders.TheImpl
-use Rattle.leveldb_table.specs.TableEnters.{line_of}
 use Rattle.leveldb_table.specs.TableCached.{HoldsOf}
-use Rattle.leveldb_table.specs.TableReads.{Has, IsNamedBy, IsNamedIn}
-use Rattle.leveldb_table.specs.TableWalk.{inner_place, pairs_over, place_over}
+use Rattle.leveldb_table.specs.TableReads.{Has}
+use Rattle.leveldb_table.specs.TableWalk.{inner_place, inner_pairs, pairs_over, place_over}
 use Rattle.leveldb_table.specs.Walk.{last_place}
 use Rattle.leveldb_table.proofs.TableCalls.{reads_weaker, reads_refused, reads_own, reads_ok}
-use Rattle.leveldb_table.proofs.TableForeign.{refused_at, named_at, named_along}
-use Rattle.leveldb_table.proofs.TableMoves.{ok_refused, err_holds, none_there, from_none, from_block, block_lines, some_none, IsInto, is_into}
-use Rattle.leveldb_table.proofs.TableSeeks.{previous_stands, previous_lacks}
-use Rattle.leveldb_table.proofs.TablePaces.{into_at}
+use Rattle.leveldb_table.proofs.TableMoves.{ok_refused, err_holds, none_there, block_lines, line_lacks, some_none, IsInto, is_into}
+use Rattle.leveldb_table.proofs.TableSeeks.{last_none, previous_stands}
+use Rattle.leveldb_table.proofs.TablePaces.{into_lacking, into_at, into_empty}
 use Rattle.leveldb_table.proofs.table_reader.walk.TableCore.to_block_before.Goals as goal
 
 pub returns-in_err-load_line-clause-enters : goal.returns-in_err-load_line-clause-enters
 returns-in_err-load_line-clause-enters g c =
     let codings = (TheImpl.ghosts g.dyn-1).codings c.args.coders.now in
     let cmp = g.C.Cmp.cmp c.args.table.now.cmp in
-    let there = sym c.in_ok-prev.ensures.answer ∙ c.if-not-branch.false in
     let none : inner_place c.load_line.new.self.inner ≡ None = ap inner_place c.in_err-load_line.ensures.err in
     let index = c.prev.new.self in
-    let named : (handle : Handle) → IsNamedBy (pair_at (pairs_over index) (place_over index)) handle → IsNamedIn (pairs_over c.args.self.now.index) handle = λ handle there. named_along (block_lines index c.args.self.now.index c.in_ok-prev.ensures.block) handle (named_at (pairs_over index) (place_over index) handle there) in
+    let lines = block_lines index c.args.self.now.index c.in_ok-prev.ensures.block in
+    let old = c.args.self.now in
     record {
       reads = reads_refused g.E.Env c.from_residual-in_err-load_line.result c.from_residual-in_err-load_line.ensures.1
-          (reads_weaker g.E.Env _ (λ status lacking. (refused_at g.E.Env named lacking.0, λ bytes has parts place right fit holds indexed. previous_lacks right fit indexed c.prev.new.self c.in_ok-prev.ensures.block there (lacking.1 bytes has))) c.in_err-load_line.ensures.reads);
+          (reads_weaker g.E.Env _ (λ status lacks. (
+            lacks.0,
+            λ bytes has. (
+              λ parts place right fit holds indexed. line_lacks index right (lines ∙ indexed.lines) (lacks.1 bytes has),
+              λ holds. into_lacking codings cmp bytes (pairs_over old.index) last_place lines c.in_ok-prev.ensures.ok (lacks.1 bytes has),
+            ),
+          )) c.in_err-load_line.ensures.reads);
       ok = λ bytes has parts place right fit holds indexed. ok_refused _ _ c.from_residual-in_err-load_line.result c.from_residual-in_err-load_line.ensures.1;
       steps = λ bytes has holds. ok_refused _ _ c.from_residual-in_err-load_line.result c.from_residual-in_err-load_line.ensures.1;
-      from = λ bytes has holds. from_none codings cmp bytes c.load_line.new.self none;
       err = err_holds c.from_residual-in_err-load_line.result none;
       gathers = c.in_err-load_line.ensures.gathers;
-      same_lines = ap pairs_over c.in_err-load_line.ensures.index ∙ block_lines c.prev.new.self c.args.self.now.index c.in_ok-prev.ensures.block;
+      same_lines = ap pairs_over c.in_err-load_line.ensures.index ∙ lines;
       same_order = ap (λ z. z.block.cmp) c.in_err-load_line.ensures.index ∙ ap (λ z. z.cmp) c.in_ok-prev.ensures.block;
     }
 
@@ -53,10 +54,15 @@ returns-then-not-branch-2-clause-enters g c =
     let none : inner_place new.inner ≡ None = none_there (inner_place new.inner) (sym step.answer ∙ c.if-not-branch-2.true) in
     record {
       reads = reads_own g.E.Env c.refuse_empty.result read.reads.looks read.reads.cause.ok c.refuse_empty.ensures
-          (λ status code. inr (inl code, λ bytes has parts place right fit holds indexed. some_none (sym (previous_stands right fit indexed new (into bytes has holds)).0.1 ∙ none)));
+          (λ status code. inr (
+            inl code,
+            λ bytes has. (
+              λ parts place right fit holds indexed. some_none (sym (previous_stands right fit indexed new (into bytes has holds)).0.1 ∙ none),
+              λ holds. into_empty codings cmp bytes old new (into bytes has holds) status (last_none (inner_pairs new.inner) (sym (into bytes has holds).place ∙ none)) code,
+            ),
+          ));
       ok = λ bytes has parts place right fit holds indexed. ok_refused _ _ c.refuse_empty.result c.refuse_empty.ensures;
       steps = λ bytes has holds. ok_refused _ _ c.refuse_empty.result c.refuse_empty.ensures;
-      from = λ bytes has holds. from_none codings cmp bytes new none;
       err = err_holds c.refuse_empty.result none;
       gathers = read.gathers;
       same_lines = ap pairs_over index ∙ block_lines c.prev.new.self c.args.self.now.index c.in_ok-prev.ensures.block;
@@ -82,7 +88,6 @@ returns-clause-enters g c =
       reads = reads_ok g.E.Env read.reads.looks read.reads.cause.ok;
       ok = λ bytes has parts place right fit holds indexed. (previous_stands right fit indexed new (into bytes has holds)).1;
       steps = λ bytes has holds. into_at codings cmp bytes old new (into bytes has holds) (sym step.answer ∙ c.if-not-branch-2.false);
-      from = λ bytes has holds. from_block codings cmp bytes new (into bytes has holds).block;
       err = tt;
       gathers = read.gathers;
       same_lines = ap pairs_over index ∙ block_lines c.prev.new.self c.args.self.now.index c.in_ok-prev.ensures.block;
