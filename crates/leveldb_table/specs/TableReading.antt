@@ -51,7 +51,8 @@ pub record EndsIn (bytes : List ℕ) (size : ℕ) (meta index : Handle) : Type 0
   pub index_fits : HandleFits index
 
 -- So many bytes of a file end in a footer; where that says, the index has these lines, and the metaindex says under this key where the filters are.
-pub record Opens (codings : Codings) (cmp : List ℕ → List ℕ → Ordering) (key bytes : List ℕ) (size : ℕ) (lines : List Pair) (meta index : Handle) (filters : Option (List (List ℕ))) : Type 0 where
+pub record Opens (codings : Codings) (cmp : List ℕ → List ℕ → Ordering) (key bytes : List ℕ) (size : ℕ)
+    (lines : List Pair) (meta index : Handle) (filters : Option (List (List ℕ))) : Type 0 where
   pub footer : EndsIn bytes size meta index
   pub index_text : List ℕ
   pub index_stands : HasBlockAt (Decodes codings) bytes index index_text
