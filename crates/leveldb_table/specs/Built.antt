@@ -42,7 +42,8 @@ abbrev pub entries_behind : ℕ → List Entry → List Pair → List Entry
 entries_behind interval entries [] = entries
 entries_behind interval entries (pair ∷ pairs) = entries_behind interval (entries ++ entry_behind interval entries pair.0 pair.1 ∷ []) pairs
 
--- the block of these pairs with a restart point every so many, each key without what it shares with the one before it
+-- the block of these pairs: at every so many a restart point, where the key stands whole, and each other key without what it shares with the
+-- one before it
 abbrev pub block_made : ℕ → List Pair → List ℕ
 block_made interval pairs = block_bytes (entries_behind interval [] pairs)
 
@@ -59,8 +60,8 @@ estimate entries begun = length (flat_map entry_bytes entries) + 4 * (if begun t
 abbrev pub IsTooLarge : List Entry → List ℕ → List ℕ → Type 0
 IsTooLarge entries key value = (2 ^ 32 ≤ length (flat_map entry_bytes entries)) ⊎ (2 ^ 32 ≤ length key) ⊎ (2 ^ 32 ≤ length value)
 
--- The bytes are these entries, a restart point every so many, each key without what it shares with the one before it; the further
--- points are the restart points behind the first, which is set where there are entries.
+-- The bytes are these entries: at every so many a restart point, where the key stands whole, and each other key without what it shares with
+-- the one before it. The further points are the restart points behind the first, which is set where there are entries.
 pub record IsBuilt (cmp : List ℕ → List ℕ → Ordering) (interval : ℕ) (bytes points last : List ℕ) (count : ℕ) (begun : Bool) (entries : List Entry) : Type 0 where
   pub some_interval : 1 ≤ interval
   pub spelled : bytes ≡ flat_map entry_bytes entries

@@ -93,7 +93,7 @@ SeparatesUsers accepts cmp sep user =
 abbrev pub GoesByUsers : (List ℕ → List ℕ) → (List ℕ → List ℕ → Bool) → Type 0
 GoesByUsers user matches = (key other filter : List ℕ) → user key ≡ user other → matches key filter ≡ matches other filter
 
--- the data blocks are as they are made at an interval, and the metaindex and the index as at another
+-- each data block is the one that is made at one interval, and the metaindex and the index are those made at another
 pub record AreMade (Decodes : ℕ → List ℕ → List ℕ → Type 0) (interval index_interval : ℕ) (file : List ℕ) (parts : List Part) (metas : List Pair) (meta index : Handle) : Type 0 where
   pub each : AllByRecursion (λ part. HasBlockAt Decodes file part.handle (block_made interval part.pairs)) parts
   pub of_metas : HasBlockAt Decodes file meta (block_made index_interval metas)

@@ -12,7 +12,7 @@ use Rattle.leveldb_table.specs.Table.{with_trailer, filter_key}
 abbrev pub IsTooLong : ℕ → Status → Type 0
 IsTooLong count status = (status.code ≡ NotSupported) × (2 ^ 64 ≤ count)
 
--- the coder that is set under the id refuses with this status's code
+-- the coder that is set under the id may refuse with this status's code
 abbrev pub IsCoders : Codings → ℕ → Status → Type 0
 IsCoders codings id status = IsSomeAnd (codings id) (λ coding. RefusesWith coding status)
 

@@ -63,8 +63,8 @@ pub record Opens (codings : Codings) (cmp : List ℕ → List ℕ → Ordering) 
   pub meta_block : IsBlock bytewise meta_text metas
   pub filtered : HasFiltersBy bytes (lookup (bytes_eq key) metas) filters
 
--- A part of the file is lacking, as a status tells: so many of its bytes end in no footer, or the index or the metaindex is lacking where the footer says, or
--- there are no filters as that says under the key.
+-- A part of the file is lacking, as a status tells: so many of its bytes end in no footer, or the index or the metaindex is lacking where the
+-- footer says, or the metaindex names filters under the key that aren't there.
 pub data LacksPart (codings : Codings) (cmp : List ℕ → List ℕ → Ordering) (key bytes : List ℕ) (size : ℕ) (status : Status) : Type 0 where
   footer : ((meta index : Handle) → EndsIn bytes size meta index → ⊥) → status.code ≡ Corruption → LacksPart codings cmp key bytes size status
   index : (meta index : Handle) → EndsIn bytes size meta index → LacksBlock codings cmp bytes index status → LacksPart codings cmp key bytes size status
@@ -106,7 +106,7 @@ found_in cmp lets key parts =
 abbrev pub key_line : (List ℕ → List ℕ → Ordering) → List ℕ → List Pair → Option Pair
 key_line cmp key lines = pair_at lines (seek_place cmp lines key)
 
--- The offset of a block by its line, that of the handle which the line names; and without a line this one.
+-- The offset is that of the handle which the line names; without a line, it is the one given.
 abbrev pub IsOffsetBy : Option Pair → ℕ → ℕ → Type 0
 IsOffsetBy None past offset = offset ≡ past
 IsOffsetBy (Some line) past offset = (handle : Handle) × HandleFits handle × (line.1 ≡ handle_bytes handle) × (offset ≡ handle.offset)

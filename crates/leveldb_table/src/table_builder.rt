@@ -165,8 +165,8 @@ impl<Dst: Sink, C: Cmp + Copy, FP: FilterPolicy + Copy> TableBuilder<Dst, C, FP>
 
     /// Writes what is left of the table: the open block, the filters, the metaindex, the index and the footer, and flushes
     /// the sink. Answers how many bytes the table has.
-    /// The sink is let go, so the clauses say no more of it than that there is one after the call: give a `&mut` to it, or
-    /// call the core, to have it back.
+    /// The sink is let go, so the clauses say no more of it than that there was one behind these puts: where the sink is to
+    /// be named afterwards, call the core, which is lent it.
     /// Refused as `add` is, and where the sink refuses to be flushed.
     pub fn finish(self, coders: &CompressorList) -> Result<usize>
     where

@@ -63,8 +63,8 @@ impl<E: Env, C: UserCmp + Copy + Drop, FP: FilterPolicy + Copy + Drop> Table<
     ghost use Rattle.leveldb_base.specs.Keys.{internal_cmp};
     ghost use Rattle.leveldb_table.specs.TableReading.{Opens, OpensNot, LacksPart, lines_of, filters_of};
 
-    /// Opens the table of internal keys that the first `size` bytes of a file are, all of it where it has so many, under the
-    /// options' order of users' keys and their filter policy. It gets a number of its own for its blocks in the cache.
+    /// Opens the table of internal keys whose footer ends at `size` in a file, its length where the file is one table, under
+    /// the options' order of users' keys and their filter policy. It gets a number of its own for its blocks in the cache.
     /// `Corruption` where the file is no table; the causes of `read_table_block`; `NotSupported` where the cache's numbers
     /// are used up.
     pub fn new(
@@ -101,7 +101,7 @@ impl<E: Env, C: UserCmp + Copy + Drop, FP: FilterPolicy + Copy + Drop> Table<
 impl<E: Env, C: Cmp + Copy + Drop, FP: FilterPolicy + Drop> Table<E, C, FP> {
     ghost use Rattle.leveldb_table.specs.TableReading.{Opens, OpensNot, LacksPart, lines_of, filters_of};
 
-    /// Opens the table that the first `size` bytes of a file are, under this order and this policy as they are.
+    /// Opens the table whose footer ends at `size` in a file, under this order and this policy as they are.
     pub fn open(
         alloc: Global,
         cmp: C,
@@ -144,7 +144,7 @@ impl<E: Env, C: Cmp + Copy + Drop, FP: FilterPolicy> Table<E, C, FP> {
     ghost use Rattle.leveldb_table.specs.TableMoves.{LooksUpIn, Finds};
 
     /// The offset of the block that would hold the key, and past the last that of the metaindex.
-    /// `Corruption` where the index's line for the key names no block.
+    /// `Corruption` where the index's line for the key names no handle.
     pub fn approx_offset_of(&self, alloc: Global, key: &[u8]) -> Result<usize>
         ensures ok { (parts : List Part) → lines_of self.now ≡ map index_pair parts → AllFit parts → IfOk result (λ offset. offset ≡ offset_for (C.cmp self.now.index.cmp) key.now parts self.now.footer.meta_index) }
         ensures line { IfOk result (IsOffsetBy (key_line (C.cmp self.now.index.cmp) key.now (lines_of self.now)) self.now.footer.meta_index.offset) }
@@ -198,7 +198,7 @@ impl<E: Env, C: Cmp + Copy + Drop, FP: FilterPolicy> Table<E, C, FP> {
         }
     }
 
-    // The block at a handle, from the cache or from the file, and then it is in the cache too.
+    // The block at a handle, from the cache or from the file; that is put into the cache then.
     fn read_block(
         &self,
         alloc: Global,
