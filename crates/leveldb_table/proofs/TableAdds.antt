@@ -1,5 +1,5 @@
 -- What follows from how a pair is added and why one is refused.
-use Rattle.std.proofs.Common.{◌≡◌, ◌≢◌, ℕ, ◌<◌, ◌≤◌, refl, List, [], ◌∷◌, length, Result, Ok, Err, inl, inr, ◌⊎◌, ap, subst, arith}
+use Rattle.std.proofs.Common.{◌≡◌, ◌≢◌, ℕ, ◌<◌, ◌≤◌, true, refl, List, [], ◌∷◌, length, Result, Ok, Err, inl, inr, ◌⊎◌, ap, subst, arith}
 use Rattle.leveldb_base.specs.Places.{Pair}
 use Rattle.leveldb_base.specs.declared.cmp.Cmp.{Ghosts as CmpGhosts}
 use Rattle.leveldb_base.specs.declared.error.Status.{Status}
@@ -18,10 +18,10 @@ no_entries (entry ∷ entries) some e = absurd (omega (arith, e))
 
 -- whether the open block is full
 module _ {C FP : Type 0} {order : CmpGhosts C} {policy : PolicyGhosts FP} (core : BuilderCore C FP order policy) where
-  pub is_full : 0 < length core.block.built.0 → core.block_size < estimate core.block.built.0 core.block.begun → IsFull core
+  pub is_full : 0 < length core.block.built.0 → core.block_size < estimate core.block.built.0 true → IsFull core
   is_full some large = ((λ e. let none = ap length e in absurd (omega (arith, some, none))), large)
 
-  pub not_full : (length core.block.built.0 ≡ 0) ⊎ (estimate core.block.built.0 core.block.begun ≤ core.block_size) → IsFull core → ⊥
+  pub not_full : (length core.block.built.0 ≡ 0) ⊎ (estimate core.block.built.0 true ≤ core.block_size) → IsFull core → ⊥
   not_full (inl none) full = no_entries core.block.built.0 full.0 none
   not_full (inr small) full = absurd (omega (arith, small, full.1))
 

@@ -1,6 +1,7 @@
 -- The steps of a table builder: a block that is closed, and a pair that is added.
-use Rattle.std.proofs.Common.{◌≡◌, ◌≢◌, ℕ, Bool, true, List, [], ◌∷◌, ◌++◌, Result, Ok, Err, refl}
-use Rattle.std.specs.Prelude.{OnOk, OnErr, IfErr}
+use Rattle.std.proofs.Common.{◌≡◌, ◌≢◌, ℕ, ◌<◌, ◌≤◌, Bool, true, List, [], ◌∷◌, ◌++◌, Result, Ok, Err, refl, sym, inl, inr}
+use Rattle.std.proofs.Math.Nat.{eq-or-lt_of_le}
+use Rattle.std.specs.Prelude.{OnOk, OnErr, IfErr, IsOk}
 use Rattle.std.specs.List.{AllByRecursion}
 use Rattle.std.specs.declared.cmp.Ordering.{Ordering}
 use Rattle.std.specs.declared.cmp.Ordering.TheVariants.{Less, Greater}
@@ -15,6 +16,11 @@ use Rattle.leveldb_table.proofs.TableOrders.{all_append, all_left, all_right, la
 pub IfErr-with : {T E : Type 0} (result : Result T E) (P Q : E → Type 0) → ((error : E) → P error → Q error) → IfErr result P → IfErr result Q
 IfErr-with (Ok value) P Q f h = tt
 IfErr-with (Err error) P Q f h = f error h
+
+-- what is refused only where one number is below another
+pub IfErr-below : {T E : Type 0} (result : Result T E) (P Q : E → Type 0) (few many : ℕ) → few ≤ many → (many ≡ few → IsOk result) → (few < many → (error : E) → P error → Q error) → IfErr result P → IfErr result Q
+IfErr-below (Ok value) P Q few many within none f h = tt
+IfErr-below (Err error) P Q few many within none f h = elim (eq-or-lt_of_le within) [ inl same ↦ let clash = none (sym same) in cc | inr below ↦ f below error h ]
 
 pub OnErr-with : {T E : Type 0} (result : Result T E) (P : E → Type 0) (Q : Type 0) → ((error : E) → P error → Q) → IfErr result P → OnErr result Q
 OnErr-with (Ok value) P Q f h = tt

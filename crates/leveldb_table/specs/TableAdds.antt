@@ -1,5 +1,5 @@
 -- How a pair is added to a table builder, why one is refused, and what a refusal leaves in the sink.
-use Rattle.std.specs.Prelude.{◌≡◌, ◌⊎◌, ℕ, ◌+◌, true, false, List, [], Result, Ok}
+use Rattle.std.specs.Prelude.{◌≡◌, ◌⊎◌, ℕ, ◌+◌, ◌/◌, ◌<◌, true, false, List, [], length, Result, Ok}
 use Rattle.std.specs.declared.cmp.Ordering.{Ordering}
 use Rattle.leveldb_base.specs.Handle.{Handle, handle_bytes}
 use Rattle.leveldb_base.specs.Places.{Pair}
@@ -34,11 +34,14 @@ module _ {C FP : Type 0} {order : CmpGhosts C} {policy : PolicyGhosts FP} (codin
   abbrev pub ClosesOpen : List ℕ → List ℕ → Stage FP → Type 0
   ClosesOpen next bytes new = Closes (Decodes codings) (order.cmp core.block.cmp) (order.shortest_sep core.block.cmp) (policy.filter_for core.filter.policy) core.compressor next (stage core) bytes new
 
-  -- why the open block, which was put, got no line or no filter: want of memory, or one of them would be too large
+  -- Why the open block, which was put, got no line or no filter: want of memory; or its line would be too large for the index; or it ends
+  -- where a filter is due, and that one wasn't made.
   abbrev pub IsNotLined : List ℕ → Handle → Status → Type 0
   IsNotLined next handle status =
-      ((status.code ≡ NotSupported) × IsTooLarge core.index.built.0 (order.shortest_sep core.block.cmp (last_of core) next) (handle_bytes handle))
-      ⊎ IsNotMade (policy.too_large core.filter.policy) (policy.filter_for core.filter.policy) core.filter.filters core.filter.keys status
+      IsOutOfMemory status
+      ⊎ ((status.code ≡ NotSupported) × IsTooLarge core.index.built.0 (order.shortest_sep core.block.cmp (last_of core) next) (handle_bytes handle))
+      ⊎ ((length core.filter.filters < (handle.offset + handle.size + 5) / 2048)
+      × IsNotMade (policy.too_large core.filter.policy) (policy.filter_for core.filter.policy) core.filter.filters core.filter.keys status)
 
   module _ {S : Type 0} (puts : S → List ℕ → Result (Unit {0}) Status → S → Type 0) where
     -- the open block was put in one put and got its line, and the pair is the first of the next block

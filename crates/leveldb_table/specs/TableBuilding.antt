@@ -72,12 +72,12 @@ IsBegun {policy = policy} codings accepts cmp sep matches core written pairs =
 
 -- The open block has an entry, and more bytes than a block shall have: the next pair goes into another.
 abbrev pub IsFull : {C FP : Type 0} {order : CmpGhosts C} {policy : PolicyGhosts FP} → BuilderCore C FP order policy → Type 0
-IsFull core = (core.block.built.0 ≢ []) × (core.block_size < estimate core.block.built.0 core.block.begun)
+IsFull core = (core.block.built.0 ≢ []) × (core.block_size < estimate core.block.built.0 true)
 
 -- how many bytes the table would have: the estimates of the open block, the index and the filters, what was put, and a footer
 abbrev pub table_estimate : {C FP : Type 0} {order : CmpGhosts C} {policy : PolicyGhosts FP} → BuilderCore C FP order policy → ℕ
 table_estimate core =
-    estimate core.block.built.0 core.block.begun + estimate core.index.built.0 core.index.begun + (length (concat core.filter.filters) + 4 * length core.filter.filters + 5) + core.offset + 48
+    estimate core.block.built.0 true + estimate core.index.built.0 true + (length (concat core.filter.filters) + 4 * length core.filter.filters + 5) + core.offset + 48
 
 -- a call came after one that was refused
 pub record IsBroken (status : Status) : Type 0 where

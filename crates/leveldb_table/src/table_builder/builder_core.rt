@@ -48,6 +48,9 @@ pub struct BuilderCore<C: Cmp, FP: FilterPolicy> {
     offset: usize,
     count: usize,
     broken: bool,
+
+    // both blocks have their first restart point
+    ghost started: { (block.begun ≡ true) × (index.begun ≡ true) },
     pub ghost sound: { broken ≡ false → IsSound (C.accepts block.cmp) (C.cmp block.cmp) (C.cmp index.cmp) (stage_of filter offset (pairs_of None index.built.0) (pairs_of None block.built.0) count block.interval index.interval) } by { λ u v. λ i h. IsSound-prop (C.accepts block.cmp) (C.cmp block.cmp) (C.cmp index.cmp) (stage_of filter offset (pairs_of None index.built.0) (pairs_of None block.built.0) count block.interval index.interval) (u h) (v h) i },
 }
 
@@ -353,6 +356,7 @@ fn add_handle<C: Cmp>(index: &mut BlockBuilder<C>, key: &[u8], handle: BlockHand
     requires rise { KeysRise (C.cmp index.old.cmp) (pairs_of None index.old.built.0 ++ (key.now, handle_bytes handle) ∷ []) }
     requires fits { HandleFits handle }
     ensures ok { OnOk result (pairs_of None index.new.built.0 ≡ pairs_of None index.old.built.0 ++ (key.now, handle_bytes handle) ∷ []) }
+    ensures begun { index.old.begun ≡ true → index.new.begun ≡ true }
     ensures order { index.new.cmp ≡ index.old.cmp }
     ensures interval { index.new.interval ≡ index.old.interval }
     ensures too_large { IsErrAnd result (λ status. status.code ≡ NotSupported) → IsTooLarge index.old.built.0 key.now (handle_bytes handle) }

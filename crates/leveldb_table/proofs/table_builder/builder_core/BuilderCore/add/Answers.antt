@@ -28,13 +28,11 @@ add-requires g c =
     let ready = c.in_ok-make_room.ensures.ready in
     open_rises (stage c.make_room.new.self) c.args.key.now c.args.value.now ready.0 ready.1
 
-pub invariant_of-self-2 : goal.invariant_of-self-2
-invariant_of-self-2 g c =
+pub invariant_of-self-2-clause-sound : goal.invariant_of-self-2-clause-sound
+invariant_of-self-2-clause-sound g c =
     let ready = c.in_ok-make_room.ensures.ready in
-    record {
-      sound = λ _. rw (c.in_ok-add.ensures.order, c.in_ok-add.ensures.interval, c.in_ok-add.ensures.ok, c.in_ok-add_key.ensures.ok, c.in_ok-self.ensures.ok)
-          (sound_added (stage c.make_room.new.self) c.args.key.now c.args.value.now ready.0 ready.1);
-    }
+    λ _. rw (c.in_ok-add.ensures.order, c.in_ok-add.ensures.interval, c.in_ok-add.ensures.ok, c.in_ok-add_key.ensures.ok, c.in_ok-self.ensures.ok)
+    (sound_added (stage c.make_room.new.self) c.args.key.now c.args.value.now ready.0 ready.1)
 
 pub returns-clause-ok : goal.returns-clause-ok
 returns-clause-ok g c =

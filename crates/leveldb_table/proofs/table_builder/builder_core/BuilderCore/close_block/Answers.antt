@@ -1,10 +1,10 @@
-use Rattle.std.proofs.Common.{◌∙◌, sym, refl, inl, inr}
+use Rattle.std.proofs.Common.{◌∙◌, ◌≡◌, ◌+◌, ◌/◌, ◌<◌, ◌≤◌, length, sym, subst, arith, refl, inl, inr}
 use Rattle.std.proofs.lemmas.List.{append-nil}
 use Rattle.std.proofs.lemmas.Result.{err_from_is_err_and}
 use Rattle.leveldb_base.specs.Handle.{handle_bytes}
 use Rattle.leveldb_table.specs.Block.{pairs_of}
 use Rattle.leveldb_table.specs.Table.{with_trailer}
-use Rattle.leveldb_table.proofs.TableSteps.{IfErr-with, OnOk-with, is_line}
+use Rattle.leveldb_table.proofs.TableSteps.{IfErr-below, OnOk-with, is_line}
 use Rattle.leveldb_table.proofs.table_builder.builder_core.BuilderCore.close_block.Goals as goal
 
 pub returns-in_err-separator-clause-cause : goal.returns-in_err-separator-clause-cause
@@ -41,7 +41,7 @@ returns-in_err-add_handle-clause-cause g c =
     inr (
       c.in_ok-placed.placed.handle,
       (placed.0, record { text = c.in_ok-block.block.items; made = rw (sym c.replace.ensures.value) c.in_ok-block.ensures.ok; coded = placed.1 }, c.in_ok-placed.placed.end, placed.2),
-      elim why [ inl code ↦ inl (code, large code) | inr memory ↦ inr (inl memory) ],
+      elim why [ inl code ↦ inr (inl (code, large code)) | inr memory ↦ inl memory ],
     )
     )
     )
@@ -49,12 +49,16 @@ returns-in_err-add_handle-clause-cause g c =
 pub returns-clause-cause : goal.returns-clause-cause
 returns-clause-cause g c =
     let placed = c.in_ok-placed.ensures.ok in
-    IfErr-with c.start_block.result _ _ (λ status why.
+    let handle = c.in_ok-placed.placed.handle in
+    let filters = c.args.self.now.filter.filters in
+    let ends : c.in_ok-placed.placed.end ≡ handle.offset + handle.size + 5 = rw (placed.2.begins, placed.2.size) placed.2.ends in
+    let within : length filters ≤ c.in_ok-placed.placed.end / 2048 = omega (arith, c.requires.closable.ready.filtered, placed.2.ends) in
+    IfErr-below c.start_block.result _ _ (length filters) (c.in_ok-placed.placed.end / 2048) within c.start_block.ensures.none (λ due status why.
     inr (
     inr (
-      c.in_ok-placed.placed.handle,
+      handle,
       (placed.0, record { text = c.in_ok-block.block.items; made = rw (sym c.replace.ensures.value) c.in_ok-block.ensures.ok; coded = placed.1 }, c.in_ok-placed.placed.end, placed.2),
-      inr why,
+      inr (inr (subst (λ end. length filters < end / 2048) ends due, why)),
     )
     )) c.start_block.ensures.cause
 

@@ -72,19 +72,19 @@ returns-then-size_estimate-self-clause-ready g c =
 
 pub returns-then-size_estimate-self-clause-has_room : goal.returns-then-size_estimate-self-clause-has_room
 returns-then-size_estimate-self-clause-has_room g c =
-    let full = is_full c.args.self.now (omega (arith, c.if-entries-gt0.true, c.entries.ensures)) (omega (arith, c.if-size_estimate-self.true, c.size_estimate.ensures)) in
+    let full = is_full c.args.self.now (omega (arith, c.if-entries-gt0.true, c.entries.ensures)) (omega (arith, c.if-size_estimate-self.true, rw c.args.self.now.started.0 at c.size_estimate.ensures)) in
     OnOk-both c.close_block.result _ _ _ (λ closed fresh. inr (full, fresh, closed.0, closed.1, closed.2)) c.close_block.ensures.ok c.close_block.ensures.fresh
 
 pub returns-then-size_estimate-self-clause-cause : goal.returns-then-size_estimate-self-clause-cause
 returns-then-size_estimate-self-clause-cause g c =
-    let full = is_full c.args.self.now (omega (arith, c.if-entries-gt0.true, c.entries.ensures)) (omega (arith, c.if-size_estimate-self.true, c.size_estimate.ensures)) in
+    let full = is_full c.args.self.now (omega (arith, c.if-entries-gt0.true, c.entries.ensures)) (omega (arith, c.if-size_estimate-self.true, rw c.args.self.now.started.0 at c.size_estimate.ensures)) in
     IfErr-with c.close_block.result _ _ (λ status why. (full, why)) c.close_block.ensures.cause
 
 pub returns-clause-has_room : goal.returns-clause-has_room
 returns-clause-has_room g c =
     let room : IsFull c.args.self.now → ⊥ =
     elim c.else-entries-gt0.branch [
-      | else-entries-gt0-via-then-entries-gt0+else-size_estimate-self w ↦ not_full c.args.self.now (inr (omega (arith, w.if-size_estimate-self.false, w.size_estimate.ensures)))
+      | else-entries-gt0-via-then-entries-gt0+else-size_estimate-self w ↦ not_full c.args.self.now (inr (omega (arith, w.if-size_estimate-self.false, rw c.args.self.now.started.0 at w.size_estimate.ensures)))
       | else-entries-gt0-via-else-entries-gt0 w ↦ not_full c.args.self.now (inl (omega (arith, w.if-entries-gt0.false, c.entries.ensures)))
     ]
     in inl (room, refl, refl, refl)
