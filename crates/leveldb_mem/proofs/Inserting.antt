@@ -3,12 +3,12 @@ use Rattle.std.proofs.Common.{◌≡◌, ◌≤◌, ◌<◌, ◌+◌, ◌-◌, �
 use Rattle.std.specs.Prelude.{Contains, IsErrAnd}
 use Rattle.std.proofs.lemmas.List.Elements.{Contains-append_left, Contains-append_right, Contains-append_cases, Contains-push_cases}
 use Rattle.leveldb_base.specs.History.{Item, Entry, placed, greatest}
-use Rattle.leveldb_base.specs.ViewLaws.{AreUpTo}
-use Rattle.leveldb_base.specs.ViewLaws.Elements.{in_none, in_front, in_rest, in_cases}
+use Rattle.leveldb_base.specs.ViewLaws.Elements.{in_front, in_rest}
 use Rattle.leveldb_base.specs.Status.{IsOutOfMemory}
 use Rattle.leveldb_base.specs.declared.error.Status.{Status}
 use Rattle.leveldb_base.specs.declared.error.StatusCode.TheVariants.{NotSupported}
 use Rattle.leveldb_mem.specs.Entries.{Kept, HasRoom, Gains, IsNewTo, AreNewTo, Adds}
+use Rattle.leveldb_mem.specs.EntryLaws.{placed_from}
 use Rattle.leveldb_mem.specs.MemTable.{entry_of}
 
 -- ---- sets that grow
@@ -40,14 +40,6 @@ gained_before these those final more entry one others = λ x. (there x, back x)
         (Contains-append_cases (these ++ entry ∷ []) more x (subst (λ (all : List Entry). Contains all x) (sym whole) h)))
 
 -- ---- numbers
-
-placed_from : (first : ℕ) (items : List Item) (entry : Entry) → Contains (placed first items) entry → first ≤ entry.sequence
-placed_from first [] entry there = absurd (in_none entry there)
-placed_from first (item ∷ items) entry there =
-    ⊎_elim
-    (λ (e : entry_of first item.key item.value ≡ entry). let s = ap (λ (x : Entry). x.sequence) e in omega (arith, s))
-    (λ (rest : Contains (placed (first + 1) items) entry). let low = placed_from (first + 1) items entry rest in omega (arith, low))
-    (in_cases _ entry (placed (first + 1) items) there)
 
 least_fit : (first : ℕ) (items : List Item) → first + length items ≤ 2 ^ 56 → greatest (placed first items) < 2 ^ 56
 least_fit first [] le = omega arith
@@ -122,20 +114,3 @@ module _ (old all : List Entry) (kept : Kept) (sequence : ℕ) (rest : List Item
       new = still_new;
       gains = λ final gains. inserting.gains final (gained_before kept.entries after.entries final (placed (sequence + 1) others) (entry_of sequence item.key item.value) adds.gains gains);
     }
-
--- ---- entries up to a number
-
-pub none_up_to : (n : ℕ) (entries : List Entry) → entries ≡ [] → AreUpTo n entries
-none_up_to n entries none entry there = absurd (in_none entry (subst (λ (es : List Entry). Contains es entry) none there))
-
-pub one_up_to : (n : ℕ) (old new : List Entry) (one : Entry) → AreUpTo n old → Gains old (one ∷ []) new → one.sequence ≤ n → AreUpTo n new
-one_up_to n old new one low gains le entry there =
-    ⊎_elim
-    (λ (was : Contains old entry). low entry was)
-    (λ (e : one ≡ entry). let s = ap (λ (x : Entry). x.sequence) e in omega (arith, s))
-    (Contains-push_cases old one entry ((gains entry).0 there))
-
--- a batch behind them is new
-pub new_behind : (n : ℕ) (entries : List Entry) (first : ℕ) (items : List Item) → AreUpTo n entries → n < first → AreNewTo entries (placed first items)
-new_behind n entries first items low above entry there other was key number =
-    let a = low other was in let b = placed_from first items entry there in omega (arith, a, b, number)

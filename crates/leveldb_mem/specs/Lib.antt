@@ -11,6 +11,7 @@ pub mod ReadingSteps
 pub mod Batch
 pub mod BatchLaws
 pub mod Entries
+pub mod EntryLaws
 pub mod Searching
 pub mod Placed
 pub mod SkipMap

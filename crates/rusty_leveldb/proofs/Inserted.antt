@@ -6,14 +6,10 @@ use Rattle.leveldb_base.specs.History.{Item, Entry, placed, greatest}
 use Rattle.leveldb_base.specs.ViewLaws.{AreUpTo}
 use Rattle.leveldb_mem.specs.Batch.{Batch}
 use Rattle.leveldb_mem.specs.Entries.{Kept, Gains, AreNewTo}
+use Rattle.leveldb_mem.specs.EntryLaws.{new_behind}
 use Rattle.rusty_leveldb.specs.OneLog.{max_sequence}
 use Rattle.rusty_leveldb.specs.Recent.{Numbered, Follows, Inserts}
-use Rattle.rusty_leveldb.proofs.Histories.{placed_above, up_to}
-
--- they are new to entries up to a number below theirs
-pub new_behind : (last : ℕ) (entries : List Entry) (first : ℕ) (items : List Item) → AreUpTo last entries → last < first → AreNewTo entries (placed first items)
-new_behind last entries first items low above entry there other was key number =
-    let a = low other was in let b = placed_above first items last above entry there in omega (arith, a, b, number)
+use Rattle.rusty_leveldb.proofs.Histories.{up_to}
 
 -- all are up to the last of them
 pub up_to_more : (last : ℕ) (entries more after : List Entry) (n : ℕ) → AreUpTo last entries → Gains entries more after → last ≤ n → greatest more ≤ n → AreUpTo n after

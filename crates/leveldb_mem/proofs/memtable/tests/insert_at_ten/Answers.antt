@@ -1,6 +1,0 @@
-use Rattle.std.proofs.Common.{arith}
-use Rattle.leveldb_mem.proofs.Inserting.{new_behind}
-use Rattle.leveldb_mem.proofs.memtable.tests.insert_at_ten.Goals as goal
-
-pub insert_into_memtable-requires : goal.insert_into_memtable-requires
-insert_into_memtable-requires c = new_behind 9 _ 10 c.args.batch.now.items c.requires (omega arith)
