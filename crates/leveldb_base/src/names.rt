@@ -9,9 +9,6 @@ use crate::error::{Result, StatusCode, err};
 use crate::types::{FileNum, FileType};
 use std::alloc::Global;
 
-#[cfg(test)]
-mod tests;
-
 /// The number and the use that a file's name tells, where it is the name of a store's file, without its folder.
 /// The number is 0 where the name has none.
 pub fn parse_file_name(alloc: Global, name: &str) -> Result<(FileNum, FileType)>

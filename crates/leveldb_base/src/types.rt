@@ -10,9 +10,6 @@ pub use crate::names::parse_file_name;
 use bytes::Bytes;
 use std::alloc::Global;
 
-#[cfg(test)]
-mod tests;
-
 /// The number that a file of a store has in its name.
 pub type FileNum = u64;
 

@@ -21,7 +21,6 @@ pub mod Filters
 pub mod FilterBlock
 pub mod FilterBlockParts
 pub mod FilterBlockLaws
-pub mod JoinedKeys
 pub mod Bloom
 pub mod BloomLaws
 pub mod InternalFilters

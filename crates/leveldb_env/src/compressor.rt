@@ -228,6 +228,3 @@ fn put(listed: &mut Vec<Listed>, id: u8, compressor: Box<dyn Compressor>) -> Res
     listed.push(Listed { id, compressor })?;
     Ok(())
 }
-
-#[cfg(test)]
-mod tests;

@@ -8,8 +8,6 @@ ghost use Rattle.leveldb_env.specs.Calls.{Does, EitherSide, Appending, Still, An
 pub mod env_file;
 pub mod sink;
 pub mod source;
-#[cfg(test)]
-mod tests;
 pub mod whole_files;
 
 pub use env_file::EnvFile;

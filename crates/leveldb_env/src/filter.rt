@@ -128,37 +128,3 @@ fn key_at<'a>(keys: &'a [u8], key_offsets: &[usize], index: usize) -> &'a [u8]
     };
     &keys[key_offsets[index]..end]
 }
-
-#[cfg(test)]
-mod tests {
-    use super::*;
-
-    /// A key of those that a filter is made for, looked for in it under any policy.
-    fn is_found<FP: FilterPolicy + Drop>(
-        policy: FP,
-        alloc: Global,
-        keys: &[u8],
-        key_offsets: &[usize],
-        key: &[u8],
-    ) -> Result<bool>
-        requires rising { IsNonDecreasing key_offsets.now }
-        requires within { All (λ offset. offset ≤ length keys.now) key_offsets.now }
-        requires there { Contains (keys_at key_offsets.now keys.now) key.now }
-        ensures { IfOk result (λ found. found ≡ true) }
-    {
-        let filter = policy.create_filter(alloc, keys, key_offsets)?;
-        Ok(policy.key_may_match(key, &filter))
-    }
-
-    #[test]
-    fn no_filter_matches_all(rt: HostRuntime) -> Result<()> {
-        let policy = NoFilterPolicy::new();
-        assert_eq!(rt; policy.name(), "_");
-        let filter = policy.create_filter(rt.alloc(), b"abcde", &[0, 3])?;
-        assert!(rt; filter.is_empty());
-        assert!(rt; policy.key_may_match(b"abc", &filter));
-        assert!(rt; policy.key_may_match(b"x", b"any filter"));
-        assert!(rt; is_found(&policy, rt.alloc(), b"abcde", &[0, 3], b"abc")?);
-        Ok(())
-    }
-}

@@ -335,6 +335,3 @@ pub fn filter_blocks_have_one_reading()
 pub fn added_keys_pass<FP: FilterPolicy>(_policy: &FP)
     ensures { KeepsKeys FP FP.filter_for FP.matches }
 {}
-
-#[cfg(test)]
-mod tests;

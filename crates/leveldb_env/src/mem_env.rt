@@ -11,8 +11,6 @@ pub mod files;
 mod journal;
 pub mod picks;
 mod record;
-#[cfg(test)]
-mod tests;
 
 use crate::env::Env;
 use files::FileMap;

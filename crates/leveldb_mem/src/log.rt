@@ -6,8 +6,6 @@ ghost use Rattle.leveldb_mem.specs.Log.{record_type};
 
 mod files;
 mod reader;
-#[cfg(test)]
-mod tests;
 mod writer;
 
 pub use files::read_log_file;

@@ -28,8 +28,6 @@ use std::marker::Model;
 
 mod as_of;
 mod iterator;
-#[cfg(test)]
-mod tests;
 
 pub use iterator::MemtableIterator;
 

@@ -18,8 +18,6 @@ use std::marker::Model;
 
 pub(crate) mod placed;
 pub(crate) mod search;
-#[cfg(test)]
-mod tests;
 
 /// Pairs whose keys rise strictly. Each of them is accepted by the comparator, and none is empty.
 #[derive(Drop)]

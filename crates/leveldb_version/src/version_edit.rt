@@ -18,8 +18,6 @@ use std::alloc::Global;
 use std::collections::BTreeSet;
 
 mod fields;
-#[cfg(test)]
-mod tests;
 
 use fields::{
     LAST_SEQUENCE, LOG_NUMBER, LentField, NEXT_FILE_NUMBER, PREV_LOG_NUMBER, put_comparator,

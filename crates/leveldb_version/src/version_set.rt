@@ -9,9 +9,6 @@ use leveldb_base::error::{Result, StatusCode, err};
 use leveldb_base::types::{FileNum, FileType, parse_file_name};
 use std::alloc::Global;
 
-#[cfg(test)]
-mod tests;
-
 /// The path of a manifest.
 pub fn manifest_file_name(alloc: Global, store: &str, number: FileNum) -> Result<String>
     ensures ok { IfOk result (λ name. string_bytes name ≡ file_path store.now FileType.Descriptor number) }

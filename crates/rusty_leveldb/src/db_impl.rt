@@ -8,8 +8,6 @@ mod read;
 mod recent;
 mod replay;
 mod store;
-#[cfg(test)]
-mod tests;
 mod write;
 
 pub use engine::{Engine, Mode};

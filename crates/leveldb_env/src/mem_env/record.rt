@@ -1,9 +1,6 @@
 //! A disk in memory that tells what its files were at each moment.
 ghost use Rattle.std.specs.Prelude.{◌≡◌, ◌<◌, ◌+◌, ◌-◌, ◌^◌, ◌==◌, ◌&&◌, ◌||◌, min, true, false, Bool, ℕ, List, None, Some, if◌then◌else◌, not, IsErr, IsErrAnd, OnOk};
 
-#[cfg(test)]
-mod tests;
-
 use crate::env::Env;
 use crate::mem_env::journal::{Asked, Change, Journal, may_stand, name_in};
 use crate::mem_env::{MemHandle, Pick, files, missing, picks, put_lock, refuse, take_lock};

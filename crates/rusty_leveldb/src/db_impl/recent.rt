@@ -7,9 +7,6 @@ ghost use Rattle.leveldb_mem.specs.Entries.{HasRoom, FindsNewest};
 ghost use Rattle.rusty_leveldb.specs.Recent.{Follows, Inserts, AreUsedUp, lent_newest};
 ghost use Rattle.rusty_leveldb.specs.OneLog.{max_sequence};
 
-#[cfg(test)]
-mod tests;
-
 use leveldb_base::cmp::{Cmp, UserCmp};
 use leveldb_base::error::{Result, StatusCode, err};
 use leveldb_base::types::{MAX_SEQUENCE_NUMBER, SequenceNumber};

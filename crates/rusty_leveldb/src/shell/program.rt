@@ -16,9 +16,6 @@ use std::alloc::{AllocError, Global};
 use std::fmt;
 use std::io::{self, Read, Write};
 
-#[cfg(test)]
-mod tests;
-
 /// How many bytes of commands are read at most.
 const MOST_INPUT: u64 = 1 << 26;
 

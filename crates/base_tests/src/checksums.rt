@@ -1,0 +1,70 @@
+//! Checksums of catalogues, masked ones, and those of texts in pieces beside a slow one, bit by bit.
+use leveldb_base::crc::{crc32, digest, mask_crc, unmask_crc};
+
+// Bit by bit.
+fn shifted(mut register: u32) -> u32 {
+    for _ in 0..8 {
+        let half = register >> 1;
+        register = if register & 1 == 1 {
+            half ^ 0x82f6_3b78
+        } else {
+            half
+        };
+    }
+    register
+}
+
+fn slow_crc32(data: &[u8]) -> u32 {
+    let mut register = 0xffff_ffff;
+    for byte in data {
+        register = shifted(register ^ u32::from(*byte));
+    }
+    register ^ 0xffff_ffff
+}
+
+fn sample() -> [u8; 100] {
+    let mut text = [0; 100];
+    for i in 0..100u8 {
+        text[i as usize] = i ^ (i << 3);
+    }
+    text
+}
+
+// The first two are iSCSI's examples, and the third is what catalogues of checksums give.
+#[test]
+fn known_sums(rt: HostRuntime) {
+    assert_eq!(rt; crc32(&[0; 32]), 0x8a91_36aa);
+    assert_eq!(rt; crc32(&[0xff; 32]), 0x62a8_ab43);
+    assert_eq!(rt; crc32(b"123456789"), 0xe306_9283);
+    assert_eq!(rt; crc32(b""), 0);
+}
+
+#[test]
+fn masks(rt: HostRuntime) {
+    assert_eq!(rt; mask_crc(0xe306_9283), 0xc78a_b0e5);
+    assert_eq!(rt; unmask_crc(0xc78a_b0e5), 0xe306_9283);
+}
+
+#[test]
+fn every_cut_gives_the_sum_of_the_whole(rt: HostRuntime) {
+    let text = sample();
+    let whole = slow_crc32(&text);
+    for cut in 0..101 {
+        let mut digest = digest();
+        digest.update(&text[..cut]);
+        digest.update(&text[cut..]);
+        assert_eq!(rt; digest.finalize(), whole, "cut at {cut}");
+    }
+}
+
+#[test]
+fn every_length_agrees_with_the_bits(rt: HostRuntime) {
+    let text = sample();
+    for len in 0..41 {
+        assert_eq!(rt;
+            crc32(&text[..len]),
+            slow_crc32(&text[..len]),
+            "length {len}"
+        );
+    }
+}

@@ -1,0 +1,346 @@
+//! An iterator over pairs in memory, one that fails, and either of two, which show that the trait can be met.
+ghost use Rattle.std.specs.Prelude.{◌≡◌, ◌+◌, ◌^◌, ◌<◌, ◌⊎◌, [], None, length, IfOk, IfErr, IsErrAnd};
+ghost use Rattle.std.specs.Option.{ForSome, option_map_or};
+ghost use Rattle.leveldb_base.specs.Bytewise.{bytewise};
+ghost use Rattle.leveldb_base.specs.Places.{count_before};
+
+use bytes::Bytes;
+use leveldb_base::error::{Result, Status, StatusCode};
+use leveldb_base::types::{
+    Direction, LdbIterator, MAX_SEQUENCE_NUMBER, NUM_LEVELS, current_key_val,
+};
+use std::alloc::Global;
+use std::test::Fail;
+
+/// A walk over a sorted list in memory.
+#[derive(Drop)]
+struct Listed {
+    pairs: Vec<(Bytes, Bytes)>,
+    at: Option<usize>,
+    ghost within: { ForSome at (λ i. i < length pairs.items) },
+}
+
+/// How many keys at the front are before the key.
+fn keys_before(pairs: &Vec<(Bytes, Bytes)>, key: &[u8]) -> usize
+    ensures { result ≡ count_before bytewise key.now pairs.now.items }
+{
+    let mut n = 0;
+    for pair in pairs {
+        if pair.0.as_slice().cmp(key).is_ge() {
+            break;
+        }
+        n += 1;
+    }
+    n
+}
+
+impl LdbIterator for Listed {
+    ghost use Rattle.std.proofs.Common.{rules};
+
+    ghost pairs = { λ it. it.pairs.items };
+
+    ghost place = { λ it. it.at };
+
+    ghost order = { λ _. bytewise };
+
+    ghost fails = { λ _ _ _. ⊥ };
+
+    fn advance(&mut self) -> Result<bool> {
+        let next = match self.at {
+            None => 0,
+            Some(i) => i + 1,
+        };
+        let there = next < self.pairs.len();
+        self.at = if there { Some(next) } else { None };
+        Ok(there)
+    }
+
+    fn prev(&mut self) -> Result<bool> {
+        self.at = match self.at {
+            Some(i) if i > 0 => Some(i - 1),
+            _ => None,
+        };
+        Ok(self.at.is_some())
+    }
+
+    fn seek(&mut self, key: &[u8]) -> Result<()> {
+        let n = keys_before(&self.pairs, key);
+        self.at = if n < self.pairs.len() { Some(n) } else { None };
+        Ok(())
+    }
+
+    fn current(&self) -> Option<(&[u8], &[u8])> {
+        match self.at {
+            None => None,
+            Some(i) => {
+                let pair = &self.pairs[i];
+                Some((pair.0.as_slice(), pair.1.as_slice()))
+            }
+        }
+    }
+
+    fn reset(&mut self) {
+        self.at = None;
+    }
+
+    fn valid(&self) -> bool {
+        self.at.is_some()
+    }
+
+    ghost in_range = { λ it. Prim.search rules };
+}
+
+/// A walk that is refused at each move.
+#[derive(Drop)]
+struct Broken;
+
+impl LdbIterator for Broken {
+    ghost use Rattle.leveldb_base.specs.declared.error.StatusCode.TheVariants.{IOError};
+
+    ghost pairs = { λ _. [] };
+
+    ghost place = { λ _. None };
+
+    ghost order = { λ _. bytewise };
+
+    ghost fails = { λ _ _ status. status.code ≡ IOError };
+
+    fn advance(&mut self) -> Result<bool> {
+        refused()
+    }
+
+    fn prev(&mut self) -> Result<bool> {
+        refused()
+    }
+
+    fn seek(&mut self, _key: &[u8]) -> Result<()> {
+        refused()
+    }
+
+    fn current(&self) -> Option<(&[u8], &[u8])> {
+        None
+    }
+
+    fn reset(&mut self) {}
+
+    fn valid(&self) -> bool {
+        false
+    }
+
+    ghost in_range = { λ _. tt };
+}
+
+fn refused<T>() -> Result<T>
+    ensures { IsErrAnd result (λ status. status.code ≡ StatusCode.IOError) }
+{
+    Err(Status {
+        code: StatusCode::IOError,
+        err: None,
+    })
+}
+
+/// A walk of one of two kinds.
+#[derive(Drop)]
+enum Either<A, B> {
+    Left(A),
+    Right(B),
+}
+
+impl<A: LdbIterator, B: LdbIterator> LdbIterator for Either<A, B> {
+    ghost use Rattle.base_tests.specs.declared.iterators.Either.TheVariants.{Left, Right};
+
+    ghost pairs = { elim [ Left it ↦ A.pairs it | Right it ↦ B.pairs it ] };
+
+    ghost place = { elim [ Left it ↦ A.place it | Right it ↦ B.place it ] };
+
+    ghost order = { elim [ Left it ↦ A.order it | Right it ↦ B.order it ] };
+
+    ghost fails = { λ a b status. elim a [ Left old ↦ elim b [ Left new ↦ A.fails old new status | Right _ ↦ ⊥ ] | Right old ↦ elim b [ Left _ ↦ ⊥ | Right new ↦ B.fails old new status ] ] };
+
+    fn advance(&mut self) -> Result<bool> {
+        match self {
+            Either::Left(it) => it.advance(),
+            Either::Right(it) => it.advance(),
+        }
+    }
+
+    fn prev(&mut self) -> Result<bool> {
+        match self {
+            Either::Left(it) => it.prev(),
+            Either::Right(it) => it.prev(),
+        }
+    }
+
+    fn seek(&mut self, key: &[u8]) -> Result<()> {
+        match self {
+            Either::Left(it) => it.seek(key),
+            Either::Right(it) => it.seek(key),
+        }
+    }
+
+    fn current(&self) -> Option<(&[u8], &[u8])> {
+        match self {
+            Either::Left(it) => it.current(),
+            Either::Right(it) => it.current(),
+        }
+    }
+
+    fn reset(&mut self) {
+        match self {
+            Either::Left(it) => it.reset(),
+            Either::Right(it) => it.reset(),
+        }
+    }
+
+    fn valid(&self) -> bool {
+        match self {
+            Either::Left(it) => it.valid(),
+            Either::Right(it) => it.valid(),
+        }
+    }
+
+    ghost in_range = { elim [ Left it ↦ A.in_range it | Right it ↦ B.in_range it ] };
+}
+
+/// How many pairs come after its place, or in all where it has none. It ends at no place.
+fn count_left<I: LdbIterator>(it: &mut I) -> Result<usize>
+    requires { length (I.pairs it.old) < 2 ^ 64 }
+    ensures same_pairs { I.pairs it.new ≡ I.pairs it.old }
+    ensures count { IfOk result (λ n. n + option_map_or (λ i. i + 1) (I.place it.old) 0 ≡ length (I.pairs it.old)) }
+    ensures no_place { I.place it.new ≡ None }
+    ensures cause { IfErr result (I.fails it.old it.new) }
+    ensures excuses { (other : I) (status : Status) → I.fails it.new other status → I.fails it.old other status }
+{
+    let mut n = 0;
+    while it.advance()? {
+        n += 1;
+    }
+    Ok(n)
+}
+
+const PAIRS: [(&[u8], &[u8]); 3] = [(b"a", b"1"), (b"ab", b""), (b"c", b"3")];
+
+fn pair(i: Option<usize>) -> Option<(&'static [u8], &'static [u8])> {
+    PAIRS.get(i?).copied()
+}
+
+fn walk(alloc: Global) -> Result<Either<Listed, Broken>> {
+    let mut pairs = Vec::new(alloc);
+    for (key, value) in PAIRS {
+        pairs.push((Bytes::from_static(key), Bytes::from_static(value)))?;
+    }
+    Ok(Either::Left(Listed { pairs, at: None }))
+}
+
+/// Makes a move for each letter: advance, prev, the first pair, next, reset.
+fn go<I: LdbIterator>(alloc: Global, it: &mut I, moves: &str) -> Result<()> {
+    for letter in moves.bytes() {
+        match letter {
+            b'a' => drop(it.advance()?),
+            b'p' => drop(it.prev()?),
+            b'f' => it.seek_to_first()?,
+            b'n' => drop(it.next(alloc)?),
+            _ => it.reset(),
+        }
+    }
+    Ok(())
+}
+
+#[test]
+fn turns_at_every_place(rt: HostRuntime) -> std::result::Result<(), Fail> {
+    let mut it = walk(rt.alloc())?;
+    for (moves, place) in [
+        ("", None),
+        ("a", Some(0)),
+        ("aa", Some(1)),
+        ("aaa", Some(2)),
+        ("aaaa", None),
+        ("aaaaa", Some(0)),
+        ("p", None),
+        ("pa", Some(0)),
+        ("ap", None),
+        ("apa", Some(0)),
+        ("aap", Some(0)),
+        ("aapa", Some(1)),
+        ("aaap", Some(1)),
+        ("aaapa", Some(2)),
+        ("aaapp", Some(0)),
+        ("aaappp", None),
+        ("aaaap", None),
+        ("f", Some(0)),
+        ("aaf", Some(0)),
+        ("fp", None),
+        ("n", Some(0)),
+        ("nnn", Some(2)),
+        ("nnnn", None),
+        ("aar", None),
+        ("aara", Some(0)),
+    ] {
+        it.reset();
+        go(rt.alloc(), &mut it, moves)?;
+        assert_eq!(rt; it.current(), pair(place), "after {moves}");
+        assert_eq!(rt; it.valid(), place.is_some(), "after {moves}");
+    }
+    Ok(())
+}
+
+#[test]
+fn seeks_at_and_between_all_keys(rt: HostRuntime) -> std::result::Result<(), Fail> {
+    let mut it = walk(rt.alloc())?;
+    for (key, place) in [
+        ("", Some(0)),
+        ("A", Some(0)),
+        ("a", Some(0)),
+        ("a\0", Some(1)),
+        ("ab", Some(1)),
+        ("ab\0", Some(2)),
+        ("b", Some(2)),
+        ("c", Some(2)),
+        ("c\0", None),
+        ("d", None),
+    ] {
+        it.seek(key.as_bytes())?;
+        assert_eq!(rt; it.current(), pair(place), "at {key}");
+    }
+    Ok(())
+}
+
+#[test]
+fn copies_pairs(rt: HostRuntime) -> std::result::Result<(), Fail> {
+    let mut it = walk(rt.alloc())?;
+    assert_eq!(rt; current_key_val(rt.alloc(), &it)?, None);
+    for (key, value) in PAIRS {
+        let next = Some((key.to_vec(rt.alloc())?, value.to_vec(rt.alloc())?));
+        assert_eq!(rt; it.next(rt.alloc())?, next);
+        assert_eq!(rt; current_key_val(rt.alloc(), &it)?, next);
+    }
+    assert_eq!(rt; it.next(rt.alloc())?, None);
+    Ok(())
+}
+
+#[test]
+fn counts_what_is_left(rt: HostRuntime) -> std::result::Result<(), Fail> {
+    let mut it = walk(rt.alloc())?;
+    for (moves, left) in [("", 3), ("a", 2), ("aaa", 0)] {
+        it.reset();
+        go(rt.alloc(), &mut it, moves)?;
+        assert_eq!(rt; count_left(&mut it)?, left, "after {moves}");
+    }
+    Ok(())
+}
+
+#[test]
+fn a_refused_move_leaves_no_place(rt: HostRuntime) {
+    let mut it: Either<Listed, Broken> = Either::Right(Broken);
+    for moves in ["a", "p", "f", "n"] {
+        assert!(rt; go(rt.alloc(), &mut it, moves).is_err());
+        assert_eq!(rt; it.current(), None);
+    }
+}
+
+#[test]
+fn numbers(rt: HostRuntime) {
+    assert_eq!(rt; NUM_LEVELS, 7);
+    assert_eq!(rt; MAX_SEQUENCE_NUMBER, 72_057_594_037_927_935);
+    assert_ne!(rt; Direction::Forward, Direction::Reverse);
+}

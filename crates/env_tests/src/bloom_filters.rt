@@ -1,0 +1,168 @@
+//! Bloom filters: the hash of a key, and the bits that keys set.
+use leveldb_base::error::{Result, StatusCode};
+use leveldb_env::filter::{BloomPolicy, FilterPolicy};
+
+const SEED: u32 = 0xbc9f_1d34;
+
+const FACTOR: u32 = 0xc6a4_a793;
+
+const KEYS: &[u8] = b"abc123def456xxx111xxx222ab00cd00ab908070605040302010";
+
+const OFFSETS: &[usize] = &[0, 12, 24, 34];
+
+// The key from each offset on.
+const EACH_KEY: [&[u8]; 4] = [
+    b"abc123def456",
+    b"xxx111xxx222",
+    b"ab00cd00ab",
+    b"908070605040302010",
+];
+
+// The hash by the bytes of each word, from the last on.
+fn slow_hash(key: &[u8]) -> u32 {
+    let mut hash = SEED ^ FACTOR.wrapping_mul((key.len() % (1 << 32)) as u32);
+    for word in key.chunks(4) {
+        let mut number = 0u32;
+        for byte in word.iter().rev() {
+            number = number.wrapping_mul(256).wrapping_add(u32::from(*byte));
+        }
+        hash = hash.wrapping_add(number).wrapping_mul(FACTOR);
+        hash ^= if word.len() == 4 {
+            hash >> 16
+        } else {
+            hash >> 24
+        };
+    }
+    hash
+}
+
+// How many bytes of bits filters have. No two of these numbers have a common factor, and their product is above 2^29:
+// two hashes with the same bit in a filter of each length are the same.
+const LENGTHS: [u8; 5] = [55, 59, 61, 63, 64];
+
+// Whether this is the key's hash: filters of one probe, in which the bit of this hash alone is set, match the key.
+fn has_hash(key: &[u8], hash: u32) -> bool {
+    let policy = BloomPolicy::new(10);
+    let mut found = true;
+    for len in LENGTHS {
+        let len = usize::from(len);
+        let bit = hash as usize % (8 * len).max(1);
+        let mut filter = [0; 256];
+        filter[bit / 8] = 1 << (bit % 8);
+        filter[len] = 1;
+        let filter = filter.as_slice().get(..len + 1).unwrap_or_default();
+        found &= policy.key_may_match(key, filter);
+    }
+    found
+}
+
+// Whether so many bits of the key are set in these bytes, each found by its number.
+fn slow_match(key: &[u8], bytes: &[u8], count: u8) -> bool {
+    let hash = u64::from(slow_hash(key));
+    let delta = hash * 0x8000 % 0x1_0000_0000 + hash / 0x2_0000;
+    let bits = (bytes.len() as u64).wrapping_mul(8).max(1);
+    let mut found = true;
+    for turn in 0..u64::from(count) {
+        let bit = hash.wrapping_add(turn.wrapping_mul(delta)) % 0x1_0000_0000 % bits;
+        let byte = bytes.get((bit / 8) as usize).copied().unwrap_or(0);
+        found &= byte >> (bit % 8) & 1 == 1;
+    }
+    found
+}
+
+// These hashes are LevelDB's.
+#[test]
+fn known_hashes(rt: HostRuntime) {
+    assert!(rt; has_hash(b"", 0xbc9f_1d34));
+    assert!(rt; !has_hash(b"", 0xbc9f_1d35));
+    assert!(rt; has_hash(&[0x62], 0xef13_45c4));
+    assert!(rt; has_hash(&[0xc3, 0x97], 0x5b66_3814));
+    assert!(rt; has_hash(&[0xe2, 0x99, 0xa5], 0x323c_078f));
+    assert!(rt; has_hash(&[0xe1, 0x80, 0xb9, 0x32], 0xed21_633a));
+}
+
+#[test]
+fn every_length_is_hashed_by_words(rt: HostRuntime) {
+    for len in 0..KEYS.len() + 1 {
+        let key = &KEYS[..len];
+        assert!(rt; has_hash(key, slow_hash(key)), "length {len}");
+    }
+}
+
+// The crate's tests have the two filters.
+#[test]
+fn known_filters(rt: HostRuntime) -> Result<()> {
+    let policy = BloomPolicy::new(12);
+    assert_eq!(rt; policy.name(), "leveldb.BuiltinBloomFilter2");
+    let filter = policy.create_filter(rt.alloc(), KEYS, OFFSETS)?;
+    assert_eq!(rt;
+        filter.as_slice(),
+        [194, 148, 129, 140, 192, 196, 132, 164, 8].as_slice()
+    );
+    for key in [b"abc123def456", b"xxx111xxx222"] {
+        assert!(rt; policy.key_may_match(key, &filter));
+    }
+    assert!(rt; policy.key_may_match(b"908070605040302010", &filter));
+    assert!(rt; policy.key_may_match(b"ab00cd00ab", &filter));
+    assert!(rt; !policy.key_may_match(b"ab00cd00ac", &filter));
+    let policy = BloomPolicy::new(32);
+    let filter = policy.create_filter(rt.alloc(), b"abcdefghijklmnopqrstuvwxyz", &[0, 4, 8, 12])?;
+    let bytes = [
+        234, 195, 25, 155, 61, 141, 173, 140, 221, 28, 222, 92, 220, 112, 234, 227, 22,
+    ];
+    assert_eq!(rt; filter.as_slice(), bytes.as_slice());
+    Ok(())
+}
+
+#[test]
+fn bits_are_those_of_the_keys(rt: HostRuntime) -> Result<()> {
+    for bits_per_key in [0, 1, 2, 10, 14, 15, 16, 32, 43, 44, 100] {
+        let policy = BloomPolicy::new(bits_per_key);
+        let filter = policy.create_filter(rt.alloc(), KEYS, OFFSETS)?;
+        let Some((count, bits)) = filter.split_last() else {
+            panic!(rt; "no count");
+        };
+        for key in EACH_KEY {
+            assert!(rt; slow_match(key, bits, *count));
+        }
+        for len in 0..KEYS.len() + 1 {
+            let key = &KEYS[..len];
+            assert_eq!(rt;
+                policy.key_may_match(key, &filter),
+                slow_match(key, bits, *count)
+            );
+        }
+    }
+    Ok(())
+}
+
+#[test]
+fn filters_that_tell_nothing(rt: HostRuntime) -> Result<()> {
+    let policy = BloomPolicy::new(10);
+    let rows: [(&[u8], bool); 7] = [
+        (&[], true),
+        (&[6], true),
+        (&[0, 0, 31], true),
+        (&[0, 0, 255], true),
+        (&[0, 0, 0], true),
+        (&[0, 0, 30], false),
+        (&[0, 1], false),
+    ];
+    for (filter, matches) in rows {
+        assert_eq!(rt; policy.key_may_match(b"abc", filter), matches, "{filter:?}");
+    }
+    let none = policy.create_filter(rt.alloc(), b"", &[])?;
+    assert_eq!(rt; none.as_slice(), [0, 0, 0, 0, 0, 0, 0, 0, 6].as_slice());
+    Ok(())
+}
+
+#[test]
+fn filters_past_32_bits_are_refused(rt: HostRuntime) {
+    for (bits_per_key, offsets) in [(u32::MAX, &[0][..]), (u32::MAX / 3, &[0, 0, 0, 0][..])] {
+        let Err(status) = BloomPolicy::new(bits_per_key).create_filter(rt.alloc(), b"abc", offsets)
+        else {
+            panic!(rt; "a filter of {bits_per_key} bits a key");
+        };
+        assert_eq!(rt; status.code, StatusCode::NotSupported);
+    }
+}

@@ -1,0 +1,212 @@
+//! Any sink and any source at work: what a caller knows of the vector, slice or file behind them.
+ghost use Rattle.std.specs.Prelude.{◌≡◌, ◌≢◌, ◌⊎◌, ◌++◌, false, ℕ, List, All, IfOk, IfErr, OnOk, IsTrue};
+ghost use Rattle.std.specs.Str.{bytes_eq};
+ghost use Rattle.leveldb_env.specs.Disk.{Files, kept_file};
+ghost use Rattle.leveldb_env.specs.Times.{Since};
+ghost use Rattle.leveldb_env.specs.Runs.{Run};
+ghost use Rattle.leveldb_env.specs.Sinks.{PutsAll, PutsPart};
+ghost use Rattle.leveldb_env.specs.OpenFiles.{opened, Syncs, IsLonger, IsPartlyPut};
+
+use leveldb_base::error::{Result, Status, StatusCode};
+use leveldb_env::env::source::read_to_end;
+use leveldb_env::env::whole_files::{read_file, replace_file};
+use leveldb_env::env::{Env, EnvFile, Sink, Source};
+use leveldb_env::mem_env::{MemEnv, Pick};
+use std::alloc::Global;
+
+fn put_pair<S: Sink>(sink: &mut S, first: &[u8], second: &[u8]) -> Result<()>
+    ensures ok { OnOk result (PutsAll S.puts sink.old (first.now ++ second.now) sink.new) }
+    ensures err { IfErr result (λ status. (bytes : List ℕ) × PutsPart S.puts sink.old bytes status sink.new) }
+{
+    sink.put_all(first)?;
+    sink.put_all(second)
+}
+
+fn pair(alloc: Global, first: &[u8], second: &[u8]) -> Result<Vec<u8>>
+    ensures { IfOk result (λ all. all.items ≡ first.now ++ second.now) }
+{
+    let mut all = Vec::new(alloc);
+    put_pair(&mut all, first, second)?;
+    all.flush()?;
+    Ok(all)
+}
+
+fn put_pair_behind(all: &mut Vec<u8>, first: &[u8], second: &[u8]) -> Result<()>
+    ensures { OnOk result (all.new.items ≡ all.old.items ++ (first.now ++ second.now)) }
+{
+    let mut lent = all;
+    put_pair(&mut lent, first, second)
+}
+
+fn put_pair_in_file<E: Env>(
+    env: &mut E,
+    file: &mut E::File,
+    first: &[u8],
+    second: &[u8],
+) -> Result<()>
+    ensures ok { OnOk result (IsLonger E.Env (opened env.old file.old) (first.now ++ second.now) (opened env.new file.new)) }
+    ensures err { IfErr result (λ status. (bytes : List ℕ) × IsPartlyPut E.Env (opened env.old file.old) bytes status (opened env.new file.new)) }
+{
+    put_pair(&mut EnvFile { env, file }, first, second)
+}
+
+fn flush_file<E: Env>(env: &mut E, file: &mut E::File) -> Result<()>
+    ensures { Syncs E.Env (opened env.old file.old) result (opened env.new file.new) }
+{
+    EnvFile { env, file }.flush()
+}
+
+fn rest_of(alloc: Global, bytes: &[u8]) -> Result<Vec<u8>>
+    ensures { IfOk result (λ all. all.items ≡ bytes.now) }
+{
+    let mut source = bytes;
+    read_to_end(alloc, &mut source)
+}
+
+/// A crash at any moment leaves the old file or the new one, where the old one was kept.
+fn replace_kept<E: Env>(env: &mut E, temp: &str, name: &str, bytes: &[u8]) -> Result<()>
+    requires { temp.now ≢ name.now }
+    ensures { IsTrue E.tells_disk → (was : List ℕ) → (E.tells env.old).disk.files name.now ≡ Some (kept_file was)
+        → (files left : Files) → Since (E.tells env.new) (E.tells env.old).moment files left
+        → (left name.now ≡ Some (kept_file was)) ⊎ (left name.now ≡ Some (kept_file bytes.now)) }
+{
+    replace_file(env, temp, name, bytes)
+}
+
+/// One file after another gets these bytes, each by way of the same temporary file.
+fn replace_each<E: Env>(env: &mut E, temp: &str, names: &[&str], bytes: &[u8]) -> Result<()>
+    requires { All (λ name. temp.now ≢ name.now) names.now }
+    ensures passes { IsTrue E.tells_disk → let first = (E.tells env.old).disk.files in
+        Run (λ files. (other : List ℕ) → bytes_eq temp.now other ≡ false → (files other ≡ first other) ⊎ (files other ≡ Some (kept_file bytes.now)))
+        (E.tells env.old) (E.tells env.new) }
+    ensures counted { OnOk result (E.failures env.new ≡ E.failures env.old) }
+{
+    for name in names {
+        replace_file(env, temp, name, bytes)?;
+    }
+    Ok(())
+}
+
+/// The code of a refusal that is expected; want of memory is passed on.
+fn refusal<T: Drop>(answer: Result<T>) -> Result<Option<StatusCode>> {
+    let Some(status) = answer.err() else {
+        return Ok(None);
+    };
+    if status.code == StatusCode::OutOfMemory {
+        return Err(status);
+    }
+    Ok(Some(status.code))
+}
+
+#[test]
+fn puts_go_behind(rt: HostRuntime) -> Result<()> {
+    let mut all = pair(rt.alloc(), b"ab", b"c")?;
+    put_pair_behind(&mut all, b"", b"de")?;
+    assert_eq!(rt; all.as_slice(), b"abcde".as_slice());
+    let mut lent = &mut all;
+    lent.flush()?;
+    assert_eq!(rt; all.as_slice(), b"abcde".as_slice());
+    Ok(())
+}
+
+#[test]
+fn a_slice_gives_all_its_bytes(rt: HostRuntime) -> Result<()> {
+    for len in [0, 1, 4095, 4096, 4097, 10_000] {
+        let bytes = vec![in rt.alloc(); 7u8; len]?;
+        assert_eq!(rt; rest_of(rt.alloc(), &bytes)?, bytes, "of {len}");
+    }
+    Ok(())
+}
+
+/// A source that gives so many bytes, one at each read, and is refused then.
+#[derive(Drop)]
+struct Halting {
+    left: u8,
+}
+
+impl Source for Halting {
+    ghost gives = { λ _ _ _ _. Unit {0} };
+
+    fn read_some(&mut self, target: &mut [u8]) -> Result<usize> {
+        let Some(first) = target.first_mut() else {
+            return Ok(0);
+        };
+        if self.left == 0 {
+            return Err(Status {
+                code: StatusCode::IOError,
+                err: None,
+            });
+        }
+        self.left -= 1;
+        *first = self.left;
+        Ok(1)
+    }
+}
+
+#[test]
+fn a_refused_read_is_passed_on(rt: HostRuntime) -> Result<()> {
+    for left in [0, 1, 3] {
+        let mut source = Halting { left };
+        let answer = read_to_end(rt.alloc(), &mut &mut source);
+        assert_eq!(rt; refusal(answer)?, Some(StatusCode::IOError), "after {left}");
+        assert_eq!(rt; source.left, 0);
+    }
+    Ok(())
+}
+
+#[test]
+fn pieces_go_into_a_file_and_come_back(rt: HostRuntime) -> Result<()> {
+    let mut env = MemEnv::new(rt.alloc());
+    let mut file = env.open_writable_file("db/000003.log")?;
+    let long = vec![in rt.alloc(); 7u8; 10_000]?;
+    put_pair_in_file(&mut env, &mut file, b"ab", &long)?;
+    let mut all = pair(rt.alloc(), b"ab", &long)?;
+    assert_eq!(rt; read_file(rt.alloc(), &mut env, "db/000003.log")?, all);
+    let nothing = Pick {
+        tails: Vec::new(rt.alloc()),
+        after: false,
+    };
+    let mut crashed = env.crashed(rt.alloc(), &nothing)?;
+    all.clear();
+    assert_eq!(rt;
+        read_file(rt.alloc(), &mut crashed, "db/000003.log")?,
+        all,
+        "not flushed"
+    );
+    flush_file(&mut env, &mut file)?;
+    let mut crashed = env.crashed(rt.alloc(), &nothing)?;
+    assert_eq!(rt;
+        read_file(rt.alloc(), &mut crashed, "db/000003.log")?.len(),
+        10_002,
+        "flushed"
+    );
+    Ok(())
+}
+
+#[test]
+fn a_file_is_replaced(rt: HostRuntime) -> Result<()> {
+    let mut env = MemEnv::new(rt.alloc());
+    for text in [b"MANIFEST-000001\n", b"MANIFEST-000005\n"] {
+        replace_kept(&mut env, "db/000001.dbtmp", "db/CURRENT", text)?;
+        let mut crashed = env.crashed(
+            rt.alloc(),
+            &Pick {
+                tails: Vec::new(rt.alloc()),
+                after: false,
+            },
+        )?;
+        assert_eq!(rt;
+            read_file(rt.alloc(), &mut crashed, "db/CURRENT")?.as_slice(),
+            text.as_slice()
+        );
+    }
+    assert!(rt; !env.exists("db/000001.dbtmp")?);
+    replace_each(&mut env, "tmp", &["a", "b"], b"x")?;
+    assert_eq!(rt;
+        read_file(rt.alloc(), &mut env, "b")?.as_slice(),
+        b"x".as_slice()
+    );
+    let answer = read_file(rt.alloc(), &mut env, "tmp");
+    assert_eq!(rt; refusal(answer)?, Some(StatusCode::NotFound));
+    Ok(())
+}

@@ -1,0 +1,11 @@
+//! The tests of logs, batches and memtables.
+#![tactic(auto)]
+
+#[cfg(test)]
+mod logs;
+#[cfg(test)]
+mod memtables;
+#[cfg(test)]
+mod skipmaps;
+#[cfg(test)]
+mod write_batches;

@@ -1,0 +1,203 @@
+//! Batches that come one after another: what is found behind them, and the numbers that stand in the log.
+use leveldb_base::cmp::DefaultCmp;
+use leveldb_base::error::{Result, StatusCode};
+use leveldb_base::key_types::ValueType;
+use leveldb_base::types::{MAX_SEQUENCE_NUMBER, SequenceNumber};
+use leveldb_env::env::Env;
+use leveldb_env::filter::BloomPolicy;
+use leveldb_env::mem_env::MemEnv;
+use leveldb_env::options::Options;
+use leveldb_mem::log::{LogWriter, read_log_file};
+use leveldb_mem::memtable::MemTable;
+use leveldb_mem::write_batch::WriteBatch;
+use rusty_leveldb::db_impl::Engine;
+use std::alloc::Global;
+use std::process::Abort;
+
+const LOG: &str = "db/000003.log";
+
+type Change = (&'static [u8], Option<&'static [u8]>);
+
+/// The changes of a batch, what a store answers that is given it, and for some keys the value that is then found, or none.
+type Step = (&'static [Change], StatusCode, &'static [Change]);
+
+/// Later changes win over earlier ones, of the same batch too; an empty batch changes nothing.
+const WINS: [Step; 4] = [
+    (
+        &[(b"k", Some(b"1")), (b"a", None), (b"k", Some(b"2"))],
+        StatusCode::OK,
+        &[(b"k", Some(b"2")), (b"a", None)],
+    ),
+    (&[], StatusCode::OK, &[(b"k", Some(b"2")), (b"a", None)]),
+    (
+        &[(b"k", None), (b"z", Some(b"3"))],
+        StatusCode::OK,
+        &[(b"k", None), (b"a", None), (b"z", Some(b"3")), (b"b", None)],
+    ),
+    (&[], StatusCode::OK, &[(b"k", None), (b"z", Some(b"3"))]),
+];
+
+/// Behind k with the value 1, when two numbers are left. What is refused leaves all as it was.
+const RUNS_OUT: [Step; 4] = [
+    (
+        &[(b"k", None), (b"a", Some(b"2")), (b"z", Some(b"2"))],
+        StatusCode::NotSupported,
+        &[(b"k", Some(b"1")), (b"a", None), (b"z", None)],
+    ),
+    (&[], StatusCode::OK, &[(b"k", Some(b"1")), (b"z", None)]),
+    (
+        &[(b"k", None), (b"z", Some(b"3"))],
+        StatusCode::OK,
+        &[(b"k", None), (b"a", None), (b"z", Some(b"3"))],
+    ),
+    (
+        &[(b"z", Some(b"4"))],
+        StatusCode::NotSupported,
+        &[(b"k", None), (b"z", Some(b"3"))],
+    ),
+];
+
+/// The changes as one batch.
+fn batch_of(alloc: Global, changes: &[Change]) -> Result<WriteBatch> {
+    let mut batch = WriteBatch::new(alloc)?;
+    for (key, value) in changes {
+        match value {
+            None => batch.delete(key)?,
+            Some(value) => batch.put(key, value)?,
+        }
+    }
+    Ok(batch)
+}
+
+/// What a status has as its code, or `OK`.
+fn code_of(answer: Result<()>) -> StatusCode {
+    match answer {
+        Ok(()) => StatusCode::OK,
+        Err(status) => status.code,
+    }
+}
+
+fn assert_found(
+    rt: &impl Abort,
+    engine: &Engine<MemEnv, DefaultCmp, BloomPolicy>,
+    rows: &[Change],
+) -> Result<()> {
+    for (key, wanted) in rows {
+        match engine.get(key)? {
+            None => assert!(rt; wanted.is_none(), "no {key:?}"),
+            Some(value) => assert_eq!(rt; Some(value.as_slice()), *wanted),
+        }
+    }
+    Ok(())
+}
+
+/// Gives a store these batches, one after another.
+fn play(rt: &impl Abort, alloc: Global, env: &mut MemEnv, steps: &[Step]) -> Result<()> {
+    let mut engine = Engine::open(alloc, "db", env, Options::default())?;
+    for (changes, code, found) in steps {
+        let batch = batch_of(alloc, changes)?;
+        assert_eq!(rt; code_of(engine.write(env, batch, false)), *code);
+        assert_found(rt, &engine, found)?;
+    }
+    engine.abandon(env)
+}
+
+/// The log of a store whose one batch begins at this number.
+fn put_log(
+    alloc: Global,
+    env: &mut MemEnv,
+    first: SequenceNumber,
+    changes: &[Change],
+) -> Result<()> {
+    let mut batch = batch_of(alloc, changes)?;
+    batch.set_sequence(first);
+    let mut writer = LogWriter::new(alloc, Vec::new(alloc));
+    writer.add_record(batch.contents())?;
+    let mut file = env.open_writable_file(LOG)?;
+    env.append(&mut file, &writer.sink)
+}
+
+/// The batches that stand in the log.
+fn logged(alloc: Global, env: &mut MemEnv) -> Result<Vec<WriteBatch>> {
+    let (records, _) = read_log_file(alloc, env, LOG)?;
+    let mut batches = Vec::new(alloc);
+    for record in &records {
+        let mut batch = WriteBatch::new(alloc)?;
+        batch.set_contents(record)?;
+        batches.push(batch)?;
+    }
+    Ok(batches)
+}
+
+/// The first number of each batch in the log, and how many changes it has.
+fn numbers(alloc: Global, env: &mut MemEnv) -> Result<Vec<(SequenceNumber, u32)>> {
+    let mut numbers = Vec::new(alloc);
+    for batch in &logged(alloc, env)? {
+        numbers.push((batch.sequence(), batch.count()))?;
+    }
+    Ok(numbers)
+}
+
+/// The entries in the log, each at its number.
+fn entries(rt: &impl Abort, alloc: Global, env: &mut MemEnv) -> Result<MemTable<DefaultCmp>> {
+    let mut table = MemTable::new(alloc, DefaultCmp);
+    for batch in &logged(alloc, env)? {
+        let mut sequence = batch.sequence();
+        for (key, value) in batch.iter() {
+            assert!(rt; sequence < 100);
+            match value {
+                None => table.add(sequence, ValueType::TypeDeletion, key, b"")?,
+                Some(value) => table.add(sequence, ValueType::TypeValue, key, value)?,
+            }
+            sequence += 1;
+        }
+    }
+    Ok(table)
+}
+
+/// An empty batch takes no number. The log keeps each change at its number, and a deletion is an entry like any other.
+#[test]
+fn later_changes_win(rt: HostRuntime) -> Result<()> {
+    let alloc = rt.alloc();
+    let mut env = MemEnv::new(alloc);
+    play(&rt, alloc, &mut env, &WINS)?;
+    assert_eq!(rt;
+        numbers(alloc, &mut env)?.as_slice(),
+        [(1, 3), (4, 0), (4, 2), (6, 0)].as_slice()
+    );
+    let table = entries(&rt, alloc, &mut env)?;
+    let rows: [(&[u8], SequenceNumber, Option<Option<&[u8]>>); 9] = [
+        (b"k", 0, None),
+        (b"k", 1, Some(Some(b"1"))),
+        (b"k", 2, Some(Some(b"1"))),
+        (b"k", 3, Some(Some(b"2"))),
+        (b"k", 5, Some(None)),
+        (b"a", 5, Some(None)),
+        (b"z", 5, Some(Some(b"3"))),
+        (b"z", 4, None),
+        (b"b", 5, None),
+    ];
+    for (key, sequence, wanted) in rows {
+        assert!(rt; sequence < 100);
+        assert!(rt;
+            table.newest(key, sequence) == wanted,
+            "{key:?} at {sequence}"
+        );
+    }
+    Ok(())
+}
+
+/// The last number of all is given out, and none behind it.
+#[test]
+fn numbers_run_out(rt: HostRuntime) -> Result<()> {
+    let alloc = rt.alloc();
+    let mut env = MemEnv::new(alloc);
+    let last = MAX_SEQUENCE_NUMBER - 2;
+    put_log(alloc, &mut env, last, &[(b"k", Some(b"1"))])?;
+    play(&rt, alloc, &mut env, &RUNS_OUT)?;
+    assert_eq!(rt;
+        numbers(alloc, &mut env)?.as_slice(),
+        [(last, 1), (last + 1, 0), (last + 1, 2)].as_slice()
+    );
+    Ok(())
+}

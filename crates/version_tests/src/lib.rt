@@ -1,0 +1,7 @@
+//! The tests of version edits and of the names that a version set makes.
+#![tactic(auto)]
+
+#[cfg(test)]
+mod version_edits;
+#[cfg(test)]
+mod version_sets;
