@@ -3,7 +3,7 @@ use leveldb_base::cmp::{Cmp, DefaultCmp};
 use std::cmp::Ordering;
 use std::test::Fail;
 
-// The expected separators and successors are those of LevelDB's rules, worked by hand.
+// The expected separators and successors are those of docs/FORMATS.md, worked by hand.
 #[test]
 fn separators(rt: HostRuntime) -> Result<(), Fail> {
     let cases: [(&[u8], &[u8], &[u8]); 10] = [

@@ -10,7 +10,7 @@ fn order_and_name<C: Cmp + Copy>(cmp: C, a: &[u8], b: &[u8]) -> (Ordering, bool,
     (cmp.cmp(a, b), cmp.accepts(a), cmp.id())
 }
 
-// The expected keys are those of LevelDB's rules, worked by hand.
+// The expected keys are those of docs/FORMATS.md, worked by hand.
 #[test]
 fn separators(rt: HostRuntime) -> Result<()> {
     let rows: [(&[u8], u64, &[u8], u64, &[u8], u64); 7] = [

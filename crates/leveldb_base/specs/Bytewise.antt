@@ -1,4 +1,4 @@
--- The separator and the successor of LevelDB's bytewise comparator.
+-- The order of bytes, and its separator and successor as the crate gives them; LevelDB's own leave more keys as they are.
 use Rattle.std.specs.Prelude.{ℕ, ◌+◌, Bool, if◌then◌else◌, nat_lt, nat_eq, List, [], ◌∷◌, ◌++◌, take, slice_index, Option, None, Some, unwrap_or}
 use Rattle.std.specs.Option.{option_map}
 use Rattle.std.specs.declared.cmp.Ordering.{Ordering}

@@ -1,4 +1,4 @@
--- The laws of LevelDB's bytewise comparator.
+-- The laws of the order of bytes, of its separator and of its successor.
 use Rattle.std.specs.Prelude.{◌≡◌, ◌≢◌, ℕ, ◌+◌, Bool, true, false, nat_lt, nat_eq, if◌then◌else◌, List, [], ◌∷◌, ◌++◌, Option, Some, None, unwrap_or, refl}
 use Rattle.std.proofs.Common.{arith, sym, cond}
 use Rattle.std.specs.declared.cmp.Ordering.{Ordering}

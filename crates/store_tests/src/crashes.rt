@@ -1,5 +1,5 @@
-//! A store in memory behind each of a dozen batches, and every tail of its log that a crash may leave: the map that is found is that
-//! of a beginning with all that was synced, and the store goes on from there.
+//! A store in memory behind each of a dozen batches, and each beginning of its log's unsynced bytes, and all of these with the last byte
+//! changed: the map that is found is that of a beginning with all that was synced, and the store goes on from there.
 use crate::slow::{Item as SlowItem, SlowStore};
 use leveldb_base::cmp::DefaultCmp;
 use leveldb_base::error::Result;
