@@ -1,6 +1,6 @@
 -- Runs of commands, one request after another.
 use Rattle.std.proofs.Common.{◌≡◌, ◌<◌, ◌+◌, inl, inr, ℕ, Bool, List, [], ◌∷◌, ◌++◌, length, take, refl, sym, ◌∙◌, ap, subst, Option, Some, None, Result, Ok, Err, IsTrue}
-use Rattle.std.specs.Prelude.{map}
+use Rattle.std.specs.Prelude.{map, OnErr}
 use Rattle.std.proofs.Math.ListN.{get_or}
 use Rattle.std.specs.declared.cmp.Ordering.{Ordering}
 use Rattle.std.proofs.lemmas.List.{map-append, take_more}
@@ -19,6 +19,11 @@ use Rattle.rusty_leveldb.specs.Runs.{Event, Run, faults_of}
 use Rattle.rusty_leveldb.specs.Serves.{Reads, Represents, IsConversation, done_or, refusal_of}
 use Rattle.rusty_leveldb.specs.Engine.{Recalls, Answers, AnswersAs, IsOpening, no_engine}
 use Rattle.rusty_leveldb.specs.Shell.{NoCoder, Leads, LeadsThrough, Plays, PlaysAlways, request_of, answer_of}
+
+-- what holds anyway holds of a refusal
+pub OnErr-always : {T E P : Type 0} (result : Result T E) → P → OnErr result P
+OnErr-always (Ok value) h = tt
+OnErr-always (Err error) h = h
 
 -- an answer in which no coder took part
 abbrev pub event_of : Request → Answer → ℕ → Event

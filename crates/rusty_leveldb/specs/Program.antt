@@ -1,15 +1,17 @@
 -- What the program does: it reads commands, runs them, and writes the replies.
-use Rattle.std.specs.Prelude.{◌≡◌, ◌≢◌, ◌<◌, ◌≤◌, ◌^◌, ℕ, List, [], ◌∷◌, length, Option, Ok, IfSome, true, String, string_bytes}
+use Rattle.std.specs.Prelude.{◌≡◌, ◌≢◌, ◌⊎◌, ◌<◌, ◌≤◌, ◌^◌, ℕ, List, [], ◌∷◌, length, Option, Result, Ok, IfSome, IsTrue, true, String, string_bytes}
 use Rattle.std.specs.Io.KnownBytes.{Appends}
 use Rattle.std.specs.declared.alloc.Global.{Global}
 use Rattle.leveldb_base.specs.Bytewise.{bytewise}
 use Rattle.leveldb_base.specs.declared.cmp.DefaultCmp.{DefaultCmp}
+use Rattle.leveldb_base.specs.declared.error.Status.{Status}
 use Rattle.leveldb_env.specs.declared.env.Env.{Ghosts}
 use Rattle.rusty_leveldb.specs.declared.shell.commands.Command.{Command}
 use Rattle.rusty_leveldb.specs.declared.shell.commands.Reply.{Reply}
 use Rattle.rusty_leveldb.specs.declared.shell.program.Fault.{Fault}
 use Rattle.rusty_leveldb.specs.declared.shell.program.Fault.TheVariants as fault
 use Rattle.rusty_leveldb.specs.Language.{IsScript, IsBadLine, reply_lines}
+use Rattle.rusty_leveldb.specs.Serves.{Reads, IsUnreadable}
 use Rattle.rusty_leveldb.specs.Shell.{PlaysAlways}
 
 -- the status that a fault ends the program with
@@ -47,13 +49,22 @@ abbrev pub IsInput : Option (List ℕ) → List Command → Type 0
 IsInput input commands = (text : List ℕ) × IfSome input (λ bytes. text ≡ bytes) × (length text ≤ 2 ^ 26) × IsScript text commands
 
 module _ {E F : Type 0} (env : Ghosts E F) where
-  -- The commands were run in a folder, each was replied to, and the output grew by the replies' lines. The filter policy is seen as its
-  -- number of bits a key.
+  -- The commands were run in a folder, with these replies, and the run ended so. The filter policy is seen as its number of bits a key.
+  abbrev pub HasRun : List ℕ → List Command → E → List Reply → Result (Unit {0}) Status → E → Type 0
+  HasRun folder commands from given ended to = PlaysAlways DefaultCmp ℕ env bytewise folder from true commands given ended to
+
+  -- The commands were run in a folder whose store could be read, each was replied to, and the output grew by the replies' lines.
   abbrev pub IsPlayed : List ℕ → List Command → E → E → Option (List ℕ) → Option (List ℕ) → Type 0
   IsPlayed folder commands from to held holds = (given : List Reply) × (length given ≡ length commands)
-      × PlaysAlways DefaultCmp ℕ env bytewise folder from true commands given (Ok tt) to × Appends held holds (reply_lines given)
+      × HasRun folder commands from given (Ok tt) to × Appends held holds (reply_lines given)
+      × (IsTrue env.tells_disk → IsUnreadable (Reads folder) (env.tells from).disk.files → ⊥)
 
   -- the one argument is a folder, and the commands that the input spells were run in it
   abbrev pub IsAnswered : List (String Global) → E → E → Option (List ℕ) → Option (List ℕ) → Option (List ℕ) → Type 0
   IsAnswered args from to input held holds = (folder : String Global) × (args ≡ folder ∷ []) × (commands : List Command) × IsInput input commands
       × IsPlayed (string_bytes folder) commands from to held holds
+
+  -- the program left the environment as it was, or it ran the commands that the input spells in the folder that is the one argument
+  abbrev pub IsStopped : List (String Global) → E → E → Option (List ℕ) → Type 0
+  IsStopped args from to input = (to ≡ from) ⊎ ((folder : String Global) × (args ≡ folder ∷ []) × (commands : List Command) × IsInput input commands
+      × (given : List Reply) × (ended : Result (Unit {0}) Status) × HasRun (string_bytes folder) commands from given ended to)

@@ -1,11 +1,12 @@
 //! The public store: an engine beside a borrow of its environment. Its calls lend the environment to the engine.
-ghost use Rattle.std.specs.Prelude.{◌≡◌, ◌⊎◌, ◌∷◌, [], Some, None, true, false, IfOk, IfErr, IsTrue};
+ghost use Rattle.std.specs.Prelude.{◌≡◌, ◌⊎◌, ◌∷◌, [], Some, None, true, false, IfOk, IfErr, OnOk, IsTrue};
 ghost use Rattle.leveldb_env.specs.Calls.{HasCause};
 ghost use Rattle.leveldb_mem.specs.Batch.{item_of};
 ghost use Rattle.rusty_leveldb.specs.State.{Opening, open_store, write, get, flush, close, abandon, done, refused};
-ghost use Rattle.rusty_leveldb.specs.Serves.{done_or, found_or, refusal_of};
-ghost use Rattle.rusty_leveldb.specs.Engine.{IsOpening, no_engine, AnswersAs, Answers, OpenExcused, WriteExcused, SyncExcused, CloseExcused, GetExcused};
+ghost use Rattle.rusty_leveldb.specs.Serves.{Reads, IsUnreadable, done_or, found_or, refusal_of};
+ghost use Rattle.rusty_leveldb.specs.Engine.{IsStoreName, IsOpening, no_engine, AnswersAs, Answers, OpenExcused, WriteExcused, SyncExcused, CloseExcused, GetExcused};
 ghost use Rattle.rusty_leveldb.specs.Causes.{HasFailed};
+ghost use Rattle.rusty_leveldb.specs.Recovery.{StaysUnopened};
 
 use super::engine::Engine;
 use bytes::Bytes;
@@ -52,7 +53,7 @@ impl<'e, E: Env, S: Drop> Store<'e, E, S> {
 impl<'e, E: Env, C: UserCmp + Copy, FP: FilterPolicy + Copy> Store<'e, E, Engine<E, C, FP>> {
     /// Opens the store under this name, which isn't empty and doesn't end in a slash.
     /// A missing store is made, or `InvalidArgument` where the options say so; a locked one is `LockError`.
-    /// A refused opening gives back the lock that it took.
+    /// A refused opening gives back the lock that it took; a damaged store is never opened.
     pub fn open(
         alloc: Global,
         name: &str,
@@ -63,11 +64,14 @@ impl<'e, E: Env, C: UserCmp + Copy, FP: FilterPolicy + Copy> Store<'e, E, Engine
         ensures options { IfOk result (λ db. db.state.options ≡ options) }
         ensures step { IfOk result (λ db. (opening : Opening) → IsOpening name.now options.create_if_missing opening
             → AnswersAs E.Env (C.cmp options.cmp) name.now None env.old (open_store opening) done (Some db.state) db.env.now) }
+        ensures misnamed { (IsStoreName name.now → ⊥) → OnOk result ⊥ }
+        ensures whole { OnOk result (IsTrue E.tells_disk → IsUnreadable (Reads name.now) (E.tells env.old).disk.files → ⊥) }
         ensures cause { IfOk result (λ db. E.failures db.env.now ≡ E.failures env.old) }
         ensures refused { IfErr result (λ status. (left : E)
             × ((opening : Opening) → IsOpening name.now options.create_if_missing opening
             → AnswersAs E.Env (C.cmp options.cmp) name.now (no_engine options) env.old (open_store opening) (refused (refusal_of status)) (no_engine options) left)
-            × (OpenExcused E.tells_disk name.now options.create_if_missing (E.tells env.old) status ⊎ HasFailed (E.failures env.old) (E.failures left))) }
+            × (OpenExcused E.tells_disk name.now options.create_if_missing (E.tells env.old) status ⊎ HasFailed (E.failures env.old) (E.failures left))
+            × (IsTrue E.tells_disk → StaysUnopened name.now options.create_if_missing (E.tells env.old).disk (E.tells left).disk (E.failures env.old) (E.failures left))) }
     {
         let engine = Engine::open(alloc, name, &mut *env, options)?;
         Ok(Store::around(env, engine))

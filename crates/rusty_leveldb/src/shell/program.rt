@@ -1,8 +1,10 @@
 //! The program: commands in, their replies out.
-ghost use Rattle.std.specs.Prelude.{◌≡◌, ◌≢◌, ◌≤◌, ◌^◌, length, IfOk, IfErr, IfSome, OnOk, IsErrAnd};
+ghost use Rattle.std.specs.Prelude.{◌≡◌, ◌≢◌, ◌≤◌, ◌^◌, List, Result, length, IfOk, IfErr, IfSome, OnOk, OnErr, IsErrAnd};
+ghost use Rattle.leveldb_base.specs.declared.error.Status.{Status};
 ghost use Rattle.std.specs.Io.KnownBytes.{Appends};
 ghost use Rattle.rusty_leveldb.specs.Language.{reply_lines};
-ghost use Rattle.rusty_leveldb.specs.Program.{status_of, IsInputFault, IsFault, IsMisasked, IsInput, IsPlayed, IsAnswered};
+ghost use Rattle.rusty_leveldb.specs.Program.{status_of, IsInputFault, IsFault, IsMisasked, IsInput, HasRun, IsPlayed, IsAnswered, IsStopped};
+ghost use Rattle.rusty_leveldb.specs.declared.shell.commands.Reply.{Reply};
 ghost use Rattle.rusty_leveldb.specs.declared.shell.program.Fault.TheVariants.{Usage};
 
 use super::commands::{Command, Reply};
@@ -57,6 +59,7 @@ pub fn ldb_main<E: Env, I: Read, O: Write, F: Write>(
     ensures untouched { result ≡ 2 → (env.new ≡ env.old) × (out.new ≡ out.old) }
     ensures misasked { result ≡ 2 → IsMisasked args.now (I.remaining input.old) }
     ensures usage { length args.now ≢ 1 → result ≡ 2 }
+    ensures stopped { result ≡ 1 → IsStopped E.Env args.now env.old env.new (I.remaining input.old) }
     ensures statuses { result ≤ 2 }
 {
     match serve(alloc, env, args, input, out) {
@@ -87,6 +90,7 @@ fn serve<E: Env, I: Read, O: Write>(
 ) -> Result<(), Fault>
     ensures answered { OnOk result (IsAnswered E.Env args.now env.old env.new (I.remaining input.old) (O.contents out.old) (O.contents out.new)) }
     ensures untouched { IfErr result (λ fault. status_of fault ≡ 2 → (env.new ≡ env.old) × (out.new ≡ out.old)) }
+    ensures stopped { OnErr result (IsStopped E.Env args.now env.old env.new (I.remaining input.old)) }
     ensures fault { IfErr result (IsFault args.now (I.remaining input.old)) }
     ensures usage { length args.now ≢ 1 → IsErrAnd result (λ fault. fault ≡ Usage) }
 {
@@ -105,7 +109,8 @@ fn play<E: Env, O: Write>(
     commands: &[Command],
     out: &mut O,
 ) -> Result<(), Status>
-    ensures { OnOk result (IsPlayed E.Env folder.now commands.now env.old env.new (O.contents out.old) (O.contents out.new)) }
+    ensures played { OnOk result (IsPlayed E.Env folder.now commands.now env.old env.new (O.contents out.old) (O.contents out.new)) }
+    ensures run { (given : List Reply) × (ended : Result (Unit {0}) Status) × HasRun E.Env folder.now commands.now env.old given ended env.new }
 {
     let mut replies = Vec::new(alloc);
     let played = run(env, folder, Options::default(), commands, &mut replies);
