@@ -25,6 +25,7 @@ use Rattle.rusty_leveldb.specs.Machine.{StepIn, Responds}
 use Rattle.rusty_leveldb.specs.Serves.{Reads, StandsFor, Represents, done_or, refusal_of, faults_between}
 use Rattle.rusty_leveldb.specs.Engine.{Recalls, WritesOn, mode_of, Answers}
 use Rattle.rusty_leveldb.proofs.Ended.{broke, ended, broke_still, ended_still, broke_covered, ended_covered}
+use Rattle.rusty_leveldb.proofs.Foreign.{spares_same, spares_synced, spares_others, others_still}
 
 -- ---- causes
 
@@ -122,7 +123,7 @@ module _ {E C FP F I : Type 0} {D : I → Type 0} (env : Ghosts E F) (cmp : List
           step = subst (λ m. StepIn cmp m (faults_between (env.failures at) (env.failures now)) old close (refused (refusal_of status)) (broke old old.covered)) (sym mode) (cause.0, cause.1, record { state = refl; covered = inl refl });
         };
         files = record { reading = λ never. absurd never; refused = λ never. absurd never; broken = λ is. absurd (not_both old.mode mode is) };
-        others = λ name differs. ap (λ (locked : List ℕ → Bool). locked name) (syncs.locks told);
+        others = spares_others store (env.tells at).disk (env.tells now).disk (spares_same store (syncs.undone told)) (syncs.locks told);
       }
 
   -- an engine that was closed remembers that alone
@@ -182,7 +183,7 @@ module _ {E C FP F I : Type 0} {D : I → Type 0} (env : Ghosts E F) (cmp : List
             step = subst (λ m. StepIn cmp m (faults_between (env.failures at) (env.failures now)) old close (refused (refusal_of status)) (broke old (length old.history))) (sym is) (cause.0, cause.1, record { state = refl; covered = inr refl });
           };
           files = record { reading = λ never. absurd never; refused = λ never. absurd never; broken = λ stuck. absurd (not_both old.mode is stuck) };
-          others = λ name differs. ap (λ (locked : List ℕ → Bool). locked name) (relocks told ∙ flushed.flushed.locks told);
+          others = spares_others store (env.tells at).disk (env.tells now).disk (spares_synced store (env.tells at).disk.files (env.tells now).disk.files (all told store old represents (does.now told))) (relocks told ∙ flushed.flushed.locks told);
         }
 
     -- it was done: the store is closed
@@ -203,9 +204,12 @@ module _ {E C FP F I : Type 0} {D : I → Type 0} (env : Ghosts E F) (cmp : List
             step = subst (λ m. StepIn cmp m (faults_between (env.failures at) (env.failures now)) old close done (ended old (length old.history) false)) (sym is) (λ never. never, record { state = refl });
           };
           files = record { reading = λ never. absurd never; refused = λ never. absurd never; broken = λ stuck. absurd (not_both old.mode is stuck) };
-          others = λ name differs. ap (λ (locked : List ℕ → Bool). locked name) (relocks told)
-              ∙ freed_other lock name (env.tells mid).disk.locked (λ e. differs (e ∙ same_lock told store old represents (does.now told)))
-              ∙ ap (λ (locked : List ℕ → Bool). locked name) (flushed.flushed.locks told);
+          others = record {
+            files = spares_synced store (env.tells at).disk.files (env.tells now).disk.files (all told store old represents (does.now told));
+            locks = λ name differs. ap (λ (locked : List ℕ → Bool). locked name) (relocks told)
+                ∙ freed_other lock name (env.tells mid).disk.locked (λ e. differs (e ∙ same_lock told store old represents (does.now told)))
+                ∙ ap (λ (locked : List ℕ → Bool). locked name) (flushed.flushed.locks told);
+          };
         }
 
   -- ---- a store that is abandoned
@@ -219,7 +223,7 @@ module _ {E C FP F I : Type 0} {D : I → Type 0} (env : Ghosts E F) (cmp : List
         represents = record { disk_is = represents.disk_is; memory_is = is };
         step = record { later = omega arith; step = subst (λ m. StepIn cmp m (faults_between (env.failures at) (env.failures at)) old abandon done old) (sym is) (refl, refl) };
         files = record { reading = λ never. absurd never; refused = λ never. absurd never; broken = λ stuck name some. some };
-        others = λ name differs. refl;
+        others = others_still store (env.tells at).disk;
       }
 
   module _ (before : Engine E C FP F I D) (at now : E) (differs : before.mode ≡ Closed → ⊥) (lock : List ℕ) (lock_is : lock ≡ string_bytes before.lock) where
@@ -241,7 +245,7 @@ module _ {E C FP F I : Type 0} {D : I → Type 0} (env : Ghosts E F) (cmp : List
                 (abandons cmp (faults_between (env.failures at) (env.failures now)) old (ended old old.covered old.locked) (refused (refusal_of status)) before.mode differs (cause.0, cause.1, record { state = refl }));
           };
           files = record { reading = λ never. absurd never; refused = λ never. absurd never; broken = λ stuck name some. subst (λ (files : Files). IsSome (files name)) (sym (does.now told)) some };
-          others = λ name differs. ap (λ (locked : List ℕ → Bool). locked name) (relocks told);
+          others = spares_others store (env.tells at).disk (env.tells now).disk (spares_same store (does.now told)) (relocks told);
         }
 
     -- the lock is free
@@ -263,7 +267,10 @@ module _ {E C FP F I : Type 0} {D : I → Type 0} (env : Ghosts E F) (cmp : List
                 (abandons cmp (faults_between (env.failures at) (env.failures now)) old (ended old old.covered false) done before.mode differs (λ never. never, record { state = refl }));
           };
           files = record { reading = λ never. absurd never; refused = λ never. absurd never; broken = λ stuck name some. subst (λ (files : Files). IsSome (files name)) (sym (does.now told)) some };
-          others = λ name apart. ap (λ (locked : List ℕ → Bool). locked name) (relocks told) ∙ freed_other lock name (env.tells at).disk.locked (λ e. apart (e ∙ same_lock));
+          others = record {
+            files = spares_same store (does.now told);
+            locks = λ name apart. ap (λ (locked : List ℕ → Bool). locked name) (relocks told) ∙ freed_other lock name (env.tells at).disk.locked (λ e. apart (e ∙ same_lock));
+          };
         }
 
     -- either

@@ -21,6 +21,7 @@ use Rattle.rusty_leveldb.specs.Causes.{Faults, bad_operand, out_of_memory, Misfi
 use Rattle.rusty_leveldb.specs.Machine.{StepIn, Responds}
 use Rattle.rusty_leveldb.specs.Serves.{refusal_of, found_or}
 use Rattle.rusty_leveldb.specs.Engine.{IsShut, mode_of, Remembers, Recalls, AnswersStill}
+use Rattle.rusty_leveldb.proofs.Foreign.{others_still}
 
 -- ---- what is found
 
@@ -60,7 +61,7 @@ module _ {E C FP F I : Type 0} {D : I → Type 0} (env : Ghosts E F) (cmp : List
     represents = represents;
     step = record { later = omega arith; step = stays store (env.tells at).disk old represents.disk_is.is_state represents.memory_is _ };
     files = record { reading = λ reading. refl; refused = λ logging answer usable. refl; broken = λ is name there. there };
-    others = λ name other. refl;
+    others = others_still store (env.tells at).disk;
   }
 
   -- a store that isn't closed responds in either mode

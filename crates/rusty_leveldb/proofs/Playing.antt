@@ -18,6 +18,7 @@ use Rattle.rusty_leveldb.specs.Machine.{Step}
 use Rattle.rusty_leveldb.specs.Runs.{Event, Run, faults_of}
 use Rattle.rusty_leveldb.specs.Serves.{Reads, Represents, IsConversation, done_or, refusal_of}
 use Rattle.rusty_leveldb.specs.Engine.{Recalls, Answers, AnswersAs, IsOpening, no_engine}
+use Rattle.rusty_leveldb.proofs.Foreign.{others_then}
 use Rattle.rusty_leveldb.specs.Shell.{NoCoder, Leads, LeadsThrough, Plays, PlaysAlways, request_of, answer_of}
 
 -- what holds anyway holds of a refusal
@@ -58,6 +59,7 @@ module _ {E F C FP I : Type 0} {D : I → Type 0} (env : Ghosts E F) (cmp : List
         new = goes.new;
         run = run_more cmp (env.failures from) (env.failures mid) old led.new goes.new led.events (event_of request answer (env.failures to)) led.run goes.step;
         represents = goes.represents;
+        others = others_then store (env.tells from).disk (env.tells mid).disk (env.tells to).disk led.others goes.others;
       }
 
   pub first_one : (from to : E) (after : Option (Engine E C FP F I D)) (request : Request) (answer : Answer) (old : State)
@@ -71,6 +73,7 @@ module _ {E F C FP I : Type 0} {D : I → Type 0} (env : Ghosts E F) (cmp : List
         new = goes.new;
         run = (goes.new, goes.step, (refl, refl));
         represents = goes.represents;
+        others = goes.others;
       }
 
 -- the same in an order that is the same
@@ -102,6 +105,7 @@ module _ {E F I : Type 0} {D : I → Type 0} (C FP : Type 0) (env : Ghosts E F) 
     new = led.new;
     run = led.run;
     represents = no_other (env.tells to).disk led.new led.represents;
+    others = led.others;
   }
 
   -- so far the store was opened and these commands were given these replies, from every state that the disk stood for

@@ -4,9 +4,10 @@ use Rattle.leveldb_base.specs.declared.error.Status.{Status}
 use Rattle.leveldb_base.specs.declared.error.StatusCode.TheVariants.{InvalidArgument, NotFound, Corruption}
 use Rattle.leveldb_env.specs.Disk.{File, Disk, bytes_of, kept_file, file_kept}
 use Rattle.leveldb_env.specs.Calls.{NoMemory}
+use Rattle.leveldb_env.specs.FileLaws.{SameBut}
 use Rattle.leveldb_mem.specs.Log.{log_block_size, End, clean, IsLogFile, framed}
 use Rattle.leveldb_mem.specs.Writing.{Writing}
-use Rattle.rusty_leveldb.specs.Names.{lock_path}
+use Rattle.rusty_leveldb.specs.Names.{lock_path, SparesOthers}
 use Rattle.rusty_leveldb.specs.OneLog.{log_path, IsRead}
 use Rattle.rusty_leveldb.specs.Contents.{Contents}
 use Rattle.rusty_leveldb.specs.Causes.{HasFailed}
@@ -42,11 +43,13 @@ abbrev pub SparesLog : Bool → Option File → Option File → Type 0
 SparesLog create was now = (now ≡ was) ⊎ ((records : List (List ℕ)) × (end : End) × IsFoundAs create was records end × IsKeptLog records now)
 
 -- What a refused opening leaves, whatever stands under the store's name: its log as it was, or with the records that were found
--- there; and all locks as they were, or the store's held, where giving it back was refused, too, and that was counted.
+-- there; its lock as it was, or held, where giving it back was refused, too, and that was counted; where it was held before, all
+-- files but the lock's; and what isn't the store's.
 pub record StaysUnopened (name : List ℕ) (create : Bool) (old new : Disk) (before now : ℕ) : Type 0 where
   pub log : SparesLog create (old.files (log_path name)) (new.files (log_path name))
   pub lock : (new.locked (lock_path name) ≡ old.locked (lock_path name)) ⊎ ((new.locked (lock_path name) ≡ true) × ((before < now) ⊎ (now ≡ 2 ^ 64 - 1)))
-  pub others : (other : List ℕ) → other ≢ lock_path name → new.locked other ≡ old.locked other
+  pub held : IsTrue (old.locked (lock_path name)) → SameBut (lock_path name) old.files new.files
+  pub others : SparesOthers name old new
 
 -- The log has the records that were found there, all its bytes kept, and ends cleanly; memory has what they say, and the writer stands at the end.
 pub record IsRecovered (create : Bool) (was now : Option File) (writer : Writing) (recent : Numbered) : Type 0 where

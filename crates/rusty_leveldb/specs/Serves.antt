@@ -7,7 +7,7 @@ use Rattle.leveldb_base.specs.declared.error.Status.{Status}
 use Rattle.leveldb_base.specs.Status.{text_of}
 use Rattle.leveldb_env.specs.Disk.{Files, Disk}
 use Rattle.leveldb_env.specs.Times.{Told, Within}
-use Rattle.rusty_leveldb.specs.Names.{lock_path}
+use Rattle.rusty_leveldb.specs.Names.{lock_path, SparesOthers}
 use Rattle.rusty_leveldb.specs.Contents.{Contents}
 use Rattle.rusty_leveldb.specs.OneLog.{IsOneLog, log_path}
 use Rattle.rusty_leveldb.specs.Holds.{IsSafe, Holds, HasStore, KeepsStore}
@@ -122,13 +122,13 @@ module _ (store : List ℕ) (reads : Files → Contents → Type 0) where
       pub memory_is : Remembers memory disk state
 
     module _ (cmp : List ℕ → List ℕ → Ordering) where
-      -- from this state, a step to one for which memory and disk stand then; no other lock changes
+      -- from this state, a step to one for which memory and disk stand then; what isn't the store's stays as it is
       pub record Goes (from : Scene M) (request : Request) (answer : Answer) (to : Scene M) (old : State) : Type 0 where
         pub new : State
         pub represents : Represents to.0 to.1.disk new
         pub step : Step cmp (faults_between from.2 to.2) old request answer new
         pub files : SparesFiles request answer old new from.1.disk.files to.1.disk.files
-        pub others : (name : List ℕ) → name ≢ lock_path store → to.1.disk.locked name ≡ from.1.disk.locked name
+        pub others : SparesOthers store from.1.disk to.1.disk
 
       -- the same, safe at each moment
       pub record GoesSafely (from : Scene M) (request : Request) (answer : Answer) (to : Scene M) (old : State) : Type 0 where
@@ -142,13 +142,14 @@ module _ (store : List ℕ) (reads : Files → Contents → Type 0) where
       abbrev pub ServesSafely : Scene M → Request → Answer → Scene M → Type 0
       ServesSafely from request answer to = (old : State) → Represents from.0 from.1.disk old → GoesSafely from request answer to old
 
-      -- a run of these requests with these answers, to a state for which memory and disk stand then
+      -- a run of these requests with these answers, to a state for which memory and disk stand then; what isn't the store's stays as it is
       pub record Runs (from : Scene M) (requests : List Request) (answers : List Answer) (to : Scene M) (old : State) : Type 0 where
         pub events : List Event
         pub asked : IsConversation requests answers events
         pub new : State
         pub run : Run cmp from.2 old events to.2 new
         pub represents : Represents to.0 to.1.disk new
+        pub others : SparesOthers store from.1.disk to.1.disk
 
       abbrev pub ServesAll : Scene M → List Request → List Answer → Scene M → Type 0
       ServesAll from requests answers to = (old : State) → Represents from.0 from.1.disk old → Runs from requests answers to old

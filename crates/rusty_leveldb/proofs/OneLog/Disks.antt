@@ -1,9 +1,7 @@
 -- A disk whose store is one log: what is read of it, and what is safe on it, is so by the log's file alone.
 use Rattle.std.proofs.Common.{◌≡◌, ◌≤◌, ◌+◌, inl, inr, ⊎_elim, ℕ, List, ◌++◌, length, false, sym, ap, subst, arith, Option, Some, None}
-use Rattle.std.specs.Str.{bytes_eq}
 use Rattle.leveldb_base.specs.History.{Entry, History, joined, count_of}
 use Rattle.leveldb_env.specs.Disk.{File, Files, kept_file, LeavesFile}
-use Rattle.leveldb_env.specs.FileLaws.{SameBut}
 use Rattle.rusty_leveldb.specs.Contents.{Store, missing, made, Contents, Stays}
 use Rattle.rusty_leveldb.specs.OneLog.{log_path, IsRead, IsOneLog}
 use Rattle.rusty_leveldb.specs.Holds.{Carries, IsSafe, Holds, HasStore, KeepsStore}
@@ -46,10 +44,6 @@ module _ (store : List ℕ) where
 
   pub has_on : (there : Store) (old files : Files) → files name ≡ old name → HasStore store reads there old → HasStore store reads there files
   has_on there old files same has contents read = has contents (subst (λ file. IsRead file contents) same read)
-
-  -- what leaves all but another name alone leaves the log as it was
-  pub log_as_it_was : (other : List ℕ) (old files : Files) → bytes_eq other name ≡ false → SameBut other old files → files name ≡ old name
-  log_as_it_was other old files apart same = same name apart
 
   -- ---- the store that is there
 

@@ -8,21 +8,32 @@ use Rattle.leveldb_base.specs.declared.error.StatusCode.TheVariants.{Corruption}
 use Rattle.leveldb_env.specs.Disk.{Files, Disk, created, lock_set, same}
 use Rattle.leveldb_env.specs.Times.{Told}
 use Rattle.leveldb_env.specs.Calls.{Does, EitherSide, Still, SameLocks, Relocks, HasCause, NoMemory, IsLocked}
-use Rattle.leveldb_env.specs.FileLaws.{bytes_eq-same, bytes_eq-apart, SameBut-created}
+use Rattle.leveldb_env.specs.FileLaws.{bytes_eq-same, bytes_eq-apart, SameBut, SameBut-trans, SameBut-created}
 use Rattle.rusty_leveldb.specs.OneLog.{log_path, IsRead}
-use Rattle.rusty_leveldb.specs.Names.{lock_path}
+use Rattle.rusty_leveldb.specs.Names.{lock_path, SparesForeign, SparesOthers}
 use Rattle.rusty_leveldb.specs.Serves.{Reads, IsUnreadable}
 use Rattle.rusty_leveldb.specs.Engine.{OpenExcused}
 use Rattle.rusty_leveldb.specs.Recovery.{IsFoundAs, SparesLog, HasCauses}
-use Rattle.rusty_leveldb.proofs.OneLog.Disks.{log_as_it_was}
+use Rattle.rusty_leveldb.proofs.Foreign.{spares_same, spares_then, spares_but_lock, spares_others}
 use Rattle.rusty_leveldb.proofs.Openings.Calls.{RecoveryExcused}
 use Rattle.rusty_leveldb.proofs.Openings.Refused.{IsEarlyWhy, IsGivenUp}
 
 -- ---- before the lock is taken
 
--- log and locks are as they were
+-- the lock's name isn't the log's
+lock_apart : (name : List ℕ) → bytes_eq (lock_path name) (log_path name) ≡ false
+lock_apart name = bytes_eq-apart (lock_path name) (log_path name) (λ e. absurd (differ (append_cancel_left name (47 ∷ codes "LOCK") (47 ∷ codes "000003.log") e)))
+  where
+    differ : 47 ∷ codes "LOCK" ≡ 47 ∷ codes "000003.log" → ⊥
+    differ e = cc
+
+-- where all files but the lock's are as they were, the log is
+log_kept : (name : List ℕ) {old files : Files} → SameBut (lock_path name) old files → files (log_path name) ≡ old (log_path name)
+log_kept name but = but (log_path name) (lock_apart name)
+
+-- all files but the lock's are as they were, and so are the locks
 pub record IsNear (name : List ℕ) (from to : Disk) : Type 0 where
-  pub log : to.files (log_path name) ≡ from.files (log_path name)
+  pub files : SameBut (lock_path name) from.files to.files
   pub locks : to.locked ≡ from.locked
 
 -- a refusal there
@@ -32,36 +43,30 @@ EarlyExcused name create from e = NoMemory e ⊎ IsEarlyWhy name create from e
 pub given_up_early : (name : List ℕ) (create : Bool) (from to : Disk) (before after : ℕ) (e : Status) {T : Type 0} → IsNear name from to → after < 2 ^ 64 → HasCauses {T = T} (EarlyExcused name create from) before after (Err e)
     → IsGivenUp name create from to before after after e
 given_up_early name create from to before after e near counts causes = record {
-  log = inl near.log;
+  log = inl (log_kept name near.files);
   lock = inl (ap (λ (l : List ℕ → Bool). l (lock_path name)) near.locks);
-  others = λ other apart. ap (λ (l : List ℕ → Bool). l other) near.locks;
+  held = λ was_held. near.files;
+  others = spares_others name from to (spares_but_lock name near.files) near.locks;
   later = causes.later;
   ends = omega arith;
   counts = counts;
-  why = ⊎_elim (λ why. ⊎_elim (λ m. inl m) (λ early. inr (inl (early, near.log))) why) (λ counted. inr (inr (inr counted))) causes.cause;
+  why = ⊎_elim (λ why. ⊎_elim (λ m. inl m) (λ early. inr (inl (early, log_kept name near.files))) why) (λ counted. inr (inr (inr counted))) causes.cause;
 }
 
 -- the folder is made
 pub folder_made : (name : List ℕ) {tells_disk : Bool} {T : Type 0} {result : Result T Status} (from to : Told) → IsTrue tells_disk → Does tells_disk same Still from to result → SameLocks tells_disk from to
     → IsNear name from.disk to.disk
-folder_made name from to tells does locks = record { log = ap (λ (f : Files). f (log_path name)) (does.now tells); locks = locks tells }
-
--- the lock's name isn't the log's
-lock_apart : (name : List ℕ) → bytes_eq (lock_path name) (log_path name) ≡ false
-lock_apart name = bytes_eq-apart (lock_path name) (log_path name) (λ e. absurd (differ (append_cancel_left name (47 ∷ codes "LOCK") (47 ∷ codes "000003.log") e)))
-  where
-    differ : 47 ∷ codes "LOCK" ≡ 47 ∷ codes "000003.log" → ⊥
-    differ e = cc
+folder_made name from to tells does locks = record { files = λ other apart. ap (λ (f : Files). f other) (does.now tells); locks = locks tells }
 
 -- the lock's file may be made
-pub lock_made : (name lock : List ℕ) (old files : Files) → lock ≡ lock_path name → EitherSide (created lock) old files → files (log_path name) ≡ old (log_path name)
-lock_made name lock old files is passes = log_as_it_was name lock old files (subst (λ l. bytes_eq l (log_path name) ≡ false) (sym is) (lock_apart name)) (SameBut-created lock old files passes)
+lock_made : (name lock : List ℕ) (old files : Files) → lock ≡ lock_path name → EitherSide (created lock) old files → SameBut (lock_path name) old files
+lock_made name lock old files is passes = subst (λ l. SameBut l old files) is (SameBut-created lock old files passes)
 
 -- the lock is refused
 pub lock_refused : (name lock : List ℕ) {tells_disk : Bool} {T : Type 0} {e : Status} (from made to : Told) → IsTrue tells_disk → lock ≡ lock_path name → IsNear name from.disk made.disk
     → Does {T = T} tells_disk (created lock) (EitherSide (created lock)) made to (Err e) → Relocks {T = T} tells_disk (lock_set lock true) made to (Err e) → IsNear name from.disk to.disk
 lock_refused name lock from made to tells is near does locks = record {
-  log = lock_made name lock made.disk.files to.disk.files is (does.now tells) ∙ near.log;
+  files = SameBut-trans (lock_path name) near.files (lock_made name lock made.disk.files to.disk.files is (does.now tells));
   locks = locks tells ∙ near.locks;
 }
 
@@ -72,8 +77,9 @@ lock_excused name lock create tells_disk from made e tells is near why = ⊎_eli
 
 -- ---- under the lock
 
--- the lock was free and is taken, and the log is as it was
+-- the lock was free and is taken, and all files but the lock's are as they were
 pub record IsTaken (name : List ℕ) (from to : Disk) : Type 0 where
+  pub files : SameBut (lock_path name) from.files to.files
   pub log : to.files (log_path name) ≡ from.files (log_path name)
   pub was_free : from.locked (lock_path name) ≡ false
   pub held : to.locked (lock_path name) ≡ true
@@ -89,21 +95,28 @@ pub lock_taken : (name lock : List ℕ) {tells_disk : Bool} {T : Type 0} {value 
     → Does tells_disk (created lock) (EitherSide (created lock)) made to (Ok value) → Relocks tells_disk (lock_set lock true) made to (Ok value) → made.disk.locked lock ≡ false → IsTaken name from.disk to.disk
 lock_taken name lock from made to tells is near does locks was_free =
     let set : to.disk.locked ≡ lock_set (lock_path name) true made.disk.locked = subst (λ l. to.disk.locked ≡ lock_set l true made.disk.locked) is (locks tells) in
+    let but : SameBut (lock_path name) from.disk.files to.disk.files = SameBut-trans (lock_path name) near.files (lock_made name lock made.disk.files to.disk.files is (does.now tells)) in
     record {
-      log = lock_made name lock made.disk.files to.disk.files is (does.now tells) ∙ near.log;
+      files = but;
+      log = log_kept name but;
       was_free = sym (ap (λ (l : List ℕ → Bool). l (lock_path name)) near.locks) ∙ subst (λ l. made.disk.locked l ≡ false) is was_free;
       held = ap (λ (l : List ℕ → Bool). l (lock_path name)) set ∙ set_same (lock_path name) true made.disk.locked;
       others = λ other apart. ap (λ (l : List ℕ → Bool). l other) set ∙ set_other (lock_path name) true made.disk.locked other apart ∙ ap (λ (l : List ℕ → Bool). l other) near.locks;
     }
 
--- nothing else of the locks changes while the log is recovered
-pub still_taken : (name : List ℕ) (from taken to : Disk) → IsTaken name from taken → to.locked ≡ taken.locked → (to.locked (lock_path name) ≡ true) × ((other : List ℕ) → other ≢ lock_path name → to.locked other ≡ from.locked other)
-still_taken name from taken to is locks =
-    (ap (λ (l : List ℕ → Bool). l (lock_path name)) locks ∙ is.held, λ other apart. ap (λ (l : List ℕ → Bool). l other) locks ∙ is.others other apart)
+-- nothing else of the locks changes while the log is recovered, and no file that isn't the store's
+pub still_taken : (name : List ℕ) (from taken to : Disk) → IsTaken name from taken → to.locked ≡ taken.locked → SparesForeign name taken.files to.files → (to.locked (lock_path name) ≡ true) × SparesOthers name from to
+still_taken name from taken to is locks foreign = (
+  ap (λ (l : List ℕ → Bool). l (lock_path name)) locks ∙ is.held,
+  record {
+    files = spares_then name (spares_but_lock name is.files) foreign;
+    locks = λ other apart. ap (λ (l : List ℕ → Bool). l other) locks ∙ is.others other apart;
+  },
+)
 
 -- The log isn't recovered, and the lock is given back, or that fails.
 module _ (name lock : List ℕ) (create : Bool) (from taken kept to : Disk) (before mid after : ℕ) (e : Status) (is : lock ≡ lock_path name) (took : IsTaken name from taken) (locks : kept.locked ≡ taken.locked)
-    (log : SparesLog create (taken.files (log_path name)) (kept.files (log_path name))) (files : to.files ≡ kept.files) (counts : after < 2 ^ 64) (ended : mid ≤ after)
+    (log : SparesLog create (taken.files (log_path name)) (kept.files (log_path name))) (foreign : SparesForeign name taken.files kept.files) (files : to.files ≡ kept.files) (counts : after < 2 ^ 64) (ended : mid ≤ after)
     (tells_disk : Bool) (tells : IsTrue tells_disk) {T : Type 0} (causes : HasCauses {T = T} (RecoveryExcused tells_disk create (taken.files (log_path name))) before mid (Err e)) where
   spares : SparesLog create (from.files (log_path name)) (to.files (log_path name))
   spares = subst (λ w. SparesLog create w (to.files (log_path name))) took.log (subst (λ (f : Files). SparesLog create (taken.files (log_path name)) (f (log_path name))) (sym files) log)
@@ -120,13 +133,24 @@ module _ (name lock : List ℕ) (create : Bool) (from taken kept to : Disk) (bef
       (λ damage. inr (inr (inl (damage.0, λ contents read. damage.1 tells contents (subst (λ w. IsRead w contents) (sym took.log) read))))) others) excused)
       (λ counted. inr (inr (inr counted))) causes.cause
 
+  -- the lock wasn't held before
+  was_not_held : IsTrue (from.locked (lock_path name)) → SameBut (lock_path name) from.files to.files
+  was_not_held was = absurd (let never : true ≡ false = sym was ∙ took.was_free in cc)
+
+  spares_them : SparesForeign name taken.files to.files
+  spares_them = spares_then name foreign (spares_same name files)
+
   given_back : to.locked ≡ lock_set lock false kept.locked → IsGivenUp name create from to before mid after e
   given_back set =
       let set_it : to.locked ≡ lock_set (lock_path name) false kept.locked = subst (λ l. to.locked ≡ lock_set l false kept.locked) is set in
       record {
         log = spares;
         lock = inl (ap (λ (l : List ℕ → Bool). l (lock_path name)) set_it ∙ set_same (lock_path name) false kept.locked ∙ sym took.was_free);
-        others = λ other apart. ap (λ (l : List ℕ → Bool). l other) set_it ∙ set_other (lock_path name) false kept.locked other apart ∙ (still_taken name from taken kept took locks).1 other apart;
+        held = was_not_held;
+        others = record {
+          files = spares_then name (spares_but_lock name took.files) spares_them;
+          locks = λ other apart. ap (λ (l : List ℕ → Bool). l other) set_it ∙ set_other (lock_path name) false kept.locked other apart ∙ ap (λ (l : List ℕ → Bool). l other) locks ∙ took.others other apart;
+        };
         later = causes.later;
         ends = ended;
         counts = counts;
@@ -135,8 +159,8 @@ module _ (name lock : List ℕ) (create : Bool) (from taken kept to : Disk) (bef
 
   not_given_back : to.locked ≡ kept.locked → (mid < after) ⊎ (after ≡ 2 ^ 64 - 1) → IsGivenUp name create from to before mid after e
   not_given_back same failed =
-      let held = still_taken name from taken to took (same ∙ locks) in
-      record { log = spares; lock = inr (held.0, failed); others = held.1; later = causes.later; ends = ended; counts = counts; why = reasons }
+      let still = still_taken name from taken to took (same ∙ locks) spares_them in
+      record { log = spares; lock = inr (still.0, failed); held = was_not_held; others = still.1; later = causes.later; ends = ended; counts = counts; why = reasons }
 
   -- whether the lock was given back
   pub given_up_late : (result : Result (Unit {0}) Status) → to.locked ≡ (if is_ok result then lock_set lock false kept.locked else kept.locked) → HasCause (λ _. ⊥) mid after result

@@ -11,7 +11,7 @@ use Rattle.leveldb_env.specs.Times.{Told}
 use Rattle.leveldb_mem.specs.Log.{clean}
 use Rattle.rusty_leveldb.specs.Contents.{Store, missing, made, Contents}
 use Rattle.rusty_leveldb.specs.OneLog.{log_path, IsRead, all_entries, contents_of}
-use Rattle.rusty_leveldb.specs.Names.{lock_path}
+use Rattle.rusty_leveldb.specs.Names.{lock_path, SparesOthers}
 use Rattle.rusty_leveldb.specs.Holds.{Tells, Carries}
 use Rattle.rusty_leveldb.specs.State.{State, IsState, Opening, open_store, open_mode, done}
 use Rattle.rusty_leveldb.specs.Causes.{Misfits, Disagrees}
@@ -53,7 +53,7 @@ no_bytes i = omega arith
 module _ {E C FP F I : Type 0} {D : I → Type 0} (env : Ghosts E F) (name : List ℕ) (cmp : List ℕ → List ℕ → Ordering) (opening_is : Opening) (create : Bool) (is : IsOpening name create opening_is) (is_name : IsStoreName name)
     (from to : Told) (before after : ℕ) (engine : Engine E C FP F I D) (got : IsRecovered create (from.disk.files (log_path name)) (to.disk.files (log_path name)) engine.writer engine.recent)
     (mode : mode_of engine.mode ≡ open_mode) (lock : string_bytes engine.lock ≡ lock_path name) (log : env.name_of engine.log ≡ log_path name)
-    (was_free : from.disk.locked (lock_path name) ≡ false) (held : to.disk.locked (lock_path name) ≡ true) (others : (other : List ℕ) → other ≢ lock_path name → to.disk.locked other ≡ from.disk.locked other)
+    (was_free : from.disk.locked (lock_path name) ≡ false) (held : to.disk.locked (lock_path name) ≡ true) (others : SparesOthers name from.disk to.disk)
     (counted : after ≡ before) (old : State) (represents : Represents name (Reads name) (Recalls {E = E} {C = C} {FP = FP} {F = F} {I = I} {D = D} env name) None from.disk old) where
   found : opening.Found name from.disk.files old.history (old.last + count_of old.pending) old.covered old.pending
   found = opening.found name from.disk.files old.history old.last old.covered old.pending represents.disk_is.is_state.covered represents.disk_is.holds

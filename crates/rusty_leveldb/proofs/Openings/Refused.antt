@@ -9,9 +9,10 @@ use Rattle.leveldb_env.specs.declared.env.Env.{Ghosts}
 use Rattle.leveldb_env.specs.Disk.{File, Disk}
 use Rattle.leveldb_env.specs.Times.{Told}
 use Rattle.leveldb_env.specs.Calls.{NoMemory}
+use Rattle.leveldb_env.specs.FileLaws.{SameBut}
 use Rattle.rusty_leveldb.specs.Contents.{Store, made, Contents, nothing_there}
 use Rattle.rusty_leveldb.specs.OneLog.{log_path, IsRead}
-use Rattle.rusty_leveldb.specs.Names.{lock_path}
+use Rattle.rusty_leveldb.specs.Names.{lock_path, SparesOthers}
 use Rattle.rusty_leveldb.specs.State.{State, IsState, IsAtRest, SuitsMode, Opening, open_store, refused}
 use Rattle.rusty_leveldb.specs.Causes.{Cause, Comes, Disagrees, out_of_memory, device_failed, lock_is_held, bad_operand}
 use Rattle.rusty_leveldb.specs.Machine.{IsEarly, UnlockFailed, StepIn}
@@ -29,7 +30,8 @@ IsEarlyWhy name create disk e = ((e.code ≡ InvalidArgument) × (IsStoreName na
 pub record IsGivenUp (name : List ℕ) (create : Bool) (from to : Disk) (before mid after : ℕ) (e : Status) : Type 0 where
   pub log : SparesLog create (from.files (log_path name)) (to.files (log_path name))
   pub lock : (to.locked (lock_path name) ≡ from.locked (lock_path name)) ⊎ ((to.locked (lock_path name) ≡ true) × ((mid < after) ⊎ (after ≡ 2 ^ 64 - 1)))
-  pub others : (other : List ℕ) → other ≢ lock_path name → to.locked other ≡ from.locked other
+  pub held : IsTrue (from.locked (lock_path name)) → SameBut (lock_path name) from.files to.files
+  pub others : SparesOthers name from to
   pub later : before ≤ mid
   pub ends : mid ≤ after
   pub counts : after < 2 ^ 64
@@ -41,6 +43,7 @@ pub unopened : {name : List ℕ} {create : Bool} {from to : Disk} {before mid af
 unopened {before = before} {mid = mid} {after = after} up = record {
   log = up.log;
   lock = ⊎_elim (λ same. inl same) (λ kept. inr (kept.0, ⊎_elim (λ (more : mid < after). inl (omega (arith, up.later, more))) (λ full. inr full) kept.1)) up.lock;
+  held = up.held;
   others = up.others;
 }
 

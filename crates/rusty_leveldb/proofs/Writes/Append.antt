@@ -7,7 +7,7 @@ use Rattle.leveldb_base.specs.History.{Item, Entry, History, IsHistory, entries_
 use Rattle.leveldb_env.specs.declared.env.Env.{Ghosts}
 use Rattle.leveldb_env.specs.Disk.{File, Files, bytes_of, longer_file, AreBytes}
 use Rattle.leveldb_env.specs.Calls.{Appending}
-use Rattle.leveldb_env.specs.FileLaws.{extended-same}
+use Rattle.leveldb_env.specs.FileLaws.{extended-same, SameBut-appending}
 use Rattle.leveldb_mem.specs.Log.{frame_at}
 use Rattle.leveldb_mem.specs.Batch.{BatchOf}
 use Rattle.rusty_leveldb.specs.declared.db_impl.engine.Mode.TheVariants.{Broken}
@@ -20,6 +20,7 @@ use Rattle.rusty_leveldb.specs.Serves.{Reads, Goes, faults_between, refusal_of}
 use Rattle.rusty_leveldb.specs.Engine.{scene, Recalls}
 use Rattle.rusty_leveldb.proofs.Histories.{entries_more, greatest_append, placed_greatest, placed_length, history_more}
 use Rattle.rusty_leveldb.proofs.OneLog.Writing.{appending_holds}
+use Rattle.rusty_leveldb.proofs.Foreign.{spares_but_log, spares_others}
 use Rattle.rusty_leveldb.proofs.Writes.Stands.{Fails, IsOpen, IsStill, broken_with, Broke, broken_is}
 
 -- a batch that may follow, and its record
@@ -88,7 +89,7 @@ module _ {E C FP F I : Type 0} {D : I → Type 0} (env : Ghosts E F) (store : Li
         refused = λ logging is_refused opened. absurd (let never : broken ≡ open_mode = opened in cc);
         broken = λ broken_then. absurd (let never : broken ≡ open_mode = sym broken_then ∙ was.mode in cc);
       };
-      others = λ other apart. ap (λ locked. locked other) locks;
+      others = spares_others store (env.tells from).disk (env.tells to).disk broke.foreign locks;
     }
       where
         new : State
@@ -105,4 +106,5 @@ module _ {E C FP F I : Type 0} {D : I → Type 0} (env : Ghosts E F) (store : Li
           file = (passed_file (env.tells to).disk.files passes).0;
           there = (passed_file (env.tells to).disk.files passes).1;
           locks = locks;
+          foreign = spares_but_log store (SameBut-appending name frame (env.tells from).disk.files (env.tells to).disk.files passes);
         }

@@ -22,6 +22,7 @@ use Rattle.rusty_leveldb.specs.Machine.{Breaks, StepIn, Responds}
 use Rattle.rusty_leveldb.specs.Serves.{Reads, StandsFor, Goes, faults_between, refusal_of, done_or}
 use Rattle.rusty_leveldb.specs.Engine.{scene, Recalls, mode_of}
 use Rattle.rusty_leveldb.proofs.OneLog.Writing.{synced_holds}
+use Rattle.rusty_leveldb.proofs.Foreign.{spares_same, spares_synced, spares_others}
 use Rattle.rusty_leveldb.proofs.Writes.Stands.{Fails, fails, IsStored, stored, Was, IsOpen, is_open, IsStill, remembers_still, broken_with, Broke, broken_is}
 
 module _ {E C FP F I : Type 0} {D : I → Type 0} (env : Ghosts E F) (cmp : List ℕ → List ℕ → Ordering) (store : List ℕ) (engine after : Engine E C FP F I D) (from to : E) (old : State) (was : IsOpen env store engine from old) where
@@ -49,7 +50,7 @@ module _ {E C FP F I : Type 0} {D : I → Type 0} (env : Ghosts E F) (cmp : List
       refused = λ logging is_refused opened. absurd (let never : broken ≡ open_mode = opened in cc);
       broken = λ broken_then. absurd (let never : broken ≡ open_mode = sym broken_then ∙ was.mode in cc);
     };
-    others = λ name other. ap (λ locked. locked name) broke.locks;
+    others = spares_others store (env.tells from).disk (env.tells to).disk broke.foreign broke.locks;
   }
     where
       new : State
@@ -63,7 +64,7 @@ module _ {E C FP F I : Type 0} {D : I → Type 0} (env : Ghosts E F) (cmp : List
     represents = record { disk_is = stands; memory_is = recalls };
     step = record { later = omega (arith, counted); step = subst (λ m. StepIn cmp m faults old flush done new) (sym was.mode) (λ no. no, record { state = refl }) };
     files = record { reading = λ reads. absurd reads; refused = λ logging is_refused. absurd is_refused; broken = λ broken_then. absurd (let never : broken ≡ open_mode = sym broken_then ∙ was.mode in cc) };
-    others = λ name other. ap (λ locked. locked name) locks;
+    others = spares_others store (env.tells from).disk (env.tells to).disk (spares_synced store (env.tells from).disk.files (env.tells to).disk.files files) locks;
   }
     where
       new : State
@@ -147,4 +148,5 @@ module _ {E C FP F I : Type 0} {D : I → Type 0} (env : Ghosts E F) (cmp : List
         file = was.writes.file;
         there = there;
         locks = sync.locks tells;
+        foreign = spares_same store same;
       })

@@ -15,6 +15,7 @@ use Rattle.rusty_leveldb.specs.Causes.{Faults, IsClosedRefusal, IsBrokenRefusal}
 use Rattle.rusty_leveldb.specs.Machine.{StepIn}
 use Rattle.rusty_leveldb.specs.Serves.{Reads, Goes, IsReading, IsLogging, faults_between, refusal_of}
 use Rattle.rusty_leveldb.specs.Engine.{scene, Recalls, IsShut, ShutOut, ShutDown, mode_of}
+use Rattle.rusty_leveldb.proofs.Foreign.{others_still}
 use Rattle.rusty_leveldb.proofs.Writes.Stands.{Was, is_open}
 
 broken_text : (err : Option (String Global)) → IfSome err (λ text. string_bytes text ≡ codes "IOError: reopen the store") → (text_of err ≡ []) ⊎ (text_of err ≡ codes "IOError: reopen the store")
@@ -51,7 +52,7 @@ module _ {E C FP F I : Type 0} {D : I → Type 0} (env : Ghosts E F) (cmp : List
     represents = was;
     step = record { later = omega arith; step = step };
     files = record { reading = λ reads. refl; refused = λ l r m. refl; broken = λ b name there. there };
-    others = λ name other. refl;
+    others = others_still store (env.tells at).disk;
   }
 
   -- the store is closed

@@ -2,7 +2,9 @@
 ghost use Rattle.std.specs.Prelude.{◌≡◌, ◌⊎◌, if◌then◌else◌, length, map, Some, None, IsTrue, IfOk, OnOk, OnErr};
 ghost use Rattle.leveldb_env.specs.Disk.{bytes_of};
 ghost use Rattle.leveldb_env.specs.Calls.{HasCause, NoMemory, SameLocks};
+ghost use Rattle.leveldb_env.specs.FileLaws.{SameBut};
 ghost use Rattle.leveldb_mem.specs.Log.{clean, bad};
+ghost use Rattle.rusty_leveldb.specs.Names.{SparesForeign};
 ghost use Rattle.rusty_leveldb.specs.OneLog.{log_path};
 ghost use Rattle.rusty_leveldb.specs.State.{Opening, open_store};
 ghost use Rattle.rusty_leveldb.specs.Serves.{Reads, IsUnreadable, done_or, given_engine};
@@ -73,6 +75,7 @@ fn recover<E: Env, C: UserCmp + Copy>(
 ) -> Result<(E::File, WriterCore, Recent<C>)>
     ensures locks { SameLocks E.tells_disk (E.tells env.old) (E.tells env.new) }
     ensures spares { IsTrue E.tells_disk → SparesLog create_if_missing ((E.tells env.old).disk.files (log_path name.now)) ((E.tells env.new).disk.files (log_path name.now)) }
+    ensures foreign { IsTrue E.tells_disk → SparesForeign name.now (E.tells env.old).disk.files (E.tells env.new).disk.files }
     ensures ok { IfOk result (λ got. IsTrue E.tells_disk → IsRecovered create_if_missing ((E.tells env.old).disk.files (log_path name.now)) ((E.tells env.new).disk.files (log_path name.now)) got.1 got.2) }
     ensures log { IfOk result (λ got. IsTrue E.tells_disk → E.name_of got.0 ≡ log_path name.now) }
     ensures cause { HasCauses (λ e. NoMemory e ⊎ IsNotMade E.tells_disk create_if_missing ((E.tells env.old).disk.files (log_path name.now)) e ⊎ IsNoLog E.tells_disk ((E.tells env.old).disk.files (log_path name.now)) e)
@@ -123,6 +126,7 @@ fn mend<E: Env>(
 ) -> Result<()>
     requires { log_name.now ≡ log_path name.now }
     ensures locks { SameLocks E.tells_disk (E.tells env.old) (E.tells env.new) }
+    ensures foreign { IsTrue E.tells_disk → SparesForeign name.now (E.tells env.old).disk.files (E.tells env.new).disk.files }
     ensures either { IsTrue E.tells_disk → ((E.tells env.new).disk.files log_name.now ≡ (E.tells env.old).disk.files log_name.now)
         ⊎ ((E.tells env.new).disk.files log_name.now ≡ Some (framed_file (map (λ v. v.items) records.now))) }
     ensures ok { OnOk result (IsTrue E.tells_disk → (E.tells env.new).disk.files log_name.now
@@ -144,6 +148,7 @@ fn open_log<E: Env>(alloc: Global, env: &mut E, log_name: &str) -> Result<(E::Fi
     ensures either { IsTrue E.tells_disk → ((E.tells env.new).disk.files log_name.now ≡ (E.tells env.old).disk.files log_name.now)
         ⊎ ((E.tells env.new).disk.files log_name.now ≡ Some (kept_log ((E.tells env.old).disk.files log_name.now))) }
     ensures there { OnOk result (IsTrue E.tells_disk → (E.tells env.new).disk.files log_name.now ≡ Some (kept_log ((E.tells env.old).disk.files log_name.now))) }
+    ensures others { IsTrue E.tells_disk → SameBut log_name.now (E.tells env.old).disk.files (E.tells env.new).disk.files }
     ensures name { IfOk result (λ got. IsTrue E.tells_disk → E.name_of got.0 ≡ log_name.now) }
     ensures size { IfOk result (λ got. IsTrue E.tells_disk → got.1 ≡ length (bytes_of (kept_log ((E.tells env.old).disk.files log_name.now)))) }
     ensures cause { HasCauses (IsUntold E.tells_disk) (E.failures env.old) (E.failures env.new) result }

@@ -3,6 +3,7 @@ use Rattle.std.specs.Prelude.{map, if◌then◌else◌}
 use Rattle.std.proofs.lemmas.Result.{err_from_is_err_and}
 use Rattle.leveldb_mem.specs.Log.{clean, bad}
 use Rattle.rusty_leveldb.specs.OneLog.{log_path}
+use Rattle.rusty_leveldb.proofs.Foreign.{spares_same, spares_then, spares_but_named}
 use Rattle.rusty_leveldb.proofs.Openings.Calls.{mend_spares, open_spares, open_recovers, read_refused, replay_refused}
 use Rattle.rusty_leveldb.proofs.db_impl.open.recover.Goals as goal
 
@@ -52,3 +53,13 @@ returns-clause-ok g c = λ tells.
 
 pub returns-clause-log : goal.returns-clause-log
 returns-clause-log g c = λ tells. c.in_ok-log.ensures.name tells ∙ c.as_str-log_name.ensures.value ∙ c.in_ok-full_name.ensures.ok
+
+pub returns-in_err-log-clause-foreign : goal.returns-in_err-log-clause-foreign
+returns-in_err-log-clause-foreign g c = λ tells.
+    spares_then c.args.name.now (spares_same c.args.name.now (c.in_ok-read.ensures.still tells))
+    (spares_then c.args.name.now (c.in_ok-mend.ensures.foreign tells) (spares_but_named c.args.name.now c.as_str-log_name.result.now (c.as_str-log_name.ensures.value ∙ c.in_ok-full_name.ensures.ok) (c.open_log.ensures.others tells)))
+
+pub returns-clause-foreign : goal.returns-clause-foreign
+returns-clause-foreign g c = λ tells.
+    spares_then c.args.name.now (spares_same c.args.name.now (c.in_ok-read.ensures.still tells))
+    (spares_then c.args.name.now (c.in_ok-mend.ensures.foreign tells) (spares_but_named c.args.name.now c.as_str-log_name.result.now (c.as_str-log_name.ensures.value ∙ c.in_ok-full_name.ensures.ok) (c.open_log.ensures.others tells)))

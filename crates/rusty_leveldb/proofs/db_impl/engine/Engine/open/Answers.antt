@@ -16,7 +16,7 @@ returns-in_err-check_name-clause-step g c =
     let p = err_from_is_err_and c.from_residual.result c.from_residual.ensures.1 in
     rw (p.1, p.2) (λ opening is tells old represents.
     given_up g.E.Env c.args.name.now (g.C.Cmp.cmp c.args.options.cmp) opening c.args.options.create_if_missing is (g.E.Env.tells c.args.env.now) (g.E.Env.tells c.args.env.now) (g.E.Env.failures c.args.env.now) (g.E.Env.failures c.args.env.now) (g.E.Env.failures c.args.env.now) c.in_err-check_name.field-0.0
-    (given_up_early c.args.name.now c.args.options.create_if_missing (g.E.Env.tells c.args.env.now).disk (g.E.Env.tells c.args.env.now).disk (g.E.Env.failures c.args.env.now) (g.E.Env.failures c.args.env.now) c.in_err-check_name.field-0.0 (record { log = refl; locks = refl }) (g.met.E.Env.counts c.args.env.now)
+    (given_up_early c.args.name.now c.args.options.create_if_missing (g.E.Env.tells c.args.env.now).disk (g.E.Env.tells c.args.env.now).disk (g.E.Env.failures c.args.env.now) (g.E.Env.failures c.args.env.now) c.in_err-check_name.field-0.0 (record { files = λ other apart. refl; locks = refl }) (g.met.E.Env.counts c.args.env.now)
     (excused {T = ℕ} refl (inr (inl c.in_err-check_name.ensures.cause))))
     old represents)
 
@@ -25,7 +25,7 @@ returns-in_err-lock-clause-step g c =
     let p = err_from_is_err_and c.from_residual-in_err-lock.result c.from_residual-in_err-lock.ensures.1 in
     rw (p.1, p.2) (λ opening is tells old represents.
     given_up g.E.Env c.args.name.now (g.C.Cmp.cmp c.args.options.cmp) opening c.args.options.create_if_missing is (g.E.Env.tells c.args.env.now) (g.E.Env.tells c.args.env.now) (g.E.Env.failures c.args.env.now) (g.E.Env.failures c.args.env.now) (g.E.Env.failures c.args.env.now) c.in_err-lock.field-0.0
-    (given_up_early c.args.name.now c.args.options.create_if_missing (g.E.Env.tells c.args.env.now).disk (g.E.Env.tells c.args.env.now).disk (g.E.Env.failures c.args.env.now) (g.E.Env.failures c.args.env.now) c.in_err-lock.field-0.0 (record { log = refl; locks = refl }) (g.met.E.Env.counts c.args.env.now)
+    (given_up_early c.args.name.now c.args.options.create_if_missing (g.E.Env.tells c.args.env.now).disk (g.E.Env.tells c.args.env.now).disk (g.E.Env.failures c.args.env.now) (g.E.Env.failures c.args.env.now) c.in_err-lock.field-0.0 (record { files = λ other apart. refl; locks = refl }) (g.met.E.Env.counts c.args.env.now)
     (excused {T = ℕ} refl (inl c.in_err-lock.ensures.memory)))
     old represents)
 
@@ -51,7 +51,7 @@ pub returns-in-Ok-clause-step : goal.returns-in-Ok-clause-step
 returns-in-Ok-clause-step g c = λ opening is tells old represents.
     let taken = lock_taken c.args.name.now c.deref.result.now (g.E.Env.tells c.args.env.now) (g.E.Env.tells c.mkdir.new.self) (g.E.Env.tells c.lock.new.self) tells (c.deref.ensures ∙ c.in_ok-lock.ensures.ok) (folder_made c.args.name.now (g.E.Env.tells c.args.env.now) (g.E.Env.tells c.mkdir.new.self) tells c.mkdir.ensures.does c.mkdir.ensures.locks)
     c.in_ok-lock-2.ensures.does c.in_ok-lock-2.ensures.locks (c.in_ok-lock-2.ensures.was_free tells) in
-    let still = still_taken c.args.name.now (g.E.Env.tells c.args.env.now).disk (g.E.Env.tells c.lock.new.self).disk (g.E.Env.tells c.recover.new.env).disk taken (c.in-Ok.ensures.locks tells) in
+    let still = still_taken c.args.name.now (g.E.Env.tells c.args.env.now).disk (g.E.Env.tells c.lock.new.self).disk (g.E.Env.tells c.recover.new.env).disk taken (c.in-Ok.ensures.locks tells) (c.in-Ok.ensures.foreign tells) in
     opened g.E.Env c.args.name.now (g.C.Cmp.cmp c.args.options.cmp) opening c.args.options.create_if_missing is c.in_ok-check_name.ensures.ok (g.E.Env.tells c.args.env.now) (g.E.Env.tells c.recover.new.env) (g.E.Env.failures c.args.env.now) (g.E.Env.failures c.recover.new.env) _
     (subst (λ was. IsRecovered c.args.options.create_if_missing was ((g.E.Env.tells c.recover.new.env).disk.files (log_path c.args.name.now)) c.in-Ok.writer c.in-Ok.recent) taken.log (c.in-Ok.ensures.ok tells))
     refl c.in_ok-lock.ensures.ok (c.in-Ok.ensures.log tells) taken.was_free still.0 still.1 (c.in-Ok.ensures.cause.ok ∙ c.in_ok-lock-2.ensures.cause.ok ∙ c.in_ok-mkdir.ensures.cause.ok) old represents
@@ -62,7 +62,7 @@ returns-in-Err-clause-step g c = λ opening is tells old represents.
     c.in_ok-lock-2.ensures.does c.in_ok-lock-2.ensures.locks (c.in_ok-lock-2.ensures.was_free tells) in
     given_up g.E.Env c.args.name.now (g.C.Cmp.cmp c.args.options.cmp) opening c.args.options.create_if_missing is (g.E.Env.tells c.args.env.now) (g.E.Env.tells c.give_back.new.env) (g.E.Env.failures c.args.env.now) (g.E.Env.failures c.recover.new.env) (g.E.Env.failures c.give_back.new.env) c.in-Err.status
     (given_up_late c.args.name.now c.deref-in-Err.result.now c.args.options.create_if_missing (g.E.Env.tells c.args.env.now).disk (g.E.Env.tells c.lock.new.self).disk (g.E.Env.tells c.recover.new.env).disk (g.E.Env.tells c.give_back.new.env).disk (g.E.Env.failures c.args.env.now) (g.E.Env.failures c.recover.new.env) (g.E.Env.failures c.give_back.new.env) c.in-Err.status
-    (c.deref-in-Err.ensures ∙ c.in_ok-lock.ensures.ok) taken (c.in-Err.ensures.locks tells) (c.in-Err.ensures.spares tells) (c.give_back.ensures.does.now tells) (g.met.E.Env.counts c.give_back.new.env) c.give_back.ensures.cause.later
+    (c.deref-in-Err.ensures ∙ c.in_ok-lock.ensures.ok) taken (c.in-Err.ensures.locks tells) (c.in-Err.ensures.spares tells) (c.in-Err.ensures.foreign tells) (c.give_back.ensures.does.now tells) (g.met.E.Env.counts c.give_back.new.env) c.give_back.ensures.cause.later
     g.E.Env.tells_disk tells (causes_after (Err c.in-Err.status) (c.in_ok-lock-2.ensures.cause.ok ∙ c.in_ok-mkdir.ensures.cause.ok) (λ status why. why) c.in-Err.ensures.cause) c.give_back.result (c.give_back.ensures.locks tells) c.give_back.ensures.cause)
     old represents
 
@@ -77,14 +77,14 @@ pub returns-in_err-check_name-clause-unopened : goal.returns-in_err-check_name-c
 returns-in_err-check_name-clause-unopened g c =
     let p = err_from_is_err_and c.from_residual.result c.from_residual.ensures.1 in
     rw p.1 (λ tells.
-    unopened (given_up_early c.args.name.now c.args.options.create_if_missing (g.E.Env.tells c.args.env.now).disk (g.E.Env.tells c.args.env.now).disk (g.E.Env.failures c.args.env.now) (g.E.Env.failures c.args.env.now) c.in_err-check_name.field-0.0 (record { log = refl; locks = refl }) (g.met.E.Env.counts c.args.env.now)
+    unopened (given_up_early c.args.name.now c.args.options.create_if_missing (g.E.Env.tells c.args.env.now).disk (g.E.Env.tells c.args.env.now).disk (g.E.Env.failures c.args.env.now) (g.E.Env.failures c.args.env.now) c.in_err-check_name.field-0.0 (record { files = λ other apart. refl; locks = refl }) (g.met.E.Env.counts c.args.env.now)
     (excused {T = ℕ} refl (inr (inl c.in_err-check_name.ensures.cause)))))
 
 pub returns-in_err-lock-clause-unopened : goal.returns-in_err-lock-clause-unopened
 returns-in_err-lock-clause-unopened g c =
     let p = err_from_is_err_and c.from_residual-in_err-lock.result c.from_residual-in_err-lock.ensures.1 in
     rw p.1 (λ tells.
-    unopened (given_up_early c.args.name.now c.args.options.create_if_missing (g.E.Env.tells c.args.env.now).disk (g.E.Env.tells c.args.env.now).disk (g.E.Env.failures c.args.env.now) (g.E.Env.failures c.args.env.now) c.in_err-lock.field-0.0 (record { log = refl; locks = refl }) (g.met.E.Env.counts c.args.env.now)
+    unopened (given_up_early c.args.name.now c.args.options.create_if_missing (g.E.Env.tells c.args.env.now).disk (g.E.Env.tells c.args.env.now).disk (g.E.Env.failures c.args.env.now) (g.E.Env.failures c.args.env.now) c.in_err-lock.field-0.0 (record { files = λ other apart. refl; locks = refl }) (g.met.E.Env.counts c.args.env.now)
     (excused {T = ℕ} refl (inl c.in_err-lock.ensures.memory))))
 
 pub returns-in_err-mkdir-clause-unopened : goal.returns-in_err-mkdir-clause-unopened
@@ -113,5 +113,5 @@ returns-in-Err-clause-unopened g c = λ tells.
     let taken = lock_taken c.args.name.now c.deref.result.now (g.E.Env.tells c.args.env.now) (g.E.Env.tells c.mkdir.new.self) (g.E.Env.tells c.lock.new.self) tells (c.deref.ensures ∙ c.in_ok-lock.ensures.ok) (folder_made c.args.name.now (g.E.Env.tells c.args.env.now) (g.E.Env.tells c.mkdir.new.self) tells c.mkdir.ensures.does c.mkdir.ensures.locks)
     c.in_ok-lock-2.ensures.does c.in_ok-lock-2.ensures.locks (c.in_ok-lock-2.ensures.was_free tells) in
     unopened (given_up_late c.args.name.now c.deref-in-Err.result.now c.args.options.create_if_missing (g.E.Env.tells c.args.env.now).disk (g.E.Env.tells c.lock.new.self).disk (g.E.Env.tells c.recover.new.env).disk (g.E.Env.tells c.give_back.new.env).disk (g.E.Env.failures c.args.env.now) (g.E.Env.failures c.recover.new.env) (g.E.Env.failures c.give_back.new.env) c.in-Err.status
-    (c.deref-in-Err.ensures ∙ c.in_ok-lock.ensures.ok) taken (c.in-Err.ensures.locks tells) (c.in-Err.ensures.spares tells) (c.give_back.ensures.does.now tells) (g.met.E.Env.counts c.give_back.new.env) c.give_back.ensures.cause.later
+    (c.deref-in-Err.ensures ∙ c.in_ok-lock.ensures.ok) taken (c.in-Err.ensures.locks tells) (c.in-Err.ensures.spares tells) (c.in-Err.ensures.foreign tells) (c.give_back.ensures.does.now tells) (g.met.E.Env.counts c.give_back.new.env) c.give_back.ensures.cause.later
     g.E.Env.tells_disk tells (causes_after (Err c.in-Err.status) (c.in_ok-lock-2.ensures.cause.ok ∙ c.in_ok-mkdir.ensures.cause.ok) (λ status why. why) c.in-Err.ensures.cause) c.give_back.result (c.give_back.ensures.locks tells) c.give_back.ensures.cause)
