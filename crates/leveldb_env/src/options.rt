@@ -13,10 +13,10 @@ pub struct Options<C, FP> {
     pub filter_policy: FP,
     pub create_if_missing: bool,
 
-    /// A block of a table that has more bytes than this takes no further entry; at least 1.
+    /// A block of a table that has more bytes than this takes no further entry.
     pub block_size: usize,
 
-    /// How many entries of a block lie between the starts of two restart points, at least 1.
+    /// How many entries of a block lie between the starts of two restart points; 0 is taken as 1.
     pub block_restart_interval: usize,
 
     /// The id of the coder by which blocks are stored.

@@ -1,5 +1,5 @@
 -- Lists whose keys rise strictly: where a key stands among them, and how one comes to them.
-use Rattle.std.proofs.Common.{◌≡◌, ◌≢◌, ℕ, zero, suc, ◌<◌, ◌≤◌, Bool, true, false, List, [], ◌∷◌, ◌++◌, length, take, drop, get_or, refl, sym, ◌∙◌, ap, subst, arith, ◌⊎◌, ⊎_elim}
+use Rattle.std.proofs.Common.{◌≡◌, ◌≢◌, ℕ, zero, suc, ◌-◌, ◌<◌, ◌≤◌, Bool, true, false, List, [], ◌∷◌, ◌++◌, length, take, drop, get_or, refl, sym, ◌∙◌, ap, subst, arith, ◌⊎◌, ⊎_elim}
 use Rattle.std.specs.List.{insert}
 use Rattle.std.proofs.lemmas.Bool.{cases_order, cases_lt}
 use Rattle.std.proofs.lemmas.List.{take-append-drop, take_at, drop_at}
@@ -135,6 +135,22 @@ module _ {accepts : List ℕ → Bool} {cmp : List ℕ → List ℕ → Ordering
       cc)
       (cases_lt i at)
 
+  -- where an accepted key fits is a gap
+  fits_gap : (key : List ℕ) → accepts key ≡ true → (at : ℕ) → FitsAt cmp pairs at key → IsGap accepts cmp pairs key at
+  fits_gap key ok at fits = record {
+    within = fits.within;
+    sorted = λ value. sorted-insert at (key, value) ok fits;
+    alone = fits_alone key ok at fits;
+  }
+
+  -- behind the last key is a gap, where that is before this one
+  pub gap_behind : (key : List ℕ) → accepts key ≡ true → (end : ℕ) → end ≡ length pairs → 0 < length pairs → cmp (key_at pairs (length pairs - 1)) key ≡ Less
+      → IsGap accepts cmp pairs key end
+  gap_behind key ok end whole some last =
+      let after : (i : ℕ) → i < end → cmp (key_at pairs i) key ≡ Less =
+      λ i h. is_less (cmp (key_at pairs i) key) (parted_by_order key ok i (length pairs - 1) (omega (arith, h, whole)) (omega (arith, some)) (ap is_lt last)) in
+      fits_gap key ok end (fits_at key ok end (omega (arith, whole)) after (λ h. absurd (omega (arith, h, whole))) (λ h. absurd (omega (arith, h, whole))))
+
   -- the count of keys before an accepted key is a gap, where the key there isn't Equal
   pub gap_at : (key : List ℕ) → accepts key ≡ true → (at : ℕ) → at ≡ count_before cmp key pairs → (at < length pairs → cmp (key_at pairs at) key ≢ Equal)
       → IsGap accepts cmp pairs key at
@@ -143,12 +159,7 @@ module _ {accepts : List ℕ → Bool} {cmp : List ℕ → List ℕ → Ordering
       let whole : at ≡ count_while test pairs = count ∙ sym (count_before-is cmp key pairs) in
       let within : at ≤ length pairs = omega (arith, whole, count-le test pairs) in
       let here : at < length pairs → cmp (key_at pairs at) key ≢ Less = λ h. not_less (cmp (key_at pairs at) key) (ap (λ n. test (key_at pairs n)) whole ∙ at_count test pairs (omega (arith, whole, h))) in
-      let fits = fits_at key ok at within (λ i h. is_less (cmp (key_at pairs i) key) (before_count test pairs i (omega (arith, whole, h)))) here other in
-      record {
-        within = within;
-        sorted = λ value. sorted-insert at (key, value) ok fits;
-        alone = fits_alone key ok at fits;
-      }
+      fits_gap key ok at (fits_at key ok at within (λ i h. is_less (cmp (key_at pairs i) key) (before_count test pairs i (omega (arith, whole, h)))) here other)
 
 -- a pair there whose key is Equal
 pub key_there : (cmp : List ℕ → List ℕ → Ordering) (pairs : List Pair) (key : List ℕ) (at : ℕ) → at < length pairs → cmp (key_at pairs at) key ≡ Equal → HasKey cmp pairs key

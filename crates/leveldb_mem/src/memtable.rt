@@ -13,7 +13,7 @@ ghost use Rattle.leveldb_mem.specs.Batch.{item_of};
 ghost use Rattle.leveldb_mem.specs.Entries.{Gains, IsNewTo, AreNewTo, FindsNewest, HasRoom, KeepsRoom, Adds, value_length};
 ghost use Rattle.leveldb_mem.specs.MemTable.{entry_of, type_of, bytes_of_value, value_of, entry_key, entry_from, inner_value, internal_pair, memory_of_entries, Grows, GivesAt};
 
-use crate::memtable::as_of::AsOf;
+use crate::memtable::as_of::{AsOf, user_and_sequence};
 use crate::memtable::iterator::AtInternalKey;
 use crate::skipmap::SkipMap;
 use crate::write_batch::WriteBatch;
@@ -156,8 +156,8 @@ impl<C: UserCmp> MemTable<C> {
     pub fn get(&self, key: &LookupKey) -> Option<Option<&[u8]>>
         ensures { FindsNewest self.now.kept.entries (sequence_part key.now) (user_part key.now) (option_map option_copied result) }
     {
-        let at = self.map.keys_before(key.memtable_key());
-        self.given_at(at, key.user_key())
+        let (user, sequence) = user_and_sequence(key.internal_key());
+        self.newest(user, sequence)
     }
 
     /// The newest entry of the key at or below the sequence, as `get` gives it, without a look-up key.
@@ -181,6 +181,7 @@ impl<C: UserCmp> MemTable<C> {
         ensures place { result.place ≡ None }
         ensures sorted { AreRising (internal_cmp (C.cmp self.now.cmp)) (map internal_pair self.now.kept.entries) }
     {
+        // This opens the value's invariant for the clause `sorted`.
         let _ = self.map.iter();
         MemtableIterator {
             table: self,

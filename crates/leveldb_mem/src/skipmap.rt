@@ -20,6 +20,7 @@ pub(crate) mod placed;
 pub(crate) mod search;
 
 /// Pairs whose keys rise strictly. Each of them is accepted by the comparator, and none is empty.
+/// It is a sorted vector of places, so an insertion moves the places behind it.
 #[derive(Drop)]
 pub struct SkipMap<C: Cmp> {
     cmp: C,
@@ -61,6 +62,7 @@ impl<C: Cmp> SkipMap<C> {
         self.pairs.len()
     }
 
+    /// Whether there are no pairs.
     pub fn is_empty(&self) -> bool
         ensures { result ≡ (length self.now.pairs == 0) }
     {
@@ -117,6 +119,7 @@ impl<C: Cmp> SkipMap<C> {
         ensures place { result.place ≡ None }
         ensures sorted { IsSorted (C.accepts self.now.cmp) (C.cmp self.now.cmp) self.now.pairs }
     {
+        // This opens the value's invariant for the clause `sorted`.
         let _ = &self.pairs;
         SkipMapIter {
             map: self,

@@ -24,6 +24,9 @@ const COUNT_OFFSET: usize = 8;
 
 const HEADER_SIZE: usize = 12;
 
+// A new batch has room for so many bytes: a put of a key of 16 and a value of 100 makes one of 131.
+const FIRST_CAPACITY: usize = 256;
+
 const MAX_SIZE: usize = 1 << 30;
 
 const DELETION: u8 = ValueType::TypeDeletion as u8;
@@ -52,7 +55,7 @@ impl WriteBatch {
         ensures ok { IfOk result (λ batch. batch ≡ batch_of 0 []) }
         ensures memory { IfErr result IsOutOfMemory }
     {
-        let mut entries = Vec::with_capacity(alloc, 128)?;
+        let mut entries = Vec::with_capacity(alloc, FIRST_CAPACITY)?;
         entries.extend_from_slice(&[0; HEADER_SIZE])?;
         Ok(WriteBatch { entries })
     }

@@ -11,8 +11,8 @@ use Rattle.leveldb_env.specs.declared.env.Env.{Ghosts}
 use Rattle.rusty_leveldb.specs.declared.shell.commands.Command.{Command}
 use Rattle.rusty_leveldb.specs.declared.shell.commands.Reply.{Reply}
 use Rattle.rusty_leveldb.specs.Language.{reply_lines}
-use Rattle.rusty_leveldb.specs.Serves.{Reads, IsUnreadable}
-use Rattle.rusty_leveldb.specs.Shell.{PlaysAlways}
+use Rattle.rusty_leveldb.specs.Recovery.{NeverOpens}
+use Rattle.rusty_leveldb.specs.Shell.{PlaysAlways, IsUnopened}
 use Rattle.rusty_leveldb.specs.declared.shell.program.Fault.{Fault}
 use Rattle.rusty_leveldb.specs.declared.shell.program.Fault.TheVariants as fault
 use Rattle.rusty_leveldb.specs.Program.{status_of, HasRun, IsPlayed}
@@ -30,25 +30,39 @@ one_word [] word some few is = absurd (omega (arith, some))
 one_word (first ∷ []) word some few is = ap (λ (w : String Global). w ∷ []) (sym is)
 one_word (first ∷ second ∷ others) word some few is = absurd (omega (arith, few))
 
+-- what a run over a store of these options did, when they make a missing one
+pub run_so : {E F : Type 0} (env : Ghosts E F) (folder : List ℕ) (commands : List Command) (from to : E) (given : List Reply) (create : Bool) (ended : Result (Unit {0}) Status) → create ≡ true
+    → PlaysAlways DefaultCmp ℕ env bytewise folder from create commands given ended to
+    → (IsTrue env.tells_disk → NeverOpens folder create (env.tells from).disk → IsUnopened env folder create from ended to)
+    → HasRun env folder commands from given ended to
+run_so env folder commands from to given create ended creates plays unopened = (
+  subst (λ (b : Bool). PlaysAlways DefaultCmp ℕ env bytewise folder from b commands given ended to) creates plays,
+  subst (λ (b : Bool). IsTrue env.tells_disk → NeverOpens folder b (env.tells from).disk → IsUnopened env folder b from ended to) creates unopened,
+)
+
 -- a run, whether it went through or not
 pub has_run : {E F : Type 0} (env : Ghosts E F) (folder : List ℕ) (commands : List Command) (from to : E) (given : List Reply) (create : Bool) (ended : Result (Unit {0}) Status) → create ≡ true
     → PlaysAlways DefaultCmp ℕ env bytewise folder from create commands given ended to
+    → (IsTrue env.tells_disk → NeverOpens folder create (env.tells from).disk → IsUnopened env folder create from ended to)
     → (given : List Reply) × (ended : Result (Unit {0}) Status) × HasRun env folder commands from given ended to
-has_run env folder commands from to given create ended creates plays =
-    (given, ended, subst (λ (b : Bool). PlaysAlways DefaultCmp ℕ env bytewise folder from b commands given ended to) creates plays)
+has_run env folder commands from to given create ended creates plays unopened = (given, ended, run_so env folder commands from to given create ended creates plays unopened)
 
 -- a run that went through, whose replies were written
 pub played : {E F : Type 0} (env : Ghosts E F) (folder : List ℕ) (commands : List Command) (from to : E) (held holds : Option (List ℕ)) (old new told : List Reply) (create : Bool)
     (ended : Unit {0}) (r : Result (Unit {0}) Status) → old ≡ [] → create ≡ true → told ≡ new
     → PlaysAlways DefaultCmp ℕ env bytewise folder from create commands (drop (length old) new) (Ok ended) to
     → ((given : List Reply) × (new ≡ old ++ given) × (length given ≡ length commands))
-    → OnOk r (Appends held holds (reply_lines told)) → (IsTrue env.tells_disk → IsUnreadable (Reads folder) (env.tells from).disk.files → ⊥)
+    → OnOk r (Appends held holds (reply_lines told))
+    → (IsTrue env.tells_disk → NeverOpens folder create (env.tells from).disk → IsUnopened env folder create from (Ok ended) to)
     → OnOk r (IsPlayed env folder commands from to held holds)
-played env folder commands from to held holds old new told create ended (Err status) none creates same plays behind appends whole = tt
-played env folder commands from to held holds old new told create ended (Ok done) none creates same plays behind appends whole =
+played env folder commands from to held holds old new told create ended (Err status) none creates same plays behind appends unopened = tt
+played env folder commands from to held holds old new told create ended (Ok done) none creates same plays behind appends unopened =
     let given = behind.0 in
     let replies : drop (length old) new ≡ given = ap (drop (length old)) behind.1 ∙ drop-append_seam old given in
     let P : List Reply → Type 0 = λ list. PlaysAlways DefaultCmp ℕ env bytewise folder from create commands list (Ok tt) to in
-    let Q : Bool → Type 0 = λ b. PlaysAlways DefaultCmp ℕ env bytewise folder from b commands given (Ok tt) to in
-    let T : List Reply → Type 0 = λ list. Appends held holds (reply_lines list) in
-    (given, behind.2, subst Q creates (subst P replies plays), subst T (same ∙ behind.1 ∙ ap (λ (list : List Reply). list ++ given) none) appends, whole)
+    let T : List Reply → Type 0 = λ list. Appends held holds (reply_lines list) in (
+      given,
+      behind.2,
+      run_so env folder commands from to given create (Ok tt) creates (subst P replies plays) unopened,
+      subst T (same ∙ behind.1 ∙ ap (λ (list : List Reply). list ++ given) none) appends,
+    )

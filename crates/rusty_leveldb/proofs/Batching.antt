@@ -21,7 +21,7 @@ use Rattle.rusty_leveldb.specs.Causes.{Faults, out_of_memory, bad_operand, IsLon
 use Rattle.rusty_leveldb.specs.Machine.{Keeps, StepIn}
 use Rattle.rusty_leveldb.specs.Serves.{faults_between, refusal_of}
 use Rattle.rusty_leveldb.specs.Engine.{Recalls, AnswersStill}
-use Rattle.rusty_leveldb.proofs.Foreign.{others_still}
+use Rattle.rusty_leveldb.proofs.Others.{others_still, spared_still}
 
 -- a batch whose front is too long is too long
 pub longer_too : (first : ℕ) (front more : List Item) → 2 ^ 30 < length (batch_bytes first front) → IsLongBatch (front ++ more)
@@ -52,7 +52,7 @@ module _ {E C FP F I : Type 0} {D : I → Type 0} (env : Ghosts E F) (cmp : List
     new = old;
     represents = represents;
     step = record { later = omega arith; step = subst (λ mode. StepIn cmp mode faults old (write items sync) (refused (refusal_of status)) old) (sym (is_open store disk old represents.memory_is)) (⊎_elim for_memory for_length why) };
-    files = record { reading = λ reads. refl; refused = λ logs is_refused mode. refl; broken = λ broke name there. there };
+    files = spared_still (write items sync) (refused (refusal_of status)) old old (env.tells at).disk.files;
     others = others_still store (env.tells at).disk;
   }
     where

@@ -10,7 +10,7 @@ use Rattle.leveldb_env.specs.declared.env.Env.{Ghosts}
 use Rattle.leveldb_env.specs.Disk.{File, Files, Disk, lock_set, synced, same}
 use Rattle.leveldb_env.specs.Times.{Told}
 use Rattle.leveldb_env.specs.Calls.{Does, Still, Relocks, HasCause, IsGone}
-use Rattle.leveldb_env.specs.FileLaws.{bytes_eq-same, bytes_eq-apart}
+use Rattle.leveldb_env.specs.FileLaws.{SameBut, SameBut-synced, bytes_eq-same, bytes_eq-apart}
 use Rattle.leveldb_env.specs.OpenFiles.{opened, Syncs}
 use Rattle.leveldb_mem.specs.Writing.{Flushes}
 use Rattle.rusty_leveldb.specs.declared.db_impl.engine.Mode.{Mode}
@@ -22,10 +22,10 @@ use Rattle.rusty_leveldb.specs.State as machine
 use Rattle.rusty_leveldb.specs.State.{State, Request, close, abandon, Answer, done, refused, open_mode, broken, closed}
 use Rattle.rusty_leveldb.specs.Causes.{Faults, Cause, out_of_memory, device_failed, Comes, ReachesDevice}
 use Rattle.rusty_leveldb.specs.Machine.{StepIn, Responds}
-use Rattle.rusty_leveldb.specs.Serves.{Reads, StandsFor, Represents, done_or, refusal_of, faults_between}
+use Rattle.rusty_leveldb.specs.Serves.{Reads, SameBytes, StandsFor, Represents, done_or, refusal_of, faults_between}
 use Rattle.rusty_leveldb.specs.Engine.{Recalls, WritesOn, mode_of, Answers}
 use Rattle.rusty_leveldb.proofs.Ended.{broke, ended, broke_still, ended_still, broke_covered, ended_covered}
-use Rattle.rusty_leveldb.proofs.Foreign.{spares_same, spares_synced, spares_others, others_still}
+use Rattle.rusty_leveldb.proofs.Others.{but_same, others_with, others_but_log, others_still, spared_still, bytes_same, bytes_synced}
 
 -- ---- causes
 
@@ -67,9 +67,6 @@ freed_other : (lock name : List ℕ) (locked : List ℕ → Bool) → name ≢ l
 freed_other lock name locked differs = ap (λ b. cond b false (locked name)) (bytes_eq-apart lock name (λ e. differs (sym e)))
 
 -- ---- modes
-
-not_both : (mode : machine.Mode) → mode ≡ open_mode → mode ≡ broken → ⊥
-not_both mode a b = cc
 
 -- an engine that isn't closed responds to an abandon
 abandons : (cmp : List ℕ → List ℕ → Ordering) (faults : Faults) (old new : State) (answer : Answer) (mode : Mode) → (mode ≡ Closed → ⊥) → Responds cmp faults old abandon answer new
@@ -122,8 +119,8 @@ module _ {E C FP F I : Type 0} {D : I → Type 0} (env : Ghosts E F) (cmp : List
           later = syncs.cause.later;
           step = subst (λ m. StepIn cmp m (faults_between (env.failures at) (env.failures now)) old close (refused (refusal_of status)) (broke old old.covered)) (sym mode) (cause.0, cause.1, record { state = refl; covered = inl refl });
         };
-        files = record { reading = λ never. absurd never; refused = λ never. absurd never; broken = λ is. absurd (not_both old.mode mode is) };
-        others = spares_others store (env.tells at).disk (env.tells now).disk (spares_same store (syncs.undone told)) (syncs.locks told);
+        files = record { untouched = λ never. absurd never; refused = λ never. absurd never; stopped = λ not_open takes. absurd (not_open mode); bytes = λ syncing. bytes_same (env.tells at).disk.files (env.tells now).disk.files (syncs.undone told) };
+        others = others_but_log store (env.tells at).disk (env.tells now).disk (but_same (log_path store) (env.tells at).disk.files (env.tells now).disk.files (syncs.undone told)) (syncs.locks told);
       }
 
   -- an engine that was closed remembers that alone
@@ -150,6 +147,12 @@ module _ {E C FP F I : Type 0} {D : I → Type 0} (env : Ghosts E F) (cmp : List
 
       all : (env.tells now).disk.files ≡ synced (log_path store) (env.tells at).disk.files
       all = still ∙ flushed.flushed.does.ok told ∙ ap (λ name. synced name (env.tells at).disk.files) writes.name
+
+      but_log : SameBut (log_path store) (env.tells at).disk.files (env.tells now).disk.files
+      but_log = SameBut-synced (log_path store) (env.tells at).disk.files (env.tells now).disk.files (inr all)
+
+      synced_bytes : SameBytes (env.tells at).disk.files (env.tells now).disk.files
+      synced_bytes = bytes_synced (log_path store) (env.tells at).disk.files (env.tells now).disk.files all
 
       same_lock : lock ≡ lock_path store
       same_lock = lock_is ∙ ap (λ (e : Engine E C FP F I D). string_bytes e.lock) only ∙ represents.memory_is.lock
@@ -182,8 +185,8 @@ module _ {E C FP F I : Type 0} {D : I → Type 0} (env : Ghosts E F) (cmp : List
             later = omega (arith, caused.later);
             step = subst (λ m. StepIn cmp m (faults_between (env.failures at) (env.failures now)) old close (refused (refusal_of status)) (broke old (length old.history))) (sym is) (cause.0, cause.1, record { state = refl; covered = inr refl });
           };
-          files = record { reading = λ never. absurd never; refused = λ never. absurd never; broken = λ stuck. absurd (not_both old.mode is stuck) };
-          others = spares_others store (env.tells at).disk (env.tells now).disk (spares_synced store (env.tells at).disk.files (env.tells now).disk.files (all told store old represents (does.now told))) (relocks told ∙ flushed.flushed.locks told);
+          files = record { untouched = λ never. absurd never; refused = λ never. absurd never; stopped = λ not_open takes. absurd (not_open is); bytes = λ syncing. synced_bytes told store old represents (does.now told) };
+          others = others_but_log store (env.tells at).disk (env.tells now).disk (but_log told store old represents (does.now told)) (relocks told ∙ flushed.flushed.locks told);
         }
 
     -- it was done: the store is closed
@@ -203,13 +206,11 @@ module _ {E C FP F I : Type 0} {D : I → Type 0} (env : Ghosts E F) (cmp : List
             later = omega (arith, caused.later);
             step = subst (λ m. StepIn cmp m (faults_between (env.failures at) (env.failures now)) old close done (ended old (length old.history) false)) (sym is) (λ never. never, record { state = refl });
           };
-          files = record { reading = λ never. absurd never; refused = λ never. absurd never; broken = λ stuck. absurd (not_both old.mode is stuck) };
-          others = record {
-            files = spares_synced store (env.tells at).disk.files (env.tells now).disk.files (all told store old represents (does.now told));
-            locks = λ name differs. ap (λ (locked : List ℕ → Bool). locked name) (relocks told)
-                ∙ freed_other lock name (env.tells mid).disk.locked (λ e. differs (e ∙ same_lock told store old represents (does.now told)))
-                ∙ ap (λ (locked : List ℕ → Bool). locked name) (flushed.flushed.locks told);
-          };
+          files = record { untouched = λ never. absurd never; refused = λ never. absurd never; stopped = λ not_open takes. absurd (not_open is); bytes = λ syncing. synced_bytes told store old represents (does.now told) };
+          others = others_with store (env.tells at).disk (env.tells now).disk (but_log told store old represents (does.now told))
+              (λ name differs. ap (λ (locked : List ℕ → Bool). locked name) (relocks told)
+              ∙ freed_other lock name (env.tells mid).disk.locked (λ e. differs (e ∙ same_lock told store old represents (does.now told)))
+              ∙ ap (λ (locked : List ℕ → Bool). locked name) (flushed.flushed.locks told));
         }
 
   -- ---- a store that is abandoned
@@ -222,7 +223,7 @@ module _ {E C FP F I : Type 0} {D : I → Type 0} (env : Ghosts E F) (cmp : List
         new = old;
         represents = record { disk_is = represents.disk_is; memory_is = is };
         step = record { later = omega arith; step = subst (λ m. StepIn cmp m (faults_between (env.failures at) (env.failures at)) old abandon done old) (sym is) (refl, refl) };
-        files = record { reading = λ never. absurd never; refused = λ never. absurd never; broken = λ stuck name some. some };
+        files = spared_still abandon done old old (env.tells at).disk.files;
         others = others_still store (env.tells at).disk;
       }
 
@@ -244,8 +245,8 @@ module _ {E C FP F I : Type 0} {D : I → Type 0} (env : Ghosts E F) (cmp : List
             step = subst (λ m. StepIn cmp m (faults_between (env.failures at) (env.failures now)) old abandon (refused (refusal_of status)) (ended old old.covered old.locked)) represents.memory_is.mode
                 (abandons cmp (faults_between (env.failures at) (env.failures now)) old (ended old old.covered old.locked) (refused (refusal_of status)) before.mode differs (cause.0, cause.1, record { state = refl }));
           };
-          files = record { reading = λ never. absurd never; refused = λ never. absurd never; broken = λ stuck name some. subst (λ (files : Files). IsSome (files name)) (sym (does.now told)) some };
-          others = spares_others store (env.tells at).disk (env.tells now).disk (spares_same store (does.now told)) (relocks told);
+          files = record { untouched = λ touches. does.now told; refused = λ never. absurd never; stopped = λ not_open takes. does.now told; bytes = λ never. absurd never };
+          others = others_but_log store (env.tells at).disk (env.tells now).disk (but_same (log_path store) (env.tells at).disk.files (env.tells now).disk.files (does.now told)) (relocks told);
         }
 
     -- the lock is free
@@ -266,11 +267,9 @@ module _ {E C FP F I : Type 0} {D : I → Type 0} (env : Ghosts E F) (cmp : List
             step = subst (λ m. StepIn cmp m (faults_between (env.failures at) (env.failures now)) old abandon done (ended old old.covered false)) represents.memory_is.mode
                 (abandons cmp (faults_between (env.failures at) (env.failures now)) old (ended old old.covered false) done before.mode differs (λ never. never, record { state = refl }));
           };
-          files = record { reading = λ never. absurd never; refused = λ never. absurd never; broken = λ stuck name some. subst (λ (files : Files). IsSome (files name)) (sym (does.now told)) some };
-          others = record {
-            files = spares_same store (does.now told);
-            locks = λ name apart. ap (λ (locked : List ℕ → Bool). locked name) (relocks told) ∙ freed_other lock name (env.tells at).disk.locked (λ e. apart (e ∙ same_lock));
-          };
+          files = record { untouched = λ touches. does.now told; refused = λ never. absurd never; stopped = λ not_open takes. does.now told; bytes = λ never. absurd never };
+          others = others_with store (env.tells at).disk (env.tells now).disk (but_same (log_path store) (env.tells at).disk.files (env.tells now).disk.files (does.now told))
+              (λ name apart. ap (λ (locked : List ℕ → Bool). locked name) (relocks told) ∙ freed_other lock name (env.tells at).disk.locked (λ e. apart (e ∙ same_lock)));
         }
 
     -- either

@@ -7,7 +7,7 @@ pub mod Crashes
 pub mod Causes
 pub mod Example
 pub mod OneLog
-pub mod Foreign
+pub mod Others
 pub mod Openings
 pub mod Replays
 pub mod Texts

@@ -18,7 +18,7 @@ use Rattle.rusty_leveldb.specs.Machine.{Step}
 use Rattle.rusty_leveldb.specs.Runs.{Event, Run, faults_of}
 use Rattle.rusty_leveldb.specs.Serves.{Reads, Represents, IsConversation, done_or, refusal_of}
 use Rattle.rusty_leveldb.specs.Engine.{Recalls, Answers, AnswersAs, IsOpening, no_engine}
-use Rattle.rusty_leveldb.proofs.Foreign.{others_then}
+use Rattle.rusty_leveldb.proofs.Others.{others_then}
 use Rattle.rusty_leveldb.specs.Shell.{NoCoder, Leads, LeadsThrough, Plays, PlaysAlways, request_of, answer_of}
 
 -- what holds anyway holds of a refusal

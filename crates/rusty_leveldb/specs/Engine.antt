@@ -31,6 +31,10 @@ IsShut mode = mode ≡ Closed
 abbrev pub IsStuck : Mode → Writing → Type 0
 IsStuck mode writer = (mode ≡ Broken) ⊎ IsTrue writer.broken
 
+-- no call that writes is answered
+abbrev pub IsHalted : Mode → Writing → Type 0
+IsHalted mode writer = IsShut mode ⊎ IsStuck mode writer
+
 -- the machine's mode
 abbrev pub mode_of : Mode → machine.Mode
 mode_of Open = machine.open_mode

@@ -14,6 +14,10 @@ max_sequence = 2 ^ 56 - 1
 abbrev pub log_path : List ℕ → List ℕ
 log_path store = in_folder store (codes "000003.log")
 
+-- what takes its place where it is mended
+abbrev pub temp_path : List ℕ → List ℕ
+temp_path store = in_folder store (codes "000003.dbtmp")
+
 -- lists of one length whose elements are related one by one
 abbrev pub Each : {A B : Type 0} → (A → B → Type 0) → List A → List B → Type 0
 Each R [] [] = Unit {0}

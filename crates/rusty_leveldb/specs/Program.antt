@@ -11,8 +11,8 @@ use Rattle.rusty_leveldb.specs.declared.shell.commands.Reply.{Reply}
 use Rattle.rusty_leveldb.specs.declared.shell.program.Fault.{Fault}
 use Rattle.rusty_leveldb.specs.declared.shell.program.Fault.TheVariants as fault
 use Rattle.rusty_leveldb.specs.Language.{IsScript, IsBadLine, reply_lines}
-use Rattle.rusty_leveldb.specs.Serves.{Reads, IsUnreadable}
-use Rattle.rusty_leveldb.specs.Shell.{PlaysAlways}
+use Rattle.rusty_leveldb.specs.Recovery.{NeverOpens}
+use Rattle.rusty_leveldb.specs.Shell.{PlaysAlways, IsUnopened}
 
 -- the status that a fault ends the program with
 abbrev pub status_of : Fault → ℕ
@@ -49,15 +49,16 @@ abbrev pub IsInput : Option (List ℕ) → List Command → Type 0
 IsInput input commands = (text : List ℕ) × IfSome input (λ bytes. text ≡ bytes) × (length text ≤ 2 ^ 26) × IsScript text commands
 
 module _ {E F : Type 0} (env : Ghosts E F) where
-  -- The commands were run in a folder, with these replies, and the run ended so. The filter policy is seen as its number of bits a key.
+  -- The commands were run in a folder, with these replies, and the run ended so; where no store is opened, it was refused. The filter policy is
+  -- seen as its number of bits a key.
   abbrev pub HasRun : List ℕ → List Command → E → List Reply → Result (Unit {0}) Status → E → Type 0
   HasRun folder commands from given ended to = PlaysAlways DefaultCmp ℕ env bytewise folder from true commands given ended to
+      × (IsTrue env.tells_disk → NeverOpens folder true (env.tells from).disk → IsUnopened env folder true from ended to)
 
-  -- The commands were run in a folder whose store could be read, each was replied to, and the output grew by the replies' lines.
+  -- the commands were run in a folder, each was replied to, and the output grew by the replies' lines
   abbrev pub IsPlayed : List ℕ → List Command → E → E → Option (List ℕ) → Option (List ℕ) → Type 0
   IsPlayed folder commands from to held holds = (given : List Reply) × (length given ≡ length commands)
       × HasRun folder commands from given (Ok tt) to × Appends held holds (reply_lines given)
-      × (IsTrue env.tells_disk → IsUnreadable (Reads folder) (env.tells from).disk.files → ⊥)
 
   -- the one argument is a folder, and the commands that the input spells were run in it
   abbrev pub IsAnswered : List (String Global) → E → E → Option (List ℕ) → Option (List ℕ) → Option (List ℕ) → Type 0

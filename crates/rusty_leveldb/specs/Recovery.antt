@@ -1,18 +1,20 @@
 -- What an opening finds of a store's log, what it leaves of it, and why one of its steps is refused.
-use Rattle.std.specs.Prelude.{◌≡◌, ◌≢◌, ◌≤◌, ◌<◌, ◌-◌, ◌%◌, ◌^◌, ◌⊎◌, ℕ, Bool, true, false, List, [], length, Option, Some, None, Result, Ok, Err, OnOk, IfErr, IsErrAnd, IsTrue}
+use Rattle.std.specs.Prelude.{◌≡◌, ◌≢◌, ◌≤◌, ◌<◌, ◌+◌, ◌-◌, ◌%◌, ◌^◌, ◌⊎◌, ℕ, Bool, true, false, List, [], length, Option, Some, None, Result, Ok, Err, OnOk, IfErr, IsErrAnd, IsTrue}
 use Rattle.leveldb_base.specs.declared.error.Status.{Status}
 use Rattle.leveldb_base.specs.declared.error.StatusCode.TheVariants.{InvalidArgument, NotFound, Corruption}
-use Rattle.leveldb_env.specs.Disk.{File, Disk, bytes_of, kept_file, file_kept}
-use Rattle.leveldb_env.specs.Calls.{NoMemory}
-use Rattle.leveldb_env.specs.FileLaws.{SameBut}
+use Rattle.leveldb_env.specs.Disk.{File, Files, Disk, bytes_of, kept_file, file_kept, created}
+use Rattle.leveldb_env.specs.Times.{Told}
+use Rattle.leveldb_env.specs.Calls.{EitherSide, NoMemory}
 use Rattle.leveldb_mem.specs.Log.{log_block_size, End, clean, IsLogFile, framed}
 use Rattle.leveldb_mem.specs.Writing.{Writing}
-use Rattle.rusty_leveldb.specs.Names.{lock_path, SparesOthers}
-use Rattle.rusty_leveldb.specs.OneLog.{log_path, IsRead}
+use Rattle.rusty_leveldb.specs.Names.{lock_path}
+use Rattle.rusty_leveldb.specs.OneLog.{log_path, temp_path, IsRead}
 use Rattle.rusty_leveldb.specs.Contents.{Contents}
 use Rattle.rusty_leveldb.specs.Causes.{HasFailed}
 use Rattle.rusty_leveldb.specs.Recent.{Numbered}
 use Rattle.rusty_leveldb.specs.Replay.{IsReplayed}
+use Rattle.rusty_leveldb.specs.Serves.{SparesOthers}
+use Rattle.rusty_leveldb.specs.Engine.{OpenExcused}
 
 -- ---- the log
 
@@ -30,26 +32,42 @@ abbrev pub kept_log : Option File → File
 kept_log None = kept_file []
 kept_log (Some file) = file_kept file
 
--- a log of these records, all its bytes kept
+-- a log of these records, which ends cleanly, all its bytes kept
 pub record IsKeptLog (records : List (List ℕ)) (now : Option File) : Type 0 where
   pub file : File
   pub there : now ≡ Some file
   pub since : file.since ≡ []
-  pub end : End
-  pub read : IsLogFile (bytes_of file) records end
+  pub read : IsLogFile (bytes_of file) records clean
 
--- the log is as it was, or has the records that were found there, all its bytes kept
+-- the log is as it was, or has the records that were found there, ends cleanly, and all its bytes are kept
 abbrev pub SparesLog : Bool → Option File → Option File → Type 0
 SparesLog create was now = (now ≡ was) ⊎ ((records : List (List ℕ)) × (end : End) × IsFoundAs create was records end × IsKeptLog records now)
 
+-- the log has no reading, or is missing and isn't to be made
+abbrev pub IsUnusable : Bool → Option File → Type 0
+IsUnusable create was = ((contents : Contents) → IsRead was contents → ⊥) ⊎ ((create ≡ false) × (was ≡ None))
+
+-- no store is opened there: its lock is held, or its log is unusable
+abbrev pub NeverOpens : List ℕ → Bool → Disk → Type 0
+NeverOpens name create disk = IsTrue (disk.locked (lock_path name)) ⊎ IsUnusable create (disk.files (log_path name))
+
+-- all but the log and what takes its place stays as it is
+abbrev pub ChangesLogAlone : List ℕ → Files → Files → Type 0
+ChangesLogAlone name before after = (path : List ℕ) → path ≢ log_path name → path ≢ temp_path name → after path ≡ before path
+
+-- the device failed once more than the refusal itself says
+abbrev pub FailedBeside : Type 0 → ℕ → ℕ → Type 0
+FailedBeside excused before now = (excused × (before < now)) ⊎ (before + 2 ≤ now) ⊎ (now ≡ 2 ^ 64 - 1)
+
 -- What a refused opening leaves, whatever stands under the store's name: its log as it was, or with the records that were found
--- there; its lock as it was, or held, where giving it back was refused, too, and that was counted; where it was held before, all
--- files but the lock's; and what isn't the store's.
-pub record StaysUnopened (name : List ℕ) (create : Bool) (old new : Disk) (before now : ℕ) : Type 0 where
-  pub log : SparesLog create (old.files (log_path name)) (new.files (log_path name))
-  pub lock : (new.locked (lock_path name) ≡ old.locked (lock_path name)) ⊎ ((new.locked (lock_path name) ≡ true) × ((before < now) ⊎ (now ≡ 2 ^ 64 - 1)))
-  pub held : IsTrue (old.locked (lock_path name)) → SameBut (lock_path name) old.files new.files
-  pub others : SparesOthers name old new
+-- there; where no store is opened, all files, but that the lock's may be made; its lock as it was, or held, where giving it back
+-- was refused, too; and what isn't the store's.
+pub record StaysUnopened (name : List ℕ) (create : Bool) (old new : Told) (before now : ℕ) (e : Status) : Type 0 where
+  pub log : SparesLog create (old.disk.files (log_path name)) (new.disk.files (log_path name))
+  pub untouched : NeverOpens name create old.disk → EitherSide (created (lock_path name)) old.disk.files new.disk.files
+  pub lock : (new.disk.locked (lock_path name) ≡ old.disk.locked (lock_path name))
+      ⊎ ((new.disk.locked (lock_path name) ≡ true) × FailedBeside (OpenExcused true name create old e) before now)
+  pub others : SparesOthers name old.disk new.disk
 
 -- The log has the records that were found there, all its bytes kept, and ends cleanly; memory has what they say, and the writer stands at the end.
 pub record IsRecovered (create : Bool) (was now : Option File) (writer : Writing) (recent : Numbered) : Type 0 where

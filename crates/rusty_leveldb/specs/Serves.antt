@@ -1,18 +1,19 @@
 -- What the engine's clauses say: from every state that memory and disk stand for, a step of the machine.
 -- `store` is the store's path, `reads files contents` says that the files are a whole store with these contents,
 -- and `Recalls memory disk state` what the engine's memory has to do with them.
-use Rattle.std.specs.Prelude.{◌≡◌, ◌≢◌, ℕ, List, [], Option, Some, None, IsSome, Result, Ok, Err, All, map}
+use Rattle.std.specs.Prelude.{◌≡◌, ◌≢◌, ◌⊎◌, ℕ, List, [], Option, Some, None, Result, Ok, Err, All, map}
+use Rattle.std.specs.Option.{option_map}
 use Rattle.std.specs.declared.cmp.Ordering.{Ordering}
 use Rattle.leveldb_base.specs.declared.error.Status.{Status}
 use Rattle.leveldb_base.specs.Status.{text_of}
-use Rattle.leveldb_env.specs.Disk.{Files, Disk}
+use Rattle.leveldb_env.specs.Disk.{File, Files, Disk, bytes_of, or_empty}
 use Rattle.leveldb_env.specs.Times.{Told, Within}
-use Rattle.rusty_leveldb.specs.Names.{lock_path, SparesOthers}
+use Rattle.rusty_leveldb.specs.Names.{lock_path}
 use Rattle.rusty_leveldb.specs.Contents.{Contents}
-use Rattle.rusty_leveldb.specs.OneLog.{IsOneLog, log_path}
+use Rattle.rusty_leveldb.specs.OneLog.{IsOneLog, log_path, temp_path}
 use Rattle.rusty_leveldb.specs.Holds.{IsSafe, Holds, HasStore, KeepsStore}
-use Rattle.rusty_leveldb.specs.State.{State, IsState, open_mode, broken, closed, Request, write, get, walk, get_snapshot, release_snapshot, flush, Refusal, Answer, done, found, refused}
-use Rattle.rusty_leveldb.specs.Causes.{Faults}
+use Rattle.rusty_leveldb.specs.State.{State, IsState, open_mode, closed, Request, write, get, walk, get_snapshot, release_snapshot, flush, close, abandon, Refusal, Answer, done, found, refused}
+use Rattle.rusty_leveldb.specs.Causes.{Faults, TakesLock}
 use Rattle.rusty_leveldb.specs.Machine.{Step, Risk, risk_of}
 use Rattle.rusty_leveldb.specs.Runs.{Event, Run}
 
@@ -59,13 +60,20 @@ pub record IsConversation (requests : List Request) (answers : List Answer) (eve
 
 -- ---- what befalls the files
 
--- a request that only reads
-abbrev pub IsReading : Request → Type 0
-IsReading (get at key) = Unit {0}
-IsReading (walk at moves) = Unit {0}
-IsReading get_snapshot = Unit {0}
-IsReading (release_snapshot one) = Unit {0}
-IsReading request = ⊥
+-- a request that changes no file: it reads, or gives something back
+abbrev pub TouchesNoFile : Request → Type 0
+TouchesNoFile (get at key) = Unit {0}
+TouchesNoFile (walk at moves) = Unit {0}
+TouchesNoFile get_snapshot = Unit {0}
+TouchesNoFile (release_snapshot one) = Unit {0}
+TouchesNoFile abandon = Unit {0}
+TouchesNoFile request = ⊥
+
+-- a request that adds no bytes: it makes a crash keep those that are there
+abbrev pub IsSyncing : Request → Type 0
+IsSyncing flush = Unit {0}
+IsSyncing close = Unit {0}
+IsSyncing request = ⊥
 
 -- a request that appends to the log or syncs it, and asks nothing else of the device
 abbrev pub IsLogging : Request → Type 0
@@ -77,12 +85,28 @@ abbrev pub IsRefused : Answer → Type 0
 IsRefused (refused refusal) = Unit {0}
 IsRefused answer = ⊥
 
--- A request that only reads leaves the files as they are, and so does a write or flush that is refused and leaves the store open;
--- a store that is broken takes no file away.
+-- each file has the bytes that it had, however many of them a crash keeps
+abbrev pub SameBytes : Files → Files → Type 0
+SameBytes before after = (path : List ℕ) → option_map bytes_of (after path) ≡ option_map bytes_of (before path)
+
+-- The files stay as they are where a request touches none, where a write or flush is refused and leaves the store open, and where the
+-- store isn't open and isn't to be opened. A flush and a close leave their bytes.
 pub record SparesFiles (request : Request) (answer : Answer) (old new : State) (before after : Files) : Type 0 where
-  pub reading : IsReading request → after ≡ before
+  pub untouched : TouchesNoFile request → after ≡ before
   pub refused : IsLogging request → IsRefused answer → new.mode ≡ open_mode → after ≡ before
-  pub broken : old.mode ≡ broken → (name : List ℕ) → IsSome (before name) → IsSome (after name)
+  pub stopped : old.mode ≢ open_mode → (TakesLock request → ⊥) → after ≡ before
+  pub bytes : IsSyncing request → SameBytes before after
+
+-- a file stays as it is, or a missing one is made, empty
+abbrev pub IsKeptOrMade : Option File → Option File → Type 0
+IsKeptOrMade before after = (after ≡ before) ⊎ (after ≡ or_empty before)
+
+-- What isn't the store's stays as it is: files under other names than the log's, that of what takes its place, and the lock's, and all
+-- other locks. The lock's file is kept, or made.
+pub record SparesOthers (store : List ℕ) (before after : Disk) : Type 0 where
+  pub files : (path : List ℕ) → path ≢ log_path store → path ≢ temp_path store → path ≢ lock_path store → after.files path ≡ before.files path
+  pub lock_file : IsKeptOrMade (before.files (lock_path store)) (after.files (lock_path store))
+  pub locks : (path : List ℕ) → path ≢ lock_path store → after.locked path ≡ before.locked path
 
 -- ---- damage
 

@@ -1,5 +1,5 @@
 -- Commands and replies as requests and answers, and what a run of commands is.
-use Rattle.std.specs.Prelude.{◌≡◌, ◌⊎◌, ℕ, Bool, false, List, [], ◌∷◌, ◌++◌, map, Option, Some, None, Result, Ok, Err, IsTrue}
+use Rattle.std.specs.Prelude.{◌≡◌, ◌⊎◌, ℕ, Bool, false, List, [], ◌∷◌, ◌++◌, map, Option, Some, None, Result, Ok, Err, IsErrAnd, IsTrue}
 use Rattle.std.specs.declared.cmp.Ordering.{Ordering}
 use Rattle.leveldb_base.specs.declared.error.Status.{Status}
 use Rattle.leveldb_base.specs.History as history
@@ -16,6 +16,7 @@ use Rattle.rusty_leveldb.specs.declared.db_impl.engine.Engine.{Engine}
 use Rattle.rusty_leveldb.specs.State.{State, Opening, Request, open_store, write, get, flush, close, abandon, Answer, done, found, refused}
 use Rattle.rusty_leveldb.specs.Serves.{Reads, Represents, Runs, refusal_of}
 use Rattle.rusty_leveldb.specs.Engine.{Recalls, scene, IsOpening}
+use Rattle.rusty_leveldb.specs.Recovery.{StaysUnopened}
 
 -- the change that an item asks for
 abbrev pub change_of : Item → history.Item
@@ -44,6 +45,10 @@ module _ {E F : Type 0} (C FP : Type 0) {I : Type 0} {D : I → Type 0} (env : G
   -- these requests had these answers, from what the disk has on, and what engine and disk stand for then
   abbrev pub Leads : E → List Request → List Answer → Option (Engine E C FP F I D) → E → State → Type 0
   Leads from requests answers engine to old = Runs store (Reads store) (Recalls env store) cmp (scene {C = C} {FP = FP} {I = I} {D = D} env cmp None from) requests answers (scene env cmp engine to) old
+
+-- a run that was refused, as an opening is
+abbrev pub IsUnopened : {E F : Type 0} → Ghosts E F → List ℕ → Bool → E → Result (Unit {0}) Status → E → Type 0
+IsUnopened env name create from ended to = IsErrAnd ended (StaysUnopened name create (env.tells from) (env.tells to) (env.failures from) (env.failures to))
 
 -- no engine stands before the runs below, and none behind them; so it is told of no coder either
 abbrev pub NoCoder : Unit {0} → Type 0

@@ -34,7 +34,7 @@ impl<'a, C: Cmp> Probe for AsOf<'a, C> {
 
 // The user's key and the sequence number. Fewer than eight bytes are the empty key with number 0.
 #[inline]
-fn user_and_sequence(key: InternalKey<'_>) -> (UserKey<'_>, SequenceNumber)
+pub(crate) fn user_and_sequence(key: InternalKey<'_>) -> (UserKey<'_>, SequenceNumber)
     ensures user { result.0.now ≡ user_part key.now }
     ensures sequence { result.1 ≡ sequence_part key.now }
 {

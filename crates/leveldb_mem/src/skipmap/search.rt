@@ -1,5 +1,5 @@
 //! How many keys at the front of a map come before something.
-ghost use Rattle.std.specs.Prelude.{◌≡◌, ◌≤◌, ℕ, Bool, true, List, length, MatchOption, ◌&&◌, nat_lt};
+ghost use Rattle.std.specs.Prelude.{◌≡◌, ◌-◌, ◌≤◌, ℕ, Bool, true, List, length, MatchOption, ◌&&◌, nat_lt};
 ghost use Rattle.std.specs.Ordering.{is_lt, is_eq};
 ghost use Rattle.leveldb_base.specs.Places.{count_before};
 ghost use Rattle.leveldb_mem.specs.Searching.{key_at, count_while, IsParted};
@@ -88,6 +88,15 @@ fn is_equal_at<C: Cmp>(cmp: &C, pairs: &PlacedPairs, at: usize, key: &[u8]) -> b
     at < pairs.len() && cmp.cmp(pairs.key(at), key).is_eq()
 }
 
+// Whether there is a last key, and it is before this one.
+#[inline]
+fn is_last_before<C: Cmp>(cmp: &C, pairs: &PlacedPairs, key: &[u8]) -> bool
+    ensures { result ≡ (nat_lt 0 (length pairs.now.pairs) && is_lt (C.cmp cmp.now (key_at pairs.now.pairs (length pairs.now.pairs - 1)) key.now)) }
+{
+    let length = pairs.len();
+    length > 0 && cmp.cmp(pairs.key(length - 1), key).is_lt()
+}
+
 /// The place where the key comes between the others, or none where a key that is there is Equal to it.
 #[inline]
 pub(crate) fn find_gap<C: Cmp>(cmp: &C, pairs: &PlacedPairs, key: &[u8]) -> Option<usize>
@@ -95,6 +104,10 @@ pub(crate) fn find_gap<C: Cmp>(cmp: &C, pairs: &PlacedPairs, key: &[u8]) -> Opti
     requires accepted { C.accepts cmp.now key.now ≡ true }
     ensures { MatchOption result (HasKey (C.cmp cmp.now) pairs.now.pairs key.now) (IsGap (C.accepts cmp.now) (C.cmp cmp.now) pairs.now.pairs key.now) }
 {
+    // A key behind all others, as each is where they come in order, costs one comparison.
+    if is_last_before(cmp, pairs, key) {
+        return Some(pairs.len());
+    }
     let at = count_keys_before(cmp, pairs, key);
     if is_equal_at(cmp, pairs, at, key) {
         return None;

@@ -39,6 +39,12 @@ opened_there {before = before} {made = made} {kept = kept} name named now answer
 
 -- ---- the log is recovered
 
+-- the log has these records, under the name that it has
+pub found_here : (create : Bool) (first : Files) (name path : List ℕ) (texts records : List (List ℕ)) (is_clean : Bool) → name ≡ path → records ≡ texts
+    → IsFoundAs create (first name) texts (if is_clean then clean else bad) → IsFoundAs create (first path) records (if is_clean then clean else bad)
+found_here create first name path texts records is_clean named same found =
+    subst (λ p. IsFoundAs create (first p) records (if is_clean then clean else bad)) named (subst (λ rs. IsFoundAs create (first name) rs (if is_clean then clean else bad)) (sym same) found)
+
 -- the log was read as these records, which are batches
 module _ (create : Bool) (first read mid now : Files) (name path : List ℕ) (texts records : List (List ℕ)) (is_clean : Bool) (named : name ≡ path) (still : read ≡ first) (same : records ≡ texts)
     (found : IsFoundAs create (first name) texts (if is_clean then clean else bad)) (are : AreBatches records) where

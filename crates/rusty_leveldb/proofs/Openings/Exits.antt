@@ -1,40 +1,39 @@
 -- What the calls before the log's did, at each exit of an opening.
-use Rattle.std.proofs.Common.{◌≡◌, ◌≢◌, ◌⊎◌, ◌<◌, ◌≤◌, ◌+◌, ◌∷◌, inl, inr, ⊎_elim, ℕ, Bool, false, true, cond, List, sym, ◌∙◌, ap, subst, arith, None, Result, Ok, Err}
+use Rattle.std.proofs.Common.{◌≡◌, ◌≢◌, ◌⊎◌, ◌<◌, ◌≤◌, ◌+◌, ◌∷◌, inl, inr, ⊎_elim, ℕ, Bool, false, true, cond, List, refl, sym, ◌∙◌, ap, subst, arith, Option, None, Result, Ok, Err}
 use Rattle.std.specs.Prelude.{◌-◌, ◌^◌, IsTrue, codes, if◌then◌else◌, is_ok}
 use Rattle.std.specs.Str.{bytes_eq}
-use Rattle.std.proofs.lemmas.List.{append_cancel_left}
 use Rattle.leveldb_base.specs.declared.error.Status.{Status}
 use Rattle.leveldb_base.specs.declared.error.StatusCode.TheVariants.{Corruption}
-use Rattle.leveldb_env.specs.Disk.{Files, Disk, created, lock_set, same}
+use Rattle.leveldb_env.specs.Disk.{File, Files, Disk, created, lock_set, same}
 use Rattle.leveldb_env.specs.Times.{Told}
+use Rattle.leveldb_mem.specs.Writing.{Writing}
 use Rattle.leveldb_env.specs.Calls.{Does, EitherSide, Still, SameLocks, Relocks, HasCause, NoMemory, IsLocked}
-use Rattle.leveldb_env.specs.FileLaws.{bytes_eq-same, bytes_eq-apart, SameBut, SameBut-trans, SameBut-created}
+use Rattle.leveldb_env.specs.FileLaws.{bytes_eq-same, bytes_eq-apart}
 use Rattle.rusty_leveldb.specs.OneLog.{log_path, IsRead}
-use Rattle.rusty_leveldb.specs.Names.{lock_path, SparesForeign, SparesOthers}
-use Rattle.rusty_leveldb.specs.Serves.{Reads, IsUnreadable}
+use Rattle.rusty_leveldb.specs.Names.{lock_path}
+use Rattle.rusty_leveldb.specs.Recent.{Numbered}
+use Rattle.rusty_leveldb.specs.Serves.{Reads, IsUnreadable, SparesOthers}
 use Rattle.rusty_leveldb.specs.Engine.{OpenExcused}
-use Rattle.rusty_leveldb.specs.Recovery.{IsFoundAs, SparesLog, HasCauses}
-use Rattle.rusty_leveldb.proofs.Foreign.{spares_same, spares_then, spares_but_lock, spares_others}
+use Rattle.rusty_leveldb.specs.Recovery.{IsFoundAs, SparesLog, IsUnusable, NeverOpens, ChangesLogAlone, IsRecovered, HasCauses}
+use Rattle.rusty_leveldb.proofs.Others.{log_kept, others_made, others_alone, others_then, alone_same, alone_then}
+use Rattle.rusty_leveldb.proofs.Openings.Logs.{usable}
 use Rattle.rusty_leveldb.proofs.Openings.Calls.{RecoveryExcused}
 use Rattle.rusty_leveldb.proofs.Openings.Refused.{IsEarlyWhy, IsGivenUp}
 
 -- ---- before the lock is taken
 
--- the lock's name isn't the log's
-lock_apart : (name : List ℕ) → bytes_eq (lock_path name) (log_path name) ≡ false
-lock_apart name = bytes_eq-apart (lock_path name) (log_path name) (λ e. absurd (differ (append_cancel_left name (47 ∷ codes "LOCK") (47 ∷ codes "000003.log") e)))
-  where
-    differ : 47 ∷ codes "LOCK" ≡ 47 ∷ codes "000003.log" → ⊥
-    differ e = cc
-
--- where all files but the lock's are as they were, the log is
-log_kept : (name : List ℕ) {old files : Files} → SameBut (lock_path name) old files → files (log_path name) ≡ old (log_path name)
-log_kept name but = but (log_path name) (lock_apart name)
-
--- all files but the lock's are as they were, and so are the locks
-pub record IsNear (name : List ℕ) (from to : Disk) : Type 0 where
-  pub files : SameBut (lock_path name) from.files to.files
+-- nothing has changed
+pub record IsStill (from to : Disk) : Type 0 where
+  pub files : to.files ≡ from.files
   pub locks : to.locked ≡ from.locked
+
+-- the lock's file may have been made
+pub record IsNear (name : List ℕ) (from to : Disk) : Type 0 where
+  pub files : EitherSide (created (lock_path name)) from.files to.files
+  pub locks : to.locked ≡ from.locked
+
+pub near_still : (name : List ℕ) (from to : Disk) → IsStill from to → IsNear name from to
+near_still name from to still = record { files = inl still.files; locks = still.locks }
 
 -- a refusal there
 abbrev pub EarlyExcused : List ℕ → Bool → Disk → Status → Type 0
@@ -43,43 +42,42 @@ EarlyExcused name create from e = NoMemory e ⊎ IsEarlyWhy name create from e
 pub given_up_early : (name : List ℕ) (create : Bool) (from to : Disk) (before after : ℕ) (e : Status) {T : Type 0} → IsNear name from to → after < 2 ^ 64 → HasCauses {T = T} (EarlyExcused name create from) before after (Err e)
     → IsGivenUp name create from to before after after e
 given_up_early name create from to before after e near counts causes = record {
-  log = inl (log_kept name near.files);
+  log = inl (log_kept name from.files to.files near.files);
   lock = inl (ap (λ (l : List ℕ → Bool). l (lock_path name)) near.locks);
-  held = λ was_held. near.files;
-  others = spares_others name from to (spares_but_lock name near.files) near.locks;
+  untouched = λ never. near.files;
+  others = others_made name from to near.files (λ other apart. ap (λ (l : List ℕ → Bool). l other) near.locks);
   later = causes.later;
   ends = omega arith;
   counts = counts;
-  why = ⊎_elim (λ why. ⊎_elim (λ m. inl m) (λ early. inr (inl (early, log_kept name near.files))) why) (λ counted. inr (inr (inr counted))) causes.cause;
+  why = ⊎_elim (λ why. ⊎_elim (λ m. inl m) (λ early. inr (inl (early, log_kept name from.files to.files near.files))) why) (λ counted. inr (inr (inr counted))) causes.cause;
 }
 
 -- the folder is made
-pub folder_made : (name : List ℕ) {tells_disk : Bool} {T : Type 0} {result : Result T Status} (from to : Told) → IsTrue tells_disk → Does tells_disk same Still from to result → SameLocks tells_disk from to
-    → IsNear name from.disk to.disk
-folder_made name from to tells does locks = record { files = λ other apart. ap (λ (f : Files). f other) (does.now tells); locks = locks tells }
+pub folder_made : {tells_disk : Bool} {T : Type 0} {result : Result T Status} (from to : Told) → IsTrue tells_disk → Does tells_disk same Still from to result → SameLocks tells_disk from to → IsStill from.disk to.disk
+folder_made from to tells does locks = record { files = does.now tells; locks = locks tells }
 
 -- the lock's file may be made
-lock_made : (name lock : List ℕ) (old files : Files) → lock ≡ lock_path name → EitherSide (created lock) old files → SameBut (lock_path name) old files
-lock_made name lock old files is passes = subst (λ l. SameBut l old files) is (SameBut-created lock old files passes)
+lock_made : (name lock : List ℕ) (old made files : Files) → lock ≡ lock_path name → made ≡ old → EitherSide (created lock) made files → EitherSide (created (lock_path name)) old files
+lock_made name lock old made files is still passes = subst (λ f. EitherSide (created (lock_path name)) f files) still (subst (λ l. EitherSide (created l) made files) is passes)
 
 -- the lock is refused
-pub lock_refused : (name lock : List ℕ) {tells_disk : Bool} {T : Type 0} {e : Status} (from made to : Told) → IsTrue tells_disk → lock ≡ lock_path name → IsNear name from.disk made.disk
+pub lock_refused : (name lock : List ℕ) {tells_disk : Bool} {T : Type 0} {e : Status} (from made to : Told) → IsTrue tells_disk → lock ≡ lock_path name → IsStill from.disk made.disk
     → Does {T = T} tells_disk (created lock) (EitherSide (created lock)) made to (Err e) → Relocks {T = T} tells_disk (lock_set lock true) made to (Err e) → IsNear name from.disk to.disk
-lock_refused name lock from made to tells is near does locks = record {
-  files = SameBut-trans (lock_path name) near.files (lock_made name lock made.disk.files to.disk.files is (does.now tells));
-  locks = locks tells ∙ near.locks;
+lock_refused name lock from made to tells is still does locks = record {
+  files = lock_made name lock from.disk.files made.disk.files to.disk.files is still.files (does.now tells);
+  locks = locks tells ∙ still.locks;
 }
 
-pub lock_excused : (name lock : List ℕ) (create tells_disk : Bool) (from made : Told) (e : Status) → IsTrue tells_disk → lock ≡ lock_path name → IsNear name from.disk made.disk → IsLocked tells_disk lock made e
+pub lock_excused : (name lock : List ℕ) (create tells_disk : Bool) (from made : Told) (e : Status) → IsTrue tells_disk → lock ≡ lock_path name → IsStill from.disk made.disk → IsLocked tells_disk lock made e
     → EarlyExcused name create from.disk e
-lock_excused name lock create tells_disk from made e tells is near why = ⊎_elim (λ m. inl m)
-    (λ held. inr (inr (inr (held.0, sym (ap (λ (l : List ℕ → Bool). l (lock_path name)) near.locks) ∙ subst (λ l. made.disk.locked l ≡ true) is (held.1 tells))))) why
+lock_excused name lock create tells_disk from made e tells is still why = ⊎_elim (λ m. inl m)
+    (λ held. inr (inr (inr (held.0, sym (ap (λ (l : List ℕ → Bool). l (lock_path name)) still.locks) ∙ subst (λ l. made.disk.locked l ≡ true) is (held.1 tells))))) why
 
 -- ---- under the lock
 
 -- the lock was free and is taken, and all files but the lock's are as they were
 pub record IsTaken (name : List ℕ) (from to : Disk) : Type 0 where
-  pub files : SameBut (lock_path name) from.files to.files
+  pub files : EitherSide (created (lock_path name)) from.files to.files
   pub log : to.files (log_path name) ≡ from.files (log_path name)
   pub was_free : from.locked (lock_path name) ≡ false
   pub held : to.locked (lock_path name) ≡ true
@@ -91,32 +89,40 @@ set_same name b locked = ap (λ x. cond x b (locked name)) (bytes_eq-same name)
 set_other : (name : List ℕ) (b : Bool) (locked : List ℕ → Bool) (other : List ℕ) → other ≢ name → lock_set name b locked other ≡ locked other
 set_other name b locked other apart = ap (λ x. cond x b (locked other)) (bytes_eq-apart name other (λ e. apart (sym e)))
 
-pub lock_taken : (name lock : List ℕ) {tells_disk : Bool} {T : Type 0} {value : T} (from made to : Told) → IsTrue tells_disk → lock ≡ lock_path name → IsNear name from.disk made.disk
+pub lock_taken : (name lock : List ℕ) {tells_disk : Bool} {T : Type 0} {value : T} (from made to : Told) → IsTrue tells_disk → lock ≡ lock_path name → IsStill from.disk made.disk
     → Does tells_disk (created lock) (EitherSide (created lock)) made to (Ok value) → Relocks tells_disk (lock_set lock true) made to (Ok value) → made.disk.locked lock ≡ false → IsTaken name from.disk to.disk
-lock_taken name lock from made to tells is near does locks was_free =
+lock_taken name lock from made to tells is still does locks was_free =
     let set : to.disk.locked ≡ lock_set (lock_path name) true made.disk.locked = subst (λ l. to.disk.locked ≡ lock_set l true made.disk.locked) is (locks tells) in
-    let but : SameBut (lock_path name) from.disk.files to.disk.files = SameBut-trans (lock_path name) near.files (lock_made name lock made.disk.files to.disk.files is (does.now tells)) in
+    let files = lock_made name lock from.disk.files made.disk.files to.disk.files is still.files (does.now tells) in
     record {
-      files = but;
-      log = log_kept name but;
-      was_free = sym (ap (λ (l : List ℕ → Bool). l (lock_path name)) near.locks) ∙ subst (λ l. made.disk.locked l ≡ false) is was_free;
+      files = files;
+      log = log_kept name from.disk.files to.disk.files files;
+      was_free = sym (ap (λ (l : List ℕ → Bool). l (lock_path name)) still.locks) ∙ subst (λ l. made.disk.locked l ≡ false) is was_free;
       held = ap (λ (l : List ℕ → Bool). l (lock_path name)) set ∙ set_same (lock_path name) true made.disk.locked;
-      others = λ other apart. ap (λ (l : List ℕ → Bool). l other) set ∙ set_other (lock_path name) true made.disk.locked other apart ∙ ap (λ (l : List ℕ → Bool). l other) near.locks;
+      others = λ other apart. ap (λ (l : List ℕ → Bool). l other) set ∙ set_other (lock_path name) true made.disk.locked other apart ∙ ap (λ (l : List ℕ → Bool). l other) still.locks;
     }
 
--- nothing else of the locks changes while the log is recovered, and no file that isn't the store's
-pub still_taken : (name : List ℕ) (from taken to : Disk) → IsTaken name from taken → to.locked ≡ taken.locked → SparesForeign name taken.files to.files → (to.locked (lock_path name) ≡ true) × SparesOthers name from to
-still_taken name from taken to is locks foreign = (
+-- what isn't the store's, once the lock is taken and the log alone has changed
+taken_alone : (name : List ℕ) (from taken to : Disk) → IsTaken name from taken → ChangesLogAlone name taken.files to.files → ((other : List ℕ) → other ≢ lock_path name → to.locked other ≡ taken.locked other) → SparesOthers name from to
+taken_alone name from taken to is rest locks = others_then name from taken to (others_made name from taken is.files is.others) (others_alone name taken to rest locks)
+
+-- nothing else of the locks changes while the log is recovered, and no other file
+pub still_taken : (name : List ℕ) (from taken to : Disk) → IsTaken name from taken → to.locked ≡ taken.locked → ChangesLogAlone name taken.files to.files → (to.locked (lock_path name) ≡ true) × SparesOthers name from to
+still_taken name from taken to is locks rest = (
   ap (λ (l : List ℕ → Bool). l (lock_path name)) locks ∙ is.held,
-  record {
-    files = spares_then name (spares_but_lock name is.files) foreign;
-    locks = λ other apart. ap (λ (l : List ℕ → Bool). l other) locks ∙ is.others other apart;
-  },
+  taken_alone name from taken to is rest (λ other apart. ap (λ (l : List ℕ → Bool). l other) locks),
 )
+
+-- a store that was opened isn't one that is never opened
+pub may_open : {name : List ℕ} {create : Bool} {from taken : Disk} {now : Option File} {writer : Writing} {recent : Numbered} → IsTaken name from taken → IsRecovered create (taken.files (log_path name)) now writer recent → NeverOpens name create from → ⊥
+may_open {name} {create} {from} {taken} took got = ⊎_elim
+    (λ held. let never : true ≡ false = sym held ∙ took.was_free in absurd (cc))
+    (λ unusable. usable create (taken.files (log_path name)) got.records got.end got.was_found got.replayed.read (subst (IsUnusable create) (sym took.log) unusable))
 
 -- The log isn't recovered, and the lock is given back, or that fails.
 module _ (name lock : List ℕ) (create : Bool) (from taken kept to : Disk) (before mid after : ℕ) (e : Status) (is : lock ≡ lock_path name) (took : IsTaken name from taken) (locks : kept.locked ≡ taken.locked)
-    (log : SparesLog create (taken.files (log_path name)) (kept.files (log_path name))) (foreign : SparesForeign name taken.files kept.files) (files : to.files ≡ kept.files) (counts : after < 2 ^ 64) (ended : mid ≤ after)
+    (log : SparesLog create (taken.files (log_path name)) (kept.files (log_path name))) (rest : ChangesLogAlone name taken.files kept.files)
+    (unusable : IsUnusable create (taken.files (log_path name)) → kept.files ≡ taken.files) (files : to.files ≡ kept.files) (counts : after < 2 ^ 64) (ended : mid ≤ after)
     (tells_disk : Bool) (tells : IsTrue tells_disk) {T : Type 0} (causes : HasCauses {T = T} (RecoveryExcused tells_disk create (taken.files (log_path name))) before mid (Err e)) where
   spares : SparesLog create (from.files (log_path name)) (to.files (log_path name))
   spares = subst (λ w. SparesLog create w (to.files (log_path name))) took.log (subst (λ (f : Files). SparesLog create (taken.files (log_path name)) (f (log_path name))) (sym files) log)
@@ -133,12 +139,14 @@ module _ (name lock : List ℕ) (create : Bool) (from taken kept to : Disk) (bef
       (λ damage. inr (inr (inl (damage.0, λ contents read. damage.1 tells contents (subst (λ w. IsRead w contents) (sym took.log) read))))) others) excused)
       (λ counted. inr (inr (inr counted))) causes.cause
 
-  -- the lock wasn't held before
-  was_not_held : IsTrue (from.locked (lock_path name)) → SameBut (lock_path name) from.files to.files
-  was_not_held was = absurd (let never : true ≡ false = sym was ∙ took.was_free in cc)
+  -- where no store is opened, the lock's file was made at most
+  untouched : NeverOpens name create from → EitherSide (created (lock_path name)) from.files to.files
+  untouched = ⊎_elim
+      (λ held. let never : true ≡ false = sym held ∙ took.was_free in absurd (cc))
+      (λ was. subst (λ f. EitherSide (created (lock_path name)) from.files f) (sym (files ∙ unusable (subst (IsUnusable create) (sym took.log) was))) took.files)
 
-  spares_them : SparesForeign name taken.files to.files
-  spares_them = spares_then name foreign (spares_same name files)
+  rest_now : ChangesLogAlone name taken.files to.files
+  rest_now = alone_then name taken.files kept.files to.files rest (alone_same name kept.files to.files files)
 
   given_back : to.locked ≡ lock_set lock false kept.locked → IsGivenUp name create from to before mid after e
   given_back set =
@@ -146,11 +154,9 @@ module _ (name lock : List ℕ) (create : Bool) (from taken kept to : Disk) (bef
       record {
         log = spares;
         lock = inl (ap (λ (l : List ℕ → Bool). l (lock_path name)) set_it ∙ set_same (lock_path name) false kept.locked ∙ sym took.was_free);
-        held = was_not_held;
-        others = record {
-          files = spares_then name (spares_but_lock name took.files) spares_them;
-          locks = λ other apart. ap (λ (l : List ℕ → Bool). l other) set_it ∙ set_other (lock_path name) false kept.locked other apart ∙ ap (λ (l : List ℕ → Bool). l other) locks ∙ took.others other apart;
-        };
+        untouched = untouched;
+        others = taken_alone name from taken to took rest_now
+            (λ other apart. ap (λ (l : List ℕ → Bool). l other) set_it ∙ set_other (lock_path name) false kept.locked other apart ∙ ap (λ (l : List ℕ → Bool). l other) locks);
         later = causes.later;
         ends = ended;
         counts = counts;
@@ -159,8 +165,8 @@ module _ (name lock : List ℕ) (create : Bool) (from taken kept to : Disk) (bef
 
   not_given_back : to.locked ≡ kept.locked → (mid < after) ⊎ (after ≡ 2 ^ 64 - 1) → IsGivenUp name create from to before mid after e
   not_given_back same failed =
-      let still = still_taken name from taken to took (same ∙ locks) spares_them in
-      record { log = spares; lock = inr (still.0, failed); held = was_not_held; others = still.1; later = causes.later; ends = ended; counts = counts; why = reasons }
+      let still = still_taken name from taken to took (same ∙ locks) rest_now in
+      record { log = spares; lock = inr (still.0, failed); untouched = untouched; others = still.1; later = causes.later; ends = ended; counts = counts; why = reasons }
 
   -- whether the lock was given back
   pub given_up_late : (result : Result (Unit {0}) Status) → to.locked ≡ (if is_ok result then lock_set lock false kept.locked else kept.locked) → HasCause (λ _. ⊥) mid after result

@@ -10,7 +10,7 @@ use Rattle.rusty_leveldb.specs.Contents.{Contents, nothing_there}
 use Rattle.rusty_leveldb.specs.OneLog.{IsRead, contents_of}
 use Rattle.rusty_leveldb.specs.Recent.{Numbered}
 use Rattle.rusty_leveldb.specs.Replay.{AreBatches, IsReplayed}
-use Rattle.rusty_leveldb.specs.Recovery.{IsFoundAs, framed_file, kept_log, IsKeptLog, SparesLog, IsRecovered}
+use Rattle.rusty_leveldb.specs.Recovery.{IsFoundAs, framed_file, kept_log, IsKeptLog, SparesLog, IsUnusable, IsRecovered}
 use Rattle.rusty_leveldb.proofs.OneLog.LogFile.{Carried}
 use Rattle.rusty_leveldb.proofs.OneLog.Kept.{IsKept, created_carries, same_records, no_records, framed_log}
 
@@ -36,9 +36,9 @@ pub carried_over : (create : Bool) (was now : Option File) (records : List (List
     → Carried bound history was → Carried bound history now
 carried_over create None now records end bound history found k c =
     let none : IsLogFile (bytes_of (kept_file [])) records clean = subst (λ rs. IsLogFile [] rs clean) (sym found.1) no_records in
-    subst (Carried bound history) (sym k.there) (same_records bound history (kept_file []) k.file records clean k.end none k.read (created_carries bound history c))
+    subst (Carried bound history) (sym k.there) (same_records bound history (kept_file []) k.file records clean clean none k.read (created_carries bound history c))
 carried_over create (Some file) now records end bound history found k c =
-    subst (Carried bound history) (sym k.there) (same_records bound history file k.file records end k.end found k.read c)
+    subst (Carried bound history) (sym k.there) (same_records bound history file k.file records end clean found k.read c)
 
 -- the records that were found are batches where the log can be read
 pub found_batches : (create : Bool) (was : Option File) (records : List (List ℕ)) (end : End) (contents : Contents) → IsFoundAs create was records end → IsRead was contents → AreBatches records
@@ -62,7 +62,7 @@ module _ (create : Bool) (was : Option File) (records : List (List ℕ)) (is_cle
   -- mending spares the log
   pub mending_spares : (mid : Option File) → (mid ≡ was) ⊎ (mid ≡ Some (framed_file records)) → SparesLog create was mid
   mending_spares mid either = ⊎_elim (λ same. inl same)
-      (λ is. inr (records, (if is_clean then clean else bad), found, record { file = framed_file records; there = is; since = refl; end = clean; read = framed_reads records are })) either
+      (λ is. inr (records, (if is_clean then clean else bad), found, record { file = framed_file records; there = is; since = refl; read = framed_reads records are })) either
 
   mended_either : (b : Bool) (mid : Option File) → mid ≡ (if b then was else Some (framed_file records)) → (mid ≡ was) ⊎ (mid ≡ Some (framed_file records))
   mended_either true mid is = inl is
@@ -72,7 +72,7 @@ module _ (create : Bool) (was : Option File) (records : List (List ℕ)) (is_cle
   pub opening_spares : (mid now : Option File) → mid ≡ (if is_clean then was else Some (framed_file records)) → (now ≡ mid) ⊎ (now ≡ Some (kept_log mid)) → SparesLog create was now
   opening_spares mid now is either = ⊎_elim
       (λ same. subst (SparesLog create was) (sym same) (mending_spares mid (mended_either is_clean mid is)))
-      (λ kept. inr (records, (if is_clean then clean else bad), found, record { file = kept_log mid; there = kept; since = kept_since mid; end = clean; read = mended_reads mid is })) either
+      (λ kept. inr (records, (if is_clean then clean else bad), found, record { file = kept_log mid; there = kept; since = kept_since mid; read = mended_reads mid is })) either
 
   -- an opened log is recovered
   pub opened_recovers : (mid now : Option File) (size : ℕ) (writer : Writing) (recent : Numbered) → mid ≡ (if is_clean then was else Some (framed_file records)) → now ≡ Some (kept_log mid)
@@ -89,7 +89,9 @@ module _ (create : Bool) (was : Option File) (records : List (List ℕ)) (is_cle
     stands = stands ∙ ap (λ n. record { size = log_block_size; place = n % log_block_size; broken = false }) sized;
   }
 
--- what was recovered can be read
-pub readable : {create : Bool} {was now : Option File} {writer : Writing} {recent : Numbered} → IsRecovered create was now writer recent → (contents : Contents) × IsRead was contents
-readable {was = None} got = (nothing_there, refl)
-readable {was = Some file} got = (contents_of got.replayed.read.batches, (got.replayed.read.batches, record { records = got.records; end = got.end; read = got.was_found; each = got.replayed.read.each; order = got.replayed.read.order }, refl))
+-- a log of batches isn't unusable
+pub usable : (create : Bool) (was : Option File) (records : List (List ℕ)) (end : End) → IsFoundAs create was records end → AreBatches records → IsUnusable create was → ⊥
+usable create None records end found are = ⊎_elim (λ unread. unread nothing_there refl) (λ unmade. let never : true ≡ false = sym found.0 ∙ unmade.0 in absurd (cc))
+usable create (Some file) records end found are = ⊎_elim
+    (λ unread. unread (contents_of are.batches) (are.batches, record { records = records; end = end; read = found; each = are.each; order = are.order }, refl))
+    (λ unmade. let never : Some file ≡ None = unmade.1 in absurd (cc))

@@ -11,12 +11,12 @@ use Rattle.leveldb_env.specs.Times.{Told}
 use Rattle.leveldb_mem.specs.Log.{clean}
 use Rattle.rusty_leveldb.specs.Contents.{Store, missing, made, Contents}
 use Rattle.rusty_leveldb.specs.OneLog.{log_path, IsRead, all_entries, contents_of}
-use Rattle.rusty_leveldb.specs.Names.{lock_path, SparesOthers}
+use Rattle.rusty_leveldb.specs.Names.{lock_path}
 use Rattle.rusty_leveldb.specs.Holds.{Tells, Carries}
 use Rattle.rusty_leveldb.specs.State.{State, IsState, Opening, open_store, open_mode, done}
 use Rattle.rusty_leveldb.specs.Causes.{Misfits, Disagrees}
 use Rattle.rusty_leveldb.specs.Machine.{MayOpen, Opens, StepIn}
-use Rattle.rusty_leveldb.specs.Serves.{Reads, StandsFor, Represents, Goes, faults_between}
+use Rattle.rusty_leveldb.specs.Serves.{Reads, StandsFor, Represents, Goes, faults_between, SparesOthers}
 use Rattle.rusty_leveldb.specs.Engine.{IsStoreName, IsOpening, Recalls, Remembers, WritesOn, mode_of}
 use Rattle.rusty_leveldb.specs.declared.db_impl.engine.Engine.{Engine}
 use Rattle.rusty_leveldb.specs.Recovery.{IsFoundAs, IsKeptLog, IsRecovered}
@@ -59,7 +59,7 @@ module _ {E C FP F I : Type 0} {D : I → Type 0} (env : Ghosts E F) (name : Lis
   found = opening.found name from.disk.files old.history old.last old.covered old.pending represents.disk_is.is_state.covered represents.disk_is.holds
 
   kept : IsKeptLog got.records (to.disk.files (log_path name))
-  kept = record { file = got.file; there = got.there; since = got.since; end = clean; read = got.read }
+  kept = record { file = got.file; there = got.there; since = got.since; read = got.read }
 
   -- what is read of the log now
   read_now : IsRead (to.disk.files (log_path name)) (contents_of got.replayed.read.batches)
@@ -175,6 +175,6 @@ module _ {E C FP F I : Type 0} {D : I → Type 0} (env : Ghosts E F) (name : Lis
       later = omega (arith, counted);
       step = subst (λ m. StepIn cmp m (faults_between before after) old (open_store opening_is) done now) (sym represents.memory_is) (misfits, opens);
     };
-    files = record { reading = λ never. absurd never; refused = λ never. absurd never; broken = λ never. absurd (cc (sym never ∙ represents.memory_is)) };
+    files = record { untouched = λ never. absurd never; refused = λ never. absurd never; stopped = λ not_open takes. absurd (takes tt); bytes = λ never. absurd never };
     others = others;
   }

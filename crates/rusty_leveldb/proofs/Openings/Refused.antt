@@ -1,24 +1,23 @@
 -- A refused opening is a step that leaves the store closed.
 use Rattle.std.proofs.Common.{◌≡◌, ◌≢◌, ◌⊎◌, ◌<◌, ◌≤◌, inl, inr, ⊎_elim, ℕ, Bool, false, true, List, refl, sym, ◌∙◌, ap, subst, arith, Option, None}
-use Rattle.std.specs.Prelude.{◌-◌, ◌^◌, IsTrue}
+use Rattle.std.specs.Prelude.{◌+◌, ◌-◌, ◌^◌, IsTrue}
 use Rattle.std.specs.declared.cmp.Ordering.{Ordering}
 use Rattle.leveldb_base.specs.declared.error.Status.{Status}
 use Rattle.leveldb_base.specs.declared.error.StatusCode.TheVariants.{InvalidArgument, Corruption, LockError}
 use Rattle.leveldb_base.specs.Status.{text_of}
 use Rattle.leveldb_env.specs.declared.env.Env.{Ghosts}
-use Rattle.leveldb_env.specs.Disk.{File, Disk}
+use Rattle.leveldb_env.specs.Disk.{File, Disk, created}
 use Rattle.leveldb_env.specs.Times.{Told}
-use Rattle.leveldb_env.specs.Calls.{NoMemory}
-use Rattle.leveldb_env.specs.FileLaws.{SameBut}
+use Rattle.leveldb_env.specs.Calls.{EitherSide, NoMemory}
 use Rattle.rusty_leveldb.specs.Contents.{Store, made, Contents, nothing_there}
 use Rattle.rusty_leveldb.specs.OneLog.{log_path, IsRead}
-use Rattle.rusty_leveldb.specs.Names.{lock_path, SparesOthers}
+use Rattle.rusty_leveldb.specs.Names.{lock_path}
 use Rattle.rusty_leveldb.specs.State.{State, IsState, IsAtRest, SuitsMode, Opening, open_store, refused}
 use Rattle.rusty_leveldb.specs.Causes.{Cause, Comes, Disagrees, out_of_memory, device_failed, lock_is_held, bad_operand}
 use Rattle.rusty_leveldb.specs.Machine.{IsEarly, UnlockFailed, StepIn}
-use Rattle.rusty_leveldb.specs.Serves.{Reads, Represents, Goes, IsUnreadable, faults_between, refusal_of}
-use Rattle.rusty_leveldb.specs.Engine.{IsStoreName, IsOpening, Recalls}
-use Rattle.rusty_leveldb.specs.Recovery.{SparesLog, StaysUnopened}
+use Rattle.rusty_leveldb.specs.Serves.{Reads, SparesOthers, Represents, Goes, IsUnreadable, faults_between, refusal_of}
+use Rattle.rusty_leveldb.specs.Engine.{IsStoreName, IsOpening, OpenExcused, Recalls}
+use Rattle.rusty_leveldb.specs.Recovery.{SparesLog, NeverOpens, FailedBeside, StaysUnopened}
 use Rattle.rusty_leveldb.proofs.Openings.Survives.{Survives, survives_now, survives_same, survives_kept, some_contents}
 
 -- why an opening is refused before anything is made
@@ -30,7 +29,7 @@ IsEarlyWhy name create disk e = ((e.code ≡ InvalidArgument) × (IsStoreName na
 pub record IsGivenUp (name : List ℕ) (create : Bool) (from to : Disk) (before mid after : ℕ) (e : Status) : Type 0 where
   pub log : SparesLog create (from.files (log_path name)) (to.files (log_path name))
   pub lock : (to.locked (lock_path name) ≡ from.locked (lock_path name)) ⊎ ((to.locked (lock_path name) ≡ true) × ((mid < after) ⊎ (after ≡ 2 ^ 64 - 1)))
-  pub held : IsTrue (from.locked (lock_path name)) → SameBut (lock_path name) from.files to.files
+  pub untouched : NeverOpens name create from → EitherSide (created (lock_path name)) from.files to.files
   pub others : SparesOthers name from to
   pub later : before ≤ mid
   pub ends : mid ≤ after
@@ -38,12 +37,31 @@ pub record IsGivenUp (name : List ℕ) (create : Bool) (from to : Disk) (before 
   pub why : NoMemory e ⊎ (IsEarlyWhy name create from e × (to.files (log_path name) ≡ from.files (log_path name))) ⊎ ((e.code ≡ Corruption) × IsUnreadable (Reads name) from.files)
       ⊎ (before < mid) ⊎ (before ≡ 2 ^ 64 - 1)
 
+-- why it was refused, where the device has no part in it
+early_excused : (name : List ℕ) (create : Bool) (from : Told) (e : Status) → IsEarlyWhy name create from.disk e → OpenExcused true name create from e
+early_excused name create from e why = ⊎_elim (λ badly. inr (inl badly))
+    (λ others. ⊎_elim (λ unmade. inr (inr (inl (unmade.0, unmade.1, λ told. unmade.2)))) (λ held. inr (inr (inr (inl (held.0, λ told. held.1))))) others) why
+
+-- the lock wasn't given back: a failure of its own
+failed_beside : (name : List ℕ) (create : Bool) (from to : Told) (before mid after : ℕ) (e : Status) → IsGivenUp name create from.disk to.disk before mid after e → (mid < after) ⊎ (after ≡ 2 ^ 64 - 1)
+    → FailedBeside (OpenExcused true name create from e) before after
+failed_beside name create from to before mid after e up failed = ⊎_elim (λ (more : mid < after). ⊎_elim (λ memory. excused more (inl memory))
+    (λ others. ⊎_elim (λ early. excused more (early_excused name create from e early.0))
+    (λ others. ⊎_elim (λ damage. excused more (inr (inr (inr (inr (damage.0, λ told. damage.1)))))) (λ counted. device more counted) others) others) up.why)
+    (λ full. inr (inr full)) failed
+  where
+    excused : mid < after → OpenExcused true name create from e → FailedBeside (OpenExcused true name create from e) before after
+    excused more why = inl (why, omega (arith, up.later, more))
+
+    device : mid < after → (before < mid) ⊎ (before ≡ 2 ^ 64 - 1) → FailedBeside (OpenExcused true name create from e) before after
+    device more counted = ⊎_elim (λ (less : before < mid). inr (inl (omega (arith, less, more)))) (λ (full : before ≡ 2 ^ 64 - 1). inr (inr (omega (arith, full, up.later, up.ends, up.counts)))) counted
+
 -- what it leaves
-pub unopened : {name : List ℕ} {create : Bool} {from to : Disk} {before mid after : ℕ} {e : Status} → IsGivenUp name create from to before mid after e → StaysUnopened name create from to before after
-unopened {before = before} {mid = mid} {after = after} up = record {
+pub unopened : {name : List ℕ} {create : Bool} {from to : Told} {before mid after : ℕ} {e : Status} → IsGivenUp name create from.disk to.disk before mid after e → StaysUnopened name create from to before after e
+unopened {name} {create} {from} {to} {before} {mid} {after} {e} up = record {
   log = up.log;
-  lock = ⊎_elim (λ same. inl same) (λ kept. inr (kept.0, ⊎_elim (λ (more : mid < after). inl (omega (arith, up.later, more))) (λ full. inr full) kept.1)) up.lock;
-  held = up.held;
+  untouched = up.untouched;
+  lock = ⊎_elim (λ same. inl same) (λ kept. inr (kept.0, failed_beside name create from to before mid after e up kept.1)) up.lock;
   others = up.others;
 }
 
@@ -111,7 +129,7 @@ module _ {E C FP F I : Type 0} {D : I → Type 0} (env : Ghosts E F) (name : Lis
         },
       );
     };
-    files = record { reading = λ never. absurd never; refused = λ never. absurd never; broken = λ never. absurd (cc (sym never ∙ represents.memory_is)) };
+    files = record { untouched = λ never. absurd never; refused = λ never. absurd never; stopped = λ not_open takes. absurd (takes tt); bytes = λ never. absurd never };
     others = up.others;
   }
 

@@ -20,7 +20,7 @@ use Rattle.rusty_leveldb.specs.Serves.{Reads, Goes, faults_between, refusal_of}
 use Rattle.rusty_leveldb.specs.Engine.{scene, Recalls}
 use Rattle.rusty_leveldb.proofs.Histories.{entries_more, greatest_append, placed_greatest, placed_length, history_more}
 use Rattle.rusty_leveldb.proofs.OneLog.Writing.{appending_holds}
-use Rattle.rusty_leveldb.proofs.Foreign.{spares_but_log, spares_others}
+use Rattle.rusty_leveldb.proofs.Others.{others_but_log}
 use Rattle.rusty_leveldb.proofs.Writes.Stands.{Fails, IsOpen, IsStill, broken_with, Broke, broken_is}
 
 -- a batch that may follow, and its record
@@ -85,11 +85,12 @@ module _ {E C FP F I : Type 0} {D : I → Type 0} (env : Ghosts E F) (store : Li
       represents = broken_is env store engine after from to old (Some batch) was broke;
       step = record { later = later; step = subst (λ m. StepIn cmp m faults old (write items sync) (refused (refusal_of status)) new) (sym was.mode) (refuses status why) };
       files = record {
-        reading = λ reads. absurd reads;
+        untouched = λ never. absurd never;
         refused = λ logging is_refused opened. absurd (let never : broken ≡ open_mode = opened in cc);
-        broken = λ broken_then. absurd (let never : broken ≡ open_mode = sym broken_then ∙ was.mode in cc);
+        stopped = λ not_open takes. absurd (not_open was.mode);
+        bytes = λ never. absurd never;
       };
-      others = spares_others store (env.tells from).disk (env.tells to).disk broke.foreign locks;
+      others = others_but_log store (env.tells from).disk (env.tells to).disk broke.but locks;
     }
       where
         new : State
@@ -106,5 +107,5 @@ module _ {E C FP F I : Type 0} {D : I → Type 0} (env : Ghosts E F) (store : Li
           file = (passed_file (env.tells to).disk.files passes).0;
           there = (passed_file (env.tells to).disk.files passes).1;
           locks = locks;
-          foreign = spares_but_log store (SameBut-appending name frame (env.tells from).disk.files (env.tells to).disk.files passes);
+          but = SameBut-appending name frame (env.tells from).disk.files (env.tells to).disk.files passes;
         }

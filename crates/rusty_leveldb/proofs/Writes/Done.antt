@@ -8,14 +8,14 @@ use Rattle.leveldb_base.specs.ViewLaws.{AreUpTo, same_with_more}
 use Rattle.leveldb_env.specs.declared.env.Env.{Ghosts}
 use Rattle.leveldb_env.specs.Disk.{File, Files, bytes_of, longer_file, file_kept, extended, synced, AreBytes}
 use Rattle.leveldb_env.specs.Calls.{Appending}
-use Rattle.leveldb_env.specs.FileLaws.{extended-same, synced-same, appended, SameBut-appending}
+use Rattle.leveldb_env.specs.FileLaws.{SameBut, SameBut-trans, SameBut-synced, SameBut-appending, extended-same, synced-same, appended}
 use Rattle.leveldb_mem.specs.Log.{log_block_size, clean, IsLogFile}
 use Rattle.leveldb_mem.specs.LogLaws.{log_laws}
 use Rattle.leveldb_mem.specs.Writing.{behind_frame}
 use Rattle.leveldb_mem.specs.Batch.{batch_of}
 use Rattle.rusty_leveldb.specs.declared.db_impl.engine.Mode.TheVariants.{Open}
 use Rattle.rusty_leveldb.specs.declared.db_impl.engine.Engine.{Engine}
-use Rattle.rusty_leveldb.specs.Names.{lock_path, SparesForeign}
+use Rattle.rusty_leveldb.specs.Names.{lock_path}
 use Rattle.rusty_leveldb.specs.OneLog.{log_path}
 use Rattle.rusty_leveldb.specs.Holds.{Holds}
 use Rattle.rusty_leveldb.specs.Recent.{Inserts}
@@ -27,7 +27,7 @@ use Rattle.rusty_leveldb.proofs.FrameBytes.{frame_bytes}
 use Rattle.rusty_leveldb.proofs.Histories.{entries_more, placed_above, up_to, greatest_append}
 use Rattle.rusty_leveldb.proofs.OneLog.Appending.{bytes_append, batch_some}
 use Rattle.rusty_leveldb.proofs.OneLog.Writing.{appended_holds, synced_holds}
-use Rattle.rusty_leveldb.proofs.Foreign.{spares_then, spares_but_log, spares_synced, spares_others}
+use Rattle.rusty_leveldb.proofs.Others.{others_but_log}
 use Rattle.rusty_leveldb.proofs.Writes.Stands.{IsStored, stored, IsOpen}
 use Rattle.rusty_leveldb.proofs.Writes.Batches.{placed_last, not_long, same_set, same_by}
 use Rattle.rusty_leveldb.proofs.Writes.Append.{IsNext, batch, longer, frame, longer_history, longer_reached}
@@ -65,7 +65,7 @@ module _ {E C FP F I : Type 0} {D : I → Type 0} (env : Ghosts E F) (store : Li
     pub since : AreBytes file.since
     pub bytes_are : bytes_of file ≡ bytes_of was.writes.file ++ the_frame
     pub holds : Holds store (Reads store) (env.tells to).disk.files the_longer (old.last + length items) covered None
-    pub foreign : SparesForeign store (env.tells from).disk.files (env.tells to).disk.files
+    pub but : SameBut (log_path store) (env.tells from).disk.files (env.tells to).disk.files
 
   -- memory has the batch
   shows_more : Inserts engine.recent (batch_of (old.last + 1) items) after.recent → AreUpTo engine.recent.last engine.recent.kept.entries → (t : ℕ) → greatest (entries_of the_longer) ≤ t
@@ -145,8 +145,8 @@ module _ {E C FP F I : Type 0} {D : I → Type 0} (env : Ghosts E F) (store : Li
         step = subst (λ m. StepIn cmp m (faults_between (env.failures from) (env.failures to)) old (write items sync) done new) (sym was.mode)
             (not_long bytes (old.last + 1) items next.is_batch, record { state = refl; covered = wrote.covers; synced = wrote.synced_is });
       };
-      files = record { reading = λ reads. absurd reads; refused = λ logging is_refused. absurd is_refused; broken = λ broken_then. absurd (let never : broken ≡ open_mode = sym broken_then ∙ was.mode in cc) };
-      others = spares_others store (env.tells from).disk (env.tells to).disk wrote.foreign added.locks;
+      files = record { untouched = λ never. absurd never; refused = λ logging is_refused. absurd is_refused; stopped = λ not_open takes. absurd (not_open was.mode); bytes = λ never. absurd never };
+      others = others_but_log store (env.tells from).disk (env.tells to).disk wrote.but added.locks;
     }
 
   -- ---- the log's file
@@ -157,9 +157,9 @@ module _ {E C FP F I : Type 0} {D : I → Type 0} (env : Ghosts E F) (store : Li
   one_more : length the_longer ≡ length old.history + 1
   one_more = length-append old.history (the_batch ∷ [])
 
-  spares_appended : (files : Files) → files ≡ extended (log_path store) the_frame (env.tells from).disk.files → SparesForeign store (env.tells from).disk.files files
-  spares_appended files is = spares_but_log store (SameBut-appending (log_path store) the_frame (env.tells from).disk.files files
-      (subst (λ f. Appending (log_path store) the_frame (env.tells from).disk.files f) (sym is) (appended (log_path store) the_frame (env.tells from).disk.files)))
+  but_appended : (files : Files) → files ≡ extended (log_path store) the_frame (env.tells from).disk.files → SameBut (log_path store) (env.tells from).disk.files files
+  but_appended files is = SameBut-appending (log_path store) the_frame (env.tells from).disk.files files
+      (subst (λ f. Appending (log_path store) the_frame (env.tells from).disk.files f) (sym is) (appended (log_path store) the_frame (env.tells from).disk.files))
 
   -- where nothing was synced
   pub unsynced : (env.tells to).disk.files ≡ extended (log_path store) the_frame (env.tells from).disk.files → Wrote false
@@ -174,7 +174,7 @@ module _ {E C FP F I : Type 0} {D : I → Type 0} (env : Ghosts E F) (store : Li
     bytes_are = sym (append_assoc was.writes.file.kept was.writes.file.since the_frame);
     holds = appended_holds store (env.tells from).disk.files was.writes.file was.writes.there was.writes.since old.history old.last old.covered was.holds was.disk_is.is_state.covered was.disk_is.is_state.reached
         was.writes.records was.writes.ends items bytes next.is_batch next.first_fits next.all_fit (env.tells to).disk.files files;
-    foreign = spares_appended (env.tells to).disk.files files;
+    but = but_appended (env.tells to).disk.files files;
   }
 
   -- where the log was synced behind the append
@@ -189,7 +189,7 @@ module _ {E C FP F I : Type 0} {D : I → Type 0} (env : Ghosts E F) (store : Li
     since = λ i. omega arith;
     bytes_are = append-nil (bytes_of grown) ∙ sym (append_assoc was.writes.file.kept was.writes.file.since the_frame);
     holds = synced_holds store mid the_longer (old.last + length items) old.covered mid_holds (let all = was.disk_is.is_state.covered in let more = one_more in omega arith) (env.tells to).disk.files files;
-    foreign = spares_then store (spares_appended mid first) (spares_synced store mid (env.tells to).disk.files files);
+    but = SameBut-trans (log_path store) (but_appended mid first) (SameBut-synced (log_path store) mid (env.tells to).disk.files (inr files));
   }
     where
       mid_there : mid (log_path store) ≡ Some grown

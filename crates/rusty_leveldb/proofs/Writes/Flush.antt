@@ -7,7 +7,7 @@ use Rattle.leveldb_base.specs.Status.{text_of}
 use Rattle.leveldb_base.specs.History.{IsHistory, joined}
 use Rattle.leveldb_env.specs.declared.env.Env.{Ghosts}
 use Rattle.leveldb_env.specs.Disk.{File, Files, bytes_of, file_kept, synced}
-use Rattle.leveldb_env.specs.FileLaws.{synced-same}
+use Rattle.leveldb_env.specs.FileLaws.{SameBut-synced, synced-same}
 use Rattle.leveldb_env.specs.OpenFiles.{opened, Syncs}
 use Rattle.leveldb_mem.specs.Log.{log_block_size, clean, IsLogFile}
 use Rattle.leveldb_mem.specs.Writing.{Flushes}
@@ -22,7 +22,7 @@ use Rattle.rusty_leveldb.specs.Machine.{Breaks, StepIn, Responds}
 use Rattle.rusty_leveldb.specs.Serves.{Reads, StandsFor, Goes, faults_between, refusal_of, done_or}
 use Rattle.rusty_leveldb.specs.Engine.{scene, Recalls, mode_of}
 use Rattle.rusty_leveldb.proofs.OneLog.Writing.{synced_holds}
-use Rattle.rusty_leveldb.proofs.Foreign.{spares_same, spares_synced, spares_others}
+use Rattle.rusty_leveldb.proofs.Others.{but_same, others_but_log, bytes_same, bytes_synced}
 use Rattle.rusty_leveldb.proofs.Writes.Stands.{Fails, fails, IsStored, stored, Was, IsOpen, is_open, IsStill, remembers_still, broken_with, Broke, broken_is}
 
 module _ {E C FP F I : Type 0} {D : I → Type 0} (env : Ghosts E F) (cmp : List ℕ → List ℕ → Ordering) (store : List ℕ) (engine after : Engine E C FP F I D) (from to : E) (old : State) (was : IsOpen env store engine from old) where
@@ -40,17 +40,19 @@ module _ {E C FP F I : Type 0} {D : I → Type 0} (env : Ghosts E F) (cmp : List
   refuses status (inr device) = (device_failed, (tt, device), breaks)
 
   -- a refused sync breaks the store
-  pub flush_refused : (status : Status) → env.failures from ≤ env.failures to → Fails status (env.failures from) (env.failures to) → Broke env store engine after from to old None → Flushed (refused (refusal_of status))
-  flush_refused status later why broke = record {
+  pub flush_refused : (status : Status) → env.failures from ≤ env.failures to → Fails status (env.failures from) (env.failures to) → (env.tells to).disk.files ≡ (env.tells from).disk.files
+      → Broke env store engine after from to old None → Flushed (refused (refusal_of status))
+  flush_refused status later why same broke = record {
     new = new;
     represents = broken_is env store engine after from to old None was broke;
     step = record { later = later; step = subst (λ m. StepIn cmp m faults old flush (refused (refusal_of status)) new) (sym was.mode) (refuses status why) };
     files = record {
-      reading = λ reads. absurd reads;
+      untouched = λ never. absurd never;
       refused = λ logging is_refused opened. absurd (let never : broken ≡ open_mode = opened in cc);
-      broken = λ broken_then. absurd (let never : broken ≡ open_mode = sym broken_then ∙ was.mode in cc);
+      stopped = λ not_open takes. absurd (not_open was.mode);
+      bytes = λ syncing. bytes_same (env.tells from).disk.files (env.tells to).disk.files same;
     };
-    others = spares_others store (env.tells from).disk (env.tells to).disk broke.foreign broke.locks;
+    others = others_but_log store (env.tells from).disk (env.tells to).disk broke.but broke.locks;
   }
     where
       new : State
@@ -63,8 +65,8 @@ module _ {E C FP F I : Type 0} {D : I → Type 0} (env : Ghosts E F) (cmp : List
     new = new;
     represents = record { disk_is = stands; memory_is = recalls };
     step = record { later = omega (arith, counted); step = subst (λ m. StepIn cmp m faults old flush done new) (sym was.mode) (λ no. no, record { state = refl }) };
-    files = record { reading = λ reads. absurd reads; refused = λ logging is_refused. absurd is_refused; broken = λ broken_then. absurd (let never : broken ≡ open_mode = sym broken_then ∙ was.mode in cc) };
-    others = spares_others store (env.tells from).disk (env.tells to).disk (spares_synced store (env.tells from).disk.files (env.tells to).disk.files files) locks;
+    files = record { untouched = λ never. absurd never; refused = λ logging is_refused. absurd is_refused; stopped = λ not_open takes. absurd (not_open was.mode); bytes = λ syncing. bytes_synced (log_path store) (env.tells from).disk.files (env.tells to).disk.files files };
+    others = others_but_log store (env.tells from).disk (env.tells to).disk (SameBut-synced (log_path store) (env.tells from).disk.files (env.tells to).disk.files (inr files)) locks;
   }
     where
       new : State
@@ -139,7 +141,7 @@ module _ {E C FP F I : Type 0} {D : I → Type 0} (env : Ghosts E F) (cmp : List
       let there : (env.tells to).disk.files (log_path store) ≡ Some was.writes.file = ap (λ (f : Files). f (log_path store)) same ∙ was.writes.there in
       flush_refused env cmp store engine after from to old was status sync.cause.later
       (fails env.tells_disk (env.name_of engine.log) (env.tells from) was.writes.file (env.failures from) (env.failures to) status (ap (env.tells from).disk.files was.writes.name ∙ was.writes.there) sync.cause)
-      (record {
+      same (record {
         still = still;
         mode = broke_mode;
         history = subst (λ p. IsHistory (joined old.history p)) was.none was.disk_is.is_state.history;
@@ -148,5 +150,5 @@ module _ {E C FP F I : Type 0} {D : I → Type 0} (env : Ghosts E F) (cmp : List
         file = was.writes.file;
         there = there;
         locks = sync.locks tells;
-        foreign = spares_same store same;
+        but = but_same (log_path store) (env.tells from).disk.files (env.tells to).disk.files same;
       })

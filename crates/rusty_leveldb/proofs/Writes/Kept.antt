@@ -17,7 +17,7 @@ use Rattle.rusty_leveldb.specs.Causes.{Faults, Cause, out_of_memory, used_up, ba
 use Rattle.rusty_leveldb.specs.Machine.{StepIn, Responds}
 use Rattle.rusty_leveldb.specs.Serves.{Reads, Goes, faults_between, refusal_of}
 use Rattle.rusty_leveldb.specs.Engine.{scene, Recalls}
-use Rattle.rusty_leveldb.proofs.Foreign.{others_still}
+use Rattle.rusty_leveldb.proofs.Others.{others_still, spared_still}
 use Rattle.rusty_leveldb.proofs.Writes.Stands.{Was, is_open, remembers_still}
 
 module _ {E C FP F I : Type 0} {D : I → Type 0} (env : Ghosts E F) (store : List ℕ) (engine : Engine E C FP F I D) (from : E) (old : State) (was : Was env store engine from old) where
@@ -46,7 +46,7 @@ module _ {E C FP F I : Type 0} {D : I → Type 0} (env : Ghosts E F) (store : Li
       new = old;
       represents = now;
       step = record { later = omega arith; step = subst (λ m. StepIn cmp m faults old (write items sync) (refused (refusal_of status)) old) (sym (is_open env store engine from old open_now was).mode) responds };
-      files = record { reading = λ reads. refl; refused = λ logs is_refused opened. refl; broken = λ broken_then name there. there };
+      files = spared_still (write items sync) (refused (refusal_of status)) old old (env.tells from).disk.files;
       others = others_still store (env.tells from).disk;
     }
       where

@@ -7,20 +7,27 @@ use Rattle.leveldb_base.specs.declared.error.Status.{Status}
 use Rattle.leveldb_base.specs.declared.error.StatusCode.TheVariants.{IOError}
 use Rattle.leveldb_base.specs.Status.{text_of}
 use Rattle.leveldb_env.specs.declared.env.Env.{Ghosts}
+use Rattle.leveldb_mem.specs.Writing.{Writing}
 use Rattle.rusty_leveldb.specs.declared.db_impl.engine.Mode.{Mode}
 use Rattle.rusty_leveldb.specs.declared.db_impl.engine.Mode.TheVariants.{Open, Broken, Closed}
 use Rattle.rusty_leveldb.specs.declared.db_impl.engine.Engine.{Engine}
 use Rattle.rusty_leveldb.specs.State.{State, broken, closed, Request, write, flush, refused, Refusal}
 use Rattle.rusty_leveldb.specs.Causes.{Faults, IsClosedRefusal, IsBrokenRefusal}
 use Rattle.rusty_leveldb.specs.Machine.{StepIn}
-use Rattle.rusty_leveldb.specs.Serves.{Reads, Goes, IsReading, IsLogging, faults_between, refusal_of}
-use Rattle.rusty_leveldb.specs.Engine.{scene, Recalls, IsShut, ShutOut, ShutDown, mode_of}
-use Rattle.rusty_leveldb.proofs.Foreign.{others_still}
+use Rattle.rusty_leveldb.specs.Serves.{Reads, Goes, IsLogging, faults_between, refusal_of}
+use Rattle.rusty_leveldb.specs.Engine.{scene, Recalls, IsShut, IsHalted, ShutOut, ShutDown, mode_of}
+use Rattle.rusty_leveldb.proofs.Others.{others_still, spared_still}
 use Rattle.rusty_leveldb.proofs.Writes.Stands.{Was, is_open}
 
 broken_text : (err : Option (String Global)) → IfSome err (λ text. string_bytes text ≡ codes "IOError: reopen the store") → (text_of err ≡ []) ⊎ (text_of err ≡ codes "IOError: reopen the store")
 broken_text None is = inl refl
 broken_text (Some text) is = inr is
+
+-- an engine whose calls may write isn't halted
+pub not_halted : (mode : Mode) (writer : Writing) → mode ≡ Open → writer.broken ≡ false → IsHalted mode writer → ⊥
+not_halted mode writer is sound = ⊎_elim (λ (shut : mode ≡ Closed). let never : Open ≡ Closed = sym is ∙ shut in cc)
+    (λ stuck. ⊎_elim (λ (broke : mode ≡ Broken). let never : Open ≡ Broken = sym is ∙ broke in cc)
+    (λ (broke : IsTrue writer.broken). let never : false ≡ true = sym sound ∙ broke in cc) stuck)
 
 module _ (cmp : List ℕ → List ℕ → Ordering) (faults : Faults) (old : State) where
   closed_step : (request : Request) → IsLogging request → (refusal : Refusal) → IsClosedRefusal refusal → StepIn cmp closed faults old request (refused refusal) old
@@ -32,11 +39,6 @@ module _ (cmp : List ℕ → List ℕ → Ordering) (faults : Faults) (old : Sta
   broken_step (write items sync) logs refusal says = (says, refl)
   broken_step flush logs refusal says = (says, refl)
   broken_step request logs refusal says = absurd logs
-
-only_logs : (request : Request) → IsLogging request → IsReading request → ⊥
-only_logs (write items sync) logs reads = reads
-only_logs flush logs reads = reads
-only_logs request logs reads = logs
 
 module _ {E C FP F I : Type 0} {D : I → Type 0} (env : Ghosts E F) (cmp : List ℕ → List ℕ → Ordering) (store : List ℕ) (engine : Engine E C FP F I D) (at : E) (old : State) (was : Was env store engine at old)
     (request : Request) (logs : IsLogging request) (status : Status) where
@@ -51,7 +53,7 @@ module _ {E C FP F I : Type 0} {D : I → Type 0} (env : Ghosts E F) (cmp : List
     new = old;
     represents = was;
     step = record { later = omega arith; step = step };
-    files = record { reading = λ reads. refl; refused = λ l r m. refl; broken = λ b name there. there };
+    files = spared_still request (refused (refusal_of status)) old old (env.tells at).disk.files;
     others = others_still store (env.tells at).disk;
   }
 

@@ -8,9 +8,10 @@ use Rattle.leveldb_env.specs.declared.env.Env.{Ghosts}
 use Rattle.leveldb_env.specs.Disk.{File, Files}
 use Rattle.leveldb_env.specs.Times.{Told}
 use Rattle.leveldb_env.specs.Calls.{HasCause, NoMemory, IsGone}
+use Rattle.leveldb_env.specs.FileLaws.{SameBut}
 use Rattle.rusty_leveldb.specs.declared.db_impl.engine.Mode.TheVariants.{Open, Broken}
 use Rattle.rusty_leveldb.specs.declared.db_impl.engine.Engine.{Engine}
-use Rattle.rusty_leveldb.specs.Names.{lock_path, SparesForeign}
+use Rattle.rusty_leveldb.specs.Names.{lock_path}
 use Rattle.rusty_leveldb.specs.Contents.{Store, made}
 use Rattle.rusty_leveldb.specs.OneLog.{log_path}
 use Rattle.rusty_leveldb.specs.Holds.{Carries, Holds, HasStore, KeepsStore}
@@ -124,7 +125,7 @@ module _ {E C FP F I : Type 0} {D : I → Type 0} (env : Ghosts E F) (store : Li
     pub file : File
     pub there : (env.tells to).disk.files (log_path store) ≡ Some file
     pub locks : (env.tells to).disk.locked ≡ (env.tells from).disk.locked
-    pub foreign : SparesForeign store (env.tells from).disk.files (env.tells to).disk.files
+    pub but : SameBut (log_path store) (env.tells from).disk.files (env.tells to).disk.files
 
   pub broken_is : (engine after : Engine E C FP F I D) (from to : E) (old : State) (batch : Option (List Entry)) → IsOpen engine from old → Broke engine after from to old batch → Was after to (broken_with old batch)
   broken_is engine after from to old batch was broke = record {

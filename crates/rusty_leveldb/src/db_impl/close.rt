@@ -1,10 +1,10 @@
 //! The end of a store's work: giving back its lock.
-ghost use Rattle.std.specs.Prelude.{◌≡◌, Some, None, false};
+ghost use Rattle.std.specs.Prelude.{◌≡◌, Some, None, false, OnOk};
 ghost use Rattle.leveldb_env.specs.Disk.{lock_set, same};
 ghost use Rattle.leveldb_env.specs.Calls.{Does, Still, Relocks, HasCause};
 ghost use Rattle.rusty_leveldb.specs.State.{close, abandon};
 ghost use Rattle.rusty_leveldb.specs.Serves.{done_or};
-ghost use Rattle.rusty_leveldb.specs.Engine.{Answers, CloseExcused};
+ghost use Rattle.rusty_leveldb.specs.Engine.{IsHalted, Answers, CloseExcused};
 
 use super::engine::{Engine, Mode, check_open};
 use leveldb_base::cmp::UserCmp;
@@ -13,9 +13,10 @@ use leveldb_env::env::Env;
 use leveldb_env::filter::FilterPolicy;
 
 impl<E: Env, C: UserCmp + Copy, FP: FilterPolicy + Copy> Engine<E, C, FP> {
-    /// Makes a crash keep all batches and gives back the lock. A store that is refused this is broken, and keeps its lock.
+    /// Makes a crash keep all batches and gives back the lock. An open store that is refused this is broken, and keeps its lock.
     pub fn close(&mut self, env: &mut E) -> Result<()>
         ensures options { self.new.options ≡ self.old.options }
+        ensures halted { IsHalted self.old.mode self.old.writer → (env.new ≡ env.old) × (self.new ≡ self.old) × OnOk result ⊥ }
         ensures step { Answers E.Env (C.cmp self.old.options.cmp) (Some self.old) env.old close (done_or result) (Some self.new) env.new }
         ensures cause { HasCause (CloseExcused E.Env self.old env.old env.new) (E.failures env.old) (E.failures env.new) result }
     {

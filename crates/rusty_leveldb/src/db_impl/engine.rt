@@ -20,7 +20,7 @@ use std::alloc::Global;
 pub enum Mode {
     /// It may be read and written to.
     Open,
-    /// A write to its log failed: it may be read, and is to be opened again for any other call.
+    /// A write or a sync of its log, or giving back its lock, failed: it may be read, and is to be opened again for any other call.
     Broken,
     /// It is to be opened again.
     Closed,

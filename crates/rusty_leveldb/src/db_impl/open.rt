@@ -1,15 +1,14 @@
 //! Opening a store: its lock is taken, its log is read, and replaced where it ends badly.
-ghost use Rattle.std.specs.Prelude.{◌≡◌, ◌⊎◌, if◌then◌else◌, length, map, Some, None, IsTrue, IfOk, OnOk, OnErr};
+ghost use Rattle.std.specs.Prelude.{◌≡◌, ◌⊎◌, if◌then◌else◌, length, map, Some, None, IsTrue, IfOk, IfErr, OnOk};
 ghost use Rattle.leveldb_env.specs.Disk.{bytes_of};
 ghost use Rattle.leveldb_env.specs.Calls.{HasCause, NoMemory, SameLocks};
 ghost use Rattle.leveldb_env.specs.FileLaws.{SameBut};
 ghost use Rattle.leveldb_mem.specs.Log.{clean, bad};
-ghost use Rattle.rusty_leveldb.specs.Names.{SparesForeign};
 ghost use Rattle.rusty_leveldb.specs.OneLog.{log_path};
 ghost use Rattle.rusty_leveldb.specs.State.{Opening, open_store};
-ghost use Rattle.rusty_leveldb.specs.Serves.{Reads, IsUnreadable, done_or, given_engine};
+ghost use Rattle.rusty_leveldb.specs.Serves.{done_or, given_engine};
 ghost use Rattle.rusty_leveldb.specs.Engine.{IsStoreName, IsOpening, AnswersAs, OpenExcused};
-ghost use Rattle.rusty_leveldb.specs.Recovery.{IsFoundAs, framed_file, kept_log, SparesLog, StaysUnopened, IsRecovered, HasCauses, IsFoundOr, IsUntold, IsNotMade, IsNoLog};
+ghost use Rattle.rusty_leveldb.specs.Recovery.{IsFoundAs, framed_file, kept_log, SparesLog, IsUnusable, NeverOpens, ChangesLogAlone, StaysUnopened, IsRecovered, HasCauses, IsFoundOr, IsUntold, IsNotMade, IsNoLog};
 
 use super::close::give_back;
 use super::engine::{Engine, Mode};
@@ -28,7 +27,8 @@ use std::alloc::Global;
 impl<E: Env, C: UserCmp + Copy, FP: FilterPolicy + Copy> Engine<E, C, FP> {
     /// Opens the store under this name, which isn't empty and doesn't end in a slash.
     /// A missing store is made, or `InvalidArgument` where the options say so; a locked one is `LockError`.
-    /// A refused opening gives back the lock that it took, also where the store is damaged; a damaged store is never opened.
+    /// A refused opening gives back the lock that it took, also where the store is damaged. A store that is damaged or locked, or is missing
+    /// and isn't to be made, is never opened, and its files stay as they are.
     pub fn open(
         alloc: Global,
         name: &str,
@@ -39,8 +39,8 @@ impl<E: Env, C: UserCmp + Copy, FP: FilterPolicy + Copy> Engine<E, C, FP> {
         ensures step { (opening : Opening) → IsOpening name.now options.create_if_missing opening
             → AnswersAs E.Env (C.cmp options.cmp) name.now None env.old (open_store opening) (done_or result) (given_engine result) env.new }
         ensures misnamed { (IsStoreName name.now → ⊥) → (env.new ≡ env.old) × OnOk result ⊥ }
-        ensures whole { OnOk result (IsTrue E.tells_disk → IsUnreadable (Reads name.now) (E.tells env.old).disk.files → ⊥) }
-        ensures unopened { OnErr result (IsTrue E.tells_disk → StaysUnopened name.now options.create_if_missing (E.tells env.old).disk (E.tells env.new).disk (E.failures env.old) (E.failures env.new)) }
+        ensures never_opens { IsTrue E.tells_disk → NeverOpens name.now options.create_if_missing (E.tells env.old).disk → OnOk result ⊥ }
+        ensures unopened { IfErr result (λ status. IsTrue E.tells_disk → StaysUnopened name.now options.create_if_missing (E.tells env.old) (E.tells env.new) (E.failures env.old) (E.failures env.new) status) }
         ensures cause { HasCauses (OpenExcused E.tells_disk name.now options.create_if_missing (E.tells env.old)) (E.failures env.old) (E.failures env.new) result }
     {
         check_name(alloc, name)?;
@@ -75,7 +75,8 @@ fn recover<E: Env, C: UserCmp + Copy>(
 ) -> Result<(E::File, WriterCore, Recent<C>)>
     ensures locks { SameLocks E.tells_disk (E.tells env.old) (E.tells env.new) }
     ensures spares { IsTrue E.tells_disk → SparesLog create_if_missing ((E.tells env.old).disk.files (log_path name.now)) ((E.tells env.new).disk.files (log_path name.now)) }
-    ensures foreign { IsTrue E.tells_disk → SparesForeign name.now (E.tells env.old).disk.files (E.tells env.new).disk.files }
+    ensures rest { IsTrue E.tells_disk → ChangesLogAlone name.now (E.tells env.old).disk.files (E.tells env.new).disk.files }
+    ensures unusable { IsTrue E.tells_disk → IsUnusable create_if_missing ((E.tells env.old).disk.files (log_path name.now)) → (E.tells env.new).disk.files ≡ (E.tells env.old).disk.files }
     ensures ok { IfOk result (λ got. IsTrue E.tells_disk → IsRecovered create_if_missing ((E.tells env.old).disk.files (log_path name.now)) ((E.tells env.new).disk.files (log_path name.now)) got.1 got.2) }
     ensures log { IfOk result (λ got. IsTrue E.tells_disk → E.name_of got.0 ≡ log_path name.now) }
     ensures cause { HasCauses (λ e. NoMemory e ⊎ IsNotMade E.tells_disk create_if_missing ((E.tells env.old).disk.files (log_path name.now)) e ⊎ IsNoLog E.tells_disk ((E.tells env.old).disk.files (log_path name.now)) e)
@@ -126,7 +127,7 @@ fn mend<E: Env>(
 ) -> Result<()>
     requires { log_name.now ≡ log_path name.now }
     ensures locks { SameLocks E.tells_disk (E.tells env.old) (E.tells env.new) }
-    ensures foreign { IsTrue E.tells_disk → SparesForeign name.now (E.tells env.old).disk.files (E.tells env.new).disk.files }
+    ensures rest { IsTrue E.tells_disk → ChangesLogAlone name.now (E.tells env.old).disk.files (E.tells env.new).disk.files }
     ensures either { IsTrue E.tells_disk → ((E.tells env.new).disk.files log_name.now ≡ (E.tells env.old).disk.files log_name.now)
         ⊎ ((E.tells env.new).disk.files log_name.now ≡ Some (framed_file (map (λ v. v.items) records.now))) }
     ensures ok { OnOk result (IsTrue E.tells_disk → (E.tells env.new).disk.files log_name.now

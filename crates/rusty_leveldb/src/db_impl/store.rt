@@ -3,10 +3,10 @@ ghost use Rattle.std.specs.Prelude.{◌≡◌, ◌⊎◌, ◌∷◌, [], Some, N
 ghost use Rattle.leveldb_env.specs.Calls.{HasCause};
 ghost use Rattle.leveldb_mem.specs.Batch.{item_of};
 ghost use Rattle.rusty_leveldb.specs.State.{Opening, open_store, write, get, flush, close, abandon, done, refused};
-ghost use Rattle.rusty_leveldb.specs.Serves.{Reads, IsUnreadable, done_or, found_or, refusal_of};
-ghost use Rattle.rusty_leveldb.specs.Engine.{IsStoreName, IsOpening, no_engine, AnswersAs, Answers, OpenExcused, WriteExcused, SyncExcused, CloseExcused, GetExcused};
+ghost use Rattle.rusty_leveldb.specs.Serves.{done_or, found_or, refusal_of};
+ghost use Rattle.rusty_leveldb.specs.Engine.{IsShut, IsHalted, IsStoreName, IsOpening, no_engine, AnswersAs, Answers, OpenExcused, WriteExcused, SyncExcused, CloseExcused, GetExcused};
 ghost use Rattle.rusty_leveldb.specs.Causes.{HasFailed};
-ghost use Rattle.rusty_leveldb.specs.Recovery.{StaysUnopened};
+ghost use Rattle.rusty_leveldb.specs.Recovery.{NeverOpens, StaysUnopened};
 
 use super::engine::Engine;
 use bytes::Bytes;
@@ -53,7 +53,7 @@ impl<'e, E: Env, S: Drop> Store<'e, E, S> {
 impl<'e, E: Env, C: UserCmp + Copy, FP: FilterPolicy + Copy> Store<'e, E, Engine<E, C, FP>> {
     /// Opens the store under this name, which isn't empty and doesn't end in a slash.
     /// A missing store is made, or `InvalidArgument` where the options say so; a locked one is `LockError`.
-    /// A refused opening gives back the lock that it took; a damaged store is never opened.
+    /// A refused opening gives back the lock that it took. A store that is damaged or locked, or is missing and isn't to be made, is never opened.
     pub fn open(
         alloc: Global,
         name: &str,
@@ -65,13 +65,13 @@ impl<'e, E: Env, C: UserCmp + Copy, FP: FilterPolicy + Copy> Store<'e, E, Engine
         ensures step { IfOk result (λ db. (opening : Opening) → IsOpening name.now options.create_if_missing opening
             → AnswersAs E.Env (C.cmp options.cmp) name.now None env.old (open_store opening) done (Some db.state) db.env.now) }
         ensures misnamed { (IsStoreName name.now → ⊥) → OnOk result ⊥ }
-        ensures whole { OnOk result (IsTrue E.tells_disk → IsUnreadable (Reads name.now) (E.tells env.old).disk.files → ⊥) }
+        ensures never_opens { IsTrue E.tells_disk → NeverOpens name.now options.create_if_missing (E.tells env.old).disk → OnOk result ⊥ }
         ensures cause { IfOk result (λ db. E.failures db.env.now ≡ E.failures env.old) }
         ensures refused { IfErr result (λ status. (left : E)
             × ((opening : Opening) → IsOpening name.now options.create_if_missing opening
             → AnswersAs E.Env (C.cmp options.cmp) name.now (no_engine options) env.old (open_store opening) (refused (refusal_of status)) (no_engine options) left)
             × (OpenExcused E.tells_disk name.now options.create_if_missing (E.tells env.old) status ⊎ HasFailed (E.failures env.old) (E.failures left))
-            × (IsTrue E.tells_disk → StaysUnopened name.now options.create_if_missing (E.tells env.old).disk (E.tells left).disk (E.failures env.old) (E.failures left))) }
+            × (IsTrue E.tells_disk → StaysUnopened name.now options.create_if_missing (E.tells env.old) (E.tells left) (E.failures env.old) (E.failures left) status)) }
     {
         let engine = Engine::open(alloc, name, &mut *env, options)?;
         Ok(Store::around(env, engine))
@@ -81,6 +81,7 @@ impl<'e, E: Env, C: UserCmp + Copy, FP: FilterPolicy + Copy> Store<'e, E, Engine
     pub fn put(&mut self, key: &[u8], value: &[u8]) -> Result<()>
         ensures same_reference { self.new.env.ghost_name ≡ self.old.env.ghost_name }
         ensures options { self.new.state.options ≡ self.old.state.options }
+        ensures halted { IsHalted self.old.state.mode self.old.state.writer → (self.new.env.now ≡ self.old.env.now) × (self.new.state ≡ self.old.state) × OnOk result ⊥ }
         ensures stays { IsTrue self.new.state.writer.broken ⊎ (self.new.state.mode ≡ self.old.state.mode) }
         ensures step { Answers E.Env (C.cmp self.old.state.options.cmp) (Some self.old.state) self.old.env.now
             (write (item_of key.now (Some value.now) ∷ []) false) (done_or result) (Some self.new.state) self.new.env.now }
@@ -94,6 +95,7 @@ impl<'e, E: Env, C: UserCmp + Copy, FP: FilterPolicy + Copy> Store<'e, E, Engine
     pub fn delete(&mut self, key: &[u8]) -> Result<()>
         ensures same_reference { self.new.env.ghost_name ≡ self.old.env.ghost_name }
         ensures options { self.new.state.options ≡ self.old.state.options }
+        ensures halted { IsHalted self.old.state.mode self.old.state.writer → (self.new.env.now ≡ self.old.env.now) × (self.new.state ≡ self.old.state) × OnOk result ⊥ }
         ensures stays { IsTrue self.new.state.writer.broken ⊎ (self.new.state.mode ≡ self.old.state.mode) }
         ensures step { Answers E.Env (C.cmp self.old.state.options.cmp) (Some self.old.state) self.old.env.now
             (write (item_of key.now None ∷ []) false) (done_or result) (Some self.new.state) self.new.env.now }
@@ -108,6 +110,7 @@ impl<'e, E: Env, C: UserCmp + Copy, FP: FilterPolicy + Copy> Store<'e, E, Engine
     pub fn write(&mut self, batch: WriteBatch, sync: bool) -> Result<()>
         ensures same_reference { self.new.env.ghost_name ≡ self.old.env.ghost_name }
         ensures options { self.new.state.options ≡ self.old.state.options }
+        ensures halted { IsHalted self.old.state.mode self.old.state.writer → (self.new.env.now ≡ self.old.env.now) × (self.new.state ≡ self.old.state) × OnOk result ⊥ }
         ensures stays { IsTrue self.new.state.writer.broken ⊎ (self.new.state.mode ≡ self.old.state.mode) }
         ensures step { Answers E.Env (C.cmp self.old.state.options.cmp) (Some self.old.state) self.old.env.now
             (write batch.items sync) (done_or result) (Some self.new.state) self.new.env.now }
@@ -121,6 +124,7 @@ impl<'e, E: Env, C: UserCmp + Copy, FP: FilterPolicy + Copy> Store<'e, E, Engine
     pub fn flush(&mut self) -> Result<()>
         ensures same_reference { self.new.env.ghost_name ≡ self.old.env.ghost_name }
         ensures options { self.new.state.options ≡ self.old.state.options }
+        ensures halted { IsHalted self.old.state.mode self.old.state.writer → (self.new.env.now ≡ self.old.env.now) × (self.new.state ≡ self.old.state) × OnOk result ⊥ }
         ensures stays { IsTrue self.new.state.writer.broken ⊎ (self.new.state.mode ≡ self.old.state.mode) }
         ensures step { Answers E.Env (C.cmp self.old.state.options.cmp) (Some self.old.state) self.old.env.now
             flush (done_or result) (Some self.new.state) self.new.env.now }
@@ -134,6 +138,7 @@ impl<'e, E: Env, C: UserCmp + Copy, FP: FilterPolicy + Copy> Store<'e, E, Engine
     pub fn get(&mut self, key: &[u8]) -> Result<Option<Bytes>>
         ensures same_reference { self.new.env.ghost_name ≡ self.old.env.ghost_name }
         ensures options { self.new.state.options ≡ self.old.state.options }
+        ensures shut { IsShut self.old.state.mode → OnOk result ⊥ }
         ensures step { Answers E.Env (C.cmp self.old.state.options.cmp) (Some self.old.state) self.old.env.now
             (get None key.now) (found_or result) (Some self.new.state) self.new.env.now }
         ensures cause { IfErr result (GetExcused self.old.state.mode key.now) }
@@ -142,10 +147,11 @@ impl<'e, E: Env, C: UserCmp + Copy, FP: FilterPolicy + Copy> Store<'e, E, Engine
         self.state.get(key)
     }
 
-    /// Makes a crash keep all batches and gives back the lock. A store that is refused this is broken, and keeps its lock.
+    /// Makes a crash keep all batches and gives back the lock. An open store that is refused this is broken, and keeps its lock.
     pub fn close(&mut self) -> Result<()>
         ensures same_reference { self.new.env.ghost_name ≡ self.old.env.ghost_name }
         ensures options { self.new.state.options ≡ self.old.state.options }
+        ensures halted { IsHalted self.old.state.mode self.old.state.writer → (self.new.env.now ≡ self.old.env.now) × (self.new.state ≡ self.old.state) × OnOk result ⊥ }
         ensures step { Answers E.Env (C.cmp self.old.state.options.cmp) (Some self.old.state) self.old.env.now
             close (done_or result) (Some self.new.state) self.new.env.now }
         ensures cause { HasCause (CloseExcused E.Env self.old.state self.old.env.now self.new.env.now)

@@ -1,14 +1,13 @@
 //! Runs of commands.
-ghost use Rattle.std.specs.Prelude.{◌≡◌, ◌≤◌, ◌⊎◌, ◌++◌, List, Some, length, drop, map, IfOk, OnOk, OnErr, IfErr, IsTrue};
+ghost use Rattle.std.specs.Prelude.{◌≡◌, ◌≤◌, ◌⊎◌, ◌++◌, List, Some, length, drop, map, IfOk, OnOk, IfErr, IsTrue};
 ghost use Rattle.leveldb_base.specs.Status.{IsOutOfMemory};
-ghost use Rattle.leveldb_env.specs.Calls.{NoMemory};
 ghost use Rattle.leveldb_mem.specs.Batch.{with_item, IsTooLong};
 ghost use Rattle.rusty_leveldb.specs.Causes.{IsLongBatch, HasFailed};
-ghost use Rattle.rusty_leveldb.specs.Engine.{Answers, OpenExcused};
-ghost use Rattle.rusty_leveldb.specs.Recovery.{StaysUnopened};
-ghost use Rattle.rusty_leveldb.specs.Serves.{Reads, IsUnreadable, done_or};
+ghost use Rattle.rusty_leveldb.specs.Engine.{IsStoreName, Answers, OpenExcused};
+ghost use Rattle.rusty_leveldb.specs.Recovery.{NeverOpens};
+ghost use Rattle.rusty_leveldb.specs.Serves.{done_or};
 ghost use Rattle.rusty_leveldb.specs.State as machine;
-ghost use Rattle.rusty_leveldb.specs.Shell.{PlaysAlways, request_of, answer_of, change_of};
+ghost use Rattle.rusty_leveldb.specs.Shell.{PlaysAlways, IsUnopened, request_of, answer_of, change_of};
 
 use super::commands::{Command, Item, Reply};
 use crate::db_impl::Engine;
@@ -22,7 +21,8 @@ use std::alloc::Global;
 
 /// Opens a store, answers the commands one after another, and gives back its lock where no command did. A refused command is
 /// answered, and the run goes on. The replies stand behind those that are there; those given stand also where the run is refused: for
-/// want of memory before it begins, or where the store isn't opened or its lock isn't given back. A damaged store is never opened.
+/// want of memory before it begins, or where the store isn't opened or its lock isn't given back. A store that is damaged or locked, or is
+/// missing and isn't to be made, is never opened.
 pub fn run<E: Env, C: UserCmp + Copy, FP: FilterPolicy + Copy>(
     env: &mut E,
     name: &str,
@@ -33,11 +33,10 @@ pub fn run<E: Env, C: UserCmp + Copy, FP: FilterPolicy + Copy>(
     ensures plays { PlaysAlways C FP E.Env (C.cmp opt.cmp) name.now env.old opt.create_if_missing commands.now
         (drop (length replies.old.items) replies.new.items) result env.new }
     ensures behind { (given : List Reply) × (replies.new.items ≡ replies.old.items ++ given) × OnOk result (length given ≡ length commands.now) }
-    ensures whole { OnOk result (IsTrue E.tells_disk → IsUnreadable (Reads name.now) (E.tells env.old).disk.files → ⊥) }
-    ensures unopened { OnErr result (IsTrue E.tells_disk → IsUnreadable (Reads name.now) (E.tells env.old).disk.files
-        → StaysUnopened name.now opt.create_if_missing (E.tells env.old).disk (E.tells env.new).disk (E.failures env.old) (E.failures env.new)) }
+    ensures misnamed { (IsStoreName name.now → ⊥) → (env.new ≡ env.old) × OnOk result ⊥ }
+    ensures unopened { IsTrue E.tells_disk → NeverOpens name.now opt.create_if_missing (E.tells env.old).disk → IsUnopened E.Env name.now opt.create_if_missing env.old result env.new }
     ensures later { E.failures env.old ≤ E.failures env.new }
-    ensures cause { IfErr result (λ status. NoMemory status ⊎ OpenExcused E.tells_disk name.now opt.create_if_missing (E.tells env.old) status
+    ensures cause { IfErr result (λ status. OpenExcused E.tells_disk name.now opt.create_if_missing (E.tells env.old) status
         ⊎ HasFailed (E.failures env.old) (E.failures env.new)) }
 {
     let alloc = *replies.allocator();

@@ -1,8 +1,8 @@
 use Rattle.std.proofs.Common.{◌∙◌}
-use Rattle.rusty_leveldb.proofs.Foreign.{spares_replaced}
+use Rattle.rusty_leveldb.proofs.Others.{alone_replaced}
 use Rattle.rusty_leveldb.proofs.db_impl.open.mend.Goals as goal
 
-pub returns-clause-foreign : goal.returns-clause-foreign
-returns-clause-foreign g c = λ tells.
-    spares_replaced c.args.name.now c.deref.result.now c.args.log_name.now c.deref-2.result.now (g.E.Env.tells c.args.env.now).disk.files (g.E.Env.tells c.replace_file-replaced.new.env).disk.files
+pub returns-clause-rest : goal.returns-clause-rest
+returns-clause-rest g c = λ tells.
+    alone_replaced c.args.name.now c.deref.result.now c.args.log_name.now c.deref-2.result.now (g.E.Env.tells c.args.env.now).disk.files (g.E.Env.tells c.replace_file-replaced.new.env).disk.files
     (c.deref.ensures ∙ c.in_ok-temp_name.ensures.ok) c.requires ((c.replace_file-replaced.ensures.does tells).now tells)

@@ -3,8 +3,9 @@ use Rattle.std.specs.Prelude.{map, if◌then◌else◌}
 use Rattle.std.proofs.lemmas.Result.{err_from_is_err_and}
 use Rattle.leveldb_mem.specs.Log.{clean, bad}
 use Rattle.rusty_leveldb.specs.OneLog.{log_path}
-use Rattle.rusty_leveldb.proofs.Foreign.{spares_same, spares_then, spares_but_named}
-use Rattle.rusty_leveldb.proofs.Openings.Calls.{mend_spares, open_spares, open_recovers, read_refused, replay_refused}
+use Rattle.rusty_leveldb.proofs.Others.{alone_same, alone_then, alone_log}
+use Rattle.rusty_leveldb.proofs.Openings.Logs.{usable}
+use Rattle.rusty_leveldb.proofs.Openings.Calls.{found_here, mend_spares, open_spares, open_recovers, read_refused, replay_refused}
 use Rattle.rusty_leveldb.proofs.db_impl.open.recover.Goals as goal
 
 pub returns-in_err-read-clause-cause : goal.returns-in_err-read-clause-cause
@@ -54,12 +55,32 @@ returns-clause-ok g c = λ tells.
 pub returns-clause-log : goal.returns-clause-log
 returns-clause-log g c = λ tells. c.in_ok-log.ensures.name tells ∙ c.as_str-log_name.ensures.value ∙ c.in_ok-full_name.ensures.ok
 
-pub returns-in_err-log-clause-foreign : goal.returns-in_err-log-clause-foreign
-returns-in_err-log-clause-foreign g c = λ tells.
-    spares_then c.args.name.now (spares_same c.args.name.now (c.in_ok-read.ensures.still tells))
-    (spares_then c.args.name.now (c.in_ok-mend.ensures.foreign tells) (spares_but_named c.args.name.now c.as_str-log_name.result.now (c.as_str-log_name.ensures.value ∙ c.in_ok-full_name.ensures.ok) (c.open_log.ensures.others tells)))
+pub returns-in_err-log-clause-rest : goal.returns-in_err-log-clause-rest
+returns-in_err-log-clause-rest g c = λ tells.
+    alone_then c.args.name.now (g.E.Env.tells c.args.env.now).disk.files (g.E.Env.tells c.read_log.new.env).disk.files (g.E.Env.tells c.open_log.new.env).disk.files (alone_same c.args.name.now (g.E.Env.tells c.args.env.now).disk.files (g.E.Env.tells c.read_log.new.env).disk.files (c.in_ok-read.ensures.still tells))
+    (alone_then c.args.name.now (g.E.Env.tells c.read_log.new.env).disk.files (g.E.Env.tells c.mend.new.env).disk.files (g.E.Env.tells c.open_log.new.env).disk.files (c.in_ok-mend.ensures.rest tells)
+    (alone_log c.args.name.now c.as_str-log_name.result.now (g.E.Env.tells c.mend.new.env).disk.files (g.E.Env.tells c.open_log.new.env).disk.files (c.as_str-log_name.ensures.value ∙ c.in_ok-full_name.ensures.ok) (c.open_log.ensures.others tells)))
 
-pub returns-clause-foreign : goal.returns-clause-foreign
-returns-clause-foreign g c = λ tells.
-    spares_then c.args.name.now (spares_same c.args.name.now (c.in_ok-read.ensures.still tells))
-    (spares_then c.args.name.now (c.in_ok-mend.ensures.foreign tells) (spares_but_named c.args.name.now c.as_str-log_name.result.now (c.as_str-log_name.ensures.value ∙ c.in_ok-full_name.ensures.ok) (c.open_log.ensures.others tells)))
+pub returns-clause-rest : goal.returns-clause-rest
+returns-clause-rest g c = λ tells.
+    alone_then c.args.name.now (g.E.Env.tells c.args.env.now).disk.files (g.E.Env.tells c.read_log.new.env).disk.files (g.E.Env.tells c.open_log.new.env).disk.files (alone_same c.args.name.now (g.E.Env.tells c.args.env.now).disk.files (g.E.Env.tells c.read_log.new.env).disk.files (c.in_ok-read.ensures.still tells))
+    (alone_then c.args.name.now (g.E.Env.tells c.read_log.new.env).disk.files (g.E.Env.tells c.mend.new.env).disk.files (g.E.Env.tells c.open_log.new.env).disk.files (c.in_ok-mend.ensures.rest tells)
+    (alone_log c.args.name.now c.as_str-log_name.result.now (g.E.Env.tells c.mend.new.env).disk.files (g.E.Env.tells c.open_log.new.env).disk.files (c.as_str-log_name.ensures.value ∙ c.in_ok-full_name.ensures.ok) (c.open_log.ensures.others tells)))
+
+pub returns-in_err-mend-clause-unusable : goal.returns-in_err-mend-clause-unusable
+returns-in_err-mend-clause-unusable g c = λ tells unusable.
+    absurd (usable c.args.create_if_missing ((g.E.Env.tells c.args.env.now).disk.files (log_path c.args.name.now)) (map (λ v. v.items) c.as_slice-records.result.now) (if c.in_ok-read.is_clean then clean else bad)
+    (found_here c.args.create_if_missing (g.E.Env.tells c.args.env.now).disk.files c.as_str-log_name.result.now (log_path c.args.name.now) (map (λ v. v.items) c.in_ok-read.read.items) (map (λ v. v.items) c.as_slice-records.result.now) c.in_ok-read.is_clean
+    (c.as_str-log_name.ensures.value ∙ c.in_ok-full_name.ensures.ok) (ap (map (λ v. v.items)) c.as_slice-records.ensures.value) (c.in_ok-read.ensures.log tells)) c.in_ok-recent.ensures.ok.read unusable)
+
+pub returns-in_err-log-clause-unusable : goal.returns-in_err-log-clause-unusable
+returns-in_err-log-clause-unusable g c = λ tells unusable.
+    absurd (usable c.args.create_if_missing ((g.E.Env.tells c.args.env.now).disk.files (log_path c.args.name.now)) (map (λ v. v.items) c.as_slice-records.result.now) (if c.in_ok-read.is_clean then clean else bad)
+    (found_here c.args.create_if_missing (g.E.Env.tells c.args.env.now).disk.files c.as_str-log_name.result.now (log_path c.args.name.now) (map (λ v. v.items) c.in_ok-read.read.items) (map (λ v. v.items) c.as_slice-records.result.now) c.in_ok-read.is_clean
+    (c.as_str-log_name.ensures.value ∙ c.in_ok-full_name.ensures.ok) (ap (map (λ v. v.items)) c.as_slice-records.ensures.value) (c.in_ok-read.ensures.log tells)) c.in_ok-recent.ensures.ok.read unusable)
+
+pub returns-clause-unusable : goal.returns-clause-unusable
+returns-clause-unusable g c = λ tells unusable.
+    absurd (usable c.args.create_if_missing ((g.E.Env.tells c.args.env.now).disk.files (log_path c.args.name.now)) (map (λ v. v.items) c.as_slice-records.result.now) (if c.in_ok-read.is_clean then clean else bad)
+    (found_here c.args.create_if_missing (g.E.Env.tells c.args.env.now).disk.files c.as_str-log_name.result.now (log_path c.args.name.now) (map (λ v. v.items) c.in_ok-read.read.items) (map (λ v. v.items) c.as_slice-records.result.now) c.in_ok-read.is_clean
+    (c.as_str-log_name.ensures.value ∙ c.in_ok-full_name.ensures.ok) (ap (map (λ v. v.items)) c.as_slice-records.ensures.value) (c.in_ok-read.ensures.log tells)) c.in_ok-recent.ensures.ok.read unusable)

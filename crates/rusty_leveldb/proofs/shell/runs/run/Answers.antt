@@ -68,4 +68,4 @@ pub returns-clause-cause : goal.returns-clause-cause
 returns-clause-cause g c = search rules
 
 pub returns-clause-unopened : goal.returns-clause-unopened
-returns-clause-unopened g c = OnErr-always c.abandon.result (λ tells unreadable. absurd (c.in_ok-engine.ensures.whole tells unreadable))
+returns-clause-unopened g c = λ tells never. absurd (c.in_ok-engine.ensures.never_opens tells never)

@@ -5,6 +5,7 @@ use Rattle.leveldb_mem.specs.Batch.{batch_of}
 use Rattle.rusty_leveldb.proofs.Writes.Kept.{prepared_was, used_up_goes, memory_goes}
 use Rattle.rusty_leveldb.proofs.Writes.Append.{IsNext}
 use Rattle.rusty_leveldb.proofs.Writes.Causes.{append_cause, append_counted, still_sound, sync_cause, sync_counted, done_cause}
+use Rattle.rusty_leveldb.proofs.Writes.Shut.{not_halted}
 use Rattle.rusty_leveldb.proofs.Writes.Write.{batch_behind, is_next, follows, refused_append, refused_sync, done_plain, done_with_sync, last_plain, last_synced, options_plain, options_synced, stays_plain, stays_synced, stays_refused}
 use Rattle.rusty_leveldb.proofs.db_impl.engine.Engine.write.Goals as goal
 use Rattle.rusty_leveldb.proofs.db_impl.engine.Engine.write.Goals.{then-sync+in_ok-sync, else-sync}
@@ -102,3 +103,9 @@ returns-clause-stays g c =
           stays_synced c.args.self.now.mode c.append.new.self w.sync.new.self c.if-sync.self c.append.ensures.mode flushed.ok w.in_ok-sync.ensures.mode_ok w.self-is
       | else-sync w ↦ stays_plain c.args.self.now.mode c.append.new.self c.if-sync.self c.append.ensures.mode w.self-is
     ]
+
+pub returns-in_err-sync-clause-halted : goal.returns-in_err-sync-clause-halted
+returns-in_err-sync-clause-halted g c = λ halted. absurd (not_halted c.args.self.now.mode c.args.self.now.writer c.in_ok-check_open.ensures.ok.0 c.in_ok-check_open.ensures.ok.1 halted)
+
+pub returns-clause-halted : goal.returns-clause-halted
+returns-clause-halted g c = λ halted. absurd (not_halted c.args.self.now.mode c.args.self.now.writer c.in_ok-check_open.ensures.ok.0 c.in_ok-check_open.ensures.ok.1 halted)
