@@ -77,6 +77,7 @@ impl<FP: FilterPolicy> FilterPolicy for &FP {
 pub struct NoFilterPolicy;
 
 impl NoFilterPolicy {
+    /// The policy, which holds nothing.
     pub fn new() -> NoFilterPolicy {
         NoFilterPolicy
     }

@@ -1,5 +1,5 @@
 //! Block builders: pairs in order, put into the bytes of a block.
-ghost use Rattle.std.specs.Prelude.{◌≡◌, ◌↔◌, ◌⊎◌, ℕ, ◌+◌, ◌*◌, ◌^◌, ◌<◌, ◌≤◌, Bool, true, false, List, [], ◌∷◌, ◌++◌, length, take, flat_map, max, None, vec_len, vec_capacity, IfOk, IfErr, OnOk, OnErr, IsErrAnd, IsTrue};
+ghost use Rattle.std.specs.Prelude.{◌≡◌, ◌↔◌, ◌⊎◌, ℕ, ◌+◌, ◌*◌, ◌^◌, ◌<◌, ◌≤◌, Bool, true, false, List, [], ◌∷◌, ◌++◌, length, take, drop, flat_map, max, None, vec_len, vec_capacity, IfOk, IfErr, OnOk, OnErr, IsErrAnd, IsTrue};
 ghost use Rattle.leveldb_base.specs.Status.{IsOutOfMemory};
 ghost use Rattle.leveldb_base.specs.Varint.{little, varint};
 ghost use Rattle.leveldb_base.specs.declared.error.StatusCode.TheVariants.{NotSupported};
@@ -66,16 +66,27 @@ impl<C: Cmp> BlockBuilder<C> {
         }
     }
 
-    // A builder of the same kind, with no pairs.
-    pub(crate) fn fresh(&self) -> BlockBuilder<C>
+    // A builder of the same kind, with no pairs, and with room for so many bytes of entries.
+    pub(crate) fn fresh(&self, room: usize) -> Result<BlockBuilder<C>>
     where
         C: Copy,
-        ensures none { result.built.0 ≡ [] }
-        ensures begun { result.begun ≡ true }
-        ensures order { result.cmp ≡ self.now.cmp }
-        ensures interval { result.interval ≡ self.now.interval }
+        ensures none { IfOk result (λ builder. builder.built.0 ≡ []) }
+        ensures begun { IfOk result (λ builder. builder.begun ≡ true) }
+        ensures order { IfOk result (λ builder. builder.cmp ≡ self.now.cmp) }
+        ensures interval { IfOk result (λ builder. builder.interval ≡ self.now.interval) }
+        ensures room { IfOk result (λ builder. room ≤ vec_capacity builder.buffer) }
+        ensures memory { IfErr result IsOutOfMemory }
     {
-        BlockBuilder::spaced(*self.buffer.allocator(), self.cmp, self.interval)
+        let alloc = *self.buffer.allocator();
+        Ok(BlockBuilder {
+            cmp: self.cmp,
+            interval: self.interval,
+            buffer: Vec::with_capacity(alloc, room)?,
+            points: Vec::new(alloc),
+            last_key: Vec::new(alloc),
+            count: 0,
+            begun: true,
+        })
     }
 
     // The order of the keys.
@@ -154,7 +165,8 @@ impl<C: Cmp> BlockBuilder<C> {
         let restart = self.count % self.interval == 0;
         let shared = shared_with(self.last_key.as_slice(), key, restart);
         self.buffer.reserve(15 + key.len() + value.len())?;
-        self.last_key.reserve(key.len())?;
+        self.last_key
+            .reserve(key.len().saturating_sub(self.last_key.len()))?;
         self.points.reserve(1)?;
         put_point(&mut self.points, restart, self.count, self.buffer.len());
         put_entry(&mut self.buffer, shared, &key[shared..], value);
@@ -235,17 +247,18 @@ fn put_point(points: &mut Vec<u32>, restart: bool, count: usize, offset: usize)
     }
 }
 
-// Puts a length.
+// Writes an entry's three lengths at the front, and answers how many bytes that took.
 #[inline]
 #[tactic(auto, using(leveldb_base::specs::VarintLaws::varint_lengths))]
-fn put_length(buffer: &mut Vec<u8>, n: usize)
-    requires { vec_len buffer.old + length (varint n) ≤ vec_capacity buffer.old }
-    ensures items { buffer.new.items ≡ buffer.old.items ++ varint n }
-    ensures capacity { vec_capacity buffer.old ≤ vec_capacity buffer.new }
+fn encode_lengths(dst: &mut [u8], shared: usize, rest: usize, value: usize) -> usize
+    requires { 30 ≤ length dst.old }
+    ensures used { result ≡ length (varint shared ++ (varint rest ++ varint value)) }
+    ensures short { result ≤ 30 }
+    ensures written { dst.new ≡ (varint shared ++ (varint rest ++ varint value)) ++ drop result dst.old }
 {
-    let mut head = [0; 10];
-    let used = encode_varint64(&mut head, n as u64);
-    buffer.extend_from_slice(&head[..used]).unwrap();
+    let first = encode_varint64(dst, shared as u64);
+    let second = first + encode_varint64(&mut dst[first..], rest as u64);
+    second + encode_varint64(&mut dst[second..], value as u64)
 }
 
 // Puts an entry.
@@ -253,9 +266,9 @@ fn put_entry(buffer: &mut Vec<u8>, shared: usize, rest: &[u8], value: &[u8])
     requires { vec_len buffer.old + length (spelling shared rest.now value.now) ≤ vec_capacity buffer.old }
     ensures { buffer.new.items ≡ buffer.old.items ++ spelling shared rest.now value.now }
 {
-    put_length(buffer, shared);
-    put_length(buffer, rest.len());
-    put_length(buffer, value.len());
+    let mut head = [0; 30];
+    let used = encode_lengths(&mut head, shared, rest.len(), value.len());
+    buffer.extend_from_slice(&head[..used]).unwrap();
     buffer.extend_from_slice(rest).unwrap();
     buffer.extend_from_slice(value).unwrap();
 }

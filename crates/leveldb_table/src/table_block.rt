@@ -11,7 +11,7 @@ use crate::table_builder::{TABLE_BLOCK_COMPRESS_LEN, TRAILER};
 use bytes::Bytes;
 use leveldb_base::blockhandle::BlockHandle;
 use leveldb_base::cmp::Cmp;
-use leveldb_base::crc::{digest, mask_crc};
+use leveldb_base::crc::{crc32, mask_crc};
 use leveldb_base::error::{Result, StatusCode, err};
 use leveldb_env::compressor::{Coders, Compressor, CompressorList};
 use leveldb_env::env::Env;
@@ -19,7 +19,7 @@ use leveldb_env::filter::FilterPolicy;
 use leveldb_env::filter_block::FilterBlockReader;
 use std::alloc::Global;
 
-// At least so much room is made for a read, and not more than twice of what the file gave.
+// So much room is made at first, or less for a smaller block, and then as much again as came, where that is more.
 const STEP: usize = 1 << 16;
 
 /// The block that a file has at a handle. Where a read is short, it goes on until all bytes came.
@@ -104,9 +104,7 @@ fn checked_id(bytes: &[u8], size: usize) -> Option<u8>
     ensures none { IfNone result ((id : ℕ) (stored : List ℕ) → length stored ≡ size → bytes.now ≡ with_trailer id stored → ⊥) }
 {
     let (stored, sum) = bytes.split_at(size + TABLE_BLOCK_COMPRESS_LEN);
-    let mut digest = digest();
-    digest.update(stored);
-    let right = mask_crc(digest.finalize()).to_le_bytes();
+    let right = mask_crc(crc32(stored)).to_le_bytes();
     if sum != right.as_slice() {
         return None;
     }

@@ -283,7 +283,13 @@ impl<C: Cmp + Copy, FP: FilterPolicy> BuilderCore<C, FP> {
             .block
             .order()
             .find_shortest_sep(self.alloc, last, next)?;
-        let fresh = self.block.fresh();
+
+        // A block mostly takes as much as the one before it; but one large value is no measure of those that follow.
+        let room = self
+            .block
+            .size_estimate()
+            .min(self.block_size.saturating_mul(2));
+        let fresh = self.block.fresh(room)?;
         let block = replace(&mut self.block, fresh).into_bytes()?;
         let placed = put_coded(
             self.alloc,

@@ -7,7 +7,7 @@ ghost use Rattle.leveldb_table.specs.TablePuts.{PutsBlock, IsNotPut, IsRefused, 
 
 use super::TRAILER;
 use leveldb_base::blockhandle::BlockHandle;
-use leveldb_base::crc::{digest, mask_crc};
+use leveldb_base::crc::{crc32, mask_crc};
 use leveldb_base::error::{Result, StatusCode, err};
 use leveldb_env::compressor::{Coders, Compressor, CompressorList};
 use leveldb_env::env::Sink;
@@ -82,9 +82,7 @@ fn put_trailer(stored: &mut Vec<u8>, id: u8) -> Result<()>
 {
     stored.reserve(TRAILER)?;
     stored.push(id)?;
-    let mut digest = digest();
-    digest.update(stored);
-    let sum = mask_crc(digest.finalize()).to_le_bytes();
+    let sum = mask_crc(crc32(stored)).to_le_bytes();
     stored.extend_from_slice(&sum)?;
     Ok(())
 }

@@ -46,8 +46,8 @@ overflow_add-self g c =
     let small = fit.0 in
     omega (arith, small, built.counted, count_small c.args.self.now.built.0, ap length built.spelled, c.len.ensures, c.args.self.now.buffer.ok.0)
 
-pub invariant_of-self-2 : goal.invariant_of-self-2
-invariant_of-self-2 g c =
+pub invariant_of-self-3 : goal.invariant_of-self-3
+invariant_of-self-3 g c =
     let fit = c.fits.ensures.0 c.if-not-fits.false in
     let built = c.args.self.now.built.1 in
     let restart = nat_eq (c.args.self.now.count % c.args.self.now.interval) 0 in
@@ -58,14 +58,14 @@ invariant_of-self-2 g c =
     let same = subst (λ z. take shared z ≡ take shared key) c.as_slice.ensures.value c.shared_with-shared.ensures.same in
     let here = fit.0 in
     let offset_fits : length c.args.self.now.buffer.items < 2 ^ 32 = omega (arith, here, c.len.ensures, c.args.self.now.buffer.ok.0) in
-    let size : c.len-2.result ≡ length c.args.self.now.buffer.items = omega (arith, c.len-2.ensures, c.reserve.ensures.len, c.args.self.now.buffer.ok.0) in
+    let size : c.len-3.result ≡ length c.args.self.now.buffer.items = omega (arith, c.len-3.ensures, c.reserve.ensures.len, c.args.self.now.buffer.ok.0) in
     let written = rw take_rest at c.put_entry.ensures in
     let after = written ∙ ap (λ z. z ++ spelling shared (drop shared key) value) c.reserve.ensures.items in
     let longest = λ (no : restart ≡ false). c.shared_with-shared.ensures.longest no ∙ ap (λ z. shared_front z key) c.as_slice.ensures.value in
     let more =
     built_more built restart key value shared refl within same c.shared_with-shared.ensures.none fit.1 fit.2 c.shared_with-shared.ensures.within_key offset_fits c.requires
     longest c.put_point.new.points.items (λ h. c.put_point.ensures.first h ∙ c.reserve-3.ensures.items)
-    (λ h. c.put_point.ensures.others h ∙ ap (λ z. z ++ points_more restart c.len-2.result) c.reserve-3.ensures.items ∙ ap (λ z. c.args.self.now.points.items ++ points_more restart z) size)
+    (λ h. c.put_point.ensures.others h ∙ ap (λ z. z ++ points_more restart c.len-3.result) c.reserve-3.ensures.items ∙ ap (λ z. c.args.self.now.points.items ++ points_more restart z) size)
     c.put_entry.new.buffer.items after in
     let last = (rw c.unwrap.ensures at c.extend_from_slice.ensures.items) ∙ ap (λ z. z ++ key) c.clear.ensures.items in
     let entries = c.args.self.now.built.0 ++ new_entry built restart key value shared refl within same c.shared_with-shared.ensures.none fit.1 fit.2 c.shared_with-shared.ensures.within_key offset_fits c.requires ∷ [] in
@@ -88,14 +88,14 @@ returns-clause-ok g c =
     let same = subst (λ z. take shared z ≡ take shared key) c.as_slice.ensures.value c.shared_with-shared.ensures.same in
     let here = fit.0 in
     let offset_fits : length c.args.self.now.buffer.items < 2 ^ 32 = omega (arith, here, c.len.ensures, c.args.self.now.buffer.ok.0) in
-    let size : c.len-2.result ≡ length c.args.self.now.buffer.items = omega (arith, c.len-2.ensures, c.reserve.ensures.len, c.args.self.now.buffer.ok.0) in
+    let size : c.len-3.result ≡ length c.args.self.now.buffer.items = omega (arith, c.len-3.ensures, c.reserve.ensures.len, c.args.self.now.buffer.ok.0) in
     let written = rw take_rest at c.put_entry.ensures in
     let after = written ∙ ap (λ z. z ++ spelling shared (drop shared key) value) c.reserve.ensures.items in
     let longest = λ (no : restart ≡ false). c.shared_with-shared.ensures.longest no ∙ ap (λ z. shared_front z key) c.as_slice.ensures.value in
     let more =
     built_more built restart key value shared refl within same c.shared_with-shared.ensures.none fit.1 fit.2 c.shared_with-shared.ensures.within_key offset_fits c.requires
     longest c.put_point.new.points.items (λ h. c.put_point.ensures.first h ∙ c.reserve-3.ensures.items)
-    (λ h. c.put_point.ensures.others h ∙ ap (λ z. z ++ points_more restart c.len-2.result) c.reserve-3.ensures.items ∙ ap (λ z. c.args.self.now.points.items ++ points_more restart z) size)
+    (λ h. c.put_point.ensures.others h ∙ ap (λ z. z ++ points_more restart c.len-3.result) c.reserve-3.ensures.items ∙ ap (λ z. c.args.self.now.points.items ++ points_more restart z) size)
     c.put_entry.new.buffer.items after in
     let spelled = more.spelled in
     let pointed = more.pointed in
@@ -114,14 +114,14 @@ returns-clause-entry g c =
     let same = subst (λ z. take shared z ≡ take shared key) c.as_slice.ensures.value c.shared_with-shared.ensures.same in
     let here = fit.0 in
     let offset_fits : length c.args.self.now.buffer.items < 2 ^ 32 = omega (arith, here, c.len.ensures, c.args.self.now.buffer.ok.0) in
-    let size : c.len-2.result ≡ length c.args.self.now.buffer.items = omega (arith, c.len-2.ensures, c.reserve.ensures.len, c.args.self.now.buffer.ok.0) in
+    let size : c.len-3.result ≡ length c.args.self.now.buffer.items = omega (arith, c.len-3.ensures, c.reserve.ensures.len, c.args.self.now.buffer.ok.0) in
     let written = rw take_rest at c.put_entry.ensures in
     let after = written ∙ ap (λ z. z ++ spelling shared (drop shared key) value) c.reserve.ensures.items in
     let longest = λ (no : restart ≡ false). c.shared_with-shared.ensures.longest no ∙ ap (λ z. shared_front z key) c.as_slice.ensures.value in
     let more =
     built_more built restart key value shared refl within same c.shared_with-shared.ensures.none fit.1 fit.2 c.shared_with-shared.ensures.within_key offset_fits c.requires
     longest c.put_point.new.points.items (λ h. c.put_point.ensures.first h ∙ c.reserve-3.ensures.items)
-    (λ h. c.put_point.ensures.others h ∙ ap (λ z. z ++ points_more restart c.len-2.result) c.reserve-3.ensures.items ∙ ap (λ z. c.args.self.now.points.items ++ points_more restart z) size)
+    (λ h. c.put_point.ensures.others h ∙ ap (λ z. z ++ points_more restart c.len-3.result) c.reserve-3.ensures.items ∙ ap (λ z. c.args.self.now.points.items ++ points_more restart z) size)
     c.put_entry.new.buffer.items after in
     let spelled = more.spelled in
     let pointed = more.pointed in

@@ -12,6 +12,11 @@ returns-in_err-separator-clause-cause g c =
     let p = err_from_is_err_and c.from_residual.result c.from_residual.ensures.1 in
     rw (p.1, p.2) (inl (refl, c.in_err-separator.ensures.cause))
 
+pub returns-in_err-fresh-clause-cause : goal.returns-in_err-fresh-clause-cause
+returns-in_err-fresh-clause-cause g c =
+    let p = err_from_is_err_and c.from_residual-in_err-fresh.result c.from_residual-in_err-fresh.ensures.1 in
+    rw (p.1, p.2) (inl (refl, c.in_err-fresh.ensures.memory))
+
 pub returns-in_err-block-clause-cause : goal.returns-in_err-block-clause-cause
 returns-in_err-block-clause-cause g c =
     let p = err_from_is_err_and c.from_residual-in_err-block.result c.from_residual-in_err-block.ensures.1 in
@@ -63,7 +68,7 @@ returns-clause-cause g c =
     )) c.start_block.ensures.cause
 
 pub returns-clause-fresh : goal.returns-clause-fresh
-returns-clause-fresh g c = OnOk-with c.start_block.result _ _ (λ made. rw (c.replace.ensures.after, c.fresh-fresh.ensures.none) refl) c.start_block.ensures.ok
+returns-clause-fresh g c = OnOk-with c.start_block.result _ _ (λ made. rw (c.replace.ensures.after, c.in_ok-fresh.ensures.none) refl) c.start_block.ensures.ok
 
 pub returns-clause-ok : goal.returns-clause-ok
 returns-clause-ok g c =
@@ -86,10 +91,10 @@ returns-clause-ok g c =
         spelled = refl;
         ends = placed.2.ends;
         line = line;
-        none_open = rw (c.replace.ensures.after, c.fresh-fresh.ensures.none) refl;
+        none_open = rw (c.replace.ensures.after, c.in_ok-fresh.ensures.none) refl;
         started = made;
         count = refl;
-        same_intervals = (rw (c.replace.ensures.after, c.fresh-fresh.ensures.interval) refl, c.in_ok-add_handle.ensures.interval);
+        same_intervals = (rw (c.replace.ensures.after, c.in_ok-fresh.ensures.interval) refl, c.in_ok-add_handle.ensures.interval);
       },
     )) c.start_block.ensures.ok
 
@@ -100,8 +105,8 @@ returns-clause-open_filter g c =
     let line = is_line order (g.C.Cmp.shortest_sep c.args.self.now.block.cmp) separates (pairs_of _ c.args.self.now.index.built.0) (pairs_of _ c.args.self.now.block.built.0) c.args.next.now (handle_bytes c.in_ok-placed.placed.handle)
     c.requires.closable.some c.requires.closable.ready.rise c.requires.closable.ready.accepted c.requires.closable.accepted c.requires.closable.behind in
     OnOk-with c.start_block.result _ _ (λ opened. record {
-      order = rw (c.in_ok-add_handle.ensures.order, c.replace.ensures.after, c.fresh-fresh.ensures.order) c.requires.closable.ready.order;
-      rise = rw (c.replace.ensures.after, c.fresh-fresh.ensures.order, c.fresh-fresh.ensures.none, append-nil, c.in_ok-add_handle.ensures.ok, c.deref.ensures.value, c.in_ok-separator.ensures.ok, c.order.ensures, c.last_key-last.ensures) line.rise;
-      accepted = rw (c.replace.ensures.after, c.fresh-fresh.ensures.order, c.fresh-fresh.ensures.none, append-nil, c.in_ok-add_handle.ensures.ok, c.deref.ensures.value, c.in_ok-separator.ensures.ok, c.order.ensures, c.last_key-last.ensures) line.accepted;
+      order = rw (c.in_ok-add_handle.ensures.order, c.replace.ensures.after, c.in_ok-fresh.ensures.order) c.requires.closable.ready.order;
+      rise = rw (c.replace.ensures.after, c.in_ok-fresh.ensures.order, c.in_ok-fresh.ensures.none, append-nil, c.in_ok-add_handle.ensures.ok, c.deref.ensures.value, c.in_ok-separator.ensures.ok, c.order.ensures, c.last_key-last.ensures) line.rise;
+      accepted = rw (c.replace.ensures.after, c.in_ok-fresh.ensures.order, c.in_ok-fresh.ensures.none, append-nil, c.in_ok-add_handle.ensures.ok, c.deref.ensures.value, c.in_ok-separator.ensures.ok, c.order.ensures, c.last_key-last.ensures) line.accepted;
       filtered = sym opened;
     }) c.start_block.ensures.open
