@@ -29,6 +29,9 @@ use leveldb_env::options::Options;
 use std::alloc::Global;
 use std::mem::replace;
 
+// The room that a new data block has beyond what the last one took.
+const BLOCK_SPARE: usize = 64;
+
 /// What a builder knows of its table, without the sink that the table goes to and the list of coders: each call is given
 /// these. A refused call breaks the builder.
 #[derive(Drop)]
@@ -284,10 +287,12 @@ impl<C: Cmp + Copy, FP: FilterPolicy> BuilderCore<C, FP> {
             .order()
             .find_shortest_sep(self.alloc, last, next)?;
 
-        // A block mostly takes as much as the one before it; but one large value is no measure of those that follow.
+        // A block mostly takes as much as the one before it, and a little for its last pair and its trailer; but one large value is no
+        // measure of those that follow.
         let room = self
             .block
             .size_estimate()
+            .saturating_add(BLOCK_SPARE)
             .min(self.block_size.saturating_mul(2));
         let fresh = self.block.fresh(room)?;
         let block = replace(&mut self.block, fresh).into_bytes()?;
