@@ -3,7 +3,7 @@ use Rattle.std.proofs.Common.{◌≡◌, ◌<◌, ◌≤◌, ℕ, Bool, true, Li
 use Rattle.std.specs.Prelude.{OnOk, IsTrue, String}
 use Rattle.std.specs.Io.KnownBytes.{Appends}
 use Rattle.std.specs.declared.alloc.Global.{Global}
-use Rattle.std.proofs.Math.Seq.{drop-append_seam}
+use Rattle.std.proofs.Math.Seq.{drop-length, drop-append_seam}
 use Rattle.leveldb_base.specs.Bytewise.{bytewise}
 use Rattle.leveldb_base.specs.declared.cmp.DefaultCmp.{DefaultCmp}
 use Rattle.leveldb_base.specs.declared.error.Status.{Status}
@@ -11,6 +11,7 @@ use Rattle.leveldb_env.specs.declared.env.Env.{Ghosts}
 use Rattle.rusty_leveldb.specs.declared.shell.commands.Command.{Command}
 use Rattle.rusty_leveldb.specs.declared.shell.commands.Reply.{Reply}
 use Rattle.rusty_leveldb.specs.Language.{reply_lines}
+use Rattle.rusty_leveldb.specs.Engine.{IsStoreName}
 use Rattle.rusty_leveldb.specs.Recovery.{NeverOpens}
 use Rattle.rusty_leveldb.specs.Shell.{PlaysAlways, IsUnopened}
 use Rattle.rusty_leveldb.specs.declared.shell.program.Fault.{Fault}
@@ -30,22 +31,26 @@ one_word [] word some few is = absurd (omega (arith, some))
 one_word (first ∷ []) word some few is = ap (λ (w : String Global). w ∷ []) (sym is)
 one_word (first ∷ second ∷ others) word some few is = absurd (omega (arith, few))
 
--- what a run over a store of these options did, when they make a missing one
-pub run_so : {E F : Type 0} (env : Ghosts E F) (folder : List ℕ) (commands : List Command) (from to : E) (given : List Reply) (create : Bool) (ended : Result (Unit {0}) Status) → create ≡ true
-    → PlaysAlways DefaultCmp ℕ env bytewise folder from create commands given ended to
-    → (IsTrue env.tells_disk → NeverOpens folder create (env.tells from).disk → IsUnopened env folder create from ended to)
-    → HasRun env folder commands from given ended to
-run_so env folder commands from to given create ended creates plays unopened = (
-  subst (λ (b : Bool). PlaysAlways DefaultCmp ℕ env bytewise folder from b commands given ended to) creates plays,
-  subst (λ (b : Bool). IsTrue env.tells_disk → NeverOpens folder b (env.tells from).disk → IsUnopened env folder b from ended to) creates unopened,
-)
+-- no reply was given
+none_given : (old new : List Reply) → new ≡ old → drop (length old) new ≡ []
+none_given old new same = ap (drop (length old)) same ∙ drop-length old
 
 -- a run, whether it went through or not
-pub has_run : {E F : Type 0} (env : Ghosts E F) (folder : List ℕ) (commands : List Command) (from to : E) (given : List Reply) (create : Bool) (ended : Result (Unit {0}) Status) → create ≡ true
-    → PlaysAlways DefaultCmp ℕ env bytewise folder from create commands given ended to
-    → (IsTrue env.tells_disk → NeverOpens folder create (env.tells from).disk → IsUnopened env folder create from ended to)
+pub has_run : {E F : Type 0} (env : Ghosts E F) (folder : List ℕ) (commands : List Command) (from to : E) (old new : List Reply) (create : Bool) (ended : Result (Unit {0}) Status) → create ≡ true
+    → PlaysAlways DefaultCmp ℕ env bytewise folder from create commands (drop (length old) new) ended to
+    → (IsTrue env.tells_disk → NeverOpens folder create (env.tells from).disk → (new ≡ old) × IsUnopened env folder create from ended to)
+    → ((IsStoreName folder → ⊥) → (to ≡ from) × (new ≡ old) × OnOk ended ⊥)
     → (given : List Reply) × (ended : Result (Unit {0}) Status) × HasRun env folder commands from given ended to
-has_run env folder commands from to given create ended creates plays unopened = (given, ended, run_so env folder commands from to given create ended creates plays unopened)
+has_run env folder commands from to old new create ended creates plays unopened misnamed = (
+  drop (length old) new,
+  ended,
+  (
+    subst (λ (b : Bool). PlaysAlways DefaultCmp ℕ env bytewise folder from b commands (drop (length old) new) ended to) creates plays,
+    subst (λ (b : Bool). IsTrue env.tells_disk → NeverOpens folder b (env.tells from).disk → (drop (length old) new ≡ []) × IsUnopened env folder b from ended to) creates
+        (λ tells never. let u = unopened tells never in (none_given old new u.0, u.1)),
+    λ no. let m = misnamed no in (m.0, none_given old new m.1, m.2),
+  ),
+)
 
 -- a run that went through, whose replies were written
 pub played : {E F : Type 0} (env : Ghosts E F) (folder : List ℕ) (commands : List Command) (from to : E) (held holds : Option (List ℕ)) (old new told : List Reply) (create : Bool)
@@ -53,16 +58,20 @@ pub played : {E F : Type 0} (env : Ghosts E F) (folder : List ℕ) (commands : L
     → PlaysAlways DefaultCmp ℕ env bytewise folder from create commands (drop (length old) new) (Ok ended) to
     → ((given : List Reply) × (new ≡ old ++ given) × (length given ≡ length commands))
     → OnOk r (Appends held holds (reply_lines told))
-    → (IsTrue env.tells_disk → NeverOpens folder create (env.tells from).disk → IsUnopened env folder create from (Ok ended) to)
+    → (IsTrue env.tells_disk → NeverOpens folder create (env.tells from).disk → (new ≡ old) × IsUnopened env folder create from (Ok ended) to)
+    → ((IsStoreName folder → ⊥) → (to ≡ from) × (new ≡ old) × OnOk {E = Status} (Ok ended) ⊥)
     → OnOk r (IsPlayed env folder commands from to held holds)
-played env folder commands from to held holds old new told create ended (Err status) none creates same plays behind appends unopened = tt
-played env folder commands from to held holds old new told create ended (Ok done) none creates same plays behind appends unopened =
+played env folder commands from to held holds old new told create ended (Err status) none creates same plays behind appends unopened misnamed = tt
+played env folder commands from to held holds old new told create ended (Ok done) none creates same plays behind appends unopened misnamed =
     let given = behind.0 in
     let replies : drop (length old) new ≡ given = ap (drop (length old)) behind.1 ∙ drop-append_seam old given in
     let P : List Reply → Type 0 = λ list. PlaysAlways DefaultCmp ℕ env bytewise folder from create commands list (Ok tt) to in
-    let T : List Reply → Type 0 = λ list. Appends held holds (reply_lines list) in (
+    let Q : Bool → Type 0 = λ b. PlaysAlways DefaultCmp ℕ env bytewise folder from b commands given (Ok tt) to in
+    let R : Bool → Type 0 = λ b. IsTrue env.tells_disk → NeverOpens folder b (env.tells from).disk → (given ≡ []) × IsUnopened env folder b from (Ok tt) to in
+    let T : List Reply → Type 0 = λ list. Appends held holds (reply_lines list) in
+    (
       given,
       behind.2,
-      run_so env folder commands from to given create (Ok tt) creates (subst P replies plays) unopened,
+      (subst Q creates (subst P replies plays), subst R creates (λ tells never. absurd (unopened tells never).1), λ no. absurd (misnamed no).2),
       subst T (same ∙ behind.1 ∙ ap (λ (list : List Reply). list ++ given) none) appends,
     )

@@ -2,7 +2,7 @@
 use Rattle.std.specs.Prelude.{◌≡◌, ◌≢◌, ◌≤◌, ◌%◌, ◌⊎◌, ◌↔◌, ℕ, Bool, true, false, List, [], ◌∷◌, ◌++◌, length, Option, Some, None, IsTrue, string_bytes}
 use Rattle.std.specs.declared.cmp.Ordering.{Ordering}
 use Rattle.leveldb_base.specs.declared.error.Status.{Status}
-use Rattle.leveldb_base.specs.declared.error.StatusCode.TheVariants.{InvalidArgument, NotSupported, Corruption, LockError}
+use Rattle.leveldb_base.specs.declared.error.StatusCode.TheVariants.{InvalidArgument, NotSupported, Corruption, IOError, LockError}
 use Rattle.leveldb_base.specs.History.{Item, entries_of, greatest}
 use Rattle.leveldb_base.specs.View.{SameView}
 use Rattle.leveldb_env.specs.declared.env.Env.{Ghosts}
@@ -23,7 +23,7 @@ use Rattle.rusty_leveldb.specs.State.{State, Opening, Request, Answer, open_mode
 use Rattle.rusty_leveldb.specs.Causes.{IsLongKey, IsLongBatch}
 use Rattle.rusty_leveldb.specs.Serves.{Reads, Serves, Scene, IsUnreadable}
 
--- the store is closed: every call is refused
+-- the store is closed: every call but `abandon` is refused
 abbrev pub IsShut : Mode → Type 0
 IsShut mode = mode ≡ Closed
 
@@ -31,7 +31,7 @@ IsShut mode = mode ≡ Closed
 abbrev pub IsStuck : Mode → Writing → Type 0
 IsStuck mode writer = (mode ≡ Broken) ⊎ IsTrue writer.broken
 
--- no call that writes is answered
+-- it is closed, or it broke: every call that writes is refused
 abbrev pub IsHalted : Mode → Writing → Type 0
 IsHalted mode writer = IsShut mode ⊎ IsStuck mode writer
 
@@ -96,6 +96,10 @@ ShutOut mode e = IsShut mode × (e.code ≡ InvalidArgument)
 -- the store broke earlier
 abbrev pub ShutDown : Mode → Writing → Status → Type 0
 ShutDown mode writer e = IsStuck mode writer × IsBroken e
+
+-- one of the two, and of a closed store the first
+abbrev pub HaltedBy : Mode → Writing → Status → Type 0
+HaltedBy mode writer e = (ShutOut mode e ⊎ ShutDown mode writer e) × (e.code ≡ IOError → IsShut mode → ⊥)
 
 module _ {E C FP F I : Type 0} {D : I → Type 0} (env : Ghosts E F) where
   -- an append to the log and a sync of it: for want of memory, or where a told disk has lost the log's name

@@ -1,5 +1,5 @@
 -- What the program does: it reads commands, runs them, and writes the replies.
-use Rattle.std.specs.Prelude.{◌≡◌, ◌≢◌, ◌⊎◌, ◌<◌, ◌≤◌, ◌^◌, ℕ, List, [], ◌∷◌, length, Option, Result, Ok, IfSome, IsTrue, true, String, string_bytes}
+use Rattle.std.specs.Prelude.{◌≡◌, ◌≢◌, ◌⊎◌, ◌<◌, ◌≤◌, ◌^◌, ℕ, List, [], ◌∷◌, length, Option, Result, Ok, OnOk, IfSome, IsTrue, true, String, string_bytes}
 use Rattle.std.specs.Io.KnownBytes.{Appends}
 use Rattle.std.specs.declared.alloc.Global.{Global}
 use Rattle.leveldb_base.specs.Bytewise.{bytewise}
@@ -11,6 +11,7 @@ use Rattle.rusty_leveldb.specs.declared.shell.commands.Reply.{Reply}
 use Rattle.rusty_leveldb.specs.declared.shell.program.Fault.{Fault}
 use Rattle.rusty_leveldb.specs.declared.shell.program.Fault.TheVariants as fault
 use Rattle.rusty_leveldb.specs.Language.{IsScript, IsBadLine, reply_lines}
+use Rattle.rusty_leveldb.specs.Engine.{IsStoreName}
 use Rattle.rusty_leveldb.specs.Recovery.{NeverOpens}
 use Rattle.rusty_leveldb.specs.Shell.{PlaysAlways, IsUnopened}
 
@@ -49,11 +50,12 @@ abbrev pub IsInput : Option (List ℕ) → List Command → Type 0
 IsInput input commands = (text : List ℕ) × IfSome input (λ bytes. text ≡ bytes) × (length text ≤ 2 ^ 26) × IsScript text commands
 
 module _ {E F : Type 0} (env : Ghosts E F) where
-  -- The commands were run in a folder, with these replies, and the run ended so; where no store is opened, it was refused. The filter policy is
-  -- seen as its number of bits a key.
+  -- The commands were run in a folder, with these replies, and the run ended so. Where the store is damaged or locked, or the folder's name is none
+  -- of a store's, it was refused with no reply. The filter policy is seen as its number of bits a key.
   abbrev pub HasRun : List ℕ → List Command → E → List Reply → Result (Unit {0}) Status → E → Type 0
   HasRun folder commands from given ended to = PlaysAlways DefaultCmp ℕ env bytewise folder from true commands given ended to
-      × (IsTrue env.tells_disk → NeverOpens folder true (env.tells from).disk → IsUnopened env folder true from ended to)
+      × (IsTrue env.tells_disk → NeverOpens folder true (env.tells from).disk → (given ≡ []) × IsUnopened env folder true from ended to)
+      × ((IsStoreName folder → ⊥) → (to ≡ from) × (given ≡ []) × OnOk ended ⊥)
 
   -- the commands were run in a folder, each was replied to, and the output grew by the replies' lines
   abbrev pub IsPlayed : List ℕ → List Command → E → E → Option (List ℕ) → Option (List ℕ) → Type 0

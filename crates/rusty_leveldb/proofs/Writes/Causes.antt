@@ -1,5 +1,5 @@
 -- Why a write is refused behind its preparation: each failure of the device is counted, and nothing else.
-use Rattle.std.proofs.Common.{◌≡◌, ◌+◌, inl, inr, ⊎_elim, ℕ, List, refl, sym, ◌∙◌, ap, arith, Option, Some, None, Ok, Err, IsTrue, true, false}
+use Rattle.std.proofs.Common.{◌≡◌, ◌<◌, ◌+◌, inl, inr, ⊎_elim, ℕ, List, refl, sym, ◌∙◌, ap, arith, Option, Some, None, Ok, Err, IsTrue, true, false}
 use Rattle.std.specs.Option.{option_map}
 use Rattle.leveldb_base.specs.declared.error.Status.{Status}
 use Rattle.leveldb_base.specs.History.{Item}
@@ -48,6 +48,15 @@ module _ {E C FP F I : Type 0} {D : I → Type 0} (env : Ghosts E F) (engine : E
       let same : env.failures to ≡ env.failures from = ap (λ o. env.failures o.env) kept.1.same_sink in
       record { later = omega (arith, same); ok = tt; uncounted = λ excused. same; cause = inl (to_write status (inl kept.0)) })
       (λ put. write_cause (env.failures from) (env.failures to) status put.0.cause) refusal.why
+
+  -- where the device refused it, the writer is broken
+  pub append_breaks : (status : Status) (writer : writing.Writing) (log : F) (to : E) → Refuses (Appends env) engine.writer (opened from engine.log) bytes status writer (opened to log)
+      → env.failures from < env.failures to → IsTrue writer.broken
+  append_breaks status writer log to refusal more = ⊎_elim
+      (λ kept.
+      let same : env.failures to ≡ env.failures from = ap (λ o. env.failures o.env) kept.1.same_sink in
+      absurd (omega (arith, same, more)))
+      (λ put. ap (λ w. w.broken) put.1) refusal.why
 
   -- ---- behind an append that was done
 

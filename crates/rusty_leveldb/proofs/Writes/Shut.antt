@@ -29,6 +29,10 @@ not_halted mode writer is sound = ⊎_elim (λ (shut : mode ≡ Closed). let nev
     (λ stuck. ⊎_elim (λ (broke : mode ≡ Broken). let never : Open ≡ Broken = sym is ∙ broke in cc)
     (λ (broke : IsTrue writer.broken). let never : false ≡ true = sym sound ∙ broke in cc) stuck)
 
+-- one that refuses by its mode is
+pub halted_then : (mode : Mode) (writer : Writing) (status : Status) → ShutOut mode status ⊎ ShutDown mode writer status → IsHalted mode writer
+halted_then mode writer status = ⊎_elim (λ out. inl out.0) (λ down. inr down.0)
+
 module _ (cmp : List ℕ → List ℕ → Ordering) (faults : Faults) (old : State) where
   closed_step : (request : Request) → IsLogging request → (refusal : Refusal) → IsClosedRefusal refusal → StepIn cmp closed faults old request (refused refusal) old
   closed_step (write items sync) logs refusal says = (says, refl)

@@ -20,7 +20,7 @@ use std::alloc::Global;
 pub enum Mode {
     /// It may be read and written to.
     Open,
-    /// A write or a sync of its log, or giving back its lock, failed: it may be read, and is to be opened again for any other call.
+    /// An append to its log, a sync of it, or giving back its lock failed: it may be read and abandoned, and every call that writes is refused.
     Broken,
     /// It is to be opened again.
     Closed,
@@ -40,7 +40,7 @@ pub struct Engine<E: Env, C: Cmp, FP> {
     pub(crate) mode: Mode,
 }
 
-/// A closed store answers no call.
+/// A closed store refuses every call but `abandon`.
 pub(crate) fn check_not_closed(alloc: Global, mode: Mode) -> Result<()>
     ensures ok { OnOk result (IsShut mode → ⊥) }
     ensures cause { IfErr result (ShutOut mode) }
@@ -51,7 +51,7 @@ pub(crate) fn check_not_closed(alloc: Global, mode: Mode) -> Result<()>
     Ok(())
 }
 
-/// A store that broke answers no call that writes.
+/// A store that broke refuses every call that writes.
 pub(crate) fn check_open(alloc: Global, mode: Mode, writer: &WriterCore) -> Result<()>
     ensures ok { OnOk result ((mode ≡ Mode.Open) × (writer.now.broken ≡ false)) }
     ensures cause { IfErr result (λ status. ShutOut mode status ⊎ ShutDown mode writer.now status) }

@@ -1,5 +1,5 @@
 //! Opening a store: its lock is taken, its log is read, and replaced where it ends badly.
-ghost use Rattle.std.specs.Prelude.{◌≡◌, ◌⊎◌, if◌then◌else◌, length, map, Some, None, IsTrue, IfOk, IfErr, OnOk};
+ghost use Rattle.std.specs.Prelude.{◌≡◌, ◌⊎◌, if◌then◌else◌, length, map, Some, None, IsTrue, IfOk, IfErr, OnOk, false};
 ghost use Rattle.leveldb_env.specs.Disk.{bytes_of};
 ghost use Rattle.leveldb_env.specs.Calls.{HasCause, NoMemory, SameLocks};
 ghost use Rattle.leveldb_env.specs.FileLaws.{SameBut};
@@ -27,8 +27,8 @@ use std::alloc::Global;
 impl<E: Env, C: UserCmp + Copy, FP: FilterPolicy + Copy> Engine<E, C, FP> {
     /// Opens the store under this name, which isn't empty and doesn't end in a slash.
     /// A missing store is made, or `InvalidArgument` where the options say so; a locked one is `LockError`.
-    /// A refused opening gives back the lock that it took, also where the store is damaged. A store that is damaged or locked, or is missing
-    /// and isn't to be made, is never opened, and its files stay as they are.
+    /// A refused opening gives back the lock that it took, unless the device refuses that too. A store that is damaged or locked, or is
+    /// missing and isn't to be made, is never opened; its files stay as they are, but that its lock's file may be made.
     pub fn open(
         alloc: Global,
         name: &str,
@@ -36,6 +36,7 @@ impl<E: Env, C: UserCmp + Copy, FP: FilterPolicy + Copy> Engine<E, C, FP> {
         options: Options<C, FP>,
     ) -> Result<Engine<E, C, FP>>
         ensures options { IfOk result (λ engine. engine.options ≡ options) }
+        ensures opened { IfOk result (λ engine. (engine.mode ≡ Mode.Open) × (engine.writer.broken ≡ false)) }
         ensures step { (opening : Opening) → IsOpening name.now options.create_if_missing opening
             → AnswersAs E.Env (C.cmp options.cmp) name.now None env.old (open_store opening) (done_or result) (given_engine result) env.new }
         ensures misnamed { (IsStoreName name.now → ⊥) → (env.new ≡ env.old) × OnOk result ⊥ }
@@ -79,6 +80,7 @@ fn recover<E: Env, C: UserCmp + Copy>(
     ensures unusable { IsTrue E.tells_disk → IsUnusable create_if_missing ((E.tells env.old).disk.files (log_path name.now)) → (E.tells env.new).disk.files ≡ (E.tells env.old).disk.files }
     ensures ok { IfOk result (λ got. IsTrue E.tells_disk → IsRecovered create_if_missing ((E.tells env.old).disk.files (log_path name.now)) ((E.tells env.new).disk.files (log_path name.now)) got.1 got.2) }
     ensures log { IfOk result (λ got. IsTrue E.tells_disk → E.name_of got.0 ≡ log_path name.now) }
+    ensures sound { IfOk result (λ got. got.1.broken ≡ false) }
     ensures cause { HasCauses (λ e. NoMemory e ⊎ IsNotMade E.tells_disk create_if_missing ((E.tells env.old).disk.files (log_path name.now)) e ⊎ IsNoLog E.tells_disk ((E.tells env.old).disk.files (log_path name.now)) e)
         (E.failures env.old) (E.failures env.new) result }
 {

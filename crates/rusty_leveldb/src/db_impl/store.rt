@@ -1,10 +1,11 @@
 //! The public store: an engine beside a borrow of its environment. Its calls lend the environment to the engine.
-ghost use Rattle.std.specs.Prelude.{◌≡◌, ◌⊎◌, ◌∷◌, [], Some, None, true, false, IfOk, IfErr, OnOk, IsTrue};
+ghost use Rattle.std.specs.Prelude.{◌≡◌, ◌<◌, ◌⊎◌, ◌∷◌, [], Some, None, true, false, IfOk, IfErr, OnOk, OnErr, IsErrAnd, IsTrue};
 ghost use Rattle.leveldb_env.specs.Calls.{HasCause};
 ghost use Rattle.leveldb_mem.specs.Batch.{item_of};
 ghost use Rattle.rusty_leveldb.specs.State.{Opening, open_store, write, get, flush, close, abandon, done, refused};
 ghost use Rattle.rusty_leveldb.specs.Serves.{done_or, found_or, refusal_of};
-ghost use Rattle.rusty_leveldb.specs.Engine.{IsShut, IsHalted, IsStoreName, IsOpening, no_engine, AnswersAs, Answers, OpenExcused, WriteExcused, SyncExcused, CloseExcused, GetExcused};
+ghost use Rattle.rusty_leveldb.specs.declared.db_impl.engine.Mode.TheVariants.{Open};
+ghost use Rattle.rusty_leveldb.specs.Engine.{IsShut, IsHalted, ShutOut, HaltedBy, IsStoreName, IsOpening, no_engine, AnswersAs, Answers, OpenExcused, WriteExcused, SyncExcused, CloseExcused, GetExcused};
 ghost use Rattle.rusty_leveldb.specs.Causes.{HasFailed};
 ghost use Rattle.rusty_leveldb.specs.Recovery.{NeverOpens, StaysUnopened};
 
@@ -53,7 +54,7 @@ impl<'e, E: Env, S: Drop> Store<'e, E, S> {
 impl<'e, E: Env, C: UserCmp + Copy, FP: FilterPolicy + Copy> Store<'e, E, Engine<E, C, FP>> {
     /// Opens the store under this name, which isn't empty and doesn't end in a slash.
     /// A missing store is made, or `InvalidArgument` where the options say so; a locked one is `LockError`.
-    /// A refused opening gives back the lock that it took. A store that is damaged or locked, or is missing and isn't to be made, is never opened.
+    /// A refused opening gives back the lock that it took, unless the device refuses that too. A store that is damaged or locked, or is missing and isn't to be made, is never opened.
     pub fn open(
         alloc: Global,
         name: &str,
@@ -62,6 +63,7 @@ impl<'e, E: Env, C: UserCmp + Copy, FP: FilterPolicy + Copy> Store<'e, E, Engine
     ) -> Result<DB<'e, E, C, FP>>
         ensures same_reference { IfOk result (λ db. db.env.ghost_name ≡ env.entry.ghost_name) }
         ensures options { IfOk result (λ db. db.state.options ≡ options) }
+        ensures opened { IfOk result (λ db. (db.state.mode ≡ Open) × (db.state.writer.broken ≡ false)) }
         ensures step { IfOk result (λ db. (opening : Opening) → IsOpening name.now options.create_if_missing opening
             → AnswersAs E.Env (C.cmp options.cmp) name.now None env.old (open_store opening) done (Some db.state) db.env.now) }
         ensures misnamed { (IsStoreName name.now → ⊥) → OnOk result ⊥ }
@@ -71,6 +73,7 @@ impl<'e, E: Env, C: UserCmp + Copy, FP: FilterPolicy + Copy> Store<'e, E, Engine
             × ((opening : Opening) → IsOpening name.now options.create_if_missing opening
             → AnswersAs E.Env (C.cmp options.cmp) name.now (no_engine options) env.old (open_store opening) (refused (refusal_of status)) (no_engine options) left)
             × (OpenExcused E.tells_disk name.now options.create_if_missing (E.tells env.old) status ⊎ HasFailed (E.failures env.old) (E.failures left))
+            × ((IsStoreName name.now → ⊥) → left ≡ env.old)
             × (IsTrue E.tells_disk → StaysUnopened name.now options.create_if_missing (E.tells env.old) (E.tells left) (E.failures env.old) (E.failures left) status)) }
     {
         let engine = Engine::open(alloc, name, &mut *env, options)?;
@@ -81,7 +84,8 @@ impl<'e, E: Env, C: UserCmp + Copy, FP: FilterPolicy + Copy> Store<'e, E, Engine
     pub fn put(&mut self, key: &[u8], value: &[u8]) -> Result<()>
         ensures same_reference { self.new.env.ghost_name ≡ self.old.env.ghost_name }
         ensures options { self.new.state.options ≡ self.old.state.options }
-        ensures halted { IsHalted self.old.state.mode self.old.state.writer → (self.new.env.now ≡ self.old.env.now) × (self.new.state ≡ self.old.state) × OnOk result ⊥ }
+        ensures halted { IsHalted self.old.state.mode self.old.state.writer → (self.new.env.now ≡ self.old.env.now) × (self.new.state ≡ self.old.state) × IsErrAnd result (HaltedBy self.old.state.mode self.old.state.writer) }
+        ensures breaks { E.failures self.old.env.now < E.failures self.new.env.now → IsHalted self.new.state.mode self.new.state.writer }
         ensures stays { IsTrue self.new.state.writer.broken ⊎ (self.new.state.mode ≡ self.old.state.mode) }
         ensures step { Answers E.Env (C.cmp self.old.state.options.cmp) (Some self.old.state) self.old.env.now
             (write (item_of key.now (Some value.now) ∷ []) false) (done_or result) (Some self.new.state) self.new.env.now }
@@ -95,7 +99,8 @@ impl<'e, E: Env, C: UserCmp + Copy, FP: FilterPolicy + Copy> Store<'e, E, Engine
     pub fn delete(&mut self, key: &[u8]) -> Result<()>
         ensures same_reference { self.new.env.ghost_name ≡ self.old.env.ghost_name }
         ensures options { self.new.state.options ≡ self.old.state.options }
-        ensures halted { IsHalted self.old.state.mode self.old.state.writer → (self.new.env.now ≡ self.old.env.now) × (self.new.state ≡ self.old.state) × OnOk result ⊥ }
+        ensures halted { IsHalted self.old.state.mode self.old.state.writer → (self.new.env.now ≡ self.old.env.now) × (self.new.state ≡ self.old.state) × IsErrAnd result (HaltedBy self.old.state.mode self.old.state.writer) }
+        ensures breaks { E.failures self.old.env.now < E.failures self.new.env.now → IsHalted self.new.state.mode self.new.state.writer }
         ensures stays { IsTrue self.new.state.writer.broken ⊎ (self.new.state.mode ≡ self.old.state.mode) }
         ensures step { Answers E.Env (C.cmp self.old.state.options.cmp) (Some self.old.state) self.old.env.now
             (write (item_of key.now None ∷ []) false) (done_or result) (Some self.new.state) self.new.env.now }
@@ -110,7 +115,8 @@ impl<'e, E: Env, C: UserCmp + Copy, FP: FilterPolicy + Copy> Store<'e, E, Engine
     pub fn write(&mut self, batch: WriteBatch, sync: bool) -> Result<()>
         ensures same_reference { self.new.env.ghost_name ≡ self.old.env.ghost_name }
         ensures options { self.new.state.options ≡ self.old.state.options }
-        ensures halted { IsHalted self.old.state.mode self.old.state.writer → (self.new.env.now ≡ self.old.env.now) × (self.new.state ≡ self.old.state) × OnOk result ⊥ }
+        ensures halted { IsHalted self.old.state.mode self.old.state.writer → (self.new.env.now ≡ self.old.env.now) × (self.new.state ≡ self.old.state) × IsErrAnd result (HaltedBy self.old.state.mode self.old.state.writer) }
+        ensures breaks { E.failures self.old.env.now < E.failures self.new.env.now → IsHalted self.new.state.mode self.new.state.writer }
         ensures stays { IsTrue self.new.state.writer.broken ⊎ (self.new.state.mode ≡ self.old.state.mode) }
         ensures step { Answers E.Env (C.cmp self.old.state.options.cmp) (Some self.old.state) self.old.env.now
             (write batch.items sync) (done_or result) (Some self.new.state) self.new.env.now }
@@ -124,7 +130,8 @@ impl<'e, E: Env, C: UserCmp + Copy, FP: FilterPolicy + Copy> Store<'e, E, Engine
     pub fn flush(&mut self) -> Result<()>
         ensures same_reference { self.new.env.ghost_name ≡ self.old.env.ghost_name }
         ensures options { self.new.state.options ≡ self.old.state.options }
-        ensures halted { IsHalted self.old.state.mode self.old.state.writer → (self.new.env.now ≡ self.old.env.now) × (self.new.state ≡ self.old.state) × OnOk result ⊥ }
+        ensures halted { IsHalted self.old.state.mode self.old.state.writer → (self.new.env.now ≡ self.old.env.now) × (self.new.state ≡ self.old.state) × IsErrAnd result (HaltedBy self.old.state.mode self.old.state.writer) }
+        ensures ended { OnErr result (IsHalted self.new.state.mode self.new.state.writer) }
         ensures stays { IsTrue self.new.state.writer.broken ⊎ (self.new.state.mode ≡ self.old.state.mode) }
         ensures step { Answers E.Env (C.cmp self.old.state.options.cmp) (Some self.old.state) self.old.env.now
             flush (done_or result) (Some self.new.state) self.new.env.now }
@@ -137,12 +144,11 @@ impl<'e, E: Env, C: UserCmp + Copy, FP: FilterPolicy + Copy> Store<'e, E, Engine
     /// The key's value, or none where it has none.
     pub fn get(&mut self, key: &[u8]) -> Result<Option<Bytes>>
         ensures same_reference { self.new.env.ghost_name ≡ self.old.env.ghost_name }
-        ensures options { self.new.state.options ≡ self.old.state.options }
-        ensures shut { IsShut self.old.state.mode → OnOk result ⊥ }
+        ensures still { (self.new.env.now ≡ self.old.env.now) × (self.new.state ≡ self.old.state) }
+        ensures shut { IsShut self.old.state.mode → IsErrAnd result (ShutOut self.old.state.mode) }
         ensures step { Answers E.Env (C.cmp self.old.state.options.cmp) (Some self.old.state) self.old.env.now
             (get None key.now) (found_or result) (Some self.new.state) self.new.env.now }
         ensures cause { IfErr result (GetExcused self.old.state.mode key.now) }
-        ensures count { E.failures self.new.env.now ≡ E.failures self.old.env.now }
     {
         self.state.get(key)
     }
@@ -151,7 +157,8 @@ impl<'e, E: Env, C: UserCmp + Copy, FP: FilterPolicy + Copy> Store<'e, E, Engine
     pub fn close(&mut self) -> Result<()>
         ensures same_reference { self.new.env.ghost_name ≡ self.old.env.ghost_name }
         ensures options { self.new.state.options ≡ self.old.state.options }
-        ensures halted { IsHalted self.old.state.mode self.old.state.writer → (self.new.env.now ≡ self.old.env.now) × (self.new.state ≡ self.old.state) × OnOk result ⊥ }
+        ensures halted { IsHalted self.old.state.mode self.old.state.writer → (self.new.env.now ≡ self.old.env.now) × (self.new.state ≡ self.old.state) × IsErrAnd result (HaltedBy self.old.state.mode self.old.state.writer) }
+        ensures ended { OnOk result (IsShut self.new.state.mode) × OnErr result (IsHalted self.new.state.mode self.new.state.writer) }
         ensures step { Answers E.Env (C.cmp self.old.state.options.cmp) (Some self.old.state) self.old.env.now
             close (done_or result) (Some self.new.state) self.new.env.now }
         ensures cause { HasCause (CloseExcused E.Env self.old.state self.old.env.now self.new.env.now)
@@ -160,10 +167,11 @@ impl<'e, E: Env, C: UserCmp + Copy, FP: FilterPolicy + Copy> Store<'e, E, Engine
         self.state.close(&mut *self.env)
     }
 
-    /// Gives back the lock, where `close` hasn't. Nothing is synced.
+    /// Gives back the lock, where `close` hasn't. Nothing is synced; a closed store does nothing.
     pub fn abandon(self) -> Result<()>
         ensures step { Answers E.Env (C.cmp self.entry.state.options.cmp) (Some self.entry.state) self.entry.env.now
             abandon (done_or result) None self.exit.0.now }
+        ensures shut { IsShut self.entry.state.mode → (self.exit.0.now ≡ self.entry.env.now) × OnErr result ⊥ }
         ensures cause { HasCause (λ _. ⊥) (E.failures self.entry.env.now) (E.failures self.exit.0.now) result }
     {
         let Store { env, state } = self;

@@ -1,5 +1,5 @@
 //! Writing to a store: batches, and syncs of its log.
-ghost use Rattle.std.specs.Prelude.{◌≡◌, ◌∷◌, [], ℕ, if◌then◌else◌, Some, None, false, IfOk, IfErr, OnOk, OnErr, ◌⊎◌, IsTrue};
+ghost use Rattle.std.specs.Prelude.{◌≡◌, ◌<◌, ◌∷◌, [], ℕ, if◌then◌else◌, Some, None, false, IfOk, IfErr, OnOk, OnErr, IsErrAnd, ◌⊎◌, IsTrue};
 ghost use Rattle.leveldb_env.specs.Calls.{HasCause};
 ghost use Rattle.leveldb_env.specs.Disk.{AreBytes};
 ghost use Rattle.leveldb_env.specs.OpenFiles.{opened, Appends, Syncs};
@@ -7,7 +7,7 @@ ghost use Rattle.leveldb_mem.specs.Batch.{item_of};
 ghost use Rattle.leveldb_mem.specs.Writing.{Adds, Refuses, Flushes};
 ghost use Rattle.rusty_leveldb.specs.State.{write, flush};
 ghost use Rattle.rusty_leveldb.specs.Serves.{done_or};
-ghost use Rattle.rusty_leveldb.specs.Engine.{IsHalted, Answers, WriteExcused, SyncExcused};
+ghost use Rattle.rusty_leveldb.specs.Engine.{IsHalted, HaltedBy, Answers, WriteExcused, SyncExcused};
 
 use super::engine::{Engine, Mode, check_open};
 use leveldb_base::cmp::UserCmp;
@@ -21,7 +21,8 @@ impl<E: Env, C: UserCmp + Copy, FP: FilterPolicy + Copy> Engine<E, C, FP> {
     /// Gives the key this value, without a sync.
     pub fn put(&mut self, env: &mut E, key: &[u8], value: &[u8]) -> Result<()>
         ensures options { self.new.options ≡ self.old.options }
-        ensures halted { IsHalted self.old.mode self.old.writer → (env.new ≡ env.old) × (self.new ≡ self.old) × OnOk result ⊥ }
+        ensures halted { IsHalted self.old.mode self.old.writer → (env.new ≡ env.old) × (self.new ≡ self.old) × IsErrAnd result (HaltedBy self.old.mode self.old.writer) }
+        ensures breaks { E.failures env.old < E.failures env.new → IsHalted self.new.mode self.new.writer }
         ensures stays { IsTrue self.new.writer.broken ⊎ (self.new.mode ≡ self.old.mode) }
         ensures step { Answers E.Env (C.cmp self.old.options.cmp) (Some self.old) env.old
             (write (item_of key.now (Some value.now) ∷ []) false) (done_or result) (Some self.new) env.new }
@@ -37,7 +38,8 @@ impl<E: Env, C: UserCmp + Copy, FP: FilterPolicy + Copy> Engine<E, C, FP> {
     /// Deletes the key, without a sync.
     pub fn delete(&mut self, env: &mut E, key: &[u8]) -> Result<()>
         ensures options { self.new.options ≡ self.old.options }
-        ensures halted { IsHalted self.old.mode self.old.writer → (env.new ≡ env.old) × (self.new ≡ self.old) × OnOk result ⊥ }
+        ensures halted { IsHalted self.old.mode self.old.writer → (env.new ≡ env.old) × (self.new ≡ self.old) × IsErrAnd result (HaltedBy self.old.mode self.old.writer) }
+        ensures breaks { E.failures env.old < E.failures env.new → IsHalted self.new.mode self.new.writer }
         ensures stays { IsTrue self.new.writer.broken ⊎ (self.new.mode ≡ self.old.mode) }
         ensures step { Answers E.Env (C.cmp self.old.options.cmp) (Some self.old) env.old
             (write (item_of key.now None ∷ []) false) (done_or result) (Some self.new) env.new }
@@ -54,7 +56,8 @@ impl<E: Env, C: UserCmp + Copy, FP: FilterPolicy + Copy> Engine<E, C, FP> {
     /// A failed append or sync breaks the store: the batch isn't seen, and may be there when the store is opened again.
     pub fn write(&mut self, env: &mut E, batch: WriteBatch, sync: bool) -> Result<()>
         ensures options { self.new.options ≡ self.old.options }
-        ensures halted { IsHalted self.old.mode self.old.writer → (env.new ≡ env.old) × (self.new ≡ self.old) × OnOk result ⊥ }
+        ensures halted { IsHalted self.old.mode self.old.writer → (env.new ≡ env.old) × (self.new ≡ self.old) × IsErrAnd result (HaltedBy self.old.mode self.old.writer) }
+        ensures breaks { E.failures env.old < E.failures env.new → IsHalted self.new.mode self.new.writer }
         ensures stays { IsTrue self.new.writer.broken ⊎ (self.new.mode ≡ self.old.mode) }
         ensures step { Answers E.Env (C.cmp self.old.options.cmp) (Some self.old) env.old
             (write batch.items sync) (done_or result) (Some self.new) env.new }
@@ -76,7 +79,8 @@ impl<E: Env, C: UserCmp + Copy, FP: FilterPolicy + Copy> Engine<E, C, FP> {
     /// Makes a crash keep all batches.
     pub fn flush(&mut self, env: &mut E) -> Result<()>
         ensures options { self.new.options ≡ self.old.options }
-        ensures halted { IsHalted self.old.mode self.old.writer → (env.new ≡ env.old) × (self.new ≡ self.old) × OnOk result ⊥ }
+        ensures halted { IsHalted self.old.mode self.old.writer → (env.new ≡ env.old) × (self.new ≡ self.old) × IsErrAnd result (HaltedBy self.old.mode self.old.writer) }
+        ensures ended { OnErr result (IsHalted self.new.mode self.new.writer) }
         ensures stays { IsTrue self.new.writer.broken ⊎ (self.new.mode ≡ self.old.mode) }
         ensures step { Answers E.Env (C.cmp self.old.options.cmp) (Some self.old) env.old flush (done_or result) (Some self.new) env.new }
         ensures cause { HasCause (SyncExcused E.Env self.old env.old) (E.failures env.old) (E.failures env.new) result }
@@ -85,7 +89,7 @@ impl<E: Env, C: UserCmp + Copy, FP: FilterPolicy + Copy> Engine<E, C, FP> {
         self.sync(env)
     }
 
-    // Appends a record to the log. An append that the device fails breaks the store.
+    // Appends a record to the log. An append that was refused once it had begun breaks the store.
     fn append(&mut self, env: &mut E, text: &[u8]) -> Result<()>
         ensures rest { self.new ≡ record self.old { log = self.new.log; writer = self.new.writer; mode = self.new.mode } }
         ensures bytes { AreBytes text.now }

@@ -33,8 +33,9 @@ pub fn run<E: Env, C: UserCmp + Copy, FP: FilterPolicy + Copy>(
     ensures plays { PlaysAlways C FP E.Env (C.cmp opt.cmp) name.now env.old opt.create_if_missing commands.now
         (drop (length replies.old.items) replies.new.items) result env.new }
     ensures behind { (given : List Reply) × (replies.new.items ≡ replies.old.items ++ given) × OnOk result (length given ≡ length commands.now) }
-    ensures misnamed { (IsStoreName name.now → ⊥) → (env.new ≡ env.old) × OnOk result ⊥ }
-    ensures unopened { IsTrue E.tells_disk → NeverOpens name.now opt.create_if_missing (E.tells env.old).disk → IsUnopened E.Env name.now opt.create_if_missing env.old result env.new }
+    ensures misnamed { (IsStoreName name.now → ⊥) → (env.new ≡ env.old) × (replies.new.items ≡ replies.old.items) × OnOk result ⊥ }
+    ensures unopened { IsTrue E.tells_disk → NeverOpens name.now opt.create_if_missing (E.tells env.old).disk
+        → (replies.new.items ≡ replies.old.items) × IsUnopened E.Env name.now opt.create_if_missing env.old result env.new }
     ensures later { E.failures env.old ≤ E.failures env.new }
     ensures cause { IfErr result (λ status. OpenExcused E.tells_disk name.now opt.create_if_missing (E.tells env.old) status
         ⊎ HasFailed (E.failures env.old) (E.failures env.new)) }

@@ -1,10 +1,10 @@
 -- A write at each of its exits: no number is left, no memory, a refused append, a refused sync, and done with a sync or without.
-use Rattle.std.proofs.Common.{◌≡◌, ◌+◌, ◌∙◌, ap}
+use Rattle.std.proofs.Common.{◌≡◌, ◌+◌, ◌∙◌, ap, inl, inr, arith}
 use Rattle.std.proofs.lemmas.Result.{err_from_is_err_and}
 use Rattle.leveldb_mem.specs.Batch.{batch_of}
 use Rattle.rusty_leveldb.proofs.Writes.Kept.{prepared_was, used_up_goes, memory_goes}
 use Rattle.rusty_leveldb.proofs.Writes.Append.{IsNext}
-use Rattle.rusty_leveldb.proofs.Writes.Causes.{append_cause, append_counted, still_sound, sync_cause, sync_counted, done_cause}
+use Rattle.rusty_leveldb.proofs.Writes.Causes.{append_cause, append_breaks, append_counted, still_sound, sync_cause, sync_counted, done_cause}
 use Rattle.rusty_leveldb.proofs.Writes.Shut.{not_halted}
 use Rattle.rusty_leveldb.proofs.Writes.Write.{batch_behind, is_next, follows, refused_append, refused_sync, done_plain, done_with_sync, last_plain, last_synced, options_plain, options_synced, stays_plain, stays_synced, stays_refused}
 use Rattle.rusty_leveldb.proofs.db_impl.engine.Engine.write.Goals as goal
@@ -109,3 +109,15 @@ returns-in_err-sync-clause-halted g c = λ halted. absurd (not_halted c.args.sel
 
 pub returns-clause-halted : goal.returns-clause-halted
 returns-clause-halted g c = λ halted. absurd (not_halted c.args.self.now.mode c.args.self.now.writer c.in_ok-check_open.ensures.ok.0 c.in_ok-check_open.ensures.ok.1 halted)
+
+pub returns-in_err-append-clause-breaks : goal.returns-in_err-append-clause-breaks
+returns-in_err-append-clause-breaks g c = λ more.
+    let next : IsNext c.args.self.now.recent.last c.args.batch.items c.contents.result.now = is_next c.args.self.now.recent.last c.in_ok-first.first c.count.result c.args.batch.items c.set_sequence.new.self c.contents.result.now c.in_ok-first.ensures.ok.0 c.in_ok-first.ensures.ok.1 c.in_ok-first.ensures.ok.2 c.count.ensures c.set_sequence.ensures c.contents.ensures c.append.ensures.bytes in
+    inr (inr (append_breaks g.E.Env c.args.self.now c.args.env.now c.in_ok-check_open.ensures.ok.0 c.in_ok-check_open.ensures.ok.1 c.args.batch.items c.contents.result.now next c.in_err-append.field-0.0
+    c.append.new.self.writer c.append.new.self.log c.append.new.env (c.in_err-append.ensures.err c.in_ok-check_open.ensures.ok.1) more))
+
+pub returns-in_err-sync-clause-breaks : goal.returns-in_err-sync-clause-breaks
+returns-in_err-sync-clause-breaks g c = λ more. inr (inl c.in_err-sync.ensures.mode_err)
+
+pub returns-clause-breaks : goal.returns-clause-breaks
+returns-clause-breaks g c = λ more. absurd (omega (arith, more, (returns-clause-cause g c).ok))
