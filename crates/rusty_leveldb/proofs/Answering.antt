@@ -68,8 +68,7 @@ played env folder commands from to held holds old new told create ended (Ok done
     let P : List Reply → Type 0 = λ list. PlaysAlways DefaultCmp ℕ env bytewise folder from create commands list (Ok tt) to in
     let Q : Bool → Type 0 = λ b. PlaysAlways DefaultCmp ℕ env bytewise folder from b commands given (Ok tt) to in
     let R : Bool → Type 0 = λ b. IsTrue env.tells_disk → NeverOpens folder b (env.tells from).disk → (given ≡ []) × IsUnopened env folder b from (Ok tt) to in
-    let T : List Reply → Type 0 = λ list. Appends held holds (reply_lines list) in
-    (
+    let T : List Reply → Type 0 = λ list. Appends held holds (reply_lines list) in (
       given,
       behind.2,
       (subst Q creates (subst P replies plays), subst R creates (λ tells never. absurd (unopened tells never).1), λ no. absurd (misnamed no).2),

@@ -54,6 +54,7 @@ module _ {E C FP F I : Type 0} {D : I → Type 0} (env : Ghosts E F) (cmp : List
     step = record { later = omega arith; step = subst (λ mode. StepIn cmp mode faults old (write items sync) (refused (refusal_of status)) old) (sym (is_open store disk old represents.memory_is)) (⊎_elim for_memory for_length why) };
     files = spared_still (write items sync) (refused (refusal_of status)) old old (env.tells at).disk.files;
     others = others_still store (env.tells at).disk;
+    beside = λ opens_not path differs. refl;
   }
     where
       disk : Disk

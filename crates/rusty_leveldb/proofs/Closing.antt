@@ -25,7 +25,7 @@ use Rattle.rusty_leveldb.specs.Machine.{StepIn, Responds}
 use Rattle.rusty_leveldb.specs.Serves.{Reads, SameBytes, StandsFor, Represents, done_or, refusal_of, faults_between}
 use Rattle.rusty_leveldb.specs.Engine.{Recalls, WritesOn, mode_of, Answers}
 use Rattle.rusty_leveldb.proofs.Ended.{broke, ended, broke_still, ended_still, broke_covered, ended_covered}
-use Rattle.rusty_leveldb.proofs.Others.{but_same, others_with, others_but_log, others_still, spared_still, bytes_same, bytes_synced}
+use Rattle.rusty_leveldb.proofs.Others.{beside_but, but_same, others_with, others_but_log, others_still, spared_still, bytes_same, bytes_synced}
 
 -- ---- causes
 
@@ -121,6 +121,7 @@ module _ {E C FP F I : Type 0} {D : I → Type 0} (env : Ghosts E F) (cmp : List
         };
         files = record { untouched = λ never. absurd never; refused = λ never. absurd never; stopped = λ not_open takes. absurd (not_open mode); bytes = λ syncing. bytes_same (env.tells at).disk.files (env.tells now).disk.files (syncs.undone told) };
         others = others_but_log store (env.tells at).disk (env.tells now).disk (but_same (log_path store) (env.tells at).disk.files (env.tells now).disk.files (syncs.undone told)) (syncs.locks told);
+        beside = λ opens_not. beside_but store (env.tells at).disk.files (env.tells now).disk.files (but_same (log_path store) (env.tells at).disk.files (env.tells now).disk.files (syncs.undone told));
       }
 
   -- an engine that was closed remembers that alone
@@ -187,6 +188,7 @@ module _ {E C FP F I : Type 0} {D : I → Type 0} (env : Ghosts E F) (cmp : List
           };
           files = record { untouched = λ never. absurd never; refused = λ never. absurd never; stopped = λ not_open takes. absurd (not_open is); bytes = λ syncing. synced_bytes told store old represents (does.now told) };
           others = others_but_log store (env.tells at).disk (env.tells now).disk (but_log told store old represents (does.now told)) (relocks told ∙ flushed.flushed.locks told);
+          beside = λ opens_not. beside_but store (env.tells at).disk.files (env.tells now).disk.files (but_log told store old represents (does.now told));
         }
 
     -- it was done: the store is closed
@@ -211,6 +213,7 @@ module _ {E C FP F I : Type 0} {D : I → Type 0} (env : Ghosts E F) (cmp : List
               (λ name differs. ap (λ (locked : List ℕ → Bool). locked name) (relocks told)
               ∙ freed_other lock name (env.tells mid).disk.locked (λ e. differs (e ∙ same_lock told store old represents (does.now told)))
               ∙ ap (λ (locked : List ℕ → Bool). locked name) (flushed.flushed.locks told));
+          beside = λ opens_not. beside_but store (env.tells at).disk.files (env.tells now).disk.files (but_log told store old represents (does.now told));
         }
 
   -- ---- a store that is abandoned
@@ -225,6 +228,7 @@ module _ {E C FP F I : Type 0} {D : I → Type 0} (env : Ghosts E F) (cmp : List
         step = record { later = omega arith; step = subst (λ m. StepIn cmp m (faults_between (env.failures at) (env.failures at)) old abandon done old) (sym is) (refl, refl) };
         files = spared_still abandon done old old (env.tells at).disk.files;
         others = others_still store (env.tells at).disk;
+        beside = λ opens_not path apart. refl;
       }
 
   module _ (before : Engine E C FP F I D) (at now : E) (differs : before.mode ≡ Closed → ⊥) (lock : List ℕ) (lock_is : lock ≡ string_bytes before.lock) where
@@ -247,6 +251,7 @@ module _ {E C FP F I : Type 0} {D : I → Type 0} (env : Ghosts E F) (cmp : List
           };
           files = record { untouched = λ touches. does.now told; refused = λ never. absurd never; stopped = λ not_open takes. does.now told; bytes = λ never. absurd never };
           others = others_but_log store (env.tells at).disk (env.tells now).disk (but_same (log_path store) (env.tells at).disk.files (env.tells now).disk.files (does.now told)) (relocks told);
+          beside = λ opens_not. beside_but store (env.tells at).disk.files (env.tells now).disk.files (but_same (log_path store) (env.tells at).disk.files (env.tells now).disk.files (does.now told));
         }
 
     -- the lock is free
@@ -270,6 +275,7 @@ module _ {E C FP F I : Type 0} {D : I → Type 0} (env : Ghosts E F) (cmp : List
           files = record { untouched = λ touches. does.now told; refused = λ never. absurd never; stopped = λ not_open takes. does.now told; bytes = λ never. absurd never };
           others = others_with store (env.tells at).disk (env.tells now).disk (but_same (log_path store) (env.tells at).disk.files (env.tells now).disk.files (does.now told))
               (λ name apart. ap (λ (locked : List ℕ → Bool). locked name) (relocks told) ∙ freed_other lock name (env.tells at).disk.locked (λ e. apart (e ∙ same_lock)));
+          beside = λ opens_not. beside_but store (env.tells at).disk.files (env.tells now).disk.files (but_same (log_path store) (env.tells at).disk.files (env.tells now).disk.files (does.now told));
         }
 
     -- either

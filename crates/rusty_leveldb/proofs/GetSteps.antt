@@ -62,6 +62,7 @@ module _ {E C FP F I : Type 0} {D : I → Type 0} (env : Ghosts E F) (cmp : List
     step = record { later = omega arith; step = stays store (env.tells at).disk old represents.disk_is.is_state represents.memory_is _ };
     files = spared_still (get None key) answer old old (env.tells at).disk.files;
     others = others_still store (env.tells at).disk;
+    beside = λ opens_not path differs. refl;
   }
 
   -- a store that isn't closed responds in either mode

@@ -49,6 +49,10 @@ kept_then was mid now first second = ⊎_elim
 
 -- ---- what isn't the store's
 
+-- all but the log is as it was
+pub beside_but : (store : List ℕ) (old files : Files) → SameBut (log_path store) old files → (path : List ℕ) → path ≢ log_path store → files path ≡ old path
+beside_but store old files but path differs = but path (apart (log_path store) path differs)
+
 -- files that are as they were are so but for a name
 pub but_same : (name : List ℕ) (old files : Files) → files ≡ old → SameBut name old files
 but_same name old files is other differs = ap (λ (f : Files). f other) is

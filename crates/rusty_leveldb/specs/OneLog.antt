@@ -14,7 +14,7 @@ max_sequence = 2 ^ 56 - 1
 abbrev pub log_path : List ℕ → List ℕ
 log_path store = in_folder store (codes "000003.log")
 
--- what takes its place where it is mended
+-- the path of the file that takes its place where it is mended
 abbrev pub temp_path : List ℕ → List ℕ
 temp_path store = in_folder store (codes "000003.dbtmp")
 

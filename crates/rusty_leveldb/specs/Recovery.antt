@@ -39,15 +39,16 @@ pub record IsKeptLog (records : List (List ℕ)) (now : Option File) : Type 0 wh
   pub since : file.since ≡ []
   pub read : IsLogFile (bytes_of file) records clean
 
--- the log is as it was, or has the records that were found there, ends cleanly, and all its bytes are kept
+-- The log is as it was, or has the records that were found there, ends cleanly, and all its bytes are kept. One that ended cleanly has its bytes.
 abbrev pub SparesLog : Bool → Option File → Option File → Type 0
-SparesLog create was now = (now ≡ was) ⊎ ((records : List (List ℕ)) × (end : End) × IsFoundAs create was records end × IsKeptLog records now)
+SparesLog create was now = (now ≡ was) ⊎ ((records : List (List ℕ)) × (end : End) × IsFoundAs create was records end × IsKeptLog records now
+    × (end ≡ clean → now ≡ Some (kept_log was)))
 
 -- the log has no reading, or is missing and isn't to be made
 abbrev pub IsUnusable : Bool → Option File → Type 0
 IsUnusable create was = ((contents : Contents) → IsRead was contents → ⊥) ⊎ ((create ≡ false) × (was ≡ None))
 
--- no store is opened there: its lock is held, or its log is unusable
+-- a disk on which this store isn't opened: its lock is held, or its log is unusable
 abbrev pub NeverOpens : List ℕ → Bool → Disk → Type 0
 NeverOpens name create disk = IsTrue (disk.locked (lock_path name)) ⊎ IsUnusable create (disk.files (log_path name))
 
@@ -55,13 +56,13 @@ NeverOpens name create disk = IsTrue (disk.locked (lock_path name)) ⊎ IsUnusab
 abbrev pub ChangesLogAlone : List ℕ → Files → Files → Type 0
 ChangesLogAlone name before after = (path : List ℕ) → path ≢ log_path name → path ≢ temp_path name → after path ≡ before path
 
--- the device failed once more than the refusal itself says
+-- beside what the refusal tells, at least one more call of the device failed, or the count stands at its greatest
 abbrev pub FailedBeside : Type 0 → ℕ → ℕ → Type 0
 FailedBeside excused before now = (excused × (before < now)) ⊎ (before + 2 ≤ now) ⊎ (now ≡ 2 ^ 64 - 1)
 
--- What a refused opening leaves, whatever stands under the store's name: its log as it was, or with the records that were found
--- there; where no store is opened, all files, but that the lock's may be made; its lock as it was, or held, where giving it back
--- was refused, too; and what isn't the store's.
+-- What a refused opening leaves, whatever stands under the store's name. The log is as it was, or has the records that were found there. A
+-- store that is never opened keeps all its files, but that the lock's may be made. Its lock is as it was, or is held where giving it back
+-- was refused, too. What isn't the store's is as it was.
 pub record StaysUnopened (name : List ℕ) (create : Bool) (old new : Told) (before now : ℕ) (e : Status) : Type 0 where
   pub log : SparesLog create (old.disk.files (log_path name)) (new.disk.files (log_path name))
   pub untouched : NeverOpens name create old.disk → EitherSide (created (lock_path name)) old.disk.files new.disk.files

@@ -60,7 +60,7 @@ pub record IsConversation (requests : List Request) (answers : List Answer) (eve
 
 -- ---- what befalls the files
 
--- a request that changes no file: it reads, or gives something back
+-- a request that changes no file: a read, a snapshot given or released, or `abandon`
 abbrev pub TouchesNoFile : Request → Type 0
 TouchesNoFile (get at key) = Unit {0}
 TouchesNoFile (walk at moves) = Unit {0}
@@ -89,8 +89,8 @@ IsRefused answer = ⊥
 abbrev pub SameBytes : Files → Files → Type 0
 SameBytes before after = (path : List ℕ) → option_map bytes_of (after path) ≡ option_map bytes_of (before path)
 
--- The files stay as they are where a request touches none, where a write or flush is refused and leaves the store open, and where the
--- store isn't open and isn't to be opened. A flush and a close leave their bytes.
+-- No file changes where the request touches none, where a write or flush is refused and the store stays open, and where the store isn't
+-- open and this is no opening. Behind a flush or a close each file has the bytes that it had.
 pub record SparesFiles (request : Request) (answer : Answer) (old new : State) (before after : Files) : Type 0 where
   pub untouched : TouchesNoFile request → after ≡ before
   pub refused : IsLogging request → IsRefused answer → new.mode ≡ open_mode → after ≡ before
@@ -101,8 +101,8 @@ pub record SparesFiles (request : Request) (answer : Answer) (old new : State) (
 abbrev pub IsKeptOrMade : Option File → Option File → Type 0
 IsKeptOrMade before after = (after ≡ before) ⊎ (after ≡ or_empty before)
 
--- What isn't the store's stays as it is: files under other names than the log's, that of what takes its place, and the lock's, and all
--- other locks. The lock's file is kept, or made.
+-- Files that are neither the log, nor what takes its place, nor the lock's, stay as they are, and so does every other lock. The lock's file
+-- stays, or is made where it is missing.
 pub record SparesOthers (store : List ℕ) (before after : Disk) : Type 0 where
   pub files : (path : List ℕ) → path ≢ log_path store → path ≢ temp_path store → path ≢ lock_path store → after.files path ≡ before.files path
   pub lock_file : IsKeptOrMade (before.files (lock_path store)) (after.files (lock_path store))
@@ -146,13 +146,15 @@ module _ (store : List ℕ) (reads : Files → Contents → Type 0) where
       pub memory_is : Remembers memory disk state
 
     module _ (cmp : List ℕ → List ℕ → Ordering) where
-      -- from this state, a step to one for which memory and disk stand then; what isn't the store's stays as it is
+      -- From this state, a step to one for which memory and disk stand then; what isn't the store's stays as it is, and but for an opening
+      -- the log alone is touched.
       pub record Goes (from : Scene M) (request : Request) (answer : Answer) (to : Scene M) (old : State) : Type 0 where
         pub new : State
         pub represents : Represents to.0 to.1.disk new
         pub step : Step cmp (faults_between from.2 to.2) old request answer new
         pub files : SparesFiles request answer old new from.1.disk.files to.1.disk.files
         pub others : SparesOthers store from.1.disk to.1.disk
+        pub beside : (TakesLock request → ⊥) → (path : List ℕ) → path ≢ log_path store → to.1.disk.files path ≡ from.1.disk.files path
 
       -- the same, safe at each moment
       pub record GoesSafely (from : Scene M) (request : Request) (answer : Answer) (to : Scene M) (old : State) : Type 0 where

@@ -46,7 +46,7 @@ module _ {E F : Type 0} (C FP : Type 0) {I : Type 0} {D : I → Type 0} (env : G
   abbrev pub Leads : E → List Request → List Answer → Option (Engine E C FP F I D) → E → State → Type 0
   Leads from requests answers engine to old = Runs store (Reads store) (Recalls env store) cmp (scene {C = C} {FP = FP} {I = I} {D = D} env cmp None from) requests answers (scene env cmp engine to) old
 
--- a run that was refused, as an opening is
+-- the run was refused, and leaves what a refused opening leaves
 abbrev pub IsUnopened : {E F : Type 0} → Ghosts E F → List ℕ → Bool → E → Result (Unit {0}) Status → E → Type 0
 IsUnopened env name create from ended to = IsErrAnd ended (StaysUnopened name create (env.tells from) (env.tells to) (env.failures from) (env.failures to))
 

@@ -55,7 +55,7 @@ module _ (create : Bool) (first read mid now : Files) (name path : List ℕ) (te
   since_first is = subst (λ (f : Files). mid name ≡ (if is_clean then f name else Some (framed_file records))) still is
 
   -- while it is mended
-  pub mend_spares : (mid name ≡ read name) ⊎ (mid name ≡ Some (framed_file records)) → SparesLog create (first path) (mid path)
+  pub mend_spares : (mid name ≡ read name) ⊎ ((is_clean ≡ false) × (mid name ≡ Some (framed_file records))) → SparesLog create (first path) (mid path)
   mend_spares either = subst (λ p. SparesLog create (first p) (mid p)) named
       (mending_spares create (first name) records is_clean has are (mid name) (⊎_elim (λ s. inl (s ∙ ap (λ (f : Files). f name) still)) (λ k. inr k) either))
 

@@ -47,6 +47,15 @@ found_batches create (Some file) records end contents found read =
     let same = (log_laws.one (bytes_of file) read.1.records records read.1.end end read.1.read found).0 in
     subst AreBatches same (record { batches = read.0; each = read.1.each; order = read.1.order })
 
+-- an end is clean just where it was found to be
+not_clean : (b : Bool) → b ≡ false → (if b then clean else bad) ≡ clean → ⊥
+not_clean true is ends = cc
+not_clean false is ends = cc
+
+is_so : (b : Bool) → (if b then clean else bad) ≡ clean → b ≡ true
+is_so true ends = refl
+is_so false ends = absurd (cc)
+
 -- ---- the steps of an opening
 
 module _ (create : Bool) (was : Option File) (records : List (List ℕ)) (is_clean : Bool) (found : IsFoundAs create was records (if is_clean then clean else bad)) (are : AreBatches records) where
@@ -60,19 +69,31 @@ module _ (create : Bool) (was : Option File) (records : List (List ℕ)) (is_cle
       by_end false o f = kept_reads (framed_file records) records clean (framed_reads records are)
 
   -- mending spares the log
-  pub mending_spares : (mid : Option File) → (mid ≡ was) ⊎ (mid ≡ Some (framed_file records)) → SparesLog create was mid
+  pub mending_spares : (mid : Option File) → (mid ≡ was) ⊎ ((is_clean ≡ false) × (mid ≡ Some (framed_file records))) → SparesLog create was mid
   mending_spares mid either = ⊎_elim (λ same. inl same)
-      (λ is. inr (records, (if is_clean then clean else bad), found, record { file = framed_file records; there = is; since = refl; read = framed_reads records are })) either
+      (λ torn. inr (
+        records,
+        (if is_clean then clean else bad),
+        found,
+        record { file = framed_file records; there = torn.1; since = refl; read = framed_reads records are },
+        λ ends. absurd (not_clean is_clean torn.0 ends),
+      )) either
 
-  mended_either : (b : Bool) (mid : Option File) → mid ≡ (if b then was else Some (framed_file records)) → (mid ≡ was) ⊎ (mid ≡ Some (framed_file records))
+  mended_either : (b : Bool) (mid : Option File) → mid ≡ (if b then was else Some (framed_file records)) → (mid ≡ was) ⊎ ((b ≡ false) × (mid ≡ Some (framed_file records)))
   mended_either true mid is = inl is
-  mended_either false mid is = inr is
+  mended_either false mid is = inr (refl, is)
 
   -- and so does opening it then
   pub opening_spares : (mid now : Option File) → mid ≡ (if is_clean then was else Some (framed_file records)) → (now ≡ mid) ⊎ (now ≡ Some (kept_log mid)) → SparesLog create was now
   opening_spares mid now is either = ⊎_elim
       (λ same. subst (SparesLog create was) (sym same) (mending_spares mid (mended_either is_clean mid is)))
-      (λ kept. inr (records, (if is_clean then clean else bad), found, record { file = kept_log mid; there = kept; since = kept_since mid; read = mended_reads mid is })) either
+      (λ kept. inr (
+        records,
+        (if is_clean then clean else bad),
+        found,
+        record { file = kept_log mid; there = kept; since = kept_since mid; read = mended_reads mid is },
+        λ ends. kept ∙ ap (λ m. Some (kept_log m)) (is ∙ ap (λ (b : Bool). if b then was else Some (framed_file records)) (is_so is_clean ends)),
+      )) either
 
   -- an opened log is recovered
   pub opened_recovers : (mid now : Option File) (size : ℕ) (writer : Writing) (recent : Numbered) → mid ≡ (if is_clean then was else Some (framed_file records)) → now ≡ Some (kept_log mid)

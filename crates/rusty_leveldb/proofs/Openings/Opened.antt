@@ -177,4 +177,5 @@ module _ {E C FP F I : Type 0} {D : I → Type 0} (env : Ghosts E F) (name : Lis
     };
     files = record { untouched = λ never. absurd never; refused = λ never. absurd never; stopped = λ not_open takes. absurd (takes tt); bytes = λ never. absurd never };
     others = others;
+    beside = λ opens_not. absurd (opens_not tt);
   }

@@ -20,7 +20,7 @@ use Rattle.rusty_leveldb.specs.Serves.{Reads, Goes, faults_between, refusal_of}
 use Rattle.rusty_leveldb.specs.Engine.{scene, Recalls}
 use Rattle.rusty_leveldb.proofs.Histories.{entries_more, greatest_append, placed_greatest, placed_length, history_more}
 use Rattle.rusty_leveldb.proofs.OneLog.Writing.{appending_holds}
-use Rattle.rusty_leveldb.proofs.Others.{others_but_log}
+use Rattle.rusty_leveldb.proofs.Others.{beside_but, others_but_log}
 use Rattle.rusty_leveldb.proofs.Writes.Stands.{Fails, IsOpen, IsStill, broken_with, Broke, broken_is}
 
 -- a batch that may follow, and its record
@@ -91,6 +91,7 @@ module _ {E C FP F I : Type 0} {D : I → Type 0} (env : Ghosts E F) (store : Li
         bytes = λ never. absurd never;
       };
       others = others_but_log store (env.tells from).disk (env.tells to).disk broke.but locks;
+      beside = λ opens_not. beside_but store (env.tells from).disk.files (env.tells to).disk.files broke.but;
     }
       where
         new : State

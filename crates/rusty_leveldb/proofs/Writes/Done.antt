@@ -27,7 +27,7 @@ use Rattle.rusty_leveldb.proofs.FrameBytes.{frame_bytes}
 use Rattle.rusty_leveldb.proofs.Histories.{entries_more, placed_above, up_to, greatest_append}
 use Rattle.rusty_leveldb.proofs.OneLog.Appending.{bytes_append, batch_some}
 use Rattle.rusty_leveldb.proofs.OneLog.Writing.{appended_holds, synced_holds}
-use Rattle.rusty_leveldb.proofs.Others.{others_but_log}
+use Rattle.rusty_leveldb.proofs.Others.{beside_but, others_but_log}
 use Rattle.rusty_leveldb.proofs.Writes.Stands.{IsStored, stored, IsOpen}
 use Rattle.rusty_leveldb.proofs.Writes.Batches.{placed_last, not_long, same_set, same_by}
 use Rattle.rusty_leveldb.proofs.Writes.Append.{IsNext, batch, longer, frame, longer_history, longer_reached}
@@ -147,6 +147,7 @@ module _ {E C FP F I : Type 0} {D : I → Type 0} (env : Ghosts E F) (store : Li
       };
       files = record { untouched = λ never. absurd never; refused = λ logging is_refused. absurd is_refused; stopped = λ not_open takes. absurd (not_open was.mode); bytes = λ never. absurd never };
       others = others_but_log store (env.tells from).disk (env.tells to).disk wrote.but added.locks;
+      beside = λ opens_not. beside_but store (env.tells from).disk.files (env.tells to).disk.files wrote.but;
     }
 
   -- ---- the log's file

@@ -30,7 +30,7 @@ use Rattle.rusty_leveldb.proofs.Writes.Done.{Added, wrote_goes, unsynced, synced
 -- the same step, whatever memory it began with
 pub begun_with : {M : Type 0} (store : List ℕ) (Recalls : M → _ → State → Type 0) (cmp : List ℕ → List ℕ → Ordering) (one other : Option M) (told : _) (failures : ℕ) (request : Request) (answer : Answer) (to : _) (old : State)
     → Goes store (Reads store) Recalls cmp (one, told, failures) request answer to old → Goes store (Reads store) Recalls cmp (other, told, failures) request answer to old
-begun_with store Recalls cmp one other told failures request answer to old goes = record { new = goes.new; represents = goes.represents; step = goes.step; files = goes.files; others = goes.others }
+begun_with store Recalls cmp one other told failures request answer to old goes = record { new = goes.new; represents = goes.represents; step = goes.step; files = goes.files; others = goes.others; beside = goes.beside }
 
 module _ {E C FP F I : Type 0} {D : I → Type 0} (env : Ghosts E F) (tells : IsTrue env.tells_disk) (store : List ℕ) (engine : Engine E C FP F I D) (from : E) (old : State) (stood : Was env store engine from old) (open_now : engine.mode ≡ Open)
     (items : List Item) (bytes : List ℕ) (ready : IsNext engine.recent.last items bytes) where

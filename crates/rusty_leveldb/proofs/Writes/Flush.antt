@@ -22,7 +22,7 @@ use Rattle.rusty_leveldb.specs.Machine.{Breaks, StepIn, Responds}
 use Rattle.rusty_leveldb.specs.Serves.{Reads, StandsFor, Goes, faults_between, refusal_of, done_or}
 use Rattle.rusty_leveldb.specs.Engine.{scene, Recalls, mode_of}
 use Rattle.rusty_leveldb.proofs.OneLog.Writing.{synced_holds}
-use Rattle.rusty_leveldb.proofs.Others.{but_same, others_but_log, bytes_same, bytes_synced}
+use Rattle.rusty_leveldb.proofs.Others.{beside_but, but_same, others_but_log, bytes_same, bytes_synced}
 use Rattle.rusty_leveldb.proofs.Writes.Stands.{Fails, fails, IsStored, stored, Was, IsOpen, is_open, IsStill, remembers_still, broken_with, Broke, broken_is}
 
 module _ {E C FP F I : Type 0} {D : I → Type 0} (env : Ghosts E F) (cmp : List ℕ → List ℕ → Ordering) (store : List ℕ) (engine after : Engine E C FP F I D) (from to : E) (old : State) (was : IsOpen env store engine from old) where
@@ -53,6 +53,7 @@ module _ {E C FP F I : Type 0} {D : I → Type 0} (env : Ghosts E F) (cmp : List
       bytes = λ syncing. bytes_same (env.tells from).disk.files (env.tells to).disk.files same;
     };
     others = others_but_log store (env.tells from).disk (env.tells to).disk broke.but broke.locks;
+    beside = λ opens_not. beside_but store (env.tells from).disk.files (env.tells to).disk.files broke.but;
   }
     where
       new : State
@@ -67,6 +68,7 @@ module _ {E C FP F I : Type 0} {D : I → Type 0} (env : Ghosts E F) (cmp : List
     step = record { later = omega (arith, counted); step = subst (λ m. StepIn cmp m faults old flush done new) (sym was.mode) (λ no. no, record { state = refl }) };
     files = record { untouched = λ never. absurd never; refused = λ logging is_refused. absurd is_refused; stopped = λ not_open takes. absurd (not_open was.mode); bytes = λ syncing. bytes_synced (log_path store) (env.tells from).disk.files (env.tells to).disk.files files };
     others = others_but_log store (env.tells from).disk (env.tells to).disk (SameBut-synced (log_path store) (env.tells from).disk.files (env.tells to).disk.files (inr files)) locks;
+    beside = λ opens_not. beside_but store (env.tells from).disk.files (env.tells to).disk.files (SameBut-synced (log_path store) (env.tells from).disk.files (env.tells to).disk.files (inr files));
   }
     where
       new : State

@@ -59,6 +59,7 @@ module _ {E C FP F I : Type 0} {D : I → Type 0} (env : Ghosts E F) (cmp : List
     step = record { later = omega arith; step = step };
     files = spared_still request (refused (refusal_of status)) old old (env.tells at).disk.files;
     others = others_still store (env.tells at).disk;
+    beside = λ opens_not path differs. refl;
   }
 
   -- the store is closed

@@ -40,6 +40,7 @@ impl<E: Env, C: UserCmp + Copy, FP: FilterPolicy + Copy> Engine<E, C, FP> {
         ensures step { (opening : Opening) → IsOpening name.now options.create_if_missing opening
             → AnswersAs E.Env (C.cmp options.cmp) name.now None env.old (open_store opening) (done_or result) (given_engine result) env.new }
         ensures misnamed { (IsStoreName name.now → ⊥) → (env.new ≡ env.old) × OnOk result ⊥ }
+        ensures log { OnOk result (IsTrue E.tells_disk → SparesLog options.create_if_missing ((E.tells env.old).disk.files (log_path name.now)) ((E.tells env.new).disk.files (log_path name.now))) }
         ensures never_opens { IsTrue E.tells_disk → NeverOpens name.now options.create_if_missing (E.tells env.old).disk → OnOk result ⊥ }
         ensures unopened { IfErr result (λ status. IsTrue E.tells_disk → StaysUnopened name.now options.create_if_missing (E.tells env.old) (E.tells env.new) (E.failures env.old) (E.failures env.new) status) }
         ensures cause { HasCauses (OpenExcused E.tells_disk name.now options.create_if_missing (E.tells env.old)) (E.failures env.old) (E.failures env.new) result }
@@ -131,7 +132,7 @@ fn mend<E: Env>(
     ensures locks { SameLocks E.tells_disk (E.tells env.old) (E.tells env.new) }
     ensures rest { IsTrue E.tells_disk → ChangesLogAlone name.now (E.tells env.old).disk.files (E.tells env.new).disk.files }
     ensures either { IsTrue E.tells_disk → ((E.tells env.new).disk.files log_name.now ≡ (E.tells env.old).disk.files log_name.now)
-        ⊎ ((E.tells env.new).disk.files log_name.now ≡ Some (framed_file (map (λ v. v.items) records.now))) }
+        ⊎ ((is_clean ≡ false) × ((E.tells env.new).disk.files log_name.now ≡ Some (framed_file (map (λ v. v.items) records.now)))) }
     ensures ok { OnOk result (IsTrue E.tells_disk → (E.tells env.new).disk.files log_name.now
         ≡ (if is_clean then (E.tells env.old).disk.files log_name.now else Some (framed_file (map (λ v. v.items) records.now)))) }
     ensures cause { HasCauses (IsUntold E.tells_disk) (E.failures env.old) (E.failures env.new) result }

@@ -7,7 +7,8 @@ ghost use Rattle.rusty_leveldb.specs.Serves.{done_or, found_or, refusal_of};
 ghost use Rattle.rusty_leveldb.specs.declared.db_impl.engine.Mode.TheVariants.{Open};
 ghost use Rattle.rusty_leveldb.specs.Engine.{IsShut, IsHalted, ShutOut, HaltedBy, IsStoreName, IsOpening, no_engine, AnswersAs, Answers, OpenExcused, WriteExcused, SyncExcused, CloseExcused, GetExcused};
 ghost use Rattle.rusty_leveldb.specs.Causes.{HasFailed};
-ghost use Rattle.rusty_leveldb.specs.Recovery.{NeverOpens, StaysUnopened};
+ghost use Rattle.rusty_leveldb.specs.OneLog.{log_path};
+ghost use Rattle.rusty_leveldb.specs.Recovery.{SparesLog, NeverOpens, StaysUnopened};
 
 use super::engine::Engine;
 use bytes::Bytes;
@@ -66,6 +67,8 @@ impl<'e, E: Env, C: UserCmp + Copy, FP: FilterPolicy + Copy> Store<'e, E, Engine
         ensures opened { IfOk result (λ db. (db.state.mode ≡ Open) × (db.state.writer.broken ≡ false)) }
         ensures step { IfOk result (λ db. (opening : Opening) → IsOpening name.now options.create_if_missing opening
             → AnswersAs E.Env (C.cmp options.cmp) name.now None env.old (open_store opening) done (Some db.state) db.env.now) }
+        ensures log { IfOk result (λ db. IsTrue E.tells_disk
+            → SparesLog options.create_if_missing ((E.tells env.old).disk.files (log_path name.now)) ((E.tells db.env.now).disk.files (log_path name.now))) }
         ensures misnamed { (IsStoreName name.now → ⊥) → OnOk result ⊥ }
         ensures never_opens { IsTrue E.tells_disk → NeverOpens name.now options.create_if_missing (E.tells env.old).disk → OnOk result ⊥ }
         ensures cause { IfOk result (λ db. E.failures db.env.now ≡ E.failures env.old) }

@@ -3,7 +3,7 @@ use Rattle.std.proofs.Common.{ℕ, Err, inl, inr, refl, subst, ◌∙◌}
 use Rattle.std.proofs.lemmas.Result.{err_from_is_err_and}
 use Rattle.leveldb_env.specs.Calls.{IsLocked}
 use Rattle.rusty_leveldb.specs.OneLog.{log_path}
-use Rattle.rusty_leveldb.specs.Recovery.{IsRecovered}
+use Rattle.rusty_leveldb.specs.Recovery.{SparesLog, IsRecovered}
 use Rattle.rusty_leveldb.proofs.Openings.Refusals.{causes_of, causes_after, excused}
 use Rattle.rusty_leveldb.proofs.Openings.Refused.{given_up, unopened}
 use Rattle.rusty_leveldb.proofs.Openings.Opened.{opened}
@@ -99,6 +99,12 @@ returns-in_err-lock-2-clause-unopened g c =
     rw (p.1, p.2) (λ tells.
     unopened (given_up_early c.args.name.now c.args.options.create_if_missing (g.E.Env.tells c.args.env.now).disk (g.E.Env.tells c.lock.new.self).disk (g.E.Env.failures c.args.env.now) (g.E.Env.failures c.lock.new.self) c.in_err-lock-2.field-0.0 (lock_refused c.args.name.now c.deref.result.now (g.E.Env.tells c.args.env.now) (g.E.Env.tells c.mkdir.new.self) (g.E.Env.tells c.lock.new.self) tells (c.deref.ensures ∙ c.in_ok-lock.ensures.ok) (folder_made (g.E.Env.tells c.args.env.now) (g.E.Env.tells c.mkdir.new.self) tells c.mkdir.ensures.does c.mkdir.ensures.locks) c.in_err-lock-2.ensures.does c.in_err-lock-2.ensures.locks) (g.met.E.Env.counts c.lock.new.self)
     (causes_after (Err c.in_err-lock-2.field-0.0) c.in_ok-mkdir.ensures.cause.ok (λ status why. lock_excused c.args.name.now c.deref.result.now c.args.options.create_if_missing g.E.Env.tells_disk (g.E.Env.tells c.args.env.now) (g.E.Env.tells c.mkdir.new.self) status tells (c.deref.ensures ∙ c.in_ok-lock.ensures.ok) (folder_made (g.E.Env.tells c.args.env.now) (g.E.Env.tells c.mkdir.new.self) tells c.mkdir.ensures.does c.mkdir.ensures.locks) why) (causes_of {P = IsLocked g.E.Env.tells_disk c.deref.result.now (g.E.Env.tells c.mkdir.new.self)} (Err c.in_err-lock-2.field-0.0) c.in_err-lock-2.ensures.cause))))
+
+pub returns-in-Ok-clause-log : goal.returns-in-Ok-clause-log
+returns-in-Ok-clause-log g c = λ tells.
+    let taken = lock_taken c.args.name.now c.deref.result.now (g.E.Env.tells c.args.env.now) (g.E.Env.tells c.mkdir.new.self) (g.E.Env.tells c.lock.new.self) tells (c.deref.ensures ∙ c.in_ok-lock.ensures.ok) (folder_made (g.E.Env.tells c.args.env.now) (g.E.Env.tells c.mkdir.new.self) tells c.mkdir.ensures.does c.mkdir.ensures.locks)
+    c.in_ok-lock-2.ensures.does c.in_ok-lock-2.ensures.locks (c.in_ok-lock-2.ensures.was_free tells) in
+    subst (λ was. SparesLog c.args.options.create_if_missing was ((g.E.Env.tells c.recover.new.env).disk.files (log_path c.args.name.now))) taken.log (c.in-Ok.ensures.spares tells)
 
 pub returns-in-Ok-clause-never_opens : goal.returns-in-Ok-clause-never_opens
 returns-in-Ok-clause-never_opens g c = λ tells never.

@@ -8,3 +8,6 @@ returns-in_err-engine-clause-refused g c =
 
 pub returns-clause-step : goal.returns-clause-step
 returns-clause-step g c = rw (c.around.ensures.state, c.around.ensures.env) c.in_ok-engine.ensures.step
+
+pub returns-clause-log : goal.returns-clause-log
+returns-clause-log g c = rw c.around.ensures.env c.in_ok-engine.ensures.log
