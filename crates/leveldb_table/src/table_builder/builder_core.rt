@@ -286,14 +286,7 @@ impl<C: Cmp + Copy, FP: FilterPolicy> BuilderCore<C, FP> {
             .block
             .order()
             .find_shortest_sep(self.alloc, last, next)?;
-
-        // A block mostly takes as much as the one before it, and a little for its last pair and its trailer; but one large value is no
-        // measure of those that follow.
-        let room = self
-            .block
-            .size_estimate()
-            .saturating_add(BLOCK_SPARE)
-            .min(self.block_size.saturating_mul(2));
+        let room = self.room_for_next();
         let fresh = self.block.fresh(room)?;
         let block = replace(&mut self.block, fresh).into_bytes()?;
         let placed = put_coded(
@@ -307,6 +300,15 @@ impl<C: Cmp + Copy, FP: FilterPolicy> BuilderCore<C, FP> {
         self.offset = placed.end;
         add_handle(&mut self.index, &separator, placed.handle)?;
         self.filter.start_block(self.offset)
+    }
+
+    // How many bytes the block behind the open one is given room for: it mostly takes as much as this one, and a little for its last pair and
+    // its trailer; but one large value is no measure of those that follow.
+    fn room_for_next(&self) -> usize {
+        self.block
+            .size_estimate()
+            .saturating_add(BLOCK_SPARE)
+            .min(self.block_size.saturating_mul(2))
     }
 
     // Writes all that comes behind the data blocks.
