@@ -1,13 +1,13 @@
 -- The steps by which a store that is one log is closed or abandoned: one for each way in which the calls end.
 use Rattle.std.proofs.Common.{◌≡◌, ◌≢◌, ◌+◌, ◌-◌, ◌^◌, ◌⊎◌, cond, ⊎_elim, inl, inr, ℕ, Bool, false, List, length, refl, sym, ◌∙◌, ap, subst, arith, Some, None, Ok, Err}
-use Rattle.std.specs.Prelude.{IsTrue, IsSome, Result, string_bytes}
+use Rattle.std.specs.Prelude.{IsTrue, Result, string_bytes}
 use Rattle.std.specs.declared.cmp.Ordering.{Ordering}
 use Rattle.leveldb_base.specs.declared.error.Status.{Status}
 use Rattle.leveldb_base.specs.Status.{text_of}
 use Rattle.leveldb_base.specs.History.{entries_of}
 use Rattle.leveldb_base.specs.View.{SameView}
 use Rattle.leveldb_env.specs.declared.env.Env.{Ghosts}
-use Rattle.leveldb_env.specs.Disk.{File, Files, Disk, lock_set, synced, same}
+use Rattle.leveldb_env.specs.Disk.{File, Disk, lock_set, synced, same}
 use Rattle.leveldb_env.specs.Times.{Told}
 use Rattle.leveldb_env.specs.Calls.{Does, Still, Relocks, HasCause, IsGone}
 use Rattle.leveldb_env.specs.FileLaws.{SameBut, SameBut-synced, bytes_eq-same, bytes_eq-apart}

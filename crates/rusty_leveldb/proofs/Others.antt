@@ -7,7 +7,7 @@ use Rattle.std.specs.Cmp.Lexicographic.{bytes_decides}
 use Rattle.std.proofs.lemmas.List.{append_cancel_left}
 use Rattle.leveldb_env.specs.Disk.{File, Files, Disk, bytes_of, or_empty, file_kept, created, synced}
 use Rattle.leveldb_env.specs.Calls.{EitherSide}
-use Rattle.leveldb_env.specs.FileLaws.{SameBut, SameBut-created, SameBut-synced, bytes_eq-apart, at_same, at_other}
+use Rattle.leveldb_env.specs.FileLaws.{SameBut, SameBut-created, bytes_eq-apart, at_same, at_other}
 use Rattle.leveldb_env.specs.WholeFiles.{Replacing}
 use Rattle.rusty_leveldb.specs.OneLog.{log_path, temp_path}
 use Rattle.rusty_leveldb.specs.Names.{lock_path}

@@ -1,5 +1,5 @@
 -- A disk whose store is one log: what is read of it, and what is safe on it, is so by the log's file alone.
-use Rattle.std.proofs.Common.{◌≡◌, ◌≤◌, ◌+◌, inl, inr, ⊎_elim, ℕ, List, ◌++◌, length, false, sym, ap, subst, arith, Option, Some, None}
+use Rattle.std.proofs.Common.{◌≡◌, ◌≤◌, ◌+◌, inl, inr, ⊎_elim, ℕ, List, ◌++◌, length, sym, ap, subst, arith, Option, Some, None}
 use Rattle.leveldb_base.specs.History.{Entry, History, joined, count_of}
 use Rattle.leveldb_env.specs.Disk.{File, Files, kept_file, LeavesFile}
 use Rattle.rusty_leveldb.specs.Contents.{Store, missing, made, Contents, Stays}

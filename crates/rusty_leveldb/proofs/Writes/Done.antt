@@ -19,7 +19,7 @@ use Rattle.rusty_leveldb.specs.Names.{lock_path}
 use Rattle.rusty_leveldb.specs.OneLog.{log_path}
 use Rattle.rusty_leveldb.specs.Holds.{Holds}
 use Rattle.rusty_leveldb.specs.Recent.{Inserts}
-use Rattle.rusty_leveldb.specs.State.{State, IsState, SuitsMode, open_mode, broken, write, done}
+use Rattle.rusty_leveldb.specs.State.{State, IsState, SuitsMode, broken, write, done}
 use Rattle.rusty_leveldb.specs.Machine.{MayCover, StepIn}
 use Rattle.rusty_leveldb.specs.Serves.{Reads, StandsFor, Goes, faults_between}
 use Rattle.rusty_leveldb.specs.Engine.{scene, Recalls, mode_of}

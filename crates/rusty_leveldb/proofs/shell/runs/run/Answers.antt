@@ -2,7 +2,7 @@ use Rattle.std.proofs.Common.{rules, ◌≡◌, ◌++◌, ◌∷◌, [], length,
 use Rattle.std.proofs.Math.Seq.{drop-length, drop-append_seam}
 use Rattle.std.proofs.lemmas.List.{take_all}
 use Rattle.std.proofs.lemmas.Result.{err_from_is_err_and}
-use Rattle.rusty_leveldb.proofs.Playing.{OnErr-always, in_order, play_first, play_more, play_end, not_opened, commands_up_to}
+use Rattle.rusty_leveldb.proofs.Playing.{in_order, play_first, play_more, play_end, not_opened, commands_up_to}
 use Rattle.rusty_leveldb.proofs.shell.runs.run.Goals as goal
 
 pub returns-in_err-engine-clause-plays : goal.returns-in_err-engine-clause-plays
