@@ -8,6 +8,7 @@ mod read;
 mod recent;
 mod replay;
 mod store;
+pub mod trial;
 mod write;
 
 pub use engine::{Engine, Mode};

@@ -3,6 +3,7 @@
 mod commands;
 mod language;
 mod lines;
+pub mod lives;
 mod program;
 mod replies;
 mod runs;

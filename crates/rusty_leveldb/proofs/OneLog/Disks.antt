@@ -71,6 +71,12 @@ module _ (store : List ℕ) where
           let named : IsRead (Some (kept_file (file.kept ++ leaves_it.0))) found = subst (λ f. IsRead f found) leaves_it.3 after in
           subst (λ s. Stays s found.store) (ap (λ c. c.store) (sym here.2)) (ap (λ c. c.store) named.2)
 
+  -- so a log that is there is a store behind each crash
+  pub log_keeps : (there : Store) (file : File) (files : Files) → there ≡ made None → files name ≡ Some file → KeepsStore store reads there files
+  log_keeps there file files is at left contents leaves honest read =
+      let leaves_log = subst (λ f. LeavesFile f (left name)) at (leaves name) in
+      subst (λ s. Stays s contents.store) (sym is) (log_is_store (kept_file (file.kept ++ leaves_log.0)) left leaves_log.3 contents read)
+
   -- ---- a log that is kept
 
   -- where the log is kept, or none is there, the disk holds what it carries, all of it covered
