@@ -1,4 +1,7 @@
--- The one law for the steps on files that aren't read: at each moment of them what a crash leaves is spared as before.
+-- The law for calls on files that aren't read, as a table before its edit, an obsolete or a temporary file: `IsSparedBeside` holds after any
+-- change of such files. A body shows it once, of the files with which it begins, with a set of the names that are unread; each call on one of
+-- them is then a `beside` of Steps with `ignores_one`. Where the set changes, as after an edit, the body shows `AreUnread` for the new set and
+-- begins a new run.
 use Rattle.std.proofs.Common.{◌≡◌, ℕ, Bool, true, false, cond, List, Some, refl, sym, ◌∙◌, ap, subst}
 use Rattle.std.specs.Str.{bytes_eq}
 use Rattle.leveldb_env.specs.Disk.{Files, bytes_of, LeavesFile, Leaves}
@@ -9,11 +12,11 @@ use Rattle.rusty_leveldb.specs.Contents.{Contents}
 use Rattle.rusty_leveldb.specs.Holds.{IsHonest}
 use Rattle.rusty_leveldb.specs.State.{State}
 use Rattle.rusty_leveldb.specs.Machine.{Risk}
-use Rattle.rusty_leveldb.specs.Trial.{Ignores, SameBeside, IsSparedBeside}
+use Rattle.rusty_leveldb.specs.Unread.{Ignores, SameBeside, IsSparedBeside}
 use Rattle.rusty_leveldb.proofs.OneLog.LogFile.{cut, cut_leaves, cut_honest}
 
 module _ (store : List ℕ) (reads : Files → Contents → Type 0) (beside : List ℕ → Bool) where
-  -- what a crash leaves of the one, as it might leave it of the other
+  -- From what a crash leaves of the later files: what it may leave of the earlier ones, with the unread files cut to their kept bytes.
   module _ (old files : Files) (same : SameBeside beside old files) (left : Files) (leaves : Leaves files left) where
     base : Files
     base path = cond (beside path) (cut (old path)) (left path)
@@ -38,6 +41,7 @@ module _ (store : List ℕ) (reads : Files → Contents → Type 0) (beside : Li
         by true is at = cut_honest (old path) file crashed was at
         by false is at = honest path file crashed journal (same path is ∙ was) at
 
+  -- the later files are spared as the earlier ones were
   pub ignores_beside : (state : State) (risk : Risk) (old files : Files) → SameBeside beside old files → IsSparedBeside store reads beside state risk old → IsSparedBeside store reads beside state risk files
   ignores_beside state risk old files same is = record {
     spared = record {
@@ -64,7 +68,7 @@ module _ (store : List ℕ) (reads : Files → Contents → Type 0) (beside : Li
         (λ path apart. to_one path apart ∙ left_same old files same left leaves path apart) (λ path apart. to_other path apart ∙ left_same old files same left leaves path apart) read;
   }
 
-  -- so any call on a file that stands beside may be a step
+  -- so it ignores each name of the set
   pub ignores_one : (name : List ℕ) → beside name ≡ true → (state : State) (risk : Risk) → Ignores name (IsSparedBeside store reads beside state risk)
   ignores_one name is state risk old files but = ignores_beside state risk old files (λ path apart. but path (differ path apart (bytes_eq name path) refl))
     where

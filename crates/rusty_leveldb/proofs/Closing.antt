@@ -1,6 +1,6 @@
 -- The steps by which a store that is one log is closed or abandoned: one for each way in which the calls end.
 use Rattle.std.proofs.Common.{◌≡◌, ◌≢◌, ◌+◌, ◌-◌, ◌^◌, ◌⊎◌, cond, ⊎_elim, inl, inr, ℕ, Bool, false, List, length, refl, sym, ◌∙◌, ap, subst, arith, Some, None, Ok, Err}
-use Rattle.std.specs.Prelude.{IsTrue, Result, string_bytes}
+use Rattle.std.specs.Prelude.{Contains, IsTrue, Result, string_bytes}
 use Rattle.std.specs.declared.cmp.Ordering.{Ordering}
 use Rattle.leveldb_base.specs.declared.error.Status.{Status}
 use Rattle.leveldb_base.specs.Status.{text_of}
@@ -96,6 +96,7 @@ module _ {E C FP F I : Type 0} {D : I → Type 0} (env : Ghosts E F) (cmp : List
         shows = λ not. record {
           last = ap (λ (e : Engine E C FP F I D). e.recent.last) only ∙ shown.last;
           same = λ t most. subst (λ entries. SameView entries (entries_of old.history) t) (sym (ap (λ (e : Engine E C FP F I D). e.recent.kept.entries) only)) (shown.same t most);
+          up_to = λ entry c. shown.up_to entry (subst (λ entries. Contains entries entry) (ap (λ (e : Engine E C FP F I D). e.recent.kept.entries) only) c);
         };
         writes = λ is. absurd (cc);
       }

@@ -11,8 +11,8 @@ use Rattle.leveldb_env.specs.Picks.{picked, tails_of}
 use Rattle.rusty_leveldb.specs.Holds.{IsHonest}
 use Rattle.rusty_leveldb.proofs.OneLog.LogFile.{front_honest}
 use Rattle.leveldb_env.specs.Record.{told_of, moment_of, failures_of, files_in, files_then, TellsTheSame}
-use Rattle.rusty_leveldb.specs.declared.shell.lives.Report.{Report}
-use Rattle.rusty_leveldb.specs.declared.shell.lives.Life.{Life}
+use Rattle.rusty_leveldb.specs.declared.shell.crash_runs.Report.{Report}
+use Rattle.rusty_leveldb.specs.declared.shell.crash_runs.Life.{Life}
 use Rattle.rusty_leveldb.specs.State.{State, Opening, closed}
 use Rattle.rusty_leveldb.specs.Runs as machine
 use Rattle.rusty_leveldb.specs.Runs.{Event, events_of, Run, CrashBefore, StopsAt, LifeLeads, Lives, new_state, goes_on, crashes}

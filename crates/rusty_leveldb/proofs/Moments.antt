@@ -1,5 +1,7 @@
--- How the steps of a call join: what a crash leaves at each moment of the call is spared where it is at each moment of each step.
--- A step is one call of the device or several, from a state that the disk stands for.
+-- How the parts of a call join that have states between them, as a sync of the log and then a new log: what a crash leaves at each moment of the
+-- call is spared if it is at each moment of each part. `steps_join` joins two parts, `spared_now` begins one at a state that the disk
+-- represents, and `grows_same` and `grows_by` say that a part risks no batch more, or one more. `spared_since` is what the run of a whole call
+-- then says of a crash.
 use Rattle.std.proofs.Common.{◌≡◌, ◌≤◌, ℕ, zero, suc, List, [], ◌∷◌, ◌++◌, length, take, refl, sym, ◌∙◌, ap, subst, arith}
 use Rattle.std.proofs.lemmas.List.{length-take}
 use Rattle.leveldb_base.specs.History.{Entry, History, IsBeginning}

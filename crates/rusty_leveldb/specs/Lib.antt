@@ -3,7 +3,7 @@ pub mod Contents
 pub mod OneLog
 pub mod Holds
 pub mod State
-pub mod Trial
+pub mod Unread
 pub mod Causes
 pub mod Machine
 pub mod Runs

@@ -10,8 +10,8 @@ use Rattle.leveldb_env.specs.Picks.{picked, tails_of}
 use Rattle.leveldb_env.specs.Record.{told_of, moment_of, files_in, files_then, TellsTheSame, IsFresh}
 use Rattle.rusty_leveldb.specs.declared.shell.commands.Command.{Command}
 use Rattle.rusty_leveldb.specs.declared.shell.commands.Reply.{Reply}
-use Rattle.rusty_leveldb.specs.declared.shell.lives.Report.{Report}
-use Rattle.rusty_leveldb.specs.declared.shell.lives.Life.{Life}
+use Rattle.rusty_leveldb.specs.declared.shell.crash_runs.Report.{Report}
+use Rattle.rusty_leveldb.specs.declared.shell.crash_runs.Life.{Life}
 use Rattle.rusty_leveldb.specs.State.{State, Opening, Request, open_store, abandon, Answer, done, refused}
 use Rattle.rusty_leveldb.specs.Holds.{IsHonest}
 use Rattle.rusty_leveldb.specs.Runs as machine

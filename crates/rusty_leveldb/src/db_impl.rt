@@ -8,7 +8,6 @@ mod read;
 mod recent;
 mod replay;
 mod store;
-pub mod trial;
 mod write;
 
 pub use engine::{Engine, Mode};

@@ -52,7 +52,7 @@ pub carried_more : (bound more : ℕ) (history : History) (file : Option File) �
 carried_more bound more history file most c = record {
   contents = c.contents;
   read = c.read;
-  tells = record { same = c.tells.same; reached = c.tells.reached; bounded = omega (arith, c.tells.bounded, most) };
+  tells = record { same = c.tells.same; up_to = c.tells.up_to; reached = c.tells.reached; bounded = omega (arith, c.tells.bounded, most) };
 }
 
 pub some_is : {A : Type 0} (a b : A) → Some a ≡ Some b → a ≡ b

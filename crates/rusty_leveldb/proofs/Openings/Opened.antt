@@ -109,7 +109,7 @@ module _ {E C FP F I : Type 0} {D : I → Type 0} (env : Ghosts E F) (name : Lis
   carries_now = record {
     contents = contents_of got.replayed.read.batches;
     read = read_now;
-    tells = record { same = tells.same; reached = tells.reached; bounded = omega (arith, got.replayed.last) };
+    tells = record { same = tells.same; up_to = tells.up_to; reached = tells.reached; bounded = omega (arith, got.replayed.last) };
   }
 
   stands : StandsFor name (Reads name) to.disk now
@@ -130,6 +130,7 @@ module _ {E C FP F I : Type 0} {D : I → Type 0} (env : Ghosts E F) (name : Lis
       λ s. (tells.same t most key value).0 (shows_same engine.recent.kept.entries (all_entries got.replayed.read.batches) t key value got.replayed.just s),
       λ s. shows_same (all_entries got.replayed.read.batches) engine.recent.kept.entries t key value (λ entry. ((got.replayed.just entry).1, (got.replayed.just entry).0)) ((tells.same t most key value).1 s),
     );
+    up_to = λ entry c. tells.up_to entry ((got.replayed.just entry).0 c);
   }
 
   writes : WritesOn env name engine to.disk

@@ -1,6 +1,7 @@
 -- A write that was done: what memory, disk and machine are then.
-use Rattle.std.proofs.Common.{◌≡◌, ◌≤◌, ◌+◌, ◌%◌, ◌⊎◌, inl, inr, ℕ, List, [], ◌∷◌, ◌++◌, length, refl, sym, ◌∙◌, ap, subst, arith, append_assoc, append-nil, length-append, Some, None, Bool, IsTrue, false}
-use Rattle.std.specs.Prelude.{max, string_bytes}
+use Rattle.std.proofs.Common.{◌≡◌, ◌≤◌, ◌+◌, ◌%◌, ◌⊎◌, inl, inr, ⊎_elim, ℕ, List, [], ◌∷◌, ◌++◌, length, refl, sym, ◌∙◌, ap, subst, arith, append_assoc, append-nil, length-append, Some, None, Bool, IsTrue, false}
+use Rattle.std.specs.Prelude.{Contains, max, string_bytes}
+use Rattle.std.proofs.lemmas.List.Elements.{Contains-append_cases}
 use Rattle.std.specs.declared.cmp.Ordering.{Ordering}
 use Rattle.leveldb_base.specs.History.{Item, Entry, History, IsHistory, entries_of, greatest, joined, count_of}
 use Rattle.leveldb_base.specs.View.{SameView}
@@ -26,7 +27,7 @@ use Rattle.rusty_leveldb.specs.Machine.{MayCover, StepIn}
 use Rattle.rusty_leveldb.specs.Serves.{Reads, StandsFor, IsSpared, Goes, faults_between}
 use Rattle.rusty_leveldb.specs.Engine.{scene, Recalls, mode_of}
 use Rattle.rusty_leveldb.proofs.FrameBytes.{frame_bytes}
-use Rattle.rusty_leveldb.proofs.Histories.{entries_more, placed_above, up_to, greatest_append}
+use Rattle.rusty_leveldb.proofs.Histories.{entries_more, placed_above, up_to_greatest, up_to, greatest_append}
 use Rattle.rusty_leveldb.proofs.OneLog.Appending.{bytes_append, batch_some}
 use Rattle.rusty_leveldb.proofs.OneLog.Writing.{appended_holds, synced_holds}
 use Rattle.rusty_leveldb.proofs.Others.{beside_but, others_but_log}
@@ -86,6 +87,16 @@ module _ {E C FP F I : Type 0} {D : I → Type 0} (env : Ghosts E F) (store : Li
       less : greatest (entries_of old.history) ≤ t
       less = omega (arith, most, ap greatest split, greatest_append (entries_of old.history) the_batch)
 
+  -- and nothing past it
+  ends_more : Inserts engine.recent (batch_of (old.last + 1) items) after.recent → AreUpTo (greatest (entries_of the_longer)) after.recent.kept.entries
+  ends_more inserts entry c = ⊎_elim
+      (λ (before : Contains engine.recent.kept.entries entry). omega (arith, was.memory_is.up_to entry before, longest))
+      (λ (new : Contains the_batch entry). omega (arith, up_to_greatest the_batch entry new, longest))
+      (Contains-append_cases engine.recent.kept.entries the_batch entry ((inserts.gains entry).0 c))
+    where
+      longest : greatest (entries_of the_longer) ≡ max (greatest (entries_of old.history)) (greatest the_batch)
+      longest = ap greatest (entries_more old.history the_batch) ∙ greatest_append (entries_of old.history) the_batch
+
   module _ (cmp : List ℕ → List ℕ → Ordering) (sync : Bool) (wrote : Wrote sync) (added : Added) where
     -- the state with the batch
     abbrev new : State
@@ -126,6 +137,7 @@ module _ {E C FP F I : Type 0} {D : I → Type 0} (env : Ghosts E F) (store : Li
       shows = λ opened. record {
         last = added.inserts.last ∙ ap (λ n. max n (greatest the_batch)) was.memory_is.last ∙ placed_last old.last items;
         same = shows_more added.inserts added.up_to_last;
+        up_to = ends_more added.inserts;
       };
       writes = λ opened. record {
         file = wrote.file;

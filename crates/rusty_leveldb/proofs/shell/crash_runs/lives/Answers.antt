@@ -4,8 +4,8 @@ use Rattle.leveldb_env.specs.contracts.mem_env.record.RecordEnvEnv.TheImpl.{ghos
 use Rattle.leveldb_env.specs.Record.{moment_of}
 use Rattle.rusty_leveldb.specs.Lives.{Anyhow, LivedAlways}
 use Rattle.rusty_leveldb.proofs.Lives.{follows_left, follows_on, played_more, are_runs, fair_from_none}
-use Rattle.rusty_leveldb.proofs.shell.lives.lives.Goals as goal
-use Rattle.rusty_leveldb.proofs.shell.lives.lives.Goals.{in-Some-moment+in_ok-env, in_default}
+use Rattle.rusty_leveldb.proofs.shell.crash_runs.lives.Goals as goal
+use Rattle.rusty_leveldb.proofs.shell.crash_runs.lives.Goals.{in-Some-moment+in_ok-env, in_default}
 
 pub loop-life-init : goal.loop-life-init
 loop-life-init g c =

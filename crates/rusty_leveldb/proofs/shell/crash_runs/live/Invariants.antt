@@ -2,7 +2,7 @@ use Rattle.std.proofs.Common.{◌≡◌, ◌≤◌, ◌+◌, ◌-◌, ℕ, List,
 use Rattle.leveldb_env.specs.contracts.mem_env.record.RecordEnvEnv.TheImpl.{ghosts}
 use Rattle.leveldb_env.specs.Record.{moment_of}
 use Rattle.rusty_leveldb.proofs.Living.{Given, LivesSoFar}
-use Rattle.rusty_leveldb.proofs.shell.lives.live.Given as goal
+use Rattle.rusty_leveldb.proofs.shell.crash_runs.live.Given as goal
 
 abbrev pub invariant-loop-command : goal.invariant-loop-command
 invariant-loop-command g l =

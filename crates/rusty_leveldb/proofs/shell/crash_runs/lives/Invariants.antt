@@ -3,7 +3,7 @@ use Rattle.leveldb_env.specs.declared.mem_env.record.RecordEnv.{RecordEnv}
 use Rattle.leveldb_env.specs.contracts.mem_env.record.RecordEnvEnv.TheImpl.{ghosts}
 use Rattle.leveldb_env.specs.Record.{files_in, IsFresh}
 use Rattle.rusty_leveldb.specs.Lives.{Anyhow, Played}
-use Rattle.rusty_leveldb.proofs.shell.lives.lives.Given as goal
+use Rattle.rusty_leveldb.proofs.shell.crash_runs.lives.Given as goal
 
 abbrev pub invariant-loop-life : goal.invariant-loop-life
 invariant-loop-life g l =

@@ -6,7 +6,7 @@ use Rattle.leveldb_env.specs.Record.{moment_of}
 use Rattle.rusty_leveldb.specs.Serves.{done_or}
 use Rattle.rusty_leveldb.proofs.Playing.{in_order, commands_up_to}
 use Rattle.rusty_leveldb.proofs.Living.{Given, LivesSoFar, given_more, lives_first, lives_more, lives_end, not_lived}
-use Rattle.rusty_leveldb.proofs.shell.lives.live.Goals as goal
+use Rattle.rusty_leveldb.proofs.shell.crash_runs.live.Goals as goal
 
 pub returns-in-Err-clause-lived : goal.returns-in-Err-clause-lived
 returns-in-Err-clause-lived g c = not_lived g.row.C.Denot g.row.FP.Denot ghosts stands_alone refl (g.C.Cmp.cmp c.args.options.cmp) c.args.name.now c.args.options c.args.env.now c.open.new.env c.args.options.create_if_missing c.args.commands.now
