@@ -21,6 +21,7 @@ use Rattle.rusty_leveldb.specs.Causes.{Faults, out_of_memory, bad_operand, IsLon
 use Rattle.rusty_leveldb.specs.Machine.{Keeps, StepIn}
 use Rattle.rusty_leveldb.specs.Serves.{faults_between, refusal_of}
 use Rattle.rusty_leveldb.specs.Engine.{Recalls, AnswersStill}
+use Rattle.rusty_leveldb.proofs.Writes.Moments.{moments_none}
 use Rattle.rusty_leveldb.proofs.Others.{others_still, spared_still}
 
 -- a batch whose front is too long is too long
@@ -52,6 +53,7 @@ module _ {E C FP F I : Type 0} {D : I → Type 0} (env : Ghosts E F) (cmp : List
     new = old;
     represents = represents;
     step = record { later = omega arith; step = subst (λ mode. StepIn cmp mode faults old (write items sync) (refused (refusal_of status)) old) (sym (is_open store disk old represents.memory_is)) (⊎_elim for_memory for_length why) };
+    moments = moments_none store (write items sync) old (env.tells at) represents.disk_is;
     files = spared_still (write items sync) (refused (refusal_of status)) old old (env.tells at).disk.files;
     others = others_still store (env.tells at).disk;
     beside = λ opens_not path differs. refl;

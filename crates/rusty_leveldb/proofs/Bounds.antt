@@ -13,7 +13,7 @@ module _ (store : List ℕ) (reads : Files → Contents → Type 0) where
   pub carries_more : (bound more : ℕ) → bound ≤ more → (history : History) (files : Files) → Carries store reads bound history files → Carries store reads more history files
   carries_more bound more le history files c =
       let low = c.tells.bounded in
-      record { contents = c.contents; read = c.read; tells = record { same = c.tells.same; reached = c.tells.reached; bounded = omega arith } }
+      record { contents = c.contents; read = c.read; tells = record { same = c.tells.same; up_to = c.tells.up_to; reached = c.tells.reached; bounded = omega arith } }
 
   pub safe_more : (bound more covered : ℕ) → bound ≤ more → (history : History) (files : Files) → IsSafe store reads bound covered history files → IsSafe store reads more covered history files
   safe_more bound more covered le history files safe left leaves honest =
@@ -38,7 +38,7 @@ carries_nothing : (store : List ℕ) (files : Files) → files (log_path store) 
 carries_nothing store files none = record {
   contents = nothing_there;
   read = subst (λ file. IsRead file nothing_there) (sym none) refl;
-  tells = record { same = λ t le key value. (λ shows. shows, λ shows. shows); reached = omega arith; bounded = omega arith };
+  tells = record { same = λ t le key value. (λ shows. shows, λ shows. shows); up_to = λ entry c. absurd (in_none entry c); reached = omega arith; bounded = omega arith };
 }
 
 pub nothing_stands : NothingStands

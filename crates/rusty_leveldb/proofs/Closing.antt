@@ -1,6 +1,6 @@
 -- The steps by which a store that is one log is closed or abandoned: one for each way in which the calls end.
 use Rattle.std.proofs.Common.{◌≡◌, ◌≢◌, ◌+◌, ◌-◌, ◌^◌, ◌⊎◌, cond, ⊎_elim, inl, inr, ℕ, Bool, false, List, length, refl, sym, ◌∙◌, ap, subst, arith, Some, None, Ok, Err}
-use Rattle.std.specs.Prelude.{IsTrue, Result, string_bytes}
+use Rattle.std.specs.Prelude.{Contains, IsTrue, Result, string_bytes}
 use Rattle.std.specs.declared.cmp.Ordering.{Ordering}
 use Rattle.leveldb_base.specs.declared.error.Status.{Status}
 use Rattle.leveldb_base.specs.Status.{text_of}
@@ -10,6 +10,7 @@ use Rattle.leveldb_env.specs.declared.env.Env.{Ghosts}
 use Rattle.leveldb_env.specs.Disk.{File, Disk, lock_set, synced, same}
 use Rattle.leveldb_env.specs.Times.{Told}
 use Rattle.leveldb_env.specs.Calls.{Does, Still, Relocks, HasCause, IsGone}
+use Rattle.leveldb_env.specs.Runs.{Run, call}
 use Rattle.leveldb_env.specs.FileLaws.{SameBut, SameBut-synced, bytes_eq-same, bytes_eq-apart}
 use Rattle.leveldb_env.specs.OpenFiles.{opened, Syncs}
 use Rattle.leveldb_mem.specs.Writing.{Flushes}
@@ -22,9 +23,11 @@ use Rattle.rusty_leveldb.specs.State as machine
 use Rattle.rusty_leveldb.specs.State.{State, Request, close, abandon, Answer, done, refused, open_mode, broken, closed}
 use Rattle.rusty_leveldb.specs.Causes.{Faults, Cause, out_of_memory, device_failed, Comes, ReachesDevice}
 use Rattle.rusty_leveldb.specs.Machine.{StepIn, Responds}
-use Rattle.rusty_leveldb.specs.Serves.{Reads, SameBytes, StandsFor, Represents, done_or, refusal_of, faults_between}
+use Rattle.rusty_leveldb.specs.Serves.{Reads, SameBytes, StandsFor, IsSpared, Represents, done_or, refusal_of, faults_between}
 use Rattle.rusty_leveldb.specs.Engine.{Recalls, WritesOn, mode_of, Answers}
 use Rattle.rusty_leveldb.proofs.Ended.{broke, ended, broke_still, ended_still, broke_covered, ended_covered}
+use Rattle.rusty_leveldb.proofs.Writes.Stands.{is_open as open_store}
+use Rattle.rusty_leveldb.proofs.Writes.Moments.{risk_at, moments_none, moments_still, sync_moments, with_none}
 use Rattle.rusty_leveldb.proofs.Others.{beside_but, but_same, others_with, others_but_log, others_still, spared_still, bytes_same, bytes_synced}
 
 -- ---- causes
@@ -93,6 +96,7 @@ module _ {E C FP F I : Type 0} {D : I → Type 0} (env : Ghosts E F) (cmp : List
         shows = λ not. record {
           last = ap (λ (e : Engine E C FP F I D). e.recent.last) only ∙ shown.last;
           same = λ t most. subst (λ entries. SameView entries (entries_of old.history) t) (sym (ap (λ (e : Engine E C FP F I D). e.recent.kept.entries) only)) (shown.same t most);
+          up_to = λ entry c. shown.up_to entry (subst (λ entries. Contains entries entry) (ap (λ (e : Engine E C FP F I D). e.recent.kept.entries) only) c);
         };
         writes = λ is. absurd (cc);
       }
@@ -119,6 +123,7 @@ module _ {E C FP F I : Type 0} {D : I → Type 0} (env : Ghosts E F) (cmp : List
           later = syncs.cause.later;
           step = subst (λ m. StepIn cmp m (faults_between (env.failures at) (env.failures now)) old close (refused (refusal_of status)) (broke old old.covered)) (sym mode) (cause.0, cause.1, record { state = refl; covered = inl refl });
         };
+        moments = sync_moments env store before at old (open_store env store before at old is_open represents) now told syncs.does;
         files = record { untouched = λ never. absurd never; refused = λ never. absurd never; stopped = λ not_open takes. absurd (not_open mode); bytes = λ syncing. bytes_same (env.tells at).disk.files (env.tells now).disk.files (syncs.undone told) };
         others = others_but_log store (env.tells at).disk (env.tells now).disk (but_same (log_path store) (env.tells at).disk.files (env.tells now).disk.files (syncs.undone told)) (syncs.locks told);
         beside = λ opens_not. beside_but store (env.tells at).disk.files (env.tells now).disk.files (but_same (log_path store) (env.tells at).disk.files (env.tells now).disk.files (syncs.undone told));
@@ -168,6 +173,13 @@ module _ {E C FP F I : Type 0} {D : I → Type 0} (env : Ghosts E F) (cmp : List
       ended_now relocked = ended_covered store (env.tells at).disk (env.tells now).disk old represents.disk_is writes.file writes.there mode all false
           (ap (λ (locked : List ℕ → Bool). locked (lock_path store)) relocked ∙ ap (λ l. lock_set l false (env.tells mid).disk.locked (lock_path store)) same_lock ∙ freed (lock_path store) (env.tells mid).disk.locked)
 
+    -- the moments of both
+    given_back : {result : Result (Unit {0}) Status} (told : IsTrue env.tells_disk) (store : List ℕ) (old : State) (represents : Represents store (Reads store) (Recalls env store) (Some before) (env.tells at).disk old)
+        → Does env.tells_disk same Still (env.tells mid) (env.tells now) result → Run (IsSpared store (Reads store) old (risk_at old.history (old.last + 0))) (env.tells at) (env.tells now)
+    given_back told store old represents does =
+        let run = sync_moments env store before at old (open_store env store before at old is_open represents) mid told flushed.flushed.does in
+        call told run (λ files still. subst (IsSpared store (Reads store) old (risk_at old.history (old.last + 0))) (sym still) run.has) does
+
     -- it was refused: the store is broken
     pub unlock_refused : (status : Status) → Does {T = Unit {0}} env.tells_disk same Still (env.tells mid) (env.tells now) (Err status)
         → Relocks {T = Unit {0}} env.tells_disk (lock_set lock false) (env.tells mid) (env.tells now) (Err status) → HasCause {T = Unit {0}} (λ _. ⊥) (env.failures mid) (env.failures now) (Err status)
@@ -186,6 +198,7 @@ module _ {E C FP F I : Type 0} {D : I → Type 0} (env : Ghosts E F) (cmp : List
             later = omega (arith, caused.later);
             step = subst (λ m. StepIn cmp m (faults_between (env.failures at) (env.failures now)) old close (refused (refusal_of status)) (broke old (length old.history))) (sym is) (cause.0, cause.1, record { state = refl; covered = inr refl });
           };
+          moments = given_back told store old represents does;
           files = record { untouched = λ never. absurd never; refused = λ never. absurd never; stopped = λ not_open takes. absurd (not_open is); bytes = λ syncing. synced_bytes told store old represents (does.now told) };
           others = others_but_log store (env.tells at).disk (env.tells now).disk (but_log told store old represents (does.now told)) (relocks told ∙ flushed.flushed.locks told);
           beside = λ opens_not. beside_but store (env.tells at).disk.files (env.tells now).disk.files (but_log told store old represents (does.now told));
@@ -208,6 +221,7 @@ module _ {E C FP F I : Type 0} {D : I → Type 0} (env : Ghosts E F) (cmp : List
             later = omega (arith, caused.later);
             step = subst (λ m. StepIn cmp m (faults_between (env.failures at) (env.failures now)) old close done (ended old (length old.history) false)) (sym is) (λ never. never, record { state = refl });
           };
+          moments = with_none env store before at old (open_store env store before at old is_open represents) now (given_back told store old represents does);
           files = record { untouched = λ never. absurd never; refused = λ never. absurd never; stopped = λ not_open takes. absurd (not_open is); bytes = λ syncing. synced_bytes told store old represents (does.now told) };
           others = others_with store (env.tells at).disk (env.tells now).disk (but_log told store old represents (does.now told))
               (λ name differs. ap (λ (locked : List ℕ → Bool). locked name) (relocks told)
@@ -226,6 +240,7 @@ module _ {E C FP F I : Type 0} {D : I → Type 0} (env : Ghosts E F) (cmp : List
         new = old;
         represents = record { disk_is = represents.disk_is; memory_is = is };
         step = record { later = omega arith; step = subst (λ m. StepIn cmp m (faults_between (env.failures at) (env.failures at)) old abandon done old) (sym is) (refl, refl) };
+        moments = moments_none store abandon old (env.tells at) represents.disk_is;
         files = spared_still abandon done old old (env.tells at).disk.files;
         others = others_still store (env.tells at).disk;
         beside = λ opens_not path apart. refl;
@@ -249,6 +264,7 @@ module _ {E C FP F I : Type 0} {D : I → Type 0} (env : Ghosts E F) (cmp : List
             step = subst (λ m. StepIn cmp m (faults_between (env.failures at) (env.failures now)) old abandon (refused (refusal_of status)) (ended old old.covered old.locked)) represents.memory_is.mode
                 (abandons cmp (faults_between (env.failures at) (env.failures now)) old (ended old old.covered old.locked) (refused (refusal_of status)) before.mode differs (cause.0, cause.1, record { state = refl }));
           };
+          moments = moments_still store old told represents.disk_is does;
           files = record { untouched = λ touches. does.now told; refused = λ never. absurd never; stopped = λ not_open takes. does.now told; bytes = λ never. absurd never };
           others = others_but_log store (env.tells at).disk (env.tells now).disk (but_same (log_path store) (env.tells at).disk.files (env.tells now).disk.files (does.now told)) (relocks told);
           beside = λ opens_not. beside_but store (env.tells at).disk.files (env.tells now).disk.files (but_same (log_path store) (env.tells at).disk.files (env.tells now).disk.files (does.now told));
@@ -272,6 +288,7 @@ module _ {E C FP F I : Type 0} {D : I → Type 0} (env : Ghosts E F) (cmp : List
             step = subst (λ m. StepIn cmp m (faults_between (env.failures at) (env.failures now)) old abandon done (ended old old.covered false)) represents.memory_is.mode
                 (abandons cmp (faults_between (env.failures at) (env.failures now)) old (ended old old.covered false) done before.mode differs (λ never. never, record { state = refl }));
           };
+          moments = moments_still store old told represents.disk_is does;
           files = record { untouched = λ touches. does.now told; refused = λ never. absurd never; stopped = λ not_open takes. does.now told; bytes = λ never. absurd never };
           others = others_with store (env.tells at).disk (env.tells now).disk (but_same (log_path store) (env.tells at).disk.files (env.tells now).disk.files (does.now told))
               (λ name apart. ap (λ (locked : List ℕ → Bool). locked name) (relocks told) ∙ freed_other lock name (env.tells at).disk.locked (λ e. apart (e ∙ same_lock)));

@@ -100,7 +100,7 @@ module _ (cmp : List ℕ → List ℕ → Ordering) (opening : Opening) (key val
   abbrev reading_then : ℕ × Event
   reading_then = told_at 3 (get None key) (found (Some value))
 
-  stops : StopsAt cmp 0 new_state (opening_then ∷ writing_then ∷ reading_then ∷ []) 2 left
+  stops : StopsAt cmp 0 new_state (opening_then ∷ writing_then ∷ reading_then ∷ []) 2 0 written left
   stops = record {
     done = opening_then ∷ writing_then ∷ [];
     undone = reading_then ∷ [];
@@ -110,14 +110,14 @@ module _ (cmp : List ℕ → List ℕ → Ordering) (opening : Opening) (key val
     failures = 0;
     state = written;
     run = (opened, opens_first, (written, writes, (refl, refl)));
-    crash = (written, finds, (0, written, (refl, refl)), record { beginning = record { count = 1; enough = omega arith; there = omega arith; first = refl }; stays = refl; state = refl });
+    crash = (written, finds, (refl, refl), record { beginning = record { count = 1; enough = omega arith; there = omega arith; first = refl }; stays = refl; state = refl });
   }
 
   lives : Lives cmp 0 new_state (written_and_found opening key value) 0 written
   lives = (
     0,
     left,
-    (stops, refl),
+    ((0, written, stops), refl),
     (0, written, (written, opens_again, (written, finds, (refl, refl))), (refl, refl)),
   )
 

@@ -21,6 +21,7 @@ use Rattle.rusty_leveldb.specs.Causes.{Faults, bad_operand, out_of_memory, Misfi
 use Rattle.rusty_leveldb.specs.Machine.{StepIn, Responds}
 use Rattle.rusty_leveldb.specs.Serves.{refusal_of, found_or}
 use Rattle.rusty_leveldb.specs.Engine.{IsShut, mode_of, Remembers, Recalls, AnswersStill}
+use Rattle.rusty_leveldb.proofs.Writes.Moments.{moments_none}
 use Rattle.rusty_leveldb.proofs.Others.{others_still, spared_still}
 
 -- ---- what is found
@@ -60,6 +61,7 @@ module _ {E C FP F I : Type 0} {D : I → Type 0} (env : Ghosts E F) (cmp : List
     new = old;
     represents = represents;
     step = record { later = omega arith; step = stays store (env.tells at).disk old represents.disk_is.is_state represents.memory_is _ };
+    moments = moments_none store (get None key) old (env.tells at) represents.disk_is;
     files = spared_still (get None key) answer old old (env.tells at).disk.files;
     others = others_still store (env.tells at).disk;
     beside = λ opens_not path differs. refl;

@@ -4,6 +4,9 @@ pub mod Readings
 pub mod Bounds
 pub mod Crashed
 pub mod Crashes
+pub mod Moments
+pub mod Steps
+pub mod Beside
 pub mod Causes
 pub mod Example
 pub mod OneLog
@@ -15,6 +18,8 @@ pub mod Frames
 pub mod Ended
 pub mod Closing
 pub mod Playing
+pub mod Living
+pub mod Lives
 pub mod Batching
 pub mod Writes
 pub mod FrameBytes

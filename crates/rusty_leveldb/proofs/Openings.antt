@@ -2,6 +2,7 @@
 pub mod Logs
 pub mod Refusals
 pub mod Survives
+pub mod Moments
 pub mod Calls
 pub mod Refused
 pub mod Opened

@@ -1,5 +1,6 @@
 -- The steps of writes and flushes, an exit each.
 pub mod Stands
+pub mod Moments
 pub mod Shut
 pub mod Flush
 pub mod Batches

@@ -1,9 +1,9 @@
 -- What the engine of a store that is one log has in memory, what that has to do with the disk, and what its calls answer.
-use Rattle.std.specs.Prelude.{◌≡◌, ◌≢◌, ◌≤◌, ◌%◌, ◌⊎◌, ◌↔◌, ℕ, Bool, true, false, List, [], ◌∷◌, ◌++◌, length, Option, Some, None, IsTrue, string_bytes}
+use Rattle.std.specs.Prelude.{◌≡◌, ◌≢◌, ◌≤◌, ◌%◌, ◌⊎◌, ◌↔◌, ℕ, Bool, true, false, List, [], ◌∷◌, ◌++◌, length, Option, Some, None, IsTrue, string_bytes, Contains}
 use Rattle.std.specs.declared.cmp.Ordering.{Ordering}
 use Rattle.leveldb_base.specs.declared.error.Status.{Status}
 use Rattle.leveldb_base.specs.declared.error.StatusCode.TheVariants.{InvalidArgument, NotSupported, Corruption, IOError, LockError}
-use Rattle.leveldb_base.specs.History.{Item, entries_of, greatest}
+use Rattle.leveldb_base.specs.History.{Item, Entry, entries_of, greatest}
 use Rattle.leveldb_base.specs.View.{SameView}
 use Rattle.leveldb_env.specs.declared.env.Env.{Ghosts}
 use Rattle.leveldb_env.specs.Disk.{File, Disk, bytes_of, AreBytes}
@@ -52,10 +52,11 @@ module _ {E C FP F I : Type 0} {D : I → Type 0} (env : Ghosts E F) (store : Li
     pub name : env.name_of engine.log ≡ log_path store
     pub writer : engine.writer ≡ record { size = log_block_size; place = length (bytes_of file) % log_block_size; broken = false }
 
-  -- memory shows what the history shows, from its end on
+  -- memory shows what the history shows, from its end on, and no entry of it is past that end
   pub record Remembers (engine : Engine E C FP F I D) (state : State) : Type 0 where
     pub last : engine.recent.last ≡ state.last
     pub same : (t : ℕ) → greatest (entries_of state.history) ≤ t → SameView engine.recent.kept.entries (entries_of state.history) t
+    pub up_to : (entry : Entry) → Contains engine.recent.kept.entries entry → entry.sequence ≤ greatest (entries_of state.history)
 
   -- what the engine's memory has to do with the disk and the state
   pub record Recalls (engine : Engine E C FP F I D) (disk : Disk) (state : State) : Type 0 where

@@ -1,6 +1,6 @@
 -- What a disk keeps of a history.
 -- `store` is the store's path, and `reads files contents` says that the files are a whole store with these contents.
-use Rattle.std.specs.Prelude.{◌≡◌, ◌≤◌, ◌+◌, ◌⊎◌, ℕ, List, Option, Some}
+use Rattle.std.specs.Prelude.{◌≡◌, ◌≤◌, ◌+◌, ◌⊎◌, ℕ, List, Option, Some, Contains}
 use Rattle.leveldb_base.specs.History.{Entry, History, IsBeginning, entries_of, greatest, joined, count_of}
 use Rattle.leveldb_base.specs.View.{SameView}
 use Rattle.leveldb_env.specs.Disk.{File, Files, Leaves, bytes_of}
@@ -14,9 +14,11 @@ abbrev pub IsHonest : List ℕ → Files → Files → Type 0
 IsHonest store files left = (name : List ℕ) (file crashed : File) → IsJournal store name → files name ≡ Some file → left name ≡ Some crashed
     → HonestTail log_block_size (bytes_of file) (bytes_of crashed)
 
--- the contents show what the history shows, from its end on, and none of their numbers is past the bound
+-- The contents show what the history shows, from its end on, and no entry of them is past that end; the greatest number that they know of is
+-- not below it, nor past the bound.
 pub record Tells (bound : ℕ) (contents : Contents) (history : History) : Type 0 where
   pub same : (t : ℕ) → greatest (entries_of history) ≤ t → SameView contents.entries (entries_of history) t
+  pub up_to : (entry : Entry) → Contains contents.entries entry → entry.sequence ≤ greatest (entries_of history)
   pub reached : greatest (entries_of history) ≤ contents.last
   pub bounded : contents.last ≤ bound
 

@@ -3,6 +3,7 @@ pub mod Contents
 pub mod OneLog
 pub mod Holds
 pub mod State
+pub mod Unread
 pub mod Causes
 pub mod Machine
 pub mod Runs
@@ -12,6 +13,7 @@ pub mod Recent
 pub mod Replay
 pub mod Engine
 pub mod Shell
+pub mod Lives
 pub mod Language
 pub mod Recovery
 pub mod Spelling

@@ -32,6 +32,10 @@ abbrev pub kept_log : Option File → File
 kept_log None = kept_file []
 kept_log (Some file) = file_kept file
 
+-- the log is as it was, or what stands there, or an empty file, has all its bytes kept
+abbrev pub IsMadeKept : List ℕ → Files → Files → Type 0
+IsMadeKept name old files = (files name ≡ old name) ⊎ (files name ≡ Some (kept_log (old name)))
+
 -- a log of these records, which ends cleanly, all its bytes kept
 pub record IsKeptLog (records : List (List ℕ)) (now : Option File) : Type 0 where
   pub file : File

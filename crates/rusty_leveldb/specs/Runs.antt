@@ -42,15 +42,16 @@ module _ (cmp : List ℕ → List ℕ → Ordering) where
   Run before old (event ∷ events) after new =
       (next : State) × Step cmp (faults_of before event) old event.request event.answer next × Run event.failures next events after new
 
-  -- A crash before these answers, all of which would have come: behind the last request, or at a moment of the next one.
-  abbrev pub CrashBefore : ℕ → State → List (ℕ × Event) → State → Type 0
-  CrashBefore failures state [] new = Crashes state (risk_between state) new
-  CrashBefore failures state (next ∷ later) new =
+  -- A crash before these answers, all of which would have come, up to so many failures and this last state: behind the last request, or at a
+  -- moment of the next one.
+  abbrev pub CrashBefore : ℕ → State → List (ℕ × Event) → ℕ → State → State → Type 0
+  CrashBefore failures state [] end last new = (end ≡ failures) × (last ≡ state) × Crashes state (risk_between state) new
+  CrashBefore failures state (next ∷ later) end last new =
       (after : State) × Step cmp (faults_of failures next.1) state next.1.request next.1.answer after
-      × ((end : ℕ) × (last : State) × Run next.1.failures after (events_of later) end last) × Crashes state (risk_of next.1.request state after) new
+      × Run next.1.failures after (events_of later) end last × Crashes state (risk_of next.1.request state after) new
 
   -- what was answered by this moment happened; a crash comes then, before the next answer
-  pub record StopsAt (before : ℕ) (old : State) (answered : List (ℕ × Event)) (moment : ℕ) (new : State) : Type 0 where
+  pub record StopsAt (before : ℕ) (old : State) (answered : List (ℕ × Event)) (moment : ℕ) (end : ℕ) (last new : State) : Type 0 where
     pub done : List (ℕ × Event)
     pub undone : List (ℕ × Event)
     pub split : answered ≡ done ++ undone
@@ -59,12 +60,12 @@ module _ (cmp : List ℕ → List ℕ → Ordering) where
     pub failures : ℕ
     pub state : State
     pub run : Run before old (events_of done) failures state
-    pub crash : CrashBefore failures state undone new
+    pub crash : CrashBefore failures state undone end last new
 
   -- the life runs to its end; what comes after it begins there, or where the crash left it
   abbrev pub LifeLeads : ℕ → State → List (ℕ × Event) → Ending → ℕ → State → Type 0
   LifeLeads before old answered goes_on after new = Run before old (events_of answered) after new
-  LifeLeads before old answered (crashes moment counted) after new = StopsAt before old answered moment new × (after ≡ counted)
+  LifeLeads before old answered (crashes moment counted) after new = ((end : ℕ) × (last : State) × StopsAt before old answered moment end last new) × (after ≡ counted)
 
   -- one life after another
   abbrev pub Lives : ℕ → State → List Life → ℕ → State → Type 0

@@ -1,21 +1,22 @@
 -- What the engine's clauses say: from every state that memory and disk stand for, a step of the machine.
 -- `store` is the store's path, `reads files contents` says that the files are a whole store with these contents,
 -- and `Recalls memory disk state` what the engine's memory has to do with them.
-use Rattle.std.specs.Prelude.{◌≡◌, ◌≢◌, ◌⊎◌, ℕ, List, [], Option, Some, None, Result, Ok, Err, All, map}
+use Rattle.std.specs.Prelude.{◌≡◌, ◌≢◌, ◌≤◌, ◌⊎◌, ◌↔◌, ℕ, List, [], Option, Some, None, Result, Ok, Err, All, false, map}
 use Rattle.std.specs.Option.{option_map}
 use Rattle.std.specs.declared.cmp.Ordering.{Ordering}
 use Rattle.leveldb_base.specs.declared.error.Status.{Status}
 use Rattle.leveldb_base.specs.Status.{text_of}
-use Rattle.leveldb_env.specs.Disk.{File, Files, Disk, bytes_of, or_empty}
-use Rattle.leveldb_env.specs.Times.{Told, Within}
+use Rattle.leveldb_env.specs.Disk.{File, Files, Disk, Leaves, bytes_of, or_empty}
+use Rattle.leveldb_env.specs.Times.{Told}
+use Rattle.leveldb_env.specs.Runs as calls
 use Rattle.rusty_leveldb.specs.Names.{lock_path}
 use Rattle.rusty_leveldb.specs.Contents.{Contents}
 use Rattle.rusty_leveldb.specs.OneLog.{IsOneLog, log_path, temp_path}
-use Rattle.rusty_leveldb.specs.Holds.{IsSafe, Holds, HasStore, KeepsStore}
+use Rattle.rusty_leveldb.specs.Holds.{IsHonest, IsSafe, Holds, HasStore, KeepsStore}
 use Rattle.rusty_leveldb.specs.State.{State, IsState, open_mode, closed, Request, write, get, walk, get_snapshot, release_snapshot, flush, close, abandon, Refusal, Answer, done, found, refused}
 use Rattle.rusty_leveldb.specs.Causes.{Faults, TakesLock}
 use Rattle.rusty_leveldb.specs.Machine.{Step, Risk, risk_of}
-use Rattle.rusty_leveldb.specs.Runs.{Event, Run}
+use Rattle.rusty_leveldb.specs.Runs.{Event, events_of, Run, StopsAt}
 
 -- how the store's files are read
 abbrev pub Reads : List ℕ → Files → Contents → Type 0
@@ -52,11 +53,12 @@ Scene M = Option M × Told × ℕ
 abbrev pub faults_between : ℕ → ℕ → Faults
 faults_between before after = record { before = before; after = after; coders = [] }
 
--- these requests had these answers, and no coder took part
-pub record IsConversation (requests : List Request) (answers : List Answer) (events : List Event) : Type 0 where
-  pub requests_are : map (λ event. event.request) events ≡ requests
-  pub answers_are : map (λ event. event.answer) events ≡ answers
-  pub no_coder : All (λ event. event.coders ≡ []) events
+-- these requests had these answers at these moments, and no coder took part
+pub record IsConversation (requests : List Request) (answers : List Answer) (moments : List ℕ) (answered : List (ℕ × Event)) : Type 0 where
+  pub requests_are : map (λ one. one.1.request) answered ≡ requests
+  pub answers_are : map (λ one. one.1.answer) answered ≡ answers
+  pub moments_are : map (λ one. one.0) answered ≡ moments
+  pub no_coder : All (λ one. one.1.coders ≡ []) answered
 
 -- ---- what befalls the files
 
@@ -130,9 +132,9 @@ module _ (store : List ℕ) (reads : Files → Contents → Type 0) where
     pub carries : IsSafe store reads risk.bound old.covered risk.history files
     pub stays : KeepsStore store reads old.store files
 
-  -- the same at each moment of a request
+  -- the same at each moment of a request, its end among them; what was told of the moments before it stays
   abbrev pub AtEachMoment : Request → State → State → Told → Told → Type 0
-  AtEachMoment request old new before after = Within (IsSpared old (risk_of request old new)) before after
+  AtEachMoment request old new before after = calls.Run (IsSpared old (risk_of request old new)) before after
 
   module _ {M : Type 0} (Recalls : M → Disk → State → Type 0) where
     -- what memory there is stands for the state; of a store that is closed there may be none
@@ -146,36 +148,30 @@ module _ (store : List ℕ) (reads : Files → Contents → Type 0) where
       pub memory_is : Remembers memory disk state
 
     module _ (cmp : List ℕ → List ℕ → Ordering) where
-      -- From this state, a step to one for which memory and disk stand then; what isn't the store's stays as it is, and but for an opening
-      -- the log alone is touched.
+      -- From this state, a step to one for which memory and disk stand then, and at each moment of the call what a crash leaves is spared;
+      -- what isn't the store's stays as it is, and but for an opening the log alone is touched.
       pub record Goes (from : Scene M) (request : Request) (answer : Answer) (to : Scene M) (old : State) : Type 0 where
         pub new : State
         pub represents : Represents to.0 to.1.disk new
         pub step : Step cmp (faults_between from.2 to.2) old request answer new
+        pub moments : AtEachMoment request old new from.1 to.1
         pub files : SparesFiles request answer old new from.1.disk.files to.1.disk.files
         pub others : SparesOthers store from.1.disk to.1.disk
         pub beside : (TakesLock request → ⊥) → (path : List ℕ) → path ≢ log_path store → to.1.disk.files path ≡ from.1.disk.files path
-
-      -- the same, safe at each moment
-      pub record GoesSafely (from : Scene M) (request : Request) (answer : Answer) (to : Scene M) (old : State) : Type 0 where
-        pub goes : Goes from request answer to old
-        pub moments : AtEachMoment request old goes.new from.1 to.1
 
       -- from every state that memory and disk stand for
       abbrev pub Serves : Scene M → Request → Answer → Scene M → Type 0
       Serves from request answer to = (old : State) → Represents from.0 from.1.disk old → Goes from request answer to old
 
-      abbrev pub ServesSafely : Scene M → Request → Answer → Scene M → Type 0
-      ServesSafely from request answer to = (old : State) → Represents from.0 from.1.disk old → GoesSafely from request answer to old
-
-      -- a run of these requests with these answers, to a state for which memory and disk stand then; what isn't the store's stays as it is
-      pub record Runs (from : Scene M) (requests : List Request) (answers : List Answer) (to : Scene M) (old : State) : Type 0 where
-        pub events : List Event
-        pub asked : IsConversation requests answers events
+      -- A run of these requests with these answers, each given at its moment, to a state for which memory and disk stand then; what isn't the
+      -- store's stays as it is. Wherever an honest crash comes in the run, it stops at that moment, and the disk that is left stands for what it left.
+      pub record Runs (from : Scene M) (requests : List Request) (answers : List Answer) (moments : List ℕ) (to : Scene M) (old : State) : Type 0 where
+        pub answered : List (ℕ × Event)
+        pub asked : IsConversation requests answers moments answered
         pub new : State
-        pub run : Run cmp from.2 old events to.2 new
+        pub run : Run cmp from.2 old (events_of answered) to.2 new
         pub represents : Represents to.0 to.1.disk new
         pub others : SparesOthers store from.1.disk to.1.disk
-
-      abbrev pub ServesAll : Scene M → List Request → List Answer → Scene M → Type 0
-      ServesAll from requests answers to = (old : State) → Represents from.0 from.1.disk old → Runs from requests answers to old
+        pub ends : (moment : ℕ) → from.1.moment ≤ moment → All (λ one. one.0 ≤ moment) answered ↔ (to.1.moment ≤ moment)
+        pub stops : (moment : ℕ) (files : Files) (left : Disk) → from.1.moment ≤ moment → moment ≤ to.1.moment → to.1.stood moment files → Leaves files left.files → IsHonest store files left.files
+            → ((path : List ℕ) → left.locked path ≡ false) → (then : State) × StopsAt cmp from.2 old answered moment to.2 new then × StandsFor left then

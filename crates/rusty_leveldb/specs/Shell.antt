@@ -42,9 +42,13 @@ answer_of (reply.Refused status) = refused (refusal_of status)
 -- ---- runs
 
 module _ {E F : Type 0} (C FP : Type 0) {I : Type 0} {D : I → Type 0} (env : Ghosts E F) (cmp : List ℕ → List ℕ → Ordering) (store : List ℕ) where
-  -- these requests had these answers, from what the disk has on, and what engine and disk stand for then
+  -- these requests had these answers, each at its moment, from what the disk has on, and what engine and disk stand for then
+  abbrev pub LeadsAt : E → List Request → List Answer → List ℕ → Option (Engine E C FP F I D) → E → State → Type 0
+  LeadsAt from requests answers moments engine to old = Runs store (Reads store) (Recalls env store) cmp (scene {C = C} {FP = FP} {I = I} {D = D} env cmp None from) requests answers moments (scene env cmp engine to) old
+
+  -- the same, at some moments
   abbrev pub Leads : E → List Request → List Answer → Option (Engine E C FP F I D) → E → State → Type 0
-  Leads from requests answers engine to old = Runs store (Reads store) (Recalls env store) cmp (scene {C = C} {FP = FP} {I = I} {D = D} env cmp None from) requests answers (scene env cmp engine to) old
+  Leads from requests answers engine to old = (moments : List ℕ) × LeadsAt from requests answers moments engine to old
 
 -- the run was refused, and leaves what a refused opening leaves
 abbrev pub IsUnopened : {E F : Type 0} → Ghosts E F → List ℕ → Bool → E → Result (Unit {0}) Status → E → Type 0

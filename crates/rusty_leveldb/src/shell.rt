@@ -1,6 +1,7 @@
 //! The store's commands as values: what is asked of a store, and what it answers; and as text.
 
 mod commands;
+mod crash_runs;
 mod language;
 mod lines;
 mod program;
@@ -9,6 +10,7 @@ mod runs;
 mod words;
 
 pub use commands::{Command, Item, Reply};
+pub use crash_runs::{Life, Report, live, lives};
 pub use language::{Script, parse};
 pub use program::ldb_main;
 pub use replies::put_replies;

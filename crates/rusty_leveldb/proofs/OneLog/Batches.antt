@@ -1,14 +1,15 @@
 -- Batches in order, and one batch more.
-use Rattle.std.proofs.Common.{◌≡◌, ◌≤◌, ◌<◌, ◌+◌, ℕ, zero, suc, List, [], ◌∷◌, ◌++◌, length, take, sym, ◌∙◌, ap, subst, arith, append-nil}
-use Rattle.std.specs.Prelude.{max}
+use Rattle.std.proofs.Common.{◌≡◌, ◌≤◌, ◌<◌, ◌+◌, ⊎_elim, ℕ, zero, suc, List, [], ◌∷◌, ◌++◌, length, take, sym, ◌∙◌, ap, subst, arith, append-nil}
+use Rattle.std.specs.Prelude.{Contains, max}
 use Rattle.std.proofs.lemmas.List.Concat.{flat_map-append}
+use Rattle.std.proofs.lemmas.List.Elements.{Contains-append_cases}
 use Rattle.leveldb_base.specs.History.{Item, Entry, History, placed, entries_of, greatest}
 use Rattle.leveldb_base.specs.View.{SameView}
 use Rattle.leveldb_base.specs.ViewLaws.{same_with_more}
 use Rattle.leveldb_mem.specs.Batch.{Batch}
 use Rattle.rusty_leveldb.specs.OneLog.{AreInOrder, entries_in, all_entries, contents_of, max_sequence}
 use Rattle.rusty_leveldb.specs.Holds.{Tells}
-use Rattle.rusty_leveldb.proofs.Histories.{greatest_append, up_to, placed_above, placed_greatest, entries_more}
+use Rattle.rusty_leveldb.proofs.Histories.{greatest_append, up_to_greatest, up_to, placed_above, placed_greatest, entries_more}
 
 -- ---- one batch more
 
@@ -50,6 +51,10 @@ module _ (last : ℕ) (items : List Item) (batches : List Batch) (history : Hist
   tells_more = record {
     same = λ t most. both t (same_with_more (all_entries batches) (entries_of history) batch last t (up_to last (all_entries batches) was.bounded) (up_to last (entries_of history) reached)
         (placed_above (last + 1) items last (omega arith)) (was.same t (omega (arith, most, g1))));
+    up_to = λ entry c. ⊎_elim
+        (λ (old : Contains (all_entries batches) entry). let low = was.up_to entry old in omega (arith, low, g1))
+        (λ (new : Contains batch entry). let low = up_to_greatest batch entry new in omega (arith, low, g1))
+        (Contains-append_cases (all_entries batches) batch entry (subst (λ es. Contains es entry) disk_is c));
     reached = omega (arith, g1, g2, was.reached);
     bounded = omega (arith, g2, was.bounded, placed_greatest last items);
   }

@@ -71,6 +71,12 @@ module _ (store : List ℕ) where
           let named : IsRead (Some (kept_file (file.kept ++ leaves_it.0))) found = subst (λ f. IsRead f found) leaves_it.3 after in
           subst (λ s. Stays s found.store) (ap (λ c. c.store) (sym here.2)) (ap (λ c. c.store) named.2)
 
+  -- so a log that is there is a store behind each crash
+  pub log_keeps : (there : Store) (file : File) (files : Files) → there ≡ made None → files name ≡ Some file → KeepsStore store reads there files
+  log_keeps there file files is at left contents leaves honest read =
+      let leaves_log = subst (λ f. LeavesFile f (left name)) at (leaves name) in
+      subst (λ s. Stays s contents.store) (sym is) (log_is_store (kept_file (file.kept ++ leaves_log.0)) left leaves_log.3 contents read)
+
   -- ---- a log that is kept
 
   -- where the log is kept, or none is there, the disk holds what it carries, all of it covered
@@ -84,4 +90,4 @@ module _ (store : List ℕ) where
 
   -- the greatest number that is read is a bound
   pub carries_last : (files : Files) (history : History) (bound : ℕ) (c : Carries store reads bound history files) → Carries store reads c.contents.last history files
-  carries_last files history bound c = record { contents = c.contents; read = c.read; tells = record { same = c.tells.same; reached = c.tells.reached; bounded = omega arith } }
+  carries_last files history bound c = record { contents = c.contents; read = c.read; tells = record { same = c.tells.same; up_to = c.tells.up_to; reached = c.tells.reached; bounded = omega arith } }

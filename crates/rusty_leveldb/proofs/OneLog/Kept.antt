@@ -71,7 +71,7 @@ pub created_carries : (bound : ℕ) (history : History) → Carried bound histor
 created_carries bound history c = record {
   contents = contents_of [];
   read = ([], record { records = []; end = clean; read = refl; each = tt; order = tt }, refl);
-  tells = record { same = tells.same; reached = tells.reached; bounded = tells.bounded };
+  tells = record { same = tells.same; up_to = tells.up_to; reached = tells.reached; bounded = tells.bounded };
 }
   where
     tells : Tells bound nothing_there history

@@ -52,7 +52,7 @@ pub carried_more : (bound more : ℕ) (history : History) (file : Option File) �
 carried_more bound more history file most c = record {
   contents = c.contents;
   read = c.read;
-  tells = record { same = c.tells.same; reached = c.tells.reached; bounded = omega (arith, c.tells.bounded, most) };
+  tells = record { same = c.tells.same; up_to = c.tells.up_to; reached = c.tells.reached; bounded = omega (arith, c.tells.bounded, most) };
 }
 
 pub some_is : {A : Type 0} (a b : A) → Some a ≡ Some b → a ≡ b
@@ -61,14 +61,14 @@ some_is a b e = ap (λ o. elim o [ Some x ↦ x | None ↦ a ]) e
 -- ---- a file's own crashes
 
 -- nothing of what was appended since is left
-abbrev cut : Option File → Option File
+abbrev pub cut : Option File → Option File
 cut None = None
 cut (Some file) = Some (kept_file (file.kept ++ []))
 
 no_bytes : AreBytes []
 no_bytes i = omega arith
 
-cut_leaves : (file : Option File) → LeavesFile file (cut file)
+pub cut_leaves : (file : Option File) → LeavesFile file (cut file)
 cut_leaves None = refl
 cut_leaves (Some file) = ([], no_bytes, omega arith, refl)
 
@@ -80,7 +80,7 @@ front_honest file front rest e was is same_was same_is =
     subst (λ f. HonestTail log_block_size (bytes_of f) (bytes_of is)) (some_is file was same_was)
     (subst (λ f. HonestTail log_block_size (bytes_of file) (bytes_of f)) (some_is (kept_file (file.kept ++ front)) is same_is) here)
 
-cut_honest : (file : Option File) → Honest file (cut file)
+pub cut_honest : (file : Option File) → Honest file (cut file)
 cut_honest None = λ was is same_was same_is. absurd (cc)
 cut_honest (Some file) = front_honest file [] file.since refl
 

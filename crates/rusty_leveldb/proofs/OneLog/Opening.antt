@@ -1,6 +1,7 @@
 -- A store that is one log as it is opened: a log that is made, and one that takes the place of a log with a bad end.
 use Rattle.std.proofs.Common.{◌≡◌, ◌≤◌, ◌+◌, ◌⊎◌, inl, inr, ⊎_elim, ℕ, List, [], ◌∷◌, ◌++◌, length, refl, sym, ◌∙◌, ap, subst, arith, Option, Some, None, length-append}
 use Rattle.leveldb_base.specs.History.{Entry, History, IsBeginning, joined, count_of}
+use Rattle.leveldb_base.specs.ViewLaws.Elements.{in_none}
 use Rattle.leveldb_env.specs.Disk.{File, Files, bytes_of, kept_file, created, renamed, deleted, or_empty}
 use Rattle.leveldb_env.specs.Calls.{EitherSide}
 use Rattle.leveldb_env.specs.FileLaws.{at_same, renamed-there}
@@ -50,7 +51,7 @@ module _ (store : List ℕ) where
   nothing_carries files gone = carries store 0 [] files (subst (Carried 0 []) (sym gone) nothing)
     where
       nothing : Carried 0 [] None
-      nothing = record { contents = nothing_there; read = refl; tells = record { same = λ t most key value. (λ s. s, λ s. s); reached = omega arith; bounded = omega arith } }
+      nothing = record { contents = nothing_there; read = refl; tells = record { same = λ t most key value. (λ s. s, λ s. s); up_to = λ entry c. absurd (in_none entry c); reached = omega arith; bounded = omega arith } }
 
   pub nothing_holds : (files : Files) → files name ≡ None → Holds store reads files [] 0 0 None
   nothing_holds files gone = kept_holds store files [] 0 (subst IsKept (sym gone) tt) (nothing_carries files gone)

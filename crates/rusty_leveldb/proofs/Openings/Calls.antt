@@ -6,13 +6,14 @@ use Rattle.leveldb_base.specs.declared.error.Status.{Status}
 use Rattle.leveldb_base.specs.Status.{IsOutOfMemory}
 use Rattle.leveldb_env.specs.Disk.{File, Files, bytes_of, file_kept, or_empty, created, synced}
 use Rattle.leveldb_env.specs.Times.{Told}
-use Rattle.leveldb_env.specs.Calls.{Does, EitherSide, NoMemory}
+use Rattle.leveldb_env.specs.Calls.{Does, EitherSide, Still, NoMemory}
+use Rattle.leveldb_env.specs.Runs.{Run, Run-mono, Run-trans}
 use Rattle.leveldb_env.specs.FileLaws.{at_same}
 use Rattle.leveldb_mem.specs.Log.{log_block_size, End, clean, bad}
 use Rattle.leveldb_mem.specs.Writing.{Writing}
 use Rattle.rusty_leveldb.specs.Recent.{Numbered}
 use Rattle.rusty_leveldb.specs.Replay.{AreBatches, IsReplayed, IsDamaged}
-use Rattle.rusty_leveldb.specs.Recovery.{IsFoundAs, framed_file, kept_log, SparesLog, IsRecovered, HasCauses, IsFoundOr, IsUntold, IsNotMade, IsNoLog}
+use Rattle.rusty_leveldb.specs.Recovery.{IsFoundAs, framed_file, kept_log, IsMadeKept, SparesLog, IsRecovered, HasCauses, IsFoundOr, IsUntold, IsNotMade, IsNoLog}
 use Rattle.rusty_leveldb.proofs.Openings.Logs.{mending_spares, opening_spares, opened_recovers}
 use Rattle.rusty_leveldb.proofs.Openings.Refusals.{causes_after, causes_refused, excused, damaged, untold}
 
@@ -69,6 +70,24 @@ module _ (create : Bool) (first read mid now : Files) (name path : List ℕ) (te
       → IsRecovered create (first path) (now path) writer recent
   open_recovers size writer recent is there sized stands replayed = subst (λ p. IsRecovered create (first p) (now p) writer recent) named
       (opened_recovers create (first name) records is_clean has are (mid name) (now name) size writer recent (since_first is) there sized stands replayed)
+
+-- ---- the moments of a recovery
+
+-- The log is read, mended and opened, one after another: at each moment it is as it was, or has the records that were found, all its bytes kept.
+abbrev pub Sparing : Bool → Option File → List ℕ → Files → Type 0
+Sparing create was path files = SparesLog create was (files path)
+
+pub read_run : (create : Bool) (path : List ℕ) {first read : Told} → Run (Still first.disk.files) first read → Run (Sparing create (first.disk.files path) path) first read
+read_run create path still = Run-mono (λ files same. inl (ap (λ (f : Files). f path) same)) still
+
+module _ (create : Bool) (first read mended now : Told) (name path : List ℕ) (texts records : List (List ℕ)) (is_clean : Bool) (named : name ≡ path) (still : Run (Still first.disk.files) first read) (same : records ≡ texts)
+    (found : IsFoundAs create (first.disk.files name) texts (if is_clean then clean else bad)) (are : AreBatches records)
+    (mends : Run (λ files. (files name ≡ read.disk.files name) ⊎ ((is_clean ≡ false) × (files name ≡ Some (framed_file records)))) read mended) where
+  pub mend_run : Run (Sparing create (first.disk.files path) path) first mended
+  mend_run = Run-trans (read_run create path still) (λ files either. mend_spares create first.disk.files read.disk.files files files name path texts records is_clean named still.has same found are either) mends
+
+  pub open_run : mended.disk.files name ≡ (if is_clean then read.disk.files name else Some (framed_file records)) → Run (IsMadeKept name mended.disk.files) mended now → Run (Sparing create (first.disk.files path) path) first now
+  open_run is opens = Run-trans mend_run (λ files either. open_spares create first.disk.files read.disk.files mended.disk.files files name path texts records is_clean named still.has same found are is either) opens
 
 -- ---- refusals
 

@@ -1,5 +1,5 @@
 -- What the calls before the log's did, at each exit of an opening.
-use Rattle.std.proofs.Common.{◌≡◌, ◌≢◌, ◌⊎◌, ◌<◌, ◌≤◌, ◌+◌, ◌∷◌, inl, inr, ⊎_elim, ℕ, Bool, false, true, cond, List, refl, sym, ◌∙◌, ap, subst, arith, Option, None, Result, Ok, Err}
+use Rattle.std.proofs.Common.{◌≡◌, ◌≢◌, ◌⊎◌, ◌<◌, ◌≤◌, ◌+◌, inl, inr, ⊎_elim, ℕ, Bool, false, true, cond, List, sym, ◌∙◌, ap, subst, arith, Option, None, Result, Ok, Err}
 use Rattle.std.specs.Prelude.{◌-◌, ◌^◌, IsTrue, if◌then◌else◌, is_ok}
 use Rattle.leveldb_base.specs.declared.error.Status.{Status}
 use Rattle.leveldb_base.specs.declared.error.StatusCode.TheVariants.{Corruption}

@@ -1,5 +1,5 @@
 -- An opening that is answered with a store is a step that opens it.
-use Rattle.std.proofs.Common.{◌≡◌, ◌≢◌, ◌⊎◌, ◌≤◌, ◌+◌, inl, inr, ⊎_elim, ℕ, Bool, false, true, List, [], length, refl, sym, ◌∙◌, ap, subst, arith, Option, Some, None}
+use Rattle.std.proofs.Common.{◌≡◌, ◌⊎◌, ◌≤◌, ◌+◌, inl, inr, ⊎_elim, ℕ, Bool, false, true, List, [], length, refl, sym, ◌∙◌, ap, subst, arith, Option, Some, None}
 use Rattle.std.specs.Prelude.{IsTrue, Contains, ◌↔◌, string_bytes}
 use Rattle.std.specs.declared.cmp.Ordering.{Ordering}
 use Rattle.leveldb_base.specs.History.{Entry, entries_of, greatest, joined, count_of}
@@ -8,6 +8,7 @@ use Rattle.leveldb_base.specs.ViewLaws.Elements.{in_none}
 use Rattle.leveldb_env.specs.declared.env.Env.{Ghosts}
 use Rattle.leveldb_env.specs.Disk.{File, AreBytes}
 use Rattle.leveldb_env.specs.Times.{Told}
+use Rattle.leveldb_env.specs.Runs.{Run}
 use Rattle.leveldb_mem.specs.Log.{clean}
 use Rattle.rusty_leveldb.specs.Contents.{Store, missing, made, Contents}
 use Rattle.rusty_leveldb.specs.OneLog.{log_path, IsRead, all_entries, contents_of}
@@ -26,6 +27,8 @@ use Rattle.rusty_leveldb.proofs.Readings.{one_read}
 use Rattle.rusty_leveldb.proofs.OneLog.Disks.{log_is_store, store_stays, kept_holds}
 use Rattle.rusty_leveldb.proofs.OneLog.Opening as opening
 use Rattle.rusty_leveldb.proofs.Openings.Logs.{carried_over, kept_is_kept}
+use Rattle.rusty_leveldb.proofs.Openings.Calls.{Sparing}
+use Rattle.rusty_leveldb.proofs.Openings.Moments.{opening_moments}
 use Rattle.rusty_leveldb.proofs.Openings.Survives.{some_contents, stays_made}
 
 -- sets of the same entries show the same
@@ -54,7 +57,7 @@ module _ {E C FP F I : Type 0} {D : I → Type 0} (env : Ghosts E F) (name : Lis
     (from to : Told) (before after : ℕ) (engine : Engine E C FP F I D) (got : IsRecovered create (from.disk.files (log_path name)) (to.disk.files (log_path name)) engine.writer engine.recent)
     (mode : mode_of engine.mode ≡ open_mode) (lock : string_bytes engine.lock ≡ lock_path name) (log : env.name_of engine.log ≡ log_path name)
     (was_free : from.disk.locked (lock_path name) ≡ false) (held : to.disk.locked (lock_path name) ≡ true) (others : SparesOthers name from.disk to.disk)
-    (counted : after ≡ before) (old : State) (represents : Represents name (Reads name) (Recalls {E = E} {C = C} {FP = FP} {F = F} {I = I} {D = D} env name) None from.disk old) where
+    (counted : after ≡ before) (passed : Run (Sparing create (from.disk.files (log_path name)) (log_path name)) from to) (old : State) (represents : Represents name (Reads name) (Recalls {E = E} {C = C} {FP = FP} {F = F} {I = I} {D = D} env name) None from.disk old) where
   found : opening.Found name from.disk.files old.history (old.last + count_of old.pending) old.covered old.pending
   found = opening.found name from.disk.files old.history old.last old.covered old.pending represents.disk_is.is_state.covered represents.disk_is.holds
 
@@ -106,7 +109,7 @@ module _ {E C FP F I : Type 0} {D : I → Type 0} (env : Ghosts E F) (name : Lis
   carries_now = record {
     contents = contents_of got.replayed.read.batches;
     read = read_now;
-    tells = record { same = tells.same; reached = tells.reached; bounded = omega (arith, got.replayed.last) };
+    tells = record { same = tells.same; up_to = tells.up_to; reached = tells.reached; bounded = omega (arith, got.replayed.last) };
   }
 
   stands : StandsFor name (Reads name) to.disk now
@@ -127,6 +130,7 @@ module _ {E C FP F I : Type 0} {D : I → Type 0} (env : Ghosts E F) (name : Lis
       λ s. (tells.same t most key value).0 (shows_same engine.recent.kept.entries (all_entries got.replayed.read.batches) t key value got.replayed.just s),
       λ s. shows_same (all_entries got.replayed.read.batches) engine.recent.kept.entries t key value (λ entry. ((got.replayed.just entry).1, (got.replayed.just entry).0)) ((tells.same t most key value).1 s),
     );
+    up_to = λ entry c. tells.up_to entry ((got.replayed.just entry).0 c);
   }
 
   writes : WritesOn env name engine to.disk
@@ -175,6 +179,7 @@ module _ {E C FP F I : Type 0} {D : I → Type 0} (env : Ghosts E F) (name : Lis
       later = omega (arith, counted);
       step = subst (λ m. StepIn cmp m (faults_between before after) old (open_store opening_is) done now) (sym represents.memory_is) (misfits, opens);
     };
+    moments = opening_moments create name old represents.disk_is passed;
     files = record { untouched = λ never. absurd never; refused = λ never. absurd never; stopped = λ not_open takes. absurd (takes tt); bytes = λ never. absurd never };
     others = others;
     beside = λ opens_not. absurd (opens_not tt);

@@ -1,6 +1,6 @@
 -- A refused opening is a step that leaves the store closed.
-use Rattle.std.proofs.Common.{◌≡◌, ◌≢◌, ◌⊎◌, ◌<◌, ◌≤◌, inl, inr, ⊎_elim, ℕ, Bool, false, true, List, refl, sym, ◌∙◌, ap, subst, arith, Option, None}
-use Rattle.std.specs.Prelude.{◌+◌, ◌-◌, ◌^◌, IsTrue}
+use Rattle.std.proofs.Common.{◌≡◌, ◌⊎◌, ◌<◌, ◌≤◌, inl, inr, ⊎_elim, ℕ, Bool, false, true, List, refl, sym, ◌∙◌, ap, subst, arith, Option, None}
+use Rattle.std.specs.Prelude.{◌-◌, ◌^◌, IsTrue}
 use Rattle.std.specs.declared.cmp.Ordering.{Ordering}
 use Rattle.leveldb_base.specs.declared.error.Status.{Status}
 use Rattle.leveldb_base.specs.declared.error.StatusCode.TheVariants.{InvalidArgument, Corruption, LockError}
@@ -8,6 +8,7 @@ use Rattle.leveldb_base.specs.Status.{text_of}
 use Rattle.leveldb_env.specs.declared.env.Env.{Ghosts}
 use Rattle.leveldb_env.specs.Disk.{File, Disk, created}
 use Rattle.leveldb_env.specs.Times.{Told}
+use Rattle.leveldb_env.specs.Runs.{Run}
 use Rattle.leveldb_env.specs.Calls.{EitherSide, NoMemory}
 use Rattle.rusty_leveldb.specs.Contents.{Store, made, Contents, nothing_there}
 use Rattle.rusty_leveldb.specs.OneLog.{log_path, IsRead}
@@ -18,6 +19,8 @@ use Rattle.rusty_leveldb.specs.Machine.{IsEarly, UnlockFailed, StepIn}
 use Rattle.rusty_leveldb.specs.Serves.{Reads, SparesOthers, Represents, Goes, IsUnreadable, faults_between, refusal_of}
 use Rattle.rusty_leveldb.specs.Engine.{IsStoreName, IsOpening, OpenExcused, Recalls}
 use Rattle.rusty_leveldb.specs.Recovery.{SparesLog, NeverOpens, FailedBeside, StaysUnopened}
+use Rattle.rusty_leveldb.proofs.Openings.Calls.{Sparing}
+use Rattle.rusty_leveldb.proofs.Openings.Moments.{opening_moments}
 use Rattle.rusty_leveldb.proofs.Openings.Survives.{Survives, survives_now, survives_same, survives_kept, some_contents}
 
 -- why an opening is refused before anything is made
@@ -83,7 +86,7 @@ unlock_failed before mid after other later ended counts device failed = ⊎_elim
 
 module _ {E C FP F I : Type 0} {D : I → Type 0} (env : Ghosts E F) (name : List ℕ) (cmp : List ℕ → List ℕ → Ordering) (opening : Opening) (create : Bool) (is : IsOpening name create opening)
     (from to : Told) (before mid after : ℕ) (e : Status) (up : IsGivenUp name create from.disk to.disk before mid after e)
-    (old : State) (represents : Represents name (Reads name) (Recalls {E = E} {C = C} {FP = FP} {F = F} {I = I} {D = D} env name) None from.disk old) where
+    (passed : Run (Sparing create (from.disk.files (log_path name)) (log_path name)) from to) (old : State) (represents : Represents name (Reads name) (Recalls {E = E} {C = C} {FP = FP} {F = F} {I = I} {D = D} env name) None from.disk old) where
   -- the store is closed, and this store is there
   abbrev left : Store → State
   left there = record old { store = there; locked = to.disk.locked (lock_path name) }
@@ -129,6 +132,7 @@ module _ {E C FP F I : Type 0} {D : I → Type 0} (env : Ghosts E F) (name : Lis
         },
       );
     };
+    moments = opening_moments create name old represents.disk_is passed;
     files = record { untouched = λ never. absurd never; refused = λ never. absurd never; stopped = λ not_open takes. absurd (takes tt); bytes = λ never. absurd never };
     others = up.others;
     beside = λ opens_not. absurd (opens_not tt);

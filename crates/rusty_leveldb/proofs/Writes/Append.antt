@@ -8,6 +8,7 @@ use Rattle.leveldb_env.specs.declared.env.Env.{Ghosts}
 use Rattle.leveldb_env.specs.Disk.{File, Files, bytes_of, longer_file, AreBytes}
 use Rattle.leveldb_env.specs.Calls.{Appending}
 use Rattle.leveldb_env.specs.FileLaws.{extended-same, SameBut-appending}
+use Rattle.leveldb_env.specs.Runs.{Run}
 use Rattle.leveldb_mem.specs.Log.{frame_at}
 use Rattle.leveldb_mem.specs.Batch.{BatchOf}
 use Rattle.rusty_leveldb.specs.declared.db_impl.engine.Mode.TheVariants.{Broken}
@@ -16,7 +17,7 @@ use Rattle.rusty_leveldb.specs.OneLog.{log_path, max_sequence}
 use Rattle.rusty_leveldb.specs.State.{State, open_mode, broken, write, refused}
 use Rattle.rusty_leveldb.specs.Causes.{Faults, out_of_memory, device_failed}
 use Rattle.rusty_leveldb.specs.Machine.{batch_of, Breaks, StepIn, Responds}
-use Rattle.rusty_leveldb.specs.Serves.{Reads, Goes, faults_between, refusal_of}
+use Rattle.rusty_leveldb.specs.Serves.{Reads, IsSpared, Goes, faults_between, refusal_of}
 use Rattle.rusty_leveldb.specs.Engine.{scene, Recalls}
 use Rattle.rusty_leveldb.proofs.Histories.{entries_more, greatest_append, placed_greatest, placed_length, history_more}
 use Rattle.rusty_leveldb.proofs.OneLog.Writing.{appending_holds}
@@ -61,7 +62,7 @@ module _ {E C FP F I : Type 0} {D : I → Type 0} (env : Ghosts E F) (store : Li
 
   -- ---- an append that was refused, or whose sync was
 
-  passed_file : (files : Files) → Appending name frame (env.tells from).disk.files files → (file : File) × (files name ≡ Some file)
+  pub passed_file : (files : Files) → Appending name frame (env.tells from).disk.files files → (file : File) × (files name ≡ Some file)
   passed_file files (inl same) = (was.writes.file, ap (λ (f : Files). f name) same ∙ was.writes.there)
   passed_file files (inr part) = (longer_file (take part.0 frame) was.writes.file, ap (λ (f : Files). f name) part.1 ∙ extended-same name (take part.0 frame) (env.tells from).disk.files was.writes.file was.writes.there)
 
@@ -77,13 +78,14 @@ module _ {E C FP F I : Type 0} {D : I → Type 0} (env : Ghosts E F) (store : Li
     refuses status (inr device) = (device_failed, (tt, device), inr (tt, breaks))
 
     -- the log refused the append or the sync behind it, so the store is broken with the batch pending
-    pub write_broke : (status : Status) → env.failures from ≤ env.failures to → Fails status (env.failures from) (env.failures to) → Appending name frame (env.tells from).disk.files (env.tells to).disk.files
+    pub write_broke : (status : Status) → Run (IsSpared store (Reads store) old (record { history = longer; bound = old.last + length batch })) (env.tells from) (env.tells to) → env.failures from ≤ env.failures to → Fails status (env.failures from) (env.failures to) → Appending name frame (env.tells from).disk.files (env.tells to).disk.files
         → (env.tells to).disk.locked ≡ (env.tells from).disk.locked → IsStill env store engine after → after.mode ≡ Broken
         → Goes store (Reads store) (Recalls env store) cmp (scene env cmp (Some engine) from) (write items sync) (refused (refusal_of status)) (scene env cmp (Some after) to) old
-    write_broke status later why passes locks still mode = record {
+    write_broke status moments later why passes locks still mode = record {
       new = new;
       represents = broken_is env store engine after from to old (Some batch) was broke;
       step = record { later = later; step = subst (λ m. StepIn cmp m faults old (write items sync) (refused (refusal_of status)) new) (sym was.mode) (refuses status why) };
+      moments = moments;
       files = record {
         untouched = λ never. absurd never;
         refused = λ logging is_refused opened. absurd (let never : broken ≡ open_mode = opened in cc);

@@ -1,13 +1,16 @@
 -- A write that was done: what memory, disk and machine are then.
-use Rattle.std.proofs.Common.{◌≡◌, ◌≤◌, ◌+◌, ◌%◌, ◌⊎◌, inl, inr, ℕ, List, [], ◌∷◌, ◌++◌, length, refl, sym, ◌∙◌, ap, subst, arith, append_assoc, append-nil, length-append, Some, None, Bool, IsTrue, false}
-use Rattle.std.specs.Prelude.{max, string_bytes}
+use Rattle.std.proofs.Common.{◌≡◌, ◌≤◌, ◌+◌, ◌%◌, ◌⊎◌, inl, inr, ⊎_elim, ℕ, List, [], ◌∷◌, ◌++◌, length, refl, sym, ◌∙◌, ap, subst, arith, append_assoc, append-nil, length-append, Some, None, Bool, IsTrue, false}
+use Rattle.std.specs.Prelude.{Contains, max, string_bytes}
+use Rattle.std.proofs.lemmas.List.Elements.{Contains-append_cases}
 use Rattle.std.specs.declared.cmp.Ordering.{Ordering}
 use Rattle.leveldb_base.specs.History.{Item, Entry, History, IsHistory, entries_of, greatest, joined, count_of}
 use Rattle.leveldb_base.specs.View.{SameView}
 use Rattle.leveldb_base.specs.ViewLaws.{AreUpTo, same_with_more}
 use Rattle.leveldb_env.specs.declared.env.Env.{Ghosts}
 use Rattle.leveldb_env.specs.Disk.{File, Files, bytes_of, longer_file, file_kept, extended, synced, AreBytes}
-use Rattle.leveldb_env.specs.Calls.{Appending}
+use Rattle.leveldb_env.specs.Times.{Told}
+use Rattle.leveldb_env.specs.Calls.{EitherSide, Appending}
+use Rattle.leveldb_env.specs.Runs.{Run}
 use Rattle.leveldb_env.specs.FileLaws.{SameBut, SameBut-trans, SameBut-synced, SameBut-appending, extended-same, synced-same, appended}
 use Rattle.leveldb_mem.specs.Log.{log_block_size, clean, IsLogFile}
 use Rattle.leveldb_mem.specs.LogLaws.{log_laws}
@@ -19,16 +22,17 @@ use Rattle.rusty_leveldb.specs.Names.{lock_path}
 use Rattle.rusty_leveldb.specs.OneLog.{log_path}
 use Rattle.rusty_leveldb.specs.Holds.{Holds}
 use Rattle.rusty_leveldb.specs.Recent.{Inserts}
-use Rattle.rusty_leveldb.specs.State.{State, IsState, SuitsMode, broken, write, done}
+use Rattle.rusty_leveldb.specs.State.{State, IsState, SuitsMode, write, done}
 use Rattle.rusty_leveldb.specs.Machine.{MayCover, StepIn}
-use Rattle.rusty_leveldb.specs.Serves.{Reads, StandsFor, Goes, faults_between}
+use Rattle.rusty_leveldb.specs.Serves.{Reads, StandsFor, IsSpared, Goes, faults_between}
 use Rattle.rusty_leveldb.specs.Engine.{scene, Recalls, mode_of}
 use Rattle.rusty_leveldb.proofs.FrameBytes.{frame_bytes}
-use Rattle.rusty_leveldb.proofs.Histories.{entries_more, placed_above, up_to, greatest_append}
+use Rattle.rusty_leveldb.proofs.Histories.{entries_more, placed_above, up_to_greatest, up_to, greatest_append}
 use Rattle.rusty_leveldb.proofs.OneLog.Appending.{bytes_append, batch_some}
 use Rattle.rusty_leveldb.proofs.OneLog.Writing.{appended_holds, synced_holds}
 use Rattle.rusty_leveldb.proofs.Others.{beside_but, others_but_log}
 use Rattle.rusty_leveldb.proofs.Writes.Stands.{IsStored, stored, IsOpen}
+use Rattle.rusty_leveldb.proofs.Writes.Moments.{risk_behind, append_moments, synced_moments, done_moments}
 use Rattle.rusty_leveldb.proofs.Writes.Batches.{placed_last, not_long, same_set, same_by}
 use Rattle.rusty_leveldb.proofs.Writes.Append.{IsNext, batch, longer, frame, longer_history, longer_reached}
 
@@ -56,6 +60,7 @@ module _ {E C FP F I : Type 0} {D : I → Type 0} (env : Ghosts E F) (store : Li
 
   -- the log's file behind the append, and so many batches that are covered
   pub record Wrote (sync : Bool) : Type 0 where
+    pub moments : Run (IsSpared store (Reads store) old (risk_behind env store engine from old was items bytes next)) (env.tells from) (env.tells to)
     pub covered : ℕ
     pub covers : MayCover old.covered old.history covered ⊎ (covered ≡ length the_longer)
     pub synced_is : IsTrue sync → covered ≡ length the_longer
@@ -81,6 +86,16 @@ module _ {E C FP F I : Type 0} {D : I → Type 0} (env : Ghosts E F) (store : Li
 
       less : greatest (entries_of old.history) ≤ t
       less = omega (arith, most, ap greatest split, greatest_append (entries_of old.history) the_batch)
+
+  -- and nothing past it
+  ends_more : Inserts engine.recent (batch_of (old.last + 1) items) after.recent → AreUpTo (greatest (entries_of the_longer)) after.recent.kept.entries
+  ends_more inserts entry c = ⊎_elim
+      (λ (before : Contains engine.recent.kept.entries entry). omega (arith, was.memory_is.up_to entry before, longest))
+      (λ (new : Contains the_batch entry). omega (arith, up_to_greatest the_batch entry new, longest))
+      (Contains-append_cases engine.recent.kept.entries the_batch entry ((inserts.gains entry).0 c))
+    where
+      longest : greatest (entries_of the_longer) ≡ max (greatest (entries_of old.history)) (greatest the_batch)
+      longest = ap greatest (entries_more old.history the_batch) ∙ greatest_append (entries_of old.history) the_batch
 
   module _ (cmp : List ℕ → List ℕ → Ordering) (sync : Bool) (wrote : Wrote sync) (added : Added) where
     -- the state with the batch
@@ -122,6 +137,7 @@ module _ {E C FP F I : Type 0} {D : I → Type 0} (env : Ghosts E F) (store : Li
       shows = λ opened. record {
         last = added.inserts.last ∙ ap (λ n. max n (greatest the_batch)) was.memory_is.last ∙ placed_last old.last items;
         same = shows_more added.inserts added.up_to_last;
+        up_to = ends_more added.inserts;
       };
       writes = λ opened. record {
         file = wrote.file;
@@ -145,6 +161,7 @@ module _ {E C FP F I : Type 0} {D : I → Type 0} (env : Ghosts E F) (store : Li
         step = subst (λ m. StepIn cmp m (faults_between (env.failures from) (env.failures to)) old (write items sync) done new) (sym was.mode)
             (not_long bytes (old.last + 1) items next.is_batch, record { state = refl; covered = wrote.covers; synced = wrote.synced_is });
       };
+      moments = done_moments env store engine from old was items bytes next wrote.moments;
       files = record { untouched = λ never. absurd never; refused = λ logging is_refused. absurd is_refused; stopped = λ not_open takes. absurd (not_open was.mode); bytes = λ never. absurd never };
       others = others_but_log store (env.tells from).disk (env.tells to).disk wrote.but added.locks;
       beside = λ opens_not. beside_but store (env.tells from).disk.files (env.tells to).disk.files wrote.but;
@@ -163,8 +180,9 @@ module _ {E C FP F I : Type 0} {D : I → Type 0} (env : Ghosts E F) (store : Li
       (subst (λ f. Appending (log_path store) the_frame (env.tells from).disk.files f) (sym is) (appended (log_path store) the_frame (env.tells from).disk.files))
 
   -- where nothing was synced
-  pub unsynced : (env.tells to).disk.files ≡ extended (log_path store) the_frame (env.tells from).disk.files → Wrote false
-  unsynced files = record {
+  pub unsynced : Run (Appending (log_path store) the_frame (env.tells from).disk.files) (env.tells from) (env.tells to) → (env.tells to).disk.files ≡ extended (log_path store) the_frame (env.tells from).disk.files → Wrote false
+  unsynced run files = record {
+    moments = append_moments env store engine from old was items bytes next run;
     covered = old.covered;
     covers = inl (inl refl);
     synced_is = λ never. absurd (cc);
@@ -179,8 +197,10 @@ module _ {E C FP F I : Type 0} {D : I → Type 0} (env : Ghosts E F) (store : Li
   }
 
   -- where the log was synced behind the append
-  pub synced_then : (mid : Files) → mid ≡ extended (log_path store) the_frame (env.tells from).disk.files → (env.tells to).disk.files ≡ synced (log_path store) mid → (sync : Bool) → Wrote sync
-  synced_then mid first files sync = record {
+  pub synced_then : (told : Told) → Run (Appending (log_path store) the_frame (env.tells from).disk.files) (env.tells from) told → told.disk.files ≡ extended (log_path store) the_frame (env.tells from).disk.files
+      → Run (EitherSide (synced (log_path store)) told.disk.files) told (env.tells to) → (env.tells to).disk.files ≡ synced (log_path store) told.disk.files → (sync : Bool) → Wrote sync
+  synced_then told run first syncing files sync = record {
+    moments = synced_moments env store engine from old was items bytes next (append_moments env store engine from old was items bytes next run) first syncing;
     covered = length the_longer;
     covers = inr refl;
     synced_is = λ asked. refl;
@@ -193,6 +213,9 @@ module _ {E C FP F I : Type 0} {D : I → Type 0} (env : Ghosts E F) (store : Li
     but = SameBut-trans (log_path store) (but_appended mid first) (SameBut-synced (log_path store) mid (env.tells to).disk.files (inr files));
   }
     where
+      mid : Files
+      mid = told.disk.files
+
       mid_there : mid (log_path store) ≡ Some grown
       mid_there = ap (λ (f : Files). f (log_path store)) first ∙ extended-same (log_path store) the_frame (env.tells from).disk.files was.writes.file was.writes.there
 

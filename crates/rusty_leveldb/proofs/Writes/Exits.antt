@@ -1,5 +1,5 @@
 -- A write is a step of the machine, at each of its exits behind the preparation.
-use Rattle.std.proofs.Common.{◌≡◌, ◌+◌, ⊎_elim, ℕ, List, refl, sym, ◌∙◌, ap, subst, Option, Some, Ok, Err, Bool, IsTrue, false}
+use Rattle.std.proofs.Common.{◌≡◌, ◌+◌, ⊎_elim, ℕ, List, refl, sym, ◌∙◌, ap, subst, Option, Some, Result, Ok, Err, Bool, IsTrue, false}
 use Rattle.std.specs.Prelude.{if◌then◌else◌}
 use Rattle.std.specs.declared.cmp.Ordering.{Ordering}
 use Rattle.leveldb_base.specs.declared.error.Status.{Status}
@@ -7,10 +7,11 @@ use Rattle.leveldb_base.specs.History.{Item}
 use Rattle.leveldb_base.specs.ViewLaws.{AreUpTo}
 use Rattle.leveldb_env.specs.declared.env.Env.{Ghosts}
 use Rattle.leveldb_env.specs.Disk.{Files, longer_file, extended, synced}
-use Rattle.leveldb_env.specs.Calls.{Appending}
+use Rattle.leveldb_env.specs.Times.{Told}
+use Rattle.leveldb_env.specs.Calls.{Does, EitherSide, Appending}
 use Rattle.leveldb_env.specs.FileLaws.{extended-same, appended}
 use Rattle.leveldb_env.specs.OpenFiles.{opened, Appends, Syncs}
-use Rattle.leveldb_env.specs.Runs.{cause_after}
+use Rattle.leveldb_env.specs.Runs.{Run, Run-call, Run-mono, cause_after}
 use Rattle.leveldb_mem.specs.Batch.{batch_of}
 use Rattle.leveldb_mem.specs.Writing.{Adds, Refuses, Flushes}
 use Rattle.leveldb_mem.specs.Writing as writing
@@ -25,12 +26,13 @@ use Rattle.rusty_leveldb.proofs.OneLog.Appending.{batch_some}
 use Rattle.rusty_leveldb.proofs.Writes.Stands.{fails, Was, IsOpen, is_open, IsStill}
 use Rattle.rusty_leveldb.proofs.Writes.Kept.{memory_goes}
 use Rattle.rusty_leveldb.proofs.Writes.Append.{IsNext, frame, write_broke}
+use Rattle.rusty_leveldb.proofs.Writes.Moments.{append_moments, synced_moments}
 use Rattle.rusty_leveldb.proofs.Writes.Done.{Added, wrote_goes, unsynced, synced_then}
 
 -- the same step, whatever memory it began with
 pub begun_with : {M : Type 0} (store : List ℕ) (Recalls : M → _ → State → Type 0) (cmp : List ℕ → List ℕ → Ordering) (one other : Option M) (told : _) (failures : ℕ) (request : Request) (answer : Answer) (to : _) (old : State)
     → Goes store (Reads store) Recalls cmp (one, told, failures) request answer to old → Goes store (Reads store) Recalls cmp (other, told, failures) request answer to old
-begun_with store Recalls cmp one other told failures request answer to old goes = record { new = goes.new; represents = goes.represents; step = goes.step; files = goes.files; others = goes.others; beside = goes.beside }
+begun_with store Recalls cmp one other told failures request answer to old goes = record { new = goes.new; represents = goes.represents; step = goes.step; moments = goes.moments; files = goes.files; others = goes.others; beside = goes.beside }
 
 module _ {E C FP F I : Type 0} {D : I → Type 0} (env : Ghosts E F) (tells : IsTrue env.tells_disk) (store : List ℕ) (engine : Engine E C FP F I D) (from : E) (old : State) (stood : Was env store engine from old) (open_now : engine.mode ≡ Open)
     (items : List Item) (bytes : List ℕ) (ready : IsNext engine.recent.last items bytes) where
@@ -51,6 +53,11 @@ module _ {E C FP F I : Type 0} {D : I → Type 0} (env : Ghosts E F) (tells : Is
 
   passes : (files : Files) → Appending (env.name_of engine.log) (writing.frame engine.writer bytes) (env.tells from).disk.files files → Appending (log_path store) the_frame (env.tells from).disk.files files
   passes files some = subst (λ n. Appending n the_frame (env.tells from).disk.files files) was.writes.name (subst (λ b. Appending (env.name_of engine.log) b (env.tells from).disk.files files) frame_is some)
+
+  -- the run of an append
+  appends : {T : Type 0} {result : Result T Status} (told : Told) → Does env.tells_disk (extended (env.name_of engine.log) (writing.frame engine.writer bytes)) (Appending (env.name_of engine.log) (writing.frame engine.writer bytes)) (env.tells from) told result
+      → Run (Appending (log_path store) the_frame (env.tells from).disk.files) (env.tells from) told
+  appends told does = Run-mono passes (Run-call tells does)
 
   -- ---- a refused append
 
@@ -78,7 +85,7 @@ module _ {E C FP F I : Type 0} {D : I → Type 0} (env : Ghosts E F) (tells : Is
         (memory_goes env store engine from old stood cmp open_now items sync status engine stood kept.0)))
         (λ put.
         let does = put.0 in
-        write_broke env store engine from old was items bytes next cmp sync after to status does.cause.later
+        write_broke env store engine from old was items bytes next cmp sync after to status (append_moments env store engine from old was items bytes next (appends (env.tells to) does.does)) does.cause.later
         (fails env.tells_disk (env.name_of engine.log) (env.tells from) was.writes.file (env.failures from) (env.failures to) status (ap (env.tells from).disk.files was.writes.name ∙ was.writes.there) does.cause)
         (passes (env.tells to).disk.files (does.does.now tells)) (does.locks tells) still (mode ∙ ap (λ w. if w.broken then Broken else engine.mode) put.1))
         refusal.why
@@ -98,6 +105,14 @@ module _ {E C FP F I : Type 0} {D : I → Type 0} (env : Ghosts E F) (tells : Is
 
     name_then : env.name_of middle.log ≡ log_path store
     name_then = put.file tells ∙ was.writes.name
+
+    moments_then : Run (Appending (log_path store) the_frame (env.tells from).disk.files) (env.tells from) (env.tells mid)
+    moments_then = appends (env.tells mid) put.does
+
+    -- the run of a sync behind it
+    syncs : {T : Type 0} {result : Result T Status} (told : Told) → Does env.tells_disk (synced (env.name_of middle.log)) (EitherSide (synced (env.name_of middle.log))) (env.tells mid) told result
+        → Run (EitherSide (synced (log_path store)) (env.tells mid).disk.files) (env.tells mid) told
+    syncs told does = Run-mono (λ files some. subst (λ n. EitherSide (synced n) (env.tells mid).disk.files files) name_then some) (Run-call tells does)
 
     sound_then : middle.writer.broken ≡ false
     sound_then = ap (λ w. w.broken) adds.writer ∙ sound
@@ -126,7 +141,7 @@ module _ {E C FP F I : Type 0} {D : I → Type 0} (env : Ghosts E F) (tells : Is
       pub done_unsynced : sync ≡ false → (recent : Numbered) → Inserts engine.recent (batch_of (old.last + 1) items) recent → AreUpTo engine.recent.last engine.recent.kept.entries → Done (record middle { recent = recent }) mid
       done_unsynced plain recent inserts below = subst (λ s. Goes store (Reads store) (Recalls env store) cmp (scene env cmp (Some engine) from) (write items s) done (scene env cmp (Some (record middle { recent = recent })) mid) old) (sym plain)
           (wrote_goes env store engine from old was items bytes next (record middle { recent = recent }) mid cmp false
-          (unsynced env store engine from old was items bytes next (record middle { recent = recent }) mid files_then)
+          (unsynced env store engine from old was items bytes next (record middle { recent = recent }) mid moments_then files_then)
           (added (record middle { recent = recent }) mid refl refl refl refl refl refl inserts below))
 
       -- ---- the sync behind it
@@ -138,7 +153,7 @@ module _ {E C FP F I : Type 0} {D : I → Type 0} (env : Ghosts E F) (tells : Is
         done_synced same_mode flushed recent inserts below =
             let s = flushed.flushed in
             wrote_goes env store engine from old was items bytes next (record after { recent = recent }) to cmp sync
-            (synced_then env store engine from old was items bytes next (record after { recent = recent }) to (env.tells mid).disk.files files_then (s.does.ok tells ∙ ap (λ n. synced n (env.tells mid).disk.files) name_then) sync)
+            (synced_then env store engine from old was items bytes next (record after { recent = recent }) to (env.tells mid) moments_then files_then (syncs (env.tells to) s.does) (s.does.ok tells ∙ ap (λ n. synced n (env.tells mid).disk.files) name_then) sync)
             (added (record after { recent = recent }) to (s.locks tells) (ap (λ e. e.lock) rest_after) same_mode flushed.ok (s.file tells) s.cause.ok inserts below)
 
         -- a refused sync breaks the store
@@ -148,7 +163,8 @@ module _ {E C FP F I : Type 0} {D : I → Type 0} (env : Ghosts E F) (tells : Is
             let s = flushed.flushed in
             let cause = cause_after put.cause.ok s.cause in
             let same = s.undone tells ∙ files_then in
-            write_broke env store engine from old was items bytes next cmp sync after to status cause.later
+            write_broke env store engine from old was items bytes next cmp sync after to status
+            (synced_moments env store engine from old was items bytes next (append_moments env store engine from old was items bytes next moments_then) files_then (syncs (env.tells to) s.does)) cause.later
             (fails env.tells_disk (env.name_of middle.log) (env.tells mid) (longer_file the_frame was.writes.file) (env.failures from) (env.failures to) status (ap (env.tells mid).disk.files name_then ∙ there_then) cause)
             (subst (λ f. Appending (log_path store) the_frame (env.tells from).disk.files f) (sym same) (appended (log_path store) the_frame (env.tells from).disk.files)) (s.locks tells ∙ put.locks tells)
             (record { lock = ap (λ e. e.lock) rest_after ∙ ap (λ e. e.lock) rest; entries = ap (λ e. e.recent.kept.entries) rest_after ∙ ap (λ e. e.recent.kept.entries) rest; last = ap (λ e. e.recent.last) rest_after ∙ ap (λ e. e.recent.last) rest })

@@ -1,5 +1,5 @@
 -- A flush is a step of the machine, at each of its exits.
-use Rattle.std.proofs.Common.{◌≡◌, ◌≤◌, ◌%◌, inl, inr, ℕ, List, length, refl, sym, ◌∙◌, ap, subst, arith, append-nil, Some, None, Result, Ok, Err, IsTrue, false}
+use Rattle.std.proofs.Common.{◌≡◌, ◌≤◌, ◌+◌, ◌%◌, inl, inr, ℕ, List, length, refl, sym, ◌∙◌, ap, subst, arith, append-nil, Some, None, Result, Ok, Err, IsTrue, false}
 use Rattle.std.specs.Prelude.{OnOk, OnErr, string_bytes}
 use Rattle.std.specs.declared.cmp.Ordering.{Ordering}
 use Rattle.leveldb_base.specs.declared.error.Status.{Status}
@@ -9,6 +9,7 @@ use Rattle.leveldb_env.specs.declared.env.Env.{Ghosts}
 use Rattle.leveldb_env.specs.Disk.{File, Files, bytes_of, file_kept, synced}
 use Rattle.leveldb_env.specs.FileLaws.{SameBut-synced, synced-same}
 use Rattle.leveldb_env.specs.OpenFiles.{opened, Syncs}
+use Rattle.leveldb_env.specs.Runs.{Run}
 use Rattle.leveldb_mem.specs.Log.{log_block_size, clean, IsLogFile}
 use Rattle.leveldb_mem.specs.Writing.{Flushes}
 use Rattle.rusty_leveldb.specs.declared.db_impl.engine.Mode.TheVariants.{Open, Broken}
@@ -19,10 +20,11 @@ use Rattle.rusty_leveldb.specs.Holds.{Holds}
 use Rattle.rusty_leveldb.specs.State.{State, SuitsMode, open_mode, broken, flush, Answer, done, refused}
 use Rattle.rusty_leveldb.specs.Causes.{Faults, out_of_memory, device_failed}
 use Rattle.rusty_leveldb.specs.Machine.{Breaks, StepIn, Responds}
-use Rattle.rusty_leveldb.specs.Serves.{Reads, StandsFor, Goes, faults_between, refusal_of, done_or}
+use Rattle.rusty_leveldb.specs.Serves.{Reads, StandsFor, IsSpared, Goes, faults_between, refusal_of, done_or}
 use Rattle.rusty_leveldb.specs.Engine.{scene, Recalls, mode_of}
 use Rattle.rusty_leveldb.proofs.OneLog.Writing.{synced_holds}
 use Rattle.rusty_leveldb.proofs.Others.{beside_but, but_same, others_but_log, bytes_same, bytes_synced}
+use Rattle.rusty_leveldb.proofs.Writes.Moments.{risk_at, sync_moments, with_none}
 use Rattle.rusty_leveldb.proofs.Writes.Stands.{Fails, fails, IsStored, stored, Was, IsOpen, is_open, IsStill, remembers_still, broken_with, Broke, broken_is}
 
 module _ {E C FP F I : Type 0} {D : I → Type 0} (env : Ghosts E F) (cmp : List ℕ → List ℕ → Ordering) (store : List ℕ) (engine after : Engine E C FP F I D) (from to : E) (old : State) (was : IsOpen env store engine from old) where
@@ -40,12 +42,13 @@ module _ {E C FP F I : Type 0} {D : I → Type 0} (env : Ghosts E F) (cmp : List
   refuses status (inr device) = (device_failed, (tt, device), breaks)
 
   -- a refused sync breaks the store
-  pub flush_refused : (status : Status) → env.failures from ≤ env.failures to → Fails status (env.failures from) (env.failures to) → (env.tells to).disk.files ≡ (env.tells from).disk.files
+  pub flush_refused : (status : Status) → Run (IsSpared store (Reads store) old (risk_at old.history (old.last + 0))) (env.tells from) (env.tells to) → env.failures from ≤ env.failures to → Fails status (env.failures from) (env.failures to) → (env.tells to).disk.files ≡ (env.tells from).disk.files
       → Broke env store engine after from to old None → Flushed (refused (refusal_of status))
-  flush_refused status later why same broke = record {
+  flush_refused status moments later why same broke = record {
     new = new;
     represents = broken_is env store engine after from to old None was broke;
     step = record { later = later; step = subst (λ m. StepIn cmp m faults old flush (refused (refusal_of status)) new) (sym was.mode) (refuses status why) };
+    moments = moments;
     files = record {
       untouched = λ never. absurd never;
       refused = λ logging is_refused opened. absurd (let never : broken ≡ open_mode = opened in cc);
@@ -60,12 +63,13 @@ module _ {E C FP F I : Type 0} {D : I → Type 0} (env : Ghosts E F) (cmp : List
       new = broken_with old None
 
   -- a sync that was done covers all
-  pub flush_done : (env.tells to).disk.files ≡ synced (log_path store) (env.tells from).disk.files → (env.tells to).disk.locked ≡ (env.tells from).disk.locked
+  pub flush_done : Run (IsSpared store (Reads store) old (risk_at old.history (old.last + 0))) (env.tells from) (env.tells to) → (env.tells to).disk.files ≡ synced (log_path store) (env.tells from).disk.files → (env.tells to).disk.locked ≡ (env.tells from).disk.locked
       → env.failures to ≡ env.failures from → IsStill env store engine after → after.mode ≡ Open → after.writer ≡ engine.writer → env.name_of after.log ≡ env.name_of engine.log → Flushed done
-  flush_done files locks counted still mode writer log = record {
+  flush_done moments files locks counted still mode writer log = record {
     new = new;
     represents = record { disk_is = stands; memory_is = recalls };
     step = record { later = omega (arith, counted); step = subst (λ m. StepIn cmp m faults old flush done new) (sym was.mode) (λ no. no, record { state = refl }) };
+    moments = with_none env store engine from old was to moments;
     files = record { untouched = λ never. absurd never; refused = λ logging is_refused. absurd is_refused; stopped = λ not_open takes. absurd (not_open was.mode); bytes = λ syncing. bytes_synced (log_path store) (env.tells from).disk.files (env.tells to).disk.files files };
     others = others_but_log store (env.tells from).disk (env.tells to).disk (SameBut-synced (log_path store) (env.tells from).disk.files (env.tells to).disk.files (inr files)) locks;
     beside = λ opens_not. beside_but store (env.tells from).disk.files (env.tells to).disk.files (SameBut-synced (log_path store) (env.tells from).disk.files (env.tells to).disk.files (inr files));
@@ -135,13 +139,13 @@ module _ {E C FP F I : Type 0} {D : I → Type 0} (env : Ghosts E F) (cmp : List
       → Goes store (Reads store) (Recalls env store) cmp (scene env cmp (Some engine) from) flush (done_or result) (scene env cmp (Some after) to) old
   flush_step (Ok unit) same_mode broke_mode synced_now =
       let sync = synced_now.flushed in
-      flush_done env cmp store engine after from to old was (sync.does.ok tells ∙ ap (λ name. synced name (env.tells from).disk.files) was.writes.name) (sync.locks tells) sync.cause.ok still
+      flush_done env cmp store engine after from to old was (sync_moments env store engine from old was to tells sync.does) (sync.does.ok tells ∙ ap (λ name. synced name (env.tells from).disk.files) was.writes.name) (sync.locks tells) sync.cause.ok still
       (same_mode ∙ open_now) synced_now.ok (sync.file tells)
   flush_step (Err status) same_mode broke_mode synced_now =
       let sync = synced_now.flushed in
       let same = sync.undone tells in
       let there : (env.tells to).disk.files (log_path store) ≡ Some was.writes.file = ap (λ (f : Files). f (log_path store)) same ∙ was.writes.there in
-      flush_refused env cmp store engine after from to old was status sync.cause.later
+      flush_refused env cmp store engine after from to old was status (sync_moments env store engine from old was to tells sync.does) sync.cause.later
       (fails env.tells_disk (env.name_of engine.log) (env.tells from) was.writes.file (env.failures from) (env.failures to) status (ap (env.tells from).disk.files was.writes.name ∙ was.writes.there) sync.cause)
       same (record {
         still = still;

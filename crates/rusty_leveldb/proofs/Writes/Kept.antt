@@ -18,6 +18,7 @@ use Rattle.rusty_leveldb.specs.Machine.{StepIn, Responds}
 use Rattle.rusty_leveldb.specs.Serves.{Reads, Goes, faults_between, refusal_of}
 use Rattle.rusty_leveldb.specs.Engine.{scene, Recalls}
 use Rattle.rusty_leveldb.proofs.Others.{others_still, spared_still}
+use Rattle.rusty_leveldb.proofs.Writes.Moments.{moments_none}
 use Rattle.rusty_leveldb.proofs.Writes.Stands.{Was, is_open, remembers_still}
 
 module _ {E C FP F I : Type 0} {D : I → Type 0} (env : Ghosts E F) (store : List ℕ) (engine : Engine E C FP F I D) (from : E) (old : State) (was : Was env store engine from old) where
@@ -46,6 +47,7 @@ module _ {E C FP F I : Type 0} {D : I → Type 0} (env : Ghosts E F) (store : Li
       new = old;
       represents = now;
       step = record { later = omega arith; step = subst (λ m. StepIn cmp m faults old (write items sync) (refused (refusal_of status)) old) (sym (is_open env store engine from old open_now was).mode) responds };
+      moments = moments_none store (write items sync) old (env.tells from) was.disk_is;
       files = spared_still (write items sync) (refused (refusal_of status)) old old (env.tells from).disk.files;
       others = others_still store (env.tells from).disk;
       beside = λ opens_not path differs. refl;

@@ -17,6 +17,7 @@ use Rattle.rusty_leveldb.specs.Machine.{StepIn}
 use Rattle.rusty_leveldb.specs.Serves.{Reads, Goes, IsLogging, faults_between, refusal_of}
 use Rattle.rusty_leveldb.specs.Engine.{scene, Recalls, IsShut, IsHalted, ShutOut, ShutDown, mode_of}
 use Rattle.rusty_leveldb.proofs.Others.{others_still, spared_still}
+use Rattle.rusty_leveldb.proofs.Writes.Moments.{moments_none}
 use Rattle.rusty_leveldb.proofs.Writes.Stands.{Was, is_open}
 
 broken_text : (err : Option (String Global)) → IfSome err (λ text. string_bytes text ≡ codes "IOError: reopen the store") → (text_of err ≡ []) ⊎ (text_of err ≡ codes "IOError: reopen the store")
@@ -57,6 +58,7 @@ module _ {E C FP F I : Type 0} {D : I → Type 0} (env : Ghosts E F) (cmp : List
     new = old;
     represents = was;
     step = record { later = omega arith; step = step };
+    moments = moments_none store request old (env.tells at) was.disk_is;
     files = spared_still request (refused (refusal_of status)) old old (env.tells at).disk.files;
     others = others_still store (env.tells at).disk;
     beside = λ opens_not path differs. refl;

@@ -1,6 +1,6 @@
 -- An open store for which memory and disk stand, and what it stands for once its log has refused a call.
 use Rattle.std.proofs.Common.{◌≡◌, ◌≤◌, ◌+◌, ◌⊎◌, inl, inr, ⊎_elim, ℕ, List, refl, sym, ◌∙◌, ap, subst, arith, Option, Some, None, Err, IsTrue}
-use Rattle.std.specs.Prelude.{string_bytes}
+use Rattle.std.specs.Prelude.{Contains, string_bytes}
 use Rattle.leveldb_base.specs.declared.error.Status.{Status}
 use Rattle.leveldb_base.specs.History.{Entry, History, IsHistory, entries_of, greatest, joined, count_of}
 use Rattle.leveldb_base.specs.View.{SameView}
@@ -111,6 +111,7 @@ module _ {E C FP F I : Type 0} {D : I → Type 0} (env : Ghosts E F) (store : Li
     last = still.last ∙ memory.last ∙ sym last;
     same = λ t most. subst (λ h. SameView after.recent.kept.entries (entries_of h) t) (sym history)
         (subst (λ es. SameView es (entries_of old.history) t) (sym still.entries) (memory.same t (subst (λ h. greatest (entries_of h) ≤ t) history most)));
+    up_to = λ entry c. subst (λ h. entry.sequence ≤ greatest (entries_of h)) (sym history) (memory.up_to entry (subst (λ es. Contains es entry) still.entries c));
   }
 
   -- ---- a broken store

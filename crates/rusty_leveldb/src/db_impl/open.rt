@@ -1,14 +1,15 @@
 //! Opening a store: its lock is taken, its log is read, and replaced where it ends badly.
 ghost use Rattle.std.specs.Prelude.{◌≡◌, ◌⊎◌, if◌then◌else◌, length, map, Some, None, IsTrue, IfOk, IfErr, OnOk, false};
 ghost use Rattle.leveldb_env.specs.Disk.{bytes_of};
-ghost use Rattle.leveldb_env.specs.Calls.{HasCause, NoMemory, SameLocks};
+ghost use Rattle.leveldb_env.specs.Calls.{HasCause, NoMemory, SameLocks, Still};
 ghost use Rattle.leveldb_env.specs.FileLaws.{SameBut};
+ghost use Rattle.leveldb_env.specs.Runs.{Run};
 ghost use Rattle.leveldb_mem.specs.Log.{clean, bad};
 ghost use Rattle.rusty_leveldb.specs.OneLog.{log_path};
 ghost use Rattle.rusty_leveldb.specs.State.{Opening, open_store};
 ghost use Rattle.rusty_leveldb.specs.Serves.{done_or, given_engine};
 ghost use Rattle.rusty_leveldb.specs.Engine.{IsStoreName, IsOpening, AnswersAs, OpenExcused};
-ghost use Rattle.rusty_leveldb.specs.Recovery.{IsFoundAs, framed_file, kept_log, SparesLog, IsUnusable, NeverOpens, ChangesLogAlone, StaysUnopened, IsRecovered, HasCauses, IsFoundOr, IsUntold, IsNotMade, IsNoLog};
+ghost use Rattle.rusty_leveldb.specs.Recovery.{IsFoundAs, framed_file, kept_log, IsMadeKept, SparesLog, IsUnusable, NeverOpens, ChangesLogAlone, StaysUnopened, IsRecovered, HasCauses, IsFoundOr, IsUntold, IsNotMade, IsNoLog};
 
 use super::close::give_back;
 use super::engine::{Engine, Mode};
@@ -76,7 +77,7 @@ fn recover<E: Env, C: UserCmp + Copy>(
     create_if_missing: bool,
 ) -> Result<(E::File, WriterCore, Recent<C>)>
     ensures locks { SameLocks E.tells_disk (E.tells env.old) (E.tells env.new) }
-    ensures spares { IsTrue E.tells_disk → SparesLog create_if_missing ((E.tells env.old).disk.files (log_path name.now)) ((E.tells env.new).disk.files (log_path name.now)) }
+    ensures spares { IsTrue E.tells_disk → Run (λ files. SparesLog create_if_missing ((E.tells env.old).disk.files (log_path name.now)) (files (log_path name.now))) (E.tells env.old) (E.tells env.new) }
     ensures rest { IsTrue E.tells_disk → ChangesLogAlone name.now (E.tells env.old).disk.files (E.tells env.new).disk.files }
     ensures unusable { IsTrue E.tells_disk → IsUnusable create_if_missing ((E.tells env.old).disk.files (log_path name.now)) → (E.tells env.new).disk.files ≡ (E.tells env.old).disk.files }
     ensures ok { IfOk result (λ got. IsTrue E.tells_disk → IsRecovered create_if_missing ((E.tells env.old).disk.files (log_path name.now)) ((E.tells env.new).disk.files (log_path name.now)) got.1 got.2) }
@@ -102,7 +103,7 @@ fn read_log<E: Env>(
     log_name: &str,
     create_if_missing: bool,
 ) -> Result<(Vec<Vec<u8>>, bool)>
-    ensures still { IsTrue E.tells_disk → (E.tells env.new).disk.files ≡ (E.tells env.old).disk.files }
+    ensures still { IsTrue E.tells_disk → Run (Still (E.tells env.old).disk.files) (E.tells env.old) (E.tells env.new) }
     ensures locks { SameLocks E.tells_disk (E.tells env.old) (E.tells env.new) }
     ensures log { IfOk result (λ found. IsTrue E.tells_disk → IsFoundAs create_if_missing ((E.tells env.old).disk.files log_name.now)
         (map (λ v. v.items) found.0.items) (if found.1 then clean else bad)) }
@@ -131,8 +132,8 @@ fn mend<E: Env>(
     requires { log_name.now ≡ log_path name.now }
     ensures locks { SameLocks E.tells_disk (E.tells env.old) (E.tells env.new) }
     ensures rest { IsTrue E.tells_disk → ChangesLogAlone name.now (E.tells env.old).disk.files (E.tells env.new).disk.files }
-    ensures either { IsTrue E.tells_disk → ((E.tells env.new).disk.files log_name.now ≡ (E.tells env.old).disk.files log_name.now)
-        ⊎ ((is_clean ≡ false) × ((E.tells env.new).disk.files log_name.now ≡ Some (framed_file (map (λ v. v.items) records.now)))) }
+    ensures either { IsTrue E.tells_disk → Run (λ files. (files log_name.now ≡ (E.tells env.old).disk.files log_name.now)
+        ⊎ ((is_clean ≡ false) × (files log_name.now ≡ Some (framed_file (map (λ v. v.items) records.now))))) (E.tells env.old) (E.tells env.new) }
     ensures ok { OnOk result (IsTrue E.tells_disk → (E.tells env.new).disk.files log_name.now
         ≡ (if is_clean then (E.tells env.old).disk.files log_name.now else Some (framed_file (map (λ v. v.items) records.now)))) }
     ensures cause { HasCauses (IsUntold E.tells_disk) (E.failures env.old) (E.failures env.new) result }
@@ -149,8 +150,7 @@ fn mend<E: Env>(
 // The log, which is made where it is missing, all its bytes kept, and how many it has.
 fn open_log<E: Env>(alloc: Global, env: &mut E, log_name: &str) -> Result<(E::File, usize)>
     ensures locks { SameLocks E.tells_disk (E.tells env.old) (E.tells env.new) }
-    ensures either { IsTrue E.tells_disk → ((E.tells env.new).disk.files log_name.now ≡ (E.tells env.old).disk.files log_name.now)
-        ⊎ ((E.tells env.new).disk.files log_name.now ≡ Some (kept_log ((E.tells env.old).disk.files log_name.now))) }
+    ensures either { IsTrue E.tells_disk → Run (IsMadeKept log_name.now (E.tells env.old).disk.files) (E.tells env.old) (E.tells env.new) }
     ensures there { OnOk result (IsTrue E.tells_disk → (E.tells env.new).disk.files log_name.now ≡ Some (kept_log ((E.tells env.old).disk.files log_name.now))) }
     ensures others { IsTrue E.tells_disk → SameBut log_name.now (E.tells env.old).disk.files (E.tells env.new).disk.files }
     ensures name { IfOk result (λ got. IsTrue E.tells_disk → E.name_of got.0 ≡ log_name.now) }

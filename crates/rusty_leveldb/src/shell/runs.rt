@@ -52,7 +52,7 @@ pub fn run<E: Env, C: UserCmp + Copy, FP: FilterPolicy + Copy>(
 }
 
 // What a command is answered.
-fn answer<E: Env, C: UserCmp + Copy, FP: FilterPolicy + Copy>(
+pub(super) fn answer<E: Env, C: UserCmp + Copy, FP: FilterPolicy + Copy>(
     alloc: Global,
     engine: &mut Engine<E, C, FP>,
     env: &mut E,

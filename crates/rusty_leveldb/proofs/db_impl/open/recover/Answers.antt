@@ -5,7 +5,7 @@ use Rattle.leveldb_mem.specs.Log.{clean, bad}
 use Rattle.rusty_leveldb.specs.OneLog.{log_path}
 use Rattle.rusty_leveldb.proofs.Others.{alone_same, alone_then, alone_log}
 use Rattle.rusty_leveldb.proofs.Openings.Logs.{usable}
-use Rattle.rusty_leveldb.proofs.Openings.Calls.{found_here, mend_spares, open_spares, open_recovers, read_refused, replay_refused}
+use Rattle.rusty_leveldb.proofs.Openings.Calls.{found_here, read_run, mend_run, open_run, open_recovers, read_refused, replay_refused}
 use Rattle.rusty_leveldb.proofs.db_impl.open.recover.Goals as goal
 
 pub returns-in_err-read-clause-cause : goal.returns-in_err-read-clause-cause
@@ -24,32 +24,40 @@ returns-in_err-recent-clause-cause g c =
 pub mend-requires : goal.mend-requires
 mend-requires g c = c.as_str-log_name.ensures.value ∙ c.in_ok-full_name.ensures.ok
 
+pub returns-in_err-read-clause-spares : goal.returns-in_err-read-clause-spares
+returns-in_err-read-clause-spares g c = λ tells. read_run c.args.create_if_missing (log_path c.args.name.now) (c.read_log.ensures.still tells)
+
+pub returns-in_err-recent-clause-spares : goal.returns-in_err-recent-clause-spares
+returns-in_err-recent-clause-spares g c = λ tells. read_run c.args.create_if_missing (log_path c.args.name.now) (c.read_log.ensures.still tells)
+
 pub returns-in_err-mend-clause-spares : goal.returns-in_err-mend-clause-spares
 returns-in_err-mend-clause-spares g c = λ tells.
-    mend_spares c.args.create_if_missing (g.E.Env.tells c.args.env.now).disk.files (g.E.Env.tells c.read_log.new.env).disk.files (g.E.Env.tells c.mend.new.env).disk.files (g.E.Env.tells c.mend.new.env).disk.files
+    mend_run c.args.create_if_missing (g.E.Env.tells c.args.env.now) (g.E.Env.tells c.read_log.new.env) (g.E.Env.tells c.mend.new.env) (g.E.Env.tells c.mend.new.env)
     c.as_str-log_name.result.now (log_path c.args.name.now) (map (λ v. v.items) c.in_ok-read.read.items) (map (λ v. v.items) c.as_slice-records.result.now) c.in_ok-read.is_clean
     (c.as_str-log_name.ensures.value ∙ c.in_ok-full_name.ensures.ok) (c.in_ok-read.ensures.still tells) (ap (map (λ v. v.items)) c.as_slice-records.ensures.value) (c.in_ok-read.ensures.log tells) c.in_ok-recent.ensures.ok.read
     (c.mend.ensures.either tells)
 
 pub returns-in_err-log-clause-spares : goal.returns-in_err-log-clause-spares
 returns-in_err-log-clause-spares g c = λ tells.
-    open_spares c.args.create_if_missing (g.E.Env.tells c.args.env.now).disk.files (g.E.Env.tells c.read_log.new.env).disk.files (g.E.Env.tells c.mend.new.env).disk.files (g.E.Env.tells c.open_log.new.env).disk.files
+    open_run c.args.create_if_missing (g.E.Env.tells c.args.env.now) (g.E.Env.tells c.read_log.new.env) (g.E.Env.tells c.mend.new.env) (g.E.Env.tells c.open_log.new.env)
     c.as_str-log_name.result.now (log_path c.args.name.now) (map (λ v. v.items) c.in_ok-read.read.items) (map (λ v. v.items) c.as_slice-records.result.now) c.in_ok-read.is_clean
     (c.as_str-log_name.ensures.value ∙ c.in_ok-full_name.ensures.ok) (c.in_ok-read.ensures.still tells) (ap (map (λ v. v.items)) c.as_slice-records.ensures.value) (c.in_ok-read.ensures.log tells) c.in_ok-recent.ensures.ok.read
+    (c.mend.ensures.either tells)
     (c.in_ok-mend.ensures.ok tells) (c.open_log.ensures.either tells)
 
 pub returns-clause-spares : goal.returns-clause-spares
 returns-clause-spares g c = λ tells.
-    open_spares c.args.create_if_missing (g.E.Env.tells c.args.env.now).disk.files (g.E.Env.tells c.read_log.new.env).disk.files (g.E.Env.tells c.mend.new.env).disk.files (g.E.Env.tells c.open_log.new.env).disk.files
+    open_run c.args.create_if_missing (g.E.Env.tells c.args.env.now) (g.E.Env.tells c.read_log.new.env) (g.E.Env.tells c.mend.new.env) (g.E.Env.tells c.open_log.new.env)
     c.as_str-log_name.result.now (log_path c.args.name.now) (map (λ v. v.items) c.in_ok-read.read.items) (map (λ v. v.items) c.as_slice-records.result.now) c.in_ok-read.is_clean
     (c.as_str-log_name.ensures.value ∙ c.in_ok-full_name.ensures.ok) (c.in_ok-read.ensures.still tells) (ap (map (λ v. v.items)) c.as_slice-records.ensures.value) (c.in_ok-read.ensures.log tells) c.in_ok-recent.ensures.ok.read
+    (c.mend.ensures.either tells)
     (c.in_ok-mend.ensures.ok tells) (c.open_log.ensures.either tells)
 
 pub returns-clause-ok : goal.returns-clause-ok
 returns-clause-ok g c = λ tells.
     open_recovers c.args.create_if_missing (g.E.Env.tells c.args.env.now).disk.files (g.E.Env.tells c.read_log.new.env).disk.files (g.E.Env.tells c.mend.new.env).disk.files (g.E.Env.tells c.open_log.new.env).disk.files
     c.as_str-log_name.result.now (log_path c.args.name.now) (map (λ v. v.items) c.in_ok-read.read.items) (map (λ v. v.items) c.as_slice-records.result.now) c.in_ok-read.is_clean
-    (c.as_str-log_name.ensures.value ∙ c.in_ok-full_name.ensures.ok) (c.in_ok-read.ensures.still tells) (ap (map (λ v. v.items)) c.as_slice-records.ensures.value) (c.in_ok-read.ensures.log tells) c.in_ok-recent.ensures.ok.read
+    (c.as_str-log_name.ensures.value ∙ c.in_ok-full_name.ensures.ok) ((c.in_ok-read.ensures.still tells).has) (ap (map (λ v. v.items)) c.as_slice-records.ensures.value) (c.in_ok-read.ensures.log tells) c.in_ok-recent.ensures.ok.read
     c.in_ok-log.size c.new_with_off.result c.in_ok-recent.recent (c.in_ok-mend.ensures.ok tells) (c.in_ok-log.ensures.there tells) (c.in_ok-log.ensures.size tells) c.new_with_off.ensures c.in_ok-recent.ensures.ok
 
 pub returns-clause-log : goal.returns-clause-log
@@ -57,13 +65,13 @@ returns-clause-log g c = λ tells. c.in_ok-log.ensures.name tells ∙ c.as_str-l
 
 pub returns-in_err-log-clause-rest : goal.returns-in_err-log-clause-rest
 returns-in_err-log-clause-rest g c = λ tells.
-    alone_then c.args.name.now (g.E.Env.tells c.args.env.now).disk.files (g.E.Env.tells c.read_log.new.env).disk.files (g.E.Env.tells c.open_log.new.env).disk.files (alone_same c.args.name.now (g.E.Env.tells c.args.env.now).disk.files (g.E.Env.tells c.read_log.new.env).disk.files (c.in_ok-read.ensures.still tells))
+    alone_then c.args.name.now (g.E.Env.tells c.args.env.now).disk.files (g.E.Env.tells c.read_log.new.env).disk.files (g.E.Env.tells c.open_log.new.env).disk.files (alone_same c.args.name.now (g.E.Env.tells c.args.env.now).disk.files (g.E.Env.tells c.read_log.new.env).disk.files ((c.in_ok-read.ensures.still tells).has))
     (alone_then c.args.name.now (g.E.Env.tells c.read_log.new.env).disk.files (g.E.Env.tells c.mend.new.env).disk.files (g.E.Env.tells c.open_log.new.env).disk.files (c.in_ok-mend.ensures.rest tells)
     (alone_log c.args.name.now c.as_str-log_name.result.now (g.E.Env.tells c.mend.new.env).disk.files (g.E.Env.tells c.open_log.new.env).disk.files (c.as_str-log_name.ensures.value ∙ c.in_ok-full_name.ensures.ok) (c.open_log.ensures.others tells)))
 
 pub returns-clause-rest : goal.returns-clause-rest
 returns-clause-rest g c = λ tells.
-    alone_then c.args.name.now (g.E.Env.tells c.args.env.now).disk.files (g.E.Env.tells c.read_log.new.env).disk.files (g.E.Env.tells c.open_log.new.env).disk.files (alone_same c.args.name.now (g.E.Env.tells c.args.env.now).disk.files (g.E.Env.tells c.read_log.new.env).disk.files (c.in_ok-read.ensures.still tells))
+    alone_then c.args.name.now (g.E.Env.tells c.args.env.now).disk.files (g.E.Env.tells c.read_log.new.env).disk.files (g.E.Env.tells c.open_log.new.env).disk.files (alone_same c.args.name.now (g.E.Env.tells c.args.env.now).disk.files (g.E.Env.tells c.read_log.new.env).disk.files ((c.in_ok-read.ensures.still tells).has))
     (alone_then c.args.name.now (g.E.Env.tells c.read_log.new.env).disk.files (g.E.Env.tells c.mend.new.env).disk.files (g.E.Env.tells c.open_log.new.env).disk.files (c.in_ok-mend.ensures.rest tells)
     (alone_log c.args.name.now c.as_str-log_name.result.now (g.E.Env.tells c.mend.new.env).disk.files (g.E.Env.tells c.open_log.new.env).disk.files (c.as_str-log_name.ensures.value ∙ c.in_ok-full_name.ensures.ok) (c.open_log.ensures.others tells)))
 

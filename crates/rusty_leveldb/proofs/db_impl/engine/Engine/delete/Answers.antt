@@ -5,9 +5,15 @@ use Rattle.leveldb_mem.specs.Batch.{item_of}
 use Rattle.rusty_leveldb.specs.State.{write}
 use Rattle.rusty_leveldb.specs.Serves.{done_or}
 use Rattle.rusty_leveldb.specs.Engine.{Answers}
+use Rattle.rusty_leveldb.proofs.Writes.Shut.{shut}
 use Rattle.rusty_leveldb.proofs.Writes.Kept.{memory_goes, unmade_goes}
 use Rattle.rusty_leveldb.proofs.Writes.Write.{one_change}
 use Rattle.rusty_leveldb.proofs.db_impl.engine.Engine.delete.Goals as goal
+
+pub returns-in_err-check_open-clause-step : goal.returns-in_err-check_open-clause-step
+returns-in_err-check_open-clause-step g c store tells old was =
+    let p = err_from_is_err_and c.from_residual.result c.from_residual.ensures.1 in
+    rw (p.1, p.2) (shut g.E.Env (g.C.Cmp.cmp c.args.self.now.options.cmp) store c.args.self.now c.args.env.now old was (write (item_of c.args.key.now None ∷ []) false) tt c.in_err-check_open.field-0.0 c.in_err-check_open.ensures.cause c.in_err-check_open.ensures.stuck)
 
 pub returns-in_err-batch-clause-step : goal.returns-in_err-batch-clause-step
 returns-in_err-batch-clause-step g c store tells old was =

@@ -2,13 +2,19 @@
 use Rattle.std.proofs.Common.{◌≡◌, ◌+◌, ◌∙◌, ap, inl, inr, arith}
 use Rattle.std.proofs.lemmas.Result.{err_from_is_err_and}
 use Rattle.leveldb_mem.specs.Batch.{batch_of}
+use Rattle.rusty_leveldb.specs.State.{write}
 use Rattle.rusty_leveldb.proofs.Writes.Kept.{prepared_was, used_up_goes, memory_goes}
 use Rattle.rusty_leveldb.proofs.Writes.Append.{IsNext}
 use Rattle.rusty_leveldb.proofs.Writes.Causes.{append_cause, append_breaks, append_counted, still_sound, sync_cause, sync_counted, done_cause}
-use Rattle.rusty_leveldb.proofs.Writes.Shut.{not_halted}
+use Rattle.rusty_leveldb.proofs.Writes.Shut.{not_halted, shut}
 use Rattle.rusty_leveldb.proofs.Writes.Write.{batch_behind, is_next, follows, refused_append, refused_sync, done_plain, done_with_sync, last_plain, last_synced, options_plain, options_synced, stays_plain, stays_synced, stays_refused}
 use Rattle.rusty_leveldb.proofs.db_impl.engine.Engine.write.Goals as goal
 use Rattle.rusty_leveldb.proofs.db_impl.engine.Engine.write.Goals.{then-sync+in_ok-sync, else-sync}
+
+pub returns-in_err-check_open-clause-step : goal.returns-in_err-check_open-clause-step
+returns-in_err-check_open-clause-step g c store tells old was =
+    let p = err_from_is_err_and c.from_residual.result c.from_residual.ensures.1 in
+    rw (p.1, p.2) (shut g.E.Env (g.C.Cmp.cmp c.args.self.now.options.cmp) store c.args.self.now c.args.env.now old was (write c.args.batch.items c.args.sync) tt c.in_err-check_open.field-0.0 c.in_err-check_open.ensures.cause c.in_err-check_open.ensures.stuck)
 
 pub returns-in_err-first-clause-step : goal.returns-in_err-first-clause-step
 returns-in_err-first-clause-step g c store tells old was =

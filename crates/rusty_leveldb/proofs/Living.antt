@@ -1,0 +1,81 @@
+-- One life of a store: its opening, its commands one after another, and its end.
+use Rattle.std.proofs.Common.{◌≡◌, ◌-◌, ℕ, Bool, List, [], ◌∷◌, ◌++◌, refl, sym, ◌∙◌, ap, subst, Some, None, Ok, Err, IsTrue}
+use Rattle.std.specs.Prelude.{map}
+use Rattle.std.specs.declared.cmp.Ordering.{Ordering}
+use Rattle.std.proofs.lemmas.List.{map-append}
+use Rattle.leveldb_base.specs.declared.error.Status.{Status}
+use Rattle.leveldb_env.specs.declared.env.Env.{Ghosts}
+use Rattle.leveldb_env.specs.declared.options.Options.{Options}
+use Rattle.rusty_leveldb.specs.declared.db_impl.engine.Engine.{Engine}
+use Rattle.rusty_leveldb.specs.declared.shell.commands.Command.{Command}
+use Rattle.rusty_leveldb.specs.declared.shell.commands.Reply.{Reply}
+use Rattle.rusty_leveldb.specs.declared.shell.crash_runs.Report.{Report}
+use Rattle.rusty_leveldb.specs.State.{State, Opening, open_store, abandon, Answer, done, refused}
+use Rattle.rusty_leveldb.specs.Serves.{Reads, Represents, refusal_of}
+use Rattle.rusty_leveldb.specs.Engine.{Recalls, Answers, IsOpening, no_engine}
+use Rattle.rusty_leveldb.specs.Shell.{LeadsAt, request_of, answer_of}
+use Rattle.rusty_leveldb.specs.Lives.{Says, LivedAlways}
+use Rattle.rusty_leveldb.proofs.Playing.{OnlyNow, OpensAs, no_other, first_at, next_one, at_none}
+
+-- the moments of replies, from a life's start
+abbrev pub Given : ℕ → List (ℕ × Reply) → List ℕ → Type 0
+Given start replies moments = map (λ (reply : ℕ × Reply). reply.0) replies ≡ map (λ moment. moment - start) moments
+
+pub given_more : (start : ℕ) (replies : List (ℕ × Reply)) (moments : List ℕ) (moment told : ℕ) (reply : Reply) → Given start replies moments → told ≡ moment - start → Given start (replies ++ (told, reply) ∷ []) (moments ++ moment ∷ [])
+given_more start replies moments moment told reply given is = map-append (λ (r : ℕ × Reply). r.0) replies ((told, reply) ∷ [])
+    ∙ ap (λ ms. ms ++ told ∷ []) given ∙ ap (λ t. map (λ m. m - start) moments ++ t ∷ []) is ∙ sym (map-append (λ m. m - start) moments (moment ∷ []))
+
+module _ {E F I : Type 0} {D : I → Type 0} (C FP : Type 0) (env : Ghosts E F) (cmp : List ℕ → List ℕ → Ordering) (store : List ℕ) where
+  -- so far the store was opened and these commands were given these replies
+  abbrev pub LivesSoFar : E → Bool → List Command → List (ℕ × Reply) → List ℕ → Engine E C FP F I D → E → Type 0
+  LivesSoFar from create commands replies given engine to = (opening : Opening) → IsOpening store create opening
+      → (old : State) → Represents store (Reads store) (Recalls {C = C} {FP = FP} {I = I} {D = D} env store) None (env.tells from).disk old
+      → (first : ℕ) × LeadsAt C FP env cmp store from (open_store opening ∷ map request_of commands) (done ∷ map (λ (reply : ℕ × Reply). answer_of reply.1) replies) (first ∷ given) (Some engine) to old
+
+module _ {E F I : Type 0} {D : I → Type 0} (C FP : Type 0) (env : Ghosts E F) (only_now : OnlyNow env) (tells : IsTrue env.tells_disk) (cmp : List ℕ → List ℕ → Ordering) (store : List ℕ) where
+  pub lives_first : (from to : E) (create : Bool) (engine : Engine E C FP F I D) → OpensAs C FP env cmp store from create done (Some engine) to → LivesSoFar C FP env cmp store from create [] [] [] engine to
+  lives_first from to create engine opens opening is old represents = ((env.tells to).moment, first_at env only_now cmp store tells from to (Some engine) (open_store opening) done old represents (opens opening is))
+
+  pub lives_more : (from mid to : E) (create : Bool) (commands : List Command) (replies : List (ℕ × Reply)) (given : List ℕ) (engine after : Engine E C FP F I D) (command : Command) (told : ℕ) (reply : Reply)
+      → LivesSoFar C FP env cmp store from create commands replies given engine mid → Answers env cmp (Some engine) mid (request_of command) (answer_of reply) (Some after) to
+      → LivesSoFar C FP env cmp store from create (commands ++ command ∷ []) (replies ++ (told, reply) ∷ []) (given ++ (env.tells to).moment ∷ []) after to
+  lives_more from mid to create commands replies given engine after command told reply lives answers_so opening is old represents =
+      let led = lives opening is old represents in
+      let next = next_one env only_now cmp store tells None from mid to (open_store opening ∷ map request_of commands) (done ∷ map (λ (r : ℕ × Reply). answer_of r.1) replies) (led.0 ∷ given) (Some engine) (Some after)
+      (request_of command) (answer_of reply) old led.1 (answers_so store) in (
+        led.0,
+        subst (λ as'. LeadsAt C FP env cmp store from (open_store opening ∷ map request_of (commands ++ command ∷ [])) (done ∷ as') (led.0 ∷ (given ++ (env.tells to).moment ∷ [])) (Some after) to old)
+            (sym (map-append (λ (r : ℕ × Reply). answer_of r.1) replies ((told, reply) ∷ [])))
+            (subst (λ rs. LeadsAt C FP env cmp store from (open_store opening ∷ rs) (done ∷ (map (λ (r : ℕ × Reply). answer_of r.1) replies ++ answer_of reply ∷ [])) (led.0 ∷ (given ++ (env.tells to).moment ∷ [])) (Some after) to old)
+            (sym (map-append request_of commands (command ∷ []))) next),
+      )
+
+  -- the life ends
+  pub lives_end : (from mid to : E) (create : Bool) (commands : List Command) (given : List ℕ) (engine : Engine E C FP F I D) (ending : Answer) (report : Report) → report.opened ≡ Ok tt
+      → Given (env.tells from).moment report.replies.items given → LivesSoFar C FP env cmp store from create commands report.replies.items given engine mid → Answers env cmp (Some engine) mid abandon ending None to
+      → LivedAlways C FP env cmp store from create commands report to
+  lives_end from mid to create commands given engine ending report opened told lives answers_so opening is old represents =
+      let led = lives opening is old (no_other (env.tells from).disk old represents) in
+      let next = next_one env only_now cmp store tells None from mid to (open_store opening ∷ map request_of commands) (done ∷ map (λ (r : ℕ × Reply). answer_of r.1) report.replies.items) (led.0 ∷ given) (Some engine) None
+      abandon ending old led.1 (answers_so store) in
+      record {
+        requests = open_store opening ∷ (map request_of commands ++ abandon ∷ []);
+        answers = done ∷ (map (λ (r : ℕ × Reply). answer_of r.1) report.replies.items ++ ending ∷ []);
+        moments = led.0 ∷ (given ++ (env.tells to).moment ∷ []);
+        says = subst (λ o. Says (env.tells from).moment opening commands o report.replies.items (open_store opening ∷ (map request_of commands ++ abandon ∷ [])) (done ∷ (map (λ (r : ℕ × Reply). answer_of r.1) report.replies.items ++ ending ∷ [])) (led.0 ∷ (given ++ (env.tells to).moment ∷ [])))
+            (sym opened) (given, led.0, (env.tells to).moment, ending, refl, refl, refl, told);
+        led = at_none C FP env only_now cmp store from (open_store opening ∷ (map request_of commands ++ abandon ∷ [])) (done ∷ (map (λ (r : ℕ × Reply). answer_of r.1) report.replies.items ++ ending ∷ []))
+            (led.0 ∷ (given ++ (env.tells to).moment ∷ [])) to old next;
+      }
+
+  -- the store wasn't opened
+  pub not_lived : (options : Options C FP I D) (from to : E) (create : Bool) (commands : List Command) (report : Report) (status : Status) → report.opened ≡ Err status → report.replies.items ≡ []
+      → OpensAs C FP env cmp store from create (refused (refusal_of status)) (no_engine options) to → LivedAlways C FP env cmp store from create commands report to
+  not_lived options from to create commands report status opened none opens opening is old represents = record {
+    requests = open_store opening ∷ [];
+    answers = refused (refusal_of status) ∷ [];
+    moments = (env.tells to).moment ∷ [];
+    says = subst (λ o. Says (env.tells from).moment opening commands o report.replies.items (open_store opening ∷ []) (refused (refusal_of status) ∷ []) ((env.tells to).moment ∷ [])) (sym opened) ((env.tells to).moment, none, refl, refl, refl);
+    led = at_none C FP env only_now cmp store from (open_store opening ∷ []) (refused (refusal_of status) ∷ []) ((env.tells to).moment ∷ []) to old
+        (first_at env only_now cmp store tells from to (no_engine options) (open_store opening) (refused (refusal_of status)) old (no_other (env.tells from).disk old represents) (opens opening is));
+  }

@@ -1,0 +1,103 @@
+-- How the parts of a call join that have states between them, as a sync of the log and then a new log: what a crash leaves at each moment of the
+-- call is spared if it is at each moment of each part. `steps_join` joins two parts, `spared_now` begins one at a state that the disk
+-- represents, and `grows_same` and `grows_by` say that a part risks no batch more, or one more. `spared_since` is what the run of a whole call
+-- then says of a crash.
+use Rattle.std.proofs.Common.{◌≡◌, ◌≤◌, ℕ, zero, suc, List, [], ◌∷◌, ◌++◌, length, take, refl, sym, ◌∙◌, ap, subst, arith}
+use Rattle.std.proofs.lemmas.List.{length-take}
+use Rattle.leveldb_base.specs.History.{Entry, History, IsBeginning}
+use Rattle.leveldb_env.specs.Disk.{Files, Disk}
+use Rattle.leveldb_env.specs.Times.{Told, Since}
+use Rattle.leveldb_env.specs.Runs.{Run, Run-mono, Run-trans, since_start}
+use Rattle.rusty_leveldb.specs.Contents.{Store, missing, made, Contents, Stays}
+use Rattle.rusty_leveldb.specs.Holds.{IsHonest, CarriesBeginning}
+use Rattle.rusty_leveldb.specs.State.{State}
+use Rattle.rusty_leveldb.specs.Machine.{Risk, risk_between}
+use Rattle.rusty_leveldb.specs.Serves.{StandsFor, IsSpared}
+use Rattle.rusty_leveldb.proofs.Bounds.{carries_more}
+
+-- ---- a greater risk
+
+-- the history of the one is a beginning of the other's, and so is its bound
+pub record Grows (risk more : Risk) : Type 0 where
+  pub count : ℕ
+  pub there : count ≤ length more.history
+  pub first : risk.history ≡ take count more.history
+  pub bound : risk.bound ≤ more.bound
+
+take_twice : {A : Type 0} (n k : ℕ) (xs : List A) → k ≤ length (take n xs) → take k (take n xs) ≡ take k xs
+take_twice n zero xs few = refl
+take_twice zero (suc k) xs few = absurd (omega arith)
+take_twice (suc n) (suc k) [] few = refl
+take_twice (suc n) (suc k) (x ∷ xs) few = ap (λ ys. x ∷ ys) (take_twice n k xs (omega (arith, few)))
+
+-- with no batch more
+pub grows_same : (history : History) (bound more : ℕ) → bound ≤ more → Grows (record { history = history; bound = bound }) (record { history = history; bound = more })
+grows_same history bound more most = record { count = length history; there = omega arith; first = sym (whole history); bound = most }
+  where
+    whole : (xs : History) → take (length xs) xs ≡ xs
+    whole [] = refl
+    whole (x ∷ xs) = ap (λ ys. x ∷ ys) (whole xs)
+
+-- with one batch more
+pub grows_by : (history : History) (batch : List Entry) (bound more : ℕ) → bound ≤ more → Grows (record { history = history; bound = bound }) (record { history = history ++ batch ∷ []; bound = more })
+grows_by history batch bound more most = record { count = length history; there = longer history; first = front history; bound = most }
+  where
+    longer : (xs : History) → length xs ≤ length (xs ++ batch ∷ [])
+    longer [] = omega arith
+    longer (x ∷ xs) = let rest = longer xs in omega arith
+
+    front : (xs : History) → xs ≡ take (length xs) (xs ++ batch ∷ [])
+    front [] = refl
+    front (x ∷ xs) = ap (λ ys. x ∷ ys) (front xs)
+
+-- as it was, a store stays
+pub stays_as : (s : Store) → Stays s s
+stays_as missing = tt
+stays_as (made name) = refl
+
+pub stays_then : (s t u : Store) → Stays s t → Stays t u → Stays s u
+stays_then missing t u first second = tt
+stays_then (made name) t u first second = subst (λ x. Stays x u) first second
+
+-- a beginning of a beginning
+beginning_within : (least covered : ℕ) (risk more : Risk) (part : History) → least ≤ covered → Grows risk more → IsBeginning covered risk.history part → IsBeginning least more.history part
+beginning_within least covered risk more part few grows b =
+    let fits : b.count ≤ length (take grows.count more.history) = subst (λ h. b.count ≤ length h) grows.first b.there in
+    let short = length-take grows.count more.history in
+    record {
+      count = b.count;
+      enough = omega (arith, few, b.enough);
+      there = omega (arith, fits, short, grows.there);
+      first = b.first ∙ ap (take b.count) grows.first ∙ take_twice grows.count b.count more.history fits;
+    }
+
+module _ (store : List ℕ) (reads : Files → Contents → Type 0) where
+  -- what is spared in a later step is spared in the whole call
+  pub spared_more : (old middle : State) (risk more : Risk) → old.covered ≤ middle.covered → Stays old.store middle.store → Grows risk more
+      → (files : Files) → IsSpared store reads middle risk files → IsSpared store reads old more files
+  spared_more old middle risk more few stays grows files spared = record {
+    carries = λ left leaves honest.
+        let c = spared.carries left leaves honest in
+        record {
+          part = c.part;
+          beginning = beginning_within old.covered middle.covered risk more c.part few grows c.beginning;
+          carries = carries_more store reads risk.bound more.bound grows.bound c.part left c.carries;
+        };
+    stays = λ left contents leaves honest read. stays_then old.store middle.store contents.store stays (spared.stays left contents leaves honest read);
+  }
+
+  -- One step after another: the first is spared with the state in which the call began, the second with the one between them.
+  pub steps_join : {first mid now : Told} (old middle : State) (risk more : Risk) → old.covered ≤ middle.covered → Stays old.store middle.store → Grows risk more
+      → Run (IsSpared store reads old risk) first mid → Run (IsSpared store reads middle more) mid now → Run (IsSpared store reads old more) first now
+  steps_join old middle risk more few stays grows before after = Run-trans
+      (Run-mono (spared_more old old risk more (omega arith) (stays_as old.store) grows) before)
+      (spared_more old middle more more few stays (grows_same more.history more.bound more.bound (omega arith))) after
+
+  -- between two calls
+  pub spared_now : (disk : Disk) (state : State) → StandsFor store reads disk state → IsSpared store reads state (risk_between state) disk.files
+  spared_now disk state stands = record { carries = stands.holds.crash; stays = stands.keeps }
+
+  -- Each honest disk that a crash leaves since the call began carries a beginning of what is at risk, with all that was covered then.
+  pub spared_since : {first now : Told} (old : State) (risk : Risk) → Run (IsSpared store reads old risk) first now → ((files : Files) → now.stood now.moment files → files ≡ now.disk.files)
+      → (files left : Files) → Since now first.moment files left → IsHonest store files left → CarriesBeginning store reads risk.bound old.covered risk.history left
+  spared_since old risk run only files left since honest = (since_start run only since.0 files since.1 since.2 since.3).carries left since.4 honest
