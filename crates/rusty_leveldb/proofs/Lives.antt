@@ -1,50 +1,92 @@
--- Lives of a store, one after another: what they are of devices, and that they are a run of the machine where each crash was honest.
-use Rattle.std.proofs.Common.{◌≡◌, ◌+◌, ℕ, suc, Bool, List, [], ◌∷◌, ◌++◌, refl, sym, ◌∙◌, ap, subst, arith, Option, Some, None, IsTrue}
-use Rattle.std.specs.Prelude.{◌↔◌, All}
+-- Lives of a store, one after another: they are one run of the machine if each crash was honest.
+use Rattle.std.proofs.Common.{◌≡◌, ◌<◌, ◌≤◌, ◌+◌, ◌-◌, inl, inr, ℕ, suc, Bool, List, [], ◌∷◌, ◌++◌, refl, sym, ◌∙◌, ap, subst, arith, Option, Some, None, Result, Ok, Err, IsTrue}
+use Rattle.std.specs.Prelude.{◌↔◌, ◌⊎◌, All, map, Vec}
+use Rattle.std.specs.declared.alloc.Global.{Global}
 use Rattle.std.specs.declared.cmp.Ordering.{Ordering}
+use Rattle.std.specs.Option.{option_map}
+use Rattle.std.proofs.lemmas.List.{map-append}
+use Rattle.std.proofs.lemmas.List.Elements.{All-map}
+use Rattle.leveldb_base.specs.declared.error.Status.{Status}
+use Rattle.leveldb_base.specs.declared.error.StatusCode.TheVariants.{InvalidArgument}
 use Rattle.leveldb_env.specs.declared.mem_env.record.RecordEnv.{RecordEnv}
 use Rattle.leveldb_env.specs.declared.mem_env.picks.Pick.{Pick}
 use Rattle.leveldb_env.specs.contracts.mem_env.record.RecordEnvEnv.TheImpl.{ghosts}
-use Rattle.std.specs.Option.{option_map}
+use Rattle.leveldb_env.specs.Calls.{NoMemory}
 use Rattle.leveldb_env.specs.Disk.{Files, kept_file}
 use Rattle.leveldb_env.specs.Picks.{picked, tails_of}
-use Rattle.rusty_leveldb.specs.Holds.{IsHonest}
-use Rattle.rusty_leveldb.proofs.OneLog.LogFile.{front_honest}
 use Rattle.leveldb_env.specs.Record.{told_of, moment_of, failures_of, files_in, files_then, TellsTheSame}
 use Rattle.rusty_leveldb.specs.declared.shell.crash_runs.Report.{Report}
 use Rattle.rusty_leveldb.specs.declared.shell.crash_runs.Life.{Life}
-use Rattle.rusty_leveldb.specs.State.{State, Opening, closed}
+use Rattle.rusty_leveldb.specs.State.{State, Opening, Request, Answer, closed}
+use Rattle.rusty_leveldb.specs.Holds.{IsHonest}
 use Rattle.rusty_leveldb.specs.Runs as machine
 use Rattle.rusty_leveldb.specs.Runs.{Event, events_of, Run, CrashBefore, StopsAt, LifeLeads, Lives, new_state, goes_on, crashes}
-use Rattle.rusty_leveldb.specs.Serves.{Reads, StandsFor, Represents}
+use Rattle.rusty_leveldb.specs.Serves.{Reads, StandsFor, Represents, IsConversation}
 use Rattle.rusty_leveldb.specs.Engine.{Recalls, IsStoreName, IsOpening}
 use Rattle.rusty_leveldb.specs.Shell.{NoCoder}
-use Rattle.rusty_leveldb.specs.Lives.{Says, Lived, LivedAlways, Anyhow, opening_of, ending_of, IsLeft, IsHonestly, Follows, Played, PlayedFromNone, IsLifeOf, AreLivesOf, AreRuns}
+use Rattle.rusty_leveldb.specs.Lives.{requests_of, IsLife, IsAlwaysLife, opening_of, ending_of, IsCrash, IsHonestCrash, IsNextDevice, IsReportOf, IsLifeOn, AreReports, AreReportsTo, AreReportsFromNone, IsLifeOf, AreLivesOf, AreOneRun, HasNoCrash, ReportsLives}
+use Rattle.rusty_leveldb.proofs.OneLog.LogFile.{front_honest}
 use Rattle.rusty_leveldb.proofs.Bounds.{nothing_stands}
+
+-- ---- moments from a life's start
+
+-- answers with their moments from this start
+abbrev pub from_start : ℕ → List (ℕ × Event) → List (ℕ × Event)
+from_start start answered = map (λ (one : ℕ × Event). (one.0 - start, one.1)) answered
+
+-- what is said of the events stays
+events_stay : {B : Type 0} (f : Event → B) (start : ℕ) (answered : List (ℕ × Event)) → map (λ (one : ℕ × Event). f one.1) (from_start start answered) ≡ map (λ (one : ℕ × Event). f one.1) answered
+events_stay f start [] = refl
+events_stay f start (one ∷ answered) = ap (λ rest. f one.1 ∷ rest) (events_stay f start answered)
+
+moments_fall : (start : ℕ) (answered : List (ℕ × Event)) → map (λ (one : ℕ × Event). one.0) (from_start start answered) ≡ map (λ m. m - start) (map (λ (one : ℕ × Event). one.0) answered)
+moments_fall start [] = refl
+moments_fall start (one ∷ answered) = ap (λ rest. (one.0 - start) ∷ rest) (moments_fall start answered)
+
+conversation_from : (start : ℕ) (requests : List Request) (answers : List Answer) (moments : List ℕ) (answered : List (ℕ × Event)) → IsConversation requests answers moments answered
+    → IsConversation requests answers (map (λ m. m - start) moments) (from_start start answered)
+conversation_from start requests answers moments answered c = record {
+  requests_are = events_stay (λ event. event.request) start answered ∙ c.requests_are;
+  answers_are = events_stay (λ event. event.answer) start answered ∙ c.answers_are;
+  moments_are = moments_fall start answered ∙ ap (map (λ m. m - start)) c.moments_are;
+  no_coder = All-map (λ (one : ℕ × Event). one.1.coders ≡ []) (λ (one : ℕ × Event). (one.0 - start, one.1)) answered c.no_coder;
+}
+
+module _ (cmp : List ℕ → List ℕ → Ordering) (start : ℕ) where
+  run_from : (before : ℕ) (old : State) (answered : List (ℕ × Event)) (after : ℕ) (new : State) → Run cmp before old (events_of answered) after new → Run cmp before old (events_of (from_start start answered)) after new
+  run_from before old answered after new run = subst (λ events. Run cmp before old events after new) (sym (events_stay (λ event. event) start answered)) run
+
+  crash_from : (failures : ℕ) (state : State) (undone : List (ℕ × Event)) (end : ℕ) (last new : State) → CrashBefore cmp failures state undone end last new → CrashBefore cmp failures state (from_start start undone) end last new
+  crash_from failures state [] end last new crash = crash
+  crash_from failures state (next ∷ later) end last new crash = (crash.0, crash.1, run_from next.1.failures crash.0 later end last crash.2, crash.3)
+
+  stops_from : (before : ℕ) (old : State) (answered : List (ℕ × Event)) (moment end : ℕ) (last new : State) → StopsAt cmp before old answered (start + moment) end last new → StopsAt cmp before old (from_start start answered) moment end last new
+  stops_from before old answered moment end last new s = record {
+    done = from_start start s.done;
+    undone = from_start start s.undone;
+    split = ap (from_start start) s.split ∙ map-append (λ (one : ℕ × Event). (one.0 - start, one.1)) s.done s.undone;
+    by_then = All-map (λ (one : ℕ × Event). one.0 ≤ moment) (λ (one : ℕ × Event). (one.0 - start, one.1)) s.done (λ k one lt. let by = s.by_then k one lt in omega (arith, by));
+    not_yet = All-map (λ (one : ℕ × Event). moment < one.0) (λ (one : ℕ × Event). (one.0 - start, one.1)) s.undone (λ k one lt. let later = s.not_yet k one lt in omega (arith, later));
+    failures = s.failures;
+    state = s.state;
+    run = run_from before old s.done s.failures s.state s.run;
+    crash = crash_from s.failures s.state s.undone end last new s.crash;
+  }
 
 -- ---- one life more
 
-module _ {C FP I : Type 0} {D : I → Type 0} (order : C → List ℕ → List ℕ → Ordering) (store : List ℕ) where
-  -- one life behind others
-  pub record IsNext (mid : RecordEnv) (life : Life C FP I D) (report : Report) (end : RecordEnv) (Fair : _) : Type 0 where
-    pub from : RecordEnv
-    pub to : RecordEnv
-    pub same : TellsTheSame mid from
-    pub lived : LivedAlways C FP ghosts (order life.options.cmp) store from life.options.create_if_missing life.commands.items report to
-    pub follows : Follows Fair (moment_of mid) life.moment life.pick to end
-
-  pub played_more : (Fair : _) (device : RecordEnv) (lives : List (Life C FP I D)) (reports : List Report) (mid end : RecordEnv) (life : Life C FP I D) (report : Report) → Played ghosts order store Fair device lives reports mid
-      → IsNext mid life report end Fair → Played ghosts order store Fair device (lives ++ life ∷ []) (reports ++ report ∷ []) end
-  played_more Fair device [] [] mid end life report played next = subst (λ d. Played ghosts order store Fair d (life ∷ []) (report ∷ []) end) played
-      (next.from, next.to, end, next.same, next.lived, next.follows, refl)
-  played_more Fair device (one ∷ lives) (told ∷ reports) mid end life report played next =
-      (played.0, played.1, played.2, played.3, played.4, played.5, played_more Fair played.2 lives reports mid end life report played.6 next)
-  played_more Fair device [] (told ∷ reports) mid end life report played next = absurd played
-  played_more Fair device (one ∷ lives) [] mid end life report played next = absurd played
+module _ {C FP I : Type 0} {D : I → Type 0} (order : C → List ℕ → List ℕ → Ordering) (store : List ℕ) (Crash : RecordEnv → ℕ → Pick → RecordEnv → Type 0) where
+  -- one life after others
+  pub reports_more : (device : RecordEnv) (lives : List (Life C FP I D)) (reports : List Report) (mid to end : RecordEnv) (life : Life C FP I D) (report : Report) → AreReports ghosts order store Crash device lives reports mid
+      → IsLifeOn ghosts order store mid life report to → IsNextDevice Crash (moment_of mid) life.moment life.pick to end → AreReports ghosts order store Crash device (lives ++ life ∷ []) (reports ++ report ∷ []) end
+  reports_more device [] [] mid to end life report are is next = subst (λ d. AreReports ghosts order store Crash d (life ∷ []) (report ∷ []) end) are (to, is, end, next, refl)
+  reports_more device (one ∷ lives) (first ∷ reports) mid to end life report are is next = (are.0, are.1, are.2, are.3, reports_more are.2 lives reports mid to end life report are.4 is next)
+  reports_more device [] (first ∷ reports) mid to end life report are is next = absurd are
+  reports_more device (one ∷ lives) [] mid to end life report are is next = absurd are
 
 -- ---- a run of the machine
 
--- a store is closed behind a crash
+-- a store is closed after a crash
 closed_then : (cmp : List ℕ → List ℕ → Ordering) (failures : ℕ) (state : State) (undone : List (ℕ × Event)) (end : ℕ) (last new : State) → CrashBefore cmp failures state undone end last new → new.mode ≡ closed
 closed_then cmp failures state [] end last new crash = ap (λ (s : State). s.mode) crash.2.state
 closed_then cmp failures state (next ∷ later) end last new crash = ap (λ (s : State). s.mode) crash.3.state
@@ -52,7 +94,7 @@ closed_then cmp failures state (next ∷ later) end last new crash = ap (λ (s :
 same_disk : (device from : RecordEnv) → TellsTheSame device from → (told_of from).disk ≡ (told_of device).disk
 same_disk device from same = λ i. record { files = same.files i; locked = same.locks i }
 
--- the disk stands for a state
+-- the disk represents a state
 abbrev pub Stands : Type 0 → Type 0 → List ℕ → RecordEnv → State → Type 0
 Stands C FP store device old = Represents store (Reads store) (Recalls {C = C} {FP = FP} {I = Unit {0}} {D = NoCoder} ghosts store) None (told_of device).disk old
 
@@ -60,78 +102,68 @@ opens_so : (store : List ℕ) (fits create : Bool) → (IsTrue fits ↔ IsStoreN
 opens_so store fits create name_fits = record { create = refl; exists = refl; fits = name_fits; compresses = refl }
 
 module _ {C FP I : Type 0} {D : I → Type 0} (order : C → List ℕ → List ℕ → Ordering) (store : List ℕ) (cmp : List ℕ → List ℕ → Ordering) (fits : Bool) where
-  abbrev Result' : List (Life C FP I D) → List Report → RecordEnv → State → Type 0
-  Result' lives reports device old = (told : List machine.Life) × AreLivesOf ghosts order store fits lives reports told × ((failures : ℕ) × (last : State) × Lives cmp (failures_of device) old told failures last)
+  abbrev RunFrom : List (Life C FP I D) → List Report → RecordEnv → State → Type 0
+  RunFrom lives reports device old = (of_machine : List machine.Life) × AreLivesOf ghosts order store fits lives reports of_machine × (failures : ℕ) × (last : State) × Lives cmp (failures_of device) old of_machine failures last
 
-  -- one life, and what comes behind it
-  module _ (name_fits : IsTrue fits ↔ IsStoreName store) (device from to next : RecordEnv) (life : Life C FP I D) (lives : List (Life C FP I D)) (report : Report) (reports : List Report) (old : State) (stands : Stands C FP store device old)
-      (same_order : order life.options.cmp ≡ cmp) (same : TellsTheSame device from) (always : LivedAlways C FP ghosts (order life.options.cmp) store from life.options.create_if_missing life.commands.items report to)
-      (rest : (then : State) → Stands C FP store next then → Result' lives reports next then) where
+  -- one life, and what comes after it
+  module _ (name_fits : IsTrue fits ↔ IsStoreName store) (device to next : RecordEnv) (life : Life C FP I D) (lives : List (Life C FP I D)) (report : Report) (reports : List Report) (old : State) (stands : Stands C FP store device old)
+      (same_order : order life.options.cmp ≡ cmp) (is : IsLifeOn ghosts order store device life report to) (rest : (then : State) → Stands C FP store next then → RunFrom lives reports next then) where
+    abbrev start : ℕ
+    start = moment_of device
+
     abbrev opening : Opening
     opening = opening_of fits life.options.create_if_missing
 
-    stands_from : Stands C FP store from old
-    stands_from = subst (λ disk. Represents store (Reads store) (Recalls {C = C} {FP = FP} {I = Unit {0}} {D = NoCoder} ghosts store) None disk old) (sym (same_disk device from same)) stands
+    stands_from : Stands C FP store is.from old
+    stands_from = subst (λ disk. Represents store (Reads store) (Recalls {C = C} {FP = FP} {I = Unit {0}} {D = NoCoder} ghosts store) None disk old) (sym (same_disk device is.from is.same)) stands
 
-    lived : Lived C FP ghosts cmp store from opening life.commands.items report to old
-    lived = subst (λ o. LivedAlways C FP ghosts o store from life.options.create_if_missing life.commands.items report to) same_order always opening (opens_so store fits life.options.create_if_missing name_fits) old stands_from
+    lived : IsLife C FP ghosts cmp store is.from opening life.commands.items report to old
+    lived = subst (λ o. IsAlwaysLife C FP ghosts o store is.from life.options.create_if_missing life.commands.items report to) same_order is.life_is opening (opens_so store fits life.options.create_if_missing name_fits) old stands_from
 
-    life_is : (moment : Option ℕ) → life.moment ≡ moment → IsLifeOf ghosts order store (moment_of device) opening life report (record { answered = lived.led.answered; ending = ending_of (moment_of device) moment })
-    life_is moment is = record {
-      requests = lived.requests;
+    abbrev answered : List (ℕ × Event)
+    answered = from_start start lived.run.answered
+
+    life_of : IsLifeOf ghosts order store fits life report (record { answered = answered; ending = ending_of life.moment })
+    life_of = record {
       answers = lived.answers;
-      moments = lived.moments;
-      asked = lived.led.asked;
-      says = subst (λ n. Says n opening life.commands.items report.opened report.replies.items lived.requests lived.answers lived.moments) same.moment lived.says;
-      ending = ap (ending_of (moment_of device)) (sym is);
+      moments = map (λ m. m - start) lived.moments;
+      reported = subst (λ n. IsReportOf report lived.answers (map (λ m. m - n) lived.moments)) is.same.moment lived.reported;
+      asked = conversation_from start (requests_of opening life.commands.items report.opened) lived.answers lived.moments lived.run.answered lived.run.asked;
+      ending = refl;
     }
 
-    join : (moment : Option ℕ) → life.moment ≡ moment → (then : State) → Stands C FP store next then → LifeLeads cmp (failures_of device) old lived.led.answered (ending_of (moment_of device) moment) (failures_of next) then
-        → Result' (life ∷ lives) (report ∷ reports) device old
-    join moment is then stands_then leads =
+    join : (then : State) → Stands C FP store next then → LifeLeads cmp (failures_of device) old answered (ending_of life.moment) (failures_of next) then → RunFrom (life ∷ lives) (report ∷ reports) device old
+    join then stands_then leads =
         let others = rest then stands_then in
-        (record { answered = lived.led.answered; ending = ending_of (moment_of device) moment } ∷ others.0, ((moment_of device, life_is moment is), others.1), (others.2.0, others.2.1, (failures_of next, then, leads, others.2.2)))
+        (record { answered = answered; ending = ending_of life.moment } ∷ others.0, (life_of, others.1), others.2, others.3, (failures_of next, then, leads, others.4))
 
-    pub one_life : (moment : Option ℕ) → life.moment ≡ moment → Follows (IsHonestly store) (moment_of device) moment life.pick to next → Result' (life ∷ lives) (report ∷ reports) device old
-    one_life None is follows = join None is lived.led.new (subst (λ d. Stands C FP store d lived.led.new) (sym follows) lived.led.represents)
-        (subst (λ n. Run cmp n old (events_of lived.led.answered) (failures_of next) lived.led.new) same.failures
-        (subst (λ (d : RecordEnv). Run cmp (failures_of from) old (events_of lived.led.answered) (failures_of d) lived.led.new) (sym follows) lived.led.run))
-    one_life (Some moment) is follows =
-        let left = follows.0 in
-        let at = moment_of device + moment in
-        let stops = lived.led.stops at (files_then to at life.pick.after) (told_of next).disk (omega (arith, same.moment)) left.come left.stood left.leaves follows.1 left.fresh.free in
-        join (Some moment) is stops.0
-        (record { disk_is = stops.2; memory_is = closed_then cmp stops.1.failures stops.1.state stops.1.undone (failures_of to) lived.led.new stops.0 stops.1.crash })
-        ((failures_of to, lived.led.new, subst (λ n. StopsAt cmp n old lived.led.answered at (failures_of to) lived.led.new stops.0) same.failures stops.1), left.fresh.failures)
+    by_end : (moment : Option ℕ) → life.moment ≡ moment → IsNextDevice (IsHonestCrash store) start moment life.pick to next → RunFrom (life ∷ lives) (report ∷ reports) device old
+    by_end None ends follows = join lived.run.new (subst (λ d. Stands C FP store d lived.run.new) (sym follows) lived.run.represents)
+        (subst (λ m. LifeLeads cmp (failures_of device) old answered (ending_of m) (failures_of next) lived.run.new) (sym ends)
+        (run_from cmp start (failures_of device) old lived.run.answered (failures_of next) lived.run.new
+        (subst (λ n. Run cmp n old (events_of lived.run.answered) (failures_of next) lived.run.new) is.same.failures
+        (subst (λ (d : RecordEnv). Run cmp (failures_of is.from) old (events_of lived.run.answered) (failures_of d) lived.run.new) (sym follows) lived.run.run))))
+    by_end (Some moment) ends follows =
+        let crash = follows.crash in
+        let at = start + moment in
+        let stops = lived.run.stops at (files_then to at life.pick.after) (told_of next).disk (omega (arith, is.same.moment))
+        (record { come = crash.come; stood = crash.stood; leaves = crash.leaves; honest = follows.honest; free = crash.fresh.free }) in
+        let stopped = subst (λ n. StopsAt cmp n old lived.run.answered at (failures_of to) lived.run.new stops.0) is.same.failures stops.1 in
+        join stops.0
+        (record { disk_is = stops.2; memory_is = closed_then cmp stops.1.failures stops.1.state stops.1.undone (failures_of to) lived.run.new stops.0 stops.1.crash })
+        (subst (λ m. LifeLeads cmp (failures_of device) old answered (ending_of m) (failures_of next) stops.0) (sym ends)
+        ((failures_of to, lived.run.new, stops_from cmp start (failures_of device) old lived.run.answered moment (failures_of to) lived.run.new stops.0 stopped), crash.fresh.failures))
 
   pub lives_run : (IsTrue fits ↔ IsStoreName store) → (device : RecordEnv) (lives : List (Life C FP I D)) (reports : List Report) (end : RecordEnv) (old : State) → Stands C FP store device old → All (λ life. order life.options.cmp ≡ cmp) lives
-      → Played ghosts order store (IsHonestly store) device lives reports end → Result' lives reports device old
-  lives_run name_fits device [] [] end old stands orders played = ([], tt, (failures_of device, old, (refl, refl)))
-  lives_run name_fits device (life ∷ lives) (report ∷ reports) end old stands orders played =
-      one_life name_fits device played.0 played.1 played.2 life lives report reports old stands (orders 0 life (omega arith)) played.3 played.4
-      (λ then stands_then. lives_run name_fits played.2 lives reports end then stands_then (λ k one lt. orders (suc k) one (omega (arith, lt))) played.6) life.moment refl played.5
-  lives_run name_fits device [] (report ∷ reports) end old stands orders played = absurd played
-  lives_run name_fits device (life ∷ lives) [] end old stands orders played = absurd played
+      → AreReports ghosts order store (IsHonestCrash store) device lives reports end → RunFrom lives reports device old
+  lives_run name_fits device [] [] end old stands orders are = ([], tt, failures_of device, old, (refl, refl))
+  lives_run name_fits device (life ∷ lives) (report ∷ reports) end old stands orders are =
+      by_end name_fits device are.0 are.2 life lives report reports old stands (orders 0 life (omega arith)) are.1
+      (λ then stands_then. lives_run name_fits are.2 lives reports end then stands_then (λ k one lt. orders (suc k) one (omega (arith, lt))) are.4) life.moment refl are.3
+  lives_run name_fits device [] (report ∷ reports) end old stands orders are = absurd are
+  lives_run name_fits device (life ∷ lives) [] end old stands orders are = absurd are
 
--- from an empty device on
-pub are_runs : {C FP I : Type 0} {D : I → Type 0} (order : C → List ℕ → List ℕ → Ordering) (store : List ℕ) (lives : List (Life C FP I D)) (reports : List Report) → AreRuns ghosts order store lives reports
-are_runs {C} {FP} order store lives reports cmp fits name_fits orders played =
-    let first = played.0 in
-    let none = played.2 in
-    let fresh = played.3 in
-    let stands : StandsFor store (Reads store) (told_of first).disk new_state = nothing_stands store (told_of first).disk (none _) (fresh.free _) in
-    let all = lives_run order store cmp fits name_fits first lives reports played.1 new_state (record { disk_is = stands; memory_is = refl }) orders played.4 in
-    (all.0, all.1, (all.2.0, all.2.1, subst (λ n. Lives cmp n new_state all.0 all.2.0 all.2.1) fresh.failures all.2.2))
-
--- what follows a life
-pub follows_left : (Fair : RecordEnv → ℕ → Pick → RecordEnv → Type 0) (start at moment : ℕ) (was : Option ℕ) (pick : Pick) (to left end : RecordEnv) → was ≡ Some moment → at ≡ start → end ≡ left → IsLeft to (at + moment) pick left → Fair to (start + moment) pick end → Follows Fair start was pick to end
-follows_left Fair start at moment was pick to left end is begun ends left_is fair = subst (λ m. Follows Fair start m pick to end) (sym is)
-    (subst (λ d. IsLeft to (start + moment) pick d) (sym ends) (subst (λ n. IsLeft to (n + moment) pick left) begun left_is), fair)
-
-pub follows_on : (Fair : RecordEnv → ℕ → Pick → RecordEnv → Type 0) (start : ℕ) (was : Option ℕ) (pick : Pick) (to end : RecordEnv) → was ≡ None → end ≡ to → Follows Fair start was pick to end
-follows_on Fair start was pick to end is ends = subst (λ m. Follows Fair start m pick to end) (sym is) ends
-
--- ---- crashes that keep what is kept alone
+-- ---- crashes that leave the kept bytes alone
 
 -- without a tail a crash is honest
 kept_honest : (store : List ℕ) (files left : Files) → left ≡ picked [] files → IsHonest store files left
@@ -139,27 +171,54 @@ kept_honest store files left is name was crashed journal same_was same_is =
     let here : left name ≡ option_map (λ file. kept_file (file.kept ++ [])) (files name) = ap (λ (f : Files). f name) is in
     front_honest was [] was.since refl was crashed refl (sym (here ∙ ap (option_map (λ file. kept_file (file.kept ++ []))) same_was) ∙ same_is)
 
-fair_follows : (store : List ℕ) (start : ℕ) (moment : Option ℕ) (pick : Pick) (to next : RecordEnv) → pick.tails.items ≡ [] → Follows Anyhow start moment pick to next → Follows (IsHonestly store) start moment pick to next
-fair_follows store start None pick to next none follows = follows
-fair_follows store start (Some moment) pick to next none follows =
+honest_next : (store : List ℕ) (start : ℕ) (moment : Option ℕ) (pick : Pick) (to next : RecordEnv) → pick.tails.items ≡ [] → IsNextDevice IsCrash start moment pick to next → IsNextDevice (IsHonestCrash store) start moment pick to next
+honest_next store start None pick to next none follows = follows
+honest_next store start (Some moment) pick to next none crash =
     let files = files_then to (start + moment) pick.after in
-    (follows.0, kept_honest store files (files_in next) (follows.0.files ∙ ap (λ tails. picked (tails_of tails) files) none))
+    record { crash = crash; honest = kept_honest store files (files_in next) (crash.files ∙ ap (λ tails. picked (tails_of tails) files) none) }
 
-pub fair_lives : {C FP I : Type 0} {D : I → Type 0} (order : C → List ℕ → List ℕ → Ordering) (store : List ℕ) (device : RecordEnv) (lives : List (Life C FP I D)) (reports : List Report) (end : RecordEnv) → All (λ life. life.pick.tails.items ≡ []) lives
-    → Played ghosts order store Anyhow device lives reports end → Played ghosts order store (IsHonestly store) device lives reports end
-fair_lives order store device [] [] end none played = played
-fair_lives order store device (life ∷ lives) (report ∷ reports) end none played = (
-  played.0,
-  played.1,
-  played.2,
-  played.3,
-  played.4,
-  fair_follows store (moment_of device) life.moment life.pick played.1 played.2 (none 0 life (omega arith)) played.5,
-  fair_lives order store played.2 lives reports end (λ k one lt. none (suc k) one (omega (arith, lt))) played.6,
-)
-fair_lives order store device [] (report ∷ reports) end none played = absurd played
-fair_lives order store device (life ∷ lives) [] end none played = absurd played
+-- ---- from an empty device on
 
-pub fair_from_none : {C FP I : Type 0} {D : I → Type 0} (order : C → List ℕ → List ℕ → Ordering) (store : List ℕ) (lives : List (Life C FP I D)) (reports : List Report) → All (λ life. life.pick.tails.items ≡ []) lives
-    → PlayedFromNone ghosts order store Anyhow lives reports → PlayedFromNone ghosts order store (IsHonestly store) lives reports
-fair_from_none order store lives reports none played = (played.0, played.1, played.2, played.3, fair_lives order store played.0 lives reports played.1 none played.4)
+module _ {C FP I : Type 0} {D : I → Type 0} (order : C → List ℕ → List ℕ → Ordering) (store : List ℕ) where
+  one_run : (lives : List (Life C FP I D)) (reports : List Report) → AreReportsFromNone ghosts order store (IsHonestCrash store) lives reports → AreOneRun ghosts order store lives reports
+  one_run lives reports are cmp fits name_fits orders =
+      let first = are.1.first in
+      let fresh = are.1.fresh in
+      let stands : StandsFor store (Reads store) (told_of first).disk new_state = nothing_stands store (told_of first).disk (are.1.empty _) (fresh.free _) in
+      let all = lives_run order store cmp fits name_fits first lives reports are.0 new_state (record { disk_is = stands; memory_is = refl }) orders are.1.reports_are in
+      (all.0, all.1, all.2, all.3, subst (λ n. Lives cmp n new_state all.0 all.2 all.3) fresh.failures all.4)
+
+  -- so lives without tails are honest
+  honest_lives : (device : RecordEnv) (lives : List (Life C FP I D)) (reports : List Report) (end : RecordEnv) → All (λ life. life.pick.tails.items ≡ []) lives
+      → AreReports ghosts order store IsCrash device lives reports end → AreReports ghosts order store (IsHonestCrash store) device lives reports end
+  honest_lives device [] [] end none are = are
+  honest_lives device (life ∷ lives) (report ∷ reports) end none are = (
+    are.0,
+    are.1,
+    are.2,
+    honest_next store (moment_of device) life.moment life.pick are.0 are.2 (none 0 life (omega arith)) are.3,
+    honest_lives are.2 lives reports end (λ k one lt. none (suc k) one (omega (arith, lt))) are.4,
+  )
+  honest_lives device [] (report ∷ reports) end none are = absurd are
+  honest_lives device (life ∷ lives) [] end none are = absurd are
+
+  -- ---- what is returned
+
+  pub all_reported : (lives : List (Life C FP I D)) (reports : Vec Report Global) → AreReportsFromNone ghosts order store IsCrash lives reports.items → ReportsLives ghosts order store lives (Ok reports)
+  all_reported lives reports are = record {
+    reports = are;
+    run = one_run lives reports.items;
+    kept = λ none. (are.0, record { first = are.1.first; empty = are.1.empty; fresh = are.1.fresh; reports_are = honest_lives are.1.first lives reports.items are.0 none are.1.reports_are });
+    error = tt;
+  }
+
+  pub fails_for : (lives : List (Life C FP I D)) (e : Status) → NoMemory e ⊎ ((e.code ≡ InvalidArgument) × HasNoCrash ghosts order store lives) → ReportsLives ghosts order store lives (Err e)
+  fails_for lives e cause = record { reports = tt; run = tt; kept = tt; error = cause }
+
+-- the device that comes next, by whether the life has a crash
+pub next_crash : (Crash : RecordEnv → ℕ → Pick → RecordEnv → Type 0) (start at moment : ℕ) (was : Option ℕ) (pick : Pick) (to left end : RecordEnv) → was ≡ Some moment → at ≡ start → end ≡ left → Crash to (at + moment) pick left → IsNextDevice Crash start was pick to end
+next_crash Crash start at moment was pick to left end is begun ends crash = subst (λ m. IsNextDevice Crash start m pick to end) (sym is)
+    (subst (λ d. Crash to (start + moment) pick d) (sym ends) (subst (λ n. Crash to (n + moment) pick left) begun crash))
+
+pub next_same : (Crash : RecordEnv → ℕ → Pick → RecordEnv → Type 0) (start : ℕ) (was : Option ℕ) (pick : Pick) (to end : RecordEnv) → was ≡ None → end ≡ to → IsNextDevice Crash start was pick to end
+next_same Crash start was pick to end is ends = subst (λ m. IsNextDevice Crash start m pick to end) (sym is) ends

@@ -1,6 +1,6 @@
 -- One life of a store: its opening, its commands one after another, and its end.
 use Rattle.std.proofs.Common.{◌≡◌, ◌-◌, ℕ, Bool, List, [], ◌∷◌, ◌++◌, refl, sym, ◌∙◌, ap, subst, Some, None, Ok, Err, IsTrue}
-use Rattle.std.specs.Prelude.{map}
+use Rattle.std.specs.Prelude.{map, OnErr}
 use Rattle.std.specs.declared.cmp.Ordering.{Ordering}
 use Rattle.std.proofs.lemmas.List.{map-append}
 use Rattle.leveldb_base.specs.declared.error.Status.{Status}
@@ -13,8 +13,8 @@ use Rattle.rusty_leveldb.specs.declared.shell.crash_runs.Report.{Report}
 use Rattle.rusty_leveldb.specs.State.{State, Opening, open_store, abandon, Answer, done, refused}
 use Rattle.rusty_leveldb.specs.Serves.{Reads, Represents, refusal_of}
 use Rattle.rusty_leveldb.specs.Engine.{Recalls, Answers, IsOpening, no_engine}
-use Rattle.rusty_leveldb.specs.Shell.{LeadsAt, request_of, answer_of}
-use Rattle.rusty_leveldb.specs.Lives.{Says, LivedAlways}
+use Rattle.rusty_leveldb.specs.Shell.{NoCoder, LeadsAt, request_of, answer_of}
+use Rattle.rusty_leveldb.specs.Lives.{requests_of, answers_of, moments_of, IsAlwaysLife}
 use Rattle.rusty_leveldb.proofs.Playing.{OnlyNow, OpensAs, no_other, first_at, next_one, at_none}
 
 -- the moments of replies, from a life's start
@@ -53,29 +53,48 @@ module _ {E F I : Type 0} {D : I → Type 0} (C FP : Type 0) (env : Ghosts E F) 
   -- the life ends
   pub lives_end : (from mid to : E) (create : Bool) (commands : List Command) (given : List ℕ) (engine : Engine E C FP F I D) (ending : Answer) (report : Report) → report.opened ≡ Ok tt
       → Given (env.tells from).moment report.replies.items given → LivesSoFar C FP env cmp store from create commands report.replies.items given engine mid → Answers env cmp (Some engine) mid abandon ending None to
-      → LivedAlways C FP env cmp store from create commands report to
+      → IsAlwaysLife C FP env cmp store from create commands report to
   lives_end from mid to create commands given engine ending report opened told lives answers_so opening is old represents =
       let led = lives opening is old (no_other (env.tells from).disk old represents) in
-      let next = next_one env only_now cmp store tells None from mid to (open_store opening ∷ map request_of commands) (done ∷ map (λ (r : ℕ × Reply). answer_of r.1) report.replies.items) (led.0 ∷ given) (Some engine) None
+      let start = (env.tells from).moment in
+      let replies = report.replies.items in
+      let next = next_one env only_now cmp store tells None from mid to (open_store opening ∷ map request_of commands) (done ∷ map (λ (r : ℕ × Reply). answer_of r.1) replies) (led.0 ∷ given) (Some engine) None
       abandon ending old led.1 (answers_so store) in
       record {
-        requests = open_store opening ∷ (map request_of commands ++ abandon ∷ []);
-        answers = done ∷ (map (λ (r : ℕ × Reply). answer_of r.1) report.replies.items ++ ending ∷ []);
+        answers = done ∷ (map (λ (r : ℕ × Reply). answer_of r.1) replies ++ ending ∷ []);
         moments = led.0 ∷ (given ++ (env.tells to).moment ∷ []);
-        says = subst (λ o. Says (env.tells from).moment opening commands o report.replies.items (open_store opening ∷ (map request_of commands ++ abandon ∷ [])) (done ∷ (map (λ (r : ℕ × Reply). answer_of r.1) report.replies.items ++ ending ∷ [])) (led.0 ∷ (given ++ (env.tells to).moment ∷ [])))
-            (sym opened) (given, led.0, (env.tells to).moment, ending, refl, refl, refl, told);
-        led = at_none C FP env only_now cmp store from (open_store opening ∷ (map request_of commands ++ abandon ∷ [])) (done ∷ (map (λ (r : ℕ × Reply). answer_of r.1) report.replies.items ++ ending ∷ []))
-            (led.0 ∷ (given ++ (env.tells to).moment ∷ [])) to old next;
+        reported = record {
+          first = led.0 - start;
+          last = (env.tells to).moment - start;
+          ending = ending;
+          answers_are = ap (λ o. answers_of o replies ending) (sym opened);
+          moments_are = ap (λ ms. (led.0 - start) ∷ ms) (map-append (λ m. m - start) given ((env.tells to).moment ∷ []) ∙ ap (λ ms. ms ++ ((env.tells to).moment - start) ∷ []) (sym told))
+              ∙ ap (λ o. moments_of o replies (led.0 - start) ((env.tells to).moment - start)) (sym opened);
+          no_replies = subst (λ o. OnErr o (replies ≡ [])) (sym opened) tt;
+        };
+        run = subst (λ o. LeadsAt C FP {I = Unit {0}} {D = NoCoder} env cmp store from (requests_of opening commands o) (done ∷ (map (λ (r : ℕ × Reply). answer_of r.1) replies ++ ending ∷ [])) (led.0 ∷ (given ++ (env.tells to).moment ∷ [])) None to old) (sym opened)
+            (at_none C FP env only_now cmp store from (open_store opening ∷ (map request_of commands ++ abandon ∷ [])) (done ∷ (map (λ (r : ℕ × Reply). answer_of r.1) replies ++ ending ∷ []))
+            (led.0 ∷ (given ++ (env.tells to).moment ∷ [])) to old next);
       }
 
   -- the store wasn't opened
   pub not_lived : (options : Options C FP I D) (from to : E) (create : Bool) (commands : List Command) (report : Report) (status : Status) → report.opened ≡ Err status → report.replies.items ≡ []
-      → OpensAs C FP env cmp store from create (refused (refusal_of status)) (no_engine options) to → LivedAlways C FP env cmp store from create commands report to
-  not_lived options from to create commands report status opened none opens opening is old represents = record {
-    requests = open_store opening ∷ [];
-    answers = refused (refusal_of status) ∷ [];
-    moments = (env.tells to).moment ∷ [];
-    says = subst (λ o. Says (env.tells from).moment opening commands o report.replies.items (open_store opening ∷ []) (refused (refusal_of status) ∷ []) ((env.tells to).moment ∷ [])) (sym opened) ((env.tells to).moment, none, refl, refl, refl);
-    led = at_none C FP env only_now cmp store from (open_store opening ∷ []) (refused (refusal_of status) ∷ []) ((env.tells to).moment ∷ []) to old
-        (first_at env only_now cmp store tells from to (no_engine options) (open_store opening) (refused (refusal_of status)) old (no_other (env.tells from).disk old represents) (opens opening is));
-  }
+      → OpensAs C FP env cmp store from create (refused (refusal_of status)) (no_engine options) to → IsAlwaysLife C FP env cmp store from create commands report to
+  not_lived options from to create commands report status opened none opens opening is old represents =
+      let start = (env.tells from).moment in
+      let last = (env.tells to).moment in
+      record {
+        answers = refused (refusal_of status) ∷ [];
+        moments = last ∷ [];
+        reported = record {
+          first = last - start;
+          last = last - start;
+          ending = done;
+          answers_are = ap (λ o. answers_of o report.replies.items done) (sym opened);
+          moments_are = ap (λ o. moments_of o report.replies.items (last - start) (last - start)) (sym opened);
+          no_replies = subst (λ o. OnErr o (report.replies.items ≡ [])) (sym opened) none;
+        };
+        run = subst (λ o. LeadsAt C FP {I = Unit {0}} {D = NoCoder} env cmp store from (requests_of opening commands o) (refused (refusal_of status) ∷ []) (last ∷ []) None to old) (sym opened)
+            (at_none C FP env only_now cmp store from (open_store opening ∷ []) (refused (refusal_of status) ∷ []) (last ∷ []) to old
+            (first_at env only_now cmp store tells from to (no_engine options) (open_store opening) (refused (refusal_of status)) old (no_other (env.tells from).disk old represents) (opens opening is)));
+      }

@@ -18,7 +18,7 @@ use Rattle.rusty_leveldb.specs.State.{State, Opening, Request, open_store, aband
 use Rattle.rusty_leveldb.specs.Holds.{IsHonest}
 use Rattle.rusty_leveldb.specs.Machine.{Step, Crashes, risk_between}
 use Rattle.rusty_leveldb.specs.Runs.{Event, events_of, Run, CrashBefore, StopsAt, faults_of}
-use Rattle.rusty_leveldb.specs.Serves.{Reads, StandsFor, Represents, Goes, Runs, IsConversation, done_or, refusal_of}
+use Rattle.rusty_leveldb.specs.Serves.{Reads, StandsFor, Represents, Goes, Runs, IsHonestlyLeft, IsConversation, done_or, refusal_of}
 use Rattle.rusty_leveldb.specs.Engine.{scene, Recalls, Answers, AnswersAs, IsOpening, no_engine}
 use Rattle.rusty_leveldb.proofs.Crashes.{crash_between, crash_inside}
 use Rattle.rusty_leveldb.proofs.Others.{others_still, others_then}
@@ -93,11 +93,11 @@ OnlyNow {E = E} env = (e : E) (files : Files) → (env.tells e).stood (env.tells
 
 module _ {E F : Type 0} (env : Ghosts E F) (only_now : OnlyNow env) (store : List ℕ) where
   -- a crash at the end
-  crash_now : (at : E) (old : State) → StandsFor store (Reads store) (env.tells at).disk old → (moment : ℕ) (files : Files) (left : Disk) → moment ≡ (env.tells at).moment → (env.tells at).stood moment files
-      → Leaves files left.files → IsHonest store files left.files → ((path : List ℕ) → left.locked path ≡ false) → (then : State) × Crashes old (risk_between old) then × StandsFor store (Reads store) left then
-  crash_now at old stands moment files left is stood leaves honest free =
-      let same = only_now at files (subst (λ n. (env.tells at).stood n files) is stood) in
-      crash_between store old (env.tells at).disk left stands (record { files = subst (λ f. Leaves f left.files) same leaves; free = free }) (subst (λ f. IsHonest store f left.files) same honest)
+  crash_now : (at : E) (old : State) → StandsFor store (Reads store) (env.tells at).disk old → (moment : ℕ) (files : Files) (left : Disk) → moment ≡ (env.tells at).moment → IsHonestlyLeft store (env.tells at) moment files left
+      → (then : State) × Crashes old (risk_between old) then × StandsFor store (Reads store) left then
+  crash_now at old stands moment files left is crash =
+      let same = only_now at files (subst (λ n. (env.tells at).stood n files) is crash.stood) in
+      crash_between store old (env.tells at).disk left stands (record { files = subst (λ f. Leaves f left.files) same crash.leaves; free = crash.free }) (subst (λ f. IsHonest store f left.files) same crash.honest)
 
 module _ {E F C FP I : Type 0} {D : I → Type 0} (env : Ghosts E F) (only_now : OnlyNow env) (cmp : List ℕ → List ℕ → Ordering) (store : List ℕ) (tells : IsTrue env.tells_disk) where
   -- nothing was asked yet
@@ -111,8 +111,8 @@ module _ {E F C FP I : Type 0} {D : I → Type 0} (env : Ghosts E F) (only_now :
     represents = is;
     others = others_still store (env.tells from).disk;
     ends = λ moment low. (λ all. low, λ most. All-nil (λ (one : ℕ × Event). one.0 ≤ moment));
-    stops = λ moment files left low most stood leaves honest free.
-        let c = crash_now env only_now store from old is.disk_is moment files left (omega (arith, low, most)) stood leaves honest free in (
+    stops = λ moment files left low crash.
+        let c = crash_now env only_now store from old is.disk_is moment files left (omega (arith, low, crash.come)) crash in (
           c.0,
           record {
             done = [];
@@ -144,9 +144,9 @@ module _ {E F C FP I : Type 0} {D : I → Type 0} (env : Ghosts E F) (only_now :
       λ all. All-last (λ (one : ℕ × Event). one.0 ≤ moment) led.answered now all,
       λ most. by_now moment low most,
     );
-    stops = λ moment files left low most stood leaves honest free. ⊎_elim
+    stops = λ moment files left low crash. ⊎_elim
         (λ (early : moment < (env.tells mid).moment).
-        let s = led.stops moment files left low (omega arith) (goes.moments.time.before moment files early stood) leaves honest free in (
+        let s = led.stops moment files left low (record { come = omega arith; stood = goes.moments.time.before moment files early crash.stood; leaves = crash.leaves; honest = crash.honest; free = crash.free }) in (
           s.0,
           stops_more cmp (env.failures from) moment (env.failures mid) old led.new goes.new s.0 led.answered (env.tells to).moment now.1 (omega (arith, early, goes.moments.time.later))
               (λ all. let past = (led.ends moment low).0 all in absurd (omega (arith, early, past))) goes.step s.1,
@@ -154,7 +154,7 @@ module _ {E F C FP I : Type 0} {D : I → Type 0} (env : Ghosts E F) (only_now :
         ))
         (λ (late : (env.tells mid).moment ≤ moment). ⊎_elim
         (λ (inside : moment < (env.tells to).moment).
-        let c = crash_inside store led.new goes.new request files left led.represents.disk_is.is_state goes.represents.disk_is.is_state (goes.moments.time.meanwhile moment files late inside stood) leaves honest free in (
+        let c = crash_inside store led.new goes.new request files left led.represents.disk_is.is_state goes.represents.disk_is.is_state (goes.moments.time.meanwhile moment files late inside crash.stood) crash.leaves crash.honest crash.free in (
           c.0,
           record {
             done = led.answered;
@@ -170,7 +170,7 @@ module _ {E F C FP I : Type 0} {D : I → Type 0} (env : Ghosts E F) (only_now :
           c.2,
         ))
         (λ (end : (env.tells to).moment ≤ moment).
-        let c = crash_now env only_now store to goes.new goes.represents.disk_is moment files left (omega (arith, end, most)) stood leaves honest free in (
+        let c = crash_now env only_now store to goes.new goes.represents.disk_is moment files left (omega (arith, end, crash.come)) crash in (
           c.0,
           record {
             done = led.answered ++ now ∷ [];

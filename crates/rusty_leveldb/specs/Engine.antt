@@ -67,6 +67,10 @@ module _ {E C FP F I : Type 0} {D : I → Type 0} (env : Ghosts E F) (store : Li
 
 -- ---- what the calls answer
 
+-- where the environment's disk is observed, its moment doesn't fall
+abbrev pub TimeGoesOn : {E F : Type 0} → Ghosts E F → E → E → Type 0
+TimeGoesOn env from to = IsTrue env.tells_disk → (env.tells from).moment ≤ (env.tells to).moment
+
 -- no engine of these options
 abbrev pub no_engine : {E C FP F I : Type 0} {D : I → Type 0} → Options C FP I D → Option (Engine E C FP F I D)
 no_engine options = None

@@ -1,16 +1,18 @@
 -- What holds of the machine and of disks that hold its history, in the format of this store.
 use Rattle.std.specs.Prelude.{◌≡◌, ◌⊎◌, ℕ, List, [], ◌∷◌, Some, None, true, false, IsTrue}
 use Rattle.std.specs.declared.cmp.Ordering.{Ordering}
+use Rattle.leveldb_env.specs.declared.env.Env.{Ghosts}
 use Rattle.leveldb_env.specs.Disk.{Files, Disk, Leaves, LeavesDisk}
+use Rattle.leveldb_env.specs.Times.{Since}
 use Rattle.rusty_leveldb.specs.Names.{lock_path}
 use Rattle.rusty_leveldb.specs.Contents.{Contents}
 use Rattle.rusty_leveldb.specs.OneLog.{log_path}
-use Rattle.rusty_leveldb.specs.Holds.{IsHonest}
+use Rattle.rusty_leveldb.specs.Holds.{IsHonest, CarriesBeginning}
 use Rattle.rusty_leveldb.specs.State.{State, IsState, broken, closed, Opening, Request, open_store, write, get, Answer, done, found, Refusal, refused}
 use Rattle.rusty_leveldb.specs.Causes.{Faults, Cause, IsLongKey, IsLongBatch, Comes, IsClosedRefusal, IsBrokenRefusal}
 use Rattle.rusty_leveldb.specs.Machine.{Step, risk_between, risk_of, Crashes}
 use Rattle.rusty_leveldb.specs.Runs.{Event, Life, goes_on, crashes, Lives, new_state}
-use Rattle.rusty_leveldb.specs.Serves.{Reads, StandsFor, IsSpared}
+use Rattle.rusty_leveldb.specs.Serves.{Reads, StandsFor, IsSpared, AtEachMoment}
 
 -- files have one reading
 abbrev pub OneReading : Type 0
@@ -30,6 +32,13 @@ abbrev pub CrashInside : Type 0
 CrashInside = (store : List ℕ) (old new : State) (request : Request) (files : Files) (left : Disk) → IsState old → IsState new → IsSpared store (Reads store) old (risk_of request old new) files
     → Leaves files left.files → IsHonest store files left.files → ((name : List ℕ) → left.locked name ≡ false)
     → (then : State) × Crashes old (risk_of request old new) then × StandsFor store (Reads store) left then
+
+-- From a call's moments: wherever an honest crash comes since the call began, what is left carries a prefix of what was at risk, the pending
+-- batch included, with all that was covered as the call began.
+abbrev pub CrashSince : {E F : Type 0} → Ghosts E F → Type 0
+CrashSince {E = E} env = (store : List ℕ) (old new : State) (request : Request) (from to : E) → AtEachMoment store (Reads store) request old new (env.tells from) (env.tells to)
+    → (files left : Files) → Since (env.tells to) (env.tells from).moment files left → IsHonest store files left
+    → let risk = risk_of request old new in CarriesBeginning store (Reads store) risk.bound old.covered risk.history left
 
 -- a refusal has one of the causes, or the store was closed, or it broke earlier
 abbrev pub RefusalHasCause : Type 0

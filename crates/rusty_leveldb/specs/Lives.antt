@@ -1,13 +1,17 @@
--- Lives of a store on a device that records its calls: what one life is, and what lives are with crashes between them.
-use Rattle.std.specs.Prelude.{◌≡◌, ◌≤◌, ◌↔◌, ◌+◌, ◌-◌, ℕ, Bool, true, false, All, List, [], ◌∷◌, ◌++◌, map, Option, Some, None, Result, Ok, Err, IsTrue}
+-- Lives of a store on a device that records its calls: what a report says of its life, and what reports say of lives one after another, with
+-- crashes between them.
+use Rattle.std.specs.Prelude.{◌≡◌, ◌≤◌, ◌↔◌, ◌⊎◌, ◌+◌, ◌-◌, ℕ, Bool, true, false, All, List, [], ◌∷◌, ◌++◌, map, Option, Some, None, unwrap_or, Result, Ok, Err, OnErr, IfOk, IfErr, IsTrue, Vec}
+use Rattle.std.specs.declared.alloc.Global.{Global}
 use Rattle.std.specs.declared.cmp.Ordering.{Ordering}
 use Rattle.leveldb_base.specs.declared.error.Status.{Status}
+use Rattle.leveldb_base.specs.declared.error.StatusCode.TheVariants.{InvalidArgument}
 use Rattle.leveldb_env.specs.declared.env.Env.{Ghosts}
 use Rattle.leveldb_env.specs.declared.mem_env.record.RecordEnv.{RecordEnv}
 use Rattle.leveldb_env.specs.declared.mem_env.picks.Pick.{Pick}
+use Rattle.leveldb_env.specs.Calls.{NoMemory}
 use Rattle.leveldb_env.specs.Disk.{Leaves}
 use Rattle.leveldb_env.specs.Picks.{picked, tails_of}
-use Rattle.leveldb_env.specs.Record.{told_of, moment_of, files_in, files_then, TellsTheSame, IsFresh}
+use Rattle.leveldb_env.specs.Record.{told_of, moment_of, fails_in, fails_done, files_in, files_then, CanLeave, TellsTheSame, IsFresh}
 use Rattle.rusty_leveldb.specs.declared.shell.commands.Command.{Command}
 use Rattle.rusty_leveldb.specs.declared.shell.commands.Reply.{Reply}
 use Rattle.rusty_leveldb.specs.declared.shell.crash_runs.Report.{Report}
@@ -20,93 +24,146 @@ use Rattle.rusty_leveldb.specs.Serves.{Reads, Represents, IsConversation, refusa
 use Rattle.rusty_leveldb.specs.Engine.{Recalls, IsStoreName, IsOpening}
 use Rattle.rusty_leveldb.specs.Shell.{NoCoder, LeadsAt, request_of, answer_of}
 
--- What a report tells of the requests of a life, their answers and moments: the store was opened, each command was answered, and at last it was
--- abandoned, with an answer that isn't told; or it wasn't opened. Moments are told from the life's start.
-abbrev pub Says : ℕ → Opening → List Command → Result (Unit {0}) Status → List (ℕ × Reply) → List Request → List Answer → List ℕ → Type 0
-Says start opening commands (Ok opened) replies requests answers moments = (given : List ℕ) × (first : ℕ) × (last : ℕ) × (ending : Answer)
-    × (requests ≡ open_store opening ∷ (map request_of commands ++ abandon ∷ []))
-    × (answers ≡ done ∷ (map (λ reply. answer_of reply.1) replies ++ ending ∷ []))
-    × (moments ≡ first ∷ (given ++ last ∷ []))
-    × (map (λ reply. reply.0) replies ≡ map (λ moment. moment - start) given)
-Says start opening commands (Err status) replies requests answers moments = (first : ℕ) × (replies ≡ []) × (requests ≡ open_store opening ∷ [])
-    × (answers ≡ refused (refusal_of status) ∷ []) × (moments ≡ first ∷ [])
+-- ---- a report
+
+-- what a life asks: an opening, and if that is done each command and at last `abandon`
+abbrev pub requests_of : Opening → List Command → Result (Unit {0}) Status → List Request
+requests_of opening commands (Ok opened) = open_store opening ∷ (map request_of commands ++ abandon ∷ [])
+requests_of opening commands (Err status) = open_store opening ∷ []
+
+-- what it is answered; a report leaves out the answer to `abandon`
+abbrev pub answers_of : Result (Unit {0}) Status → List (ℕ × Reply) → Answer → List Answer
+answers_of (Ok opened) replies last = done ∷ (map (λ reply. answer_of reply.1) replies ++ last ∷ [])
+answers_of (Err status) replies last = refused (refusal_of status) ∷ []
+
+-- and when; a report leaves out the moments of the opening and of `abandon`
+abbrev pub moments_of : Result (Unit {0}) Status → List (ℕ × Reply) → ℕ → ℕ → List ℕ
+moments_of (Ok opened) replies first last = first ∷ (map (λ reply. reply.0) replies ++ last ∷ [])
+moments_of (Err status) replies first last = first ∷ []
+
+-- the report of a life with these answers, given at these moments from its start
+pub record IsReportOf (report : Report) (answers : List Answer) (moments : List ℕ) : Type 0 where
+  pub first : ℕ
+  pub last : ℕ
+  pub ending : Answer
+  pub answers_are : answers ≡ answers_of report.opened report.replies.items ending
+  pub moments_are : moments ≡ moments_of report.opened report.replies.items first last
+  pub no_replies : OnErr report.opened (report.replies.items ≡ [])
 
 module _ {E F : Type 0} (C FP : Type 0) (env : Ghosts E F) (cmp : List ℕ → List ℕ → Ordering) (store : List ℕ) where
-  -- one life, from a state on
-  pub record Lived (from : E) (opening : Opening) (commands : List Command) (report : Report) (to : E) (old : State) : Type 0 where
-    pub requests : List Request
+  -- the report of a run of the machine, from this state on, over the environment as it was to what it is
+  pub record IsLife (from : E) (opening : Opening) (commands : List Command) (report : Report) (to : E) (old : State) : Type 0 where
     pub answers : List Answer
     pub moments : List ℕ
-    pub says : Says (env.tells from).moment opening commands report.opened report.replies.items requests answers moments
-    pub led : LeadsAt C FP {I = Unit {0}} {D = NoCoder} env cmp store from requests answers moments None to old
+    pub reported : IsReportOf report answers (map (λ moment. moment - (env.tells from).moment) moments)
+    pub run : LeadsAt C FP {I = Unit {0}} {D = NoCoder} env cmp store from (requests_of opening commands report.opened) answers moments None to old
 
-  -- the same from every state that the disk stands for
-  abbrev pub LivedAlways : E → Bool → List Command → Report → E → Type 0
-  LivedAlways from create_if_missing commands report to = (opening : Opening) → IsOpening store create_if_missing opening
-      → (old : State) → Represents store (Reads store) (Recalls {C = C} {FP = FP} {I = Unit {0}} {D = NoCoder} env store) None (env.tells from).disk old → Lived from opening commands report to old
+  -- the same from every state that the disk represents
+  abbrev pub IsAlwaysLife : E → Bool → List Command → Report → E → Type 0
+  IsAlwaysLife from create_if_missing commands report to = (opening : Opening) → IsOpening store create_if_missing opening
+      → (old : State) → Represents store (Reads store) (Recalls {C = C} {FP = FP} {I = Unit {0}} {D = NoCoder} env store) None (env.tells from).disk old
+      → IsLife from opening commands report to old
 
--- ---- lives, one after another
+-- ---- what follows a life
 
--- the opening by which a store that is one log is asked for
+-- what a crash at this moment, which has come, leaves of a device by this pick
+pub record IsCrash (device : RecordEnv) (moment : ℕ) (pick : Pick) (left : RecordEnv) : Type 0 where
+  pub come : moment ≤ moment_of device
+  pub stood : (told_of device).stood moment (files_then device moment pick.after)
+  pub leaves : Leaves (files_then device moment pick.after) (files_in left)
+  pub files : files_in left ≡ picked (tails_of pick.tails.items) (files_then device moment pick.after)
+  pub fresh : IsFresh left
+
+-- the same, with no record in a log or manifest that was never written
+pub record IsHonestCrash (store : List ℕ) (device : RecordEnv) (moment : ℕ) (pick : Pick) (left : RecordEnv) : Type 0 where
+  pub crash : IsCrash device moment pick left
+  pub honest : IsHonest store (files_then device moment pick.after) (files_in left)
+
+-- the device as a life that began at this moment left it, or, if the life has a crash, what a crash of this kind leaves of that
+abbrev pub IsNextDevice : (RecordEnv → ℕ → Pick → RecordEnv → Type 0) → ℕ → Option ℕ → Pick → RecordEnv → RecordEnv → Type 0
+IsNextDevice Crash start None pick device next = next ≡ device
+IsNextDevice Crash start (Some moment) pick device next = Crash device (start + moment) pick next
+
+-- how the machine's life ends, by the moment of its crash
+abbrev pub ending_of : Option ℕ → Ending
+ending_of None = goes_on
+ending_of (Some moment) = crashes moment 0
+
+-- the opening of a store that is one log, which needs no comparator's name
 abbrev pub opening_of : Bool → Bool → Opening
 opening_of fits create = record { comparator = []; create_if_missing = create; error_if_exists = false; fits = fits; compresses = true }
 
--- what a crash by choice leaves of a device, at a moment that has come
-pub record IsLeft (to : RecordEnv) (moment : ℕ) (pick : Pick) (next : RecordEnv) : Type 0 where
-  pub come : moment ≤ moment_of to
-  pub stood : (told_of to).stood moment (files_then to moment pick.after)
-  pub leaves : Leaves (files_then to moment pick.after) (files_in next)
-  pub files : files_in next ≡ picked (tails_of pick.tails.items) (files_then to moment pick.after)
-  pub fresh : IsFresh next
-
--- an honest crash left that
-abbrev pub IsHonestly : List ℕ → RecordEnv → ℕ → Pick → RecordEnv → Type 0
-IsHonestly store to moment pick next = IsHonest store (files_then to moment pick.after) (files_in next)
-
--- any crash did
-abbrev pub Anyhow : RecordEnv → ℕ → Pick → RecordEnv → Type 0
-Anyhow to moment pick next = Unit {0}
-
--- behind a life goes the device as it is, or what such a crash left of it
-abbrev pub Follows : (RecordEnv → ℕ → Pick → RecordEnv → Type 0) → ℕ → Option ℕ → Pick → RecordEnv → RecordEnv → Type 0
-Follows Fair start None pick to next = next ≡ to
-Follows Fair start (Some moment) pick to next = IsLeft to (start + moment) pick next × Fair to (start + moment) pick next
-
--- how a life ends
-abbrev pub ending_of : ℕ → Option ℕ → Ending
-ending_of start None = goes_on
-ending_of start (Some moment) = crashes (start + moment) 0
+-- ---- lives, one after another
 
 module _ {C FP F I : Type 0} {D : I → Type 0} (env : Ghosts RecordEnv F) (order : C → List ℕ → List ℕ → Ordering) (store : List ℕ) where
-  -- These lives had these reports, from this device on to that.
-  abbrev pub Played : (RecordEnv → ℕ → Pick → RecordEnv → Type 0) → RecordEnv → List (Life C FP I D) → List Report → RecordEnv → Type 0
-  Played Fair device [] [] end = end ≡ device
-  Played Fair device (life ∷ lives) (report ∷ reports) end = (from : RecordEnv) × (to : RecordEnv) × (next : RecordEnv) × TellsTheSame device from
-      × LivedAlways C FP env (order life.options.cmp) store from life.options.create_if_missing life.commands.items report to
-      × Follows Fair (moment_of device) life.moment life.pick to next × Played Fair next lives reports end
-  Played Fair device [] (report ∷ reports) end = ⊥
-  Played Fair device (life ∷ lives) [] end = ⊥
+  -- the report of one life on this device, where the call that the life names was chosen to fail, 0 being none
+  pub record IsLifeOn (device : RecordEnv) (life : Life C FP I D) (report : Report) (to : RecordEnv) : Type 0 where
+    pub from : RecordEnv
+    pub same : TellsTheSame device from
+    pub failing : (fails_in from, fails_done from) ≡ unwrap_or life.fail (0, false)
+    pub life_is : IsAlwaysLife C FP env (order life.options.cmp) store from life.options.create_if_missing life.commands.items report to
 
-  -- from an empty device on
-  abbrev pub PlayedFromNone : (RecordEnv → ℕ → Pick → RecordEnv → Type 0) → List (Life C FP I D) → List Report → Type 0
-  PlayedFromNone Fair lives reports = (first : RecordEnv) × (end : RecordEnv) × ((name : List ℕ) → files_in first name ≡ None) × IsFresh first × Played Fair first lives reports end
+  -- the reports of lives one after another with crashes of this kind, from this device to that
+  abbrev pub AreReports : (RecordEnv → ℕ → Pick → RecordEnv → Type 0) → RecordEnv → List (Life C FP I D) → List Report → RecordEnv → Type 0
+  AreReports Crash device [] [] end = end ≡ device
+  AreReports Crash device (life ∷ lives) (report ∷ reports) end = (to : RecordEnv) × IsLifeOn device life report to
+      × (next : RecordEnv) × IsNextDevice Crash (moment_of device) life.moment life.pick to next × AreReports Crash next lives reports end
+  AreReports Crash device _ _ end = ⊥
 
-  -- what a machine's life is of a life and its report; its moments are those of the device
-  pub record IsLifeOf (start : ℕ) (opening : Opening) (life : Life C FP I D) (report : Report) (told : machine.Life) : Type 0 where
-    pub requests : List Request
+  -- the same from an empty device on
+  pub record AreReportsTo (Crash : RecordEnv → ℕ → Pick → RecordEnv → Type 0) (lives : List (Life C FP I D)) (reports : List Report) (end : RecordEnv) : Type 0 where
+    pub first : RecordEnv
+    pub empty : (name : List ℕ) → files_in first name ≡ None
+    pub fresh : IsFresh first
+    pub reports_are : AreReports Crash first lives reports end
+
+  -- and up to some device
+  abbrev pub AreReportsFromNone : (RecordEnv → ℕ → Pick → RecordEnv → Type 0) → List (Life C FP I D) → List Report → Type 0
+  AreReportsFromNone Crash lives reports = (end : RecordEnv) × AreReportsTo Crash lives reports end
+
+  -- the machine's life of a life and its report, with moments from the life's start
+  pub record IsLifeOf (fits : Bool) (life : Life C FP I D) (report : Report) (of_machine : machine.Life) : Type 0 where
     pub answers : List Answer
     pub moments : List ℕ
-    pub asked : IsConversation requests answers moments told.answered
-    pub says : Says start opening life.commands.items report.opened report.replies.items requests answers moments
-    pub ending : told.ending ≡ ending_of start life.moment
+    pub reported : IsReportOf report answers moments
+    pub asked : IsConversation (requests_of (opening_of fits life.options.create_if_missing) life.commands.items report.opened) answers moments of_machine.answered
+    pub ending : of_machine.ending ≡ ending_of life.moment
 
+  -- each in turn
   abbrev pub AreLivesOf : Bool → List (Life C FP I D) → List Report → List machine.Life → Type 0
   AreLivesOf fits [] [] [] = Unit {0}
-  AreLivesOf fits (life ∷ lives) (report ∷ reports) (told ∷ rest) = ((start : ℕ) × IsLifeOf start (opening_of fits life.options.create_if_missing) life report told) × AreLivesOf fits lives reports rest
+  AreLivesOf fits (life ∷ lives) (report ∷ reports) (one ∷ others) = IsLifeOf fits life report one × AreLivesOf fits lives reports others
   AreLivesOf fits _ _ _ = ⊥
 
-  -- The reports of all lives are one run of the machine with its crash rows, each crash taken at its moment, where each crash was honest and all
-  -- lives have one order.
-  abbrev pub AreRuns : List (Life C FP I D) → List Report → Type 0
-  AreRuns lives reports = (cmp : List ℕ → List ℕ → Ordering) (fits : Bool) → (IsTrue fits ↔ IsStoreName store) → All (λ life. order life.options.cmp ≡ cmp) lives → PlayedFromNone (IsHonestly store) lives reports
-      → (told : List machine.Life) × AreLivesOf fits lives reports told × ((failures : ℕ) × (last : State) × Lives cmp 0 new_state told failures last)
+  -- the reports of all lives are one run of the machine with its crash rows, from a missing store on, where all lives have one order
+  abbrev pub AreOneRun : List (Life C FP I D) → List Report → Type 0
+  AreOneRun lives reports = (cmp : List ℕ → List ℕ → Ordering) (fits : Bool) → (IsTrue fits ↔ IsStoreName store) → All (λ life. order life.options.cmp ≡ cmp) lives
+      → (of_machine : List machine.Life) × AreLivesOf fits lives reports of_machine
+      × (failures : ℕ) × (last : State) × Lives cmp 0 new_state of_machine failures last
+
+  -- a life that ran after those before it has a crash that can't be: its moment is still to come, or no crash leaves what its pick says
+  pub record HasNoCrash (lives : List (Life C FP I D)) : Type 0 where
+    pub before : List (Life C FP I D)
+    pub life : Life C FP I D
+    pub others : List (Life C FP I D)
+    pub split : lives ≡ before ++ life ∷ others
+    pub reports : List Report
+    pub device : RecordEnv
+    pub ran : AreReportsTo IsCrash before reports device
+    pub report : Report
+    pub to : RecordEnv
+    pub life_is : IsLifeOn device life report to
+    pub moment : ℕ
+    pub crashes : life.moment ≡ Some moment
+    pub none : CanLeave to (moment_of device + moment) life.pick.after (tails_of life.pick.tails.items) → ⊥
+
+  -- what `lives` returns
+  pub record ReportsLives (lives : List (Life C FP I D)) (result : Result (Vec Report Global) Status) : Type 0 where
+    -- each report is of its life, on the device as the life before it left that, or as the crash of that life did
+    pub reports : IfOk result (λ reports. AreReportsFromNone IsCrash lives reports.items)
+    -- if each crash was honest, they are one run of the machine
+    pub run : IfOk result (λ reports. AreReportsFromNone (IsHonestCrash store) lives reports.items → AreOneRun lives reports.items)
+    -- each crash is honest that leaves the kept bytes alone
+    pub kept : IfOk result (λ reports. All (λ life. life.pick.tails.items ≡ []) lives → AreReportsFromNone (IsHonestCrash store) lives reports.items)
+    -- it fails out of memory, or with `InvalidArgument` for a crash that can't be
+    pub error : IfErr result (λ e. NoMemory e ⊎ ((e.code ≡ InvalidArgument) × HasNoCrash lives))

@@ -116,6 +116,16 @@ pub record SparesOthers (store : List ℕ) (before after : Disk) : Type 0 where
 abbrev pub IsUnreadable : (Files → Contents → Type 0) → Files → Type 0
 IsUnreadable reads files = (contents : Contents) → reads files contents → ⊥
 
+-- ---- crashes
+
+-- these were the files at a moment that has come, and an honest crash at that moment leaves this disk, with no lock held
+pub record IsHonestlyLeft (store : List ℕ) (now : Told) (moment : ℕ) (files : Files) (left : Disk) : Type 0 where
+  pub come : moment ≤ now.moment
+  pub stood : now.stood moment files
+  pub leaves : Leaves files left.files
+  pub honest : IsHonest store files left.files
+  pub free : (path : List ℕ) → left.locked path ≡ false
+
 -- ---- the engine's clauses
 
 module _ (store : List ℕ) (reads : Files → Contents → Type 0) where
@@ -163,8 +173,9 @@ module _ (store : List ℕ) (reads : Files → Contents → Type 0) where
       abbrev pub Serves : Scene M → Request → Answer → Scene M → Type 0
       Serves from request answer to = (old : State) → Represents from.0 from.1.disk old → Goes from request answer to old
 
-      -- A run of these requests with these answers, each given at its moment, to a state for which memory and disk stand then; what isn't the
-      -- store's stays as it is. Wherever an honest crash comes in the run, it stops at that moment, and the disk that is left stands for what it left.
+      -- A run of these requests with these answers, each given at its moment, to a state that memory and disk represent then; what isn't the
+      -- store's stays as it is. All answers were given by a moment exactly if the run has ended by then. Wherever an honest crash comes in the run,
+      -- it stops there, and the disk that is left represents the state of the crash.
       pub record Runs (from : Scene M) (requests : List Request) (answers : List Answer) (moments : List ℕ) (to : Scene M) (old : State) : Type 0 where
         pub answered : List (ℕ × Event)
         pub asked : IsConversation requests answers moments answered
@@ -173,5 +184,5 @@ module _ (store : List ℕ) (reads : Files → Contents → Type 0) where
         pub represents : Represents to.0 to.1.disk new
         pub others : SparesOthers store from.1.disk to.1.disk
         pub ends : (moment : ℕ) → from.1.moment ≤ moment → All (λ one. one.0 ≤ moment) answered ↔ (to.1.moment ≤ moment)
-        pub stops : (moment : ℕ) (files : Files) (left : Disk) → from.1.moment ≤ moment → moment ≤ to.1.moment → to.1.stood moment files → Leaves files left.files → IsHonest store files left.files
-            → ((path : List ℕ) → left.locked path ≡ false) → (then : State) × StopsAt cmp from.2 old answered moment to.2 new then × StandsFor left then
+        pub stops : (moment : ℕ) (files : Files) (left : Disk) → from.1.moment ≤ moment → IsHonestlyLeft store to.1 moment files left
+            → (then : State) × StopsAt cmp from.2 old answered moment to.2 new then × StandsFor left then

@@ -1,6 +1,8 @@
 //! The laws of the store's machine, as contracts of functions that do nothing.
 
-ghost use Rattle.rusty_leveldb.specs.Laws.{OneReading, NothingStands, CrashBetween, CrashInside, RefusalHasCause, SyncedIsFound};
+ghost use Rattle.rusty_leveldb.specs.Laws.{OneReading, NothingStands, CrashBetween, CrashInside, CrashSince, RefusalHasCause, SyncedIsFound};
+
+use leveldb_env::env::Env;
 
 /// What a store's files hold is determined, so a store can't choose what it recovers. And a disk on which no store is yet is one
 /// from which a store's life may begin.
@@ -15,6 +17,13 @@ pub fn files_have_one_reading()
 pub fn crashes_leave_a_beginning()
     ensures between { CrashBetween }
     ensures inside { CrashInside }
+{}
+
+/// What the moments of a call say, which are part of each call's contract, over any environment: wherever an honest crash comes since the
+/// call began, inside it or at its end, what is left carries a prefix of the history and the call's pending batch, whole batches only, with all
+/// that was durable as the call began.
+pub fn crashes_since_entry_leave_a_prefix<E: Env>()
+    ensures { CrashSince E.Env }
 {}
 
 /// A refused request has one of the causes, each with its condition, or the store was closed, or it broke earlier.

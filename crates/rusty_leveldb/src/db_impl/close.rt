@@ -4,7 +4,7 @@ ghost use Rattle.leveldb_env.specs.Disk.{lock_set, same};
 ghost use Rattle.leveldb_env.specs.Calls.{Does, Still, Relocks, HasCause};
 ghost use Rattle.rusty_leveldb.specs.State.{close, abandon};
 ghost use Rattle.rusty_leveldb.specs.Serves.{done_or};
-ghost use Rattle.rusty_leveldb.specs.Engine.{IsShut, IsHalted, HaltedBy, Answers, CloseExcused};
+ghost use Rattle.rusty_leveldb.specs.Engine.{IsShut, IsHalted, HaltedBy, TimeGoesOn, Answers, CloseExcused};
 
 use super::engine::{Engine, Mode, check_open};
 use leveldb_base::cmp::UserCmp;
@@ -18,6 +18,7 @@ impl<E: Env, C: UserCmp + Copy, FP: FilterPolicy + Copy> Engine<E, C, FP> {
         ensures options { self.new.options ≡ self.old.options }
         ensures halted { IsHalted self.old.mode self.old.writer → (env.new ≡ env.old) × (self.new ≡ self.old) × IsErrAnd result (HaltedBy self.old.mode self.old.writer) }
         ensures ended { OnOk result (IsShut self.new.mode) × OnErr result (IsHalted self.new.mode self.new.writer) }
+        ensures time { TimeGoesOn E.Env env.old env.new }
         ensures step { Answers E.Env (C.cmp self.old.options.cmp) (Some self.old) env.old close (done_or result) (Some self.new) env.new }
         ensures cause { HasCause (CloseExcused E.Env self.old env.old env.new) (E.failures env.old) (E.failures env.new) result }
     {
@@ -35,6 +36,7 @@ impl<E: Env, C: UserCmp + Copy, FP: FilterPolicy + Copy> Engine<E, C, FP> {
     pub fn abandon(self, env: &mut E) -> Result<()>
         ensures step { Answers E.Env (C.cmp self.options.cmp) (Some self) env.old abandon (done_or result) None env.new }
         ensures shut { IsShut self.mode → (env.new ≡ env.old) × OnErr result ⊥ }
+        ensures time { TimeGoesOn E.Env env.old env.new }
         ensures cause { HasCause (λ _. ⊥) (E.failures env.old) (E.failures env.new) result }
     {
         if self.mode == Mode::Closed {

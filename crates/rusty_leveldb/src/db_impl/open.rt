@@ -8,7 +8,7 @@ ghost use Rattle.leveldb_mem.specs.Log.{clean, bad};
 ghost use Rattle.rusty_leveldb.specs.OneLog.{log_path};
 ghost use Rattle.rusty_leveldb.specs.State.{Opening, open_store};
 ghost use Rattle.rusty_leveldb.specs.Serves.{done_or, given_engine};
-ghost use Rattle.rusty_leveldb.specs.Engine.{IsStoreName, IsOpening, AnswersAs, OpenExcused};
+ghost use Rattle.rusty_leveldb.specs.Engine.{IsStoreName, IsOpening, TimeGoesOn, AnswersAs, OpenExcused};
 ghost use Rattle.rusty_leveldb.specs.Recovery.{IsFoundAs, framed_file, kept_log, IsMadeKept, SparesLog, IsUnusable, NeverOpens, ChangesLogAlone, StaysUnopened, IsRecovered, HasCauses, IsFoundOr, IsUntold, IsNotMade, IsNoLog};
 
 use super::close::give_back;
@@ -40,6 +40,7 @@ impl<E: Env, C: UserCmp + Copy, FP: FilterPolicy + Copy> Engine<E, C, FP> {
         ensures opened { IfOk result (λ engine. (engine.mode ≡ Mode.Open) × (engine.writer.broken ≡ false)) }
         ensures step { (opening : Opening) → IsOpening name.now options.create_if_missing opening
             → AnswersAs E.Env (C.cmp options.cmp) name.now None env.old (open_store opening) (done_or result) (given_engine result) env.new }
+        ensures time { TimeGoesOn E.Env env.old env.new }
         ensures misnamed { (IsStoreName name.now → ⊥) → (env.new ≡ env.old) × OnOk result ⊥ }
         ensures log { OnOk result (IsTrue E.tells_disk → SparesLog options.create_if_missing ((E.tells env.old).disk.files (log_path name.now)) ((E.tells env.new).disk.files (log_path name.now))) }
         ensures never_opens { IsTrue E.tells_disk → NeverOpens name.now options.create_if_missing (E.tells env.old).disk → OnOk result ⊥ }

@@ -5,7 +5,7 @@ ghost use Rattle.leveldb_mem.specs.Batch.{item_of};
 ghost use Rattle.rusty_leveldb.specs.State.{Opening, open_store, write, get, flush, close, abandon, done, refused};
 ghost use Rattle.rusty_leveldb.specs.Serves.{done_or, found_or, refusal_of};
 ghost use Rattle.rusty_leveldb.specs.declared.db_impl.engine.Mode.TheVariants.{Open};
-ghost use Rattle.rusty_leveldb.specs.Engine.{IsShut, IsHalted, ShutOut, HaltedBy, IsStoreName, IsOpening, no_engine, AnswersAs, Answers, OpenExcused, WriteExcused, SyncExcused, CloseExcused, GetExcused};
+ghost use Rattle.rusty_leveldb.specs.Engine.{IsShut, IsHalted, ShutOut, HaltedBy, IsStoreName, IsOpening, no_engine, TimeGoesOn, AnswersAs, Answers, OpenExcused, WriteExcused, SyncExcused, CloseExcused, GetExcused};
 ghost use Rattle.rusty_leveldb.specs.Causes.{HasFailed};
 ghost use Rattle.rusty_leveldb.specs.OneLog.{log_path};
 ghost use Rattle.rusty_leveldb.specs.Recovery.{SparesLog, NeverOpens, StaysUnopened};
@@ -69,6 +69,7 @@ impl<'e, E: Env, C: UserCmp + Copy, FP: FilterPolicy + Copy> Store<'e, E, Engine
             → AnswersAs E.Env (C.cmp options.cmp) name.now None env.old (open_store opening) done (Some db.state) db.env.now) }
         ensures log { IfOk result (λ db. IsTrue E.tells_disk
             → SparesLog options.create_if_missing ((E.tells env.old).disk.files (log_path name.now)) ((E.tells db.env.now).disk.files (log_path name.now))) }
+        ensures time { IfOk result (λ db. TimeGoesOn E.Env env.old db.env.now) }
         ensures misnamed { (IsStoreName name.now → ⊥) → OnOk result ⊥ }
         ensures never_opens { IsTrue E.tells_disk → NeverOpens name.now options.create_if_missing (E.tells env.old).disk → OnOk result ⊥ }
         ensures cause { IfOk result (λ db. E.failures db.env.now ≡ E.failures env.old) }
@@ -76,6 +77,7 @@ impl<'e, E: Env, C: UserCmp + Copy, FP: FilterPolicy + Copy> Store<'e, E, Engine
             × ((opening : Opening) → IsOpening name.now options.create_if_missing opening
             → AnswersAs E.Env (C.cmp options.cmp) name.now (no_engine options) env.old (open_store opening) (refused (refusal_of status)) (no_engine options) left)
             × (OpenExcused E.tells_disk name.now options.create_if_missing (E.tells env.old) status ⊎ HasFailed (E.failures env.old) (E.failures left))
+            × TimeGoesOn E.Env env.old left
             × ((IsStoreName name.now → ⊥) → left ≡ env.old)
             × (IsTrue E.tells_disk → StaysUnopened name.now options.create_if_missing (E.tells env.old) (E.tells left) (E.failures env.old) (E.failures left) status)) }
     {
@@ -90,6 +92,7 @@ impl<'e, E: Env, C: UserCmp + Copy, FP: FilterPolicy + Copy> Store<'e, E, Engine
         ensures halted { IsHalted self.old.state.mode self.old.state.writer → (self.new.env.now ≡ self.old.env.now) × (self.new.state ≡ self.old.state) × IsErrAnd result (HaltedBy self.old.state.mode self.old.state.writer) }
         ensures breaks { E.failures self.old.env.now < E.failures self.new.env.now → IsHalted self.new.state.mode self.new.state.writer }
         ensures stays { IsTrue self.new.state.writer.broken ⊎ (self.new.state.mode ≡ self.old.state.mode) }
+        ensures time { TimeGoesOn E.Env self.old.env.now self.new.env.now }
         ensures step { Answers E.Env (C.cmp self.old.state.options.cmp) (Some self.old.state) self.old.env.now
             (write (item_of key.now (Some value.now) ∷ []) false) (done_or result) (Some self.new.state) self.new.env.now }
         ensures cause { HasCause (WriteExcused E.Env self.old.state self.old.env.now (item_of key.now (Some value.now) ∷ []))
@@ -105,6 +108,7 @@ impl<'e, E: Env, C: UserCmp + Copy, FP: FilterPolicy + Copy> Store<'e, E, Engine
         ensures halted { IsHalted self.old.state.mode self.old.state.writer → (self.new.env.now ≡ self.old.env.now) × (self.new.state ≡ self.old.state) × IsErrAnd result (HaltedBy self.old.state.mode self.old.state.writer) }
         ensures breaks { E.failures self.old.env.now < E.failures self.new.env.now → IsHalted self.new.state.mode self.new.state.writer }
         ensures stays { IsTrue self.new.state.writer.broken ⊎ (self.new.state.mode ≡ self.old.state.mode) }
+        ensures time { TimeGoesOn E.Env self.old.env.now self.new.env.now }
         ensures step { Answers E.Env (C.cmp self.old.state.options.cmp) (Some self.old.state) self.old.env.now
             (write (item_of key.now None ∷ []) false) (done_or result) (Some self.new.state) self.new.env.now }
         ensures cause { HasCause (WriteExcused E.Env self.old.state self.old.env.now (item_of key.now None ∷ []))
@@ -121,6 +125,7 @@ impl<'e, E: Env, C: UserCmp + Copy, FP: FilterPolicy + Copy> Store<'e, E, Engine
         ensures halted { IsHalted self.old.state.mode self.old.state.writer → (self.new.env.now ≡ self.old.env.now) × (self.new.state ≡ self.old.state) × IsErrAnd result (HaltedBy self.old.state.mode self.old.state.writer) }
         ensures breaks { E.failures self.old.env.now < E.failures self.new.env.now → IsHalted self.new.state.mode self.new.state.writer }
         ensures stays { IsTrue self.new.state.writer.broken ⊎ (self.new.state.mode ≡ self.old.state.mode) }
+        ensures time { TimeGoesOn E.Env self.old.env.now self.new.env.now }
         ensures step { Answers E.Env (C.cmp self.old.state.options.cmp) (Some self.old.state) self.old.env.now
             (write batch.items sync) (done_or result) (Some self.new.state) self.new.env.now }
         ensures cause { HasCause (WriteExcused E.Env self.old.state self.old.env.now batch.items)
@@ -136,6 +141,7 @@ impl<'e, E: Env, C: UserCmp + Copy, FP: FilterPolicy + Copy> Store<'e, E, Engine
         ensures halted { IsHalted self.old.state.mode self.old.state.writer → (self.new.env.now ≡ self.old.env.now) × (self.new.state ≡ self.old.state) × IsErrAnd result (HaltedBy self.old.state.mode self.old.state.writer) }
         ensures ended { OnErr result (IsHalted self.new.state.mode self.new.state.writer) }
         ensures stays { IsTrue self.new.state.writer.broken ⊎ (self.new.state.mode ≡ self.old.state.mode) }
+        ensures time { TimeGoesOn E.Env self.old.env.now self.new.env.now }
         ensures step { Answers E.Env (C.cmp self.old.state.options.cmp) (Some self.old.state) self.old.env.now
             flush (done_or result) (Some self.new.state) self.new.env.now }
         ensures cause { HasCause (SyncExcused E.Env self.old.state self.old.env.now)
@@ -162,6 +168,7 @@ impl<'e, E: Env, C: UserCmp + Copy, FP: FilterPolicy + Copy> Store<'e, E, Engine
         ensures options { self.new.state.options ≡ self.old.state.options }
         ensures halted { IsHalted self.old.state.mode self.old.state.writer → (self.new.env.now ≡ self.old.env.now) × (self.new.state ≡ self.old.state) × IsErrAnd result (HaltedBy self.old.state.mode self.old.state.writer) }
         ensures ended { OnOk result (IsShut self.new.state.mode) × OnErr result (IsHalted self.new.state.mode self.new.state.writer) }
+        ensures time { TimeGoesOn E.Env self.old.env.now self.new.env.now }
         ensures step { Answers E.Env (C.cmp self.old.state.options.cmp) (Some self.old.state) self.old.env.now
             close (done_or result) (Some self.new.state) self.new.env.now }
         ensures cause { HasCause (CloseExcused E.Env self.old.state self.old.env.now self.new.env.now)
@@ -175,6 +182,7 @@ impl<'e, E: Env, C: UserCmp + Copy, FP: FilterPolicy + Copy> Store<'e, E, Engine
         ensures step { Answers E.Env (C.cmp self.entry.state.options.cmp) (Some self.entry.state) self.entry.env.now
             abandon (done_or result) None self.exit.0.now }
         ensures shut { IsShut self.entry.state.mode → (self.exit.0.now ≡ self.entry.env.now) × OnErr result ⊥ }
+        ensures time { TimeGoesOn E.Env self.entry.env.now self.exit.0.now }
         ensures cause { HasCause (λ _. ⊥) (E.failures self.entry.env.now) (E.failures self.exit.0.now) result }
     {
         let Store { env, state } = self;

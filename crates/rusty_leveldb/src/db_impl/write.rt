@@ -7,7 +7,7 @@ ghost use Rattle.leveldb_mem.specs.Batch.{item_of};
 ghost use Rattle.leveldb_mem.specs.Writing.{Adds, Refuses, Flushes};
 ghost use Rattle.rusty_leveldb.specs.State.{write, flush};
 ghost use Rattle.rusty_leveldb.specs.Serves.{done_or};
-ghost use Rattle.rusty_leveldb.specs.Engine.{IsHalted, HaltedBy, Answers, WriteExcused, SyncExcused};
+ghost use Rattle.rusty_leveldb.specs.Engine.{IsHalted, HaltedBy, TimeGoesOn, Answers, WriteExcused, SyncExcused};
 
 use super::engine::{Engine, Mode, check_open};
 use leveldb_base::cmp::UserCmp;
@@ -24,6 +24,7 @@ impl<E: Env, C: UserCmp + Copy, FP: FilterPolicy + Copy> Engine<E, C, FP> {
         ensures halted { IsHalted self.old.mode self.old.writer → (env.new ≡ env.old) × (self.new ≡ self.old) × IsErrAnd result (HaltedBy self.old.mode self.old.writer) }
         ensures breaks { E.failures env.old < E.failures env.new → IsHalted self.new.mode self.new.writer }
         ensures stays { IsTrue self.new.writer.broken ⊎ (self.new.mode ≡ self.old.mode) }
+        ensures time { TimeGoesOn E.Env env.old env.new }
         ensures step { Answers E.Env (C.cmp self.old.options.cmp) (Some self.old) env.old
             (write (item_of key.now (Some value.now) ∷ []) false) (done_or result) (Some self.new) env.new }
         ensures cause { HasCause (WriteExcused E.Env self.old env.old (item_of key.now (Some value.now) ∷ []))
@@ -41,6 +42,7 @@ impl<E: Env, C: UserCmp + Copy, FP: FilterPolicy + Copy> Engine<E, C, FP> {
         ensures halted { IsHalted self.old.mode self.old.writer → (env.new ≡ env.old) × (self.new ≡ self.old) × IsErrAnd result (HaltedBy self.old.mode self.old.writer) }
         ensures breaks { E.failures env.old < E.failures env.new → IsHalted self.new.mode self.new.writer }
         ensures stays { IsTrue self.new.writer.broken ⊎ (self.new.mode ≡ self.old.mode) }
+        ensures time { TimeGoesOn E.Env env.old env.new }
         ensures step { Answers E.Env (C.cmp self.old.options.cmp) (Some self.old) env.old
             (write (item_of key.now None ∷ []) false) (done_or result) (Some self.new) env.new }
         ensures cause { HasCause (WriteExcused E.Env self.old env.old (item_of key.now None ∷ []))
@@ -59,6 +61,7 @@ impl<E: Env, C: UserCmp + Copy, FP: FilterPolicy + Copy> Engine<E, C, FP> {
         ensures halted { IsHalted self.old.mode self.old.writer → (env.new ≡ env.old) × (self.new ≡ self.old) × IsErrAnd result (HaltedBy self.old.mode self.old.writer) }
         ensures breaks { E.failures env.old < E.failures env.new → IsHalted self.new.mode self.new.writer }
         ensures stays { IsTrue self.new.writer.broken ⊎ (self.new.mode ≡ self.old.mode) }
+        ensures time { TimeGoesOn E.Env env.old env.new }
         ensures step { Answers E.Env (C.cmp self.old.options.cmp) (Some self.old) env.old
             (write batch.items sync) (done_or result) (Some self.new) env.new }
         ensures cause { HasCause (WriteExcused E.Env self.old env.old batch.items) (E.failures env.old) (E.failures env.new) result }
@@ -82,6 +85,7 @@ impl<E: Env, C: UserCmp + Copy, FP: FilterPolicy + Copy> Engine<E, C, FP> {
         ensures halted { IsHalted self.old.mode self.old.writer → (env.new ≡ env.old) × (self.new ≡ self.old) × IsErrAnd result (HaltedBy self.old.mode self.old.writer) }
         ensures ended { OnErr result (IsHalted self.new.mode self.new.writer) }
         ensures stays { IsTrue self.new.writer.broken ⊎ (self.new.mode ≡ self.old.mode) }
+        ensures time { TimeGoesOn E.Env env.old env.new }
         ensures step { Answers E.Env (C.cmp self.old.options.cmp) (Some self.old) env.old flush (done_or result) (Some self.new) env.new }
         ensures cause { HasCause (SyncExcused E.Env self.old env.old) (E.failures env.old) (E.failures env.new) result }
     {

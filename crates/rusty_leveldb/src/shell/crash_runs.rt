@@ -1,7 +1,9 @@
-//! Lives of a store: runs on a device that records its calls, with crashes between them.
-ghost use Rattle.std.specs.Prelude.{◌≡◌, ◌+◌, ◌⊎◌, All, [], IfOk, IfErr};
+//! Runs of commands on a device that records its calls, with crashes between them.
+ghost use Rattle.std.specs.Prelude.{◌≡◌, ◌≤◌, ◌+◌, ◌⊎◌, IfOk, IfErr};
 ghost use Rattle.leveldb_env.specs.Calls.{NoMemory};
-ghost use Rattle.rusty_leveldb.specs.Lives.{LivedAlways, Anyhow, AreRuns, IsHonestly, IsLeft, PlayedFromNone};
+ghost use Rattle.leveldb_env.specs.Picks.{tails_of};
+ghost use Rattle.leveldb_env.specs.Record.{moment_of, CanLeave};
+ghost use Rattle.rusty_leveldb.specs.Lives.{IsAlwaysLife, IsCrash, ReportsLives};
 
 use super::commands::{Command, Reply};
 use super::runs::answer;
@@ -14,28 +16,29 @@ use leveldb_env::mem_env::{Pick, RecordEnv};
 use leveldb_env::options::Options;
 use std::alloc::Global;
 
-/// A life of a store: what it is opened with, its commands, and the crash that ends it, if one does.
+/// A life of a store: how it is opened, its commands, and the crash that ends it, if one does.
 #[derive(Drop)]
 pub struct Life<C, FP> {
     pub options: Options<C, FP>,
     pub commands: Vec<Command>,
-    /// The moment of the crash, from the life's start.
+    /// The moment of the crash, counted from the life's start.
     pub moment: Option<u64>,
     /// What the crash leaves.
     pub pick: Pick,
-    /// The call that is refused, from the life's start, and whether its change stands.
+    /// The call that fails, 1 being the life's first, and whether its change is made.
     pub fail: Option<(u64, bool)>,
 }
 
-/// What a life answered.
+/// What a life returned.
 #[derive(Drop)]
 pub struct Report {
     pub opened: Result<()>,
-    /// Each reply, with the moment at which it was given, from the life's start.
+    /// Each reply with the moment at which it was given, counted from the life's start.
     pub replies: Vec<(u64, Reply)>,
 }
 
-/// One life, to its end.
+/// Opens a store, runs the commands one after another and abandons the store. A command that fails is
+/// a reply, and so is an opening that fails a report; only the memory of the replies can be missing.
 pub fn live<C: UserCmp + Copy, FP: FilterPolicy + Copy>(
     alloc: Global,
     env: &mut RecordEnv,
@@ -43,8 +46,10 @@ pub fn live<C: UserCmp + Copy, FP: FilterPolicy + Copy>(
     options: Options<C, FP>,
     commands: &[Command],
 ) -> Result<Report>
-    ensures lived { IfOk result (λ report. LivedAlways C FP ⟦<RecordEnv as Env>⟧ (C.cmp options.cmp) name.now env.old options.create_if_missing commands.now report env.new) }
-    ensures err { IfErr result (λ e. NoMemory e × (env.new ≡ env.old)) }
+    ensures life { IfOk result (λ report. IsAlwaysLife C FP ⟦<RecordEnv as Env>⟧ (C.cmp options.cmp)
+        name.now env.old options.create_if_missing commands.now report env.new) }
+    ensures time { moment_of env.old ≤ moment_of env.new }
+    ensures error { IfErr result (λ e. NoMemory e × (env.new ≡ env.old)) }
 {
     let start = env.moment();
     let mut replies = Vec::new(alloc);
@@ -60,9 +65,7 @@ pub fn live<C: UserCmp + Copy, FP: FilterPolicy + Copy>(
     };
     for command in commands {
         let reply = answer(alloc, &mut engine, env, command);
-        replies
-            .push((env.moment().saturating_sub(start), reply))
-            .unwrap();
+        replies.push((env.moment() - start, reply)).unwrap();
     }
     let _ = engine.abandon(env);
     Ok(Report {
@@ -71,17 +74,16 @@ pub fn live<C: UserCmp + Copy, FP: FilterPolicy + Copy>(
     })
 }
 
-/// Lives of the store under this name, from an empty device on: each is run to its end, and the next begins on the device as it is, or on
-/// what a crash at the life's moment left.
+/// Runs lives of the store under this name, from an empty device on. Each runs to its end; the next begins on the device as it is then, or
+/// on what the life's crash at its moment leaves.
+///
+/// `InvalidArgument` where a crash can't be: its moment is still to come, or no crash leaves what its pick says.
 pub fn lives<C: UserCmp + Copy, FP: FilterPolicy + Copy>(
     alloc: Global,
     name: &str,
     lives: Vec<Life<C, FP>>,
 ) -> Result<Vec<Report>>
-    ensures played { IfOk result (λ reports. PlayedFromNone ⟦<RecordEnv as Env>⟧ C.cmp name.now Anyhow lives.items reports.items) }
-    ensures untailed { IfOk result (λ reports. All (λ life. life.pick.tails.items ≡ []) lives.items → PlayedFromNone ⟦<RecordEnv as Env>⟧ C.cmp name.now (IsHonestly name.now) lives.items reports.items) }
-    ensures runs { IfOk result (λ reports. AreRuns ⟦<RecordEnv as Env>⟧ C.cmp name.now lives.items reports.items) }
-    ensures err { IfErr result (λ e. NoMemory e ⊎ (e.code ≡ StatusCode.InvalidArgument)) }
+    ensures { ReportsLives ⟦<RecordEnv as Env>⟧ C.cmp name.now lives.items result }
 {
     let mut env = RecordEnv::new(alloc);
     let mut reports = Vec::new(alloc);
@@ -114,8 +116,9 @@ fn left_at(
     moment: u64,
     pick: &Pick,
 ) -> Result<RecordEnv>
-    ensures left { IfOk result (λ left. IsLeft env.now (start + moment) pick.now left) }
-    ensures err { IfErr result (λ e. NoMemory e ⊎ (e.code ≡ StatusCode.InvalidArgument)) }
+    ensures crash { IfOk result (λ left. IsCrash env.now (start + moment) pick.now left) }
+    ensures error { IfErr result (λ e. NoMemory e ⊎ ((e.code ≡ StatusCode.InvalidArgument)
+        × (CanLeave env.now (start + moment) pick.now.after (tails_of pick.now.tails.items) → ⊥))) }
 {
     match start.checked_add(moment) {
         Some(at) => env.disk_at(alloc, at, pick),

@@ -3,7 +3,7 @@ ghost use Rattle.std.specs.Prelude.{◌≡◌, ◌≤◌, ◌⊎◌, ◌++◌, L
 ghost use Rattle.leveldb_base.specs.Status.{IsOutOfMemory};
 ghost use Rattle.leveldb_mem.specs.Batch.{with_item, IsTooLong};
 ghost use Rattle.rusty_leveldb.specs.Causes.{IsLongBatch, HasFailed};
-ghost use Rattle.rusty_leveldb.specs.Engine.{IsStoreName, Answers, OpenExcused};
+ghost use Rattle.rusty_leveldb.specs.Engine.{IsStoreName, TimeGoesOn, Answers, OpenExcused};
 ghost use Rattle.rusty_leveldb.specs.Recovery.{NeverOpens};
 ghost use Rattle.rusty_leveldb.specs.Serves.{done_or};
 ghost use Rattle.rusty_leveldb.specs.State as machine;
@@ -37,6 +37,7 @@ pub fn run<E: Env, C: UserCmp + Copy, FP: FilterPolicy + Copy>(
     ensures unopened { IsTrue E.tells_disk → NeverOpens name.now opt.create_if_missing (E.tells env.old).disk
         → (replies.new.items ≡ replies.old.items) × IsUnopened E.Env name.now opt.create_if_missing env.old result env.new }
     ensures later { E.failures env.old ≤ E.failures env.new }
+    ensures time { TimeGoesOn E.Env env.old env.new }
     ensures cause { IfErr result (λ status. OpenExcused E.tells_disk name.now opt.create_if_missing (E.tells env.old) status
         ⊎ HasFailed (E.failures env.old) (E.failures env.new)) }
 {
@@ -61,6 +62,7 @@ pub(super) fn answer<E: Env, C: UserCmp + Copy, FP: FilterPolicy + Copy>(
     ensures step { Answers E.Env (C.cmp engine.old.options.cmp) (Some engine.old) env.old (request_of command.now) (answer_of result) (Some engine.new) env.new }
     ensures options { engine.new.options ≡ engine.old.options }
     ensures later { E.failures env.old ≤ E.failures env.new }
+    ensures time { TimeGoesOn E.Env env.old env.new }
 {
     match command {
         Command::Put(key, value) => reply_of(engine.put(env, key, value)),
@@ -97,6 +99,7 @@ fn write<E: Env, C: UserCmp + Copy, FP: FilterPolicy + Copy>(
     ensures step { Answers E.Env (C.cmp engine.old.options.cmp) (Some engine.old) env.old (machine.write (map change_of items.now) sync) (done_or result) (Some engine.new) env.new }
     ensures options { engine.new.options ≡ engine.old.options }
     ensures later { E.failures env.old ≤ E.failures env.new }
+    ensures time { TimeGoesOn E.Env env.old env.new }
 {
     engine.check_writable()?;
     let batch = batch_of(alloc, items)?;

@@ -8,13 +8,14 @@ use Rattle.rusty_leveldb.proofs.Playing.{in_order, commands_up_to}
 use Rattle.rusty_leveldb.proofs.Living.{Given, LivesSoFar, given_more, lives_first, lives_more, lives_end, not_lived}
 use Rattle.rusty_leveldb.proofs.shell.crash_runs.live.Goals as goal
 
-pub returns-in-Err-clause-lived : goal.returns-in-Err-clause-lived
-returns-in-Err-clause-lived g c = not_lived g.row.C.Denot g.row.FP.Denot ghosts stands_alone refl (g.C.Cmp.cmp c.args.options.cmp) c.args.name.now c.args.options c.args.env.now c.open.new.env c.args.options.create_if_missing c.args.commands.now
+pub returns-in-Err-clause-life : goal.returns-in-Err-clause-life
+returns-in-Err-clause-life g c = not_lived g.row.C.Denot g.row.FP.Denot ghosts stands_alone refl (g.C.Cmp.cmp c.args.options.cmp) c.args.name.now c.args.options c.args.env.now c.open.new.env c.args.options.create_if_missing c.args.commands.now
     _ c.in-Err.status refl (c.reserve.ensures.items ∙ c.new-replies.ensures.items) c.in-Err.ensures.step
 
 pub loop-command-init : goal.loop-command-init
 loop-command-init g c =
     let none : c.reserve.new.self.items ≡ [] = c.reserve.ensures.items ∙ c.new-replies.ensures.items in (
+      search rules,
       search rules,
       search rules,
       [],
@@ -31,28 +32,29 @@ loop-command-preserved g c =
     let so_far = c.loop-command.invariant in
     let command = c.command-item.result in
     let reply = c.answer-reply.result in
-    let told = c.saturating_sub.result in
+    let told = c.moment.result - c.moment-start.result in
     let pushed : c.push.new.self.items ≡ c.loop-command.replies.items ++ (told, reply) ∷ [] = search rules in
     let same : g.C.Cmp.cmp c.loop-command.engine.options.cmp ≡ g.C.Cmp.cmp c.args.options.cmp = rw so_far.0 refl in
     let step = in_order {env = ghosts} {before = Some c.loop-command.engine} {after = Some c.answer-reply.new.engine} {from = c.loop-command.env} {to = c.answer-reply.new.env} same c.answer-reply.ensures.step in
     let more = lives_more g.row.C.Denot g.row.FP.Denot ghosts stands_alone refl (g.C.Cmp.cmp c.args.options.cmp) c.args.name.now c.args.env.now c.loop-command.env c.answer-reply.new.env c.args.options.create_if_missing
-    (take c.loop-command.command-index c.args.commands.now) c.loop-command.replies.items so_far.2 c.loop-command.engine c.answer-reply.new.engine command told reply so_far.4 step in
+    (take c.loop-command.command-index c.args.commands.now) c.loop-command.replies.items so_far.3 c.loop-command.engine c.answer-reply.new.engine command told reply so_far.5 step in
     let behind = commands_up_to c.args.commands.now c.loop-command.command-index command c.loop-command-test.true c.command-item.is in
     let is : told ≡ moment_of c.answer-reply.new.env - moment_of c.args.env.now = search rules in (
       search rules,
       search rules,
-      so_far.2 ++ moment_of c.answer-reply.new.env ∷ [],
-      subst (λ items. Given (moment_of c.args.env.now) items (so_far.2 ++ moment_of c.answer-reply.new.env ∷ [])) (sym pushed)
-          (given_more (moment_of c.args.env.now) c.loop-command.replies.items so_far.2 (moment_of c.answer-reply.new.env) told reply so_far.3 is),
-      subst (λ items. LivesSoFar g.row.C.Denot g.row.FP.Denot ghosts (g.C.Cmp.cmp c.args.options.cmp) c.args.name.now c.args.env.now c.args.options.create_if_missing (take (c.loop-command.command-index + 1) c.args.commands.now) items (so_far.2 ++ moment_of c.answer-reply.new.env ∷ []) c.answer-reply.new.engine c.answer-reply.new.env) (sym pushed)
+      search rules,
+      so_far.3 ++ moment_of c.answer-reply.new.env ∷ [],
+      subst (λ items. Given (moment_of c.args.env.now) items (so_far.3 ++ moment_of c.answer-reply.new.env ∷ [])) (sym pushed)
+          (given_more (moment_of c.args.env.now) c.loop-command.replies.items so_far.3 (moment_of c.answer-reply.new.env) told reply so_far.4 is),
+      subst (λ items. LivesSoFar g.row.C.Denot g.row.FP.Denot ghosts (g.C.Cmp.cmp c.args.options.cmp) c.args.name.now c.args.env.now c.args.options.create_if_missing (take (c.loop-command.command-index + 1) c.args.commands.now) items (so_far.3 ++ moment_of c.answer-reply.new.env ∷ []) c.answer-reply.new.engine c.answer-reply.new.env) (sym pushed)
           (rw behind more),
     )
 
-pub returns-clause-lived : goal.returns-clause-lived
-returns-clause-lived g c =
+pub returns-clause-life : goal.returns-clause-life
+returns-clause-life g c =
     let so_far = c.loop-command.invariant in
     let all : take c.loop-command.command-index c.args.commands.now ≡ c.args.commands.now = take_all c.loop-command.command-index c.args.commands.now c.loop-command-test.false in
     let same : g.C.Cmp.cmp c.loop-command.engine.options.cmp ≡ g.C.Cmp.cmp c.args.options.cmp = rw so_far.0 refl in
     let step = in_order {env = ghosts} {before = Some c.loop-command.engine} {after = None} {from = c.loop-command.env} {to = c.abandon.new.env} same c.abandon.ensures.step in
     lives_end g.row.C.Denot g.row.FP.Denot ghosts stands_alone refl (g.C.Cmp.cmp c.args.options.cmp) c.args.name.now c.args.env.now c.loop-command.env c.abandon.new.env c.args.options.create_if_missing
-    c.args.commands.now so_far.2 c.loop-command.engine (done_or c.abandon.result) _ refl so_far.3 (rw all at so_far.4) step
+    c.args.commands.now so_far.3 c.loop-command.engine (done_or c.abandon.result) _ refl so_far.4 (rw all at so_far.5) step

@@ -6,7 +6,7 @@ use Rattle.rusty_leveldb.proofs.shell.crash_runs.live.Given as goal
 
 abbrev pub invariant-loop-command : goal.invariant-loop-command
 invariant-loop-command g l =
-    (l.engine.options ≡ l.fn.options)
+    (l.engine.options ≡ l.fn.options) × (moment_of l.fn.env ≤ moment_of l.env)
     × (vec_len l.replies + (length l.commands - l.command-index) ≤ vec_capacity l.replies)
     × (given : List ℕ) × Given (moment_of l.fn.env) l.replies.items given
     × LivesSoFar g.row.C.Denot g.row.FP.Denot ghosts (g.C.Cmp.cmp l.fn.options.cmp) l.name l.fn.env l.fn.options.create_if_missing (take l.command-index l.commands) l.replies.items given l.engine l.env

@@ -1,9 +1,12 @@
-use Rattle.std.proofs.Common.{rules, vec_len, vec_capacity, ◌<◌, append-nil, append_assoc, ◌≡◌, ◌++◌, ◌∷◌, [], length, refl, sym, subst, ◌∙◌, ap, arith}
+-- Each life joins those before it, with its crash; a refusal is that of a life's memory or of a crash.
+use Rattle.std.proofs.Common.{rules, vec_len, vec_capacity, ◌<◌, append-nil, append_assoc, ◌≡◌, ◌+◌, ◌++◌, ◌∷◌, ◌⊎◌, inl, inr, ⊎_elim, [], length, refl, sym, subst, ◌∙◌, ap, arith}
 use Rattle.std.proofs.lemmas.List.{nil_from_length}
+use Rattle.std.proofs.lemmas.Result.{err_from_is_err_and}
 use Rattle.leveldb_env.specs.contracts.mem_env.record.RecordEnvEnv.TheImpl.{ghosts}
-use Rattle.leveldb_env.specs.Record.{moment_of}
-use Rattle.rusty_leveldb.specs.Lives.{Anyhow, LivedAlways}
-use Rattle.rusty_leveldb.proofs.Lives.{follows_left, follows_on, played_more, are_runs, fair_from_none}
+use Rattle.leveldb_env.specs.Picks.{tails_of}
+use Rattle.leveldb_env.specs.Record.{moment_of, CanLeave}
+use Rattle.rusty_leveldb.specs.Lives.{IsCrash, IsAlwaysLife, IsLifeOn}
+use Rattle.rusty_leveldb.proofs.Lives.{next_crash, next_same, reports_more, all_reported, fails_for}
 use Rattle.rusty_leveldb.proofs.shell.crash_runs.lives.Goals as goal
 use Rattle.rusty_leveldb.proofs.shell.crash_runs.lives.Goals.{in-Some-moment+in_ok-env, in_default}
 
@@ -12,10 +15,7 @@ loop-life-init g c =
     let none : c.reserve.new.self.items ≡ [] = c.reserve.ensures.items ∙ c.new-reports.ensures.items in (
       search rules,
       search rules,
-      c.new-env.result,
-      c.new-env.ensures.files,
-      c.new-env.ensures.fresh,
-      rw none refl,
+      record { first = c.new-env.result; empty = c.new-env.ensures.files; fresh = c.new-env.ensures.fresh; reports_are = rw none refl },
     )
 
 pub unwrap-requires : goal.unwrap-requires
@@ -31,33 +31,55 @@ loop-life-preserved g c =
     let life = c.in-Some.life in
     let report = c.in_ok-report.report in
     let pushed : c.push.new.self.items ≡ c.loop-life.reports.items ++ report ∷ [] = search rules in
-    let more = played_more g.C.Cmp.cmp c.args.name.now Anyhow so_far.2 c.loop-life.yielded c.loop-life.reports.items c.loop-life.env c.match-moment.env life report so_far.5 (record {
+    let is : IsLifeOn ghosts g.C.Cmp.cmp c.args.name.now c.loop-life.env life report c.live.new.env = record {
       from = c.fail.new.self;
-      to = c.live.new.env;
       same = c.fail.ensures.same;
-      lived = subst (λ commands. LivedAlways g.row.C.Denot g.row.FP.Denot ghosts (g.C.Cmp.cmp c.in-Some.life.options.cmp) c.args.name.now c.fail.new.self c.in-Some.life.options.create_if_missing commands report c.live.new.env) c.deref.ensures.value c.in_ok-report.ensures.lived;
-      follows = elim c.match-moment.branch [
-        | in-Some-moment+in_ok-env w ↦ follows_left Anyhow (moment_of c.loop-life.env) c.moment-start.result w.in-Some-moment.moment c.in-Some.life.moment c.in-Some.life.pick c.live.new.env w.in_ok-env.env c.match-moment.env w.in-Some-moment.is c.moment-start.ensures w.env-is w.in_ok-env.ensures.left tt
-        | in_default w ↦ follows_on Anyhow (moment_of c.loop-life.env) c.in-Some.life.moment c.in-Some.life.pick c.live.new.env c.match-moment.env w.in_default.is w.env-is
-      ];
-    }) in (
+      failing = search rules;
+      life_is = subst (λ commands. IsAlwaysLife g.row.C.Denot g.row.FP.Denot ghosts (g.C.Cmp.cmp c.in-Some.life.options.cmp) c.args.name.now c.fail.new.self c.in-Some.life.options.create_if_missing commands report c.live.new.env) c.deref.ensures.value c.in_ok-report.ensures.life;
+    } in
+    let more = reports_more g.C.Cmp.cmp c.args.name.now IsCrash so_far.2.first c.loop-life.yielded c.loop-life.reports.items c.loop-life.env c.live.new.env c.match-moment.env life report so_far.2.reports_are is
+    (elim c.match-moment.branch [
+      | in-Some-moment+in_ok-env w ↦ next_crash IsCrash (moment_of c.loop-life.env) c.moment-start.result w.in-Some-moment.moment c.in-Some.life.moment c.in-Some.life.pick c.live.new.env w.in_ok-env.env c.match-moment.env w.in-Some-moment.is c.moment-start.ensures w.env-is w.in_ok-env.ensures.crash
+      | in_default w ↦ next_same IsCrash (moment_of c.loop-life.env) c.in-Some.life.moment c.in-Some.life.pick c.live.new.env c.match-moment.env w.in_default.is w.env-is
+    ]) in (
       let one_more = ap length c.in-Some.ensures.steps.0 in let pushed_len = ap length pushed in search rules,
       append_assoc c.loop-life.yielded (life ∷ []) c.next.new.self.rest.items ∙ ap (λ rest. c.loop-life.yielded ++ rest) (sym c.in-Some.ensures.steps.0) ∙ so_far.1,
-      so_far.2,
-      so_far.3,
-      so_far.4,
-      rw pushed more,
+      record { first = so_far.2.first; empty = so_far.2.empty; fresh = so_far.2.fresh; reports_are = rw pushed more },
     )
 
-pub returns-clause-played : goal.returns-clause-played
-returns-clause-played g c =
+pub returns : goal.returns
+returns g c =
     let so_far = c.loop-life.invariant in
     let none : c.loop-life.life-iterator.rest.items ≡ [] = nil_from_length c.loop-life.life-iterator.rest.items (omega (arith, c.in-None.ensures.steps.0, c.loop-life.life-iterator.rest.ok)) in
     let all : c.loop-life.yielded ≡ c.args.lives.items = sym (append-nil c.loop-life.yielded) ∙ ap (λ rest. c.loop-life.yielded ++ rest) (sym none) ∙ so_far.1 in
-    (so_far.2, c.loop-life.env, so_far.3, so_far.4, rw all at so_far.5)
+    all_reported g.C.Cmp.cmp c.args.name.now c.args.lives.items c.loop-life.reports (c.loop-life.env, rw all at so_far.2)
 
-pub returns-clause-runs : goal.returns-clause-runs
-returns-clause-runs g c = are_runs g.C.Cmp.cmp c.args.name.now c.args.lives.items _
-
-pub returns-clause-untailed : goal.returns-clause-untailed
-returns-clause-untailed g c = λ none. fair_from_none g.C.Cmp.cmp c.args.name.now c.args.lives.items _ none (returns-clause-played g c)
+pub returns-in_err-env : goal.returns-in_err-env
+returns-in_err-env g c =
+    let so_far = c.loop-life.invariant in
+    let p = err_from_is_err_and c.from_residual-in_err-env.result c.from_residual-in_err-env.ensures.1 in
+    let is : IsLifeOn ghosts g.C.Cmp.cmp c.args.name.now c.loop-life.env c.in-Some.life c.in_ok-report.report c.live.new.env = record {
+      from = c.fail.new.self;
+      same = c.fail.ensures.same;
+      failing = search rules;
+      life_is = subst (λ commands. IsAlwaysLife g.row.C.Denot g.row.FP.Denot ghosts (g.C.Cmp.cmp c.in-Some.life.options.cmp) c.args.name.now c.fail.new.self c.in-Some.life.options.create_if_missing commands c.in_ok-report.report c.live.new.env) c.deref.ensures.value c.in_ok-report.ensures.life;
+    } in
+    rw (p.1, p.2) (fails_for g.C.Cmp.cmp c.args.name.now c.args.lives.items c.in_err-env.field-0.0
+    (⊎_elim inl (λ why. inr (
+      why.0,
+      record {
+        before = c.loop-life.yielded;
+        life = c.in-Some.life;
+        others = c.next.new.self.rest.items;
+        split = sym so_far.1 ∙ ap (λ rest. c.loop-life.yielded ++ rest) c.in-Some.ensures.steps.0;
+        reports = c.loop-life.reports.items;
+        device = c.loop-life.env;
+        ran = so_far.2;
+        report = c.in_ok-report.report;
+        to = c.live.new.env;
+        life_is = is;
+        moment = c.in-Some-moment.moment;
+        crashes = c.in-Some-moment.is;
+        none = λ can. why.1 (subst (λ n. CanLeave c.live.new.env (n + c.in-Some-moment.moment) c.in-Some.life.pick.after (tails_of c.in-Some.life.pick.tails.items)) (sym c.moment-start.ensures) can);
+      },
+    )) c.in_err-env.ensures.error))

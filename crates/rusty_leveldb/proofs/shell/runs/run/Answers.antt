@@ -21,6 +21,7 @@ loop-command-init g c = (
   search rules,
   refl,
   play_first g.row.C.Denot g.row.FP.Denot g.E.Env g.met.E.Env.only_now (g.C.Cmp.cmp c.args.opt.cmp) c.args.name.now c.args.env.now c.open.new.env c.args.opt.create_if_missing c.in_ok-engine.engine c.in_ok-engine.ensures.step,
+  c.in_ok-engine.ensures.time,
 )
 
 pub unwrap-requires : goal.unwrap-requires
@@ -44,6 +45,7 @@ loop-command-preserved g c =
       pushed ∙ ap (λ items. items ++ reply ∷ []) so_far.4 ∙ append_assoc c.args.replies.now.items so_far.3 (reply ∷ []),
       omega (arith, length-append so_far.3 (reply ∷ []), so_far.5),
       rw behind more,
+      λ tells. let before = so_far.7 tells in let then = c.answer.ensures.time tells in omega (arith, before, then),
     )
 
 pub returns-clause-plays : goal.returns-clause-plays
@@ -69,3 +71,9 @@ returns-clause-cause g c = search rules
 
 pub returns-clause-unopened : goal.returns-clause-unopened
 returns-clause-unopened g c = λ tells never. absurd (c.in_ok-engine.ensures.never_opens tells never)
+
+pub returns-clause-time : goal.returns-clause-time
+returns-clause-time g c = λ tells.
+    let before = c.loop-command.invariant.7 tells in
+    let last = c.abandon.ensures.time tells in
+    omega (arith, before, last)
