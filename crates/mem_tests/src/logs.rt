@@ -2,6 +2,7 @@
 ghost use Rattle.std.specs.Prelude.{if◌then◌else◌, IfOk, map};
 ghost use Rattle.leveldb_mem.specs.Log.{IsLogFile, clean, bad};
 
+use crate::checks::{are_records, change_byte, failed_with};
 use leveldb_base::error::{Result, StatusCode, err};
 use leveldb_env::env::{Env, Sink, Source};
 use leveldb_env::mem_env::MemEnv;
@@ -23,17 +24,22 @@ fn records_of(alloc: Global, bytes: &[u8]) -> Result<(Vec<Vec<u8>>, bool)>
     read_records(alloc, &mut source, true)
 }
 
-/// Records of 9, 12 and 22 bytes in blocks of 17: they end at 16, 43 and 93, and a byte of filler stands at 16.
+/// Records, and how many bytes each adds to a log in blocks of 17.
+const SMALL_LOG: [(&[u8], usize); 4] = [(NINE, 16), (b"", 0), (TWELVE, 27), (TWENTY_TWO, 50)];
+
+/// Records of 9, 12 and 22 bytes in blocks of 17: they end at 16, 43 and 93, and a byte of filler is at 16.
 fn small_log(rt: &(impl Abort + AllocGlobal)) -> Result<Vec<u8>> {
     let mut writer = LogWriter::sized(rt.alloc(), Vec::new(rt.alloc()), 17);
-    assert_eq!(rt; writer.add_record(NINE)?, 16);
-    assert_eq!(rt; writer.add_record(b"")?, 0);
-    assert_eq!(rt; writer.add_record(TWELVE)?, 27);
-    assert_eq!(rt; writer.add_record(TWENTY_TWO)?, 50);
+    for (record, length) in &SMALL_LOG {
+        assert!(rt; writer.add_record(record)? == *length);
+    }
     writer.flush()?;
-    assert_eq!(rt; writer.sink.len(), 93);
+    assert!(rt; writer.sink.len() == 93);
     Ok(writer.sink)
 }
+
+/// What is read of that log. From its end on every record is empty.
+const READ: [&[u8]; 5] = [NINE, TWELVE, TWENTY_TWO, b"", b""];
 
 fn assert_read<R: Source>(
     rt: &impl Abort,
@@ -41,19 +47,28 @@ fn assert_read<R: Source>(
     record: &mut Vec<u8>,
     wanted: &[u8],
 ) -> Result<()> {
-    assert_eq!(rt; reader.read(record)?, wanted.len());
-    assert_eq!(rt; record.as_slice(), wanted);
+    assert!(rt; reader.read(record)? == wanted.len());
+    assert!(rt; record.as_slice() == wanted);
+    Ok(())
+}
+
+fn assert_all_read<R: Source>(
+    rt: &impl Abort,
+    reader: &mut LogReader<R>,
+    record: &mut Vec<u8>,
+    wanted: &[&[u8]],
+) -> Result<()> {
+    for bytes in wanted {
+        assert_read(rt, reader, record, bytes)?;
+    }
     Ok(())
 }
 
 fn assert_corruption<R: Source>(rt: &impl Abort, reader: &mut LogReader<R>, record: &mut Vec<u8>) {
-    match reader.read(record) {
-        Ok(_) => assert!(rt; false, "damage is read"),
-        Err(status) => assert_eq!(rt; status.code, StatusCode::Corruption),
-    }
+    assert!(rt; failed_with(reader.read(record), StatusCode::Corruption));
 }
 
-/// What gives at most so many bytes a read.
+/// A source that gives at most `most` bytes a read.
 #[derive(Drop)]
 struct Slow<'a> {
     rest: &'a [u8],
@@ -72,11 +87,11 @@ impl Source for Slow<'_> {
     }
 }
 
-/// What refuses every call.
+/// A source and sink of which every call fails.
 #[derive(Drop)]
-struct Refusing(Global);
+struct Failing(Global);
 
-impl Source for Refusing {
+impl Source for Failing {
     ghost gives = { λ old room result new. Unit {0} };
 
     fn read_some(&mut self, _target: &mut [u8]) -> Result<usize> {
@@ -84,7 +99,7 @@ impl Source for Refusing {
     }
 }
 
-impl Sink for Refusing {
+impl Sink for Failing {
     ghost puts = { λ old bytes result new. Unit {0} };
 
     ghost flushes = { λ old result new. Unit {0} };
@@ -99,38 +114,51 @@ impl Sink for Refusing {
 }
 
 // The batch that puts "1" under "a", in LevelDB's format.
+const BATCH: &[u8] = b"\x01\0\0\0\0\0\0\0\x01\0\0\0\x01\x01a\x011";
+
 #[test]
 fn log_of_one_batch_has_24_bytes(rt: HostRuntime) -> Result<()> {
     let mut log = Vec::new(rt.alloc());
     let mut core = WriterCore::new(rt.alloc());
-    let written = core.add_record(&mut log, b"\x01\0\0\0\0\0\0\0\x01\0\0\0\x01\x01a\x011")?;
-    assert_eq!(rt; written, 24);
-    assert_eq!(rt; log.len(), 24);
+    assert!(rt; core.add_record(&mut log, BATCH)? == 24);
+    assert!(rt; log.len() == 24);
     assert!(rt; log.as_slice().get(4..8) == Some([17, 0, 1, 1].as_slice()));
     Ok(())
 }
 
-// How long a log of a record of so many bytes is, and behind it one of a byte more. From LevelDB's format: a block has
-// 32768 bytes, a header 7.
+/// A log of two records, and how many bytes the first of them took.
+fn log_of_two(alloc: Global, first: &[u8], second: &[u8]) -> Result<(Vec<u8>, usize)> {
+    let mut writer = LogWriter::new(alloc, Vec::new(alloc));
+    let length = writer.add_record(first)?;
+    writer.add_record(second)?;
+    Ok((writer.sink, length))
+}
+
+/// Whether a log has these records, and ends between two of them or not.
+fn has_records(alloc: Global, log: &[u8], wanted: &[&[u8]], is_whole: bool) -> Result<bool> {
+    let (records, ends_well) = records_of(alloc, log)?;
+    Ok(ends_well == is_whole && are_records(&records, wanted))
+}
+
+// How long a log of a record of this length is, and with a record of one byte after it. From LevelDB's format: a block
+// has 32768 bytes, a header 7.
+const LENGTHS: [(usize, usize, usize); 4] = [
+    (32761, 32768, 32776),
+    (32762, 32776, 32784),
+    (32754, 32761, 32776),
+    (32755, 32762, 32776),
+];
+
 #[test]
 fn lengths_of_logs(rt: HostRuntime) -> Result<()> {
-    let rows: [(usize, usize, usize); 4] = [
-        (32761, 32768, 32776),
-        (32762, 32776, 32784),
-        (32754, 32761, 32776),
-        (32755, 32762, 32776),
-    ];
-    for (length, one, two) in rows {
-        let record = vec![in rt.alloc(); b'r'; length]?;
-        let mut writer = LogWriter::new(rt.alloc(), Vec::new(rt.alloc()));
-        assert_eq!(rt; writer.add_record(&record)?, one);
-        writer.add_record(b"x")?;
-        assert_eq!(rt; writer.sink.len(), two, "a record of {length} bytes");
-        let (records, is_whole) = records_of(rt.alloc(), &writer.sink)?;
-        assert!(rt; is_whole);
-        assert_eq!(rt; records.len(), 2);
-        assert!(rt; records[0].as_slice() == record.as_slice());
-        assert_eq!(rt; records[1].as_slice(), b"x".as_slice());
+    for (length, one, two) in &LENGTHS {
+        let record = vec![in rt.alloc(); b'r'; *length]?;
+        let (log, first) = log_of_two(rt.alloc(), &record, b"x")?;
+        assert!(rt;
+            (first, log.len()) == (*one, *two),
+            "a record of {length} bytes"
+        );
+        assert!(rt; has_records(rt.alloc(), &log, &[&record, b"x"], true)?);
     }
     Ok(())
 }
@@ -138,8 +166,8 @@ fn lengths_of_logs(rt: HostRuntime) -> Result<()> {
 #[test]
 fn log_goes_on_at_an_offset(rt: HostRuntime) -> Result<()> {
     let mut writer = LogWriter::new_with_off(rt.alloc(), Vec::new(rt.alloc()), 3 * 32768 - 6);
-    assert_eq!(rt; writer.add_record(b"x")?, 6 + 8);
-    assert_eq!(rt; writer.sink.as_slice().get(..6), Some([0; 6].as_slice()));
+    assert!(rt; writer.add_record(b"x")? == 6 + 8);
+    assert!(rt; writer.sink.as_slice().get(..6) == Some([0; 6].as_slice()));
     Ok(())
 }
 
@@ -150,76 +178,65 @@ fn pieces_of_any_length(rt: HostRuntime) -> Result<()> {
     for most in 1..10 {
         let source = Slow { rest: &log, most };
         let mut reader = LogReader::sized(rt.alloc(), source, true, 17);
-        assert_read(&rt, &mut reader, &mut record, NINE)?;
-        assert_read(&rt, &mut reader, &mut record, TWELVE)?;
-        assert_read(&rt, &mut reader, &mut record, TWENTY_TWO)?;
-        assert_read(&rt, &mut reader, &mut record, b"")?;
-        assert_read(&rt, &mut reader, &mut record, b"")?;
+        assert_all_read(&rt, &mut reader, &mut record, &READ)?;
     }
     Ok(())
+}
+
+// What a status prints where a call failed, and no text where it didn't.
+fn error_text<T: Drop>(alloc: Global, answer: Result<T>) -> Result<String> {
+    match answer {
+        Ok(_) => Ok(String::new(alloc)),
+        Err(status) => Ok(format!(in alloc; "{status}")?),
+    }
 }
 
 #[test]
 fn wrong_checksum_is_passed(rt: HostRuntime) -> Result<()> {
     let mut log = small_log(&rt)?;
-    if let Some(byte) = log.get_mut(2) {
-        *byte = byte.wrapping_add(1);
-    }
+    change_byte(&mut log, 2, 1);
     let mut record = Vec::new(rt.alloc());
     let mut reader = LogReader::sized(rt.alloc(), log.as_slice(), true, 17);
-    match reader.read(&mut record) {
-        Ok(_) => assert!(rt; false, "a wrong checksum is taken"),
-        Err(status) => assert_eq!(rt;
-            format!(in rt.alloc(); "{status}")?.as_str(),
-            "Corruption: Invalid Checksum"
-        ),
-    }
-    assert_read(&rt, &mut reader, &mut record, TWELVE)?;
-    assert_read(&rt, &mut reader, &mut record, TWENTY_TWO)?;
-    assert_read(&rt, &mut reader, &mut record, b"")?;
+    let text = error_text(rt.alloc(), reader.read(&mut record))?;
+    assert!(rt; text.as_str() == "Corruption: Invalid Checksum");
+    assert_all_read(&rt, &mut reader, &mut record, &READ[1..4])?;
     let mut reader = LogReader::sized(rt.alloc(), log.as_slice(), false, 17);
     assert_read(&rt, &mut reader, &mut record, NINE)
 }
 
-// How many of the records end at or before this place.
-fn whole_before(place: usize) -> usize {
-    [16, 43, 93].iter().filter(|end| **end <= place).count()
+// The records that end at or before this offset.
+fn records_before(offset: usize) -> &'static [&'static [u8]] {
+    let count = [16, 43, 93].iter().filter(|end| **end <= offset).count();
+    READ.get(..count).unwrap_or_default()
 }
 
-fn assert_first_records<R: Source>(
-    rt: &impl Abort,
-    reader: &mut LogReader<R>,
-    record: &mut Vec<u8>,
-    count: usize,
-) -> Result<()> {
-    for wanted in [NINE, TWELVE, TWENTY_TWO].iter().take(count) {
-        assert_read(rt, reader, record, wanted)?;
+/// Reads a log that is cut at `end`.
+fn assert_cut(rt: &(impl Abort + AllocGlobal), log: &[u8], end: usize) -> Result<()> {
+    let mut record = Vec::new(rt.alloc());
+    let cut = log.get(..end).unwrap_or_default();
+    let mut reader = LogReader::sized(rt.alloc(), cut, true, 17);
+    assert_all_read(rt, &mut reader, &mut record, records_before(end))?;
+    if [0, 16, 43, 93].contains(&end) {
+        return assert_read(rt, &mut reader, &mut record, b"");
     }
+    assert_corruption(rt, &mut reader, &mut record);
+    assert_corruption(rt, &mut reader, &mut record);
     Ok(())
 }
 
 #[test]
 fn cut_anywhere(rt: HostRuntime) -> Result<()> {
     let log = small_log(&rt)?;
-    let mut record = Vec::new(rt.alloc());
     for end in 0..94 {
-        let cut = log.as_slice().get(..end).unwrap_or_default();
-        let mut reader = LogReader::sized(rt.alloc(), cut, true, 17);
-        assert_first_records(&rt, &mut reader, &mut record, whole_before(end))?;
-        if [0, 16, 43, 93].contains(&end) {
-            assert_read(&rt, &mut reader, &mut record, b"")?;
-        } else {
-            assert_corruption(&rt, &mut reader, &mut record);
-            assert_corruption(&rt, &mut reader, &mut record);
-        }
+        assert_cut(&rt, &log, end)?;
     }
     Ok(())
 }
 
-fn assert_damage_at(rt: &(impl Abort + AllocGlobal), log: &[u8], place: usize) -> Result<()> {
+fn assert_damage_at(rt: &(impl Abort + AllocGlobal), log: &[u8], offset: usize) -> Result<()> {
     let mut record = Vec::new(rt.alloc());
     let mut reader = LogReader::sized(rt.alloc(), log, true, 17);
-    assert_first_records(rt, &mut reader, &mut record, whole_before(place))?;
+    assert_all_read(rt, &mut reader, &mut record, records_before(offset))?;
     assert_corruption(rt, &mut reader, &mut record);
     Ok(())
 }
@@ -227,108 +244,106 @@ fn assert_damage_at(rt: &(impl Abort + AllocGlobal), log: &[u8], place: usize) -
 #[test]
 fn each_byte_raised(rt: HostRuntime) -> Result<()> {
     let mut log = small_log(&rt)?;
-    for place in 0..93 {
-        if let Some(byte) = log.get_mut(place) {
-            *byte = byte.wrapping_add(1);
-        }
-        assert_damage_at(&rt, &log, place)?;
-        if let Some(byte) = log.get_mut(place) {
-            *byte = byte.wrapping_sub(1);
-        }
+    for offset in 0..93 {
+        change_byte(&mut log, offset, 1);
+        assert_damage_at(&rt, &log, offset)?;
+        change_byte(&mut log, offset, 255);
     }
     Ok(())
 }
 
-// A fragment of this type with one byte of data, behind any checksum.
-fn lone_fragment(kind: u8) -> [u8; 8] {
-    [0, 0, 0, 0, 1, 0, kind, b'x']
-}
+/// Fragments of one byte after any checksum: of no type, a middle and a last one with no first, and of a type past
+/// the last; a first one and then a whole or a first one; and a whole one of no byte.
+const MISPLACED: [&[u8]; 7] = [
+    b"\0\0\0\0\x01\0\0x",
+    b"\0\0\0\0\x01\0\x03x",
+    b"\0\0\0\0\x01\0\x04x",
+    b"\0\0\0\0\x01\0\x05x",
+    b"\0\0\0\0\x01\0\x02x\0\0\0\0\x01\0\x01x",
+    b"\0\0\0\0\x01\0\x02x\0\0\0\0\x01\0\x02x",
+    b"\0\0\0\0\0\0\x01",
+];
 
 #[test]
-fn fragments_that_have_no_place(rt: HostRuntime) -> Result<()> {
+fn misplaced_fragments(rt: HostRuntime) {
     let mut record = Vec::new(rt.alloc());
-    for kind in [0, 3, 4, 5] {
-        let log = lone_fragment(kind);
-        let mut reader = LogReader::new(rt.alloc(), log.as_slice(), false);
-        assert_corruption(&rt, &mut reader, &mut record);
+    for log in &MISPLACED {
+        let mut reader = LogReader::new(rt.alloc(), *log, false);
+        let answer = reader.read(&mut record);
+        assert!(rt; failed_with(answer, StatusCode::Corruption), "{log:?}");
     }
-    for kind in [1, 2] {
-        let mut log = Vec::from_slice(rt.alloc(), &lone_fragment(2))?;
-        log.extend_from_slice(&lone_fragment(kind))?;
-        let mut reader = LogReader::new(rt.alloc(), log.as_slice(), false);
-        assert_corruption(&rt, &mut reader, &mut record);
-    }
-    let empty = [0, 0, 0, 0, 0, 0, 1];
-    let mut reader = LogReader::new(rt.alloc(), empty.as_slice(), false);
-    assert_corruption(&rt, &mut reader, &mut record);
-    Ok(())
 }
 
 #[test]
-fn whole_logs(rt: HostRuntime) -> Result<()> {
-    let mut writer = LogWriter::new(rt.alloc(), Vec::new(rt.alloc()));
-    for record in [NINE, TWELVE] {
-        writer.add_record(record)?;
-    }
-    let log = writer.sink;
-    assert!(rt; records_of(rt.alloc(), &log)?.1);
-    let (records, is_whole) = records_of(rt.alloc(), log.as_slice().get(..34).unwrap_or_default())?;
-    assert!(rt; !is_whole);
-    assert_eq!(rt; records.len(), 1);
-    assert_eq!(rt; records[0].as_slice(), NINE);
+fn whole_and_torn_logs(rt: HostRuntime) -> Result<()> {
+    let (log, _) = log_of_two(rt.alloc(), NINE, TWELVE)?;
+    assert!(rt; has_records(rt.alloc(), &log, &[NINE, TWELVE], true)?);
+    let torn = log.as_slice().get(..34).unwrap_or_default();
+    assert!(rt; has_records(rt.alloc(), torn, &[NINE], false)?);
     Ok(())
+}
+
+// A file's name, how many bytes of the log of two records it has, and how many records are read.
+const FILES: [(&str, usize, usize); 3] = [("empty", 0, 0), ("torn", 34, 1), ("clean", 35, 2)];
+
+fn write_file(env: &mut MemEnv, name: &str, bytes: &[u8]) -> Result<()> {
+    let mut file = env.open_writable_file(name)?;
+    env.append(&mut file, bytes)
 }
 
 #[test]
 fn files_of_logs(rt: HostRuntime) -> Result<()> {
-    let mut writer = LogWriter::new(rt.alloc(), Vec::new(rt.alloc()));
-    for record in [NINE, TWELVE] {
-        writer.add_record(record)?;
-    }
+    let (log, _) = log_of_two(rt.alloc(), NINE, TWELVE)?;
     let mut env = MemEnv::new(rt.alloc());
-    for (name, length, count) in [("empty", 0, 0), ("torn", 34, 1), ("clean", 35, 2)] {
-        let bytes = writer.sink.as_slice().get(..length).unwrap_or_default();
-        let mut file = env.open_writable_file(name)?;
-        env.append(&mut file, bytes)?;
+    for (name, length, count) in &FILES {
+        write_file(
+            &mut env,
+            name,
+            log.as_slice().get(..*length).unwrap_or_default(),
+        )?;
         let (records, is_whole) = read_log_file(rt.alloc(), &mut env, name)?;
-        assert_eq!(rt; is_whole, name != "torn", "the {name} log");
-        assert_eq!(rt; records.len(), count, "the {name} log");
-        for (record, wanted) in records.iter().zip([NINE, TWELVE]) {
-            assert_eq!(rt; record.as_slice(), wanted);
-        }
+        let wanted = [NINE, TWELVE].get(..*count).unwrap_or_default();
+        assert!(rt; are_records(&records, wanted), "the {name} log");
+        assert!(rt; is_whole == (*name != "torn"), "the {name} log");
     }
-    match read_log_file(rt.alloc(), &mut env, "missing") {
-        Ok(_) => assert!(rt; false, "a missing file is read"),
-        Err(status) => assert_eq!(rt; status.code, StatusCode::NotFound),
-    }
+    let missing = read_log_file(rt.alloc(), &mut env, "missing");
+    assert!(rt; failed_with(missing, StatusCode::NotFound));
+    Ok(())
+}
+
+/// Asserts that a broken writer writes no record, and says why.
+fn assert_broken(
+    rt: &(impl Abort + AllocGlobal),
+    core: &mut WriterCore,
+    record: &[u8],
+) -> Result<()> {
+    let mut log = Vec::new(rt.alloc());
+    let text = error_text(rt.alloc(), core.add_record(&mut log, record))?;
+    assert!(rt; text.as_str() == "IOError: reopen the store" && log.is_empty());
+    Ok(())
+}
+
+/// A failing sink breaks a writer, whatever its next sink is.
+#[test]
+fn broken_writer_stays_broken(rt: HostRuntime) -> Result<()> {
+    let mut core = WriterCore::new(rt.alloc());
+    let mut failing = Failing(rt.alloc());
+    assert!(rt; core.add_record(&mut failing, b"")? == 0);
+    let answer = core.add_record(&mut failing, b"x");
+    assert!(rt; failed_with(answer, StatusCode::PermissionDenied));
+    assert_broken(&rt, &mut core, b"x")?;
+    assert_broken(&rt, &mut core, b"")?;
+    let mut log = Vec::new(rt.alloc());
+    assert!(rt; core.flush(&mut log).is_err() && log.is_empty());
     Ok(())
 }
 
 #[test]
-fn broken_writer_stays_broken(rt: HostRuntime) -> Result<()> {
+fn failed_flush_breaks_a_writer(rt: HostRuntime) {
     let mut core = WriterCore::new(rt.alloc());
-    let mut refusing = Refusing(rt.alloc());
+    assert!(rt; core.flush(&mut Failing(rt.alloc())).is_err());
     let mut log = Vec::new(rt.alloc());
-    assert_eq!(rt; core.add_record(&mut refusing, b"")?, 0);
-    match core.add_record(&mut refusing, b"x") {
-        Ok(_) => assert!(rt; false, "a refusal is lost"),
-        Err(status) => assert_eq!(rt; status.code, StatusCode::PermissionDenied),
-    }
-    for record in [b"x".as_slice(), b""] {
-        match core.add_record(&mut log, record) {
-            Ok(_) => assert!(rt; false, "a broken writer goes on"),
-            Err(status) => assert_eq!(rt;
-                format!(in rt.alloc(); "{status}")?.as_str(),
-                "IOError: reopen the store"
-            ),
-        }
-    }
-    assert!(rt; core.flush(&mut log).is_err());
-    assert!(rt; log.is_empty());
-    let mut core = WriterCore::new(rt.alloc());
-    assert!(rt; core.flush(&mut refusing).is_err());
     assert!(rt; core.add_record(&mut log, b"x").is_err());
-    Ok(())
 }
 
 #[test]
@@ -336,15 +351,11 @@ fn failed_reader_stays_failed(rt: HostRuntime) -> Result<()> {
     let log = small_log(&rt)?;
     let mut core = ReaderCore::sized(rt.alloc(), true, 17);
     let mut record = Vec::new(rt.alloc());
-    match core.read(&mut Refusing(rt.alloc()), &mut record) {
-        Ok(_) => assert!(rt; false, "a refusal is lost"),
-        Err(status) => assert_eq!(rt; status.code, StatusCode::PermissionDenied),
-    }
+    let answer = core.read(&mut Failing(rt.alloc()), &mut record);
+    assert!(rt; failed_with(answer, StatusCode::PermissionDenied));
     let mut source = log.as_slice();
-    match core.read(&mut source, &mut record) {
-        Ok(_) => assert!(rt; false, "a failed reader goes on"),
-        Err(status) => assert_eq!(rt; status.code, StatusCode::Corruption),
-    }
-    assert_eq!(rt; source.len(), 93);
+    let answer = core.read(&mut source, &mut record);
+    assert!(rt; failed_with(answer, StatusCode::Corruption));
+    assert!(rt; source.len() == 93);
     Ok(())
 }

@@ -1,12 +1,13 @@
-//! What is found of keys at sequence numbers before, at, between and behind their versions, and what refusals leave.
-ghost use Rattle.std.specs.Prelude.{◌≡◌, IfOk, OnErr};
+//! What is found of keys at sequence numbers before, at, between and after their versions, and what failed calls leave.
+ghost use Rattle.std.specs.Prelude.{◌≡◌, ◌<◌, IfOk, OnErr};
 ghost use Rattle.leveldb_base.specs.ViewLaws.{AreUpTo};
 
+use crate::checks::{failed_with, five_changes};
 use leveldb_base::cmp::DefaultCmp;
 use leveldb_base::error::{Result, StatusCode};
 use leveldb_base::key_types::{LookupKey, ValueType};
 use leveldb_base::types::{LdbIterator, MAX_SEQUENCE_NUMBER, SequenceNumber};
-use leveldb_mem::memtable::MemTable;
+use leveldb_mem::memtable::{MemTable, MemtableIterator};
 use leveldb_mem::write_batch::WriteBatch;
 use std::alloc::Global;
 use std::process::Abort;
@@ -23,75 +24,123 @@ fn versions(alloc: Global) -> Result<MemTable<DefaultCmp>>
     Ok(table)
 }
 
+/// A key, a number, and what is found of the key at the number: nothing, a deletion or a value.
+type Newest = (&'static [u8], SequenceNumber, Option<Option<&'static [u8]>>);
+
+const NEWEST: [Newest; 12] = [
+    (b"abc", 0, None),
+    (b"abc", 1, Some(Some(b"123"))),
+    (b"abc", 2, Some(None)),
+    (b"abc", 4, Some(None)),
+    (b"abc", 5, Some(Some(b"xyz"))),
+    (b"abc", 99, Some(Some(b"xyz"))),
+    (b"abd", 2, None),
+    (b"abd", 3, Some(Some(b""))),
+    (b"ab", 99, None),
+    (b"abcd", 99, None),
+    (b"abe", 99, None),
+    (b"", 99, None),
+];
+
+// Asserts what is found of a row's key at its number.
+fn assert_got(
+    rt: &(impl Abort + AllocGlobal),
+    table: &MemTable<DefaultCmp>,
+    row: &Newest,
+) -> Result<()> {
+    let (key, sequence, wanted) = *row;
+    assert!(rt; sequence < 100);
+    let key = LookupKey::new(rt.alloc(), key, sequence)?;
+    assert!(rt; table.get(&key) == wanted, "{row:?}");
+    Ok(())
+}
+
 #[test]
 fn newest_up_to_a_number(rt: HostRuntime) -> Result<()> {
     let table = versions(rt.alloc())?;
-    let rows: [(&[u8], u64, Option<Option<&[u8]>>); 12] = [
-        (b"abc", 0, None),
-        (b"abc", 1, Some(Some(b"123"))),
-        (b"abc", 2, Some(None)),
-        (b"abc", 4, Some(None)),
-        (b"abc", 5, Some(Some(b"xyz"))),
-        (b"abc", 99, Some(Some(b"xyz"))),
-        (b"abd", 2, None),
-        (b"abd", 3, Some(Some(b""))),
-        (b"ab", 99, None),
-        (b"abcd", 99, None),
-        (b"abe", 99, None),
-        (b"", 99, None),
-    ];
-    for (key, sequence, wanted) in rows {
-        assert!(rt; sequence < 100);
-        let key = LookupKey::new(rt.alloc(), key, sequence)?;
-        assert!(rt; table.get(&key) == wanted, "{key:?}");
+    for row in &NEWEST {
+        assert_got(&rt, &table, row)?;
     }
     Ok(())
+}
+
+// How many entries there are, and how many bytes they count as.
+fn sizes(table: &MemTable<DefaultCmp>) -> (usize, usize) {
+    (table.len(), table.approx_mem_usage())
+}
+
+// What the four versions count as.
+const VERSIONS_SIZE: usize = 128 + 4 * 64 + 16 + 16 + 13 + 13;
+
+// Whether a call failed since the entry is there. Out of memory is passed on.
+fn is_present(answer: Result<()>) -> Result<bool> {
+    match answer {
+        Err(status) if status.code == StatusCode::OutOfMemory => Err(status),
+        _ => Ok(failed_with(answer, StatusCode::AlreadyExists)),
+    }
 }
 
 #[test]
-fn refuses_a_present_entry(rt: HostRuntime) -> Result<()> {
+fn present_entry_is_not_added(rt: HostRuntime) -> Result<()> {
     let mut table = versions(rt.alloc())?;
-    let before = table.approx_mem_usage();
-    assert_eq!(rt;
-        (table.len(), before),
-        (4, 128 + 4 * 64 + 16 + 16 + 13 + 13)
-    );
-    match table.add(2, ValueType::TypeValue, b"abc", b"other") {
-        Ok(()) => panic!(rt; "added twice"),
-        Err(status) => {
-            assert_eq!(rt; (table.len(), table.approx_mem_usage()), (4, before));
-            if status.code == StatusCode::OutOfMemory {
-                return Err(status);
-            }
-            assert_eq!(rt; status.code, StatusCode::AlreadyExists);
-        }
-    }
-    let key = LookupKey::new(rt.alloc(), b"abc", 2)?;
-    assert!(rt; table.get(&key) == Some(None));
+    assert!(rt; sizes(&table) == (4, VERSIONS_SIZE));
+    let answer = table.add(2, ValueType::TypeValue, b"abc", b"other");
+    assert!(rt; sizes(&table) == (4, VERSIONS_SIZE));
+    assert!(rt; is_present(answer)?);
+    assert!(rt; table.newest(b"abc", 2) == Some(None));
     Ok(())
 }
 
+/// Room for a batch leaves the entries as they are. So does a failed call, which can be made again.
 #[test]
 fn prepares_for_a_batch(rt: HostRuntime) -> Result<()> {
     let mut table = versions(rt.alloc())?;
-    let mut batch = WriteBatch::new(rt.alloc())?;
-    batch.put(b"abe", b"1")?;
-    batch.delete(b"abd")?;
-    table.prepare(&batch)?;
-    assert_eq!(rt; table.len(), 4);
+    let batch = five_changes(rt.alloc())?;
+    let first = table.prepare(&batch);
+    assert!(rt; sizes(&table) == (4, VERSIONS_SIZE));
+    if first.is_err() {
+        table.prepare(&batch)?;
+    }
+    first
+}
+
+// The internal keys of the four versions in their order, by LevelDB's format, and their values.
+const VERSIONS: [(&[u8], &[u8]); 4] = [
+    (b"abc\x01\x05\0\0\0\0\0\0", b"xyz"),
+    (b"abc\0\x02\0\0\0\0\0\0", b""),
+    (b"abc\x01\x01\0\0\0\0\0\0", b"123"),
+    (b"abd\x01\x03\0\0\0\0\0\0", b""),
+];
+
+/// Asserts that an iterator is at this pair, also once it went a step back and sought the key. It leaves it a step back.
+fn assert_step_back(
+    rt: &impl Abort,
+    it: &mut MemtableIterator<'_, DefaultCmp>,
+    pair: &(&[u8], &[u8]),
+) -> Result<()> {
+    assert!(rt; it.current() == Some(*pair));
+    assert!(rt; it.prev()? == (*pair != VERSIONS[0]));
+    it.seek(pair.0)?;
+    assert!(rt; it.current() == Some(*pair));
+    it.prev()?;
     Ok(())
 }
 
-/// A refused call for room leaves the entries as they were, and can be made again.
-#[test]
-fn prepares_again_behind_a_refusal(rt: HostRuntime) -> Result<()> {
-    let mut table = versions(rt.alloc())?;
-    let batch = changes(rt.alloc())?;
-    if let Err(status) = table.prepare(&batch) {
-        assert_eq!(rt; (table.len(), table.approx_mem_usage()), (4, 442));
-        table.prepare(&batch)?;
-        return Err(status);
+/// Asserts that a step goes to each pair in turn.
+fn assert_steps(rt: &impl Abort, it: &mut MemtableIterator<'_, DefaultCmp>) -> Result<()> {
+    for pair in &VERSIONS {
+        assert!(rt; it.advance()?, "{pair:?}");
+        assert!(rt; it.current() == Some(*pair), "{pair:?}");
     }
+    Ok(())
+}
+
+/// Asserts that a step back goes to each pair in turn, from the last on, and then to no position.
+fn assert_steps_back(rt: &impl Abort, it: &mut MemtableIterator<'_, DefaultCmp>) -> Result<()> {
+    for pair in VERSIONS.iter().rev() {
+        assert_step_back(rt, it, pair)?;
+    }
+    assert!(rt; !it.valid());
     Ok(())
 }
 
@@ -99,45 +148,12 @@ fn prepares_again_behind_a_refusal(rt: HostRuntime) -> Result<()> {
 #[test]
 fn walks_over_deletions(rt: HostRuntime) -> Result<()> {
     let table = versions(rt.alloc())?;
-    let rows: [(&[u8], u64, ValueType, &[u8]); 4] = [
-        (b"abc", 5, ValueType::TypeValue, b"xyz"),
-        (b"abc", 2, ValueType::TypeDeletion, b""),
-        (b"abc", 1, ValueType::TypeValue, b"123"),
-        (b"abd", 3, ValueType::TypeValue, b""),
-    ];
     let mut it = table.iter();
-    for (key, sequence, kind, value) in rows {
-        assert!(rt; sequence < 100);
-        let key = LookupKey::new_full(rt.alloc(), key, sequence, kind)?;
-        assert!(rt; it.advance()?);
-        assert_eq!(rt; it.current(), Some((key.internal_key(), value)));
-    }
-    for (key, sequence, kind, value) in rows.into_iter().rev() {
-        assert!(rt; sequence < 100);
-        let key = LookupKey::new_full(rt.alloc(), key, sequence, kind)?;
-        assert_eq!(rt; it.current(), Some((key.internal_key(), value)));
-        let before = it.prev()?;
-        assert_eq!(rt; before, sequence != 5);
-        it.seek(key.internal_key())?;
-        assert_eq!(rt; it.current(), Some((key.internal_key(), value)));
-        it.prev()?;
-    }
-    assert!(rt; !it.valid());
-    Ok(())
+    assert_steps(&rt, &mut it)?;
+    assert_steps_back(&rt, &mut it)
 }
 
-/// Three puts and two deletions.
-fn changes(alloc: Global) -> Result<WriteBatch> {
-    let mut batch = WriteBatch::new(alloc)?;
-    batch.put(b"abc", b"def")?;
-    batch.put(b"123", b"456")?;
-    batch.put(b"xxx", b"yyy")?;
-    batch.delete(b"zzz")?;
-    batch.delete(b"010")?;
-    Ok(batch)
-}
-
-/// Puts a batch behind entries that are at most at 9.
+/// Puts a batch after entries that are at most at 9.
 fn insert_at_ten(batch: &WriteBatch, table: &mut MemTable<DefaultCmp>) -> Result<()>
     requires { AreUpTo 9 table.old.kept.entries }
     ensures { OnErr result (table.new.kept.entries ≡ table.old.kept.entries) }
@@ -145,76 +161,91 @@ fn insert_at_ten(batch: &WriteBatch, table: &mut MemTable<DefaultCmp>) -> Result
     batch.insert_into_memtable(10, table)
 }
 
-/// What is there of the changes behind the versions.
-fn check_changes(rt: &impl Abort, table: &MemTable<DefaultCmp>) {
-    assert_eq!(rt;
-        (table.len(), table.approx_mem_usage()),
-        (9, 442 + 5 * 64 + 3 * 16 + 2 * 13)
-    );
-    let rows: [(&[u8], u64, Option<Option<&[u8]>>); 14] = [
-        (b"abc", 2, Some(None)),
-        (b"abc", 9, Some(Some(b"xyz"))),
-        (b"abc", 10, Some(Some(b"def"))),
-        (b"abc", 99, Some(Some(b"def"))),
-        (b"123", 10, None),
-        (b"123", 11, Some(Some(b"456"))),
-        (b"xxx", 11, None),
-        (b"xxx", 12, Some(Some(b"yyy"))),
-        (b"zzz", 12, None),
-        (b"zzz", 13, Some(None)),
-        (b"010", 13, None),
-        (b"010", 14, Some(None)),
-        (b"abd", 99, Some(Some(b""))),
-        (b"ab", 99, None),
-    ];
+const NEWEST_OF_CHANGES: [Newest; 14] = [
+    (b"abc", 2, Some(None)),
+    (b"abc", 9, Some(Some(b"xyz"))),
+    (b"abc", 10, Some(Some(b"def"))),
+    (b"abc", 99, Some(Some(b"def"))),
+    (b"123", 10, None),
+    (b"123", 11, Some(Some(b"456"))),
+    (b"xxx", 11, None),
+    (b"xxx", 12, Some(Some(b"yyy"))),
+    (b"zzz", 12, None),
+    (b"zzz", 13, Some(None)),
+    (b"010", 13, None),
+    (b"010", 14, Some(None)),
+    (b"abd", 99, Some(Some(b""))),
+    (b"ab", 99, None),
+];
+
+fn assert_newest(rt: &impl Abort, table: &MemTable<DefaultCmp>, rows: &[Newest]) {
     for (key, sequence, wanted) in rows {
-        assert!(rt; sequence < 100);
-        assert!(rt;
-            table.newest(key, sequence) == wanted,
-            "{key:?} at {sequence}"
-        );
+        assert!(rt; *sequence < 100);
+        let found = table.newest(key, *sequence);
+        assert!(rt; found == *wanted, "{key:?} at {sequence}");
     }
 }
 
-/// A batch comes whole, and a refused one not at all.
-#[test]
-fn takes_a_batch_whole(rt: HostRuntime) -> Result<()> {
-    let mut table = versions(rt.alloc())?;
-    let batch = changes(rt.alloc())?;
-    if let Err(status) = insert_at_ten(&batch, &mut table) {
-        assert_eq!(rt; (table.len(), table.approx_mem_usage()), (4, 442));
-        assert!(rt; table.newest(b"abc", 99) == Some(Some(b"xyz")));
-        assert!(rt; table.newest(b"123", 99).is_none());
-        insert_at_ten(&batch, &mut table)?;
-        check_changes(&rt, &table);
+/// Asserts what is there of the five changes after the versions.
+fn assert_changes(rt: &impl Abort, table: &MemTable<DefaultCmp>) {
+    assert!(rt; sizes(table) == (9, VERSIONS_SIZE + 5 * 64 + 3 * 16 + 2 * 13));
+    assert_newest(rt, table, &NEWEST_OF_CHANGES);
+}
+
+/// What is found where none of the five changes came.
+const NEWEST_BEFORE: [Newest; 2] = [(b"abc", 99, Some(Some(b"xyz"))), (b"123", 99, None)];
+
+/// Puts the five changes after the versions: all of them, and where the call fails none, so that it can be made again.
+fn insert_changes(
+    rt: &impl Abort,
+    batch: &WriteBatch,
+    table: &mut MemTable<DefaultCmp>,
+) -> Result<()>
+    requires { AreUpTo 9 table.old.kept.entries }
+{
+    if let Err(status) = insert_at_ten(batch, table) {
+        assert!(rt; sizes(table) == (4, VERSIONS_SIZE));
+        assert_newest(rt, table, &NEWEST_BEFORE);
+        insert_at_ten(batch, table)?;
+        assert_changes(rt, table);
         return Err(status);
     }
-    check_changes(&rt, &table);
+    assert_changes(rt, table);
     Ok(())
 }
 
-/// A memtable with this batch alone, placed at a number, and what the call answered.
+#[test]
+fn takes_a_batch_whole(rt: HostRuntime) -> Result<()> {
+    let mut table = versions(rt.alloc())?;
+    let batch = five_changes(rt.alloc())?;
+    insert_changes(&rt, &batch, &mut table)
+}
+
+/// A memtable with the five changes alone, placed at a number, and what the call returned.
 fn placed_at(alloc: Global, first: SequenceNumber) -> Result<(MemTable<DefaultCmp>, Result<()>)> {
-    let batch = changes(alloc)?;
+    let batch = five_changes(alloc)?;
     let mut table = MemTable::new(alloc, DefaultCmp);
     let answer = batch.insert_into_memtable(first, &mut table);
     Ok((table, answer))
 }
 
-/// The greatest number is given out, and none behind it.
+/// The greatest number is given out.
 #[test]
-fn numbers_run_out(rt: HostRuntime) -> Result<()> {
+fn greatest_number(rt: HostRuntime) -> Result<()> {
     let (table, answer) = placed_at(rt.alloc(), MAX_SEQUENCE_NUMBER - 4)?;
     answer?;
-    assert_eq!(rt; table.len(), 5);
+    assert!(rt; table.len() == 5);
     assert!(rt; table.newest(b"010", MAX_SEQUENCE_NUMBER) == Some(None));
+    Ok(())
+}
+
+/// No number is given out after the greatest.
+#[test]
+fn numbers_run_out(rt: HostRuntime) -> Result<()> {
     for first in [MAX_SEQUENCE_NUMBER - 3, MAX_SEQUENCE_NUMBER + 1, u64::MAX] {
         let (table, answer) = placed_at(rt.alloc(), first)?;
-        match answer {
-            Ok(()) => panic!(rt; "{first}"),
-            Err(status) => assert_eq!(rt; status.code, StatusCode::NotSupported),
-        }
-        assert_eq!(rt; (table.len(), table.approx_mem_usage()), (0, 128));
+        assert!(rt; failed_with(answer, StatusCode::NotSupported), "{first}");
+        assert!(rt; sizes(&table) == (0, 128), "{first}");
     }
     Ok(())
 }
@@ -264,7 +295,7 @@ const KEYS: [&[u8]; 9] = [
     b"\xff\xff",
 ];
 
-fn check_rows(rt: &impl Abort, table: &MemTable<DefaultCmp>, rows: &[Row]) {
+fn assert_rows(rt: &impl Abort, table: &MemTable<DefaultCmp>, rows: &[Row]) {
     for key in KEYS {
         for sequence in 0..42 {
             assert!(rt;
@@ -283,36 +314,36 @@ fn type_and_bytes(value: Option<&[u8]>) -> (ValueType, &[u8]) {
     }
 }
 
+fn add(rt: &impl Abort, table: &mut MemTable<DefaultCmp>, row: &Row) -> Result<()> {
+    let (sequence, key, value) = *row;
+    let (kind, bytes) = type_and_bytes(value);
+    assert!(rt; sequence < 100);
+    table.add(sequence, kind, key, bytes)
+}
+
+/// Adds the last of these rows to the others. A failed call leaves the others as they were, and can be made again.
+fn add_last(rt: &impl Abort, table: &mut MemTable<DefaultCmp>, rows: &[Row]) -> Result<()> {
+    let Some((row, others)) = rows.split_last() else {
+        return Ok(());
+    };
+    let before = sizes(table);
+    let first = add(rt, table, row);
+    if first.is_err() {
+        assert!(rt; sizes(table) == before);
+        assert_rows(rt, table, others);
+        add(rt, table, row)?;
+    }
+    assert_rows(rt, table, rows);
+    first
+}
+
+/// Each row is found as soon as it is added, and those before it stay.
 #[test]
 fn older_ones_come_later(rt: HostRuntime) -> Result<()> {
     let mut table = MemTable::new(rt.alloc(), DefaultCmp);
-    check_rows(&rt, &table, &[]);
-    for (count, row) in ROWS.iter().enumerate() {
-        let (sequence, key, value) = *row;
-        let (kind, bytes) = type_and_bytes(value);
-        assert!(rt; sequence < 100);
-        table.add(sequence, kind, key, bytes)?;
-        check_rows(&rt, &table, &ROWS[..=count]);
-    }
-    Ok(())
-}
-
-/// A refused entry leaves the others as they were, and can be put again.
-#[test]
-fn adds_again_behind_a_refusal(rt: HostRuntime) -> Result<()> {
-    let mut table = MemTable::new(rt.alloc(), DefaultCmp);
-    for (count, row) in ROWS.iter().enumerate() {
-        let (sequence, key, value) = *row;
-        let (kind, bytes) = type_and_bytes(value);
-        assert!(rt; sequence < 100);
-        let before = (table.len(), table.approx_mem_usage());
-        if let Err(status) = table.add(sequence, kind, key, bytes) {
-            assert_eq!(rt; (table.len(), table.approx_mem_usage()), before);
-            check_rows(&rt, &table, &ROWS[..count]);
-            table.add(sequence, kind, key, bytes)?;
-            check_rows(&rt, &table, &ROWS[..=count]);
-            return Err(status);
-        }
+    assert_rows(&rt, &table, &[]);
+    for count in 0..12 {
+        add_last(&rt, &mut table, &ROWS[..=count])?;
     }
     Ok(())
 }

@@ -1,10 +1,12 @@
-//! The keys aba to abz, put out of order: what is there, walks with a turn at each place, seeks, and refusals.
+//! The keys aba to abz, put out of order: what is there, walks with a turn at each position, seeks, and failed insertions.
+use crate::checks::failed_with;
 use leveldb_base::cmp::{Cmp, DefaultCmp};
 use leveldb_base::error::{Result, StatusCode};
 use leveldb_base::key_types::{ValueType, build_memtable_key};
 use leveldb_base::types::LdbIterator;
 use leveldb_mem::skipmap::{SkipMap, SkipMapIter};
 use std::alloc::Global;
+use std::process::Abort;
 
 // Seven has no divisor in common with 26, so that each letter comes once.
 fn letters(alloc: Global) -> Result<SkipMap<DefaultCmp>> {
@@ -15,113 +17,147 @@ fn letters(alloc: Global) -> Result<SkipMap<DefaultCmp>> {
     Ok(map)
 }
 
-// The last letter of the key on which a walk stands.
+// The last letter of the key at which an iterator is.
 fn letter<C: Cmp>(it: &SkipMapIter<'_, C>) -> Option<u8> {
     it.current()?.0.last().copied()
 }
 
-fn refused_with(answer: Result<()>, code: StatusCode) -> bool {
-    match answer {
-        Ok(()) => false,
-        Err(status) => status.code == code,
-    }
+/// Whether a key of the map begins with these bytes.
+const PREFIXES: [(&str, bool); 8] = [
+    ("", true),
+    ("ab", true),
+    ("aba", true),
+    ("abz", true),
+    ("ab{", false),
+    ("abaa", false),
+    ("ac", false),
+    ("b", false),
+];
+
+#[test]
+fn empty(rt: HostRuntime) {
+    let none = SkipMap::new(rt.alloc(), DefaultCmp);
+    assert!(rt; (none.len(), none.is_empty(), none.approx_memory()) == (0, true, 128));
+    assert!(rt; !none.contains(b""));
 }
 
 #[test]
 fn counts_and_finds(rt: HostRuntime) -> Result<()> {
-    let none = SkipMap::new(rt.alloc(), DefaultCmp);
-    assert_eq!(rt;
-        (none.len(), none.is_empty(), none.approx_memory()),
-        (0, true, 128)
-    );
-    assert!(rt; !none.contains(b""));
     let map = letters(rt.alloc())?;
-    assert_eq!(rt;
-        (map.len(), map.is_empty(), map.approx_memory()),
-        (26, false, 1948)
-    );
-    for key in ["", "ab", "aba", "abz"] {
-        assert!(rt; map.contains(key.as_bytes()), "{key}");
-    }
-    for key in ["ab{", "abaa", "ac", "b"] {
-        assert!(rt; !map.contains(key.as_bytes()), "{key}");
+    assert!(rt; (map.len(), map.is_empty(), map.approx_memory()) == (26, false, 1948));
+    for (prefix, is_there) in &PREFIXES {
+        assert!(rt; map.contains(prefix.as_bytes()) == *is_there, "{prefix}");
     }
     Ok(())
 }
 
 #[test]
-fn refuses_present_and_empty_keys(rt: HostRuntime) -> Result<()> {
+fn present_and_empty_keys_are_not_inserted(rt: HostRuntime) -> Result<()> {
     let mut map = letters(rt.alloc())?;
-    assert!(rt; refused_with(map.insert(b"abc", b"other"), StatusCode::AlreadyExists));
-    assert!(rt; refused_with(map.insert(b"", b"def"), StatusCode::InvalidArgument));
-    assert_eq!(rt; (map.len(), map.approx_memory()), (26, 1948));
+    assert!(rt; failed_with(map.insert(b"abc", b"other"), StatusCode::AlreadyExists));
+    assert!(rt; failed_with(map.insert(b"", b"def"), StatusCode::InvalidArgument));
+    assert!(rt; (map.len(), map.approx_memory()) == (26, 1948));
     let mut it = map.iter();
     it.seek(b"abc")?;
-    assert_eq!(rt; it.current(), Some((b"abc".as_slice(), b"def".as_slice())));
+    assert!(rt; it.current() == Some((b"abc".as_slice(), b"def".as_slice())));
     Ok(())
 }
 
-/// A refused insertion leaves the map as it was, and can be made again.
+/// A failed insertion leaves the map as it was, and can be made again.
+fn insert_twice(rt: &impl Abort, map: &mut SkipMap<DefaultCmp>, key: &[u8; 3]) -> Result<()> {
+    let before = (map.len(), map.approx_memory());
+    let first = map.insert(key, b"def");
+    if first.is_err() {
+        assert!(rt; (map.len(), map.approx_memory()) == before && !map.contains(key));
+        map.insert(key, b"def")?;
+        assert!(rt; map.contains(key));
+    }
+    first
+}
+
 #[test]
-fn inserts_again_behind_a_refusal(rt: HostRuntime) -> Result<()> {
+fn inserts_again_after_a_failure(rt: HostRuntime) -> Result<()> {
     let mut map = SkipMap::new(rt.alloc(), DefaultCmp);
     for i in 0..26u8 {
-        let key = [b'a', b'b', b'a' + 7 * i % 26];
-        let before = (map.len(), map.approx_memory());
-        if let Err(status) = map.insert(&key, b"def") {
-            assert_eq!(rt; (map.len(), map.approx_memory()), before);
-            assert!(rt; !map.contains(&key));
-            map.insert(&key, b"def")?;
-            assert!(rt; map.contains(&key));
-            return Err(status);
-        }
+        insert_twice(&rt, &mut map, &[b'a', b'b', b'a' + 7 * i % 26])?;
     }
     Ok(())
 }
 
+// Moves to the key that is `count` keys after the first.
+fn go_to<C: Cmp>(it: &mut SkipMapIter<'_, C>, count: u8) -> Result<()> {
+    it.seek_to_first()?;
+    for _ in 0..count {
+        it.advance()?;
+    }
+    Ok(())
+}
+
+/// The letters at a key, a step before it and a step after that, and what the two steps returned.
+fn turn_at<C: Cmp>(it: &mut SkipMapIter<'_, C>, count: u8) -> Result<([Option<u8>; 3], [bool; 2])> {
+    go_to(it, count)?;
+    let here = letter(it);
+    let is_before = it.prev()?;
+    let before = letter(it);
+    let is_after = it.advance()?;
+    Ok(([here, before, letter(it)], [is_before, is_after]))
+}
+
 #[test]
-fn turns_at_every_place(rt: HostRuntime) -> Result<()> {
+fn turns_at_every_position(rt: HostRuntime) -> Result<()> {
+    let map = letters(rt.alloc())?;
+    let mut it = map.iter();
+    for n in 0..26u8 {
+        let here = Some(b'a' + n);
+        let before = if n > 0 { Some(b'a' + n - 1) } else { None };
+        assert!(rt;
+            turn_at(&mut it, n)? == ([here, before, here], [n > 0, true]),
+            "at {n}"
+        );
+    }
+    Ok(())
+}
+
+/// What a step returns, whether there is a position then, and the letter there.
+fn step<C: Cmp>(it: &mut SkipMapIter<'_, C>) -> Result<(bool, bool, Option<u8>)> {
+    let is_there = it.advance()?;
+    Ok((is_there, it.valid(), letter(it)))
+}
+
+/// There is no position before the first key and after the last. From there a step goes to the first.
+#[test]
+fn no_position_at_both_ends(rt: HostRuntime) -> Result<()> {
     let map = letters(rt.alloc())?;
     let mut it = map.iter();
     assert!(rt; !it.valid() && !it.prev()?);
-    for n in 0..26u8 {
-        it.seek_to_first()?;
-        for _ in 0..n {
-            it.advance()?;
-        }
-        assert_eq!(rt; letter(&it), Some(b'a' + n));
-        let before = if n > 0 { Some(b'a' + n - 1) } else { None };
-        assert_eq!(rt; it.prev()?, n > 0);
-        assert_eq!(rt; letter(&it), before);
-        assert!(rt; it.advance()?);
-        assert_eq!(rt; letter(&it), Some(if n > 0 { b'a' + n } else { b'a' }));
-    }
     it.seek(b"abz")?;
-    assert!(rt; !it.advance()? && !it.valid());
-    assert!(rt; it.advance()?);
-    assert_eq!(rt; letter(&it), Some(b'a'));
+    assert!(rt; step(&mut it)? == (false, false, None));
+    assert!(rt; step(&mut it)? == (true, true, Some(b'a')));
     it.reset();
-    assert_eq!(rt; it.current(), None);
+    assert!(rt; it.current().is_none());
     Ok(())
 }
+
+/// Keys, and the letter of the first key at or after each.
+const SEEKS: [(&str, Option<u8>); 9] = [
+    ("", Some(b'a')),
+    ("aa", Some(b'a')),
+    ("aba", Some(b'a')),
+    ("aba\0", Some(b'b')),
+    ("abm", Some(b'm')),
+    ("abm~", Some(b'n')),
+    ("abz", Some(b'z')),
+    ("abz\0", None),
+    ("b", None),
+];
 
 #[test]
 fn seeks_at_and_between_keys(rt: HostRuntime) -> Result<()> {
     let map = letters(rt.alloc())?;
     let mut it = map.iter();
-    for (key, wanted) in [
-        ("", Some(b'a')),
-        ("aa", Some(b'a')),
-        ("aba", Some(b'a')),
-        ("aba\0", Some(b'b')),
-        ("abm", Some(b'm')),
-        ("abm~", Some(b'n')),
-        ("abz", Some(b'z')),
-        ("abz\0", None),
-        ("b", None),
-    ] {
+    for (key, wanted) in &SEEKS {
         it.seek(key.as_bytes())?;
-        assert_eq!(rt; letter(&it), wanted, "at {key}");
+        assert!(rt; letter(&it) == *wanted, "at {key}");
     }
     Ok(())
 }
