@@ -33,16 +33,19 @@ fn sample() -> [u8; 100] {
 // The first two are iSCSI's examples, and the third is what catalogues of checksums give.
 #[test]
 fn known_sums(rt: HostRuntime) {
-    assert_eq!(rt; crc32(&[0; 32]), 0x8a91_36aa);
-    assert_eq!(rt; crc32(&[0xff; 32]), 0x62a8_ab43);
-    assert_eq!(rt; crc32(b"123456789"), 0xe306_9283);
-    assert_eq!(rt; crc32(b""), 0);
+    let sums = [
+        crc32(&[0; 32]),
+        crc32(&[0xff; 32]),
+        crc32(b"123456789"),
+        crc32(b""),
+    ];
+    assert!(rt; sums == [0x8a91_36aa, 0x62a8_ab43, 0xe306_9283, 0]);
 }
 
 #[test]
 fn masks(rt: HostRuntime) {
-    assert_eq!(rt; mask_crc(0xe306_9283), 0xc78a_b0e5);
-    assert_eq!(rt; unmask_crc(0xc78a_b0e5), 0xe306_9283);
+    assert!(rt; mask_crc(0xe306_9283) == 0xc78a_b0e5);
+    assert!(rt; unmask_crc(0xc78a_b0e5) == 0xe306_9283);
 }
 
 #[test]
@@ -53,18 +56,15 @@ fn every_cut_gives_the_sum_of_the_whole(rt: HostRuntime) {
         let mut digest = digest();
         digest.update(&text[..cut]);
         digest.update(&text[cut..]);
-        assert_eq!(rt; digest.finalize(), whole, "cut at {cut}");
+        assert!(rt; digest.finalize() == whole, "cut at {cut}");
     }
 }
 
 #[test]
 fn every_length_agrees_with_the_bits(rt: HostRuntime) {
     let text = sample();
-    for len in 0..41 {
-        assert_eq!(rt;
-            crc32(&text[..len]),
-            slow_crc32(&text[..len]),
-            "length {len}"
-        );
+    for length in 0..41 {
+        let cut = &text[..length];
+        assert!(rt; crc32(cut) == slow_crc32(cut), "length {length}");
     }
 }

@@ -3,45 +3,47 @@ use leveldb_base::cmp::{Cmp, DefaultCmp};
 use std::cmp::Ordering;
 use std::test::Fail;
 
-// The expected separators and successors are those of docs/FORMATS.md, worked by hand.
+// Two keys, and the separator between them: those of docs/FORMATS.md, worked by hand.
+const SEPARATORS: [(&[u8], &[u8], &[u8]); 10] = [
+    (b"abc", b"abc\0", b"abc"),
+    (b"yyy", b"z", b"yyz"),
+    (b"abcd", b"abcf", b"abce"),
+    (b"abc", b"acd", b"abd"),
+    (b"abcdefghi", b"abcffghi", b"abce"),
+    (b"a", b"b", b"a\0"),
+    (b"abc", b"zzz", b"b"),
+    (b"", b"\0", b""),
+    (b"\xff\xff", b"\xff\xff\x01", b"\xff\xff\0"),
+    (b"abc", b"abc", b"abc"),
+];
+
 #[test]
 fn separators(rt: HostRuntime) -> Result<(), Fail> {
-    let cases: [(&[u8], &[u8], &[u8]); 10] = [
-        (b"abc", b"abc\0", b"abc"),
-        (b"yyy", b"z", b"yyz"),
-        (b"abcd", b"abcf", b"abce"),
-        (b"abc", b"acd", b"abd"),
-        (b"abcdefghi", b"abcffghi", b"abce"),
-        (b"a", b"b", b"a\0"),
-        (b"abc", b"zzz", b"b"),
-        (b"", b"\0", b""),
-        (b"\xff\xff", b"\xff\xff\x01", b"\xff\xff\0"),
-        (b"abc", b"abc", b"abc"),
-    ];
-    for (from, to, wanted) in cases {
-        let sep = DefaultCmp.find_shortest_sep(rt.alloc(), from, to)?;
-        assert!(rt; sep.as_slice() == wanted, "{from:?} {to:?}: {sep:?}");
+    for (from, to, wanted) in &SEPARATORS {
+        let found = DefaultCmp.find_shortest_sep(rt.alloc(), from, to)?;
+        assert!(rt; found.as_slice() == *wanted, "{from:?} {to:?}: {found:?}");
     }
     Ok(())
 }
+
+const SUCCESSORS: [(&[u8], &[u8]); 5] = [
+    (b"\xff\xff\xff", b"\xff\xff\xff\xff"),
+    (b"abcd", b"b"),
+    (b"zzzz", b"{"),
+    (b"", b"\xff"),
+    (b"\xff\x01\x02", b"\xff\x02"),
+];
 
 #[test]
 fn successors(rt: HostRuntime) -> Result<(), Fail> {
-    let cases: [(&[u8], &[u8]); 5] = [
-        (b"\xff\xff\xff", b"\xff\xff\xff\xff"),
-        (b"abcd", b"b"),
-        (b"zzzz", b"{"),
-        (b"", b"\xff"),
-        (b"\xff\x01\x02", b"\xff\x02"),
-    ];
-    for (key, wanted) in cases {
-        let succ = DefaultCmp.find_short_succ(rt.alloc(), key)?;
-        assert!(rt; succ.as_slice() == wanted, "{key:?}: {succ:?}");
+    for (key, wanted) in &SUCCESSORS {
+        let found = DefaultCmp.find_short_succ(rt.alloc(), key)?;
+        assert!(rt; found.as_slice() == *wanted, "{key:?}: {found:?}");
     }
     Ok(())
 }
 
-// What a comparator answers through its bound.
+// What a comparator returns through its bound.
 fn order_and_name<C: Cmp + Copy>(cmp: C, a: &[u8], b: &[u8]) -> (Ordering, bool, &'static str) {
     (cmp.cmp(a, b), cmp.accepts(a), cmp.id())
 }
@@ -49,9 +51,12 @@ fn order_and_name<C: Cmp + Copy>(cmp: C, a: &[u8], b: &[u8]) -> (Ordering, bool,
 #[test]
 fn order(rt: HostRuntime) {
     let name = "leveldb.BytewiseComparator";
-    let wanted = (Ordering::Less, true, name);
-    assert!(rt; order_and_name(&DefaultCmp, b"ab", b"ab\0") == wanted);
-    assert!(rt; order_and_name(DefaultCmp, b"a\xff", b"b") == wanted);
-    assert!(rt; order_and_name(&DefaultCmp, b"", b"") == (Ordering::Equal, true, name));
+    let found = [
+        order_and_name(&DefaultCmp, b"ab", b"ab\0"),
+        order_and_name(DefaultCmp, b"a\xff", b"b"),
+        order_and_name(&DefaultCmp, b"", b""),
+    ];
+    let less = (Ordering::Less, true, name);
+    assert!(rt; found == [less, less, (Ordering::Equal, true, name)]);
     assert!(rt; DefaultCmp.cmp(b"b", b"a\xff") == Ordering::Greater);
 }

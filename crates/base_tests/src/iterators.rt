@@ -10,7 +10,6 @@ use leveldb_base::types::{
     Direction, LdbIterator, MAX_SEQUENCE_NUMBER, NUM_LEVELS, current_key_val,
 };
 use std::alloc::Global;
-use std::test::Fail;
 
 /// A walk over a sorted list in memory.
 #[derive(Drop)]
@@ -232,115 +231,143 @@ fn walk(alloc: Global) -> Result<Either<Listed, Broken>> {
     Ok(Either::Left(Listed { pairs, at: None }))
 }
 
-/// Makes a move for each letter: advance, prev, the first pair, next, reset.
+/// Makes the move of a letter: advance, prev, the first pair, next, reset.
+fn go_once<I: LdbIterator>(alloc: Global, it: &mut I, letter: u8) -> Result<()> {
+    match letter {
+        b'a' => drop(it.advance()?),
+        b'p' => drop(it.prev()?),
+        b'f' => it.seek_to_first()?,
+        b'n' => drop(it.next(alloc)?),
+        _ => it.reset(),
+    }
+    Ok(())
+}
+
 fn go<I: LdbIterator>(alloc: Global, it: &mut I, moves: &str) -> Result<()> {
     for letter in moves.bytes() {
-        match letter {
-            b'a' => drop(it.advance()?),
-            b'p' => drop(it.prev()?),
-            b'f' => it.seek_to_first()?,
-            b'n' => drop(it.next(alloc)?),
-            _ => it.reset(),
-        }
+        go_once(alloc, it, letter)?;
     }
     Ok(())
 }
 
+// Whether an iterator is at the pair with this index, or at none.
+fn is_at<I: LdbIterator>(it: &I, index: Option<usize>) -> bool {
+    it.current() == pair(index) && it.valid() == index.is_some()
+}
+
+/// Moves, and the index of the pair after them.
+const TURNS: [(&str, Option<usize>); 25] = [
+    ("", None),
+    ("a", Some(0)),
+    ("aa", Some(1)),
+    ("aaa", Some(2)),
+    ("aaaa", None),
+    ("aaaaa", Some(0)),
+    ("p", None),
+    ("pa", Some(0)),
+    ("ap", None),
+    ("apa", Some(0)),
+    ("aap", Some(0)),
+    ("aapa", Some(1)),
+    ("aaap", Some(1)),
+    ("aaapa", Some(2)),
+    ("aaapp", Some(0)),
+    ("aaappp", None),
+    ("aaaap", None),
+    ("f", Some(0)),
+    ("aaf", Some(0)),
+    ("fp", None),
+    ("n", Some(0)),
+    ("nnn", Some(2)),
+    ("nnnn", None),
+    ("aar", None),
+    ("aara", Some(0)),
+];
+
 #[test]
-fn turns_at_every_place(rt: HostRuntime) -> std::result::Result<(), Fail> {
+fn turns_at_every_position(rt: HostRuntime) -> Result<()> {
     let mut it = walk(rt.alloc())?;
-    for (moves, place) in [
-        ("", None),
-        ("a", Some(0)),
-        ("aa", Some(1)),
-        ("aaa", Some(2)),
-        ("aaaa", None),
-        ("aaaaa", Some(0)),
-        ("p", None),
-        ("pa", Some(0)),
-        ("ap", None),
-        ("apa", Some(0)),
-        ("aap", Some(0)),
-        ("aapa", Some(1)),
-        ("aaap", Some(1)),
-        ("aaapa", Some(2)),
-        ("aaapp", Some(0)),
-        ("aaappp", None),
-        ("aaaap", None),
-        ("f", Some(0)),
-        ("aaf", Some(0)),
-        ("fp", None),
-        ("n", Some(0)),
-        ("nnn", Some(2)),
-        ("nnnn", None),
-        ("aar", None),
-        ("aara", Some(0)),
-    ] {
+    for (moves, index) in &TURNS {
         it.reset();
         go(rt.alloc(), &mut it, moves)?;
-        assert_eq!(rt; it.current(), pair(place), "after {moves}");
-        assert_eq!(rt; it.valid(), place.is_some(), "after {moves}");
+        assert!(rt; is_at(&it, *index), "after {moves}");
     }
     Ok(())
 }
 
+/// Keys, and the index of the first pair at or after each.
+const SEEKS: [(&str, Option<usize>); 10] = [
+    ("", Some(0)),
+    ("A", Some(0)),
+    ("a", Some(0)),
+    ("a\0", Some(1)),
+    ("ab", Some(1)),
+    ("ab\0", Some(2)),
+    ("b", Some(2)),
+    ("c", Some(2)),
+    ("c\0", None),
+    ("d", None),
+];
+
 #[test]
-fn seeks_at_and_between_all_keys(rt: HostRuntime) -> std::result::Result<(), Fail> {
+fn seeks_at_and_between_all_keys(rt: HostRuntime) -> Result<()> {
     let mut it = walk(rt.alloc())?;
-    for (key, place) in [
-        ("", Some(0)),
-        ("A", Some(0)),
-        ("a", Some(0)),
-        ("a\0", Some(1)),
-        ("ab", Some(1)),
-        ("ab\0", Some(2)),
-        ("b", Some(2)),
-        ("c", Some(2)),
-        ("c\0", None),
-        ("d", None),
-    ] {
+    for (key, index) in &SEEKS {
         it.seek(key.as_bytes())?;
-        assert_eq!(rt; it.current(), pair(place), "at {key}");
+        assert!(rt; is_at(&it, *index), "at {key}");
+    }
+    Ok(())
+}
+
+// Whether a copied pair is this one, or there is none of either.
+fn is_copy(copied: &Option<(Vec<u8>, Vec<u8>)>, wanted: Option<(&[u8], &[u8])>) -> bool {
+    match copied {
+        None => wanted.is_none(),
+        Some((key, value)) => wanted == Some((key.as_slice(), value.as_slice())),
+    }
+}
+
+// Whether a step to the next pair gives a copy of the one with this index, and the iterator is then at it.
+fn next_is<I: LdbIterator>(alloc: Global, it: &mut I, index: usize) -> Result<bool> {
+    let next = it.next(alloc)?;
+    let current = current_key_val(alloc, it)?;
+    let wanted = pair(Some(index));
+    Ok(is_copy(&next, wanted) && is_copy(&current, wanted))
+}
+
+#[test]
+fn copies_pairs(rt: HostRuntime) -> Result<()> {
+    let mut it = walk(rt.alloc())?;
+    assert!(rt; current_key_val(rt.alloc(), &it)?.is_none());
+    for index in 0..4 {
+        assert!(rt; next_is(rt.alloc(), &mut it, index)?, "pair {index}");
     }
     Ok(())
 }
 
 #[test]
-fn copies_pairs(rt: HostRuntime) -> std::result::Result<(), Fail> {
+fn counts_what_is_left(rt: HostRuntime) -> Result<()> {
     let mut it = walk(rt.alloc())?;
-    assert_eq!(rt; current_key_val(rt.alloc(), &it)?, None);
-    for (key, value) in PAIRS {
-        let next = Some((key.to_vec(rt.alloc())?, value.to_vec(rt.alloc())?));
-        assert_eq!(rt; it.next(rt.alloc())?, next);
-        assert_eq!(rt; current_key_val(rt.alloc(), &it)?, next);
-    }
-    assert_eq!(rt; it.next(rt.alloc())?, None);
-    Ok(())
-}
-
-#[test]
-fn counts_what_is_left(rt: HostRuntime) -> std::result::Result<(), Fail> {
-    let mut it = walk(rt.alloc())?;
-    for (moves, left) in [("", 3), ("a", 2), ("aaa", 0)] {
+    for (moves, left) in &[("", 3), ("a", 2), ("aaa", 0)] {
         it.reset();
         go(rt.alloc(), &mut it, moves)?;
-        assert_eq!(rt; count_left(&mut it)?, left, "after {moves}");
+        assert!(rt; count_left(&mut it)? == *left, "after {moves}");
     }
     Ok(())
 }
 
 #[test]
-fn a_refused_move_leaves_no_place(rt: HostRuntime) {
+fn a_failed_move_leaves_no_position(rt: HostRuntime) {
     let mut it: Either<Listed, Broken> = Either::Right(Broken);
     for moves in ["a", "p", "f", "n"] {
-        assert!(rt; go(rt.alloc(), &mut it, moves).is_err());
-        assert_eq!(rt; it.current(), None);
+        let answer = go(rt.alloc(), &mut it, moves);
+        assert!(rt; answer.is_err() && it.current().is_none(), "{moves}");
     }
 }
 
 #[test]
 fn numbers(rt: HostRuntime) {
-    assert_eq!(rt; NUM_LEVELS, 7);
-    assert_eq!(rt; MAX_SEQUENCE_NUMBER, 72_057_594_037_927_935);
-    assert_ne!(rt; Direction::Forward, Direction::Reverse);
+    assert!(rt; NUM_LEVELS == 7);
+    assert!(rt; MAX_SEQUENCE_NUMBER == 72_057_594_037_927_935);
+    assert!(rt; Direction::Forward != Direction::Reverse);
 }

@@ -4,6 +4,8 @@
 #[cfg(test)]
 mod block_handles;
 #[cfg(test)]
+mod checks;
+#[cfg(test)]
 mod checksums;
 #[cfg(test)]
 mod comparators;

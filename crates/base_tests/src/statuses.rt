@@ -3,59 +3,79 @@ use leveldb_base::error::{Result, Status, StatusCode, err};
 use std::alloc::{AllocError, Global};
 use std::io;
 
-// What a status prints, or the refusal of its text.
-fn printed(alloc: Global, status: &Status) -> Result<String> {
+// Whether a status prints this text. Where there was no memory for its text, it is out of memory.
+fn prints(alloc: Global, status: &Status, text: &str) -> Result<bool> {
     if status.err.is_none() {
         return Err(AllocError.into());
     }
-    Ok(format!(in alloc; "{status}")?)
+    Ok(format!(in alloc; "{status}")?.as_str() == text)
 }
+
+// A code and a message, and the text of such a status.
+const TEXTS: [(StatusCode, &str, &str); 2] = [
+    (
+        StatusCode::InvalidData,
+        "Invalid data!",
+        "InvalidData: Invalid data!",
+    ),
+    (StatusCode::NotFound, "", "NotFound"),
+];
 
 #[test]
 fn texts(rt: HostRuntime) -> Result<()> {
-    let alloc = rt.alloc();
-    let Err(refused) = err::<()>(alloc, StatusCode::LockError, "held") else {
-        panic!(rt; "no refusal");
-    };
-    let rows = [
-        (
-            Status::new(alloc, StatusCode::InvalidData, "Invalid data!"),
-            "InvalidData: Invalid data!",
-        ),
-        (Status::new(alloc, StatusCode::NotFound, ""), "NotFound"),
-        (
-            Status::new(alloc, StatusCode::Corruption, "cut").annotate(alloc, "block 3"),
-            "block 3: Corruption: cut",
-        ),
-        (Status::default().annotate(alloc, "first"), "first: "),
-        (refused, "LockError: held"),
-    ];
-    for (status, text) in rows {
-        assert_eq!(rt; printed(alloc, &status)?.as_str(), text);
+    for (code, message, text) in &TEXTS {
+        let status = Status::new(rt.alloc(), *code, message);
+        assert!(rt; prints(rt.alloc(), &status, text)?);
     }
     Ok(())
 }
 
 #[test]
-fn no_texts(rt: HostRuntime) {
-    let io = |kind: io::ErrorKind| Status::from(io::Error::from(kind));
-    let rows = [
-        (Status::default(), StatusCode::OK),
-        (Status::from(AllocError), StatusCode::OutOfMemory),
-        (io(io::ErrorKind::NotFound), StatusCode::NotFound),
-        (io(io::ErrorKind::InvalidData), StatusCode::Corruption),
-        (io(io::ErrorKind::InvalidInput), StatusCode::InvalidArgument),
-        (
-            io(io::ErrorKind::PermissionDenied),
-            StatusCode::PermissionDenied,
-        ),
-        (io(io::ErrorKind::AlreadyExists), StatusCode::IOError),
-        (
-            Status::from(io::Error::other("a message")),
-            StatusCode::IOError,
-        ),
-    ];
-    for (status, code) in rows {
-        assert_eq!(rt; status, Status { code, err: None });
+fn text_of_an_error(rt: HostRuntime) -> Result<()> {
+    match err::<()>(rt.alloc(), StatusCode::LockError, "held") {
+        Ok(()) => panic!(rt; "no error"),
+        Err(status) => assert!(rt; prints(rt.alloc(), &status, "LockError: held")?),
     }
+    Ok(())
+}
+
+#[test]
+fn annotated_texts(rt: HostRuntime) -> Result<()> {
+    let status = Status::new(rt.alloc(), StatusCode::Corruption, "cut");
+    let status = status.annotate(rt.alloc(), "block 3");
+    assert!(rt; prints(rt.alloc(), &status, "block 3: Corruption: cut")?);
+    let status = Status::default().annotate(rt.alloc(), "first");
+    assert!(rt; prints(rt.alloc(), &status, "first: ")?);
+    Ok(())
+}
+
+// Kinds of errors of input and output, and the code of each.
+const KINDS: [(io::ErrorKind, StatusCode); 5] = [
+    (io::ErrorKind::NotFound, StatusCode::NotFound),
+    (io::ErrorKind::InvalidData, StatusCode::Corruption),
+    (io::ErrorKind::InvalidInput, StatusCode::InvalidArgument),
+    (
+        io::ErrorKind::PermissionDenied,
+        StatusCode::PermissionDenied,
+    ),
+    (io::ErrorKind::AlreadyExists, StatusCode::IOError),
+];
+
+// A status of this code with no text.
+fn bare(code: StatusCode) -> Status {
+    Status { code, err: None }
+}
+
+#[test]
+fn codes_of_kinds(rt: HostRuntime) {
+    for (kind, code) in &KINDS {
+        assert!(rt; Status::from(io::Error::from(*kind)) == bare(*code));
+    }
+}
+
+#[test]
+fn other_codes(rt: HostRuntime) {
+    assert!(rt; Status::default() == bare(StatusCode::OK));
+    assert!(rt; Status::from(AllocError) == bare(StatusCode::OutOfMemory));
+    assert!(rt; Status::from(io::Error::other("a message")) == bare(StatusCode::IOError));
 }

@@ -10,7 +10,7 @@ parse_memtable_key-requires g c =
     let user : List ℕ = 97 ∷ 98 ∷ 99 ∷ [] in
     let value : List ℕ = 49 ∷ 50 ∷ 51 ∷ [] in
     let parts = HasParts-memtable_key user 231 TypeValue value (omega arith) in
-    (user, Some (tag 231 TypeValue, value), (c.as_slice-5.ensures.value ∙ c.in_ok-entry.ensures.ok ∙ parts.0, parts.1))
+    (user, Some (tag 231 TypeValue, value), (c.as_slice.ensures.value ∙ c.in_ok-entry.ensures.ok ∙ parts.0, parts.1))
 
 pub parse_memtable_key-requires-2 : goal.parse_memtable_key-requires-2
 parse_memtable_key-requires-2 g c = (97 ∷ 98 ∷ 99 ∷ [], None, (ap (λ z. z ++ 97 ∷ 98 ∷ 99 ∷ []) (sym (varint-small 11 (omega arith))), tt))
