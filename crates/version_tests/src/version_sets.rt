@@ -1,4 +1,5 @@
-//! The names that a store gives to its manifests, and texts of `CURRENT`.
+//! The names that a store gives to its manifests, texts of `CURRENT`, and the files that edits leave.
+use crate::checks::failed_with;
 use leveldb_base::error::{Result, StatusCode};
 use leveldb_base::types::{FileMetaData, FileNum};
 use leveldb_version::version_edit::VersionEdit;
@@ -6,63 +7,77 @@ use leveldb_version::version_set::{
     current_file_name, current_text, manifest_file_name, parse_current_text, temp_file_name,
 };
 use std::alloc::Global;
+use std::process::Abort;
+
+/// Numbers, and the names of their manifests and temporary files.
+const NAMES: [(FileNum, &str, &str); 3] = [
+    (0, "db/MANIFEST-000000", "db/000000.dbtmp"),
+    (19, "db/MANIFEST-000019", "db/000019.dbtmp"),
+    (1234567, "db/MANIFEST-1234567", "db/1234567.dbtmp"),
+];
 
 #[test]
 fn made_names(rt: HostRuntime) -> Result<()> {
-    let alloc = rt.alloc();
-    let rows = [
-        (0, "db/MANIFEST-000000", "db/000000.dbtmp"),
-        (19, "db/MANIFEST-000019", "db/000019.dbtmp"),
-        (1234567, "db/MANIFEST-1234567", "db/1234567.dbtmp"),
-    ];
-    for (number, manifest, temp) in rows {
-        assert_eq!(rt; manifest_file_name(alloc, "db", number)?.as_str(), manifest);
-        assert_eq!(rt; temp_file_name(alloc, "db", number)?.as_str(), temp);
+    for (number, manifest, temp) in &NAMES {
+        let name = manifest_file_name(rt.alloc(), "db", *number)?;
+        assert!(rt; name.as_str() == *manifest);
+        let name = temp_file_name(rt.alloc(), "db", *number)?;
+        assert!(rt; name.as_str() == *temp);
     }
-    assert_eq!(rt; current_file_name(alloc, "db")?.as_str(), "db/CURRENT");
     Ok(())
 }
 
-/// A new store's text has 16 bytes. A name with fewer digits is read as it stands.
+#[test]
+fn name_of_current(rt: HostRuntime) -> Result<()> {
+    assert!(rt; current_file_name(rt.alloc(), "db")?.as_str() == "db/CURRENT");
+    Ok(())
+}
+
+/// Asserts that a number is read in its text, after the name of a manifest that a line feed ends.
+fn assert_read_again(rt: &(impl Abort + AllocGlobal), number: FileNum) -> Result<()> {
+    let text = current_text(rt.alloc(), number)?;
+    let (name, read) = parse_current_text(rt.alloc(), text.as_bytes())?;
+    assert!(rt; read == number && name.starts_with("MANIFEST-"));
+    assert!(rt; name.len() + 1 == text.len());
+    Ok(())
+}
+
 #[test]
 fn texts(rt: HostRuntime) -> Result<()> {
-    let alloc = rt.alloc();
     for number in [0, 1, 999_999, 1_000_000, FileNum::MAX] {
-        let text = current_text(alloc, number)?;
-        let (name, read) = parse_current_text(alloc, text.as_bytes())?;
-        assert_eq!(rt; read, number);
-        assert!(rt; name.starts_with("MANIFEST-"));
-        assert_eq!(rt; name.len() + 1, text.len());
+        assert_read_again(&rt, number)?;
     }
-    assert_eq!(rt; current_text(alloc, 1)?.as_str(), "MANIFEST-000001\n");
-    assert_eq!(rt;
-        parse_current_text(alloc, b"MANIFEST-7\n")?,
-        ("MANIFEST-7", 7)
-    );
     Ok(())
 }
 
+/// A new store's text has 16 bytes. A name with fewer digits is read as it is.
 #[test]
-fn refused_texts(rt: HostRuntime) {
-    let rows: [&[u8]; 12] = [
-        b"",
-        b"\n",
-        b"MANIFEST-000001",
-        b"MANIFEST-000001\r\n",
-        b"MANIFEST-000001\n\n",
-        b"MANIFEST-000001 \n",
-        b"\nMANIFEST-000001\n",
-        b"MANIFEST-\n",
-        b"MANIFEST-+1\n",
-        b"000001.log\n",
-        b"CURRENT\n",
-        b"MANIFEST-\xff\n",
-    ];
-    for text in rows {
-        match parse_current_text(rt.alloc(), text) {
-            Ok(found) => panic!(rt; "{text:?} is {found:?}"),
-            Err(status) => assert_eq!(rt; status.code, StatusCode::Corruption, "{text:?}"),
-        }
+fn known_texts(rt: HostRuntime) -> Result<()> {
+    assert!(rt; current_text(rt.alloc(), 1)?.as_str() == "MANIFEST-000001\n");
+    assert!(rt; parse_current_text(rt.alloc(), b"MANIFEST-7\n")? == ("MANIFEST-7", 7));
+    Ok(())
+}
+
+const MALFORMED: [&[u8]; 12] = [
+    b"",
+    b"\n",
+    b"MANIFEST-000001",
+    b"MANIFEST-000001\r\n",
+    b"MANIFEST-000001\n\n",
+    b"MANIFEST-000001 \n",
+    b"\nMANIFEST-000001\n",
+    b"MANIFEST-\n",
+    b"MANIFEST-+1\n",
+    b"000001.log\n",
+    b"CURRENT\n",
+    b"MANIFEST-\xff\n",
+];
+
+#[test]
+fn malformed_texts(rt: HostRuntime) {
+    for text in &MALFORMED {
+        let answer = parse_current_text(rt.alloc(), text);
+        assert!(rt; failed_with(answer, StatusCode::Corruption), "{text:?}");
     }
 }
 
@@ -89,46 +104,72 @@ fn file(number: FileNum, size: usize) -> FileMetaData {
     file
 }
 
-// The first three edits of a store.
-fn three_edits(alloc: Global) -> Result<[VersionEdit; 3]> {
-    let mut first = VersionEdit::new(alloc);
-    first.add_file(0, file(4, 40))?;
-    first.add_file(0, file(5, 50))?;
-    first.add_file(1, file(6, 60))?;
-    first.delete_file(2, 9)?;
-    let mut second = VersionEdit::new(alloc);
-    second.delete_file(0, 4)?;
-    second.delete_file(0, 5)?;
-    second.add_file(0, file(5, 51))?;
-    second.delete_file(1, 6)?;
-    second.add_file(2, file(6, 60))?;
-    let mut third = VersionEdit::new(alloc);
-    third.add_file(0, file(4, 41))?;
-    third.add_file(2, file(9, 90))?;
-    third.add_file(2, file(9, 91))?;
-    Ok([first, second, third])
+/// What an edit does: the level, the number and the size of each file that it adds, and then the level and the number of
+/// each that it deletes.
+type Changes = (
+    &'static [(usize, FileNum, usize)],
+    &'static [(usize, FileNum)],
+);
+
+/// The first three edits of a store.
+const CHANGES: [Changes; 3] = [
+    (&[(0, 4, 40), (0, 5, 50), (1, 6, 60)], &[(2, 9)]),
+    (&[(0, 5, 51), (2, 6, 60)], &[(0, 4), (0, 5), (1, 6)]),
+    (&[(0, 4, 41), (2, 9, 90), (2, 9, 91)], &[]),
+];
+
+fn add_files(edit: &mut VersionEdit, files: &[(usize, FileNum, usize)]) -> Result<()> {
+    for (level, number, size) in files {
+        edit.add_file(*level, file(*number, *size))?;
+    }
+    Ok(())
 }
 
-/// A file that is added, deleted and added again, one that is deleted and added by the same edit, one that moves to
-/// the next level, one that is deleted before it is there, and one that is added twice.
+fn delete_files(edit: &mut VersionEdit, files: &[(usize, FileNum)]) -> Result<()> {
+    for (level, number) in files {
+        edit.delete_file(*level, *number)?;
+    }
+    Ok(())
+}
+
+fn edit_of(alloc: Global, changes: &Changes) -> Result<VersionEdit> {
+    let mut edit = VersionEdit::new(alloc);
+    add_files(&mut edit, changes.0)?;
+    delete_files(&mut edit, changes.1)?;
+    Ok(edit)
+}
+
+fn three_edits(alloc: Global) -> Result<Vec<VersionEdit>> {
+    let mut edits = Vec::new(alloc);
+    for changes in &CHANGES {
+        edits.push(edit_of(alloc, changes)?)?;
+    }
+    Ok(edits)
+}
+
+/// Levels and numbers, and the size of the live file after each of the three edits: of a file that is added, deleted and
+/// added again, one that is deleted and added by the same edit, one that moves to the next level, one that is deleted
+/// before it is there, and one that is added twice.
+const LIVE: [(usize, FileNum, [Option<usize>; 3]); 6] = [
+    (0, 4, [Some(40), None, Some(41)]),
+    (0, 5, [Some(50), Some(51), Some(51)]),
+    (1, 6, [Some(60), None, None]),
+    (2, 6, [None, Some(60), Some(60)]),
+    (2, 9, [None, None, Some(91)]),
+    (1, 4, [None, None, None]),
+];
+
+fn live_after(edits: &[VersionEdit], count: usize, level: usize, number: FileNum) -> Option<usize> {
+    slow_live(edits.get(..count).unwrap_or_default(), level, number)
+}
+
 #[test]
 fn live_files(rt: HostRuntime) -> Result<()> {
     let edits = three_edits(rt.alloc())?;
-    let rows = [
-        (0, 4, [Some(40), None, Some(41)]),
-        (0, 5, [Some(50), Some(51), Some(51)]),
-        (1, 6, [Some(60), None, None]),
-        (2, 6, [None, Some(60), Some(60)]),
-        (2, 9, [None, None, Some(91)]),
-        (1, 4, [None, None, None]),
-    ];
-    for (level, number, sizes) in rows {
-        let found = [
-            slow_live(&edits[..1], level, number),
-            slow_live(&edits[..2], level, number),
-            slow_live(&edits, level, number),
-        ];
-        assert_eq!(rt; found, sizes, "{level} {number}");
+    assert!(rt; edits.len() == 3);
+    for (level, number, sizes) in &LIVE {
+        let found = [1, 2, 3].map(|count| live_after(&edits, count, *level, *number));
+        assert!(rt; found == *sizes, "{level} {number}");
     }
     Ok(())
 }
