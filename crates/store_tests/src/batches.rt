@@ -84,7 +84,11 @@ fn assert_found(
 ) -> Result<()> {
     for (key, wanted) in rows {
         let value = engine.get(key)?;
-        assert!(rt; value.as_deref() == *wanted);
+        let found = match &value {
+            None => None,
+            Some(value) => Some(value.as_slice()),
+        };
+        assert!(rt; found == *wanted);
     }
     Ok(())
 }
