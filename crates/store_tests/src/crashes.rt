@@ -1,6 +1,6 @@
 //! A store in memory after each of a dozen batches, and a crash that leaves each prefix of its log's unsynced bytes, or all of them with
 //! the last byte changed: the map that is found is that of a prefix of the batches with all durable ones, and the store goes on from there.
-use crate::slow::{Item as SlowItem, SlowStore};
+use crate::replies::{bytes_of, is_map, is_same, look_ups};
 use leveldb_base::cmp::DefaultCmp;
 use leveldb_base::error::Result;
 use leveldb_base::history::LentPair;
@@ -9,14 +9,12 @@ use rusty_leveldb::env::whole_files::read_file;
 use rusty_leveldb::mem_env::{MemEnv, Pick};
 use rusty_leveldb::options::Options;
 use rusty_leveldb::shell::{Command, Item, Reply, run};
+use slow_machine::{Item as SlowItem, SlowStore};
 use std::alloc::Global;
 use std::process::Abort;
 use std::test::Fail;
 
 const LOG: &str = "db/000003.log";
-
-/// All keys that are ever written, in order.
-const KEYS: [&str; 6] = ["", "a", "b", "c", "d", "e"];
 
 /// A batch: whether it is synced, and its keys, each with a byte and how often its value has it, or deleted.
 type Batch = (bool, &'static [(&'static str, Option<(u8, usize)>)]);
@@ -36,10 +34,6 @@ const BATCHES: [Batch; 12] = [
     (false, &[("c", Some((b'8', 1))), ("d", None)]),
     (false, &[("e", Some((b'9', 0)))]),
 ];
-
-fn bytes_of(alloc: Global, key: &str) -> Result<Vec<u8>> {
-    Ok(Vec::from_slice(alloc, key.as_bytes())?)
-}
 
 fn value_of(alloc: Global, value: (u8, usize)) -> Result<Vec<u8>> {
     Ok(vec![in alloc; value.0; value.1]?)
@@ -101,31 +95,15 @@ fn allowed(alloc: Global, batches: &[Batch]) -> Result<SlowStore> {
 
 /// What a store replies for each key.
 fn look_up_all(alloc: Global, env: &mut MemEnv) -> Result<Vec<Reply>> {
-    let mut commands = Vec::new(alloc);
-    for key in KEYS {
-        commands.push(Command::Get(bytes_of(alloc, key)?))?;
-    }
     let mut replies = Vec::new(alloc);
-    run(env, "db", Options::default(), &commands, &mut replies)?;
+    run(
+        env,
+        "db",
+        Options::default(),
+        &look_ups(alloc)?,
+        &mut replies,
+    )?;
     Ok(replies)
-}
-
-fn has(map: &[LentPair<'_>], key: &str, reply: &Reply) -> bool {
-    let found = map.iter().find(|pair| pair.0 == key.as_bytes());
-    match (found, reply) {
-        (Some(pair), Reply::Value(value)) => pair.1 == value.as_slice(),
-        (None, Reply::Nothing) => true,
-        _ => false,
-    }
-}
-
-/// Whether the replies are those of this map.
-fn is_map(map: &[LentPair<'_>], replies: &[Reply]) -> bool {
-    replies.len() == KEYS.len()
-        && KEYS
-            .iter()
-            .zip(replies)
-            .all(|(key, reply)| has(map, key, reply))
 }
 
 fn pick(alloc: Global, tail: &[u8]) -> Result<Pick> {
@@ -135,14 +113,6 @@ fn pick(alloc: Global, tail: &[u8]) -> Result<Pick> {
         tails,
         after: false,
     })
-}
-
-fn is_same(before: &Reply, after: &Reply) -> bool {
-    match (before, after) {
-        (Reply::Value(before), Reply::Value(after)) => before == after,
-        (Reply::Nothing, Reply::Nothing) => true,
-        _ => false,
-    }
 }
 
 /// Whether the later replies are the earlier ones, but for the last key, which now has this value.

@@ -1,8 +1,10 @@
-//! The judge of the store's answers, the tests of the store and its program, and those that cross crates.
+//! The tests of the store and its program, and those that cross crates.
 #![tactic(auto)]
 
 #[cfg(test)]
 mod batches;
+#[cfg(test)]
+mod crash_disks;
 #[cfg(test)]
 mod crashes;
 #[cfg(test)]
@@ -10,5 +12,10 @@ mod engines;
 #[cfg(test)]
 mod program;
 #[cfg(test)]
+mod replies;
+#[cfg(test)]
 mod rows;
-pub mod slow;
+#[cfg(test)]
+mod steps;
+#[cfg(test)]
+mod sweeps;

@@ -1,8 +1,8 @@
 //! The slow store at worked rows: which maps an opening, a crash and a snapshot may show.
-use crate::slow::{Found, Item, SlowStore};
 use leveldb_base::cmp::DefaultCmp;
 use leveldb_base::error::Result;
 use leveldb_base::history::LentPair;
+use slow_machine::{Found, Item, SlowStore};
 use std::alloc::Global;
 use std::process::Abort;
 use std::test::Fail;
