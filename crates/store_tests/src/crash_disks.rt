@@ -67,6 +67,13 @@ pub fn find_all(alloc: Global, env: &mut RecordEnv) -> Result<Vec<Reply>> {
     Ok(replies)
 }
 
+fn reply_to_open(opened: Result<()>) -> Reply {
+    match opened {
+        Ok(()) => Reply::Done,
+        Err(status) => Reply::Refused(status),
+    }
+}
+
 /// The calls of a life that began and ended at these moments. Its first reply shows when its opening returned.
 pub fn add_calls(
     calls: &mut Vec<Call>,
@@ -75,20 +82,17 @@ pub fn add_calls(
     end: u64,
     steps: &[Step],
 ) -> Result<()> {
-    let opened = match report.replies.first() {
+    let Report { opened, replies } = report;
+    let returned = match replies.first() {
         Some(first) => start.saturating_add(first.0),
         None => end,
     };
-    let reply = match report.opened {
-        Ok(()) => Reply::Done,
-        Err(status) => Reply::Refused(status),
-    };
     calls.push(Call {
         step: Step::Open,
-        reply,
-        moment: opened,
+        reply: reply_to_open(opened),
+        moment: returned,
     })?;
-    for (step, (moment, reply)) in steps.iter().zip(report.replies) {
+    for (step, (moment, reply)) in steps.iter().zip(replies) {
         let moment = start.saturating_add(moment);
         calls.push(Call {
             step: *step,
