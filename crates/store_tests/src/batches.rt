@@ -1,4 +1,4 @@
-//! Batches that come one after another: what is found behind them, and the numbers that stand in the log.
+//! Batches one after another: what is then found, and the numbers in the log.
 use leveldb_base::cmp::DefaultCmp;
 use leveldb_base::error::{Result, StatusCode};
 use leveldb_base::key_types::ValueType;
@@ -18,7 +18,7 @@ const LOG: &str = "db/000003.log";
 
 type Change = (&'static [u8], Option<&'static [u8]>);
 
-/// The changes of a batch, what a store answers that is given it, and for some keys the value that is then found, or none.
+/// The changes of a batch, the code that its write returns, and for some keys the value that is then found, or none.
 type Step = (&'static [Change], StatusCode, &'static [Change]);
 
 /// Later changes win over earlier ones, of the same batch too; an empty batch changes nothing.
@@ -37,7 +37,7 @@ const WINS: [Step; 4] = [
     (&[], StatusCode::OK, &[(b"k", None), (b"z", Some(b"3"))]),
 ];
 
-/// Behind k with the value 1, when two numbers are left. What is refused leaves all as it was.
+/// After k with the value 1, when two numbers are left. A write that fails leaves all as it was.
 const RUNS_OUT: [Step; 4] = [
     (
         &[(b"k", None), (b"a", Some(b"2")), (b"z", Some(b"2"))],
@@ -83,21 +83,33 @@ fn assert_found(
     rows: &[Change],
 ) -> Result<()> {
     for (key, wanted) in rows {
-        match engine.get(key)? {
-            None => assert!(rt; wanted.is_none(), "no {key:?}"),
-            Some(value) => assert_eq!(rt; Some(value.as_slice()), *wanted),
-        }
+        let value = engine.get(key)?;
+        let found = match &value {
+            None => None,
+            Some(value) => Some(value.as_slice()),
+        };
+        assert!(rt; found == *wanted);
     }
     Ok(())
 }
 
+fn write_one(
+    rt: &impl Abort,
+    alloc: Global,
+    env: &mut MemEnv,
+    engine: &mut Engine<MemEnv, DefaultCmp, BloomPolicy>,
+    step: &Step,
+) -> Result<()> {
+    let batch = batch_of(alloc, step.0)?;
+    assert!(rt; code_of(engine.write(env, batch, false)) == step.1);
+    assert_found(rt, engine, step.2)
+}
+
 /// Gives a store these batches, one after another.
-fn play(rt: &impl Abort, alloc: Global, env: &mut MemEnv, steps: &[Step]) -> Result<()> {
+fn write_all(rt: &impl Abort, alloc: Global, env: &mut MemEnv, steps: &[Step]) -> Result<()> {
     let mut engine = Engine::open(alloc, "db", env, Options::default())?;
-    for (changes, code, found) in steps {
-        let batch = batch_of(alloc, changes)?;
-        assert_eq!(rt; code_of(engine.write(env, batch, false)), *code);
-        assert_found(rt, &engine, found)?;
+    for step in steps {
+        write_one(rt, alloc, env, &mut engine, step)?;
     }
     engine.abandon(env)
 }
@@ -117,7 +129,7 @@ fn put_log(
     env.append(&mut file, &writer.sink)
 }
 
-/// The batches that stand in the log.
+/// The batches in the log.
 fn logged(alloc: Global, env: &mut MemEnv) -> Result<Vec<WriteBatch>> {
     let (records, _) = read_log_file(alloc, env, LOG)?;
     let mut batches = Vec::new(alloc);
@@ -138,66 +150,75 @@ fn numbers(alloc: Global, env: &mut MemEnv) -> Result<Vec<(SequenceNumber, u32)>
     Ok(numbers)
 }
 
-/// The entries in the log, each at its number.
-fn entries(rt: &impl Abort, alloc: Global, env: &mut MemEnv) -> Result<MemTable<DefaultCmp>> {
-    let mut table = MemTable::new(alloc, DefaultCmp);
-    for batch in &logged(alloc, env)? {
-        let mut sequence = batch.sequence();
-        for (key, value) in batch.iter() {
-            assert!(rt; sequence < 100);
-            match value {
-                None => table.add(sequence, ValueType::TypeDeletion, key, b"")?,
-                Some(value) => table.add(sequence, ValueType::TypeValue, key, value)?,
-            }
-            sequence += 1;
-        }
-    }
-    Ok(table)
-}
-
-/// An empty batch takes no number. The log keeps each change at its number, and a deletion is an entry like any other.
-#[test]
-fn later_changes_win(rt: HostRuntime) -> Result<()> {
-    let alloc = rt.alloc();
-    let mut env = MemEnv::new(alloc);
-    play(&rt, alloc, &mut env, &WINS)?;
-    assert_eq!(rt;
-        numbers(alloc, &mut env)?.as_slice(),
-        [(1, 3), (4, 0), (4, 2), (6, 0)].as_slice()
-    );
-    let table = entries(&rt, alloc, &mut env)?;
-    let rows: [(&[u8], SequenceNumber, Option<Option<&[u8]>>); 9] = [
-        (b"k", 0, None),
-        (b"k", 1, Some(Some(b"1"))),
-        (b"k", 2, Some(Some(b"1"))),
-        (b"k", 3, Some(Some(b"2"))),
-        (b"k", 5, Some(None)),
-        (b"a", 5, Some(None)),
-        (b"z", 5, Some(Some(b"3"))),
-        (b"z", 4, None),
-        (b"b", 5, None),
-    ];
-    for (key, sequence, wanted) in rows {
+/// Adds the changes of a batch, each at its number.
+fn add_batch(rt: &impl Abort, table: &mut MemTable<DefaultCmp>, batch: &WriteBatch) -> Result<()> {
+    let mut sequence = batch.sequence();
+    for (key, value) in batch.iter() {
         assert!(rt; sequence < 100);
-        assert!(rt;
-            table.newest(key, sequence) == wanted,
-            "{key:?} at {sequence}"
-        );
+        match value {
+            None => table.add(sequence, ValueType::TypeDeletion, key, b"")?,
+            Some(value) => table.add(sequence, ValueType::TypeValue, key, value)?,
+        }
+        sequence += 1;
     }
     Ok(())
 }
 
-/// The last number of all is given out, and none behind it.
+/// The entries in the log, each at its number.
+fn entries(rt: &impl Abort, alloc: Global, env: &mut MemEnv) -> Result<MemTable<DefaultCmp>> {
+    let mut table = MemTable::new(alloc, DefaultCmp);
+    for batch in &logged(alloc, env)? {
+        add_batch(rt, &mut table, batch)?;
+    }
+    Ok(table)
+}
+
+/// A key, a number, and the newest value at or below it: none, or one that is deleted.
+type Look = (&'static [u8], SequenceNumber, Option<Option<&'static [u8]>>);
+
+const NEWEST: [Look; 9] = [
+    (b"k", 0, None),
+    (b"k", 1, Some(Some(b"1"))),
+    (b"k", 2, Some(Some(b"1"))),
+    (b"k", 3, Some(Some(b"2"))),
+    (b"k", 5, Some(None)),
+    (b"a", 5, Some(None)),
+    (b"z", 5, Some(Some(b"3"))),
+    (b"z", 4, None),
+    (b"b", 5, None),
+];
+
+fn assert_newest(rt: &impl Abort, table: &MemTable<DefaultCmp>) {
+    for (key, sequence, wanted) in &NEWEST {
+        assert!(rt; *sequence < 100);
+        assert!(rt;
+            table.newest(key, *sequence) == *wanted,
+            "{key:?} at {sequence}"
+        );
+    }
+}
+
+/// An empty batch takes no number. The log has each change at its number, and a deletion is an entry like any other.
+#[test]
+fn later_changes_win(rt: HostRuntime) -> Result<()> {
+    let alloc = rt.alloc();
+    let mut env = MemEnv::new(alloc);
+    write_all(&rt, alloc, &mut env, &WINS)?;
+    let found = numbers(alloc, &mut env)?;
+    assert!(rt; found.as_slice() == [(1, 3), (4, 0), (4, 2), (6, 0)].as_slice());
+    assert_newest(&rt, &entries(&rt, alloc, &mut env)?);
+    Ok(())
+}
+
+/// The last number of all is given, and none after it.
 #[test]
 fn numbers_run_out(rt: HostRuntime) -> Result<()> {
     let alloc = rt.alloc();
     let mut env = MemEnv::new(alloc);
     let last = MAX_SEQUENCE_NUMBER - 2;
     put_log(alloc, &mut env, last, &[(b"k", Some(b"1"))])?;
-    play(&rt, alloc, &mut env, &RUNS_OUT)?;
-    assert_eq!(rt;
-        numbers(alloc, &mut env)?.as_slice(),
-        [(last, 1), (last + 1, 0), (last + 1, 2)].as_slice()
-    );
+    write_all(&rt, alloc, &mut env, &RUNS_OUT)?;
+    let found = numbers(alloc, &mut env)?;
+    assert!(rt; found.as_slice() == [(last, 1), (last + 1, 0), (last + 1, 2)].as_slice());
     Ok(())
 }

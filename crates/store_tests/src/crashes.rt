@@ -1,6 +1,6 @@
-//! A store in memory behind each of a dozen batches, and each beginning of its log's unsynced bytes, and all of these with the last byte
-//! changed: the map that is found is that of a beginning with all that was synced, and the store goes on from there.
-use crate::slow::{Item as SlowItem, SlowStore};
+//! A store in memory after each of a dozen batches, and a crash that leaves each prefix of its log's unsynced bytes, or all of them with
+//! the last byte changed: the map that is found is that of a prefix of the batches with all durable ones, and the store goes on from there.
+use crate::replies::{bytes_of, is_map, is_same, look_ups};
 use leveldb_base::cmp::DefaultCmp;
 use leveldb_base::error::Result;
 use leveldb_base::history::LentPair;
@@ -9,19 +9,17 @@ use rusty_leveldb::env::whole_files::read_file;
 use rusty_leveldb::mem_env::{MemEnv, Pick};
 use rusty_leveldb::options::Options;
 use rusty_leveldb::shell::{Command, Item, Reply, run};
+use slow_machine::{Item as SlowItem, SlowStore};
 use std::alloc::Global;
 use std::process::Abort;
 use std::test::Fail;
 
 const LOG: &str = "db/000003.log";
 
-/// All keys that are ever written, in order.
-const KEYS: [&str; 6] = ["", "a", "b", "c", "d", "e"];
-
-/// A batch: whether it is synced, and its keys, each with the byte that its value has so many times, or deleted.
+/// A batch: whether it is synced, and its keys, each with a byte and how often its value has it, or deleted.
 type Batch = (bool, &'static [(&'static str, Option<(u8, usize)>)]);
 
-/// The fifth fills the log's first block almost, and the sixth stands over its end.
+/// The fifth almost fills the log's first block, and the sixth goes over its end.
 const BATCHES: [Batch; 12] = [
     (false, &[("a", Some((b'1', 1)))]),
     (true, &[("b", Some((b'2', 1)))]),
@@ -36,10 +34,6 @@ const BATCHES: [Batch; 12] = [
     (false, &[("c", Some((b'8', 1))), ("d", None)]),
     (false, &[("e", Some((b'9', 0)))]),
 ];
-
-fn bytes_of(alloc: Global, key: &str) -> Result<Vec<u8>> {
-    Ok(Vec::from_slice(alloc, key.as_bytes())?)
-}
 
 fn value_of(alloc: Global, value: (u8, usize)) -> Result<Vec<u8>> {
     Ok(vec![in alloc; value.0; value.1]?)
@@ -75,7 +69,7 @@ fn slow_items(alloc: Global, batch: &Batch) -> Result<Vec<SlowItem>> {
     Ok(items)
 }
 
-/// The disk behind these batches.
+/// The disk after these batches.
 fn written(alloc: Global, batches: &[Batch]) -> Result<MemEnv> {
     let mut env = MemEnv::new(alloc);
     let mut commands = Vec::new(alloc);
@@ -87,7 +81,7 @@ fn written(alloc: Global, batches: &[Batch]) -> Result<MemEnv> {
     Ok(env)
 }
 
-/// What may be found behind these batches and a crash.
+/// What may be found after these batches and a crash.
 fn allowed(alloc: Global, batches: &[Batch]) -> Result<SlowStore> {
     let mut slow = SlowStore::new(alloc)?;
     slow.opened()?;
@@ -99,33 +93,17 @@ fn allowed(alloc: Global, batches: &[Batch]) -> Result<SlowStore> {
     Ok(slow)
 }
 
-/// What a store answers for each key.
+/// What a store replies for each key.
 fn look_up_all(alloc: Global, env: &mut MemEnv) -> Result<Vec<Reply>> {
-    let mut commands = Vec::new(alloc);
-    for key in KEYS {
-        commands.push(Command::Get(bytes_of(alloc, key)?))?;
-    }
     let mut replies = Vec::new(alloc);
-    run(env, "db", Options::default(), &commands, &mut replies)?;
+    run(
+        env,
+        "db",
+        Options::default(),
+        &look_ups(alloc)?,
+        &mut replies,
+    )?;
     Ok(replies)
-}
-
-fn has(map: &[LentPair<'_>], key: &str, reply: &Reply) -> bool {
-    let found = map.iter().find(|pair| pair.0 == key.as_bytes());
-    match (found, reply) {
-        (Some(pair), Reply::Value(value)) => pair.1 == value.as_slice(),
-        (None, Reply::Nothing) => true,
-        _ => false,
-    }
-}
-
-/// Whether the answers are those of this map.
-fn is_map(map: &[LentPair<'_>], replies: &[Reply]) -> bool {
-    replies.len() == KEYS.len()
-        && KEYS
-            .iter()
-            .zip(replies)
-            .all(|(key, reply)| has(map, key, reply))
 }
 
 fn pick(alloc: Global, tail: &[u8]) -> Result<Pick> {
@@ -137,7 +115,30 @@ fn pick(alloc: Global, tail: &[u8]) -> Result<Pick> {
     })
 }
 
-/// After a crash with this tail a map is found that is allowed, and then the store takes a synced batch, which a second crash keeps.
+/// Whether the later replies are the earlier ones, but for the last key, which now has this value.
+fn has_only_changed_last(before: &[Reply], after: &[Reply], value: &[u8]) -> bool {
+    let Some((last, others)) = after.split_last() else {
+        return false;
+    };
+    let are_same = before
+        .iter()
+        .zip(others)
+        .all(|(before, after)| is_same(before, after));
+    are_same
+        && before.len() == after.len()
+        && matches!(last, Reply::Value(found) if found.as_slice() == value)
+}
+
+/// Gives the store one synced batch, in which the last key has a new value, and returns whether it was written.
+fn write_last(alloc: Global, env: &mut MemEnv) -> Result<bool> {
+    let mut commands = Vec::new(alloc);
+    commands.push(command_of(alloc, &(true, &[("e", Some((b'x', 3)))]))?)?;
+    let mut replies = Vec::new(alloc);
+    run(env, "db", Options::default(), &commands, &mut replies)?;
+    Ok(matches!(&replies[..], [Reply::Done]))
+}
+
+/// After a crash with this tail an allowed map is found, and then the store takes a synced batch, which is found after a second crash.
 fn crash_and_go_on(
     rt: &impl Abort,
     alloc: Global,
@@ -152,47 +153,62 @@ fn crash_and_go_on(
         "a tail of {}",
         tail.len()
     );
-
-    let mut commands = Vec::new(alloc);
-    commands.push(command_of(alloc, &(true, &[("e", Some((b'x', 3)))]))?)?;
-    let mut replies = Vec::new(alloc);
-    run(&mut left, "db", Options::default(), &commands, &mut replies)?;
-    assert!(rt; matches!(&replies[..], [Reply::Done]));
+    assert!(rt; write_last(alloc, &mut left)?);
     let mut again = left.crashed(alloc, &pick(alloc, b"")?)?;
-    let mut later = look_up_all(alloc, &mut again)?;
-    let last = later.pop();
+    let later = look_up_all(alloc, &mut again)?;
     assert!(rt;
-        matches!(&last, Some(Reply::Value(value)) if value.as_slice() == b"xxx".as_slice())
+        has_only_changed_last(&found, &later, b"xxx"),
+        "after a tail of {}",
+        tail.len()
     );
-    for (before, after) in found.iter().zip(&later) {
-        match (before, after) {
-            (Reply::Value(before), Reply::Value(after)) => assert!(rt; before == after),
-            (Reply::Nothing, Reply::Nothing) => {}
-            _ => assert!(rt; false, "another answer behind a tail of {}", tail.len()),
-        }
+    Ok(())
+}
+
+/// A crash that leaves each prefix of the log's unsynced bytes.
+fn crash_with_each_tail(
+    rt: &impl Abort,
+    alloc: Global,
+    env: &MemEnv,
+    unsynced: &[u8],
+    maps: &[Vec<LentPair<'_>>],
+) -> Result<()> {
+    for end in 0..=unsynced.len() {
+        crash_and_go_on(rt, alloc, env, &unsynced[..end], maps)?;
     }
     Ok(())
 }
 
+/// A crash that leaves all unsynced bytes, of which the last is one higher.
+fn crash_with_a_wrong_byte(
+    rt: &impl Abort,
+    alloc: Global,
+    env: &MemEnv,
+    unsynced: &[u8],
+    maps: &[Vec<LentPair<'_>>],
+) -> Result<()> {
+    let mut raised = Vec::from_slice(alloc, unsynced)?;
+    if let Some(last) = raised.last_mut() {
+        *last = last.wrapping_add(1);
+        crash_and_go_on(rt, alloc, env, &raised, maps)?;
+    }
+    Ok(())
+}
+
+fn crash_after(rt: &impl Abort, alloc: Global, batches: &[Batch]) -> Result<()> {
+    let mut env = written(alloc, batches)?;
+    let slow = allowed(alloc, batches)?;
+    let maps = slow.maps(&DefaultCmp)?;
+    let bytes = read_file(alloc, &mut env, LOG)?;
+    let kept = env.crashed(alloc, &pick(alloc, b"")?)?.size_of(LOG)?;
+    assert!(rt; kept <= bytes.len());
+    crash_with_each_tail(rt, alloc, &env, &bytes[kept..], &maps)?;
+    crash_with_a_wrong_byte(rt, alloc, &env, &bytes[kept..], &maps)
+}
+
 #[test]
-fn each_crash_keeps_a_beginning(rt: HostRuntime) -> std::result::Result<(), Fail> {
-    let alloc = rt.alloc();
+fn each_crash_keeps_a_prefix(rt: HostRuntime) -> std::result::Result<(), Fail> {
     for count in 0..=BATCHES.len() {
-        let batches = &BATCHES[..count];
-        let mut env = written(alloc, batches)?;
-        let slow = allowed(alloc, batches)?;
-        let maps = slow.maps(&DefaultCmp)?;
-        let bytes = read_file(alloc, &mut env, LOG)?;
-        let kept = env.crashed(alloc, &pick(alloc, b"")?)?.size_of(LOG)?;
-        for end in kept..=bytes.len() {
-            crash_and_go_on(&rt, alloc, &env, &bytes[kept..end], &maps)?;
-        }
-        if kept < bytes.len() {
-            let mut raised = Vec::from_slice(alloc, &bytes[kept..])?;
-            let last = raised.len() - 1;
-            raised[last] = raised[last].wrapping_add(1);
-            crash_and_go_on(&rt, alloc, &env, &raised, &maps)?;
-        }
+        crash_after(&rt, rt.alloc(), &BATCHES[..count])?;
     }
     Ok(())
 }

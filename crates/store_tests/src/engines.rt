@@ -8,19 +8,22 @@ use leveldb_env::options::Options;
 use leveldb_mem::write_batch::WriteBatch;
 use rusty_leveldb::db_impl::{DB, Engine, Store};
 use std::alloc::Global;
+use std::process::Abort;
 
 const LOG: &str = "db/000003.log";
 
-/// What a status has as its code, or `OK`.
-fn code_of<T: Drop>(answer: Result<T>) -> StatusCode {
+type Opened<'a, E> = DB<'a, E, DefaultCmp, BloomPolicy>;
+
+/// Whether a call failed with this code.
+fn failed_with<T: Drop>(answer: Result<T>, code: StatusCode) -> bool {
     match answer {
-        Ok(_) => StatusCode::OK,
-        Err(status) => status.code,
+        Ok(_) => false,
+        Err(status) => status.code == code,
     }
 }
 
 /// The one byte of the key's value, `-` for none, `?` for another value.
-fn byte_at<E: Env>(db: &mut DB<'_, E, DefaultCmp, BloomPolicy>, key: &[u8]) -> Result<u8> {
+fn byte_at<E: Env>(db: &mut Opened<'_, E>, key: &[u8]) -> Result<u8> {
     Ok(match db.get(key)? {
         None => b'-',
         Some(value) => match value.as_slice() {
@@ -31,7 +34,7 @@ fn byte_at<E: Env>(db: &mut DB<'_, E, DefaultCmp, BloomPolicy>, key: &[u8]) -> R
 }
 
 /// The bytes of the keys a, b, c and d.
-fn bytes_in<E: Env>(db: &mut DB<'_, E, DefaultCmp, BloomPolicy>) -> Result<[u8; 4]> {
+fn bytes_in<E: Env>(db: &mut Opened<'_, E>) -> Result<[u8; 4]> {
     let a = byte_at(db, b"a")?;
     let b = byte_at(db, b"b")?;
     let c = byte_at(db, b"c")?;
@@ -56,24 +59,40 @@ fn pick(alloc: Global, tail: &[u8]) -> Result<Pick> {
     })
 }
 
-#[test]
-fn each_call_once(rt: HostRuntime) -> Result<()> {
-    let alloc = rt.alloc();
-    let mut env = MemEnv::new(alloc);
-    let mut db = DB::open(alloc, "db", &mut env, Options::default())?;
+/// The four bytes that a store shows which is opened, and then closed.
+fn found_again<E: Env>(alloc: Global, env: &mut E) -> Result<[u8; 4]> {
+    let mut db = DB::open(alloc, "db", env, Options::default())?;
+    let found = bytes_in(&mut db)?;
+    db.close()?;
+    Ok(found)
+}
+
+fn write_and_close<E: Env>(rt: &impl Abort, alloc: Global, db: &mut Opened<'_, E>) -> Result<()> {
     db.put(b"a", b"1")?;
     db.put(b"b", b"2")?;
     db.delete(b"a")?;
     db.write(pair(alloc, b"c", b"3")?, true)?;
     db.flush()?;
-    assert_eq!(rt; bytes_in(&mut db)?, *b"-23-");
-    db.close()?;
-    assert_eq!(rt; code_of(db.close()), StatusCode::InvalidArgument);
-    assert_eq!(rt; code_of(db.put(b"d", b"4")), StatusCode::InvalidArgument);
-    assert_eq!(rt; code_of(db.get(b"b")), StatusCode::InvalidArgument);
+    assert!(rt; bytes_in(db)? == *b"-23-");
+    db.close()
+}
+
+fn assert_closed<E: Env>(rt: &impl Abort, db: &mut Opened<'_, E>) {
+    assert!(rt; failed_with(db.close(), StatusCode::InvalidArgument));
+    assert!(rt; failed_with(db.put(b"d", b"4"), StatusCode::InvalidArgument));
+    assert!(rt; failed_with(db.get(b"b"), StatusCode::InvalidArgument));
+}
+
+#[test]
+fn each_call_once(rt: HostRuntime) -> Result<()> {
+    let alloc = rt.alloc();
+    let mut env = MemEnv::new(alloc);
+    let mut db = DB::open(alloc, "db", &mut env, Options::default())?;
+    write_and_close(&rt, alloc, &mut db)?;
+    assert_closed(&rt, &mut db);
     db.abandon()?;
     let mut db = DB::open(alloc, "db", &mut env, Options::default())?;
-    assert_eq!(rt; bytes_in(&mut db)?, *b"-23-");
+    assert!(rt; bytes_in(&mut db)? == *b"-23-");
     db.abandon()
 }
 
@@ -83,11 +102,11 @@ fn a_store_that_is_dropped_keeps_its_lock(rt: HostRuntime) -> Result<()> {
     let mut env = MemEnv::new(alloc);
     drop(DB::open(alloc, "db", &mut env, Options::default())?);
     let again = DB::open(alloc, "db", &mut env, Options::default());
-    assert_eq!(rt; code_of(again), StatusCode::LockError);
+    assert!(rt; failed_with(again, StatusCode::LockError));
     env.unlock("db/LOCK")?;
     let db = DB::open(alloc, "db", &mut env, Options::default())?;
     db.abandon()?;
-    assert_eq!(rt; code_of(env.unlock("db/LOCK")), StatusCode::LockError);
+    assert!(rt; failed_with(env.unlock("db/LOCK"), StatusCode::LockError));
     Ok(())
 }
 
@@ -96,13 +115,31 @@ fn openings_are_refused(rt: HostRuntime) -> Result<()> {
     let alloc = rt.alloc();
     let mut env = MemEnv::new(alloc);
     let nameless = DB::open(alloc, "", &mut env, Options::default());
-    assert_eq!(rt; code_of(nameless), StatusCode::InvalidArgument);
+    assert!(rt; failed_with(nameless, StatusCode::InvalidArgument));
     let mut options = Options::default();
     options.create_if_missing = false;
     let missing = DB::open(alloc, "db", &mut env, options);
-    assert_eq!(rt; code_of(missing), StatusCode::InvalidArgument);
-    assert_eq!(rt; code_of(env.unlock("db/LOCK")), StatusCode::LockError);
+    assert!(rt; failed_with(missing, StatusCode::InvalidArgument));
+    assert!(rt; failed_with(env.unlock("db/LOCK"), StatusCode::LockError));
     Ok(())
+}
+
+fn assert_broken<E: Env>(rt: &impl Abort, db: &mut Opened<'_, E>) -> Result<()> {
+    assert!(rt; failed_with(db.put(b"c", b"3"), StatusCode::IOError));
+    assert!(rt; failed_with(db.flush(), StatusCode::IOError));
+    assert!(rt; failed_with(db.close(), StatusCode::IOError));
+    assert!(rt; bytes_in(db)? == *b"1---");
+    Ok(())
+}
+
+/// The append of b fails, done or undone: the store is broken, and keeps its map until it is opened again.
+fn fail_an_append(rt: &impl Abort, alloc: Global, env: &mut RecordEnv, done: bool) -> Result<()> {
+    let engine = Engine::open(alloc, "db", env, Options::default())?;
+    env.fail(1, done);
+    let mut db = Store::around(env, engine);
+    assert!(rt; failed_with(db.put(b"b", b"2"), StatusCode::IOError));
+    assert_broken(rt, &mut db)?;
+    db.abandon()
 }
 
 #[test]
@@ -112,80 +149,74 @@ fn a_failed_write_breaks_the_store(rt: HostRuntime) -> Result<()> {
     let mut db = DB::open(alloc, "db", &mut env, Options::default())?;
     db.put(b"a", b"1")?;
     db.abandon()?;
-    for done in [false, true] {
-        let engine = Engine::open(alloc, "db", &mut env, Options::default())?;
-        env.fail(1, done);
-        let mut db = Store::around(&mut env, engine);
-        assert_eq!(rt; code_of(db.put(b"b", b"2")), StatusCode::IOError);
-        assert_eq!(rt; code_of(db.put(b"c", b"3")), StatusCode::IOError);
-        assert_eq!(rt; code_of(db.flush()), StatusCode::IOError);
-        assert_eq!(rt; code_of(db.close()), StatusCode::IOError);
-        assert_eq!(rt; bytes_in(&mut db)?, *b"1---");
-        db.abandon()?;
-        let mut db = DB::open(alloc, "db", &mut env, Options::default())?;
-        let b = if done { b'2' } else { b'-' };
-        assert_eq!(rt; bytes_in(&mut db)?, [b'1', b, b'-', b'-']);
-        db.close()?;
-        drop(db);
-    }
+    fail_an_append(&rt, alloc, &mut env, false)?;
+    assert!(rt; found_again(alloc, &mut env)? == *b"1---");
+    fail_an_append(&rt, alloc, &mut env, true)?;
+    assert!(rt; found_again(alloc, &mut env)? == *b"12--");
     Ok(())
 }
 
+/// The `nth` call of the device in a close fails: the store is broken, and has its lock until `abandon` gives that back.
+fn fail_a_close(rt: &impl Abort, alloc: Global, env: &mut RecordEnv, nth: u64) -> Result<()> {
+    let mut engine = Engine::open(alloc, "db", env, Options::default())?;
+    env.fail(nth, false);
+    assert!(rt; failed_with(engine.close(env), StatusCode::IOError));
+    assert!(rt; failed_with(engine.put(env, b"a", b"1"), StatusCode::IOError));
+    assert!(rt; failed_with(env.lock("db/LOCK"), StatusCode::LockError));
+    env.fail(1, false);
+    assert!(rt; failed_with(engine.abandon(env), StatusCode::IOError));
+    env.unlock("db/LOCK")
+}
+
+/// First the sync fails, and then the return of the lock.
 #[test]
 fn a_failed_close_breaks_the_store(rt: HostRuntime) -> Result<()> {
     let alloc = rt.alloc();
     let mut env = RecordEnv::new(alloc);
-    // First the sync is refused, and then that the lock is given back.
-    for nth in 1..=2 {
-        let mut engine = Engine::open(alloc, "db", &mut env, Options::default())?;
-        env.fail(nth, false);
-        assert_eq!(rt; code_of(engine.close(&mut env)), StatusCode::IOError);
-        assert_eq!(rt;
-            code_of(engine.put(&mut env, b"a", b"1")),
-            StatusCode::IOError
-        );
-        assert_eq!(rt; code_of(env.lock("db/LOCK")), StatusCode::LockError);
-        env.fail(1, false);
-        assert_eq!(rt; code_of(engine.abandon(&mut env)), StatusCode::IOError);
-        env.unlock("db/LOCK")?;
-    }
-    Ok(())
+    fail_a_close(&rt, alloc, &mut env, 1)?;
+    fail_a_close(&rt, alloc, &mut env, 2)
 }
 
-/// A crash with this tail of the log, the map that is then found, and what a second crash keeps.
+/// What is found after a crash with this tail of the log, and with a synced d after a second crash.
 fn crash_and_go_on(alloc: Global, env: &MemEnv, tail: &[u8]) -> Result<([u8; 4], [u8; 4])> {
     let mut left = env.crashed(alloc, &pick(alloc, tail)?)?;
-    let mut db = DB::open(alloc, "db", &mut left, Options::default())?;
-    let found = bytes_in(&mut db)?;
-    db.write(pair(alloc, b"d", b"4")?, true)?;
-    drop(db);
+    let found = write_after_a_crash(alloc, &mut left)?;
     let mut later = left.crashed(alloc, &pick(alloc, b"")?)?;
-    let mut db = DB::open(alloc, "db", &mut later, Options::default())?;
-    let kept = bytes_in(&mut db)?;
-    db.close()?;
-    Ok((found, kept))
+    Ok((found, found_again(alloc, &mut later)?))
 }
 
-/// Three records of 24 bytes each, of which the first two are kept. A crash leaves none of the third,
-/// or all of it, or with its last byte raised, which its checksum tells.
-#[test]
-fn crashes_keep_a_beginning(rt: HostRuntime) -> Result<()> {
-    let alloc = rt.alloc();
+fn write_after_a_crash(alloc: Global, left: &mut MemEnv) -> Result<[u8; 4]> {
+    let mut db = DB::open(alloc, "db", left, Options::default())?;
+    let found = bytes_in(&mut db)?;
+    db.write(pair(alloc, b"d", b"4")?, true)?;
+    Ok(found)
+}
+
+/// The disk after three records of 24 bytes each, of which the first two are durable.
+fn after_three_records(alloc: Global) -> Result<MemEnv> {
     let mut env = MemEnv::new(alloc);
     let mut db = DB::open(alloc, "db", &mut env, Options::default())?;
     db.put(b"a", b"1")?;
     db.write(pair(alloc, b"b", b"2")?, true)?;
     db.put(b"c", b"3")?;
     drop(db);
-    assert_eq!(rt; env.size_of(LOG)?, 72);
-    assert_eq!(rt; env.crashed(alloc, &pick(alloc, b"")?)?.size_of(LOG)?, 48);
+    Ok(env)
+}
+
+/// A crash leaves none of the third record, or all of it, or with its last byte raised, which its checksum shows.
+#[test]
+fn crashes_keep_a_prefix(rt: HostRuntime) -> Result<()> {
+    let alloc = rt.alloc();
+    let mut env = after_three_records(alloc)?;
+    assert!(rt; env.size_of(LOG)? == 72);
+    assert!(rt; env.crashed(alloc, &pick(alloc, b"")?)?.size_of(LOG)? == 48);
     let mut file = env.open_random_access_file(LOG)?;
     let mut tail = [0; 24];
-    assert_eq!(rt; env.read_at(&mut file, 48, &mut tail)?, 24);
-    assert_eq!(rt; tail[23], 0x33);
-    assert_eq!(rt; crash_and_go_on(alloc, &env, b"")?, (*b"12--", *b"12-4"));
-    assert_eq!(rt; crash_and_go_on(alloc, &env, &tail)?, (*b"123-", *b"1234"));
+    assert!(rt; env.read_at(&mut file, 48, &mut tail)? == 24);
+    assert!(rt; tail[23] == 0x33);
+    assert!(rt; crash_and_go_on(alloc, &env, b"")? == (*b"12--", *b"12-4"));
+    assert!(rt; crash_and_go_on(alloc, &env, &tail)? == (*b"123-", *b"1234"));
     tail[23] = 0x34;
-    assert_eq!(rt; crash_and_go_on(alloc, &env, &tail)?, (*b"12--", *b"12-4"));
+    assert!(rt; crash_and_go_on(alloc, &env, &tail)? == (*b"12--", *b"12-4"));
     Ok(())
 }

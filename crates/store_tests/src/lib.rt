@@ -1,14 +1,23 @@
-//! The judge of the store's answers, the tests of the store and its program, and those that cross crates.
+//! The tests of the store and its program, and those that cross crates.
 #![tactic(auto)]
 
 #[cfg(test)]
 mod batches;
 #[cfg(test)]
+mod crash_disks;
+#[cfg(test)]
 mod crashes;
 #[cfg(test)]
 mod engines;
 #[cfg(test)]
+mod lives;
+#[cfg(test)]
 mod program;
 #[cfg(test)]
+mod replies;
+#[cfg(test)]
 mod rows;
-pub mod slow;
+#[cfg(test)]
+mod steps;
+#[cfg(test)]
+mod sweeps;

@@ -42,7 +42,7 @@ const BAD_LINES: [&[u8]; 32] = [
     b"write 1 -61  -62",
 ];
 
-/// So many newlines, without a place for them.
+/// A count of newlines that are nowhere stored.
 #[derive(Drop)]
 struct Newlines(u64);
 
@@ -58,7 +58,7 @@ impl Read for Newlines {
     }
 }
 
-/// These bytes, and then a refusal.
+/// These bytes, and then an error.
 #[derive(Drop)]
 struct Broken<'a>(&'a [u8]);
 
@@ -75,7 +75,7 @@ impl Read for Broken<'_> {
     }
 }
 
-/// What takes so many bytes more, and then refuses.
+/// A writer with room for a number of bytes, and then an error.
 #[derive(Drop)]
 struct Narrow {
     held: Vec<u8>,
@@ -98,21 +98,21 @@ impl Write for Narrow {
     }
 }
 
-/// What the program did: its status, and what it wrote on its output and of a fault.
+/// What the program did: its status, and what it wrote to its output and of an error.
 #[derive(Debug, Drop, PartialEq)]
-struct Told {
+struct Ending {
     status: u8,
     out: Vec<u8>,
     err: Vec<u8>,
 }
 
-/// Runs the program, of which these arguments and this input are told.
-fn found_by<R: Read>(
+/// Runs the program with these arguments and this input.
+fn run_program<R: Read>(
     alloc: Global,
     env: &mut MemEnv,
     words: &[&str],
     input: &mut R,
-) -> io::Result<Told> {
+) -> io::Result<Ending> {
     let mut args = Vec::new(alloc);
     for word in words {
         args.push(String::from_str(alloc, word)?)?;
@@ -120,105 +120,94 @@ fn found_by<R: Read>(
     let mut out = Vec::new(alloc);
     let mut err = Vec::new(alloc);
     let status = ldb_main(alloc, env, &args, input, &mut out, &mut err);
-    Ok(Told { status, out, err })
+    Ok(Ending { status, out, err })
 }
 
-fn assert_told(rt: &impl Abort, told: &Told, status: u8, out: &[u8], err: &[u8]) {
-    assert_eq!(rt; told.out.as_slice(), out);
-    assert_eq!(rt; told.err.as_slice(), err);
-    assert_eq!(rt; told.status, status);
+fn assert_ending(rt: &impl Abort, ending: &Ending, status: u8, out: &[u8], err: &[u8]) {
+    assert!(rt; ending.out.as_slice() == out);
+    assert!(rt; ending.err.as_slice() == err);
+    assert!(rt; ending.status == status);
 }
+
+/// Runs the program over this disk, with input that is text, and compares how it ends.
+fn assert_run(
+    rt: &impl Abort,
+    env: &mut MemEnv,
+    alloc: Global,
+    words: &[&str],
+    text: &[u8],
+    wanted: (u8, &[u8], &[u8]),
+) -> io::Result<()> {
+    let mut input = text;
+    let ending = run_program(alloc, env, words, &mut input)?;
+    assert_ending(rt, &ending, wanted.0, wanted.1, wanted.2);
+    Ok(())
+}
+
+/// Inputs one after another over one disk, each with its output.
+const ROWS: [(&[u8], &[u8]); 9] = [
+    (b"", b""),
+    (
+        b"put 61 31\nget 61\nget 62\nflush\nclose\nget 61\n",
+        b"ok\nvalue 31\nnone\nok\nok\nrefused InvalidArgument\n",
+    ),
+    (b"get 61", b"value 31\n"),
+    (b"get 61\n", b"value 31\n"),
+    (b"put 00ff .\nget 00ff", b"ok\nvalue .\n"),
+    (b"put . 0a\nget .", b"ok\nvalue 0a\n"),
+    (
+        b"write 1 +61=32 -00ff +.=.\nget 61\nget 00ff\nget .\n",
+        b"ok\nvalue 32\nnone\nvalue .\n",
+    ),
+    (b"write 0\ndel 61\nget 61\n", b"ok\nok\nnone\n"),
+    (b"write 0 -. +0b=0c -0b\nget 0b\n", b"ok\nnone\n"),
+];
 
 #[test]
 fn commands(rt: HostRuntime) -> io::Result<()> {
-    let alloc = rt.alloc();
-    let rows: [(&[u8], &[u8]); 9] = [
-        (b"", b""),
-        (
-            b"put 61 31\nget 61\nget 62\nflush\nclose\nget 61\n",
-            b"ok\nvalue 31\nnone\nok\nok\nrefused InvalidArgument\n",
-        ),
-        (b"get 61", b"value 31\n"),
-        (b"get 61\n", b"value 31\n"),
-        (b"put 00ff .\nget 00ff", b"ok\nvalue .\n"),
-        (b"put . 0a\nget .", b"ok\nvalue 0a\n"),
-        (
-            b"write 1 +61=32 -00ff +.=.\nget 61\nget 00ff\nget .\n",
-            b"ok\nvalue 32\nnone\nvalue .\n",
-        ),
-        (b"write 0\ndel 61\nget 61\n", b"ok\nok\nnone\n"),
-        (b"write 0 -. +0b=0c -0b\nget 0b\n", b"ok\nnone\n"),
-    ];
-    let mut env = MemEnv::new(alloc);
-    for (input, out) in rows {
-        let mut input = input;
-        assert_told(
-            &rt,
-            &found_by(alloc, &mut env, &["db"], &mut input)?,
-            0,
-            out,
-            b"",
-        );
+    let mut env = MemEnv::new(rt.alloc());
+    for (input, out) in &ROWS {
+        assert_run(&rt, &mut env, rt.alloc(), &["db"], input, (0, out, b""))?;
     }
     Ok(())
 }
 
 #[test]
 fn misuse(rt: HostRuntime) -> io::Result<()> {
-    let alloc = rt.alloc();
-    let words: [&[&str]; 2] = [&[], &["db", "db"]];
-    for words in words {
-        let mut input = b"get".as_slice();
-        let mut env = MemEnv::new(alloc);
-        assert_told(
-            &rt,
-            &found_by(alloc, &mut env, words, &mut input)?,
-            2,
-            b"",
-            b"usage: ldb DIR\n",
-        );
-    }
-    Ok(())
+    let wanted = (2, b"".as_slice(), b"usage: ldb DIR\n".as_slice());
+    let mut env = MemEnv::new(rt.alloc());
+    assert_run(&rt, &mut env, rt.alloc(), &[], b"get", wanted)?;
+    assert_run(&rt, &mut env, rt.alloc(), &["db", "db"], b"get", wanted)
+}
+
+/// Input with a bad line, over an empty disk.
+fn assert_bad(rt: &impl Abort, alloc: Global, input: &[u8], err: &[u8]) -> io::Result<()> {
+    let mut env = MemEnv::new(alloc);
+    assert_run(rt, &mut env, alloc, &["db"], input, (2, b"", err))
 }
 
 #[test]
 fn bad_first_lines(rt: HostRuntime) -> io::Result<()> {
-    let alloc = rt.alloc();
-    for line in BAD_LINES {
-        let mut input = line;
-        let mut env = MemEnv::new(alloc);
-        assert_told(
-            &rt,
-            &found_by(alloc, &mut env, &["db"], &mut input)?,
-            2,
-            b"",
-            b"bad command in line 1\n",
-        );
+    for line in &BAD_LINES {
+        assert_bad(&rt, rt.alloc(), line, b"bad command in line 1\n")?;
     }
     Ok(())
 }
 
+/// Inputs whose second, third and tenth line is bad, and what is said of each.
+const LATER_BAD_LINES: [(&[u8], &[u8]); 3] = [
+    (b"flush\n\nget 61", b"bad command in line 2\n"),
+    (b"flush\nget 61\nget\nput", b"bad command in line 3\n"),
+    (
+        b"flush\nflush\nflush\nflush\nflush\nflush\nflush\nflush\nflush\n ",
+        b"bad command in line 10\n",
+    ),
+];
+
 #[test]
 fn later_bad_lines(rt: HostRuntime) -> io::Result<()> {
-    let alloc = rt.alloc();
-    let rows: [(&[u8], &[u8]); 3] = [
-        (b"flush\n\nget 61", b"bad command in line 2\n"),
-        (b"flush\nget 61\nget\nput", b"bad command in line 3\n"),
-        (
-            b"flush\nflush\nflush\nflush\nflush\nflush\nflush\nflush\nflush\n ",
-            b"bad command in line 10\n",
-        ),
-    ];
-    for (input, err) in rows {
-        let mut input = input;
-        let mut env = MemEnv::new(alloc);
-        assert_told(
-            &rt,
-            &found_by(alloc, &mut env, &["db"], &mut input)?,
-            2,
-            b"",
-            err,
-        );
+    for (input, err) in &LATER_BAD_LINES {
+        assert_bad(&rt, rt.alloc(), input, err)?;
     }
     Ok(())
 }
@@ -227,12 +216,12 @@ fn later_bad_lines(rt: HostRuntime) -> io::Result<()> {
 fn long_input(rt: HostRuntime) -> io::Result<()> {
     let alloc = rt.alloc();
     let mut env = MemEnv::new(alloc);
-    let longest = found_by(alloc, &mut env, &["db"], &mut Newlines(1 << 26))?;
-    assert_told(&rt, &longest, 2, b"", b"bad command in line 1\n");
+    let longest = run_program(alloc, &mut env, &["db"], &mut Newlines(1 << 26))?;
+    assert_ending(&rt, &longest, 2, b"", b"bad command in line 1\n");
     let mut left = Newlines((1 << 26) + 7);
-    let long = found_by(alloc, &mut env, &["db"], &mut left)?;
-    assert_told(&rt, &long, 2, b"", b"input too long\n");
-    assert_eq!(rt; left.0, 6);
+    let long = run_program(alloc, &mut env, &["db"], &mut left)?;
+    assert_ending(&rt, &long, 2, b"", b"input too long\n");
+    assert!(rt; left.0 == 6);
     Ok(())
 }
 
@@ -240,48 +229,48 @@ fn long_input(rt: HostRuntime) -> io::Result<()> {
 fn broken_input(rt: HostRuntime) -> io::Result<()> {
     let alloc = rt.alloc();
     let mut env = MemEnv::new(alloc);
-    let found = found_by(
-        alloc,
-        &mut env,
-        &["db"],
-        &mut Broken(b"put 61 31\nget 61\n"),
-    )?;
-    assert_told(&rt, &found, 1, b"", b"ldb: \n");
-    let mut input = b"get 61".as_slice();
-    assert_told(
+    let mut input = Broken(b"put 61 31\nget 61\n");
+    let ending = run_program(alloc, &mut env, &["db"], &mut input)?;
+    assert_ending(&rt, &ending, 1, b"", b"ldb: \n");
+    assert_run(
         &rt,
-        &found_by(alloc, &mut env, &["db"], &mut input)?,
-        0,
-        b"none\n",
-        b"",
+        &mut env,
+        alloc,
+        &["db"],
+        b"get 61",
+        (0, b"none\n", b""),
+    )
+}
+
+/// An output that has room for a part of what is written, or for all of it.
+fn write_to_room(rt: &impl Abort, alloc: Global, room: usize, wanted: &[u8]) -> io::Result<()> {
+    let mut env = MemEnv::new(alloc);
+    let mut args = Vec::new(alloc);
+    args.push(String::from_str(alloc, "db")?)?;
+    let mut input = b"put 61 31\nget 61\nget 62\n".as_slice();
+    let held = Vec::new(alloc);
+    let mut out = Narrow { held, room };
+    let mut err = Vec::new(alloc);
+    let status = ldb_main(alloc, &mut env, &args, &mut input, &mut out, &mut err);
+    let has_all = room == wanted.len();
+    assert!(rt; out.held.as_slice() == &wanted[..room.min(wanted.len())]);
+    assert!(rt; status == if has_all { 0 } else { 1 });
+    assert!(rt;
+        err.as_slice()
+            == if has_all {
+                b"".as_slice()
+            } else {
+                b"ldb: \n".as_slice()
+            }
     );
     Ok(())
 }
 
 #[test]
 fn narrow_output(rt: HostRuntime) -> io::Result<()> {
-    let alloc = rt.alloc();
     let wanted = b"ok\nvalue 31\nnone\n".as_slice();
-    let mut args = Vec::new(alloc);
-    args.push(String::from_str(alloc, "db")?)?;
     for room in 0..=wanted.len() {
-        let mut env = MemEnv::new(alloc);
-        let mut input = b"put 61 31\nget 61\nget 62\n".as_slice();
-        let mut out = Narrow {
-            held: Vec::new(alloc),
-            room,
-        };
-        let mut err = Vec::new(alloc);
-        let status = ldb_main(alloc, &mut env, &args, &mut input, &mut out, &mut err);
-        assert_eq!(rt; out.held.as_slice(), &wanted[..room]);
-        let all = room == wanted.len();
-        assert_eq!(rt; status, if all { 0 } else { 1 });
-        let fault = if all {
-            b"".as_slice()
-        } else {
-            b"ldb: \n".as_slice()
-        };
-        assert_eq!(rt; err.as_slice(), fault);
+        write_to_room(&rt, rt.alloc(), room, wanted)?;
     }
     Ok(())
 }
@@ -292,10 +281,10 @@ fn locked_store(rt: HostRuntime) -> io::Result<()> {
     let mut env = MemEnv::new(alloc);
     assert!(rt; env.lock("db/LOCK").is_ok());
     let mut input = b"get 61\n".as_slice();
-    let found = found_by(alloc, &mut env, &["db"], &mut input)?;
-    assert_eq!(rt; found.status, 1);
-    assert!(rt; found.out.is_empty());
-    assert!(rt; found.err.starts_with(b"ldb: LockError: "));
-    assert_eq!(rt; found.err.last(), Some(&b'\n'));
+    let ending = run_program(alloc, &mut env, &["db"], &mut input)?;
+    assert!(rt; ending.status == 1);
+    assert!(rt; ending.out.is_empty());
+    assert!(rt; ending.err.starts_with(b"ldb: LockError: "));
+    assert!(rt; ending.err.last() == Some(&b'\n'));
     Ok(())
 }

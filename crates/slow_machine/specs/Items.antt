@@ -1,8 +1,8 @@
--- What the slow store's types hold.
+-- What the slow store's items are.
 use Rattle.std.specs.Prelude.{ℕ}
 use Rattle.std.specs.Option.{option_map}
 use Rattle.leveldb_base.specs.History.{Item, Entry}
-use Rattle.store_tests.specs.declared.slow.Item.{Item as DeclaredItem}
+use Rattle.slow_machine.specs.declared.slow_store.Item.{Item as DeclaredItem}
 
 -- the item that a struct holds
 abbrev pub item_of : DeclaredItem → Item

@@ -4,7 +4,7 @@ ghost use Rattle.std.specs.Prelude.{◌≡◌, ◌+◌, ◌<◌, ◌^◌, IfOk, 
 ghost use Rattle.leveldb_base.specs.Status.{IsOutOfMemory};
 ghost use Rattle.leveldb_base.specs.History.{placed};
 ghost use Rattle.leveldb_base.specs.Lent.{entry_of};
-ghost use Rattle.store_tests.specs.Slow.{item_of, entry_at};
+ghost use Rattle.slow_machine.specs.Items.{item_of, entry_at};
 
 use leveldb_base::cmp::UserCmp;
 use leveldb_base::error::{Result, StatusCode, err};

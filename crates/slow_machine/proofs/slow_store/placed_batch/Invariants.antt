@@ -1,8 +1,8 @@
 use Rattle.std.proofs.Common.{◌≡◌, ◌+◌, ◌++◌, drop, map}
 use Rattle.leveldb_base.specs.History.{placed}
 use Rattle.leveldb_base.specs.Lent.{entry_of}
-use Rattle.store_tests.specs.Slow.{item_of}
-use Rattle.store_tests.proofs.slow.placed_batch.Given as goal
+use Rattle.slow_machine.specs.Items.{item_of}
+use Rattle.slow_machine.proofs.slow_store.placed_batch.Given as goal
 
 abbrev pub invariant-loop-item : goal.invariant-loop-item
 invariant-loop-item l =

@@ -1,0 +1,171 @@
+//! Lives of a store with a crash after each, reported by `lives`.
+use crate::crash_disks::{Tally, add_calls, judge_crash};
+use crate::replies::{bytes_of, look_ups};
+use crate::steps::{Call, Step, commands_of};
+use leveldb_base::cmp::DefaultCmp;
+use leveldb_base::error::{Result, StatusCode};
+use leveldb_env::filter::BloomPolicy;
+use leveldb_env::mem_env::Pick;
+use leveldb_env::options::Options;
+use rusty_leveldb::shell::{Command, Life, Reply, Report, lives};
+use std::alloc::Global;
+use std::process::Abort;
+use std::test::Fail;
+
+/// It begins with a look-up, whose reply shows when the opening returned.
+const STEPS: [Step; 8] = [
+    Step::Get("a"),
+    Step::Put("a", "1"),
+    Step::Write(true, &[("b", Some("2")), ("c", Some("3"))]),
+    Step::Delete("b"),
+    Step::Put("d", "4"),
+    Step::Flush,
+    Step::Write(false, &[("c", None), ("", Some("5"))]),
+    Step::Close,
+];
+
+type DefaultLife = Life<DefaultCmp, BloomPolicy>;
+
+/// A life of these commands, and a crash at its end, if there is one, that leaves nothing but what is durable.
+fn life(
+    alloc: Global,
+    commands: Vec<Command>,
+    moment: Option<u64>,
+    fail: Option<(u64, bool)>,
+) -> DefaultLife {
+    Life {
+        options: Options::default(),
+        commands,
+        moment,
+        pick: Pick {
+            tails: Vec::new(alloc),
+            after: false,
+        },
+        fail,
+    }
+}
+
+/// The steps with a crash at this moment, and then a look-up of each key.
+fn crash_and_look(alloc: Global, moment: u64) -> Result<Vec<Report>> {
+    let mut all = Vec::new(alloc);
+    all.push(life(alloc, commands_of(alloc, &STEPS)?, Some(moment), None))?;
+    all.push(life(alloc, look_ups(alloc)?, None, None))?;
+    lives(alloc, "db", all)
+}
+
+fn replies_of(alloc: Global, report: Report) -> Result<Vec<Reply>> {
+    report.opened?;
+    let mut replies = Vec::new(alloc);
+    for (_, reply) in report.replies {
+        replies.push(reply)?;
+    }
+    Ok(replies)
+}
+
+/// Whether the second report is of a map that the slow store allows after the first and a crash at this moment.
+fn is_allowed(
+    alloc: Global,
+    mut reports: Vec<Report>,
+    moment: u64,
+    tally: &mut Tally,
+) -> Result<bool> {
+    let (Some(second), Some(first)) = (reports.pop(), reports.pop()) else {
+        return Ok(false);
+    };
+    let mut calls: Vec<Call> = Vec::new(alloc);
+    add_calls(&mut calls, first, 0, u64::MAX, &STEPS)?;
+    let slow = judge_crash(alloc, &calls, moment)?;
+    let found = replies_of(alloc, second)?;
+    Ok(tally.count(&slow.maps(&DefaultCmp)?, &found))
+}
+
+/// How many moments the life of all steps has.
+fn last_moment(alloc: Global) -> Result<u64> {
+    let mut all = Vec::new(alloc);
+    all.push(life(alloc, commands_of(alloc, &STEPS)?, None, None))?;
+    let reports = lives(alloc, "db", all)?;
+    let last = reports.first().and_then(|report| report.replies.last());
+    Ok(last.map_or(0, |reply| reply.0))
+}
+
+/// Where a batch may be lost, it is, but at the two moments of the close that come after its sync.
+#[test]
+fn a_crash_at_each_moment(rt: HostRuntime) -> std::result::Result<(), Fail> {
+    let mut tally = Tally::new();
+    for moment in 0..=last_moment(rt.alloc())? {
+        let reports = crash_and_look(rt.alloc(), moment)?;
+        assert!(rt;
+            is_allowed(rt.alloc(), reports, moment, &mut tally)?,
+            "at {moment}"
+        );
+    }
+    assert!(rt;
+        tally.open > 5 && tally.open.saturating_sub(tally.shortest) == 2 && tally.longest == 2,
+        "{tally:?}"
+    );
+    Ok(())
+}
+
+/// The life ends with its last call, since `abandon` finds the store closed: no crash comes later.
+#[test]
+fn a_moment_to_come(rt: HostRuntime) -> Result<()> {
+    let last = last_moment(rt.alloc())?;
+    assert!(rt; crash_and_look(rt.alloc(), last).is_ok());
+    let refusal = crash_and_look(rt.alloc(), last.saturating_add(1)).map(drop);
+    assert!(rt; matches!(&refusal, Err(status) if status.code == StatusCode::InvalidArgument));
+    Ok(())
+}
+
+/// A synced write whose sync fails: its batch isn't found, the store is broken, and a crash without tails loses all.
+const FAILING: [Step; 4] = [
+    Step::Put("a", "1"),
+    Step::Write(true, &[("b", Some("2"))]),
+    Step::Get("b"),
+    Step::Put("c", "3"),
+];
+
+fn failed_with(reply: &Reply, wanted: StatusCode) -> bool {
+    matches!(reply, Reply::Refused(status) if status.code == wanted)
+}
+
+/// What these steps reply where the call of this number fails, and what a look-up of a then replies, after a crash at once.
+fn fail_and_look(alloc: Global, moment: u64, nth: u64) -> Result<Vec<Report>> {
+    let mut all = Vec::new(alloc);
+    all.push(life(
+        alloc,
+        commands_of(alloc, &FAILING)?,
+        Some(moment),
+        Some((nth, false)),
+    ))?;
+    let mut commands = Vec::new(alloc);
+    commands.push(Command::Get(bytes_of(alloc, "a")?))?;
+    all.push(life(alloc, commands, None, None))?;
+    lives(alloc, "db", all)
+}
+
+/// Whether the sync failed and broke the store, and its batch isn't found.
+fn are_of_a_failed_sync(replies: &[Reply]) -> bool {
+    match replies {
+        [Reply::Done, write, Reply::Nothing, put] => {
+            failed_with(write, StatusCode::IOError) && failed_with(put, StatusCode::IOError)
+        }
+        _ => false,
+    }
+}
+
+fn is_all_lost(alloc: Global, mut reports: Vec<Report>) -> Result<bool> {
+    let (Some(second), Some(first)) = (reports.pop(), reports.pop()) else {
+        return Ok(false);
+    };
+    let first = replies_of(alloc, first)?;
+    let second = replies_of(alloc, second)?;
+    Ok(are_of_a_failed_sync(&first) && matches!(second.as_slice(), [Reply::Nothing]))
+}
+
+/// The ninth call of the device is the sync: six open the store, two are the appends.
+#[test]
+fn a_failed_sync_and_a_crash(rt: HostRuntime) -> Result<()> {
+    let reports = fail_and_look(rt.alloc(), 18, 9)?;
+    assert!(rt; is_all_lost(rt.alloc(), reports)?);
+    Ok(())
+}

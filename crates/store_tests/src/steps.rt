@@ -1,0 +1,159 @@
+//! Calls of a store: what is asked, what it returns, and what the slow store says to that.
+use crate::replies::bytes_of;
+use leveldb_base::error::{Result, Status, StatusCode};
+use rusty_leveldb::shell::{Command, Item, Reply};
+use slow_machine::{Found, Item as SlowItem, SlowStore};
+use std::alloc::Global;
+
+/// A key, and its new value, or none to delete it.
+pub type Change = (&'static str, Option<&'static str>);
+
+/// What is asked of a store.
+#[derive(Clone, Copy, Debug)]
+pub enum Step {
+    Open,
+    Put(&'static str, &'static str),
+    Delete(&'static str),
+    Write(bool, &'static [Change]),
+    Get(&'static str),
+    Flush,
+    Close,
+    Abandon,
+}
+
+/// A call that returned, and the moment at which it did.
+#[derive(Debug, Drop)]
+pub struct Call {
+    pub step: Step,
+    pub reply: Reply,
+    pub moment: u64,
+}
+
+fn item_of(alloc: Global, change: &Change) -> Result<Item> {
+    let key = bytes_of(alloc, change.0)?;
+    Ok(match change.1 {
+        Some(value) => Item::Put(key, bytes_of(alloc, value)?),
+        None => Item::Delete(key),
+    })
+}
+
+fn write_of(alloc: Global, sync: bool, changes: &[Change]) -> Result<Command> {
+    let mut items = Vec::new(alloc);
+    for change in changes {
+        items.push(item_of(alloc, change)?)?;
+    }
+    Ok(Command::Write { sync, items })
+}
+
+/// The command of a step between opening and abandoning.
+fn command_of(alloc: Global, step: &Step) -> Result<Option<Command>> {
+    Ok(Some(match step {
+        Step::Open | Step::Abandon => return Ok(None),
+        Step::Put(key, value) => Command::Put(bytes_of(alloc, key)?, bytes_of(alloc, value)?),
+        Step::Delete(key) => Command::Delete(bytes_of(alloc, key)?),
+        Step::Write(sync, changes) => write_of(alloc, *sync, changes)?,
+        Step::Get(key) => Command::Get(bytes_of(alloc, key)?),
+        Step::Flush => Command::Flush,
+        Step::Close => Command::Close,
+    }))
+}
+
+pub fn commands_of(alloc: Global, steps: &[Step]) -> Result<Vec<Command>> {
+    let mut commands = Vec::new(alloc);
+    for step in steps {
+        if let Some(command) = command_of(alloc, step)? {
+            commands.push(command)?;
+        }
+    }
+    Ok(commands)
+}
+
+fn slow_item(alloc: Global, key: &str, value: Option<&str>) -> Result<SlowItem> {
+    let value = match value {
+        Some(value) => Some(bytes_of(alloc, value)?),
+        None => None,
+    };
+    let key = bytes_of(alloc, key)?;
+    Ok(SlowItem { key, value })
+}
+
+fn slow_items(alloc: Global, changes: &[Change]) -> Result<Vec<SlowItem>> {
+    let mut items = Vec::new(alloc);
+    for (key, value) in changes {
+        items.push(slow_item(alloc, key, *value)?)?;
+    }
+    Ok(items)
+}
+
+/// The changes that a step writes and whether it syncs them, if it is a write.
+fn written_by(alloc: Global, step: &Step) -> Result<Option<(Vec<SlowItem>, bool)>> {
+    Ok(match step {
+        Step::Put(key, value) => Some((slow_items(alloc, &[(key, Some(value))])?, false)),
+        Step::Delete(key) => Some((slow_items(alloc, &[(key, None)])?, false)),
+        Step::Write(sync, changes) => Some((slow_items(alloc, changes)?, *sync)),
+        _ => None,
+    })
+}
+
+/// A crash comes inside this step.
+pub fn crash_inside(slow: &mut SlowStore, alloc: Global, step: &Step) -> Result<()> {
+    match written_by(alloc, step)? {
+        Some((items, _)) => slow.crashed_in_write(&items),
+        None => slow.crashed(),
+    }
+}
+
+/// Whether the error says that an earlier call broke the store.
+fn says_broken(status: &Status) -> bool {
+    match &status.err {
+        Some(text) => text.as_str() == "IOError: reopen the store",
+        None => false,
+    }
+}
+
+/// A step failed: since the store was closed or broken, or since the device failed.
+fn judge_failure(slow: &mut SlowStore, alloc: Global, step: &Step, status: &Status) -> Result<()> {
+    if says_broken(status) {
+        return slow.was_broken();
+    }
+    if status.code == StatusCode::InvalidArgument {
+        return slow.was_closed();
+    }
+    match written_by(alloc, step)? {
+        Some((items, _)) => slow.refused_write(&items, true),
+        None => slow.broke(),
+    }
+}
+
+fn judge_success(slow: &mut SlowStore, alloc: Global, step: &Step) -> Result<()> {
+    match step {
+        Step::Open => slow.opened(),
+        Step::Flush => slow.flushed(),
+        Step::Close => slow.closed(),
+        _ => match written_by(alloc, step)? {
+            Some((items, sync)) => slow.wrote(&items, sync),
+            None => Ok(()),
+        },
+    }
+}
+
+/// A look-up returned this.
+fn judge_look_up(slow: &mut SlowStore, key: &str, reply: &Reply) -> Result<()> {
+    match reply {
+        Reply::Value(value) => slow.found(None, key.as_bytes(), &Found::Value(value.as_slice())),
+        Reply::Nothing => slow.found(None, key.as_bytes(), &Found::Nothing),
+        Reply::Done => Ok(()),
+        Reply::Refused(_) => slow.was_closed(),
+    }
+}
+
+/// A step returned this. An opening that fails leaves the store closed, and whatever `abandon` returns the store is closed.
+pub fn judge(slow: &mut SlowStore, alloc: Global, step: &Step, reply: &Reply) -> Result<()> {
+    match (step, reply) {
+        (Step::Abandon, _) => slow.abandoned(),
+        (Step::Get(key), _) => judge_look_up(slow, key, reply),
+        (Step::Open, Reply::Refused(_)) => slow.was_closed(),
+        (_, Reply::Refused(status)) => judge_failure(slow, alloc, step, status),
+        _ => judge_success(slow, alloc, step),
+    }
+}
