@@ -59,9 +59,22 @@ fn pick(alloc: Global, tail: &[u8]) -> Result<Pick> {
     })
 }
 
+fn open<E: Env>(alloc: Global, env: &mut E) -> Result<Opened<'_, E>> {
+    DB::open(alloc, "db", env, Options::default())
+}
+
+/// Whether an opening fails with this code.
+fn opening_fails<E: Env>(alloc: Global, env: &mut E, name: &str, code: StatusCode) -> bool {
+    failed_with(DB::open(alloc, name, env, Options::default()), code)
+}
+
+fn unlock_fails<E: Env>(env: &mut E) -> bool {
+    failed_with(env.unlock("db/LOCK"), StatusCode::LockError)
+}
+
 /// The four bytes that a store shows which is opened, and then closed.
 fn found_again<E: Env>(alloc: Global, env: &mut E) -> Result<[u8; 4]> {
-    let mut db = DB::open(alloc, "db", env, Options::default())?;
+    let mut db = open(alloc, env)?;
     let found = bytes_in(&mut db)?;
     db.close()?;
     Ok(found)
@@ -87,26 +100,24 @@ fn assert_closed<E: Env>(rt: &impl Abort, db: &mut Opened<'_, E>) {
 fn each_call_once(rt: HostRuntime) -> Result<()> {
     let alloc = rt.alloc();
     let mut env = MemEnv::new(alloc);
-    let mut db = DB::open(alloc, "db", &mut env, Options::default())?;
+    let mut db = open(alloc, &mut env)?;
     write_and_close(&rt, alloc, &mut db)?;
     assert_closed(&rt, &mut db);
     db.abandon()?;
-    let mut db = DB::open(alloc, "db", &mut env, Options::default())?;
-    assert!(rt; bytes_in(&mut db)? == *b"-23-");
-    db.abandon()
+    assert!(rt; found_again(alloc, &mut env)? == *b"-23-");
+    Ok(())
 }
 
 #[test]
 fn a_store_that_is_dropped_keeps_its_lock(rt: HostRuntime) -> Result<()> {
     let alloc = rt.alloc();
     let mut env = MemEnv::new(alloc);
-    drop(DB::open(alloc, "db", &mut env, Options::default())?);
-    let again = DB::open(alloc, "db", &mut env, Options::default());
-    assert!(rt; failed_with(again, StatusCode::LockError));
+    drop(open(alloc, &mut env)?);
+    assert!(rt; opening_fails(alloc, &mut env, "db", StatusCode::LockError));
     env.unlock("db/LOCK")?;
-    let db = DB::open(alloc, "db", &mut env, Options::default())?;
+    let db = open(alloc, &mut env)?;
     db.abandon()?;
-    assert!(rt; failed_with(env.unlock("db/LOCK"), StatusCode::LockError));
+    assert!(rt; unlock_fails(&mut env));
     Ok(())
 }
 
@@ -114,13 +125,12 @@ fn a_store_that_is_dropped_keeps_its_lock(rt: HostRuntime) -> Result<()> {
 fn openings_are_refused(rt: HostRuntime) -> Result<()> {
     let alloc = rt.alloc();
     let mut env = MemEnv::new(alloc);
-    let nameless = DB::open(alloc, "", &mut env, Options::default());
-    assert!(rt; failed_with(nameless, StatusCode::InvalidArgument));
+    assert!(rt; opening_fails(alloc, &mut env, "", StatusCode::InvalidArgument));
     let mut options = Options::default();
     options.create_if_missing = false;
     let missing = DB::open(alloc, "db", &mut env, options);
     assert!(rt; failed_with(missing, StatusCode::InvalidArgument));
-    assert!(rt; failed_with(env.unlock("db/LOCK"), StatusCode::LockError));
+    assert!(rt; unlock_fails(&mut env));
     Ok(())
 }
 
@@ -132,13 +142,35 @@ fn assert_broken<E: Env>(rt: &impl Abort, db: &mut Opened<'_, E>) -> Result<()> 
     Ok(())
 }
 
-/// The append of b fails, done or undone: the store is broken, and keeps its map until it is opened again.
-fn fail_an_append(rt: &impl Abort, alloc: Global, env: &mut RecordEnv, done: bool) -> Result<()> {
+/// An engine that was opened on a device whose nth call from now on fails, with its change made or not.
+fn open_to_fail(
+    alloc: Global,
+    env: &mut RecordEnv,
+    nth: u64,
+    done: bool,
+) -> Result<Engine<RecordEnv, DefaultCmp, BloomPolicy>> {
     let engine = Engine::open(alloc, "db", env, Options::default())?;
-    env.fail(1, done);
+    env.fail(nth, done);
+    Ok(engine)
+}
+
+fn abandon<E: Env>(db: Opened<'_, E>) -> Result<()> {
+    db.abandon()
+}
+
+/// The append of b fails: the store is broken, and keeps its map until it is opened again.
+fn fail_an_append(rt: &impl Abort, alloc: Global, env: &mut RecordEnv, done: bool) -> Result<()> {
+    let engine = open_to_fail(alloc, env, 1, done)?;
     let mut db = Store::around(env, engine);
     assert!(rt; failed_with(db.put(b"b", b"2"), StatusCode::IOError));
     assert_broken(rt, &mut db)?;
+    abandon(db)
+}
+
+/// A store with 1 for a.
+fn put_one<E: Env>(alloc: Global, env: &mut E) -> Result<()> {
+    let mut db = open(alloc, env)?;
+    db.put(b"a", b"1")?;
     db.abandon()
 }
 
@@ -146,9 +178,7 @@ fn fail_an_append(rt: &impl Abort, alloc: Global, env: &mut RecordEnv, done: boo
 fn a_failed_write_breaks_the_store(rt: HostRuntime) -> Result<()> {
     let alloc = rt.alloc();
     let mut env = RecordEnv::new(alloc);
-    let mut db = DB::open(alloc, "db", &mut env, Options::default())?;
-    db.put(b"a", b"1")?;
-    db.abandon()?;
+    put_one(alloc, &mut env)?;
     fail_an_append(&rt, alloc, &mut env, false)?;
     assert!(rt; found_again(alloc, &mut env)? == *b"1---");
     fail_an_append(&rt, alloc, &mut env, true)?;
@@ -158,8 +188,7 @@ fn a_failed_write_breaks_the_store(rt: HostRuntime) -> Result<()> {
 
 /// The `nth` call of the device in a close fails: the store is broken, and has its lock until `abandon` gives that back.
 fn fail_a_close(rt: &impl Abort, alloc: Global, env: &mut RecordEnv, nth: u64) -> Result<()> {
-    let mut engine = Engine::open(alloc, "db", env, Options::default())?;
-    env.fail(nth, false);
+    let mut engine = open_to_fail(alloc, env, nth, false)?;
     assert!(rt; failed_with(engine.close(env), StatusCode::IOError));
     assert!(rt; failed_with(engine.put(env, b"a", b"1"), StatusCode::IOError));
     assert!(rt; failed_with(env.lock("db/LOCK"), StatusCode::LockError));
@@ -186,7 +215,7 @@ fn crash_and_go_on(alloc: Global, env: &MemEnv, tail: &[u8]) -> Result<([u8; 4],
 }
 
 fn write_after_a_crash(alloc: Global, left: &mut MemEnv) -> Result<[u8; 4]> {
-    let mut db = DB::open(alloc, "db", left, Options::default())?;
+    let mut db = open(alloc, left)?;
     let found = bytes_in(&mut db)?;
     db.write(pair(alloc, b"d", b"4")?, true)?;
     Ok(found)
@@ -195,7 +224,7 @@ fn write_after_a_crash(alloc: Global, left: &mut MemEnv) -> Result<[u8; 4]> {
 /// The disk after three records of 24 bytes each, of which the first two are durable.
 fn after_three_records(alloc: Global) -> Result<MemEnv> {
     let mut env = MemEnv::new(alloc);
-    let mut db = DB::open(alloc, "db", &mut env, Options::default())?;
+    let mut db = open(alloc, &mut env)?;
     db.put(b"a", b"1")?;
     db.write(pair(alloc, b"b", b"2")?, true)?;
     db.put(b"c", b"3")?;

@@ -1,7 +1,7 @@
 //! A store on a recording device: a crash at each moment of a script, a second one at each moment of the reopening, and each call of
 //! the device failing once. What is found is what the slow store allows.
 use crate::crash_disks::{Tails, Tally, crash, find_all, judge_all, judge_crash, record};
-use crate::replies::are_same;
+use crate::replies::{are_same, is_map};
 use crate::steps::{Call, Step};
 use leveldb_base::cmp::DefaultCmp;
 use leveldb_base::error::{Result, StatusCode};
@@ -216,7 +216,25 @@ fn crash_at_the_end(
     Ok(())
 }
 
-/// The script with one call of the device failing, and then a crash.
+/// Opens the store again as it was left: it shows an allowed map, or it is still locked, since the lock couldn't be given back.
+fn reopen_at_the_end(
+    rt: &impl Abort,
+    alloc: Global,
+    env: &mut RecordEnv,
+    calls: &[Call],
+) -> Result<()> {
+    let mut slow = judge_all(alloc, calls)?;
+    slow.opened()?;
+    let maps = slow.maps(&DefaultCmp)?;
+    let is_right = match find_all(alloc, env) {
+        Ok(found) => maps.iter().any(|map| is_map(map, &found)),
+        Err(status) => status.code == StatusCode::LockError,
+    };
+    assert!(rt; is_right);
+    Ok(())
+}
+
+/// The script with one call of the device failing, and then a crash, or a reopening.
 fn fail_once(
     rt: &impl Abort,
     alloc: Global,
@@ -233,7 +251,8 @@ fn fail_once(
         "call {nth}, {done}"
     );
     crash_at_the_end(rt, alloc, &env, &calls, Tails::Nothing, tally)?;
-    crash_at_the_end(rt, alloc, &env, &calls, Tails::Whole, tally)
+    crash_at_the_end(rt, alloc, &env, &calls, Tails::Whole, tally)?;
+    reopen_at_the_end(rt, alloc, &mut env, &calls)
 }
 
 /// The script with each call of the device failing once, its change made or not.
