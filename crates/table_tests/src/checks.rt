@@ -11,7 +11,7 @@ use leveldb_env::filter::{BloomPolicy, FilterPolicy};
 use leveldb_env::options::Options;
 use leveldb_table::block::Block;
 use leveldb_table::table_builder::{FULL_FOOTER_LENGTH, Footer, TableBuilder};
-use std::alloc::Global;
+use std::alloc::{AllocError, Global};
 use std::process::Abort;
 
 /// A key and its value.
@@ -70,28 +70,25 @@ pub fn compressed(alloc: Global) -> Result<Options<DefaultCmp, BloomPolicy>> {
 
 /// Whether a call failed with this code. Out of memory is passed on.
 pub fn failed_with<T: Drop>(answer: Result<T>, code: StatusCode) -> Result<bool> {
-    match answer {
-        Ok(_) => Ok(false),
-        Err(status) if status.code == StatusCode::OutOfMemory => Err(status),
-        Err(status) => Ok(status.code == code),
+    let Err(status) = answer else {
+        return Ok(false);
+    };
+    if status.code == StatusCode::OutOfMemory {
+        return Err(status);
     }
+    Ok(status.code == code)
 }
 
-/// Whether a call failed with this code and a status of this text. Out of memory is passed on.
-pub fn failed_saying<T: Drop>(
-    alloc: Global,
-    answer: Result<T>,
-    code: StatusCode,
-    text: &str,
-) -> Result<bool> {
-    match answer {
-        Ok(_) => Ok(false),
-        Err(status) if status.code == StatusCode::OutOfMemory => Err(status),
-        Err(status) => {
-            let found = format!(in alloc; "{status}")?;
-            Ok(status.code == code && found.as_str() == text)
-        }
+/// Whether a call failed with this code and text. Out of memory is passed on.
+pub fn failed_saying<T: Drop>(answer: Result<T>, code: StatusCode, text: &str) -> Result<bool> {
+    let Err(status) = answer else {
+        return Ok(false);
+    };
+    if status.code == StatusCode::OutOfMemory {
+        return Err(status);
     }
+    let found = status.err.ok_or(AllocError)?;
+    Ok(status.code == code && found.as_str() == text)
 }
 
 /// Adds `amount` to the byte at `offset`, past 255 from 0 on.

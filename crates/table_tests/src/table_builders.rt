@@ -80,15 +80,15 @@ fn options(interval: usize) -> Options<DefaultCmp, BloomPolicy> {
 }
 
 // Whether a builder that is broken failed.
-fn is_broken<T: Drop>(alloc: Global, answer: Result<T>) -> Result<bool> {
+fn is_broken<T: Drop>(answer: Result<T>) -> Result<bool> {
     let text = "IOError: reopen the store";
-    failed_saying(alloc, answer, StatusCode::IOError, text)
+    failed_saying(answer, StatusCode::IOError, text)
 }
 
 // Whether a call failed since the id 9 has no compressor.
-fn is_unset<T: Drop>(alloc: Global, answer: Result<T>) -> Result<bool> {
+fn is_unset<T: Drop>(answer: Result<T>) -> Result<bool> {
     let text = "invalid compression id `9`";
-    failed_saying(alloc, answer, StatusCode::NotSupported, text)
+    failed_saying(answer, StatusCode::NotSupported, text)
 }
 
 /// The id after the block at a handle.
@@ -366,11 +366,11 @@ fn fails_into(
     let mut builder = TableBuilder::new_raw(rt.alloc(), options, sink);
     let added = add_all(rt, &mut builder, &options.cmp, compressors, pairs);
     if added.is_ok() {
-        return failed_saying(rt.alloc(), builder.finish(compressors), code, text);
+        return failed_saying(builder.finish(compressors), code, text);
     }
-    let is_right = failed_saying(rt.alloc(), added, code, text)?;
-    let is_added = is_broken(rt.alloc(), builder.add(compressors, b"z", b""))?;
-    let is_finished = is_broken(rt.alloc(), builder.finish(compressors))?;
+    let is_right = failed_saying(added, code, text)?;
+    let is_added = is_broken(builder.add(compressors, b"z", b""))?;
+    let is_finished = is_broken(builder.finish(compressors))?;
     Ok(is_right && is_added && is_finished)
 }
 
@@ -422,9 +422,9 @@ fn assert_unset(
     let compressors = &options.compressor_list;
     let mut builder = TableBuilder::new_raw(rt.alloc(), options, table);
     let added = add_all(rt, &mut builder, &options.cmp, compressors, pairs);
-    assert!(rt; is_unset(rt.alloc(), added)?);
+    assert!(rt; is_unset(added)?);
     assert!(rt; builder.entries() == 5);
-    assert!(rt; is_broken(rt.alloc(), builder.finish(compressors))?);
+    assert!(rt; is_broken(builder.finish(compressors))?);
     Ok(())
 }
 
@@ -447,7 +447,7 @@ fn unset_id_at_the_end(rt: HostRuntime) -> Result<()> {
     options.compressor = 9;
     for pairs in [EIGHT.as_slice(), &[]] {
         let answer = table_of(&rt, &options, pairs);
-        assert!(rt; is_unset(rt.alloc(), answer)?);
+        assert!(rt; is_unset(answer)?);
     }
     Ok(())
 }
@@ -464,7 +464,7 @@ fn compressor_that_fails(rt: HostRuntime) -> Result<()> {
     for pairs in [EIGHT.as_slice(), &[]] {
         let answer = table_of(&rt, &options, pairs);
         let text = "CompressionError: too dense";
-        assert!(rt; failed_saying(rt.alloc(), answer, StatusCode::CompressionError, text)?);
+        assert!(rt; failed_saying(answer, StatusCode::CompressionError, text)?);
     }
     Ok(())
 }

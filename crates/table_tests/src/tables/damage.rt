@@ -25,7 +25,7 @@ fn assert_data(
     let none = CompressorList::default();
     let answer = read_table_block(rt.alloc(), DefaultCmp, env, file, &none, handle);
     let text = "invalid compression id `7`";
-    assert!(rt; failed_saying(rt.alloc(), answer, StatusCode::NotSupported, text)?);
+    assert!(rt; failed_saying(answer, StatusCode::NotSupported, text)?);
     Ok(())
 }
 
