@@ -6,9 +6,10 @@ use leveldb_base::error::Result;
 use leveldb_base::types::LdbIterator;
 use leveldb_env::filter::BloomPolicy;
 use leveldb_env::options::Options;
-use leveldb_table::block::Block;
+use leveldb_table::block::{Block, BlockIter};
 use leveldb_table::block_builder::BlockBuilder;
 use std::alloc::Global;
+use std::process::Abort;
 
 fn spaced(interval: usize) -> Options<DefaultCmp, BloomPolicy>
     ensures { result.block_restart_interval ≡ interval }
@@ -21,15 +22,15 @@ fn spaced(interval: usize) -> Options<DefaultCmp, BloomPolicy>
 #[test]
 fn empty_block(rt: HostRuntime) -> Result<()> {
     let mut builder = BlockBuilder::new(rt.alloc(), &spaced(16));
-    assert_eq!(rt; builder.entries(), 0);
-    assert_eq!(rt; builder.size_estimate(), 8);
+    assert!(rt; (builder.entries(), builder.size_estimate()) == (0, 8));
     builder.reset();
-    assert_eq!(rt; builder.size_estimate(), 4);
+    assert!(rt; builder.size_estimate() == 4);
     let block = builder.finish()?;
-    assert_eq!(rt; block.as_slice(), [0, 0, 0, 0, 1, 0, 0, 0].as_slice());
+    assert!(rt; block.as_slice() == [0, 0, 0, 0, 1, 0, 0, 0].as_slice());
     Ok(())
 }
 
+/// A builder with six pairs.
 fn sample(alloc: Global, interval: usize) -> Result<BlockBuilder<DefaultCmp>> {
     let mut builder = BlockBuilder::new(alloc, &spaced(interval));
     builder.add(b"key1", b"value1")?;
@@ -42,60 +43,69 @@ fn sample(alloc: Global, interval: usize) -> Result<BlockBuilder<DefaultCmp>> {
 }
 
 #[test]
-fn estimate(rt: HostRuntime) -> Result<()> {
+fn estimate_is_the_length(rt: HostRuntime) -> Result<()> {
+    let builder = sample(rt.alloc(), 3)?;
+    assert!(rt; (builder.entries(), builder.size_estimate()) == (6, 149));
+    assert!(rt; builder.last_key() == b"prefix_key3".as_slice());
+    assert!(rt; builder.finish()?.len() == 149);
+    Ok(())
+}
+
+#[test]
+fn builds_again_after_a_reset(rt: HostRuntime) -> Result<()> {
     let mut builder = sample(rt.alloc(), 3)?;
-    assert_eq!(rt; builder.entries(), 6);
-    assert_eq!(rt; builder.last_key(), b"prefix_key3".as_slice());
-    assert_eq!(rt; builder.size_estimate(), 149);
-    let block = sample(rt.alloc(), 3)?.finish()?;
-    assert_eq!(rt; block.len(), 149);
     builder.reset();
-    assert_eq!(rt; builder.size_estimate(), 4);
-    assert_eq!(rt; builder.entries(), 0);
+    assert!(rt; (builder.entries(), builder.size_estimate()) == (0, 4));
     assert!(rt; builder.last_key().is_empty());
     builder.add(b"a", b"")?;
-    assert_eq!(rt; builder.size_estimate(), 12);
+    assert!(rt; builder.size_estimate() == 12);
     let one = builder.finish()?;
-    assert_eq!(rt;
-        one.as_slice(),
-        [0, 1, 0, b'a', 0, 0, 0, 0, 1, 0, 0, 0].as_slice()
-    );
+    assert!(rt; one.as_slice() == [0, 1, 0, b'a', 0, 0, 0, 0, 1, 0, 0, 0].as_slice());
     Ok(())
+}
+
+// How many steps go to a pair, of seven.
+fn count_steps(it: &mut BlockIter<'_, DefaultCmp>) -> Result<u32> {
+    let mut count = 0u32;
+    for _ in 0..7 {
+        if !it.advance()? {
+            return Ok(count);
+        }
+        count = count.saturating_add(1);
+    }
+    Ok(count)
+}
+
+// The key at which an iterator is.
+fn key<'a>(it: &'a BlockIter<'_, DefaultCmp>) -> Option<&'a [u8]> {
+    Some(it.current()?.0)
+}
+
+/// Asserts what is found of the six pairs by seeks, and before what is found.
+fn assert_seeks(rt: &impl Abort, it: &mut BlockIter<'_, DefaultCmp>) -> Result<()> {
+    it.seek(b"prefix_key0")?;
+    assert!(rt; it.current() == Some((b"prefix_key1".as_slice(), b"value".as_slice())));
+    assert!(rt; it.prev()? && key(it) == Some(b"medium length key 1".as_slice()));
+    it.seek(b"prefix_key8")?;
+    assert!(rt; !it.valid() && !it.prev()?);
+    it.seek_to_last()?;
+    assert!(rt; key(it) == Some(b"prefix_key3".as_slice()));
+    Ok(())
+}
+
+/// Asserts that the block of the six pairs is read again.
+fn assert_read_again(rt: &(impl Abort + AllocGlobal), interval: usize) -> Result<()> {
+    let contents = sample(rt.alloc(), interval)?.finish()?;
+    let block = Block::new(rt.alloc(), DefaultCmp, contents)?;
+    let mut it = block.iter(rt.alloc());
+    assert!(rt; count_steps(&mut it)? == 6, "interval {interval}");
+    assert_seeks(rt, &mut it)
 }
 
 #[test]
 fn read_again(rt: HostRuntime) -> Result<()> {
     for interval in 0..20usize {
-        let contents = sample(rt.alloc(), interval)?.finish()?;
-        let block = Block::new(rt.alloc(), DefaultCmp, contents)?;
-        let mut it = block.iter(rt.alloc());
-        let mut pairs = 0u32;
-        for _ in 0..6 {
-            if it.advance()? {
-                pairs = pairs.saturating_add(1);
-            }
-        }
-        assert_eq!(rt; pairs, 6);
-        assert!(rt; !it.advance()?);
-        it.seek(b"prefix_key0")?;
-        let Some((key, value)) = it.current() else {
-            panic!(rt; "no pair");
-        };
-        assert_eq!(rt; key, b"prefix_key1".as_slice());
-        assert_eq!(rt; value, b"value".as_slice());
-        assert!(rt; it.prev()?);
-        let Some((key, _)) = it.current() else {
-            panic!(rt; "no pair");
-        };
-        assert_eq!(rt; key, b"medium length key 1".as_slice());
-        it.seek(b"prefix_key8")?;
-        assert!(rt; !it.valid());
-        assert!(rt; !it.prev()?);
-        it.seek_to_last()?;
-        let Some((key, _)) = it.current() else {
-            panic!(rt; "no pair");
-        };
-        assert_eq!(rt; key, b"prefix_key3".as_slice());
+        assert_read_again(&rt, interval)?;
     }
     Ok(())
 }

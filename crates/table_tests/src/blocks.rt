@@ -1,4 +1,5 @@
 //! Blocks read and walked both ways, and compared with a slow reader of their grammar.
+use crate::checks::{Given, change_byte, failed_with};
 use byteorder::{ByteOrder, LittleEndian};
 use bytes::Bytes;
 use leveldb_base::cmp::DefaultCmp;
@@ -15,22 +16,22 @@ const SMALL: [u8; 38] = [
     1, b'b', b'4', 0, 0, 0, 0, 14, 0, 0, 0, 2, 0, 0, 0,
 ];
 
-const KEYS: [&[u8]; 5] = [b"", b"a", b"ab", b"abc", b"b"];
+/// The pairs of that block.
+const PAIRS: [Given<'static>; 5] = [
+    (b"", b"0"),
+    (b"a", b"1"),
+    (b"ab", b"2"),
+    (b"abc", b"3"),
+    (b"b", b"4"),
+];
+
+fn pair(index: usize) -> Option<Given<'static>> {
+    PAIRS.as_slice().get(index).copied()
+}
 
 fn block_of(alloc: Global, bytes: &[u8]) -> Result<Block<DefaultCmp>> {
     let contents = Bytes::from_vec(Vec::from_slice(alloc, bytes)?)?;
     Block::new(alloc, DefaultCmp, contents)
-}
-
-fn stands_at(rt: &impl Abort, it: &BlockIter<'_, DefaultCmp>, place: usize) {
-    match it.current() {
-        None => assert_eq!(rt; place, KEYS.len(), "no place"),
-        Some((key, value)) => {
-            assert!(rt; place < KEYS.len(), "a place");
-            assert_eq!(rt; key, KEYS[place]);
-            assert_eq!(rt; value.first().copied(), Some(b'0' + place as u8));
-        }
-    }
 }
 
 #[test]
@@ -41,86 +42,107 @@ fn empty_block(rt: HostRuntime) -> Result<()> {
     it.seek_to_last()?;
     assert!(rt; !it.valid());
     it.seek(b"")?;
-    assert!(rt; !it.valid());
-    assert!(rt; !it.prev()?);
-    assert_eq!(rt; block.contents()?.len(), 8);
+    assert!(rt; !it.valid() && !it.prev()?);
+    assert!(rt; block.contents()?.len() == 8);
     Ok(())
 }
 
-/// Forward and back over all pairs, and a turn at each place; the empty key is a place like any other.
+// Whether a step goes to the pair with this index.
+fn steps_to(it: &mut BlockIter<'_, DefaultCmp>, index: usize) -> Result<bool> {
+    Ok(it.advance()? && it.current() == pair(index))
+}
+
+/// Whether a step goes to the pair with this index, and again once there was a step back. Before the first pair there
+/// is no step back.
+fn turns_at(it: &mut BlockIter<'_, DefaultCmp>, index: usize) -> Result<bool> {
+    if !steps_to(it, index)? {
+        return Ok(false);
+    }
+    if index == 0 {
+        return Ok(true);
+    }
+    Ok(it.prev()? && it.current() == pair(index - 1) && steps_to(it, index)?)
+}
+
+/// Forward over all pairs, with a turn at each; the empty key is a position like any other.
+fn assert_forward(rt: &impl Abort, it: &mut BlockIter<'_, DefaultCmp>) -> Result<()> {
+    for index in 0..5usize {
+        assert!(rt; turns_at(it, index)?, "pair {index}");
+    }
+    assert!(rt; !it.advance()? && it.current().is_none());
+    assert!(rt; !it.prev()?);
+    Ok(())
+}
+
+/// Back over all pairs.
+fn assert_back(rt: &impl Abort, it: &mut BlockIter<'_, DefaultCmp>) -> Result<()> {
+    it.seek_to_last()?;
+    for index in (0..5usize).rev() {
+        assert!(rt; it.current() == pair(index), "pair {index}");
+        assert!(rt; it.prev()? == (index > 0), "pair {index}");
+    }
+    assert!(rt; !it.valid());
+    Ok(())
+}
+
 #[test]
 fn walks(rt: HostRuntime) -> Result<()> {
     let block = block_of(rt.alloc(), &SMALL)?;
     let mut it = block.iter(rt.alloc());
-    for place in 0..5usize {
-        assert!(rt; it.advance()?);
-        stands_at(&rt, &it, place);
-        if place > 0 {
-            assert!(rt; it.prev()?);
-            stands_at(&rt, &it, place - 1);
-            assert!(rt; it.advance()?);
-            stands_at(&rt, &it, place);
-        }
-    }
-    assert!(rt; !it.advance()?);
-    stands_at(&rt, &it, 5);
-    assert!(rt; !it.prev()?);
-    it.seek_to_last()?;
-    for place in (0..5usize).rev() {
-        stands_at(&rt, &it, place);
-        assert!(rt; it.prev()? == (place > 0));
-    }
-    assert!(rt; !it.valid());
+    assert_forward(&rt, &mut it)?;
+    assert_back(&rt, &mut it)?;
     it.seek_to_first()?;
-    stands_at(&rt, &it, 0);
+    assert!(rt; it.current() == pair(0));
     it.reset();
     assert!(rt; it.current().is_none());
     Ok(())
 }
+
+/// Keys, and the index of the first pair at or after each.
+const SEEKS: [(&[u8], usize); 10] = [
+    (b"", 0),
+    (b"\0", 1),
+    (b"a", 1),
+    (b"aa", 2),
+    (b"ab", 2),
+    (b"abb", 3),
+    (b"abc", 3),
+    (b"abd", 4),
+    (b"b", 4),
+    (b"c", 5),
+];
 
 #[test]
 fn seeks(rt: HostRuntime) -> Result<()> {
     let block = block_of(rt.alloc(), &SMALL)?;
     let copy = block.clone()?;
     let mut it = copy.iter(rt.alloc());
-    let rows: [(&[u8], usize); 10] = [
-        (b"", 0),
-        (b"\0", 1),
-        (b"a", 1),
-        (b"aa", 2),
-        (b"ab", 2),
-        (b"abb", 3),
-        (b"abc", 3),
-        (b"abd", 4),
-        (b"b", 4),
-        (b"c", 5),
-    ];
-    for (key, place) in rows {
+    for (key, index) in &SEEKS {
         it.seek(key)?;
-        stands_at(&rt, &it, place);
+        assert!(rt; it.current() == pair(*index), "at {key:?}");
     }
     assert!(rt; !it.prev()?);
     Ok(())
 }
 
+/// Bytes that are too few, restart points that aren't offsets of entries, and keys that don't rise.
+const MALFORMED: [&[u8]; 7] = [
+    &[],
+    &[1, 0, 0, 0],
+    &[0, 0, 0, 0],
+    &[1, 0, 0, 0, 1, 0, 0, 0],
+    &[0, 1, 0, b'b', 0, 1, 0, b'a', 0, 0, 0, 0, 1, 0, 0, 0],
+    &[0, 1, 0, b'a', 2, 1, 0, b'b', 0, 0, 0, 0, 1, 0, 0, 0],
+    &[
+        0, 1, 0, b'a', 1, 1, 0, b'b', 0, 0, 0, 0, 4, 0, 0, 0, 2, 0, 0, 0,
+    ],
+];
+
 #[test]
-fn refused(rt: HostRuntime) -> Result<()> {
-    let rows: [&[u8]; 7] = [
-        &[],
-        &[1, 0, 0, 0],
-        &[0, 0, 0, 0],
-        &[1, 0, 0, 0, 1, 0, 0, 0],
-        &[0, 1, 0, b'b', 0, 1, 0, b'a', 0, 0, 0, 0, 1, 0, 0, 0],
-        &[0, 1, 0, b'a', 2, 1, 0, b'b', 0, 0, 0, 0, 1, 0, 0, 0],
-        &[
-            0, 1, 0, b'a', 1, 1, 0, b'b', 0, 0, 0, 0, 4, 0, 0, 0, 2, 0, 0, 0,
-        ],
-    ];
-    for bytes in rows {
-        match block_of(rt.alloc(), bytes) {
-            Ok(_) => panic!(rt; "{bytes:?}"),
-            Err(status) => assert_eq!(rt; status.code, StatusCode::Corruption),
-        }
+fn malformed_bytes_are_corrupt(rt: HostRuntime) -> Result<()> {
+    for bytes in &MALFORMED {
+        let answer = block_of(rt.alloc(), bytes);
+        assert!(rt; failed_with(answer, StatusCode::Corruption)?, "{bytes:?}");
     }
     Ok(())
 }
@@ -181,6 +203,25 @@ fn raw_parts(bytes: &[u8]) -> Option<(&[u8], &[u8])> {
     Some(front.split_at(limit))
 }
 
+/// Adds an entry's pair, whose key has as many bytes of the key before it as the entry says. Returns whether there
+/// are so many and the key is after the one before it.
+fn add_pair(alloc: Global, pairs: &mut Pairs, entry: RawEntry<'_>) -> Result<bool> {
+    let before = match pairs.last() {
+        Some((key, _)) => key.as_slice(),
+        None => b"".as_slice(),
+    };
+    let Some(shared) = before.get(..entry.shared) else {
+        return Ok(false);
+    };
+    let mut key = shared.to_vec(alloc)?;
+    key.extend_from_slice(entry.rest)?;
+    if !pairs.is_empty() && before >= key.as_slice() {
+        return Ok(false);
+    }
+    pairs.push((key, entry.value.to_vec(alloc)?))?;
+    Ok(true)
+}
+
 /// The pairs of a block, read from its grammar alone.
 fn slow_pairs(alloc: Global, bytes: &[u8]) -> Result<Option<Pairs>> {
     let Some((entries, points)) = raw_parts(bytes) else {
@@ -188,78 +229,68 @@ fn slow_pairs(alloc: Global, bytes: &[u8]) -> Result<Option<Pairs>> {
     };
     let mut pairs = Vec::new(alloc);
     let mut starts = Vec::new(alloc);
-    let mut key = Vec::new(alloc);
     let mut left = entries;
     for _ in 0..entries.len() {
-        if left.is_empty() {
-            break;
-        }
         let Some(entry) = read_raw(left) else {
-            return Ok(None);
+            break;
         };
         if entry.shared == 0 {
             starts.push(entries.len().saturating_sub(left.len()))?;
         }
-        let Some(shared) = key.get(..entry.shared) else {
-            return Ok(None);
-        };
-        let mut next = shared.to_vec(alloc)?;
-        next.extend_from_slice(entry.rest)?;
-        if !pairs.is_empty() && !key.as_slice().cmp(next.as_slice()).is_lt() {
+        if !add_pair(alloc, &mut pairs, entry)? {
             return Ok(None);
         }
-        key = next.clone()?;
-        pairs.push((next, entry.value.to_vec(alloc)?))?;
         left = entry.left;
     }
-    Ok(if points_fit(points, &starts) {
-        Some(pairs)
-    } else {
-        None
-    })
+    let is_block = left.is_empty() && points_fit(points, &starts);
+    Ok(if is_block { Some(pairs) } else { None })
 }
 
-/// A block is refused where the slow reader finds none, and walks over the same pairs otherwise.
-fn same_as_slow(rt: &(impl Abort + AllocGlobal), bytes: &[u8]) -> Result<()> {
-    let pairs = slow_pairs(rt.alloc(), bytes)?;
-    let block = match block_of(rt.alloc(), bytes) {
-        Ok(block) => block,
-        Err(status) => {
-            if status.code != StatusCode::Corruption {
-                return Err(status);
-            }
-            assert!(rt; pairs.is_none(), "{bytes:?}");
-            return Ok(());
+/// Whether a block walks over these pairs.
+fn has_pairs(alloc: Global, block: &Block<DefaultCmp>, pairs: &Pairs) -> Result<bool> {
+    let mut it = block.iter(alloc);
+    for pair in pairs {
+        if !it.advance()? || current_key_val(alloc, &it)?.as_ref() != Some(pair) {
+            return Ok(false);
         }
-    };
-    let Some(pairs) = pairs else {
-        panic!(rt; "{bytes:?}");
-    };
-    let mut it = block.iter(rt.alloc());
-    for pair in &pairs {
-        assert!(rt; it.advance()?);
-        let Some((key, value)) = current_key_val(rt.alloc(), &it)? else {
-            panic!(rt; "no pair");
-        };
-        assert!(rt; key == pair.0 && value == pair.1, "{bytes:?}");
     }
-    assert!(rt; !it.advance()?);
+    Ok(!it.advance()?)
+}
+
+/// Whether bytes are no block where the slow reader finds none, and otherwise a block that walks over the same pairs.
+fn same_as_slow(alloc: Global, bytes: &[u8]) -> Result<bool> {
+    match (block_of(alloc, bytes), slow_pairs(alloc, bytes)?) {
+        (Ok(block), Some(pairs)) => has_pairs(alloc, &block, &pairs),
+        (answer, pairs) => Ok(failed_with(answer, StatusCode::Corruption)? && pairs.is_none()),
+    }
+}
+
+#[test]
+fn cut_blocks(rt: HostRuntime) -> Result<()> {
+    assert!(rt; same_as_slow(rt.alloc(), &SMALL)?);
+    for length in 0..SMALL.len() {
+        assert!(rt;
+            same_as_slow(rt.alloc(), &SMALL[..length])?,
+            "{length} bytes"
+        );
+    }
     Ok(())
 }
 
-/// Each cut of a small block, and each of its bytes raised by each amount.
-#[test]
-fn cut_and_raised(rt: HostRuntime) -> Result<()> {
-    same_as_slow(&rt, &SMALL)?;
-    for length in 0..SMALL.len() {
-        same_as_slow(&rt, &SMALL[..length])?;
+/// A small block whose byte at `place` is raised by each amount.
+fn assert_raised(rt: &(impl Abort + AllocGlobal), place: usize) -> Result<()> {
+    for by in 1..=255u8 {
+        let mut bytes = SMALL;
+        change_byte(&mut bytes, place, by);
+        assert!(rt; same_as_slow(rt.alloc(), &bytes)?, "{bytes:?}");
     }
-    for i in 0..SMALL.len() {
-        for by in 1..=255u8 {
-            let mut bytes = SMALL;
-            bytes[i] = bytes[i].wrapping_add(by);
-            same_as_slow(&rt, &bytes)?;
-        }
+    Ok(())
+}
+
+#[test]
+fn raised_bytes(rt: HostRuntime) -> Result<()> {
+    for place in 0..SMALL.len() {
+        assert_raised(&rt, place)?;
     }
     Ok(())
 }

@@ -8,6 +8,11 @@ fn key(n: u8) -> CacheKey {
     key
 }
 
+// A copy of the value under a key, which counts as used.
+fn got(cache: &mut Cache<u32>, n: u8) -> Option<u32> {
+    cache.get(&key(n)).copied()
+}
+
 /// Five values in a cache of three: the first two go; a value is replaced in its place; what is looked for stays longest.
 #[test]
 fn of_three(rt: HostRuntime) -> Result<()> {
@@ -15,18 +20,16 @@ fn of_three(rt: HostRuntime) -> Result<()> {
     for n in 1..=5 {
         cache.insert(&key(n), u32::from(n))?;
     }
-    assert_eq!(rt; (cache.count(), cache.cap()), (3, 3));
-    assert_eq!(rt; cache.get(&key(1)).copied(), None);
-    assert_eq!(rt; cache.get(&key(2)).copied(), None);
-    assert_eq!(rt; cache.get(&key(3)).copied(), Some(3));
+    assert!(rt; (cache.count(), cache.cap()) == (3, 3));
+    assert!(rt;
+        [got(&mut cache, 1), got(&mut cache, 2), got(&mut cache, 3)] == [None, None, Some(3)]
+    );
     cache.insert(&key(3), 33)?;
-    assert_eq!(rt; cache.count(), 3);
+    assert!(rt; cache.count() == 3);
     cache.insert(&key(6), 6)?;
-    assert_eq!(rt; cache.get(&key(3)).copied(), Some(33));
-    assert_eq!(rt; cache.get(&key(4)).copied(), None);
-    assert_eq!(rt; cache.remove(&key(5)), Some(5));
-    assert_eq!(rt; cache.remove(&key(5)), None);
-    assert_eq!(rt; cache.count(), 2);
-    assert_eq!(rt; (cache.new_cache_id()?, cache.new_cache_id()?), (1, 2));
+    assert!(rt; [got(&mut cache, 3), got(&mut cache, 4)] == [Some(33), None]);
+    assert!(rt; [cache.remove(&key(5)), cache.remove(&key(5))] == [Some(5), None]);
+    assert!(rt; cache.count() == 2);
+    assert!(rt; [cache.new_cache_id()?, cache.new_cache_id()?] == [1, 2]);
     Ok(())
 }

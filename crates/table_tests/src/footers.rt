@@ -2,44 +2,54 @@
 use leveldb_base::blockhandle::BlockHandle;
 use leveldb_table::table_builder::{FOOTER_LENGTH, FULL_FOOTER_LENGTH, Footer};
 
-/// Two handles, and their footer byte by byte; what stands behind it stays.
+/// LevelDB's number of a table, by its format.
+const NUMBER: [u8; 8] = [0x57, 0xfb, 0x80, 0x8b, 0x24, 0x75, 0x47, 0xdb];
+
+/// Two handles, and their footer byte by byte; what is after it stays.
 #[test]
-fn spelled_both_ways(rt: HostRuntime) {
+fn encoded_and_decoded(rt: HostRuntime) {
     let footer = Footer::new(BlockHandle::new(44, 4), BlockHandle::new(55, 5));
     let mut target = [7; 50];
     footer.encode(&mut target);
     let (bytes, rest) = target.as_slice().split_at(FULL_FOOTER_LENGTH);
     let (handles, end) = bytes.split_at(FOOTER_LENGTH);
-    assert_eq!(rt; &handles[..4], [0x2c, 4, 0x37, 5].as_slice());
-    assert_eq!(rt; &handles[4..], [0; 36].as_slice());
-    assert_eq!(rt;
-        end,
-        [0x57, 0xfb, 0x80, 0x8b, 0x24, 0x75, 0x47, 0xdb].as_slice()
-    );
-    assert_eq!(rt; rest, [7; 2].as_slice());
+    assert!(rt; &handles[..4] == [0x2c, 4, 0x37, 5].as_slice());
+    assert!(rt; &handles[4..] == [0; 36].as_slice());
+    assert!(rt; end == NUMBER.as_slice() && rest == [7; 2].as_slice());
     let Some(read) = Footer::decode(bytes) else {
         panic!(rt; "no footer");
     };
-    assert_eq!(rt; (read.meta_index.offset(), read.meta_index.size()), (44, 4));
-    assert_eq!(rt; (read.index.offset(), read.index.size()), (55, 5));
+    assert!(rt; (read.meta_index.offset(), read.meta_index.size()) == (44, 4));
+    assert!(rt; (read.index.offset(), read.index.size()) == (55, 5));
 }
 
-/// Bytes that are cut, longer, moved, with filler that isn't zeros, with another number, or with a handle cut.
-#[test]
-fn refused(rt: HostRuntime) {
-    let footer = Footer::new(
+// A footer that has handles of most bytes.
+fn longest() -> Footer {
+    Footer::new(
         BlockHandle::new(44, 4),
         BlockHandle::new(usize::MAX, usize::MAX),
-    );
-    let mut bytes = [0; FULL_FOOTER_LENGTH];
-    footer.encode(&mut bytes);
-    assert!(rt; Footer::decode(&bytes).is_some());
-    assert!(rt; Footer::decode(&[]).is_none());
-    assert!(rt; Footer::decode(bytes.as_slice().split_at(47).0).is_none());
+    )
+}
+
+/// Bytes that are cut, longer or moved.
+#[test]
+fn other_lengths_are_not_decoded(rt: HostRuntime) {
     let mut longer = [0; 49];
-    footer.encode(&mut longer);
+    longest().encode(&mut longer);
+    let (bytes, _) = longer.as_slice().split_at(FULL_FOOTER_LENGTH);
+    assert!(rt; Footer::decode(bytes).is_some());
+    assert!(rt; Footer::decode(&[]).is_none());
+    assert!(rt; Footer::decode(bytes.split_at(47).0).is_none());
     assert!(rt; Footer::decode(&longer).is_none());
     assert!(rt; Footer::decode(longer.as_slice().split_at(1).1).is_none());
+}
+
+/// Filler that isn't zeros, another number, and a handle that is cut.
+#[test]
+fn changed_bytes_are_not_decoded(rt: HostRuntime) {
+    let mut bytes = [0; FULL_FOOTER_LENGTH];
+    longest().encode(&mut bytes);
+    assert!(rt; Footer::decode(&bytes).is_some());
     for place in [21, 22, 39, 40, 47] {
         let mut changed = bytes;
         changed[place] ^= 0x81;

@@ -8,6 +8,8 @@ mod blocks;
 #[cfg(test)]
 mod caches;
 #[cfg(test)]
+mod checks;
+#[cfg(test)]
 mod footers;
 #[cfg(test)]
 mod short_reads;

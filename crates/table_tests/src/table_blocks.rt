@@ -1,10 +1,10 @@
 //! Blocks and filters read from files: whole, damaged, cut, and at handles past the file.
+use crate::checks::{Given, change_byte, failed_saying, failed_with, has_pairs};
 use crate::short_reads::ShortReads;
 use leveldb_base::blockhandle::BlockHandle;
 use leveldb_base::cmp::DefaultCmp;
 use leveldb_base::crc::{digest, mask_crc};
 use leveldb_base::error::{Result, StatusCode};
-use leveldb_base::types::LdbIterator;
 use leveldb_env::compressor::CompressorList;
 use leveldb_env::env::Env;
 use leveldb_env::filter::BloomPolicy;
@@ -14,7 +14,7 @@ use leveldb_env::options::Options;
 use leveldb_table::block::{Block, BlockContents};
 use leveldb_table::block_builder::BlockBuilder;
 use leveldb_table::table_block::{read_filter_block, read_table_block};
-use std::alloc::{AllocError, Global};
+use std::alloc::Global;
 use std::process::Abort;
 
 /// The first bytes of each file.
@@ -33,7 +33,10 @@ const PAST: [(usize, usize); 9] = [
     (usize::MAX, usize::MAX),
 ];
 
-/// The block of three pairs.
+/// The pairs of a block.
+const THREE: [Given<'static>; 3] = [(b"a", b"1"), (b"ab", b""), (b"b", b"333")];
+
+/// The block of the three pairs.
 fn three_pairs(alloc: Global) -> Result<BlockContents> {
     let mut builder = BlockBuilder::new(alloc, &Options::default());
     builder.add(b"a", b"1")?;
@@ -58,7 +61,7 @@ fn two_keys(alloc: Global) -> Result<Vec<u8>> {
     builder.finish()
 }
 
-/// A file's bytes: the first ones, these, and behind them an id and the checksum.
+/// A file's bytes: the first ones, these, and after them an id and the checksum.
 fn file_bytes(alloc: Global, stored: &[u8], id: u8) -> Result<Vec<u8>> {
     let mut digest = digest();
     digest.update(stored);
@@ -73,9 +76,7 @@ fn file_bytes(alloc: Global, stored: &[u8], id: u8) -> Result<Vec<u8>> {
 /// The same bytes, one of them raised by one.
 fn raised(alloc: Global, bytes: &[u8], place: usize) -> Result<Vec<u8>> {
     let mut raised = Vec::from_slice(alloc, bytes)?;
-    if let Some(byte) = raised.as_mut_slice().get_mut(place) {
-        *byte = byte.wrapping_add(1);
-    }
+    change_byte(&mut raised, place, 1);
     Ok(raised)
 }
 
@@ -86,7 +87,7 @@ fn file_of<E: Env>(env: &mut E, bytes: &[u8]) -> Result<E::File> {
     env.open_random_access_file("blocks")
 }
 
-/// The block at a handle of a file of these bytes, where all blocks are stored as they are.
+/// The block at a handle of a file of these bytes, whose blocks are all stored as they are.
 fn block_at<E: Env>(
     alloc: Global,
     env: &mut E,
@@ -94,8 +95,8 @@ fn block_at<E: Env>(
     location: BlockHandle,
 ) -> Result<Block<DefaultCmp>> {
     let file = file_of(env, bytes)?;
-    let coders = CompressorList::default();
-    read_table_block(alloc, DefaultCmp, env, &file, &coders, location)
+    let compressors = CompressorList::default();
+    read_table_block(alloc, DefaultCmp, env, &file, &compressors, location)
 }
 
 /// The filters at a handle of a file of these bytes.
@@ -109,68 +110,56 @@ fn filters_at<E: Env>(
     read_filter_block(alloc, BloomPolicy::new(10), env, &file, location)
 }
 
-/// A refusal with this code; want of memory is passed on.
-fn assert_refused<T: Drop>(rt: &impl Abort, answer: Result<T>, code: StatusCode) -> Result<()> {
-    let Err(status) = answer else {
-        panic!(rt; "read");
-    };
-    if status.code == StatusCode::OutOfMemory {
-        return Err(status);
-    }
-    assert_eq!(rt; status.code, code);
-    Ok(())
+/// Whether a block has the three pairs.
+fn has_three_pairs(alloc: Global, block: &Block<DefaultCmp>) -> Result<bool> {
+    has_pairs(alloc, block, &THREE)
 }
 
-/// A refusal for bytes past the file; want of memory is passed on.
-fn assert_past_file<T: Drop>(rt: &impl Abort, answer: Result<T>) -> Result<()> {
-    let Err(status) = answer else {
-        panic!(rt; "read");
-    };
-    if status.code == StatusCode::OutOfMemory {
-        return Err(status);
-    }
-    assert_eq!(rt; status.code, StatusCode::Corruption);
-    let text = status.err.ok_or(AllocError)?;
-    assert_eq!(rt; text.as_str(), "Corruption: a block is past the file");
-    Ok(())
+/// Whether filters are those of the two keys.
+fn are_filters(filters: &FilterBlockReader<BloomPolicy>) -> bool {
+    let has_keys = filters.key_may_match(0, b"a") && filters.key_may_match(0, b"ab");
+    let has_other = filters.key_may_match(0, b"b");
+    filters.num() == 1 && has_keys && !has_other && filters.key_may_match(2048, b"b")
 }
 
-/// The block has the three pairs.
-fn assert_pairs(rt: &(impl Abort + AllocGlobal), block: &Block<DefaultCmp>) -> Result<()> {
-    let pairs: [(&[u8], &[u8]); 3] = [(b"a", b"1"), (b"ab", b""), (b"b", b"333")];
-    let mut walk = block.iter(rt.alloc());
-    for pair in pairs {
-        assert!(rt; walk.advance()? && walk.current() == Some(pair));
-    }
-    assert!(rt; !walk.advance()?);
-    Ok(())
-}
-
-/// The filters are those of the two keys.
-fn assert_filters(rt: &impl Abort, filters: &FilterBlockReader<BloomPolicy>) {
-    assert_eq!(rt; filters.num(), 1);
-    assert!(rt; filters.key_may_match(0, b"a") && filters.key_may_match(0, b"ab"));
-    assert!(rt; !filters.key_may_match(0, b"b") && filters.key_may_match(2048, b"b"));
-}
-
-/// With a byte of the block or its trailer raised, or cut off, it is damaged.
+/// Asserts that a block is read, and is the three pairs, if and only if a raised byte is before it. It is damaged if
+/// it is cut off at that byte.
 fn check_damaged_block<E: Env>(
     rt: &(impl Abort + AllocGlobal),
     env: &mut E,
     bytes: &[u8],
     location: BlockHandle,
+    place: usize,
 ) -> Result<()> {
-    for place in 0..bytes.len() {
-        let raised = raised(rt.alloc(), bytes, place)?;
-        let answer = block_at(rt.alloc(), env, &raised, location);
-        if place < FRONT.len() {
-            assert_pairs(rt, &answer?)?;
-        } else {
-            assert_refused(rt, answer, StatusCode::Corruption)?;
-        }
-        let cut = bytes.get(..place).unwrap_or_default();
-        let answer = block_at(rt.alloc(), env, cut, location);
-        assert_refused(rt, answer, StatusCode::Corruption)?;
+    let raised = raised(rt.alloc(), bytes, place)?;
+    let answer = block_at(rt.alloc(), env, &raised, location);
+    let is_right = if place < FRONT.len() {
+        has_three_pairs(rt.alloc(), &answer?)?
+    } else {
+        failed_with(answer, StatusCode::Corruption)?
+    };
+    assert!(rt; is_right, "byte {place}");
+    let cut = bytes.get(..place).unwrap_or_default();
+    let answer = block_at(rt.alloc(), env, cut, location);
+    assert!(rt;
+        failed_with(answer, StatusCode::Corruption)?,
+        "{place} bytes"
+    );
+    Ok(())
+}
+
+/// Asserts that no block is read at these handles.
+fn check_blocks_past<E: Env>(
+    rt: &(impl Abort + AllocGlobal),
+    env: &mut E,
+    bytes: &[u8],
+) -> Result<()> {
+    for (offset, size) in &PAST {
+        let answer = block_at(rt.alloc(), env, bytes, BlockHandle::new(*offset, *size));
+        assert!(rt;
+            failed_with(answer, StatusCode::Corruption)?,
+            "{offset} {size}"
+        );
     }
     Ok(())
 }
@@ -180,52 +169,78 @@ fn check_block<E: Env>(rt: &(impl Abort + AllocGlobal), env: &mut E) -> Result<(
     let block = three_pairs(rt.alloc())?;
     let location = BlockHandle::new(FRONT.len(), block.len());
     let bytes = file_bytes(rt.alloc(), block.as_slice(), 0)?;
-    assert_pairs(rt, &block_at(rt.alloc(), env, &bytes, location)?)?;
-    check_damaged_block(rt, env, &bytes, location)?;
-    for (offset, size) in PAST {
-        let answer = block_at(rt.alloc(), env, &bytes, BlockHandle::new(offset, size));
-        assert_refused(rt, answer, StatusCode::Corruption)?;
+    assert!(rt; has_three_pairs(rt.alloc(), &block_at(rt.alloc(), env, &bytes, location)?)?);
+    for place in 0..bytes.len() {
+        check_damaged_block(rt, env, &bytes, location, place)?;
     }
-    Ok(())
+    check_blocks_past(rt, env, &bytes)
 }
 
-/// With a byte of the filters or their trailer raised, or cut off, they are damaged.
+/// Asserts that filters are damaged with a byte of theirs or of their trailer raised, and cut off at that byte.
 fn check_damaged_filters<E: Env>(
     rt: &(impl Abort + AllocGlobal),
     env: &mut E,
     bytes: &[u8],
     location: BlockHandle,
+    place: usize,
 ) -> Result<()> {
-    for place in FRONT.len()..bytes.len() {
-        let raised = raised(rt.alloc(), bytes, place)?;
-        let answer = filters_at(rt.alloc(), env, &raised, location);
-        assert_refused(rt, answer, StatusCode::Corruption)?;
-        let cut = bytes.get(..place).unwrap_or_default();
-        let answer = filters_at(rt.alloc(), env, cut, location);
-        assert_refused(rt, answer, StatusCode::Corruption)?;
-    }
+    let raised = raised(rt.alloc(), bytes, place)?;
+    let answer = filters_at(rt.alloc(), env, &raised, location);
+    assert!(rt;
+        failed_with(answer, StatusCode::Corruption)?,
+        "byte {place}"
+    );
+    let cut = bytes.get(..place).unwrap_or_default();
+    let answer = filters_at(rt.alloc(), env, cut, location);
+    assert!(rt;
+        failed_with(answer, StatusCode::Corruption)?,
+        "{place} bytes"
+    );
     Ok(())
 }
 
-/// Filters are read; none past the file, none that are coded, and a size of 0 stands for none.
-fn check_filters<E: Env>(rt: &(impl Abort + AllocGlobal), env: &mut E) -> Result<()> {
-    let block = two_keys(rt.alloc())?;
-    let location = BlockHandle::new(FRONT.len(), block.len());
-    let bytes = file_bytes(rt.alloc(), &block, 0)?;
-    assert_filters(rt, &filters_at(rt.alloc(), env, &bytes, location)?);
-    check_damaged_filters(rt, env, &bytes, location)?;
-    for (offset, size) in PAST {
-        let answer = filters_at(rt.alloc(), env, &bytes, BlockHandle::new(offset, size));
-        let code = if size == 0 {
+/// Asserts that no filters are read at these handles; a size of 0 stands for none.
+fn check_filters_past<E: Env>(
+    rt: &(impl Abort + AllocGlobal),
+    env: &mut E,
+    bytes: &[u8],
+) -> Result<()> {
+    for (offset, size) in &PAST {
+        let code = if *size == 0 {
             StatusCode::InvalidArgument
         } else {
             StatusCode::Corruption
         };
-        assert_refused(rt, answer, code)?;
+        let answer = filters_at(rt.alloc(), env, bytes, BlockHandle::new(*offset, *size));
+        assert!(rt; failed_with(answer, code)?, "{offset} {size}");
     }
-    let coded = file_bytes(rt.alloc(), &block, 1)?;
-    let answer = filters_at(rt.alloc(), env, &coded, location);
-    assert_refused(rt, answer, StatusCode::Corruption)
+    Ok(())
+}
+
+/// Asserts that filters are read, and neither damaged ones nor those past the file.
+fn check_stored_filters<E: Env>(
+    rt: &(impl Abort + AllocGlobal),
+    env: &mut E,
+    bytes: &[u8],
+    location: BlockHandle,
+) -> Result<()> {
+    assert!(rt; are_filters(&filters_at(rt.alloc(), env, bytes, location)?));
+    for place in FRONT.len()..bytes.len() {
+        check_damaged_filters(rt, env, bytes, location, place)?;
+    }
+    check_filters_past(rt, env, bytes)
+}
+
+/// Filters are read if they are stored as they are.
+fn check_filters<E: Env>(rt: &(impl Abort + AllocGlobal), env: &mut E) -> Result<()> {
+    let block = two_keys(rt.alloc())?;
+    let location = BlockHandle::new(FRONT.len(), block.len());
+    let bytes = file_bytes(rt.alloc(), &block, 0)?;
+    check_stored_filters(rt, env, &bytes, location)?;
+    let compressed = file_bytes(rt.alloc(), &block, 1)?;
+    let answer = filters_at(rt.alloc(), env, &compressed, location);
+    assert!(rt; failed_with(answer, StatusCode::Corruption)?);
+    Ok(())
 }
 
 /// Blocks on a disk in memory.
@@ -258,39 +273,40 @@ fn filters_by_short_reads(rt: HostRuntime) -> Result<()> {
     check_filters(&rt, &mut env)
 }
 
-/// An id without a coder is refused by name.
+/// An id without a compressor is named.
 #[test]
-fn id_without_a_coder(rt: HostRuntime) -> Result<()> {
+fn id_without_a_compressor(rt: HostRuntime) -> Result<()> {
     let mut env = MemEnv::new(rt.alloc());
     let block = three_pairs(rt.alloc())?;
     let location = BlockHandle::new(FRONT.len(), block.len());
     let bytes = file_bytes(rt.alloc(), block.as_slice(), 7)?;
-    let Err(status) = block_at(rt.alloc(), &mut env, &bytes, location) else {
-        panic!(rt; "read without its coder");
-    };
-    if status.code == StatusCode::OutOfMemory {
-        return Err(status);
-    }
-    assert_eq!(rt; status.code, StatusCode::NotSupported);
-    let text = status.err.ok_or(AllocError)?;
-    assert_eq!(rt; text.as_str(), "invalid compression id `7`");
+    let answer = block_at(rt.alloc(), &mut env, &bytes, location);
+    let text = "invalid compression id `7`";
+    assert!(rt; failed_saying(answer, StatusCode::NotSupported, text)?);
     Ok(())
 }
 
-/// More bytes than there is room for in a step, each at its place.
-#[test]
-fn in_steps(rt: HostRuntime) -> Result<()> {
-    let mut env = MemEnv::new(rt.alloc());
-    let mut value = Vec::new(rt.alloc());
+/// A block of one pair, whose value has 260000 bytes.
+fn long_block(alloc: Global) -> Result<BlockContents> {
+    let mut value = Vec::new(alloc);
     for _ in 0..20000usize {
         value.extend_from_slice(b"thirteen long")?;
     }
-    let block = one_pair(rt.alloc(), &value)?;
+    one_pair(alloc, &value)
+}
+
+/// More bytes than there is room for in a step, each at its offset.
+#[test]
+fn in_steps(rt: HostRuntime) -> Result<()> {
+    let mut env = MemEnv::new(rt.alloc());
+    let block = long_block(rt.alloc())?;
     let bytes = file_bytes(rt.alloc(), block.as_slice(), 0)?;
     let location = BlockHandle::new(FRONT.len(), block.len());
     let read = block_at(rt.alloc(), &mut env, &bytes, location)?;
     assert!(rt; read.contents()?.as_slice() == block.as_slice());
     let past = BlockHandle::new(FRONT.len(), block.len().saturating_add(5));
     let answer = block_at(rt.alloc(), &mut env, &bytes, past);
-    assert_past_file(&rt, answer)
+    let text = "Corruption: a block is past the file";
+    assert!(rt; failed_saying(answer, StatusCode::Corruption, text)?);
+    Ok(())
 }

@@ -1,48 +1,22 @@
 //! Tables built, and their bytes. The lengths are worked by hand from the format.
-ghost use Rattle.std.specs.Prelude.{◌≡◌, true, OnErr};
-ghost use Rattle.leveldb_table.specs.TableBuilding.{order_of};
-
+use crate::checks::{
+    EIGHT, Given, ONE, add_all, compressed, failed_saying, footer_of, internal_table, table_of,
+};
 use bytes::Bytes;
 use leveldb_base::blockhandle::BlockHandle;
 use leveldb_base::cmp::{Cmp, DefaultCmp, InternalKeyCmp};
 use leveldb_base::error::{Result, StatusCode, err};
 use leveldb_base::types::LdbIterator;
-use leveldb_env::compressor::{Compressor, CompressorList};
+use leveldb_env::compressor::Compressor;
 use leveldb_env::env::Sink;
 use leveldb_env::filter::{BloomPolicy, FilterPolicy};
 use leveldb_env::options::Options;
-use leveldb_table::block::Block;
-use leveldb_table::table_builder::{FULL_FOOTER_LENGTH, Footer, TableBuilder};
+use leveldb_table::block::{Block, BlockIter};
+use leveldb_table::table_builder::{Footer, TableBuilder};
 use std::alloc::Global;
 use std::process::Abort;
 
-/// Adds 1 modulo 256 to each byte.
-#[derive(Clone, Copy)]
-struct Raised;
-
-impl Compressor for Raised {
-    ghost use Rattle.std.specs.Prelude.{◌+◌, ◌%◌, Some, false, map};
-
-    ghost coding = { λ _. record { decoded = λ stored. Some (map (λ byte. (byte + 255) % 256) stored); refuses = λ code. false } };
-
-    fn encode(&self, alloc: Global, block: Vec<u8>) -> Result<Vec<u8>> {
-        let mut stored = Vec::new(alloc);
-        for byte in &block {
-            stored.push(byte.wrapping_add(1))?;
-        }
-        Ok(stored)
-    }
-
-    fn decode(&self, alloc: Global, stored: Vec<u8>) -> Result<Vec<u8>> {
-        let mut block = Vec::new(alloc);
-        for byte in &stored {
-            block.push(byte.wrapping_add(255))?;
-        }
-        Ok(block)
-    }
-}
-
-/// Refuses each block with a code of its own.
+/// Fails for each block, with a code of its own.
 #[derive(Clone, Copy)]
 struct Refusing;
 
@@ -61,7 +35,7 @@ impl Compressor for Refusing {
     }
 }
 
-/// Takes so many bytes, and refuses the others; so a put may stand in part. It is flushed only where there is room left.
+/// Takes the first `room` bytes; so a put may be taken in part. A flush fails if no room is left.
 #[derive(Drop)]
 struct Limited {
     taken: Vec<u8>,
@@ -99,111 +73,26 @@ impl Sink for Limited {
     }
 }
 
-type Given<'a> = (&'a [u8], &'a [u8]);
-
-const EIGHT: [Given<'static>; 8] = [
-    (b"abc", b"def"),
-    (b"abd", b"def"),
-    (b"abe", b"dee"),
-    (b"abf", b"dee"),
-    (b"bcd", b"asa"),
-    (b"ccd", b"asa"),
-    (b"dcc", b"a00"),
-    (b"dcd", b"a00"),
-];
-
-/// The user's key `a` at the sequence 1, for a value.
-const ONE: [Given<'static>; 1] = [(b"a\x01\x01\0\0\0\0\0\0", b"1")];
-
 fn options(interval: usize) -> Options<DefaultCmp, BloomPolicy> {
     let mut options = Options::default();
     options.block_restart_interval = interval;
     options
 }
 
-/// Adds pairs to a builder that has none; keys that don't rise end the test.
-fn add_all<S: Sink, C: Cmp + Copy, FP: FilterPolicy + Copy>(
-    rt: &impl Abort,
-    builder: &mut TableBuilder<S, C, FP>,
-    cmp: &C,
-    coders: &CompressorList,
-    pairs: &[Given<'_>],
-) -> Result<()>
-    requires none { builder.old.core.count ≡ 0 }
-    requires order { order_of builder.old.core ≡ cmp.now }
-    ensures { OnErr result (builder.new.core.broken ≡ true) }
-{
-    let mut last = b"".as_slice();
-    for (key, value) in pairs {
-        let rises = builder.entries() == 0 || cmp.cmp(last, key).is_lt();
-        assert!(rt; rises && cmp.accepts(key), "{key:?} after {last:?}");
-        builder.add(coders, key, value)?;
-        last = key;
-    }
-    Ok(())
+// Whether a builder that is broken failed.
+fn is_broken<T: Drop>(answer: Result<T>) -> Result<bool> {
+    let text = "IOError: reopen the store";
+    failed_saying(answer, StatusCode::IOError, text)
 }
 
-/// The table of these pairs, whose length the builder answers.
-fn table_of(
-    rt: &(impl Abort + AllocGlobal),
-    options: &Options<DefaultCmp, BloomPolicy>,
-    pairs: &[Given<'_>],
-) -> Result<Vec<u8>> {
-    let mut table = Vec::new(rt.alloc());
-    let mut builder = TableBuilder::new_raw(rt.alloc(), options, &mut table);
-    add_all(
-        rt,
-        &mut builder,
-        &options.cmp,
-        &options.compressor_list,
-        pairs,
-    )?;
-    assert_eq!(rt; builder.entries(), pairs.len());
-    let size = builder.finish(&options.compressor_list)?;
-    assert_eq!(rt; table.len(), size);
-    Ok(table)
-}
-
-/// A refusal of this code with this text; want of memory is passed on.
-fn assert_refusal<T: Drop>(
-    rt: &(impl Abort + AllocGlobal),
-    answer: Result<T>,
-    code: StatusCode,
-    text: &str,
-) -> Result<()> {
-    let Err(status) = answer else {
-        panic!(rt; "not refused with {text}");
-    };
-    if status.code == StatusCode::OutOfMemory {
-        return Err(status);
-    }
-    assert_eq!(rt; format!(in rt.alloc(); "{status}")?.as_str(), text);
-    assert_eq!(rt; status.code, code);
-    Ok(())
-}
-
-/// The refusal of a broken builder.
-fn assert_broken<T: Drop>(rt: &(impl Abort + AllocGlobal), answer: Result<T>) -> Result<()> {
-    assert_refusal(rt, answer, StatusCode::IOError, "IOError: reopen the store")
-}
-
-/// The refusal of an id without a coder.
-fn assert_unset<T: Drop>(rt: &(impl Abort + AllocGlobal), answer: Result<T>) -> Result<()> {
+// Whether a call failed since the id 9 has no compressor.
+fn is_unset<T: Drop>(answer: Result<T>) -> Result<bool> {
     let text = "invalid compression id `9`";
-    assert_refusal(rt, answer, StatusCode::NotSupported, text)
+    failed_saying(answer, StatusCode::NotSupported, text)
 }
 
-/// The footer of a table.
-fn footer_of(rt: &impl Abort, table: &[u8]) -> Footer {
-    let start = table.len().saturating_sub(FULL_FOOTER_LENGTH);
-    let Some(footer) = Footer::decode(table.get(start..).unwrap_or_default()) else {
-        panic!(rt; "no footer");
-    };
-    footer
-}
-
-/// The id behind the block at a handle.
-fn id_behind(table: &[u8], handle: &BlockHandle) -> Option<u8> {
+/// The id after the block at a handle.
+fn id_after(table: &[u8], handle: &BlockHandle) -> Option<u8> {
     table
         .get(handle.offset().saturating_add(handle.size()))
         .copied()
@@ -220,29 +109,71 @@ fn block_at(alloc: Global, table: &[u8], handle: &BlockHandle) -> Result<Block<D
     )
 }
 
-/// Walks over a block, whose pairs are these from a place on. Answers the place behind the last of them.
+/// Walks over a block, whose pairs are these from an index on. Returns the index after the last of them.
 fn compare_block(
     rt: &impl Abort,
     alloc: Global,
     block: &Block<DefaultCmp>,
     pairs: &[Given<'_>],
-    place: usize,
+    index: usize,
 ) -> Result<usize> {
     let mut walk = block.iter(alloc);
-    let mut end = place;
-    for (key, value) in pairs.iter().skip(place) {
+    let mut end = index;
+    for pair in pairs.iter().skip(index) {
         if !walk.advance()? {
             return Ok(end);
         }
-        assert!(rt; walk.current() == Some((*key, *value)), "at {key:?}");
+        assert!(rt; walk.current() == Some(*pair), "at {pair:?}");
         end = end.saturating_add(1);
     }
     assert!(rt; !walk.advance()?);
     Ok(end)
 }
 
-/// Reads the table slowly: its data blocks stand one behind the other from the front on, have just these pairs, and the
-/// index parts them. Answers how many they are.
+/// How much of a table was read: how many data blocks, and the offset and the first pair's index of the next.
+#[derive(Clone, Copy)]
+struct Progress {
+    blocks: usize,
+    offset: usize,
+    index: usize,
+}
+
+/// The key of an index's line, and its handle.
+fn line<'a>(lines: &'a BlockIter<'_, DefaultCmp>) -> Option<(&'a [u8], BlockHandle)> {
+    let (key, value) = lines.current()?;
+    let (handle, _) = BlockHandle::decode(value)?;
+    Some((key, handle))
+}
+
+/// Reads a data block, which is at the next offset and has the next pairs. Its line's key is before the pair after them.
+fn read_block(
+    rt: &(impl Abort + AllocGlobal),
+    table: &[u8],
+    pairs: &[Given<'_>],
+    before: Progress,
+    (key, handle): (&[u8], BlockHandle),
+) -> Result<Progress> {
+    assert!(rt; handle.offset() == before.offset);
+    let block = block_at(rt.alloc(), table, &handle)?;
+    let index = compare_block(rt, rt.alloc(), &block, pairs, before.index)?;
+    if let Some((next, _)) = pairs.get(index) {
+        assert!(rt;
+            DefaultCmp.cmp(key, next).is_lt(),
+            "the line before {next:?}"
+        );
+    }
+    Ok(Progress {
+        blocks: before.blocks.saturating_add(1),
+        offset: handle
+            .offset()
+            .saturating_add(handle.size())
+            .saturating_add(5),
+        index,
+    })
+}
+
+/// Reads a table slowly: its data blocks are one after another from the front on, have exactly these pairs, and the
+/// index parts them. Returns how many they are.
 fn count_blocks(
     rt: &(impl Abort + AllocGlobal),
     table: &[u8],
@@ -250,104 +181,99 @@ fn count_blocks(
 ) -> Result<usize> {
     let index = block_at(rt.alloc(), table, &footer_of(rt, table).index)?;
     let mut lines = index.iter(rt.alloc());
-    let mut count = 0usize;
-    let mut offset = 0usize;
-    let mut place = 0usize;
+    let mut progress = Progress {
+        blocks: 0,
+        offset: 0,
+        index: 0,
+    };
     for _ in 0..table.len() {
         if !lines.advance()? {
             break;
         }
-        let Some((key, value)) = lines.current() else {
+        let Some(line) = line(&lines) else {
             panic!(rt; "no line");
         };
-        let Some((handle, _)) = BlockHandle::decode(value) else {
-            panic!(rt; "no handle");
-        };
-        assert_eq!(rt; handle.offset(), offset);
-        let block = block_at(rt.alloc(), table, &handle)?;
-        place = compare_block(rt, rt.alloc(), &block, pairs, place)?;
-        if let Some((next, _)) = pairs.get(place) {
-            assert!(rt;
-                DefaultCmp.cmp(key, next).is_lt(),
-                "the line before {next:?}"
-            );
-        }
-        offset = offset.saturating_add(handle.size()).saturating_add(5);
-        count = count.saturating_add(1);
+        progress = read_block(rt, table, pairs, progress, line)?;
     }
-    assert_eq!(rt; place, pairs.len());
-    Ok(count)
+    assert!(rt; progress.index == pairs.len());
+    Ok(progress.blocks)
 }
 
 /// Eight pairs in one block, with restart points at every third.
 #[test]
 fn eight_pairs(rt: HostRuntime) -> Result<()> {
     let options = options(3);
+    let compressors = &options.compressor_list;
     let mut table = Vec::new(rt.alloc());
     let mut builder = TableBuilder::new_raw(rt.alloc(), &options, &mut table);
-    add_all(
-        &rt,
-        &mut builder,
-        &options.cmp,
-        &options.compressor_list,
-        &EIGHT,
-    )?;
-    assert_eq!(rt; builder.entries(), 8);
-    assert_eq!(rt; builder.size_estimate(), 143);
-    assert_eq!(rt; builder.finish(&options.compressor_list)?, 233);
-    assert_eq!(rt; table.len(), 233);
-    assert_eq!(rt; count_blocks(&rt, &table, &EIGHT)?, 1);
+    add_all(&rt, &mut builder, &options.cmp, compressors, &EIGHT)?;
+    assert!(rt; (builder.entries(), builder.size_estimate()) == (8, 143));
+    assert!(rt; builder.finish(compressors)? == 233);
+    assert!(rt; table.len() == 233);
+    assert!(rt; count_blocks(&rt, &table, &EIGHT)? == 1);
     Ok(())
 }
 
-/// The same under a coder: the blocks but the filters' are stored by it, under its id.
+/// The ids after the data block, the metaindex and the index of a table of eight pairs, and after its filters.
+fn ids_of(table: &[u8], footer: &Footer) -> [Option<u8>; 4] {
+    [
+        id_after(table, &BlockHandle::new(0, 82)),
+        id_after(table, &footer.meta_index),
+        id_after(table, &footer.index),
+        id_after(table, &BlockHandle::new(87, 20)),
+    ]
+}
+
+/// Whether bytes are as many as others, and each is one more.
+fn are_raised(stored: &[u8], plain: &[u8]) -> bool {
+    for (byte, before) in stored.iter().zip(plain) {
+        if *byte != before.wrapping_add(1) {
+            return false;
+        }
+    }
+    stored.len() == plain.len()
+}
+
+/// The same under a compressor: the blocks but the filters' are stored by it, under its id.
 #[test]
-fn eight_pairs_coded(rt: HostRuntime) -> Result<()> {
-    let mut options = options(3);
-    let plain = table_of(&rt, &options, &EIGHT)?;
-    options.compressor = 7;
-    let coder = Box::new(rt.alloc(), Raised)?;
-    options.compressor_list.set_with_id(rt.alloc(), 7, coder)?;
-    let table = table_of(&rt, &options, &EIGHT)?;
-    assert_eq!(rt; table.len(), 233);
-    let data = BlockHandle::new(0, 82);
-    let filters = BlockHandle::new(87, 20);
+fn eight_pairs_compressed(rt: HostRuntime) -> Result<()> {
+    let plain = table_of(&rt, &options(3), &EIGHT)?;
+    let table = table_of(&rt, &compressed(rt.alloc())?, &EIGHT)?;
+    assert!(rt; table.len() == 233);
     let footer = footer_of(&rt, &table);
-    for handle in [data, footer.meta_index, footer.index] {
-        assert_eq!(rt; id_behind(&table, &handle), Some(7));
-        assert_eq!(rt; id_behind(&plain, &handle), Some(0));
-    }
-    assert_eq!(rt; id_behind(&table, &filters), Some(0));
-    for (stored, byte) in table.iter().zip(&plain).take(82) {
-        assert_eq!(rt; *stored, byte.wrapping_add(1));
-    }
+    assert!(rt; ids_of(&table, &footer) == [Some(7), Some(7), Some(7), Some(0)]);
+    assert!(rt; ids_of(&plain, &footer) == [Some(0); 4]);
+    let data = table.get(..82).unwrap_or_default();
+    assert!(rt; are_raised(data, plain.get(..82).unwrap_or_default()));
     Ok(())
+}
+
+/// Asserts that the metaindex of a table has this pair alone.
+fn assert_metaindex(
+    rt: &(impl Abort + AllocGlobal),
+    table: &[u8],
+    handle: &BlockHandle,
+    pair: Given<'_>,
+) -> Result<()> {
+    let metaindex = block_at(rt.alloc(), table, handle)?;
+    assert!(rt; compare_block(rt, rt.alloc(), &metaindex, &[pair], 0)? == 1);
+    Ok(())
+}
+
+fn numbers(handle: &BlockHandle) -> (usize, usize) {
+    (handle.offset(), handle.size())
 }
 
 /// One pair by an internal key, with the user's key in the filter.
 #[test]
 fn one_internal_pair(rt: HostRuntime) -> Result<()> {
-    let options = options(16);
-    let mut table = Vec::new(rt.alloc());
-    let mut builder = TableBuilder::new(rt.alloc(), &options, &mut table);
-    let cmp = InternalKeyCmp(options.cmp);
-    add_all(&rt, &mut builder, &cmp, &options.compressor_list, &ONE)?;
-    assert_eq!(rt; builder.finish(&options.compressor_list)?, 177);
-    assert_eq!(rt; table.len(), 177);
+    let table = internal_table(&rt, &options(16))?;
     let footer = footer_of(&rt, &table);
-    assert_eq!(rt;
-        (footer.meta_index.offset(), footer.meta_index.size()),
-        (49, 47)
-    );
-    assert_eq!(rt; (footer.index.offset(), footer.index.size()), (101, 23));
-    let metaindex = block_at(rt.alloc(), &table, &footer.meta_index)?;
+    assert!(rt; [numbers(&footer.meta_index), numbers(&footer.index)] == [(49, 47), (101, 23)]);
     let filters: Given<'_> = (b"filter.leveldb.BuiltinBloomFilter2", &[26, 18]);
-    assert_eq!(rt;
-        compare_block(&rt, rt.alloc(), &metaindex, &[filters], 0)?,
-        1
-    );
-    let text = table.get(26..44).unwrap_or_default();
-    assert!(rt; BloomPolicy::new(10).key_may_match(b"a", text.get(..9).unwrap_or_default()));
+    assert_metaindex(&rt, &table, &footer.meta_index, filters)?;
+    let filter = table.get(26..35).unwrap_or_default();
+    assert!(rt; BloomPolicy::new(10).key_may_match(b"a", filter));
     Ok(())
 }
 
@@ -355,28 +281,23 @@ fn one_internal_pair(rt: HostRuntime) -> Result<()> {
 #[test]
 fn one_internal_pair_without_filter(rt: HostRuntime) -> Result<()> {
     let options = options(16);
+    let compressors = &options.compressor_list;
     let mut table = Vec::new(rt.alloc());
     let mut builder = TableBuilder::new_no_filter(rt.alloc(), &options, &mut table);
     let cmp = InternalKeyCmp(options.cmp);
-    add_all(&rt, &mut builder, &cmp, &options.compressor_list, &ONE)?;
-    assert_eq!(rt; builder.finish(&options.compressor_list)?, 142);
-    assert_eq!(rt; table.len(), 142);
+    add_all(&rt, &mut builder, &cmp, compressors, &ONE)?;
+    let size = builder.finish(compressors)?;
+    assert!(rt; (size, table.len()) == (142, 142));
     let footer = footer_of(&rt, &table);
-    let metaindex = block_at(rt.alloc(), &table, &footer.meta_index)?;
-    let filters: Given<'_> = (b"filter._", &[26, 9]);
-    assert_eq!(rt;
-        compare_block(&rt, rt.alloc(), &metaindex, &[filters], 0)?,
-        1
-    );
-    Ok(())
+    assert_metaindex(&rt, &table, &footer.meta_index, (b"filter._", &[26, 9]))
 }
 
 /// A table without pairs: 5 and 5 bytes, 47 and 5, 8 and 5, and 48.
 #[test]
 fn empty_table(rt: HostRuntime) -> Result<()> {
     let table = table_of(&rt, &options(16), &[])?;
-    assert_eq!(rt; table.len(), 123);
-    assert_eq!(rt; count_blocks(&rt, &table, &[])?, 0);
+    assert!(rt; table.len() == 123);
+    assert!(rt; count_blocks(&rt, &table, &[])? == 0);
     Ok(())
 }
 
@@ -405,112 +326,145 @@ fn doubled(alloc: Global, keys: &[[u8; 4]]) -> Result<Vec<Given<'_>>> {
     Ok(pairs)
 }
 
-/// Five pairs a block, as the last of them makes it full.
+/// How many data blocks so many pairs have: five pairs a block, as the last of them makes it full.
+const BLOCKS: [(usize, usize); 7] = [(1, 1), (4, 1), (5, 1), (6, 2), (40, 8), (41, 9), (201, 41)];
+
+/// Asserts that a table of these pairs has this number of data blocks.
+fn assert_blocks(
+    rt: &(impl Abort + AllocGlobal),
+    pairs: &[Given<'_>],
+    blocks: usize,
+) -> Result<()> {
+    let table = table_of(rt, &small_blocks(), pairs)?;
+    assert!(rt;
+        count_blocks(rt, &table, pairs)? == blocks,
+        "{blocks} blocks"
+    );
+    Ok(())
+}
+
 #[test]
 fn many_blocks(rt: HostRuntime) -> Result<()> {
     let keys = rising_keys(rt.alloc(), 201)?;
     let pairs = doubled(rt.alloc(), &keys)?;
-    for (count, blocks) in [(1, 1), (4, 1), (5, 1), (6, 2), (40, 8), (41, 9), (201, 41)] {
-        let pairs = pairs.get(..count).unwrap_or_default();
-        let table = table_of(&rt, &small_blocks(), pairs)?;
-        assert_eq!(rt;
-            count_blocks(&rt, &table, pairs)?,
-            blocks,
-            "of {count} pairs"
-        );
+    for (count, blocks) in &BLOCKS {
+        assert_blocks(&rt, pairs.get(..*count).unwrap_or_default(), *blocks)?;
     }
     Ok(())
 }
 
-/// Builds a table into a sink that refuses a call, and goes on with the builder where there still is one.
-fn assert_refused(
+/// Whether a table that is built into a sink fails with this text, and so does each further call if there still is a builder.
+fn fails_into(
     rt: &(impl Abort + AllocGlobal),
     options: &Options<DefaultCmp, BloomPolicy>,
     sink: &mut Limited,
     pairs: &[Given<'_>],
     text: &str,
-) -> Result<()> {
-    let coders = &options.compressor_list;
+) -> Result<bool> {
+    let compressors = &options.compressor_list;
+    let code = StatusCode::PermissionDenied;
     let mut builder = TableBuilder::new_raw(rt.alloc(), options, sink);
-    let added = add_all(rt, &mut builder, &options.cmp, coders, pairs);
+    let added = add_all(rt, &mut builder, &options.cmp, compressors, pairs);
     if added.is_ok() {
-        return assert_refusal(
-            rt,
-            builder.finish(coders),
-            StatusCode::PermissionDenied,
-            text,
-        );
+        return failed_saying(builder.finish(compressors), code, text);
     }
-    assert_refusal(rt, added, StatusCode::PermissionDenied, text)?;
-    assert_broken(rt, builder.add(coders, b"z", b""))?;
-    assert_broken(rt, builder.finish(coders))
+    let is_right = failed_saying(added, code, text)?;
+    let is_added = is_broken(builder.add(compressors, b"z", b""))?;
+    let is_finished = is_broken(builder.finish(compressors))?;
+    Ok(is_right && is_added && is_finished)
 }
 
-/// A sink with room for any beginning of a table has just that beginning, and where all is put the flush is refused.
+/// Asserts that a sink with room for this many bytes of a table takes exactly those. If all are taken, the flush fails.
+fn assert_taken(
+    rt: &(impl Abort + AllocGlobal),
+    options: &Options<DefaultCmp, BloomPolicy>,
+    pairs: &[Given<'_>],
+    table: &[u8],
+    room: usize,
+) -> Result<()> {
+    let text = if room == table.len() {
+        "PermissionDenied: no flush"
+    } else {
+        "PermissionDenied: no room"
+    };
+    let taken = Vec::new(rt.alloc());
+    let mut sink = Limited { taken, room };
+    assert!(rt;
+        fails_into(rt, options, &mut sink, pairs, text)?,
+        "at {room}"
+    );
+    assert!(rt;
+        table.get(..room) == Some(sink.taken.as_slice()),
+        "at {room}"
+    );
+    Ok(())
+}
+
 #[test]
-fn refused_anywhere(rt: HostRuntime) -> Result<()> {
+fn sink_fails_anywhere(rt: HostRuntime) -> Result<()> {
     let keys = rising_keys(rt.alloc(), 11)?;
     let pairs = doubled(rt.alloc(), &keys)?;
     let options = small_blocks();
     let table = table_of(&rt, &options, &pairs)?;
     for room in 0..=table.len() {
-        let taken = Vec::new(rt.alloc());
-        let mut sink = Limited { taken, room };
-        let is_whole = room == table.len();
-        let text = if is_whole {
-            "PermissionDenied: no flush"
-        } else {
-            "PermissionDenied: no room"
-        };
-        assert_refused(&rt, &options, &mut sink, &pairs, text)?;
-        assert!(rt;
-            table.get(..room) == Some(sink.taken.as_slice()),
-            "at {room}"
-        );
+        assert_taken(&rt, &options, &pairs, &table, room)?;
     }
     Ok(())
 }
 
-/// An id without a coder is refused where a full block is written, and the builder is broken then.
+/// Asserts that the pairs fill a block of an id without a compressor, and that the builder is broken then.
+fn assert_unset(
+    rt: &(impl Abort + AllocGlobal),
+    options: &Options<DefaultCmp, BloomPolicy>,
+    table: &mut Vec<u8>,
+    pairs: &[Given<'_>],
+) -> Result<()> {
+    let compressors = &options.compressor_list;
+    let mut builder = TableBuilder::new_raw(rt.alloc(), options, table);
+    let added = add_all(rt, &mut builder, &options.cmp, compressors, pairs);
+    assert!(rt; is_unset(added)?);
+    assert!(rt; builder.entries() == 5);
+    assert!(rt; is_broken(builder.finish(compressors))?);
+    Ok(())
+}
+
 #[test]
 fn unset_id_at_a_full_block(rt: HostRuntime) -> Result<()> {
     let keys = rising_keys(rt.alloc(), 11)?;
     let pairs = doubled(rt.alloc(), &keys)?;
     let mut options = small_blocks();
     options.compressor = 9;
-    let coders = &options.compressor_list;
     let mut table = Vec::new(rt.alloc());
-    let mut builder = TableBuilder::new_raw(rt.alloc(), &options, &mut table);
-    let added = add_all(&rt, &mut builder, &options.cmp, coders, &pairs);
-    assert_unset(&rt, added)?;
-    assert_eq!(rt; builder.entries(), 5);
-    assert_broken(&rt, builder.finish(coders))?;
+    assert_unset(&rt, &options, &mut table, &pairs)?;
     assert!(rt; table.is_empty());
     Ok(())
 }
 
-/// An id without a coder is refused at the end too, with an open block and without.
+/// An id without a compressor fails at the end too, with an open block and without.
 #[test]
 fn unset_id_at_the_end(rt: HostRuntime) -> Result<()> {
     let mut options = options(16);
     options.compressor = 9;
     for pairs in [EIGHT.as_slice(), &[]] {
-        assert_unset(&rt, table_of(&rt, &options, pairs))?;
+        let answer = table_of(&rt, &options, pairs);
+        assert!(rt; is_unset(answer)?);
     }
     Ok(())
 }
 
-/// A coder's own code is passed on.
+/// A compressor's own code is passed on.
 #[test]
-fn coder_that_refuses(rt: HostRuntime) -> Result<()> {
+fn compressor_that_fails(rt: HostRuntime) -> Result<()> {
     let mut options = options(16);
     options.compressor = 9;
-    let coder = Box::new(rt.alloc(), Refusing)?;
-    options.compressor_list.set_with_id(rt.alloc(), 9, coder)?;
+    let refusing = Box::new(rt.alloc(), Refusing)?;
+    options
+        .compressor_list
+        .set_with_id(rt.alloc(), 9, refusing)?;
     for pairs in [EIGHT.as_slice(), &[]] {
         let answer = table_of(&rt, &options, pairs);
         let text = "CompressionError: too dense";
-        assert_refusal(&rt, answer, StatusCode::CompressionError, text)?;
+        assert!(rt; failed_saying(answer, StatusCode::CompressionError, text)?);
     }
     Ok(())
 }

@@ -1,19 +1,24 @@
-//! Tables built, opened, looked up and walked, and compared with the lists of their pairs.
+//! Tables built, opened, looked up and walked over, and compared with the lists of their pairs.
+use crate::checks::{
+    EIGHT, Given, ONE, change_byte, compressed, failed_saying, failed_with, footer_of, has_pairs,
+    internal_table, table_of,
+};
 use crate::short_reads::ShortReads;
+use bytes::Bytes;
 use leveldb_base::blockhandle::BlockHandle;
-use leveldb_base::cmp::{Cmp, DefaultCmp, InternalKeyCmp};
-use leveldb_base::error::{Result, Status, StatusCode};
+use leveldb_base::cmp::{Cmp, DefaultCmp};
+use leveldb_base::error::{Result, StatusCode};
 use leveldb_base::types::LdbIterator;
-use leveldb_env::compressor::{Compressor, CompressorList};
-use leveldb_env::env::{Env, Sink};
+use leveldb_env::compressor::CompressorList;
+use leveldb_env::env::Env;
 use leveldb_env::filter::{BloomPolicy, FilterPolicy, NoFilterPolicy};
 use leveldb_env::mem_env::MemEnv;
 use leveldb_env::options::Options;
 use leveldb_table::block::Block;
 use leveldb_table::block_cache::BlockCache;
 use leveldb_table::cache::Cache;
-use leveldb_table::table_block::read_table_block;
-use leveldb_table::table_builder::{Footer, TableBuilder};
+use leveldb_table::table_block::{read_filter_block, read_table_block};
+use leveldb_table::table_builder::Footer;
 use leveldb_table::table_reader::{Table, TableIterator};
 use std::alloc::Global;
 use std::process::Abort;
@@ -22,9 +27,7 @@ mod caches;
 mod damage;
 mod places;
 
-type Given<'a> = (&'a [u8], &'a [u8]);
-
-/// An empty key, empty values, keys that begin others, and keys of great bytes.
+/// An empty key, empty values, keys that are prefixes of others, and keys of great bytes.
 const PAIRS: [Given<'static>; 12] = [
     (b"", b"none"),
     (b"a", b""),
@@ -64,25 +67,6 @@ const PROBES: [&[u8]; 20] = [
     b"\xff\xff\0",
 ];
 
-/// The table of these pairs.
-fn table_of<FP: FilterPolicy + Copy>(
-    rt: &(impl Abort + AllocGlobal),
-    options: &Options<DefaultCmp, FP>,
-    pairs: &[Given<'_>],
-) -> Result<Vec<u8>> {
-    let mut bytes = Vec::new(rt.alloc());
-    let mut builder = TableBuilder::new_raw(rt.alloc(), options, &mut bytes);
-    let mut last = b"".as_slice();
-    for (key, value) in pairs {
-        let rises = builder.entries() == 0 || DefaultCmp.cmp(last, key).is_lt();
-        assert!(rt; rises, "{key:?} after {last:?}");
-        builder.add(&options.compressor_list, key, value)?;
-        last = key;
-    }
-    builder.finish(&options.compressor_list)?;
-    Ok(bytes)
-}
-
 /// A file of these bytes.
 fn file_of<E: Env>(env: &mut E, bytes: &[u8]) -> Result<E::File> {
     let mut file = env.open_writable_file("table")?;
@@ -92,7 +76,7 @@ fn file_of<E: Env>(env: &mut E, bytes: &[u8]) -> Result<E::File> {
 
 /// The table that a file of these bytes is.
 fn open_file<E: Env, FP: FilterPolicy + Copy + Drop>(
-    rt: &impl AllocGlobal,
+    alloc: Global,
     options: &Options<DefaultCmp, FP>,
     env: &mut E,
     cache: &mut BlockCache<DefaultCmp>,
@@ -100,7 +84,7 @@ fn open_file<E: Env, FP: FilterPolicy + Copy + Drop>(
 ) -> Result<Table<E, DefaultCmp, FP>> {
     let file = file_of(env, bytes)?;
     Table::open(
-        rt.alloc(),
+        alloc,
         options.cmp,
         options.filter_policy,
         &options.compressor_list,
@@ -109,15 +93,6 @@ fn open_file<E: Env, FP: FilterPolicy + Copy + Drop>(
         file,
         bytes.len(),
     )
-}
-
-/// A refusal of this code; want of memory is passed on.
-fn assert_code(rt: &impl Abort, status: Status, code: StatusCode) -> Result<()> {
-    if status.code == StatusCode::OutOfMemory {
-        return Err(status);
-    }
-    assert_eq!(rt; status.code, code);
-    Ok(())
 }
 
 /// The first pair at or after a key, looked for one by one.
@@ -130,42 +105,58 @@ fn first_from<'a>(pairs: &[Given<'a>], key: &[u8]) -> Option<Given<'a>> {
     None
 }
 
+/// Whether a step goes to each pair in turn, and then to no position.
+fn goes_forward<E: Env, FP: FilterPolicy>(
+    it: &mut TableIterator<'_, E, DefaultCmp, FP>,
+    compressors: &CompressorList,
+    pairs: &[Given<'_>],
+) -> Result<bool> {
+    for pair in pairs {
+        if !it.advance(compressors)? || !it.valid() || it.current() != Some(*pair) {
+            return Ok(false);
+        }
+    }
+    Ok(!it.advance(compressors)? && !it.valid() && it.current().is_none())
+}
+
 /// Goes through all pairs, past the last, and to the first again.
 fn check_forward<E: Env, FP: FilterPolicy>(
     rt: &impl Abort,
     it: &mut TableIterator<'_, E, DefaultCmp, FP>,
-    coders: &CompressorList,
+    compressors: &CompressorList,
     pairs: &[Given<'_>],
 ) -> Result<()> {
-    for pair in pairs {
-        assert!(rt; it.advance(coders)?, "at {pair:?}");
-        assert!(rt; it.valid() && it.current() == Some(*pair), "at {pair:?}");
-    }
-    assert!(rt; !it.advance(coders)?);
-    assert!(rt; !it.valid() && it.current().is_none());
-    assert!(rt; !it.prev(coders)?);
-    it.seek_to_first(coders)?;
+    assert!(rt; goes_forward(it, compressors, pairs)?);
+    assert!(rt; !it.prev(compressors)?);
+    it.seek_to_first(compressors)?;
     assert!(rt; it.current() == pairs.first().copied());
     Ok(())
 }
 
-/// At each pair goes back and forward and back again.
+/// Whether a seek goes to a pair, a step back to the one before it, and a step forward to the pair again.
+fn turns_at<E: Env, FP: FilterPolicy>(
+    it: &mut TableIterator<'_, E, DefaultCmp, FP>,
+    compressors: &CompressorList,
+    before: Option<Given<'_>>,
+    pair: Given<'_>,
+) -> Result<bool> {
+    it.seek(compressors, pair.0)?;
+    let is_here = it.current() == Some(pair);
+    let is_before = it.prev(compressors)? == before.is_some() && it.current() == before;
+    let is_again = it.advance(compressors)? && it.current() == Some(pair);
+    Ok(is_here && is_before && is_again)
+}
+
+/// At each pair goes back and forward.
 fn check_turns<E: Env, FP: FilterPolicy>(
     rt: &impl Abort,
     it: &mut TableIterator<'_, E, DefaultCmp, FP>,
-    coders: &CompressorList,
+    compressors: &CompressorList,
     pairs: &[Given<'_>],
 ) -> Result<()> {
     let mut before = None;
     for pair in pairs {
-        it.seek(coders, pair.0)?;
-        assert!(rt; it.current() == Some(*pair), "at {pair:?}");
-        assert!(rt; it.prev(coders)? == before.is_some(), "before {pair:?}");
-        assert!(rt; it.current() == before, "before {pair:?}");
-        assert!(rt; it.advance(coders)?, "again at {pair:?}");
-        if before.is_some() {
-            assert!(rt; it.current() == Some(*pair), "again at {pair:?}");
-        }
+        assert!(rt; turns_at(it, compressors, before, *pair)?, "at {pair:?}");
         before = Some(*pair);
     }
     Ok(())
@@ -175,41 +166,15 @@ fn check_turns<E: Env, FP: FilterPolicy>(
 fn check_seeks<E: Env, FP: FilterPolicy>(
     rt: &impl Abort,
     it: &mut TableIterator<'_, E, DefaultCmp, FP>,
-    coders: &CompressorList,
+    compressors: &CompressorList,
     pairs: &[Given<'_>],
 ) -> Result<()> {
-    for key in PROBES {
-        it.seek(coders, key)?;
+    for key in &PROBES {
+        it.seek(compressors, key)?;
         assert!(rt; it.current() == first_from(pairs, key), "from {key:?}");
     }
     it.reset();
     assert!(rt; !it.valid());
-    Ok(())
-}
-
-/// Looks up keys; a filter may refuse those that aren't there.
-fn check_gets<E: Env, FP: FilterPolicy>(
-    rt: &(impl Abort + AllocGlobal),
-    table: &Table<E, DefaultCmp, FP>,
-    env: &mut E,
-    cache: &mut BlockCache<DefaultCmp>,
-    coders: &CompressorList,
-    pairs: &[Given<'_>],
-    filtered: bool,
-) -> Result<()> {
-    for key in PROBES {
-        let first = first_from(pairs, key);
-        let there = first.is_some_and(|pair| pair.0 == key);
-        match table.get(rt.alloc(), env, cache, coders, key)? {
-            Some((found, value)) => {
-                assert!(rt;
-                    Some((found.as_slice(), value.as_slice())) == first,
-                    "for {key:?}"
-                );
-            }
-            None => assert!(rt; first.is_none() || (filtered && !there), "for {key:?}"),
-        }
-    }
     Ok(())
 }
 
@@ -219,13 +184,46 @@ fn check_walks<E: Env, FP: FilterPolicy>(
     table: &Table<E, DefaultCmp, FP>,
     env: &mut E,
     cache: &mut BlockCache<DefaultCmp>,
-    coders: &CompressorList,
+    compressors: &CompressorList,
     pairs: &[Given<'_>],
 ) -> Result<()> {
     let mut it = table.iter(rt.alloc(), env, cache)?;
-    check_forward(rt, &mut it, coders, pairs)?;
-    check_turns(rt, &mut it, coders, pairs)?;
-    check_seeks(rt, &mut it, coders, pairs)
+    check_forward(rt, &mut it, compressors, pairs)?;
+    check_turns(rt, &mut it, compressors, pairs)?;
+    check_seeks(rt, &mut it, compressors, pairs)
+}
+
+/// Whether what was found for a key is the first pair at or after it; a filter may rule out a key that isn't there.
+fn is_found(
+    found: &Option<(Bytes, Bytes)>,
+    first: Option<Given<'_>>,
+    key: &[u8],
+    filtered: bool,
+) -> bool {
+    match found {
+        Some((found, value)) => Some((found.as_slice(), value.as_slice())) == first,
+        None => first.is_none_or(|pair| filtered && pair.0 != key),
+    }
+}
+
+/// Looks up keys.
+fn check_gets<E: Env, FP: FilterPolicy>(
+    rt: &(impl Abort + AllocGlobal),
+    table: &Table<E, DefaultCmp, FP>,
+    env: &mut E,
+    cache: &mut BlockCache<DefaultCmp>,
+    compressors: &CompressorList,
+    pairs: &[Given<'_>],
+    filtered: bool,
+) -> Result<()> {
+    for key in &PROBES {
+        let found = table.get(rt.alloc(), env, cache, compressors, key)?;
+        assert!(rt;
+            is_found(&found, first_from(pairs, key), key, filtered),
+            "for {key:?}"
+        );
+    }
+    Ok(())
 }
 
 /// Builds, opens, walks and looks up the table of these pairs.
@@ -238,13 +236,27 @@ fn check_table<E: Env, FP: FilterPolicy + Copy + Drop>(
 ) -> Result<()> {
     let bytes = table_of(rt, options, pairs)?;
     let mut cache = Cache::new(rt.alloc(), 3)?;
-    let table = open_file(rt, options, env, &mut cache, &bytes)?;
-    let coders = &options.compressor_list;
-    check_walks(rt, &table, env, &mut cache, coders, pairs)?;
-    check_gets(rt, &table, env, &mut cache, coders, pairs, filtered)
+    let table = open_file(rt.alloc(), options, env, &mut cache, &bytes)?;
+    let compressors = &options.compressor_list;
+    check_walks(rt, &table, env, &mut cache, compressors, pairs)?;
+    check_gets(rt, &table, env, &mut cache, compressors, pairs, filtered)
 }
 
-/// Tables of no, one, two and many pairs, in one block, in a few, and in a block for each pair.
+/// Tables of no, one, two and many pairs.
+fn check_counts<E: Env, FP: FilterPolicy + Copy + Drop>(
+    rt: &(impl Abort + AllocGlobal),
+    env: &mut E,
+    options: &Options<DefaultCmp, FP>,
+    filtered: bool,
+) -> Result<()> {
+    for count in [0, 1, 2, 12] {
+        let pairs = PAIRS.as_slice().get(..count).unwrap_or_default();
+        check_table(rt, env, options, pairs, filtered)?;
+    }
+    Ok(())
+}
+
+/// Tables in one block, in a few, and in a block for each pair.
 fn check_tables<E: Env, FP: FilterPolicy + Copy + Drop>(
     rt: &(impl Abort + AllocGlobal),
     env: &mut E,
@@ -253,10 +265,7 @@ fn check_tables<E: Env, FP: FilterPolicy + Copy + Drop>(
 ) -> Result<()> {
     for block_size in [1, 60, 4096] {
         options.block_size = block_size;
-        for count in [0, 1, 2, 12] {
-            let pairs = PAIRS.as_slice().get(..count).unwrap_or_default();
-            check_table(rt, env, options, pairs, filtered)?;
-        }
+        check_counts(rt, env, options, filtered)?;
     }
     Ok(())
 }
@@ -289,4 +298,16 @@ fn by_short_reads(rt: HostRuntime) -> Result<()> {
         env: MemEnv::new(rt.alloc()),
     };
     check_tables(&rt, &mut env, &mut unfiltered(1), false)
+}
+
+/// A table without filters, and with a block for each pair.
+fn table_in<E: Env>(
+    rt: &(impl Abort + AllocGlobal),
+    env: &mut E,
+    cache: &mut BlockCache<DefaultCmp>,
+    pairs: &[Given<'_>],
+) -> Result<Table<E, DefaultCmp, NoFilterPolicy>> {
+    let options = unfiltered(1);
+    let bytes = table_of(rt, &options, pairs)?;
+    open_file(rt.alloc(), &options, env, cache, &bytes)
 }

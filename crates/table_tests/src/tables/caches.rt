@@ -1,72 +1,130 @@
 //! Tables that share a cache of blocks.
 use super::*;
 
-/// Two tables of one file answer as the list of pairs does, with a cache for one block and with one for all.
-#[test]
-fn opened_twice(rt: HostRuntime) -> Result<()> {
-    let options = unfiltered(1);
-    let coders = &options.compressor_list;
-    let bytes = table_of(&rt, &options, &PAIRS)?;
-    for capacity in [1, 100] {
-        let mut env = MemEnv::new(rt.alloc());
-        let mut cache = Cache::new(rt.alloc(), capacity)?;
-        let first = open_file(&rt, &options, &mut env, &mut cache, &bytes)?;
-        let second = open_file(&rt, &options, &mut env, &mut cache, &bytes)?;
-        for _ in 0..2 {
-            check_walks(&rt, &first, &mut env, &mut cache, coders, &PAIRS)?;
-            check_walks(&rt, &second, &mut env, &mut cache, coders, &PAIRS)?;
-            check_gets(&rt, &first, &mut env, &mut cache, coders, &PAIRS, false)?;
-            check_gets(&rt, &second, &mut env, &mut cache, coders, &PAIRS, false)?;
-        }
-        assert_eq!(rt; cache.count(), capacity.min(24));
+/// Walks over a table of the twelve pairs in all ways, and looks up keys.
+fn check_both_ways<E: Env, FP: FilterPolicy>(
+    rt: &(impl Abort + AllocGlobal),
+    table: &Table<E, DefaultCmp, FP>,
+    env: &mut E,
+    cache: &mut BlockCache<DefaultCmp>,
+) -> Result<()> {
+    let compressors = CompressorList::default();
+    check_walks(rt, table, env, cache, &compressors, &PAIRS)?;
+    check_gets(rt, table, env, cache, &compressors, &PAIRS, false)
+}
+
+/// Goes over two tables in turn, twice.
+fn check_in_turn<E: Env, FP: FilterPolicy>(
+    rt: &(impl Abort + AllocGlobal),
+    first: &Table<E, DefaultCmp, FP>,
+    second: &Table<E, DefaultCmp, FP>,
+    env: &mut E,
+    cache: &mut BlockCache<DefaultCmp>,
+) -> Result<()> {
+    for _ in 0..2 {
+        check_both_ways(rt, first, env, cache)?;
+        check_both_ways(rt, second, env, cache)?;
     }
     Ok(())
 }
 
-/// Blocks that the cache holds are asked of no file, which is empty then; another cache doesn't help.
+/// Asserts that two tables of one file have their pairs, and that a cache with this capacity holds as many of their
+/// 24 blocks as it can.
+fn assert_opened_twice(rt: &(impl Abort + AllocGlobal), capacity: usize) -> Result<()> {
+    assert!(rt; capacity > 0);
+    let mut env = MemEnv::new(rt.alloc());
+    let mut cache = Cache::new(rt.alloc(), capacity)?;
+    let first = table_in(rt, &mut env, &mut cache, &PAIRS)?;
+    let second = table_in(rt, &mut env, &mut cache, &PAIRS)?;
+    check_in_turn(rt, &first, &second, &mut env, &mut cache)?;
+    assert!(rt; cache.count() == capacity.min(24));
+    Ok(())
+}
+
+#[test]
+fn opened_twice_with_a_cache_for_one_block(rt: HostRuntime) -> Result<()> {
+    assert_opened_twice(&rt, 1)
+}
+
+#[test]
+fn opened_twice_with_a_cache_for_all_blocks(rt: HostRuntime) -> Result<()> {
+    assert_opened_twice(&rt, 100)
+}
+
+/// Asserts that the blocks that a cache holds are read once their file is empty, and that another cache doesn't help.
+fn assert_cached<E: Env, FP: FilterPolicy>(
+    rt: &(impl Abort + AllocGlobal),
+    table: &Table<E, DefaultCmp, FP>,
+    env: &mut E,
+    cache: &mut BlockCache<DefaultCmp>,
+) -> Result<()> {
+    let _emptied = file_of(env, b"")?;
+    check_both_ways(rt, table, env, cache)?;
+    let mut other = Cache::new(rt.alloc(), 12)?;
+    let compressors = CompressorList::default();
+    let answer = table.get(rt.alloc(), env, &mut other, &compressors, b"a");
+    assert!(rt; failed_with(answer, StatusCode::Corruption)?);
+    Ok(())
+}
+
 #[test]
 fn emptied_file(rt: HostRuntime) -> Result<()> {
-    let options = unfiltered(1);
-    let coders = &options.compressor_list;
-    let bytes = table_of(&rt, &options, &PAIRS)?;
     let mut env = MemEnv::new(rt.alloc());
     let mut cache = Cache::new(rt.alloc(), 12)?;
-    let table = open_file(&rt, &options, &mut env, &mut cache, &bytes)?;
-    check_walks(&rt, &table, &mut env, &mut cache, coders, &PAIRS)?;
-    let _emptied = file_of(&mut env, b"")?;
-    check_walks(&rt, &table, &mut env, &mut cache, coders, &PAIRS)?;
-    check_gets(&rt, &table, &mut env, &mut cache, coders, &PAIRS, false)?;
-    let mut other = Cache::new(rt.alloc(), 12)?;
-    let Err(status) = table.get(rt.alloc(), &mut env, &mut other, coders, b"a") else {
-        panic!(rt; "found in an empty file");
-    };
-    assert_code(&rt, status, StatusCode::Corruption)
+    let table = table_in(&rt, &mut env, &mut cache, &PAIRS)?;
+    let compressors = CompressorList::default();
+    check_walks(&rt, &table, &mut env, &mut cache, &compressors, &PAIRS)?;
+    assert_cached(&rt, &table, &mut env, &mut cache)
 }
 
 const ODD: [Given<'static>; 2] = [(b"a", b"1"), (b"b", b"3")];
 
 const EVEN: [Given<'static>; 2] = [(b"a", b"2"), (b"b", b"4")];
 
+/// Whether two tables have the keys of a list at equal offsets.
+fn have_equal_offsets<E: Env, FP: FilterPolicy>(
+    alloc: Global,
+    odd: &Table<E, DefaultCmp, FP>,
+    even: &Table<E, DefaultCmp, FP>,
+) -> Result<bool> {
+    for (key, _) in &ODD {
+        if odd.approx_offset_of(alloc, key)? != even.approx_offset_of(alloc, key)? {
+            return Ok(false);
+        }
+    }
+    Ok(true)
+}
+
 /// Two tables with blocks at equal offsets, of equal keys and lengths, have each its own values.
 #[test]
 fn equal_offsets(rt: HostRuntime) -> Result<()> {
-    let options = unfiltered(1);
-    let coders = &options.compressor_list;
+    let compressors = CompressorList::default();
     let mut cache = Cache::new(rt.alloc(), 100)?;
     let mut odd_env = MemEnv::new(rt.alloc());
-    let bytes = table_of(&rt, &options, &ODD)?;
-    let odd = open_file(&rt, &options, &mut odd_env, &mut cache, &bytes)?;
+    let odd = table_in(&rt, &mut odd_env, &mut cache, &ODD)?;
     let mut even_env = MemEnv::new(rt.alloc());
-    let bytes = table_of(&rt, &options, &EVEN)?;
-    let even = open_file(&rt, &options, &mut even_env, &mut cache, &bytes)?;
+    let even = table_in(&rt, &mut even_env, &mut cache, &EVEN)?;
     for _ in 0..2 {
-        check_gets(&rt, &odd, &mut odd_env, &mut cache, coders, &ODD, false)?;
-        check_gets(&rt, &even, &mut even_env, &mut cache, coders, &EVEN, false)?;
+        check_gets(
+            &rt,
+            &odd,
+            &mut odd_env,
+            &mut cache,
+            &compressors,
+            &ODD,
+            false,
+        )?;
+        check_gets(
+            &rt,
+            &even,
+            &mut even_env,
+            &mut cache,
+            &compressors,
+            &EVEN,
+            false,
+        )?;
     }
-    for (key, _) in ODD {
-        let place = odd.approx_offset_of(rt.alloc(), key)?;
-        assert_eq!(rt; even.approx_offset_of(rt.alloc(), key)?, place);
-    }
-    assert_eq!(rt; cache.count(), 4);
+    assert!(rt; have_equal_offsets(rt.alloc(), &odd, &even)?);
+    assert!(rt; cache.count() == 4);
     Ok(())
 }

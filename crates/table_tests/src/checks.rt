@@ -1,0 +1,172 @@
+//! What several tests ask, and the pairs, tables and compressor that they share.
+ghost use Rattle.std.specs.Prelude.{◌≡◌, true, OnErr};
+ghost use Rattle.leveldb_table.specs.TableBuilding.{order_of};
+
+use leveldb_base::cmp::{Cmp, DefaultCmp, InternalKeyCmp};
+use leveldb_base::error::{Result, StatusCode};
+use leveldb_base::types::LdbIterator;
+use leveldb_env::compressor::{Compressor, CompressorList};
+use leveldb_env::env::Sink;
+use leveldb_env::filter::{BloomPolicy, FilterPolicy};
+use leveldb_env::options::Options;
+use leveldb_table::block::Block;
+use leveldb_table::table_builder::{FULL_FOOTER_LENGTH, Footer, TableBuilder};
+use std::alloc::{AllocError, Global};
+use std::process::Abort;
+
+/// A key and its value.
+pub type Given<'a> = (&'a [u8], &'a [u8]);
+
+/// The pairs of a table in one block.
+pub const EIGHT: [Given<'static>; 8] = [
+    (b"abc", b"def"),
+    (b"abd", b"def"),
+    (b"abe", b"dee"),
+    (b"abf", b"dee"),
+    (b"bcd", b"asa"),
+    (b"ccd", b"asa"),
+    (b"dcc", b"a00"),
+    (b"dcd", b"a00"),
+];
+
+/// The user's key `a` at the sequence 1, for a value.
+pub const ONE: [Given<'static>; 1] = [(b"a\x01\x01\0\0\0\0\0\0", b"1")];
+
+/// Adds 1 modulo 256 to each byte.
+#[derive(Clone, Copy)]
+pub struct Raised;
+
+impl Compressor for Raised {
+    ghost use Rattle.std.specs.Prelude.{◌+◌, ◌%◌, Some, false, map};
+
+    ghost coding = { λ _. record { decoded = λ stored. Some (map (λ byte. (byte + 255) % 256) stored); refuses = λ code. false } };
+
+    fn encode(&self, alloc: Global, block: Vec<u8>) -> Result<Vec<u8>> {
+        let mut stored = Vec::new(alloc);
+        for byte in &block {
+            stored.push(byte.wrapping_add(1))?;
+        }
+        Ok(stored)
+    }
+
+    fn decode(&self, alloc: Global, stored: Vec<u8>) -> Result<Vec<u8>> {
+        let mut block = Vec::new(alloc);
+        for byte in &stored {
+            block.push(byte.wrapping_add(255))?;
+        }
+        Ok(block)
+    }
+}
+
+/// Options with restart points at every third entry, and the compressor of the id 7.
+pub fn compressed(alloc: Global) -> Result<Options<DefaultCmp, BloomPolicy>> {
+    let mut options = Options::default();
+    options.block_restart_interval = 3;
+    options.compressor = 7;
+    let raised = Box::new(alloc, Raised)?;
+    options.compressor_list.set_with_id(alloc, 7, raised)?;
+    Ok(options)
+}
+
+/// Whether a call failed with this code. Out of memory is passed on.
+pub fn failed_with<T: Drop>(answer: Result<T>, code: StatusCode) -> Result<bool> {
+    let Err(status) = answer else {
+        return Ok(false);
+    };
+    if status.code == StatusCode::OutOfMemory {
+        return Err(status);
+    }
+    Ok(status.code == code)
+}
+
+/// Whether a call failed with this code and text. Out of memory is passed on.
+pub fn failed_saying<T: Drop>(answer: Result<T>, code: StatusCode, text: &str) -> Result<bool> {
+    let Err(status) = answer else {
+        return Ok(false);
+    };
+    if status.code == StatusCode::OutOfMemory {
+        return Err(status);
+    }
+    let found = status.err.ok_or(AllocError)?;
+    Ok(status.code == code && found.as_str() == text)
+}
+
+/// Adds `amount` to the byte at `offset`, past 255 from 0 on.
+pub fn change_byte(bytes: &mut [u8], offset: usize, amount: u8) {
+    if let Some(byte) = bytes.get_mut(offset) {
+        *byte = byte.wrapping_add(amount);
+    }
+}
+
+/// Whether a block has exactly these pairs, in this order.
+pub fn has_pairs(alloc: Global, block: &Block<DefaultCmp>, pairs: &[Given<'_>]) -> Result<bool> {
+    let mut it = block.iter(alloc);
+    for pair in pairs {
+        if !it.advance()? || it.current() != Some(*pair) {
+            return Ok(false);
+        }
+    }
+    Ok(!it.advance()?)
+}
+
+/// Adds pairs to a builder that has none; keys that don't rise end the test.
+pub fn add_all<S: Sink, C: Cmp + Copy, FP: FilterPolicy + Copy>(
+    rt: &impl Abort,
+    builder: &mut TableBuilder<S, C, FP>,
+    cmp: &C,
+    compressors: &CompressorList,
+    pairs: &[Given<'_>],
+) -> Result<()>
+    requires none { builder.old.core.count ≡ 0 }
+    requires order { order_of builder.old.core ≡ cmp.now }
+    ensures { OnErr result (builder.new.core.broken ≡ true) }
+{
+    let mut last = b"".as_slice();
+    for (key, value) in pairs {
+        let rises = builder.entries() == 0 || cmp.cmp(last, key).is_lt();
+        assert!(rt; rises && cmp.accepts(key), "{key:?}");
+        builder.add(compressors, key, value)?;
+        last = key;
+    }
+    Ok(())
+}
+
+/// The table of these pairs, whose length the builder returns.
+pub fn table_of<FP: FilterPolicy + Copy>(
+    rt: &(impl Abort + AllocGlobal),
+    options: &Options<DefaultCmp, FP>,
+    pairs: &[Given<'_>],
+) -> Result<Vec<u8>> {
+    let mut table = Vec::new(rt.alloc());
+    let compressors = &options.compressor_list;
+    let mut builder = TableBuilder::new_raw(rt.alloc(), options, &mut table);
+    add_all(rt, &mut builder, &options.cmp, compressors, pairs)?;
+    assert!(rt; builder.entries() == pairs.len());
+    let size = builder.finish(compressors)?;
+    assert!(rt; table.len() == size);
+    Ok(table)
+}
+
+/// The table of one internal key.
+pub fn internal_table(
+    rt: &(impl Abort + AllocGlobal),
+    options: &Options<DefaultCmp, BloomPolicy>,
+) -> Result<Vec<u8>> {
+    let mut table = Vec::new(rt.alloc());
+    let compressors = &options.compressor_list;
+    let mut builder = TableBuilder::new(rt.alloc(), options, &mut table);
+    let cmp = InternalKeyCmp(options.cmp);
+    add_all(rt, &mut builder, &cmp, compressors, &ONE)?;
+    let size = builder.finish(compressors)?;
+    assert!(rt; (size, table.len()) == (177, 177));
+    Ok(table)
+}
+
+/// The footer of a table.
+pub fn footer_of(rt: &impl Abort, table: &[u8]) -> Footer {
+    let start = table.len().saturating_sub(FULL_FOOTER_LENGTH);
+    let Some(footer) = Footer::decode(table.get(start..).unwrap_or_default()) else {
+        panic!(rt; "no footer");
+    };
+    footer
+}
