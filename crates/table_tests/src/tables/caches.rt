@@ -95,36 +95,46 @@ fn have_equal_offsets<E: Env, FP: FilterPolicy>(
     Ok(true)
 }
 
+fn check_values<E: Env, FP: FilterPolicy>(
+    rt: &(impl Abort + AllocGlobal),
+    table: &Table<E, DefaultCmp, FP>,
+    env: &mut E,
+    cache: &mut BlockCache<DefaultCmp>,
+    pairs: &[Given<'_>],
+) -> Result<()> {
+    let compressors = CompressorList::default();
+    check_gets(rt, table, env, cache, &compressors, pairs, false)
+}
+
+/// Looks up keys in two tables in turn, twice.
+fn check_values_in_turn<E: Env, FP: FilterPolicy>(
+    rt: &(impl Abort + AllocGlobal),
+    odd: (&Table<E, DefaultCmp, FP>, &mut E),
+    even: (&Table<E, DefaultCmp, FP>, &mut E),
+    cache: &mut BlockCache<DefaultCmp>,
+) -> Result<()> {
+    for _ in 0..2 {
+        check_values(rt, odd.0, odd.1, cache, &ODD)?;
+        check_values(rt, even.0, even.1, cache, &EVEN)?;
+    }
+    Ok(())
+}
+
 /// Two tables with blocks at equal offsets, of equal keys and lengths, have each its own values.
 #[test]
 fn equal_offsets(rt: HostRuntime) -> Result<()> {
-    let compressors = CompressorList::default();
     let mut cache = Cache::new(rt.alloc(), 100)?;
     let mut odd_env = MemEnv::new(rt.alloc());
     let odd = table_in(&rt, &mut odd_env, &mut cache, &ODD)?;
     let mut even_env = MemEnv::new(rt.alloc());
     let even = table_in(&rt, &mut even_env, &mut cache, &EVEN)?;
-    for _ in 0..2 {
-        check_gets(
-            &rt,
-            &odd,
-            &mut odd_env,
-            &mut cache,
-            &compressors,
-            &ODD,
-            false,
-        )?;
-        check_gets(
-            &rt,
-            &even,
-            &mut even_env,
-            &mut cache,
-            &compressors,
-            &EVEN,
-            false,
-        )?;
-    }
     assert!(rt; have_equal_offsets(rt.alloc(), &odd, &even)?);
+    check_values_in_turn(
+        &rt,
+        (&odd, &mut odd_env),
+        (&even, &mut even_env),
+        &mut cache,
+    )?;
     assert!(rt; cache.count() == 4);
     Ok(())
 }

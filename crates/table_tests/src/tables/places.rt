@@ -29,16 +29,35 @@ fn offsets(rt: HostRuntime) -> Result<()> {
     assert_offsets(&rt, &table)
 }
 
-/// A key after the last of the block of `ca` has that block's offset, and the first pair of the next block is found for it.
+/// Whether the first pair of the next block is found for a key between two blocks.
+fn finds_next<E: Env, FP: FilterPolicy>(
+    alloc: Global,
+    table: &Table<E, DefaultCmp, FP>,
+    env: &mut E,
+    cache: &mut BlockCache<DefaultCmp>,
+) -> Result<bool> {
+    let compressors = CompressorList::default();
+    let found = table.get(alloc, env, cache, &compressors, b"ca\0")?;
+    Ok(is_found(&found, PAIRS.as_slice().get(10).copied(), b"ca\0", false))
+}
+
+/// Whether a key has the offset of another one.
+fn is_at_offset_of<E: Env, FP: FilterPolicy>(
+    alloc: Global,
+    table: &Table<E, DefaultCmp, FP>,
+    key: &[u8],
+    other: &[u8],
+) -> Result<bool> {
+    Ok(table.approx_offset_of(alloc, key)? == table.approx_offset_of(alloc, other)?)
+}
+
+/// A key after the last of the block of `ca` has that block's offset.
 #[test]
 fn between_blocks(rt: HostRuntime) -> Result<()> {
     let mut env = MemEnv::new(rt.alloc());
     let mut cache = Cache::new(rt.alloc(), 1)?;
     let table = table_in(&rt, &mut env, &mut cache, &PAIRS)?;
-    let offset = table.approx_offset_of(rt.alloc(), b"ca")?;
-    assert!(rt; table.approx_offset_of(rt.alloc(), b"ca\0")? == offset);
-    let compressors = CompressorList::default();
-    let found = table.get(rt.alloc(), &mut env, &mut cache, &compressors, b"ca\0")?;
-    assert!(rt; is_found(&found, PAIRS.as_slice().get(10).copied(), b"ca\0", false));
+    assert!(rt; is_at_offset_of(rt.alloc(), &table, b"ca\0", b"ca")?);
+    assert!(rt; finds_next(rt.alloc(), &table, &mut env, &mut cache)?);
     Ok(())
 }
