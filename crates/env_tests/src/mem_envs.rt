@@ -177,7 +177,7 @@ fn a_crash_leaves_no_other(rt: HostRuntime) -> Result<()> {
     for tails in &NOT_LEFT {
         let pick = pick_of(rt.alloc(), tails)?;
         let answer = env.crashed(rt.alloc(), &pick);
-        assert!(rt; failed_with(answer, InvalidArgument), "{tails:?}");
+        assert!(rt; failed_with(answer, InvalidArgument)?, "{tails:?}");
     }
     Ok(())
 }
