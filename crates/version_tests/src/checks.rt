@@ -1,10 +1,11 @@
 //! What several tests ask.
 use leveldb_base::error::{Result, StatusCode};
 
-/// Whether a call failed with this code.
-pub fn failed_with<T: Drop>(answer: Result<T>, code: StatusCode) -> bool {
+/// Whether a call failed with this code. Out of memory is passed on.
+pub fn failed_with<T: Drop>(answer: Result<T>, code: StatusCode) -> Result<bool> {
     match answer {
-        Ok(_) => false,
-        Err(status) => status.code == code,
+        Ok(_) => Ok(false),
+        Err(status) if status.code == StatusCode::OutOfMemory => Err(status),
+        Err(status) => Ok(status.code == code),
     }
 }

@@ -55,14 +55,18 @@ fn full(alloc: Global) -> Result<VersionEdit> {
     Ok(edit)
 }
 
-/// Whether the edit that is read of the first bytes is written as the second.
+/// The bytes that are written for the edit that is read of `bytes`.
+fn written_again(alloc: Global, bytes: &[u8]) -> Result<Vec<u8>> {
+    VersionEdit::decode_from(alloc, bytes)?.encode(alloc)
+}
+
+/// Whether the edit that is read of `bytes` is written as `wanted`.
 fn is_written_as(alloc: Global, bytes: &[u8], wanted: &[u8]) -> Result<bool> {
-    let written = VersionEdit::decode_from(alloc, bytes)?.encode(alloc)?;
-    Ok(written.as_slice() == wanted)
+    Ok(written_again(alloc, bytes)?.as_slice() == wanted)
 }
 
 /// The bytes of a store's first edit.
-const FIRST: &[u8] = b"\x01\x1aleveldb.BytewiseComparator\x02\0\x03\x02\x04\0";
+const FIRST: &[u8; 34] = b"\x01\x1aleveldb.BytewiseComparator\x02\0\x03\x02\x04\0";
 
 /// The first edit of a store.
 #[test]
@@ -73,8 +77,7 @@ fn first_edit(rt: HostRuntime) -> Result<()> {
     edit.set_next_file(2);
     edit.set_last_seq(0);
     let bytes = edit.encode(rt.alloc())?;
-    assert!(rt; bytes.as_slice() == FIRST);
-    assert!(rt; FIRST.len() == 34);
+    assert!(rt; bytes.as_slice() == FIRST.as_slice());
     assert!(rt; is_written_as(rt.alloc(), FIRST, FIRST)?);
     Ok(())
 }
@@ -101,16 +104,25 @@ fn deletes(edit: &VersionEdit, wanted: &[(usize, FileNum)]) -> bool {
     edit.deleted.iter().eq(wanted)
 }
 
+/// Whether the edit adds this file alone.
+fn adds(edit: &VersionEdit, level: usize, file: FileMetaData) -> bool {
+    edit.new_files.as_slice() == [(level, file)].as_slice()
+}
+
+/// The full edit, written and read.
+fn read_again(alloc: Global) -> Result<VersionEdit> {
+    let encoded = full(alloc)?.encode(alloc)?;
+    VersionEdit::decode_from(alloc, &encoded)
+}
+
 /// What an edit with each kind of field keeps. Allowed seeks aren't written.
 #[test]
 fn full_edit(rt: HostRuntime) -> Result<()> {
-    let encoded = full(rt.alloc())?.encode(rt.alloc())?;
-    let edit = VersionEdit::decode_from(rt.alloc(), &encoded)?;
+    let edit = read_again(rt.alloc())?;
     assert_values(&rt, &edit);
     assert_pointers(&rt, &edit)?;
     assert!(rt; deletes(&edit, &[(0, 200), (1, 131), (1, 132)]));
-    let wanted = [(0, file(rt.alloc(), 0)?)];
-    assert!(rt; edit.new_files.as_slice() == wanted.as_slice());
+    assert!(rt; adds(&edit, 0, file(rt.alloc(), 0)?));
     Ok(())
 }
 
@@ -147,11 +159,12 @@ const MALFORMED: [&[u8]; 9] = [
 ];
 
 #[test]
-fn malformed(rt: HostRuntime) {
+fn malformed(rt: HostRuntime) -> Result<()> {
     for bytes in &MALFORMED {
         let answer = VersionEdit::decode_from(rt.alloc(), bytes);
-        assert!(rt; failed_with(answer, StatusCode::Corruption), "{bytes:?}");
+        assert!(rt; failed_with(answer, StatusCode::Corruption)?, "{bytes:?}");
     }
+    Ok(())
 }
 
 /// Whether bytes are an edit. It is then written and read again, and otherwise the bytes are corrupt.
@@ -181,23 +194,24 @@ fn cut_anywhere(rt: HostRuntime) -> Result<()> {
     Ok(())
 }
 
-fn is_edit_raised(rt: &(impl Abort + AllocGlobal), whole: &[u8], offset: usize) -> Result<bool> {
-    let mut raised = Vec::from_slice(rt.alloc(), whole)?;
-    if let Some(byte) = raised.get_mut(offset) {
-        *byte = byte.wrapping_add(1);
+/// Adds `amount` to the byte at `offset`, past 255 from 0 on.
+fn change_byte(bytes: &mut [u8], offset: usize, amount: u8) {
+    if let Some(byte) = bytes.get_mut(offset) {
+        *byte = byte.wrapping_add(amount);
     }
-    is_edit(rt, &raised)
 }
 
 /// With a byte raised by one an edit is another at least where that byte is of the name or of a key.
 #[test]
 fn each_byte_raised(rt: HostRuntime) -> Result<()> {
-    let whole = full(rt.alloc())?.encode(rt.alloc())?;
+    let mut bytes = full(rt.alloc())?.encode(rt.alloc())?;
     let mut read = Vec::new(rt.alloc());
-    for offset in 0..whole.len() {
-        if is_edit_raised(&rt, &whole, offset)? {
+    for offset in 0..bytes.len() {
+        change_byte(&mut bytes, offset, 1);
+        if is_edit(&rt, &bytes)? {
             read.push(offset)?;
         }
+        change_byte(&mut bytes, offset, 255);
     }
     assert!(rt; read.len() >= 26 + 5 * 3);
     Ok(())

@@ -74,11 +74,12 @@ const MALFORMED: [&[u8]; 12] = [
 ];
 
 #[test]
-fn malformed_texts(rt: HostRuntime) {
+fn malformed_texts(rt: HostRuntime) -> Result<()> {
     for text in &MALFORMED {
         let answer = parse_current_text(rt.alloc(), text);
-        assert!(rt; failed_with(answer, StatusCode::Corruption), "{text:?}");
+        assert!(rt; failed_with(answer, StatusCode::Corruption)?, "{text:?}");
     }
+    Ok(())
 }
 
 /// The size of the file that is live under a level and a number, by a look at each change in turn.
