@@ -3,11 +3,13 @@ use leveldb_base::error::{Result, StatusCode};
 
 /// Whether a call failed with this code. Out of memory is passed on.
 pub fn failed_with<T: Drop>(answer: Result<T>, code: StatusCode) -> Result<bool> {
-    match answer {
-        Ok(_) => Ok(false),
-        Err(status) if status.code == StatusCode::OutOfMemory => Err(status),
-        Err(status) => Ok(status.code == code),
+    let Some(status) = answer.err() else {
+        return Ok(false);
+    };
+    if status.code == StatusCode::OutOfMemory {
+        return Err(status);
     }
+    Ok(status.code == code)
 }
 
 /// The code of what a call returned.
