@@ -10,16 +10,14 @@ use std::process::Abort;
 const NAME: &str = "leveldb.BytewiseComparator";
 
 // A file of the keys abc to def.
-fn file(alloc: Global, allowed_seeks: usize) -> Result<FileMetaData> {
-    let smallest = Bytes::copy_from_slice(alloc, b"abc")?;
-    let largest = Bytes::copy_from_slice(alloc, b"def")?;
-    Ok(FileMetaData {
+fn file(allowed_seeks: usize) -> FileMetaData {
+    FileMetaData {
         allowed_seeks,
         num: 901,
         size: 234,
-        smallest,
-        largest,
-    })
+        smallest: Bytes::from_static(b"abc"),
+        largest: Bytes::from_static(b"def"),
+    }
 }
 
 const POINTERS: [(usize, &[u8]); 3] = [(0, b"abc"), (1, b"def"), (2, b"xyz")];
@@ -49,7 +47,7 @@ fn full(alloc: Global) -> Result<VersionEdit> {
     edit.set_prev_log_num(9);
     edit.set_last_seq(1 << 56);
     edit.set_comparator_name(NAME)?;
-    edit.add_file(0, file(alloc, 12345)?)?;
+    edit.add_file(0, file(12345))?;
     set_pointers(&mut edit)?;
     delete_files(&mut edit)?;
     Ok(edit)
@@ -90,13 +88,18 @@ fn assert_values(rt: &impl Abort, edit: &VersionEdit) {
     assert!(rt; edit.last_seq == Some(1 << 56));
 }
 
-fn assert_pointers(rt: &(impl Abort + AllocGlobal), edit: &VersionEdit) -> Result<()> {
-    assert!(rt; edit.compaction_ptrs.len() == 3);
-    for (pointer, (level, key)) in edit.compaction_ptrs.iter().zip(&POINTERS) {
-        let key = Bytes::copy_from_slice(rt.alloc(), key)?;
-        assert!(rt; *pointer == CompactionPointer { level: *level, key });
+fn pointer(level: usize, key: &'static [u8]) -> CompactionPointer {
+    CompactionPointer {
+        level,
+        key: Bytes::from_static(key),
     }
-    Ok(())
+}
+
+fn assert_pointers(rt: &impl Abort, edit: &VersionEdit) {
+    assert!(rt; edit.compaction_ptrs.len() == 3);
+    for (found, (level, key)) in edit.compaction_ptrs.iter().zip(&POINTERS) {
+        assert!(rt; *found == pointer(*level, key));
+    }
 }
 
 /// Whether the edit deletes these files, in this order.
@@ -120,9 +123,9 @@ fn read_again(alloc: Global) -> Result<VersionEdit> {
 fn full_edit(rt: HostRuntime) -> Result<()> {
     let edit = read_again(rt.alloc())?;
     assert_values(&rt, &edit);
-    assert_pointers(&rt, &edit)?;
+    assert_pointers(&rt, &edit);
     assert!(rt; deletes(&edit, &[(0, 200), (1, 131), (1, 132)]));
-    assert!(rt; adds(&edit, 0, file(rt.alloc(), 0)?));
+    assert!(rt; adds(&edit, 0, file(0)));
     Ok(())
 }
 
