@@ -1,6 +1,8 @@
 //! Bloom filters: the hash of a key, and the bits that keys set.
+use crate::checks::failed_with;
 use leveldb_base::error::{Result, StatusCode};
 use leveldb_env::filter::{BloomPolicy, FilterPolicy};
+use std::process::Abort;
 
 const SEED: u32 = 0xbc9f_1d34;
 
@@ -89,29 +91,47 @@ fn every_length_is_hashed_by_words(rt: HostRuntime) {
     }
 }
 
-// The crate's tests have the two filters.
+// The filter of the four keys with 12 bits a key. The crate's tests have this filter and the next.
+const FILTER: [u8; 9] = [194, 148, 129, 140, 192, 196, 132, 164, 8];
+
+// The filter of the letters with 32 bits a key.
+const FILTER_OF_LETTERS: [u8; 17] = [
+    234, 195, 25, 155, 61, 141, 173, 140, 221, 28, 222, 92, 220, 112, 234, 227, 22,
+];
+
 #[test]
 fn known_filters(rt: HostRuntime) -> Result<()> {
     let policy = BloomPolicy::new(12);
-    assert_eq!(rt; policy.name(), "leveldb.BuiltinBloomFilter2");
+    assert!(rt; policy.name() == "leveldb.BuiltinBloomFilter2");
     let filter = policy.create_filter(rt.alloc(), KEYS, OFFSETS)?;
-    assert_eq!(rt;
-        filter.as_slice(),
-        [194, 148, 129, 140, 192, 196, 132, 164, 8].as_slice()
-    );
-    for key in [b"abc123def456", b"xxx111xxx222"] {
-        assert!(rt; policy.key_may_match(key, &filter));
-    }
-    assert!(rt; policy.key_may_match(b"908070605040302010", &filter));
-    assert!(rt; policy.key_may_match(b"ab00cd00ab", &filter));
-    assert!(rt; !policy.key_may_match(b"ab00cd00ac", &filter));
-    let policy = BloomPolicy::new(32);
-    let filter = policy.create_filter(rt.alloc(), b"abcdefghijklmnopqrstuvwxyz", &[0, 4, 8, 12])?;
-    let bytes = [
-        234, 195, 25, 155, 61, 141, 173, 140, 221, 28, 222, 92, 220, 112, 234, 227, 22,
-    ];
-    assert_eq!(rt; filter.as_slice(), bytes.as_slice());
+    assert!(rt; filter.as_slice() == FILTER.as_slice());
+    let letters = b"abcdefghijklmnopqrstuvwxyz";
+    let filter = BloomPolicy::new(32).create_filter(rt.alloc(), letters, &[0, 4, 8, 12])?;
+    assert!(rt; filter.as_slice() == FILTER_OF_LETTERS.as_slice());
     Ok(())
+}
+
+#[test]
+fn keys_match_a_known_filter(rt: HostRuntime) {
+    let policy = BloomPolicy::new(12);
+    for key in &EACH_KEY {
+        assert!(rt; policy.key_may_match(key, &FILTER));
+    }
+    assert!(rt; !policy.key_may_match(b"ab00cd00ac", &FILTER));
+}
+
+// Asserts that a filter of the four keys has their bits, and of each beginning of the keys matches those with bits there.
+fn assert_bits(rt: &impl Abort, policy: BloomPolicy, filter: &[u8]) {
+    let Some((count, bits)) = filter.split_last() else {
+        panic!(rt; "no count");
+    };
+    for key in &EACH_KEY {
+        assert!(rt; slow_match(key, bits, *count));
+    }
+    for len in 0..KEYS.len() + 1 {
+        let key = &KEYS[..len];
+        assert!(rt; policy.key_may_match(key, filter) == slow_match(key, bits, *count));
+    }
 }
 
 #[test]
@@ -119,50 +139,48 @@ fn bits_are_those_of_the_keys(rt: HostRuntime) -> Result<()> {
     for bits_per_key in [0, 1, 2, 10, 14, 15, 16, 32, 43, 44, 100] {
         let policy = BloomPolicy::new(bits_per_key);
         let filter = policy.create_filter(rt.alloc(), KEYS, OFFSETS)?;
-        let Some((count, bits)) = filter.split_last() else {
-            panic!(rt; "no count");
-        };
-        for key in EACH_KEY {
-            assert!(rt; slow_match(key, bits, *count));
-        }
-        for len in 0..KEYS.len() + 1 {
-            let key = &KEYS[..len];
-            assert_eq!(rt;
-                policy.key_may_match(key, &filter),
-                slow_match(key, bits, *count)
-            );
-        }
+        assert_bits(&rt, policy, &filter);
     }
     Ok(())
 }
 
+// Filters, and whether a key matches them that they weren't made of.
+const OTHER_FILTERS: [(&[u8], bool); 7] = [
+    (&[], true),
+    (&[6], true),
+    (&[0, 0, 31], true),
+    (&[0, 0, 255], true),
+    (&[0, 0, 0], true),
+    (&[0, 0, 30], false),
+    (&[0, 1], false),
+];
+
 #[test]
-fn filters_that_tell_nothing(rt: HostRuntime) -> Result<()> {
+fn filters_that_match_all(rt: HostRuntime) {
     let policy = BloomPolicy::new(10);
-    let rows: [(&[u8], bool); 7] = [
-        (&[], true),
-        (&[6], true),
-        (&[0, 0, 31], true),
-        (&[0, 0, 255], true),
-        (&[0, 0, 0], true),
-        (&[0, 0, 30], false),
-        (&[0, 1], false),
-    ];
-    for (filter, matches) in rows {
-        assert_eq!(rt; policy.key_may_match(b"abc", filter), matches, "{filter:?}");
+    for (filter, matches) in &OTHER_FILTERS {
+        assert!(rt;
+            policy.key_may_match(b"abc", filter) == *matches,
+            "{filter:?}"
+        );
     }
-    let none = policy.create_filter(rt.alloc(), b"", &[])?;
-    assert_eq!(rt; none.as_slice(), [0, 0, 0, 0, 0, 0, 0, 0, 6].as_slice());
+}
+
+#[test]
+fn filter_of_no_keys(rt: HostRuntime) -> Result<()> {
+    let filter = BloomPolicy::new(10).create_filter(rt.alloc(), b"", &[])?;
+    assert!(rt; filter.as_slice() == [0, 0, 0, 0, 0, 0, 0, 0, 6].as_slice());
     Ok(())
 }
 
 #[test]
-fn filters_past_32_bits_are_refused(rt: HostRuntime) {
+fn filters_of_more_than_32_bits(rt: HostRuntime) -> Result<()> {
     for (bits_per_key, offsets) in [(u32::MAX, &[0][..]), (u32::MAX / 3, &[0, 0, 0, 0][..])] {
-        let Err(status) = BloomPolicy::new(bits_per_key).create_filter(rt.alloc(), b"abc", offsets)
-        else {
-            panic!(rt; "a filter of {bits_per_key} bits a key");
-        };
-        assert_eq!(rt; status.code, StatusCode::NotSupported);
+        let answer = BloomPolicy::new(bits_per_key).create_filter(rt.alloc(), b"abc", offsets);
+        assert!(rt;
+            failed_with(answer, StatusCode::NotSupported)?,
+            "{bits_per_key}"
+        );
     }
+    Ok(())
 }

@@ -1,9 +1,9 @@
-//! Coders, and lists of them.
+//! Compressors, and lists of them.
 ghost use Rattle.std.specs.Prelude.{◌≡◌, ◌+◌, ◌%◌, ◌⊎◌, Some, false, map, IfOk, IfErr};
 ghost use Rattle.leveldb_base.specs.Status.{IsOutOfMemory};
 ghost use Rattle.leveldb_env.specs.Coders.{RefusesWith};
 
-use leveldb_base::error::{Result, StatusCode};
+use leveldb_base::error::{Result, Status, StatusCode};
 use leveldb_env::compressor::{Compressor, CompressorId, CompressorList, NoneCompressor};
 use std::alloc::Global;
 
@@ -37,7 +37,7 @@ impl Compressor for Shift {
     }
 }
 
-// A block that is stored and read again, under any coder. A refusal is that coder's, or for want of memory.
+// A block that is stored and read again, by any compressor. An error is the compressor's, or out of memory.
 fn read_again<C: Compressor>(coder: C, alloc: Global, block: Vec<u8>) -> Result<Vec<u8>>
     ensures same { IfOk result (λ read. read.items ≡ block.items) }
     ensures cause { IfErr result (λ status. IsOutOfMemory status ⊎ RefusesWith (C.coding coder) status) }
@@ -46,78 +46,119 @@ fn read_again<C: Compressor>(coder: C, alloc: Global, block: Vec<u8>) -> Result<
     coder.decode(alloc, stored)
 }
 
-// What stored bytes decode to under a list's coder of this id.
+// Whether a block is stored as these bytes.
+fn is_stored_as<C: Compressor>(
+    compressor: C,
+    alloc: Global,
+    block: &[u8],
+    stored: &[u8],
+) -> Result<bool> {
+    let found = compressor.encode(alloc, block.to_vec(alloc)?)?;
+    Ok(found.as_slice() == stored)
+}
+
+// Whether a block is the same once it was stored and read.
+fn is_read_again<C: Compressor>(compressor: C, alloc: Global, block: &[u8]) -> Result<bool> {
+    let read = read_again(compressor, alloc, block.to_vec(alloc)?)?;
+    Ok(read.as_slice() == block)
+}
+
+const BLOCK: &[u8] = &[0, 1, 254, 255];
+
+#[test]
+fn compressors(rt: HostRuntime) -> Result<()> {
+    assert!(rt; is_stored_as(NoneCompressor, rt.alloc(), BLOCK, BLOCK)?);
+    assert!(rt; is_stored_as(Shift, rt.alloc(), BLOCK, &[1, 2, 255, 0])?);
+    assert!(rt; is_read_again(Shift, rt.alloc(), BLOCK)?);
+    assert!(rt; is_read_again(NoneCompressor, rt.alloc(), BLOCK)?);
+    Ok(())
+}
+
+// What stored bytes decode to under a list's compressor of this id.
 fn decode(list: &CompressorList, alloc: Global, id: u8, stored: &[u8]) -> Result<Vec<u8>> {
     list.get(alloc, id)?.decode(alloc, stored.to_vec(alloc)?)
 }
 
+// Whether stored bytes decode to a block under a list's compressor of this id.
+fn decodes_to(
+    list: &CompressorList,
+    alloc: Global,
+    id: u8,
+    stored: &[u8],
+    block: &[u8],
+) -> Result<bool> {
+    Ok(decode(list, alloc, id, stored)?.as_slice() == block)
+}
+
 #[test]
-fn coders(rt: HostRuntime) -> Result<()> {
-    let alloc = rt.alloc();
-    let block = [0, 1, 254, 255];
-    let plain = NoneCompressor.encode(alloc, block.to_vec(alloc)?)?;
-    assert_eq!(rt; plain.as_slice(), block.as_slice());
-    let stored = Shift.encode(alloc, block.to_vec(alloc)?)?;
-    assert_eq!(rt; stored.as_slice(), [1, 2, 255, 0].as_slice());
-    let read = read_again(Shift, alloc, block.to_vec(alloc)?)?;
-    assert_eq!(rt; read.as_slice(), block.as_slice());
-    let same = read_again(NoneCompressor, alloc, block.to_vec(alloc)?)?;
-    assert_eq!(rt; same.as_slice(), block.as_slice());
+fn default_list(rt: HostRuntime) -> Result<()> {
+    assert!(rt; !CompressorList::new().is_set(0));
+    let list = CompressorList::default();
+    assert!(rt; list.is_set(0) && !list.is_set(7));
+    assert!(rt; decodes_to(&list, rt.alloc(), 0, &[5, 6], &[5, 6])?);
     Ok(())
 }
 
 #[test]
-fn lists(rt: HostRuntime) -> Result<()> {
-    let alloc = rt.alloc();
-    let empty = CompressorList::new();
-    assert!(rt; !empty.is_set(0));
+fn list_with_a_compressor(rt: HostRuntime) -> Result<()> {
     let mut list = CompressorList::default();
-    assert!(rt; list.is_set(0));
-    assert!(rt; !list.is_set(7));
-    assert_eq!(rt;
-        decode(&list, alloc, 0, &[5, 6])?.as_slice(),
-        [5, 6].as_slice()
-    );
-    list.set::<Shift>(alloc, Box::new(alloc, Shift)?)?;
+    list.set::<Shift>(rt.alloc(), Box::new(rt.alloc(), Shift)?)?;
     assert!(rt; list.is_set(7));
-    assert_eq!(rt;
-        decode(&list, alloc, 7, &[1, 0])?.as_slice(),
-        [0, 255].as_slice()
-    );
-    assert_eq!(rt;
-        read_again(list.get(alloc, 7)?, alloc, [9].to_vec(alloc)?)?.as_slice(),
-        [9].as_slice()
-    );
+    assert!(rt; decodes_to(&list, rt.alloc(), 7, &[1, 0], &[0, 255])?);
+    let listed = list.get(rt.alloc(), 7)?;
+    assert!(rt; is_read_again(listed, rt.alloc(), &[9])?);
     Ok(())
 }
 
-#[test]
-fn coders_replaced(rt: HostRuntime) -> Result<()> {
-    let alloc = rt.alloc();
+fn set_shift(list: &mut CompressorList, alloc: Global, id: u8) -> Result<()> {
+    list.set_with_id(alloc, id, Box::new(alloc, Shift)?)
+}
+
+// A list with `Shift` under two ids. Under one of them it replaces another compressor.
+fn list_of_shifts(alloc: Global) -> Result<CompressorList> {
     let mut list = CompressorList::default();
     list.set_with_id(alloc, 9, Box::new(alloc, NoneCompressor)?)?;
-    list.set_with_id(alloc, 0, Box::new(alloc, Shift)?)?;
-    list.set_with_id(alloc, 9, Box::new(alloc, Shift)?)?;
-    assert_eq!(rt; decode(&list, alloc, 0, &[1])?.as_slice(), [0].as_slice());
-    assert_eq!(rt; decode(&list, alloc, 9, &[1])?.as_slice(), [0].as_slice());
-    list.set::<NoneCompressor>(alloc, Box::new(alloc, NoneCompressor)?)?;
-    assert_eq!(rt; decode(&list, alloc, 0, &[1])?.as_slice(), [1].as_slice());
+    set_shift(&mut list, alloc, 0)?;
+    set_shift(&mut list, alloc, 9)?;
+    Ok(list)
+}
+
+#[test]
+fn compressors_replaced(rt: HostRuntime) -> Result<()> {
+    let mut list = list_of_shifts(rt.alloc())?;
+    assert!(rt; decodes_to(&list, rt.alloc(), 0, &[1], &[0])?);
+    assert!(rt; decodes_to(&list, rt.alloc(), 9, &[1], &[0])?);
+    list.set::<NoneCompressor>(rt.alloc(), Box::new(rt.alloc(), NoneCompressor)?)?;
+    assert!(rt; decodes_to(&list, rt.alloc(), 0, &[1], &[1])?);
     Ok(())
+}
+
+// Ids that no compressor has, and the text of the error.
+const UNSET: [(u8, &str); 2] = [
+    (7, "invalid compression id `7`"),
+    (255, "invalid compression id `255`"),
+];
+
+// Whether a call failed since an id is unset, with this text. That there is none means that there was no memory for it.
+fn is_unset(answer: Result<Vec<u8>>, text: &str) -> Result<bool> {
+    match answer {
+        Ok(_) => Ok(false),
+        Err(
+            Status {
+                code,
+                err: Some(found),
+            },
+        ) => Ok(code == StatusCode::NotSupported && found.as_str() == text),
+        Err(status) => Err(status),
+    }
 }
 
 #[test]
 fn unset_ids(rt: HostRuntime) -> Result<()> {
-    let alloc = rt.alloc();
     let list = CompressorList::default();
-    for (id, text) in [
-        (7, "invalid compression id `7`"),
-        (255, "invalid compression id `255`"),
-    ] {
-        let Err(refused) = decode(&list, alloc, id, b"abc") else {
-            panic!(rt; "a coder was found");
-        };
-        assert_eq!(rt; refused.code, StatusCode::NotSupported);
-        assert_eq!(rt; refused.err.as_ref().map(|err| err.as_str()), Some(text));
+    for (id, text) in &UNSET {
+        let answer = decode(&list, rt.alloc(), *id, b"abc");
+        assert!(rt; is_unset(answer, text)?, "{id}");
     }
     Ok(())
 }

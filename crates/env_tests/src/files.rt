@@ -7,12 +7,15 @@ ghost use Rattle.leveldb_env.specs.Runs.{Run};
 ghost use Rattle.leveldb_env.specs.Sinks.{PutsAll, PutsPart};
 ghost use Rattle.leveldb_env.specs.OpenFiles.{opened, Syncs, IsLonger, IsPartlyPut};
 
+use crate::checks::failed_with;
+use crate::disks::no_tails;
 use leveldb_base::error::{Result, Status, StatusCode};
 use leveldb_env::env::source::read_to_end;
 use leveldb_env::env::whole_files::{read_file, replace_file};
 use leveldb_env::env::{Env, EnvFile, Sink, Source};
-use leveldb_env::mem_env::{MemEnv, Pick};
+use leveldb_env::mem_env::{MemEnv, MemHandle};
 use std::alloc::Global;
+use std::process::Abort;
 
 fn put_pair<S: Sink>(sink: &mut S, first: &[u8], second: &[u8]) -> Result<()>
     ensures ok { OnOk result (PutsAll S.puts sink.old (first.now ++ second.now) sink.new) }
@@ -87,38 +90,32 @@ fn replace_each<E: Env>(env: &mut E, temp: &str, names: &[&str], bytes: &[u8]) -
     Ok(())
 }
 
-/// The code of a refusal that is expected; want of memory is passed on.
-fn refusal<T: Drop>(answer: Result<T>) -> Result<Option<StatusCode>> {
-    let Some(status) = answer.err() else {
-        return Ok(None);
-    };
-    if status.code == StatusCode::OutOfMemory {
-        return Err(status);
-    }
-    Ok(Some(status.code))
-}
-
 #[test]
-fn puts_go_behind(rt: HostRuntime) -> Result<()> {
+fn bytes_are_appended(rt: HostRuntime) -> Result<()> {
     let mut all = pair(rt.alloc(), b"ab", b"c")?;
     put_pair_behind(&mut all, b"", b"de")?;
-    assert_eq!(rt; all.as_slice(), b"abcde".as_slice());
-    let mut lent = &mut all;
-    lent.flush()?;
-    assert_eq!(rt; all.as_slice(), b"abcde".as_slice());
+    assert!(rt; all.as_slice() == b"abcde".as_slice());
+    let mut borrowed = &mut all;
+    borrowed.flush()?;
+    assert!(rt; all.as_slice() == b"abcde".as_slice());
     Ok(())
+}
+
+/// Whether all bytes of a slice of this length are read.
+fn is_read(alloc: Global, len: usize) -> Result<bool> {
+    let bytes = vec![in alloc; 7u8; len]?;
+    Ok(rest_of(alloc, &bytes)?.as_slice() == bytes.as_slice())
 }
 
 #[test]
 fn a_slice_gives_all_its_bytes(rt: HostRuntime) -> Result<()> {
     for len in [0, 1, 4095, 4096, 4097, 10_000] {
-        let bytes = vec![in rt.alloc(); 7u8; len]?;
-        assert_eq!(rt; rest_of(rt.alloc(), &bytes)?, bytes, "of {len}");
+        assert!(rt; is_read(rt.alloc(), len)?, "of {len}");
     }
     Ok(())
 }
 
-/// A source that gives so many bytes, one at each read, and is refused then.
+/// A source that gives `left` bytes, one at each read, and then fails.
 #[derive(Drop)]
 struct Halting {
     left: u8,
@@ -144,43 +141,52 @@ impl Source for Halting {
 }
 
 #[test]
-fn a_refused_read_is_passed_on(rt: HostRuntime) -> Result<()> {
+fn a_failed_read_is_passed_on(rt: HostRuntime) -> Result<()> {
     for left in [0, 1, 3] {
         let mut source = Halting { left };
         let answer = read_to_end(rt.alloc(), &mut &mut source);
-        assert_eq!(rt; refusal(answer)?, Some(StatusCode::IOError), "after {left}");
-        assert_eq!(rt; source.left, 0);
+        assert!(rt; failed_with(answer, StatusCode::IOError)?, "after {left}");
+        assert!(rt; source.left == 0);
     }
+    Ok(())
+}
+
+/// Whether a file has these bytes.
+fn has_bytes(env: &mut MemEnv, alloc: Global, name: &str, bytes: &[u8]) -> Result<bool> {
+    Ok(read_file(alloc, env, name)?.as_slice() == bytes)
+}
+
+/// Whether a file has these bytes after a crash without tails.
+fn keeps(env: &MemEnv, alloc: Global, name: &str, bytes: &[u8]) -> Result<bool> {
+    let mut left = env.crashed(alloc, &no_tails(alloc, false))?;
+    has_bytes(&mut left, alloc, name, bytes)
+}
+
+const LOG: &str = "db/000003.log";
+
+/// Asserts that an open file has these bytes, and that a crash keeps them once the file is flushed.
+fn assert_flushed(
+    rt: &(impl Abort + AllocGlobal),
+    env: &mut MemEnv,
+    file: &mut MemHandle,
+    bytes: &[u8],
+) -> Result<()> {
+    assert!(rt; has_bytes(env, rt.alloc(), LOG, bytes)?);
+    assert!(rt; keeps(env, rt.alloc(), LOG, b"")?, "not flushed");
+    flush_file(env, file)?;
+    assert!(rt; keeps(env, rt.alloc(), LOG, bytes)?, "flushed");
     Ok(())
 }
 
 #[test]
 fn pieces_go_into_a_file_and_come_back(rt: HostRuntime) -> Result<()> {
     let mut env = MemEnv::new(rt.alloc());
-    let mut file = env.open_writable_file("db/000003.log")?;
+    let mut file = env.open_writable_file(LOG)?;
     let long = vec![in rt.alloc(); 7u8; 10_000]?;
     put_pair_in_file(&mut env, &mut file, b"ab", &long)?;
-    let mut all = pair(rt.alloc(), b"ab", &long)?;
-    assert_eq!(rt; read_file(rt.alloc(), &mut env, "db/000003.log")?, all);
-    let nothing = Pick {
-        tails: Vec::new(rt.alloc()),
-        after: false,
-    };
-    let mut crashed = env.crashed(rt.alloc(), &nothing)?;
-    all.clear();
-    assert_eq!(rt;
-        read_file(rt.alloc(), &mut crashed, "db/000003.log")?,
-        all,
-        "not flushed"
-    );
-    flush_file(&mut env, &mut file)?;
-    let mut crashed = env.crashed(rt.alloc(), &nothing)?;
-    assert_eq!(rt;
-        read_file(rt.alloc(), &mut crashed, "db/000003.log")?.len(),
-        10_002,
-        "flushed"
-    );
-    Ok(())
+    let all = pair(rt.alloc(), b"ab", &long)?;
+    assert!(rt; all.len() == 10_002);
+    assert_flushed(&rt, &mut env, &mut file, &all)
 }
 
 #[test]
@@ -188,25 +194,18 @@ fn a_file_is_replaced(rt: HostRuntime) -> Result<()> {
     let mut env = MemEnv::new(rt.alloc());
     for text in [b"MANIFEST-000001\n", b"MANIFEST-000005\n"] {
         replace_kept(&mut env, "db/000001.dbtmp", "db/CURRENT", text)?;
-        let mut crashed = env.crashed(
-            rt.alloc(),
-            &Pick {
-                tails: Vec::new(rt.alloc()),
-                after: false,
-            },
-        )?;
-        assert_eq!(rt;
-            read_file(rt.alloc(), &mut crashed, "db/CURRENT")?.as_slice(),
-            text.as_slice()
-        );
+        assert!(rt; keeps(&env, rt.alloc(), "db/CURRENT", text)?);
     }
     assert!(rt; !env.exists("db/000001.dbtmp")?);
+    Ok(())
+}
+
+#[test]
+fn files_are_replaced(rt: HostRuntime) -> Result<()> {
+    let mut env = MemEnv::new(rt.alloc());
     replace_each(&mut env, "tmp", &["a", "b"], b"x")?;
-    assert_eq!(rt;
-        read_file(rt.alloc(), &mut env, "b")?.as_slice(),
-        b"x".as_slice()
-    );
+    assert!(rt; has_bytes(&mut env, rt.alloc(), "b", b"x")?);
     let answer = read_file(rt.alloc(), &mut env, "tmp");
-    assert_eq!(rt; refusal(answer)?, Some(StatusCode::NotFound));
+    assert!(rt; failed_with(answer, StatusCode::NotFound)?);
     Ok(())
 }

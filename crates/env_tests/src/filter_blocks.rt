@@ -2,14 +2,16 @@
 ghost use Rattle.std.specs.Prelude.{◌≡◌, ◌≤◌, true, IfOk, OnOk};
 ghost use Rattle.leveldb_env.specs.Filters.{first_offset};
 
+use crate::checks::failed_with;
 use leveldb_base::error::{Result, StatusCode, err};
 use leveldb_env::filter::{BloomPolicy, FilterPolicy};
 use leveldb_env::filter_block::{
     FilterBlockBuilder, FilterBlockReader, added_keys_pass, filter_blocks_have_one_reading,
 };
 use std::alloc::Global;
+use std::process::Abort;
 
-/// A filter is the keys, one behind the other, at most so many bytes. A longer key is none of them.
+/// A filter is the keys, one after the other, which are at most `limit` bytes. A longer key is none of them.
 #[derive(Clone, Copy)]
 struct JoinedKeys {
     limit: usize,
@@ -80,130 +82,155 @@ fn reader_of(alloc: Global, bytes: &[u8]) -> Result<FilterBlockReader<JoinedKeys
 #[test]
 fn built(rt: HostRuntime) -> Result<()> {
     let mut builder = FilterBlockBuilder::new(rt.alloc(), POLICY);
-    assert_eq!(rt; builder.filter_name(), "joined");
-    assert_eq!(rt; builder.size_estimate(), 5);
+    assert!(rt; builder.filter_name() == "joined");
     builder.start_block(0)?;
-    assert_eq!(rt; builder.size_estimate(), 5);
     add_keys(&mut builder)?;
-    assert_eq!(rt; builder.size_estimate(), 5);
     builder.start_block(5000)?;
-    assert_eq!(rt; builder.size_estimate(), 39);
     builder.start_block(6143)?;
-    assert_eq!(rt; builder.size_estimate(), 39);
     add_keys(&mut builder)?;
-    let block = builder.finish()?;
-    assert_eq!(rt; block.as_slice(), BLOCK);
+    assert!(rt; builder.finish()?.as_slice() == BLOCK);
+    Ok(())
+}
+
+/// Keys count once their filter is made.
+#[test]
+fn estimates(rt: HostRuntime) -> Result<()> {
+    let mut builder = FilterBlockBuilder::new(rt.alloc(), POLICY);
+    assert!(rt; builder.size_estimate() == 5);
+    builder.start_block(0)?;
+    assert!(rt; builder.size_estimate() == 5);
+    add_keys(&mut builder)?;
+    assert!(rt; builder.size_estimate() == 5);
+    builder.start_block(5000)?;
+    assert!(rt; builder.size_estimate() == 39);
+    builder.start_block(6143)?;
+    assert!(rt; builder.size_estimate() == 39);
     Ok(())
 }
 
 #[test]
 fn built_of_nothing(rt: HostRuntime) -> Result<()> {
-    let builder = FilterBlockBuilder::new(rt.alloc(), &POLICY);
-    let block = builder.finish()?;
-    assert_eq!(rt; block.as_slice(), b"\0\0\0\0\x0b".as_slice());
+    let block = FilterBlockBuilder::new(rt.alloc(), &POLICY).finish()?;
+    assert!(rt; block.as_slice() == b"\0\0\0\0\x0b".as_slice());
     let reader = FilterBlockReader::new_owned(rt.alloc(), &POLICY, block)?;
-    assert_eq!(rt; reader.num(), 0);
-    assert!(rt; reader.key_may_match(0, LETTERS));
+    assert!(rt; reader.num() == 0 && reader.key_may_match(0, LETTERS));
+    Ok(())
+}
+
+#[test]
+fn built_of_an_empty_key(rt: HostRuntime) -> Result<()> {
     let mut builder = FilterBlockBuilder::new(rt.alloc(), &POLICY);
     builder.add_key(b"")?;
     builder.start_block(4096)?;
-    assert_eq!(rt; builder.size_estimate(), 13);
+    assert!(rt; builder.size_estimate() == 13);
     let block = builder.finish()?;
-    assert_eq!(rt;
-        block.as_slice(),
-        b"\0\0\0\0\0\0\0\0\0\0\0\0\x0b".as_slice()
-    );
+    assert!(rt; block.as_slice() == b"\0\0\0\0\0\0\0\0\0\0\0\0\x0b".as_slice());
     Ok(())
 }
+
+/// The letters and a byte after them.
+const LONGER: &[u8] = b"abcdefghijklmnopqrstuvwxyz.";
+
+/// Offsets and keys, and whether the filters let the key pass.
+const MATCHES: [(usize, &[u8], bool); 13] = [
+    (0, LETTERS, true),
+    (0, LONGER, false),
+    (2047, LETTERS, true),
+    (2047, LONGER, false),
+    (2048, b"", true),
+    (2048, b"a", false),
+    (4095, b"a", false),
+    (4096, LETTERS, true),
+    (5000, LONGER, false),
+    (6143, LETTERS, true),
+    (6143, LONGER, false),
+    (6144, LONGER, true),
+    (usize::MAX, LONGER, true),
+];
 
 #[test]
 fn read(rt: HostRuntime) -> Result<()> {
     let reader = reader_of(rt.alloc(), BLOCK)?;
-    assert_eq!(rt; reader.num(), 3);
-    let longer = b"abcdefghijklmnopqrstuvwxyz.".as_slice();
-    let rows: [(usize, &[u8], bool); 13] = [
-        (0, LETTERS, true),
-        (0, longer, false),
-        (2047, LETTERS, true),
-        (2047, longer, false),
-        (2048, b"", true),
-        (2048, b"a", false),
-        (4095, b"a", false),
-        (4096, LETTERS, true),
-        (5000, longer, false),
-        (6143, LETTERS, true),
-        (6143, longer, false),
-        (6144, longer, true),
-        (usize::MAX, longer, true),
-    ];
-    for (offset, key, found) in rows {
-        assert_eq!(rt; reader.key_may_match(offset, key), found, "{offset}");
+    assert!(rt; reader.num() == 3);
+    for (offset, key, matches) in &MATCHES {
+        assert!(rt; reader.key_may_match(*offset, key) == *matches, "{offset}");
+    }
+    Ok(())
+}
+
+const MALFORMED: [&[u8]; 8] = [
+    b"",
+    b"\0\0\0\x0b",
+    b"\0\0\0\0\x0c",
+    b"\x01\0\0\0\x0b",
+    b"a\0\0\0\0\x0b",
+    b"a\x01\0\0\0\x0b",
+    b"a\x01\0\0\0\x01\0\0\0\x0b",
+    b"a\0\0\0\0\x02\0\0\0\x01\0\0\0\x0b",
+];
+
+fn is_malformed(alloc: Global, bytes: &[u8]) -> Result<bool> {
+    failed_with(reader_of(alloc, bytes), StatusCode::Corruption)
+}
+
+#[test]
+fn malformed(rt: HostRuntime) -> Result<()> {
+    for bytes in &MALFORMED {
+        assert!(rt; is_malformed(rt.alloc(), bytes)?, "{bytes:?}");
     }
     Ok(())
 }
 
 #[test]
-fn refused(rt: HostRuntime) -> Result<()> {
-    let rows: [&[u8]; 8] = [
-        b"",
-        b"\0\0\0\x0b",
-        b"\0\0\0\0\x0c",
-        b"\x01\0\0\0\x0b",
-        b"a\0\0\0\0\x0b",
-        b"a\x01\0\0\0\x0b",
-        b"a\x01\0\0\0\x01\0\0\0\x0b",
-        b"a\0\0\0\0\x02\0\0\0\x01\0\0\0\x0b",
-    ];
-    for bytes in rows {
-        match reader_of(rt.alloc(), bytes) {
-            Ok(_) => panic!(rt; "{bytes:?}"),
-            Err(status) => assert_eq!(rt; status.code, StatusCode::Corruption),
-        }
-    }
-    for cut in 0..BLOCK.len() {
-        match reader_of(rt.alloc(), &BLOCK[..cut]) {
-            Ok(_) => panic!(rt; "cut at {cut}"),
-            Err(status) => assert_eq!(rt; status.code, StatusCode::Corruption),
-        }
+fn cut_anywhere(rt: HostRuntime) -> Result<()> {
+    for end in 0..BLOCK.len() {
+        assert!(rt; is_malformed(rt.alloc(), &BLOCK[..end])?, "{end} bytes");
     }
     Ok(())
 }
 
-/// A raised byte of a filter, and of the place between the last two filters, makes another block. Any other makes none.
+/// The block with the byte at `offset` raised by one.
+fn raised(alloc: Global, offset: usize) -> Result<Vec<u8>> {
+    let mut bytes = Vec::from_slice(alloc, BLOCK)?;
+    if let Some(byte) = bytes.get_mut(offset) {
+        *byte = byte.wrapping_add(1);
+    }
+    Ok(bytes)
+}
+
+/// How many filters a block has, and whether that at 2048 matches.
+fn filters_of(alloc: Global, bytes: &[u8]) -> Result<(usize, bool)> {
+    let reader = reader_of(alloc, bytes)?;
+    Ok((reader.num(), reader.key_may_match(2048, b"a")))
+}
+
+/// A raised byte of a filter, and of the offset between the last two filters, makes another block. Any other makes none.
 #[test]
-fn raised(rt: HostRuntime) -> Result<()> {
-    for at in 0..BLOCK.len() {
-        let mut bytes = Vec::from_slice(rt.alloc(), BLOCK)?;
-        bytes[at] = bytes[at].wrapping_add(1);
-        match FilterBlockReader::new_owned(rt.alloc(), POLICY, bytes) {
-            Ok(reader) => {
-                assert!(rt; at < 52 || at == 60, "raised at {at}");
-                assert_eq!(rt; reader.num(), 3);
-                assert_eq!(rt; reader.key_may_match(2048, b"a"), at == 60);
-            }
-            Err(status) => {
-                assert!(rt; at >= 52 && at != 60, "raised at {at}");
-                assert_eq!(rt; status.code, StatusCode::Corruption);
-            }
+fn each_byte_raised(rt: HostRuntime) -> Result<()> {
+    for offset in 0..BLOCK.len() {
+        let bytes = raised(rt.alloc(), offset)?;
+        if offset < 52 || offset == 60 {
+            assert!(rt;
+                filters_of(rt.alloc(), &bytes)? == (3, offset == 60),
+                "{offset}"
+            );
+        } else {
+            assert!(rt; is_malformed(rt.alloc(), &bytes)?, "{offset}");
         }
     }
     Ok(())
 }
 
-/// What the policy refuses leaves the builder as it was.
+/// Keys that the policy does not take leave the builder as it was.
 #[test]
 fn too_large(rt: HostRuntime) -> Result<()> {
     let mut builder = FilterBlockBuilder::new(rt.alloc(), JoinedKeys { limit: 25 });
     add_keys(&mut builder)?;
-    match builder.start_block(2048) {
-        Ok(()) => panic!(rt; "no refusal"),
-        Err(status) => assert_eq!(rt; status.code, StatusCode::NotSupported),
-    }
-    assert_eq!(rt; builder.size_estimate(), 5);
-    match builder.finish() {
-        Ok(_) => panic!(rt; "no refusal"),
-        Err(status) => assert_eq!(rt; status.code, StatusCode::NotSupported),
-    }
+    let answer = builder.start_block(2048);
+    assert!(rt; failed_with(answer, StatusCode::NotSupported)?);
+    assert!(rt; builder.size_estimate() == 5);
+    let answer = builder.finish();
+    assert!(rt; failed_with(answer, StatusCode::NotSupported)?);
     Ok(())
 }
 
@@ -247,26 +274,37 @@ const BLOOM_BLOCK: [u8; 51] = [
 ];
 
 #[test]
-fn bloom(rt: HostRuntime) -> Result<()> {
-    let policy = BloomPolicy::new(32);
-    let mut builder = FilterBlockBuilder::new(rt.alloc(), policy);
+fn bloom_block(rt: HostRuntime) -> Result<()> {
+    let mut builder = FilterBlockBuilder::new(rt.alloc(), BloomPolicy::new(32));
     builder.start_block(0)?;
     add_keys(&mut builder)?;
     builder.start_block(5000)?;
     add_keys(&mut builder)?;
-    let block = builder.finish()?;
-    assert_eq!(rt; block.as_slice(), BLOOM_BLOCK.as_slice());
-    let reader = FilterBlockReader::new_owned(rt.alloc(), policy, block)?;
-    assert_eq!(rt; reader.num(), 3);
-    let stored: [&[u8]; 4] = [b"abcd", b"efgh", b"ijkl", b"mnopqrstuvwxyz"];
-    let others: [&[u8]; 3] = [b"xsb", b"9sad", b"assssaaaass"];
+    assert!(rt; builder.finish()?.as_slice() == BLOOM_BLOCK.as_slice());
+    Ok(())
+}
+
+const STORED: [&[u8]; 4] = [b"abcd", b"efgh", b"ijkl", b"mnopqrstuvwxyz"];
+
+const OTHERS: [&[u8]; 3] = [b"xsb", b"9sad", b"assssaaaass"];
+
+/// Asserts that at an offset the stored keys match and no other does.
+fn assert_stored(rt: &impl Abort, reader: &FilterBlockReader<BloomPolicy>, offset: usize) {
+    for key in &STORED {
+        assert!(rt; reader.key_may_match(offset, key), "{offset}");
+    }
+    for key in &OTHERS {
+        assert!(rt; !reader.key_may_match(offset, key), "{offset}");
+    }
+}
+
+#[test]
+fn bloom_block_is_read(rt: HostRuntime) -> Result<()> {
+    let block = Vec::from_slice(rt.alloc(), &BLOOM_BLOCK)?;
+    let reader = FilterBlockReader::new_owned(rt.alloc(), BloomPolicy::new(32), block)?;
+    assert!(rt; reader.num() == 3);
     for offset in [0, 1024, 5000, 6025] {
-        for key in stored {
-            assert!(rt; reader.key_may_match(offset, key), "{offset}");
-        }
-        for key in others {
-            assert!(rt; !reader.key_may_match(offset, key), "{offset}");
-        }
+        assert_stored(&rt, &reader, offset);
     }
     Ok(())
 }

@@ -6,12 +6,10 @@ use leveldb_env::options::Options;
 #[test]
 fn defaults(rt: HostRuntime) {
     let options = Options::default();
-    assert_eq!(rt; options.cmp.id(), "leveldb.BytewiseComparator");
-    assert_eq!(rt; options.filter_policy.name(), "leveldb.BuiltinBloomFilter2");
-    assert!(rt; options.create_if_missing);
-    assert_eq!(rt; options.block_size, 4096);
-    assert_eq!(rt; options.block_restart_interval, 16);
-    assert_eq!(rt; options.compressor, 0);
-    assert!(rt; options.compressor_list.is_set(0));
-    assert!(rt; !options.compressor_list.is_set(1));
+    assert!(rt; options.cmp.id() == "leveldb.BytewiseComparator");
+    assert!(rt; options.filter_policy.name() == "leveldb.BuiltinBloomFilter2");
+    assert!(rt; options.create_if_missing && options.compressor == 0);
+    assert!(rt; [options.block_size, options.block_restart_interval] == [4096, 16]);
+    let is_set = [0, 1].map(|id| options.compressor_list.is_set(id));
+    assert!(rt; is_set == [true, false]);
 }

@@ -10,16 +10,14 @@ use std::process::Abort;
 const NAME: &str = "leveldb.BytewiseComparator";
 
 // A file of the keys abc to def.
-fn file(alloc: Global, allowed_seeks: usize) -> Result<FileMetaData> {
-    let smallest = Bytes::copy_from_slice(alloc, b"abc")?;
-    let largest = Bytes::copy_from_slice(alloc, b"def")?;
-    Ok(FileMetaData {
+fn file(allowed_seeks: usize) -> FileMetaData {
+    FileMetaData {
         allowed_seeks,
         num: 901,
         size: 234,
-        smallest,
-        largest,
-    })
+        smallest: Bytes::from_static(b"abc"),
+        largest: Bytes::from_static(b"def"),
+    }
 }
 
 const POINTERS: [(usize, &[u8]); 3] = [(0, b"abc"), (1, b"def"), (2, b"xyz")];
@@ -49,20 +47,24 @@ fn full(alloc: Global) -> Result<VersionEdit> {
     edit.set_prev_log_num(9);
     edit.set_last_seq(1 << 56);
     edit.set_comparator_name(NAME)?;
-    edit.add_file(0, file(alloc, 12345)?)?;
+    edit.add_file(0, file(12345))?;
     set_pointers(&mut edit)?;
     delete_files(&mut edit)?;
     Ok(edit)
 }
 
-/// Whether the edit that is read of the first bytes is written as the second.
+/// The bytes that are written for the edit that is read of `bytes`.
+fn written_again(alloc: Global, bytes: &[u8]) -> Result<Vec<u8>> {
+    VersionEdit::decode_from(alloc, bytes)?.encode(alloc)
+}
+
+/// Whether the edit that is read of `bytes` is written as `wanted`.
 fn is_written_as(alloc: Global, bytes: &[u8], wanted: &[u8]) -> Result<bool> {
-    let written = VersionEdit::decode_from(alloc, bytes)?.encode(alloc)?;
-    Ok(written.as_slice() == wanted)
+    Ok(written_again(alloc, bytes)?.as_slice() == wanted)
 }
 
 /// The bytes of a store's first edit.
-const FIRST: &[u8] = b"\x01\x1aleveldb.BytewiseComparator\x02\0\x03\x02\x04\0";
+const FIRST: &[u8; 34] = b"\x01\x1aleveldb.BytewiseComparator\x02\0\x03\x02\x04\0";
 
 /// The first edit of a store.
 #[test]
@@ -73,8 +75,7 @@ fn first_edit(rt: HostRuntime) -> Result<()> {
     edit.set_next_file(2);
     edit.set_last_seq(0);
     let bytes = edit.encode(rt.alloc())?;
-    assert!(rt; bytes.as_slice() == FIRST);
-    assert!(rt; FIRST.len() == 34);
+    assert!(rt; bytes.as_slice() == FIRST.as_slice());
     assert!(rt; is_written_as(rt.alloc(), FIRST, FIRST)?);
     Ok(())
 }
@@ -87,13 +88,18 @@ fn assert_values(rt: &impl Abort, edit: &VersionEdit) {
     assert!(rt; edit.last_seq == Some(1 << 56));
 }
 
-fn assert_pointers(rt: &(impl Abort + AllocGlobal), edit: &VersionEdit) -> Result<()> {
-    assert!(rt; edit.compaction_ptrs.len() == 3);
-    for (pointer, (level, key)) in edit.compaction_ptrs.iter().zip(&POINTERS) {
-        let key = Bytes::copy_from_slice(rt.alloc(), key)?;
-        assert!(rt; *pointer == CompactionPointer { level: *level, key });
+fn pointer(level: usize, key: &'static [u8]) -> CompactionPointer {
+    CompactionPointer {
+        level,
+        key: Bytes::from_static(key),
     }
-    Ok(())
+}
+
+fn assert_pointers(rt: &impl Abort, edit: &VersionEdit) {
+    assert!(rt; edit.compaction_ptrs.len() == 3);
+    for (found, (level, key)) in edit.compaction_ptrs.iter().zip(&POINTERS) {
+        assert!(rt; *found == pointer(*level, key));
+    }
 }
 
 /// Whether the edit deletes these files, in this order.
@@ -101,16 +107,25 @@ fn deletes(edit: &VersionEdit, wanted: &[(usize, FileNum)]) -> bool {
     edit.deleted.iter().eq(wanted)
 }
 
+/// Whether the edit adds this file alone.
+fn adds(edit: &VersionEdit, level: usize, file: FileMetaData) -> bool {
+    edit.new_files.as_slice() == [(level, file)].as_slice()
+}
+
+/// The full edit, written and read.
+fn read_again(alloc: Global) -> Result<VersionEdit> {
+    let encoded = full(alloc)?.encode(alloc)?;
+    VersionEdit::decode_from(alloc, &encoded)
+}
+
 /// What an edit with each kind of field keeps. Allowed seeks aren't written.
 #[test]
 fn full_edit(rt: HostRuntime) -> Result<()> {
-    let encoded = full(rt.alloc())?.encode(rt.alloc())?;
-    let edit = VersionEdit::decode_from(rt.alloc(), &encoded)?;
+    let edit = read_again(rt.alloc())?;
     assert_values(&rt, &edit);
-    assert_pointers(&rt, &edit)?;
+    assert_pointers(&rt, &edit);
     assert!(rt; deletes(&edit, &[(0, 200), (1, 131), (1, 132)]));
-    let wanted = [(0, file(rt.alloc(), 0)?)];
-    assert!(rt; edit.new_files.as_slice() == wanted.as_slice());
+    assert!(rt; adds(&edit, 0, file(0)));
     Ok(())
 }
 
@@ -147,11 +162,12 @@ const MALFORMED: [&[u8]; 9] = [
 ];
 
 #[test]
-fn malformed(rt: HostRuntime) {
+fn malformed(rt: HostRuntime) -> Result<()> {
     for bytes in &MALFORMED {
         let answer = VersionEdit::decode_from(rt.alloc(), bytes);
-        assert!(rt; failed_with(answer, StatusCode::Corruption), "{bytes:?}");
+        assert!(rt; failed_with(answer, StatusCode::Corruption)?, "{bytes:?}");
     }
+    Ok(())
 }
 
 /// Whether bytes are an edit. It is then written and read again, and otherwise the bytes are corrupt.
@@ -181,23 +197,24 @@ fn cut_anywhere(rt: HostRuntime) -> Result<()> {
     Ok(())
 }
 
-fn is_edit_raised(rt: &(impl Abort + AllocGlobal), whole: &[u8], offset: usize) -> Result<bool> {
-    let mut raised = Vec::from_slice(rt.alloc(), whole)?;
-    if let Some(byte) = raised.get_mut(offset) {
-        *byte = byte.wrapping_add(1);
+/// Adds `amount` to the byte at `offset`, past 255 from 0 on.
+fn change_byte(bytes: &mut [u8], offset: usize, amount: u8) {
+    if let Some(byte) = bytes.get_mut(offset) {
+        *byte = byte.wrapping_add(amount);
     }
-    is_edit(rt, &raised)
 }
 
 /// With a byte raised by one an edit is another at least where that byte is of the name or of a key.
 #[test]
 fn each_byte_raised(rt: HostRuntime) -> Result<()> {
-    let whole = full(rt.alloc())?.encode(rt.alloc())?;
+    let mut bytes = full(rt.alloc())?.encode(rt.alloc())?;
     let mut read = Vec::new(rt.alloc());
-    for offset in 0..whole.len() {
-        if is_edit_raised(&rt, &whole, offset)? {
+    for offset in 0..bytes.len() {
+        change_byte(&mut bytes, offset, 1);
+        if is_edit(&rt, &bytes)? {
             read.push(offset)?;
         }
+        change_byte(&mut bytes, offset, 255);
     }
     assert!(rt; read.len() >= 26 + 5 * 3);
     Ok(())

@@ -74,11 +74,12 @@ const MALFORMED: [&[u8]; 12] = [
 ];
 
 #[test]
-fn malformed_texts(rt: HostRuntime) {
+fn malformed_texts(rt: HostRuntime) -> Result<()> {
     for text in &MALFORMED {
         let answer = parse_current_text(rt.alloc(), text);
-        assert!(rt; failed_with(answer, StatusCode::Corruption), "{text:?}");
+        assert!(rt; failed_with(answer, StatusCode::Corruption)?, "{text:?}");
     }
+    Ok(())
 }
 
 /// The size of the file that is live under a level and a number, by a look at each change in turn.
@@ -132,17 +133,17 @@ fn delete_files(edit: &mut VersionEdit, files: &[(usize, FileNum)]) -> Result<()
     Ok(())
 }
 
-fn edit_of(alloc: Global, changes: &Changes) -> Result<VersionEdit> {
+fn push_edit(edits: &mut Vec<VersionEdit>, alloc: Global, changes: &Changes) -> Result<()> {
     let mut edit = VersionEdit::new(alloc);
     add_files(&mut edit, changes.0)?;
     delete_files(&mut edit, changes.1)?;
-    Ok(edit)
+    Ok(edits.push(edit)?)
 }
 
 fn three_edits(alloc: Global) -> Result<Vec<VersionEdit>> {
     let mut edits = Vec::new(alloc);
     for changes in &CHANGES {
-        edits.push(edit_of(alloc, changes)?)?;
+        push_edit(&mut edits, alloc, changes)?;
     }
     Ok(edits)
 }

@@ -1,0 +1,21 @@
+//! What several tests ask.
+use leveldb_base::error::{Result, StatusCode};
+
+/// Whether a call failed with this code. Out of memory is passed on.
+pub fn failed_with<T: Drop>(answer: Result<T>, code: StatusCode) -> Result<bool> {
+    let Some(status) = answer.err() else {
+        return Ok(false);
+    };
+    if status.code == StatusCode::OutOfMemory {
+        return Err(status);
+    }
+    Ok(status.code == code)
+}
+
+/// The code of what a call returned.
+pub fn code_of(answer: &Result<()>) -> StatusCode {
+    match answer {
+        Ok(()) => StatusCode::OK,
+        Err(status) => status.code,
+    }
+}
