@@ -17,7 +17,7 @@ const HANDLES: [(usize, usize, &[u8]); 5] = [
 ];
 
 // How many bytes are written, and a byte of 7 at least after them.
-#[tactic(auto, using(leveldb_base::specs::HandleLaws::handle_lengths))]
+#[tactic(auto, using(leveldb_base::proofs::BlockHandleLemmas::handle_lengths))]
 fn encoded(offset: usize, size: usize) -> (usize, [u8; 21]) {
     let mut bytes = [7; 21];
     let count = BlockHandle::new(offset, size).encode_to(&mut bytes);

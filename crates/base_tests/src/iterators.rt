@@ -1,8 +1,8 @@
 //! An iterator over pairs in memory, one that fails, and either of two, which show that the trait can be met.
 ghost use Rattle.std.specs.Prelude.{◌≡◌, ◌+◌, ◌^◌, ◌<◌, ◌⊎◌, [], None, length, IfOk, IfErr, IsErrAnd};
 ghost use Rattle.std.specs.Option.{ForSome, option_map_or};
-ghost use Rattle.leveldb_base.specs.Bytewise.{bytewise};
-ghost use Rattle.leveldb_base.specs.Places.{count_before};
+ghost use Rattle.leveldb_base.specs.Cmp.{bytewise};
+ghost use Rattle.leveldb_base.specs.Types.{count_before};
 
 use bytes::Bytes;
 use leveldb_base::error::{Result, Status, StatusCode};
@@ -38,7 +38,7 @@ impl LdbIterator for Listed {
 
     ghost pairs = { λ it. it.pairs.items };
 
-    ghost place = { λ it. it.at };
+    ghost position = { λ it. it.at };
 
     ghost order = { λ _. bytewise };
 
@@ -98,7 +98,7 @@ impl LdbIterator for Broken {
 
     ghost pairs = { λ _. [] };
 
-    ghost place = { λ _. None };
+    ghost position = { λ _. None };
 
     ghost order = { λ _. bytewise };
 
@@ -150,7 +150,7 @@ impl<A: LdbIterator, B: LdbIterator> LdbIterator for Either<A, B> {
 
     ghost pairs = { elim [ Left it ↦ A.pairs it | Right it ↦ B.pairs it ] };
 
-    ghost place = { elim [ Left it ↦ A.place it | Right it ↦ B.place it ] };
+    ghost position = { elim [ Left it ↦ A.position it | Right it ↦ B.position it ] };
 
     ghost order = { elim [ Left it ↦ A.order it | Right it ↦ B.order it ] };
 
@@ -205,8 +205,8 @@ impl<A: LdbIterator, B: LdbIterator> LdbIterator for Either<A, B> {
 fn count_left<I: LdbIterator>(it: &mut I) -> Result<usize>
     requires { length (I.pairs it.old) < 2 ^ 64 }
     ensures same_pairs { I.pairs it.new ≡ I.pairs it.old }
-    ensures count { IfOk result (λ n. n + option_map_or (λ i. i + 1) (I.place it.old) 0 ≡ length (I.pairs it.old)) }
-    ensures no_place { I.place it.new ≡ None }
+    ensures count { IfOk result (λ n. n + option_map_or (λ i. i + 1) (I.position it.old) 0 ≡ length (I.pairs it.old)) }
+    ensures no_place { I.position it.new ≡ None }
     ensures cause { IfErr result (I.fails it.old it.new) }
     ensures excuses { (other : I) (status : Status) → I.fails it.new other status → I.fails it.old other status }
 {

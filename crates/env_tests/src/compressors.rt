@@ -1,6 +1,6 @@
 //! Compressors, and lists of them.
 ghost use Rattle.std.specs.Prelude.{◌≡◌, ◌+◌, ◌%◌, ◌⊎◌, Some, false, map, IfOk, IfErr};
-ghost use Rattle.leveldb_base.specs.Status.{IsOutOfMemory};
+ghost use Rattle.leveldb_base.specs.Error.{IsOutOfMemory};
 ghost use Rattle.leveldb_env.specs.Coders.{RefusesWith};
 
 use leveldb_base::error::{Result, Status, StatusCode};

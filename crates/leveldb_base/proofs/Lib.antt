@@ -1,9 +1,7 @@
-pub mod VarintSteps
-pub mod VarintReads
-pub mod Raised
-pub mod HandleReads
-pub mod CrcShifts
-pub mod CrcZeros
-pub mod CrcTables
-pub mod CrcPieces
-pub mod NameReads
+pub mod VarintLemmas
+pub mod CrcLemmas
+pub mod BlockHandleLemmas
+pub mod KeyTypesLemmas
+pub mod CmpLemmas
+pub mod HistoryLemmas
+pub mod NamesLemmas

@@ -4,9 +4,10 @@ use Rattle.std.specs.Int.{w32, rotate_left, rotate_right}
 
 -- one bit leaves the register: where it was a one, the polynomial is taken off
 abbrev pub crc_shift : ℕ → ℕ
-crc_shift register = if nat_eq (register % 2) 1 then bit_xor (register / 2) 0x82f63b78 else register / 2
+crc_shift register =
+    if nat_eq (register % 2) 1 then bit_xor (register / 2) 0x82f63b78 else register / 2
 
--- so many bits leave the register
+-- `bits` bits leave the register
 abbrev pub crc_shifts : ℕ → ℕ → ℕ
 crc_shifts zero register = register
 crc_shifts (suc bits) register = crc_shifts bits (crc_shift register)
@@ -19,23 +20,23 @@ crc_byte register byte = crc_shifts 8 (bit_xor register byte)
 unfoldable pub crc_register : ℕ → List ℕ → ℕ
 crc_register register text = fold crc_byte register text
 
--- the register after so many zero bytes
+-- the register after `bytes` zero bytes
 unfoldable pub crc_zeros : ℕ → ℕ → ℕ
 crc_zeros bytes register = crc_shifts (8 * bytes) register
 
--- the register of a digest that has read the text: it begins with all ones
+-- the register of a digest that has read the text: it is all ones at first
 abbrev pub HasRead : ℕ → List ℕ → Type 0
 HasRead register text = register ≡ crc_register 0xffffffff text
 
--- the checksum of a text: the register begins with all ones, and ends complemented
+-- the checksum of a text: the register is all ones at first, and complemented at the end
 unfoldable pub crc_of : List ℕ → ℕ
 crc_of text = bit_xor (crc_register 0xffffffff text) 0xffffffff
 
--- a checksum as files keep it, turned right by 15 bits and a constant added, since a checksum of bytes that
--- hold checksums is weak
+-- a checksum as files keep it, rotated right by 15 bits and a constant added, since a checksum of
+-- bytes that hold checksums is weak
 abbrev pub masked : ℕ → ℕ
 masked sum = (rotate_right w32 sum 15 + 0xa282ead8) % 2 ^ 32
 
--- the constant taken off, and turned back
+-- the constant taken off, and rotated back
 abbrev pub unmasked : ℕ → ℕ
 unmasked kept = rotate_left w32 ((kept + (2 ^ 32 - 0xa282ead8)) % 2 ^ 32) 15

@@ -1,5 +1,11 @@
--- Entries, placed batches and histories.
-use Rattle.std.specs.Prelude.{◌≡◌, ◌<◌, ◌≤◌, ◌+◌, ℕ, List, [], ◌∷◌, ◌++◌, length, take, flat_map, max, Option, Some, None, All}
+-- Entries, histories, and the values of keys at a sequence number.
+use Rattle.std.specs.Prelude.{◌≡◌, ◌<◌, ◌≤◌, ◌+◌, ℕ, List, [], ◌∷◌, ◌++◌, length, take, flat_map, max, Option, Some, None, All, ◌↔◌, Contains}
+use Rattle.std.specs.declared.cmp.Ordering.{Ordering}
+use Rattle.std.specs.declared.cmp.Ordering.TheVariants.{Less}
+use Rattle.leveldb_base.specs.Types.{Pair}
+use Rattle.leveldb_base.specs.Cmp.{IsExactOrder}
+
+-- ---- entries, placed batches and histories
 
 -- a key given a value, or none, which deletes it
 pub record Item : Type 0 where
@@ -15,7 +21,8 @@ pub record Entry : Type 0 where
 -- the entries of a batch placed at a number: they take that one, the next and so on, in order
 abbrev pub placed : ℕ → List Item → List Entry
 placed first [] = []
-placed first (item ∷ items) = record { sequence = first; key = item.key; value = item.value } ∷ placed (first + 1) items
+placed first (item ∷ items) =
+    record { sequence = first; key = item.key; value = item.value } ∷ placed (first + 1) items
 
 -- the entries of each batch, the first batch first; an empty batch has none
 abbrev pub History : Type 0
@@ -44,19 +51,102 @@ pub record IsHistory (history : History) : Type 0 where
   pub placed : All IsPlaced history
   pub rising : RiseAbove 0 (entries_of history)
 
--- a history and one batch behind it, where there is one
-abbrev pub joined : History → Option (List Entry) → History
-joined history None = history
-joined history (Some batch) = history ++ batch ∷ []
+-- a history and one more batch at its end, where there is one
+abbrev pub with_batch : History → Option (List Entry) → History
+with_batch history None = history
+with_batch history (Some batch) = history ++ batch ∷ []
 
 -- how many numbers a batch takes
 abbrev pub count_of : Option (List Entry) → ℕ
 count_of None = 0
 count_of (Some batch) = length batch
 
--- the first n batches of a history, n at least this number
-pub record IsBeginning (least : ℕ) (whole part : History) : Type 0 where
+-- the part is a prefix of the whole history that has at least `least` batches
+pub record IsPrefixAtLeast (least : ℕ) (whole part : History) : Type 0 where
   pub count : ℕ
   pub enough : least ≤ count
   pub there : count ≤ length whole
   pub first : part ≡ take count whole
+
+-- ---- the values of keys at a sequence number; a list represents the set of its elements
+
+-- of the entries of its key at or below s, the one of greatest sequence
+pub record IsNewest (entries : List Entry) (s : ℕ) (entry : Entry) : Type 0 where
+  pub there : Contains entries entry
+  pub seen : entry.sequence ≤ s
+  pub newest : (other : Entry) → Contains entries other → other.key ≡ entry.key → other.sequence ≤ s
+      → other.sequence ≤ entry.sequence
+
+-- the key's newest entry at or below s gives it this value
+pub record HasValueAt (entries : List Entry) (s : ℕ) (key value : List ℕ) : Type 0 where
+  pub entry : Entry
+  pub newest : IsNewest entries s entry
+  pub key_is : entry.key ≡ key
+  pub value_is : entry.value ≡ Some value
+
+-- the result of a look-up of a key: its value, or none
+abbrev pub IsValueAt : List Entry → ℕ → List ℕ → Option (List ℕ) → Type 0
+IsValueAt entries s key (Some value) = HasValueAt entries s key value
+IsValueAt entries s key None = (value : List ℕ) → HasValueAt entries s key value → ⊥
+
+-- two sets give each key the same value, or none
+abbrev pub SameView : List Entry → List Entry → ℕ → Type 0
+SameView these those s =
+    (key value : List ℕ) → HasValueAt these s key value ↔ HasValueAt those s key value
+
+module _ (cmp : List ℕ → List ℕ → Ordering) where
+  -- the key is before all of these
+  abbrev pub IsBeforeAll : List ℕ → List Pair → Type 0
+  IsBeforeAll key [] = Unit {0}
+  IsBeforeAll key (pair ∷ pairs) = (cmp key pair.0 ≡ Less) × IsBeforeAll key pairs
+
+  -- keys rise strictly
+  abbrev pub AreRising : List Pair → Type 0
+  AreRising [] = Unit {0}
+  AreRising (pair ∷ pairs) = IsBeforeAll pair.0 pairs × AreRising pairs
+
+  -- the view: exactly the keys that have a value, with it, sorted by key
+  pub record IsView (entries : List Entry) (s : ℕ) (pairs : List Pair) : Type 0 where
+    pub sorted : AreRising pairs
+    pub exactly : (key value : List ℕ)
+        → Contains pairs (key, value) ↔ HasValueAt entries s key value
+
+-- ---- laws of views
+
+-- two views of one set are equal
+abbrev pub OneView : Type 0
+OneView = (cmp : List ℕ → List ℕ → Ordering) → IsExactOrder cmp
+    → (entries : List Entry) (s : ℕ) (these those : List Pair)
+    → IsView cmp entries s these → IsView cmp entries s those → these ≡ those
+
+-- entries whose sequences rise have a view at every sequence
+abbrev pub EachHasView : Type 0
+EachHasView = (cmp : List ℕ → List ℕ → Ordering) → IsExactOrder cmp
+    → (entries : List Entry) (s : ℕ) → RiseAbove 0 entries
+    → (pairs : List Pair) × IsView cmp entries s pairs
+
+-- a view of one set is a view of every set that gives the same values
+abbrev pub ViewPasses : Type 0
+ViewPasses = (cmp : List ℕ → List ℕ → Ordering)
+    (these those : List Entry) (s : ℕ) (pairs : List Pair)
+    → SameView these those s → IsView cmp these s pairs → IsView cmp those s pairs
+
+-- sets with one view give the same values
+abbrev pub SharedViewIsSame : Type 0
+SharedViewIsSame = (cmp : List ℕ → List ℕ → Ordering)
+    (these those : List Entry) (s : ℕ) (pairs : List Pair)
+    → IsView cmp these s pairs → IsView cmp those s pairs → SameView these those s
+
+-- every entry is at or below a number
+abbrev pub AreUpTo : ℕ → List Entry → Type 0
+AreUpTo n entries = (entry : Entry) → Contains entries entry → entry.sequence ≤ n
+
+-- every entry is above a number
+abbrev pub AreAbove : ℕ → List Entry → Type 0
+AreAbove n entries = (entry : Entry) → Contains entries entry → n < entry.sequence
+
+-- sets that give the same values still do when the same newer entries are added to both
+abbrev pub SameWithMore : Type 0
+SameWithMore = (these those more : List Entry) (last s : ℕ)
+    → AreUpTo last these → AreUpTo last those → AreAbove last more
+    → SameView these those s → SameView (these ++ more) (those ++ more) s

@@ -1,4 +1,4 @@
--- The names of a store's files: those that it gives, and what a name tells.
+-- The names of a store's files: those that it gives, and the number and type that a name has.
 use Rattle.std.specs.Prelude.{◌≡◌, ◌⊎◌, ◌-◌, ◌^◌, ◌<◌, ℕ, List, [], ◌++◌, Result, Ok, Err, codes, length, replicate}
 use Rattle.std.specs.Fmt.{decimal}
 use Rattle.std.specs.Str.Parse.{IsNumeral, digits_value}
@@ -17,7 +17,7 @@ pub record IsNumber (text : List ℕ) (n : ℕ) : Type 0 where
 abbrev pub IsNumbered : List ℕ → List ℕ → List ℕ → ℕ → Type 0
 IsNumbered front back name n = (text : List ℕ) × IsNumber text n × (name ≡ front ++ text ++ back)
 
--- a name that tells its use alone
+-- a name without a number, of this type
 abbrev pub IsWord : List ℕ → FileType → Type 0
 IsWord name DBLock = name ≡ codes "LOCK"
 IsWord name Current = name ≡ codes "CURRENT"
@@ -27,7 +27,7 @@ IsWord name Table = ⊥
 IsWord name Descriptor = ⊥
 IsWord name Temp = ⊥
 
--- what tells the use behind a number and a dot
+-- the extension after a number and a dot, of this type
 abbrev pub IsExtension : List ℕ → FileType → Type 0
 IsExtension text Log = text ≡ codes "log"
 IsExtension text Table = (text ≡ codes "ldb") ⊎ (text ≡ codes "sst")
@@ -37,7 +37,8 @@ IsExtension text Descriptor = ⊥
 IsExtension text Current = ⊥
 IsExtension text InfoLog = ⊥
 
--- The name, without a folder, is one of a file for this use with this number, which is 0 where the name has none.
+-- The name, without a folder, is one of a file of this type and number, which is 0 where it has
+-- none.
 abbrev pub IsFileName : List ℕ → ℕ → FileType → Type 0
 IsFileName name n Log = IsNumbered [] (codes ".log") name n
 IsFileName name n DBLock = (name ≡ codes "LOCK") × (n ≡ 0)
@@ -47,16 +48,18 @@ IsFileName name n Current = (name ≡ codes "CURRENT") × (n ≡ 0)
 IsFileName name n Temp = IsNumbered [] (codes ".dbtmp") name n
 IsFileName name n InfoLog = ((name ≡ codes "LOG") ⊎ (name ≡ codes "LOG.old")) × (n ≡ 0)
 
--- What reading a name gives: its number and its use, or the refusal of what is no name of a store's file.
+-- What reading a name gives: its number and type, or `InvalidArgument` for no name of a store's
+-- file.
 abbrev pub ReadsName : List ℕ → Result (ℕ × FileType) Status → Type 0
 ReadsName name (Ok found) = IsFileName name found.0 found.1
-ReadsName name (Err status) = (status.code ≡ InvalidArgument) × ((n : ℕ) (kind : FileType) → IsFileName name n kind → ⊥)
+ReadsName name (Err status) =
+    (status.code ≡ InvalidArgument) × ((n : ℕ) (kind : FileType) → IsFileName name n kind → ⊥)
 
 -- a number in decimal digits, with zeros before them where they are fewer than six
 abbrev pub six_digits : ℕ → List ℕ
 six_digits n = replicate (6 - length (decimal n)) 48 ++ decimal n
 
--- the name that a store gives to a file for this use
+-- the name that a store gives to a file of this type
 abbrev pub file_name : FileType → ℕ → List ℕ
 file_name Log n = six_digits n ++ codes ".log"
 file_name DBLock n = codes "LOCK"
@@ -66,7 +69,7 @@ file_name Current n = codes "CURRENT"
 file_name Temp n = six_digits n ++ codes ".dbtmp"
 file_name InfoLog n = codes "LOG"
 
--- a file for this use may have the number: any of 64 bits in a name that tells it, and else 0
+-- a file of this type may have the number: any of 64 bits where its name has one, and else 0
 abbrev pub MayHaveNumber : FileType → ℕ → Type 0
 MayHaveNumber Log n = n < 2 ^ 64
 MayHaveNumber DBLock n = n ≡ 0

@@ -1,12 +1,11 @@
-//! Comparators: the order of keys, and the short keys that stand between two of them.
+//! Comparators: the order of keys, and short keys between two of them.
 ghost use Rattle.std.specs.Prelude.{◌≡◌, ◌≢◌, ◌+◌, ◌<◌, ℕ, Bool, true, List, IfOk, IfErr, IfSome, length, slice_index, slice_set};
 ghost use Rattle.std.specs.Option.{option_map};
 ghost use Rattle.std.specs.declared.cmp.Ordering.{Ordering};
 ghost use Rattle.std.specs.declared.cmp.Ordering.TheVariants.{Equal, Greater};
-ghost use Rattle.leveldb_base.specs.Status.{IsOutOfMemory};
-ghost use Rattle.leveldb_base.specs.Order.{IsPreorderOn, IsSeparator, IsSuccessor};
-ghost use Rattle.leveldb_base.specs.Bytewise.{bytewise, bytewise_separator, bytewise_successor, raised_between, raised_last, raised_first, raised_at, lengthened, raised_or_lengthened};
-ghost use Rattle.leveldb_base.specs.BytewiseLaws.{bytewise_preorder, bytewise_exact, bytewise_separates, bytewise_succeeds};
+ghost use Rattle.leveldb_base.specs.Error.{IsOutOfMemory};
+ghost use Rattle.leveldb_base.specs.Cmp.{IsPreorderOn, IsSeparator, IsSuccessor, bytewise, bytewise_separator, bytewise_successor, raised_between, raised_last, raised_first, raised_at, lengthened, raised_or_lengthened};
+ghost use Rattle.leveldb_base.specs.CmpLaws.{bytewise_preorder, bytewise_exact, bytewise_separates, bytewise_succeeds};
 
 use crate::error::Result;
 use std::alloc::Global;
@@ -16,8 +15,8 @@ mod internal;
 
 pub use internal::{InternalKeyCmp, MemtableKeyCmp};
 
-/// An order on the keys that it accepts, a total preorder there, by which a store sorts its entries.
-/// Every method answers on any bytes; the laws speak of accepted keys.
+/// An order on the keys that it accepts, a total preorder there, by which a store sorts its
+/// entries. Every method takes any bytes; the laws are about accepted keys.
 pub trait Cmp {
     ghost accepts: { Self → List ℕ → Bool };
 
@@ -36,8 +35,8 @@ pub trait Cmp {
     fn cmp(&self, a: &[u8], b: &[u8]) -> Ordering
         ensures { result ≡ cmp self.now a.now b.now };
 
-    /// A key at or after `from`, before `to` where `from` is, and `from` itself where both are the same bytes,
-    /// for accepted keys with `from` at or before `to`. It is meant to be short.
+    /// A key at or after `from`, before `to` where `from` is, and `from` itself where both are the
+    /// same bytes, for accepted keys with `from` at or before `to`. It is meant to be short.
     fn find_shortest_sep(&self, alloc: Global, from: &[u8], to: &[u8]) -> Result<Vec<u8>>
         ensures ok { IfOk result (λ sep. sep.items ≡ shortest_sep self.now from.now to.now) }
         ensures cause { IfErr result IsOutOfMemory };
@@ -47,18 +46,21 @@ pub trait Cmp {
         ensures ok { IfOk result (λ succ. succ.items ≡ short_succ self.now key.now) }
         ensures cause { IfErr result IsOutOfMemory };
 
-    /// The order's name, by which a store knows that it is opened with the order that it was made with.
+    /// The order's name, by which a store knows that it is opened with the order that it was made
+    /// with.
     fn id(&self) -> &'static str
         ensures { result.now ≡ name self.now };
 
     ghost preorder: { (c : Self) → IsPreorderOn (accepts c) (cmp c) };
 
-    ghost separates: { (c : Self) (a b : List ℕ) → accepts c a ≡ true → accepts c b ≡ true → cmp c a b ≢ Greater → IsSeparator (accepts c) (cmp c) a b (shortest_sep c a b) };
+    ghost separates: { (c : Self) (a b : List ℕ) → accepts c a ≡ true → accepts c b ≡ true
+        → cmp c a b ≢ Greater → IsSeparator (accepts c) (cmp c) a b (shortest_sep c a b) };
 
-    ghost succeeds: { (c : Self) (a : List ℕ) → accepts c a ≡ true → IsSuccessor (accepts c) (cmp c) a (short_succ c a) };
+    ghost succeeds: { (c : Self) (a : List ℕ) → accepts c a ≡ true
+        → IsSuccessor (accepts c) (cmp c) a (short_succ c a) };
 }
 
-/// A comparator that accepts all bytes and tells apart all keys.
+/// A comparator that accepts all bytes, and by which different keys are never equal.
 pub trait UserCmp: Cmp {
     ghost accepts_all: { (c : Self) (key : List ℕ) → Self.accepts c key ≡ true };
 
@@ -110,7 +112,7 @@ impl<C: UserCmp> UserCmp for &C {
     ghost exact = { λ c. C.exact c.now };
 }
 
-/// LevelDB's order: by bytes, and a beginning before what it begins.
+/// LevelDB's order: by bytes, and a prefix before what it is a prefix of.
 #[derive(Clone, Copy, Debug)]
 pub struct DefaultCmp;
 
@@ -140,14 +142,14 @@ impl Cmp for DefaultCmp {
         if from == to {
             return Ok(Vec::from_slice(alloc, from)?);
         }
-        match place_between(from, to) {
+        match index_between(from, to) {
             Some(i) => raised_and_cut(alloc, from, i),
             None => raised_or_lengthened(alloc, from, to),
         }
     }
 
     fn find_short_succ(&self, alloc: Global, key: &[u8]) -> Result<Vec<u8>> {
-        match first_place(key) {
+        match first_index(key) {
             Some(i) => raised_and_cut(alloc, key, i),
             None => {
                 let mut succ = Vec::with_capacity(alloc, key.len() + 1)?;
@@ -177,9 +179,9 @@ impl UserCmp for DefaultCmp {
     ghost exact = { λ _. bytewise_exact };
 }
 
-// The first place whose byte can be raised and stay below the other key's.
-fn place_between(from: &[u8], to: &[u8]) -> Option<usize>
-    ensures place { IfSome result (λ i. (i < length from.now) × (slice_index from.now i < 0xff)) }
+// The first index whose byte can be raised and stay below the other key's.
+fn index_between(from: &[u8], to: &[u8]) -> Option<usize>
+    ensures index { IfSome result (λ i. (i < length from.now) × (slice_index from.now i < 0xff)) }
     ensures raised { raised_between from.now to.now ≡ option_map (raised_at from.now) result }
 {
     from.iter()
@@ -187,25 +189,26 @@ fn place_between(from: &[u8], to: &[u8]) -> Option<usize>
         .position(|(a, b)| u16::from(*a) + 1 < u16::from(*b))
 }
 
-// The first place whose byte isn't 0xff.
-fn first_place(key: &[u8]) -> Option<usize>
-    ensures place { IfSome result (λ i. (i < length key.now) × (slice_index key.now i < 0xff)) }
+// The first index whose byte isn't 0xff.
+fn first_index(key: &[u8]) -> Option<usize>
+    ensures index { IfSome result (λ i. (i < length key.now) × (slice_index key.now i < 0xff)) }
     ensures raised { raised_first key.now ≡ option_map (raised_at key.now) result }
 {
     key.iter().position(|b| *b != 0xff)
 }
 
-// The last place whose byte isn't 0xff.
-fn last_place(key: &[u8]) -> Option<usize>
-    ensures place { IfSome result (λ i. (i < length key.now) × (slice_index key.now i < 0xff)) }
-    ensures raised { raised_last key.now ≡ option_map (λ i. slice_set key.now i (slice_index key.now i + 1)) result }
+// The last index whose byte isn't 0xff.
+fn last_index(key: &[u8]) -> Option<usize>
+    ensures index { IfSome result (λ i. (i < length key.now) × (slice_index key.now i < 0xff)) }
+    ensures raised { raised_last key.now
+        ≡ option_map (λ i. slice_set key.now i (slice_index key.now i + 1)) result }
 {
     key.iter().rposition(|b| *b != 0xff)
 }
 
-// The key up to a place, with the byte there raised.
+// The key up to an index, with the byte there raised.
 fn raised_and_cut(alloc: Global, key: &[u8], i: usize) -> Result<Vec<u8>>
-    requires place { i < length key.now }
+    requires index { i < length key.now }
     requires low { slice_index key.now i < 0xff }
     ensures ok { IfOk result (λ cut. cut.items ≡ raised_at key.now i) }
     ensures cause { IfErr result IsOutOfMemory }
@@ -215,14 +218,15 @@ fn raised_and_cut(alloc: Global, key: &[u8], i: usize) -> Result<Vec<u8>>
     Ok(cut)
 }
 
-// The key with its last byte that isn't 0xff raised where that is before the other key, else lengthened.
+// The key with its last byte that isn't 0xff raised where that is before the other key, else
+// lengthened.
 fn raised_or_lengthened(alloc: Global, from: &[u8], to: &[u8]) -> Result<Vec<u8>>
     ensures ok { IfOk result (λ sep. sep.items ≡ raised_or_lengthened from.now to.now) }
     ensures cause { IfErr result IsOutOfMemory }
 {
     let mut sep = Vec::with_capacity(alloc, from.len() + 1)?;
     sep.extend_from_slice(from)?;
-    let Some(i) = last_place(from) else {
+    let Some(i) = last_index(from) else {
         return lengthened(sep, to);
     };
     sep[i] += 1;
@@ -233,7 +237,7 @@ fn raised_or_lengthened(alloc: Global, from: &[u8], to: &[u8]) -> Result<Vec<u8>
     lengthened(sep, to)
 }
 
-// The key with a zero byte behind it where that is before the other key, else the key.
+// The key with a zero byte after it where that is before the other key, else the key.
 fn lengthened(key: Vec<u8>, to: &[u8]) -> Result<Vec<u8>>
     ensures ok { IfOk result (λ sep. sep.items ≡ lengthened key.items to.now) }
     ensures cause { IfErr result IsOutOfMemory }

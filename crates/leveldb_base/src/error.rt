@@ -1,12 +1,12 @@
-//! What a refused call answers: a code that names the cause, and a text for the reader.
+//! Errors: a code that names the cause, and a text for the reader.
 ghost use Rattle.std.specs.Prelude.{◌≡◌, Some, None, IfOk, IfSome, IsErrAnd, string_bytes};
-ghost use Rattle.leveldb_base.specs.Status.{status_text, text_of, annotated};
+ghost use Rattle.leveldb_base.specs.Error.{status_text, text_of, annotated};
 
 use std::alloc::{AllocError, AllocFailed, Global};
 use std::error::Error;
 use std::{fmt, io};
 
-/// The kind of a refusal.
+/// The kind of an error.
 #[derive(Clone, Copy, Debug, PartialEq, Eq)]
 pub enum StatusCode {
     OK,
@@ -25,7 +25,7 @@ pub enum StatusCode {
 }
 
 impl fmt::Display for StatusCode {
-    ghost use Rattle.leveldb_base.specs.Status.{code_text};
+    ghost use Rattle.leveldb_base.specs.Error.{code_text};
 
     ghost output = { λ code. Some (code_text code) };
 
@@ -48,19 +48,19 @@ impl fmt::Display for StatusCode {
     }
 }
 
-/// A refusal: its code, and its text, where there was memory for one. No text is the empty text.
+/// An error: its code, and its text, where there was memory for one. No text is the empty text.
 #[derive(Clone, Debug, Drop, PartialEq)]
 pub struct Status {
     pub code: StatusCode,
     pub err: Option<String>,
 }
 
-/// What a call that can be refused answers.
+/// The result of a call that can fail.
 pub type Result<T> = std::result::Result<T, Status>;
 
 impl Status {
     /// A status with the text `Code: msg`, or `Code` for an empty message.
-    /// Where there is no memory for the text, the code stands alone.
+    /// Where there is no memory for the text, the status has the code alone.
     pub fn new(alloc: Global, code: StatusCode, msg: &str) -> Status
         ensures code { result.code ≡ code }
         ensures text { IfSome result.err (λ text. string_bytes text ≡ status_text code msg.now) }
@@ -77,10 +77,11 @@ impl Status {
     }
 
     /// The same status with `msg: ` before its text.
-    /// Where there is no memory for the new text, the code stands alone.
+    /// Where there is no memory for the new text, the status has the code alone.
     pub fn annotate(self, alloc: Global, msg: &str) -> Status
         ensures code { result.code ≡ self.code }
-        ensures text { IfSome result.err (λ text. string_bytes text ≡ annotated msg.now (text_of self.err)) }
+        ensures text { IfSome result.err (λ text. string_bytes text
+            ≡ annotated msg.now (text_of self.err)) }
     {
         let text = match &self.err {
             None => annotated_text(alloc, msg, ""),
@@ -99,10 +100,11 @@ fn annotated_text(alloc: Global, msg: &str, text: &str) -> std::result::Result<S
     format!(in alloc; "{msg}: {text}")
 }
 
-/// A refusal with this code and message.
+/// An error with this code and message.
 pub fn err<T>(alloc: Global, code: StatusCode, msg: &str) -> Result<T>
     ensures code { IsErrAnd result (λ status. status.code ≡ code) }
-    ensures text { IsErrAnd result (λ status. IfSome status.err (λ text. string_bytes text ≡ status_text code msg.now)) }
+    ensures text { IsErrAnd result (λ status. IfSome status.err (λ text. string_bytes text
+        ≡ status_text code msg.now)) }
 {
     Err(Status::new(alloc, code, msg))
 }
@@ -163,7 +165,7 @@ impl<T: Drop> From<AllocFailed<T>> for Status {
     }
 }
 
-/// The code that stands for the error's kind, with no text.
+/// The code for the error's kind, with no text.
 impl From<io::Error> for Status {
     ghost from_gives = { λ _ status. status.err ≡ None };
 

@@ -1,11 +1,13 @@
-//! The keys of entries: internal keys, which tables hold, and memtable keys, which the memtable holds.
+//! The keys of entries: internal keys, which tables hold, and memtable keys, which the memtable
+//! holds.
 //!
-//! An internal key is the user's key and eight bytes of `sequence << 8 | type`, the lowest first. A look-up key is
-//! an internal key behind its length, and a memtable key is that and the value behind its length.
-ghost use Rattle.std.specs.Prelude.{◌≡◌, ◌+◌, ◌/◌, ◌%◌, ◌^◌, ◌<◌, ◌≤◌, ◌⊎◌, ℕ, List, [], ◌++◌, Option, Some, IfOk, IfErr, All, length, drop, vec_len};
-ghost use Rattle.leveldb_base.specs.Status.{IsOutOfMemory};
+//! An internal key is the user's key and eight bytes of `sequence << 8 | type`, the lowest first. A
+//! look-up key is an internal key after its length, and a memtable key is that and the value after
+//! its length.
+ghost use Rattle.std.specs.Prelude.{◌≡◌, ◌+◌, ◌/◌, ◌%◌, ◌^◌, ◌<◌, ◌≤◌, ◌⊎◌, ℕ, List, [], ◌++◌, Option, Some, IfOk, IfErr, length, drop, vec_len};
+ghost use Rattle.leveldb_base.specs.Error.{IsOutOfMemory};
 ghost use Rattle.leveldb_base.specs.Varint.{little, varint, sized};
-ghost use Rattle.leveldb_base.specs.Keys.{type_from, tag, internal_key, user_part, tag_part, sequence_part, type_part, lookup_key, memtable_key, internal_cmp, memtable_cmp, inner_key, tail_of, HasParts, IsMemtableKey, places_of};
+ghost use Rattle.leveldb_base.specs.KeyTypes.{type_from, tag, internal_key, user_part, tag_part, sequence_part, type_part, memtable_key, internal_cmp, memtable_cmp, inner_key, tail_of, HasParts, IsMemtableKey, offsets_of};
 
 use crate::cmp::Cmp;
 use crate::error::{Result, Status};
@@ -26,10 +28,10 @@ pub enum ValueType {
 /// A key as the user gives it.
 pub type UserKey<'a> = &'a [u8];
 
-/// A user's key with a sequence number and a type behind it.
+/// A user's key with a sequence number and a type after it.
 pub type InternalKey<'a> = &'a [u8];
 
-/// An internal key behind its length, and a value behind its length where it is an entry's.
+/// An internal key after its length, and a value after its length where it is an entry's.
 pub type MemtableKey<'a> = &'a [u8];
 
 /// A key to look up as of a sequence number. Clauses see it as its internal key.
@@ -44,14 +46,16 @@ impl Model for LookupKey {
 
     ghost view = { λ it. drop it.key_offset it.key.items };
 
-    ghost invariant = { λ it. (it.key.items ≡ sized (drop it.key_offset it.key.items)) × (it.key_offset + 8 ≤ length it.key.items) };
+    ghost invariant = { λ it. (it.key.items ≡ sized (drop it.key_offset it.key.items))
+        × (it.key_offset + 8 ≤ length it.key.items) };
 }
 
 impl LookupKey {
     /// The key to look up `key` as of `sequence`.
     pub fn new(alloc: Global, key: UserKey<'_>, sequence: SequenceNumber) -> Result<LookupKey>
         requires { sequence < 2 ^ 56 }
-        ensures ok { IfOk result (λ made. made ≡ internal_key key.now sequence ValueType.TypeValue) }
+        ensures ok { IfOk result (λ made.
+            made ≡ internal_key key.now sequence ValueType.TypeValue) }
         ensures cause { IfErr result IsOutOfMemory }
     {
         LookupKey::new_full(alloc, key, sequence, ValueType::TypeValue)
@@ -72,7 +76,7 @@ impl LookupKey {
         Ok(LookupKey { key, key_offset })
     }
 
-    /// The internal key behind its length, by which a memtable is searched.
+    /// The internal key after its length, by which a memtable is searched.
     pub fn memtable_key(&self) -> MemtableKey<'_>
         ensures { result.now ≡ sized self.now }
     {
@@ -108,7 +112,7 @@ pub fn parse_tag(tag: u64) -> (ValueType, SequenceNumber)
 }
 
 /// The bytes of an entry in memory.
-#[tactic(auto, using(crate::specs::VarintLaws::varint_lengths))]
+#[tactic(auto, using(crate::proofs::VarintLemmas::varint_lengths))]
 pub fn build_memtable_key(
     alloc: Global,
     key: &[u8],
@@ -128,14 +132,15 @@ pub fn build_memtable_key(
     Ok(entry)
 }
 
-// A varint has at most so many bytes.
+// The most bytes that a varint has.
 const MAX_VARINT_LEN: usize = 10;
 
-// A tag has so many bytes.
-const TAG_LEN: usize = 8;
+/// The number of bytes of a tag, which is the last part of an internal key.
+pub const TAG_LEN: usize = 8;
 
-// An internal key behind its length, in a vector with room for more, and how many bytes the length takes.
-#[tactic(auto, using(crate::specs::VarintLaws::varint_lengths))]
+// An internal key after its length, in a vector with room for more, and the number of bytes of the
+// length.
+#[tactic(auto, using(crate::proofs::VarintLemmas::varint_lengths))]
 fn sized_internal_key(
     alloc: Global,
     key: &[u8],
@@ -160,7 +165,8 @@ fn sized_internal_key(
     Ok((bytes, used))
 }
 
-pub(crate) fn tag_bytes(sequence: SequenceNumber, kind: ValueType) -> [u8; TAG_LEN]
+/// The bytes of a tag.
+pub fn tag_bytes(sequence: SequenceNumber, kind: ValueType) -> [u8; TAG_LEN]
     requires { sequence < 2 ^ 56 }
     ensures { result ≡ little 8 (tag sequence kind) }
 {
@@ -169,36 +175,40 @@ pub(crate) fn tag_bytes(sequence: SequenceNumber, kind: ValueType) -> [u8; TAG_L
     bytes
 }
 
-/// How long the user's key of an entry in memory is and where it stands, its tag, and how long its value is and
-/// where it stands. The last three are 0 for a key that ends before its tag.
+/// The length and the offset of the user's key of an entry in memory, its tag, and the length and
+/// the offset of its value. The last three are 0 for a key that ends before its tag.
 pub fn parse_memtable_key(mkey: MemtableKey<'_>) -> (usize, usize, u64, usize, usize)
     requires { IsMemtableKey mkey.now }
-    ensures { (user : List ℕ) (parts : Option (ℕ × List ℕ)) → HasParts mkey.now user parts → result ≡ places_of user parts }
+    ensures { (user : List ℕ) (parts : Option (ℕ × List ℕ)) → HasParts mkey.now user parts
+        → result ≡ offsets_of user parts }
 {
-    let (len, place, tail) = split_user_key(mkey);
+    let (len, offset, tail) = split_user_key(mkey);
     if tail.is_empty() {
-        return (len, place, 0, 0, 0);
+        return (len, offset, 0, 0, 0);
     }
     let (tag, value_len, used) = split_tail(tail);
-    (len, place, tag, value_len, place + len + used)
+    (len, offset, tag, value_len, offset + len + used)
 }
 
-// How long the user's key is and where it stands, and what stands behind it.
+// The length and the offset of the user's key, and the bytes after it.
 fn split_user_key(mkey: &[u8]) -> (usize, usize, &[u8])
     requires { IsMemtableKey mkey.now }
     ensures parts { (user : List ℕ) (parts : Option (ℕ × List ℕ)) → HasParts mkey.now user parts
-        → (result.0 ≡ length user) × (result.1 ≡ length (varint (length user + 8))) × (result.2.now ≡ tail_of parts) }
+        → (result.0 ≡ length user) × (result.1 ≡ length (varint (length user + 8)))
+        × (result.2.now ≡ tail_of parts) }
     ensures whole { result.1 + result.0 + length result.2.now ≡ length mkey.now }
 {
-    let (len, place) = front_len(mkey);
+    let (len, offset) = front_len(mkey);
     let len = len - TAG_LEN;
-    (len, place, &mkey[place + len..])
+    (len, offset, &mkey[offset + len..])
 }
 
-// The tag, how long the value is and where it stands, in what stands behind a user's key.
+// The tag, and the length and the offset of the value, in the bytes after a user's key.
 fn split_tail(tail: &[u8]) -> (u64, usize, usize)
-    requires { (number : ℕ) × (value : List ℕ) × (number < 2 ^ 64) × (tail.now ≡ little 8 number ++ sized value) }
-    ensures parts { (number : ℕ) (value : List ℕ) → number < 2 ^ 64 → tail.now ≡ little 8 number ++ sized value
+    requires { (number : ℕ) × (value : List ℕ) × (number < 2 ^ 64)
+        × (tail.now ≡ little 8 number ++ sized value) }
+    ensures parts { (number : ℕ) (value : List ℕ) → number < 2 ^ 64
+        → tail.now ≡ little 8 number ++ sized value
         → result ≡ (number, length value, 8 + length (varint (length value))) }
     ensures whole { result.2 + result.1 ≡ length tail.now }
 {
@@ -207,10 +217,11 @@ fn split_tail(tail: &[u8]) -> (u64, usize, usize)
     (tag, value_len, TAG_LEN + used)
 }
 
-// The length that stands in front, and how many bytes it takes.
+// The length at the front, and the number of its bytes.
 fn front_len(bytes: &[u8]) -> (usize, usize)
     requires { (n : ℕ) × (rest : List ℕ) × (n < 2 ^ 64) × (bytes.now ≡ varint n ++ rest) }
-    ensures { (n : ℕ) (rest : List ℕ) → bytes.now ≡ varint n ++ rest → result ≡ (n, length (varint n)) }
+    ensures { (n : ℕ) (rest : List ℕ) → bytes.now ≡ varint n ++ rest
+        → result ≡ (n, length (varint n)) }
 {
     match get_varint64(bytes) {
         Some((n, used)) => (n as usize, used),
@@ -226,9 +237,9 @@ pub fn cmp_memtable_key<C: Cmp>(ucmp: &C, a: MemtableKey<'_>, b: MemtableKey<'_>
     cmp_internal_key(ucmp, front_key(a), front_key(b))
 }
 
-// The internal key that stands behind its length in front, or the empty text where none does.
+/// The internal key after its length at the front, or the empty text where there is none.
 #[inline]
-pub(crate) fn front_key(key: MemtableKey<'_>) -> InternalKey<'_>
+pub fn front_key(key: MemtableKey<'_>) -> InternalKey<'_>
     ensures { result.now ≡ inner_key key.now }
 {
     match get_length_prefixed_slice(key) {
@@ -237,8 +248,8 @@ pub(crate) fn front_key(key: MemtableKey<'_>) -> InternalKey<'_>
     }
 }
 
-/// The type, the sequence number and the user's key of an internal key. The empty key is read as the deletion of
-/// the empty key with number 0.
+/// The type, the sequence number and the user's key of an internal key. The empty key is read as
+/// the deletion of the empty key with number 0.
 pub fn parse_internal_key(ikey: InternalKey<'_>) -> (ValueType, SequenceNumber, UserKey<'_>)
     requires { (ikey.now ≡ []) ⊎ (8 ≤ length ikey.now) }
     ensures kind { result.0 ≡ type_part ikey.now }
@@ -263,9 +274,10 @@ fn split_tag(ikey: &[u8]) -> (&[u8], u64)
     (user, LittleEndian::read_u64(tag))
 }
 
-// The user's key and the sequence number.
+/// The user's key and the sequence number of an internal key. Fewer than eight bytes are an empty
+/// user's key with number 0.
 #[inline]
-pub(crate) fn split_sequence(ikey: &[u8]) -> (&[u8], SequenceNumber)
+pub fn split_sequence(ikey: &[u8]) -> (&[u8], SequenceNumber)
     ensures user { result.0.now ≡ user_part ikey.now }
     ensures sequence { result.1 ≡ sequence_part ikey.now }
 {
@@ -273,8 +285,8 @@ pub(crate) fn split_sequence(ikey: &[u8]) -> (&[u8], SequenceNumber)
     (user, tag >> 8)
 }
 
-/// The order of internal keys: by the user's key rising, then by the sequence number falling; the type is ignored.
-/// Fewer than eight bytes are taken as an empty user's key with number 0.
+/// The order of internal keys: by the user's key rising, then by the sequence number falling; the
+/// type is ignored. Fewer than eight bytes are taken as an empty user's key with number 0.
 #[inline]
 pub fn cmp_internal_key<C: Cmp>(ucmp: &C, a: InternalKey<'_>, b: InternalKey<'_>) -> Ordering
     ensures { result ≡ internal_cmp (C.cmp ucmp.now) a.now b.now }
@@ -291,25 +303,3 @@ pub fn truncate_to_userkey(ikey: &mut Vec<u8>)
 {
     ikey.truncate(ikey.len() - TAG_LEN);
 }
-
-/// An internal key is read as it was written, and bytes whose type is a known one are the internal key of their parts.
-pub fn internal_keys_have_one_spelling()
-    ensures read { (user : List ℕ) (sequence : ℕ) (kind : ValueType) → sequence < 2 ^ 56
-        → (user_part (internal_key user sequence kind) ≡ user) × (sequence_part (internal_key user sequence kind) ≡ sequence)
-        × (type_part (internal_key user sequence kind) ≡ kind) }
-    ensures written { (key : List ℕ) → 8 ≤ length key → All (λ b. b < 256) key → tag_part key % 256 < 2
-        → internal_key (user_part key) (sequence_part key) (type_part key) ≡ key }
-{}
-
-/// What is written for an entry in memory has the entry's parts, bytes have no other parts, and an entry's place in
-/// the order of memtable keys, or that of a look-up key, is its internal key's.
-pub fn memtable_keys_have_one_spelling()
-    ensures written { (user : List ℕ) (sequence : ℕ) (kind : ValueType) (value : List ℕ) → sequence < 2 ^ 56
-        → HasParts (memtable_key user sequence kind value) user (Some (tag sequence kind, value)) }
-    ensures only { (bytes user other : List ℕ) (these those : Option (ℕ × List ℕ)) → HasParts bytes user these
-        → HasParts bytes other those → (user ≡ other) × (these ≡ those) }
-    ensures entry { (user : List ℕ) (sequence : ℕ) (kind : ValueType) (value : List ℕ)
-        → inner_key (memtable_key user sequence kind value) ≡ internal_key user sequence kind }
-    ensures looked_up { (user : List ℕ) (sequence : ℕ) (kind : ValueType)
-        → inner_key (lookup_key user sequence kind) ≡ internal_key user sequence kind }
-{}

@@ -1,4 +1,4 @@
-//! What every layer of the store stands on: errors with causes, numbers and checksums as bytes,
+//! What every layer of the store is built on: errors with causes, numbers and checksums as bytes,
 //! the order of keys, and the meaning of an iterator.
 #![tactic(auto)]
 
@@ -6,8 +6,8 @@ pub mod blockhandle;
 pub mod cmp;
 pub mod crc;
 pub mod error;
-pub mod history;
 pub mod key_types;
+pub mod laws;
 pub mod names;
 pub mod types;
 pub mod varint;

@@ -1,16 +1,15 @@
-//! The names of a store's files: what a name tells, and the names that a store gives.
-ghost use Rattle.std.specs.Prelude.{◌≡◌, ℕ, List, Result, Ok, MatchOption, IfOk, IfErr, string_bytes};
-ghost use Rattle.leveldb_base.specs.Status.{IsOutOfMemory};
-ghost use Rattle.leveldb_base.specs.declared.error.Status.{Status};
-ghost use Rattle.leveldb_base.specs.Names.{IsNumber, IsWord, IsExtension, IsFileName, ReadsName, MayHaveNumber, file_name, file_path};
+//! The names of a store's files: their numbers and types, and the names that a store gives.
+ghost use Rattle.std.specs.Prelude.{◌≡◌, ℕ, Result, Ok, MatchOption, IfOk, IfErr, string_bytes};
+ghost use Rattle.leveldb_base.specs.Error.{IsOutOfMemory};
+ghost use Rattle.leveldb_base.specs.Names.{IsNumber, IsWord, IsExtension, IsFileName, ReadsName, file_path};
 ghost use Rattle.leveldb_base.specs.declared.types.FileType.{FileType};
 
 use crate::error::{Result, StatusCode, err};
 use crate::types::{FileNum, FileType};
 use std::alloc::Global;
 
-/// The number and the use that a file's name tells, where it is the name of a store's file, without its folder.
-/// The number is 0 where the name has none.
+/// The number and the type of a store's file by its name, without its folder. The number is 0 where
+/// the name has none. Any other name is `InvalidArgument`.
 pub fn parse_file_name(alloc: Global, name: &str) -> Result<(FileNum, FileType)>
     ensures { ReadsName name.now result }
 {
@@ -24,9 +23,10 @@ pub fn parse_file_name(alloc: Global, name: &str) -> Result<(FileNum, FileType)>
     }
 }
 
-// What a name tells, or nothing.
+// The number and the type of a store's file by its name.
 fn read_name(name: &str) -> Option<(FileNum, FileType)>
-    ensures { MatchOption result ((n : ℕ) (kind : FileType) → IsFileName name.now n kind → ⊥) (λ found. IsFileName name.now found.0 found.1) }
+    ensures { MatchOption result ((n : ℕ) (kind : FileType) → IsFileName name.now n kind → ⊥)
+        (λ found. IsFileName name.now found.0 found.1) }
 {
     if let Some(kind) = read_word(name) {
         return Some((0, kind));
@@ -39,9 +39,10 @@ fn read_name(name: &str) -> Option<(FileNum, FileType)>
     Some((read_number(digits)?, kind))
 }
 
-// What a file without a number is for.
+// The type of a file without a number.
 fn read_word(name: &str) -> Option<FileType>
-    ensures { MatchOption result ((kind : FileType) → IsWord name.now kind → ⊥) (λ kind. IsWord name.now kind) }
+    ensures { MatchOption result ((kind : FileType) → IsWord name.now kind → ⊥)
+        (λ kind. IsWord name.now kind) }
 {
     if name == "CURRENT" {
         Some(FileType::Current)
@@ -54,9 +55,10 @@ fn read_word(name: &str) -> Option<FileType>
     }
 }
 
-// What a file with a number before the dot is for.
+// The type of a file with a number before the dot.
 fn read_extension(extension: &str) -> Option<FileType>
-    ensures { MatchOption result ((kind : FileType) → IsExtension extension.now kind → ⊥) (λ kind. IsExtension extension.now kind) }
+    ensures { MatchOption result ((kind : FileType) → IsExtension extension.now kind → ⊥)
+        (λ kind. IsExtension extension.now kind) }
 {
     if extension == "log" {
         Some(FileType::Log)
@@ -69,9 +71,10 @@ fn read_extension(extension: &str) -> Option<FileType>
     }
 }
 
-// The number that decimal digits spell.
+// The number that decimal digits are.
 fn read_number(digits: &str) -> Option<FileNum>
-    ensures { MatchOption result ((n : ℕ) → IsNumber digits.now n → ⊥) (λ n. IsNumber digits.now n) }
+    ensures { MatchOption result ((n : ℕ) → IsNumber digits.now n → ⊥)
+        (λ n. IsNumber digits.now n) }
 {
     if digits.starts_with('+') {
         return None;
@@ -89,7 +92,8 @@ pub fn log_file_name(alloc: Global, store: &str, number: FileNum) -> Result<Stri
 
 /// The path of a table.
 pub fn table_file_name(alloc: Global, store: &str, number: FileNum) -> Result<String>
-    ensures ok { IfOk result (λ name. string_bytes name ≡ file_path store.now FileType.Table number) }
+    ensures ok { IfOk result (λ name.
+        string_bytes name ≡ file_path store.now FileType.Table number) }
     ensures cause { IfErr result IsOutOfMemory }
 {
     Ok(format!(in alloc; "{store}/{number:06}.ldb")?)
@@ -102,24 +106,3 @@ pub fn lock_file_name(alloc: Global, store: &str) -> Result<String>
 {
     Ok(format!(in alloc; "{store}/LOCK")?)
 }
-
-/// A name tells one number and one use.
-#[tactic(auto, using(crate::specs::NameLaws::one_reading))]
-pub fn names_have_one_reading()
-    ensures { (name : List ℕ) (m n : ℕ) (k l : FileType) → IsFileName name m k → IsFileName name n l → (m ≡ n) × (k ≡ l) }
-{}
-
-/// The names that a store gives are read: a reader that keeps the contract of `parse_file_name` answers the number and the use.
-#[tactic(auto, using(crate::specs::NameLaws::made_name, crate::specs::NameLaws::read_made_name))]
-pub fn made_names_are_read()
-    ensures names { (kind : FileType) (n : ℕ) → MayHaveNumber kind n → IsFileName (file_name kind n) n kind }
-    ensures answers { (kind : FileType) (n : ℕ) (answer : Result (ℕ × FileType) Status) → MayHaveNumber kind n
-        → ReadsName (file_name kind n) answer → answer ≡ Ok (n, kind) }
-{}
-
-/// Files of different numbers or uses have different names.
-#[tactic(auto, using(crate::specs::NameLaws::made_names_apart, crate::specs::NameLaws::made_paths_apart))]
-pub fn made_names_differ()
-    ensures names { (m n : ℕ) (k l : FileType) → MayHaveNumber k m → MayHaveNumber l n → file_name k m ≡ file_name l n → (m ≡ n) × (k ≡ l) }
-    ensures paths { (store : List ℕ) (m n : ℕ) (k l : FileType) → MayHaveNumber k m → MayHaveNumber l n → file_path store k m ≡ file_path store l n → (m ≡ n) × (k ≡ l) }
-{}

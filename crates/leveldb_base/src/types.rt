@@ -1,9 +1,10 @@
-//! What every layer speaks of: numbers of files and entries, directions, ranges, and the meaning of an iterator.
+//! Words of every layer: numbers of files and entries, ranges, file types, and the meaning of an
+//! iterator.
 ghost use Rattle.std.specs.Prelude.{◌≡◌, ◌⊎◌, List, ℕ, Option, None, IfOk, IfErr, OnOk, OnErr, is_some};
 ghost use Rattle.std.specs.declared.cmp.Ordering.{Ordering};
 ghost use Rattle.leveldb_base.specs.declared.error.Status.{Status};
-ghost use Rattle.leveldb_base.specs.Places.{Pair, IsPlace, place_within, next_place, previous_place, seek_place, pair_at, pair_of, copied_pair};
-ghost use Rattle.leveldb_base.specs.Status.{IsOutOfMemory};
+ghost use Rattle.leveldb_base.specs.Types.{Pair, IsPosition, SameWalk, position_within, next_position, previous_position, seek_position, pair_at, pair_of, copied_pair};
+ghost use Rattle.leveldb_base.specs.Error.{IsOutOfMemory};
 
 use crate::error::Result;
 pub use crate::names::parse_file_name;
@@ -36,7 +37,7 @@ pub struct Range<'a> {
     pub limit: &'a [u8],
 }
 
-/// What a file of a store is for, as its name tells.
+/// The type of a store's file, which its name gives.
 #[derive(Clone, Copy, Debug, PartialEq)]
 pub enum FileType {
     Log,
@@ -63,7 +64,8 @@ pub struct FileMetaData {
 impl Default for FileMetaData {
     ghost use Rattle.std.specs.Prelude.{[]};
 
-    ghost is_default = { λ file. (file.allowed_seeks ≡ 0) × (file.num ≡ 0) × (file.size ≡ 0) × (file.smallest ≡ []) × (file.largest ≡ []) };
+    ghost is_default = { λ file. (file.allowed_seeks ≡ 0) × (file.num ≡ 0) × (file.size ≡ 0)
+        × (file.smallest ≡ []) × (file.largest ≡ []) };
 
     fn default() -> FileMetaData {
         FileMetaData {
@@ -76,76 +78,72 @@ impl Default for FileMetaData {
     }
 }
 
-/// A walk over a list of pairs of a key and a value, which no call changes.
-/// An iterator stands on one of the pairs or at no place, as a new one does. `advance`, `prev`, the two seeks and
-/// `next` move it; a refused move leaves no place, and the walk goes on from there.
+/// A walk over a list of pairs of a key and a value, which no call changes. An iterator is at one
+/// of the pairs or at no position, as a new one is. `advance`, `prev`, the two seeks and `next`
+/// move it. A move that fails leaves no position, and the walk can go on from there.
 pub trait LdbIterator {
     // the list
     ghost pairs: { Self → List Pair };
 
-    // where in the list it stands
-    ghost place: { Self → Option ℕ };
+    // the index of the current pair in the list
+    ghost position: { Self → Option ℕ };
 
     // the order of keys in which it seeks
     ghost order: { Self → List ℕ → List ℕ → Ordering };
 
-    // what a refused move may answer that began and ended so; a move before it excuses it no less
+    // the errors of a move that began and ended so
     ghost fails: { Self → Self → Status → Type 0 };
 
-    /// Goes to the next pair, from no place to the first, and from the last to no place.
-    /// Answers whether it stands on a pair.
+    /// Moves to the next pair, from no position to the first, and from the last to no position.
+    /// Returns whether it is at a pair.
     fn advance(&mut self) -> Result<bool>
-        ensures same_pairs { pairs self.new ≡ pairs self.old }
-        ensures same_order { order self.new ≡ order self.old }
-        ensures ok { OnOk result (place self.new ≡ next_place (pairs self.old) (place self.old)) }
-        ensures answer { IfOk result (λ there. there ≡ is_some (place self.new)) }
-        ensures err { OnErr result (place self.new ≡ None) }
-        ensures cause { IfErr result (fails self.old self.new) }
-        ensures excuses { (it : Self) (status : Status) → fails self.new it status → fails self.old it status };
+        ensures keeps { SameWalk pairs order fails self.old self.new }
+        ensures ok { OnOk result (position self.new
+            ≡ next_position (pairs self.old) (position self.old)) }
+        ensures valid { IfOk result (λ is_valid. is_valid ≡ is_some (position self.new)) }
+        ensures err { OnErr result (position self.new ≡ None) }
+        ensures cause { IfErr result (fails self.old self.new) };
 
-    /// Goes to the pair before, and from the first or from no place to no place.
-    /// Answers whether it stands on a pair.
+    /// Moves to the pair before, and from the first or from no position to no position.
+    /// Returns whether it is at a pair.
     fn prev(&mut self) -> Result<bool>
-        ensures same_pairs { pairs self.new ≡ pairs self.old }
-        ensures same_order { order self.new ≡ order self.old }
-        ensures ok { OnOk result (place self.new ≡ previous_place (place self.old)) }
-        ensures answer { IfOk result (λ there. there ≡ is_some (place self.new)) }
-        ensures err { OnErr result (place self.new ≡ None) }
-        ensures cause { IfErr result (fails self.old self.new) }
-        ensures excuses { (it : Self) (status : Status) → fails self.new it status → fails self.old it status };
+        ensures keeps { SameWalk pairs order fails self.old self.new }
+        ensures ok { OnOk result (position self.new ≡ previous_position (position self.old)) }
+        ensures valid { IfOk result (λ is_valid. is_valid ≡ is_some (position self.new)) }
+        ensures err { OnErr result (position self.new ≡ None) }
+        ensures cause { IfErr result (fails self.old self.new) };
 
-    /// Goes to the first pair whose key is at or after `key`, or to no place where all keys are before it.
+    /// Moves to the first pair whose key is at or after `key`, or to no position where all are
+    /// before it.
     fn seek(&mut self, key: &[u8]) -> Result<()>
-        ensures same_pairs { pairs self.new ≡ pairs self.old }
-        ensures same_order { order self.new ≡ order self.old }
-        ensures ok { OnOk result (place self.new ≡ seek_place (order self.old) (pairs self.old) key.now) }
-        ensures err { OnErr result (place self.new ≡ None) }
-        ensures cause { IfErr result (fails self.old self.new) }
-        ensures excuses { (it : Self) (status : Status) → fails self.new it status → fails self.old it status };
+        ensures keeps { SameWalk pairs order fails self.old self.new }
+        ensures ok { OnOk result (position self.new
+            ≡ seek_position (order self.old) (pairs self.old) key.now) }
+        ensures err { OnErr result (position self.new ≡ None) }
+        ensures cause { IfErr result (fails self.old self.new) };
 
-    /// Goes to the first pair, or to no place in an empty list.
+    /// Moves to the first pair, or to no position in an empty list.
     fn seek_to_first(&mut self) -> Result<()>
-        ensures same_pairs { pairs self.new ≡ pairs self.old }
-        ensures same_order { order self.new ≡ order self.old }
-        ensures ok { OnOk result (place self.new ≡ place_within (pairs self.old) 0) }
-        ensures err { OnErr result (place self.new ≡ None) }
+        ensures keeps { SameWalk pairs order fails self.old self.new }
+        ensures ok { OnOk result (position self.new ≡ position_within (pairs self.old) 0) }
+        ensures err { OnErr result (position self.new ≡ None) }
         ensures cause { IfErr result (fails self.old self.new) }
-        ensures excuses { (it : Self) (status : Status) → fails self.new it status → fails self.old it status }
     {
         self.reset();
         self.advance()?;
         Ok(())
     }
 
-    /// Moves as `advance` does, and answers a copy of the pair on which it then stands.
+    /// Moves as `advance` does, and returns a copy of the pair that it is then at.
     fn next(&mut self, alloc: Global) -> Result<Option<(Vec<u8>, Vec<u8>)>>
-        ensures same_pairs { pairs self.new ≡ pairs self.old }
-        ensures same_order { order self.new ≡ order self.old }
-        ensures ok { OnOk result (place self.new ≡ next_place (pairs self.old) (place self.old)) }
-        ensures answer { IfOk result (λ pair. copied_pair pair ≡ pair_at (pairs self.new) (place self.new)) }
-        ensures err { OnErr result (place self.new ≡ None) }
-        ensures cause { IfErr result (λ status. fails self.old self.new status ⊎ IsOutOfMemory status) }
-        ensures excuses { (it : Self) (status : Status) → fails self.new it status → fails self.old it status }
+        ensures keeps { SameWalk pairs order fails self.old self.new }
+        ensures ok { OnOk result (position self.new
+            ≡ next_position (pairs self.old) (position self.old)) }
+        ensures pair { IfOk result (λ copied. copied_pair copied
+            ≡ pair_at (pairs self.new) (position self.new)) }
+        ensures err { OnErr result (position self.new ≡ None) }
+        ensures cause { IfErr result (λ status.
+            fails self.old self.new status ⊎ IsOutOfMemory status) }
     {
         if !self.advance()? {
             return Ok(None);
@@ -157,28 +155,27 @@ pub trait LdbIterator {
         pair
     }
 
-    /// The key and the value of the pair on which it stands, lent until the iterator moves or ends.
+    /// The key and the value of the current pair, borrowed until the iterator moves or ends.
     fn current(&self) -> Option<(&[u8], &[u8])>
-        ensures { pair_of result ≡ pair_at (pairs self.now) (place self.now) };
+        ensures { pair_of result ≡ pair_at (pairs self.now) (position self.now) };
 
-    /// Goes to no place.
+    /// Moves to no position.
     fn reset(&mut self)
-        ensures same_pairs { pairs self.new ≡ pairs self.old }
-        ensures same_order { order self.new ≡ order self.old }
-        ensures no_place { place self.new ≡ None }
-        ensures excuses { (it : Self) (status : Status) → fails self.new it status → fails self.old it status };
+        ensures keeps { SameWalk pairs order fails self.old self.new }
+        ensures reset { position self.new ≡ None };
 
-    /// Whether it stands on a pair.
+    /// Whether it is at a pair.
     fn valid(&self) -> bool
-        ensures { result ≡ is_some (place self.now) };
+        ensures { result ≡ is_some (position self.now) };
 
-    // the list has its place, so a valid iterator has a current pair
-    ghost in_range: { (it : Self) → IsPlace (pairs it) (place it) };
+    // the list has its position, so a valid iterator has a current pair
+    ghost in_range: { (it : Self) → IsPosition (pairs it) (position it) };
 }
 
-/// A copy of the pair on which an iterator stands.
+/// A copy of the pair that an iterator is at.
 pub fn current_key_val<I: LdbIterator>(alloc: Global, it: &I) -> Result<Option<(Vec<u8>, Vec<u8>)>>
-    ensures answer { IfOk result (λ pair. copied_pair pair ≡ pair_at (I.pairs it.now) (I.place it.now)) }
+    ensures pair { IfOk result (λ copied. copied_pair copied
+        ≡ pair_at (I.pairs it.now) (I.position it.now)) }
     ensures cause { IfErr result IsOutOfMemory }
 {
     copy_pair(alloc, it.current())

@@ -1,16 +1,16 @@
-//! Numbers as varints and texts behind their lengths, as LevelDB's logs and tables write them: seven bits a byte,
-//! the lowest group first, a byte from 128 on where more follow, and only the shortest spelling is read.
-ghost use Rattle.std.specs.Prelude.{◌≡◌, ◌↔◌, ℕ, ◌+◌, ◌^◌, ◌<◌, ◌≤◌, List, ◌++◌, vec_len, vec_capacity, length, take, drop, Option, Some, OnOk, OnErr, IfErr, All};
-ghost use Rattle.byteorder.specs.Endian.{little_number};
-ghost use Rattle.leveldb_base.specs.Status.{IsOutOfMemory};
-ghost use Rattle.leveldb_base.specs.Varint.{little, IsVarint, varint, sized, ReadsVarint, ReadsSized};
-ghost use Rattle.leveldb_base.specs.Places.{pair_of};
+//! Varints, and texts after their lengths, as LevelDB's logs and tables write them: seven bits a
+//! byte, the lowest group first, a byte from 128 on where more follow. Only the shortest encoding
+//! is read.
+ghost use Rattle.std.specs.Prelude.{◌≡◌, ◌+◌, ◌^◌, ◌<◌, ◌≤◌, ◌++◌, vec_len, vec_capacity, length, drop, Option, Some, OnOk, OnErr, IfErr};
+ghost use Rattle.leveldb_base.specs.Error.{IsOutOfMemory};
+ghost use Rattle.leveldb_base.specs.Varint.{varint, sized, ReadsVarint, ReadsSized};
+ghost use Rattle.leveldb_base.specs.Types.{pair_of};
 
 use crate::error::Result;
 
-/// How many bytes spell `n`: 1 to 10.
+/// The length of the encoding of `n`: 1 to 10 bytes.
 #[inline]
-#[tactic(auto, using(crate::specs::VarintLaws::varint_lengths))]
+#[tactic(auto, using(crate::proofs::VarintLemmas::varint_lengths))]
 pub fn varint_length(n: u64) -> usize
     ensures { result ≡ length (varint n) }
 {
@@ -23,7 +23,7 @@ pub fn varint_length(n: u64) -> usize
     groups
 }
 
-/// Writes `n` at the front of `dst`, and answers how many bytes that took: 1 to 5.
+/// Writes `n` at the front of `dst`, and returns the number of bytes written: 1 to 5.
 #[inline]
 pub fn encode_varint32(dst: &mut [u8], n: u32) -> usize
     requires { length (varint n) ≤ length dst.old }
@@ -33,7 +33,7 @@ pub fn encode_varint32(dst: &mut [u8], n: u32) -> usize
     encode_varint64(dst, u64::from(n))
 }
 
-/// Writes `n` at the front of `dst`, and answers how many bytes that took: 1 to 10.
+/// Writes `n` at the front of `dst`, and returns the number of bytes written: 1 to 10.
 #[inline]
 pub fn encode_varint64(dst: &mut [u8], n: u64) -> usize
     requires { length (varint n) ≤ length dst.old }
@@ -51,8 +51,8 @@ pub fn encode_varint64(dst: &mut [u8], n: u64) -> usize
     used + 1
 }
 
-/// Puts `n` behind what is there.
-#[tactic(auto, using(crate::specs::VarintLaws::varint_lengths))]
+/// Appends the encoding of `n`, or nothing.
+#[tactic(auto, using(crate::proofs::VarintLemmas::varint_lengths))]
 pub fn put_varint32(dst: &mut Vec<u8>, n: u32) -> Result<()>
     ensures ok { OnOk result (dst.new.items ≡ dst.old.items ++ varint n) }
     ensures err { OnErr result (dst.new.items ≡ dst.old.items) }
@@ -68,8 +68,8 @@ pub fn put_varint32(dst: &mut Vec<u8>, n: u32) -> Result<()>
     Ok(())
 }
 
-/// Puts `n` behind what is there.
-#[tactic(auto, using(crate::specs::VarintLaws::varint_lengths))]
+/// Appends the encoding of `n`, or nothing.
+#[tactic(auto, using(crate::proofs::VarintLemmas::varint_lengths))]
 pub fn put_varint64(dst: &mut Vec<u8>, n: u64) -> Result<()>
     ensures ok { OnOk result (dst.new.items ≡ dst.old.items ++ varint n) }
     ensures err { OnErr result (dst.new.items ≡ dst.old.items) }
@@ -85,8 +85,8 @@ pub fn put_varint64(dst: &mut Vec<u8>, n: u64) -> Result<()>
     Ok(())
 }
 
-/// The number below 2^32 that is spelled at the front of `src`, and how many bytes spell it.
-/// `None` where no such number's one spelling stands there: it is cut, ends in a zero group, or spells a larger number.
+/// The number below 2^32 at the front of `src`, and the length of its encoding.
+/// `None` where there is none: it is cut, ends in a zero group, or is a larger number.
 #[inline]
 pub fn get_varint32(src: &[u8]) -> Option<(u32, usize)>
     ensures { ReadsVarint 32 src.now result }
@@ -98,8 +98,8 @@ pub fn get_varint32(src: &[u8]) -> Option<(u32, usize)>
     }
 }
 
-/// The number below 2^64 that is spelled at the front of `src`, and how many bytes spell it.
-/// `None` where no such number's one spelling stands there: it is cut, ends in a zero group, or spells a larger number.
+/// The number below 2^64 at the front of `src`, and the length of its encoding.
+/// `None` where there is none: it is cut, ends in a zero group, or is a larger number.
 #[inline]
 pub fn get_varint64(src: &[u8]) -> Option<(u64, usize)>
     ensures { ReadsVarint 64 src.now result }
@@ -110,6 +110,8 @@ pub fn get_varint64(src: &[u8]) -> Option<(u64, usize)>
     }
 }
 
+// Most numbers are below 128: only those calls are worth inlining.
+#[inline(never)]
 fn get_long_varint(src: &[u8]) -> Option<(u64, usize)>
     ensures { ReadsVarint 64 src.now result }
 {
@@ -131,8 +133,8 @@ fn get_long_varint(src: &[u8]) -> Option<(u64, usize)>
     None
 }
 
-/// Puts `text` behind its length and both behind what is there, or nothing.
-#[tactic(auto, using(crate::specs::VarintLaws::varint_lengths))]
+/// Appends the length of `text` and `text`, or nothing.
+#[tactic(auto, using(crate::proofs::VarintLemmas::varint_lengths))]
 pub fn put_length_prefixed_slice(dst: &mut Vec<u8>, text: &[u8]) -> Result<()>
     ensures ok { OnOk result (dst.new.items ≡ dst.old.items ++ sized text.now) }
     ensures err { OnErr result (dst.new.items ≡ dst.old.items) }
@@ -150,8 +152,8 @@ pub fn put_length_prefixed_slice(dst: &mut Vec<u8>, text: &[u8]) -> Result<()>
     Ok(())
 }
 
-/// The text that stands behind its length at the front of `src`, and what follows it, both lent from `src`.
-/// `None` where no length stands there or the text is cut.
+/// The text after its length at the front of `src`, and what follows it, both borrowed from `src`.
+/// `None` where there is no length or the text is cut.
 #[inline]
 pub fn get_length_prefixed_slice(src: &[u8]) -> Option<(&[u8], &[u8])>
     ensures { ReadsSized src.now (pair_of result) }
@@ -159,41 +161,3 @@ pub fn get_length_prefixed_slice(src: &[u8]) -> Option<(&[u8], &[u8])>
     let (size, used) = get_varint64(src)?;
     src[used..].split_at_checked(size as usize)
 }
-
-/// What spells a number is what is written for it, so the same numbers are always the same bytes.
-pub fn varints_have_one_spelling()
-    ensures { (bytes : List ℕ) (n : ℕ) → IsVarint bytes n ↔ (bytes ≡ varint n) }
-{}
-
-/// No spelling is empty, and 5 bytes are room for any number of 32 bits, and 10 for any of 64.
-pub fn varints_are_short()
-    ensures some { (n : ℕ) → 1 ≤ length (varint n) }
-    ensures bits_32 { (n : ℕ) → n < 2 ^ 32 → length (varint n) ≤ 5 }
-    ensures bits_64 { (n : ℕ) → n < 2 ^ 64 → length (varint n) ≤ 10 }
-{}
-
-/// No number's spelling begins another's, so numbers that stand one behind the other have one reading.
-pub fn varints_are_prefix_free()
-    ensures { (m n : ℕ) (x y : List ℕ) → varint m ++ x ≡ varint n ++ y → (m ≡ n) × (x ≡ y) }
-{}
-
-/// No text behind its length begins another, so such texts that stand one behind the other have one reading.
-pub fn sized_texts_are_prefix_free()
-    ensures { (s t x y : List ℕ) → sized s ++ x ≡ sized t ++ y → (s ≡ t) × (x ≡ y) }
-{}
-
-/// What was written is read: a reader that keeps its contract answers the number, or the text, that was put.
-pub fn written_is_read()
-    ensures number { (bits n : ℕ) (rest : List ℕ) (answer : Option (ℕ × ℕ)) → n < 2 ^ bits
-        → ReadsVarint bits (varint n ++ rest) answer → answer ≡ Some (n, length (varint n)) }
-    ensures text { (text rest : List ℕ) (answer : Option (List ℕ × List ℕ)) → length text < 2 ^ 64
-        → ReadsSized (sized text ++ rest) answer → answer ≡ Some (text, rest) }
-{}
-
-/// A fixed integer, of 2, 4 or 8 bytes as of any other width, is its bytes and no others: bytes to a number and back
-/// are these bytes, and a number to bytes and back is this number.
-pub fn fixed_bytes_again()
-    ensures bytes { (width : ℕ) (bytes : List ℕ) → width ≤ length bytes → All (λ b. b < 256) bytes
-        → little width (little_number width bytes) ≡ take width bytes }
-    ensures number { (width n : ℕ) (rest : List ℕ) → n < 256 ^ width → little_number width (little width n ++ rest) ≡ n }
-{}

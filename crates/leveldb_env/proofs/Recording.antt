@@ -3,7 +3,7 @@ use Rattle.std.proofs.Common.{◌≡◌, ◌⊎◌, inl, inr, ⊎_elim, ℕ, Boo
 use Rattle.std.proofs.lemmas.Bool.Decides.{nat_tests}
 use Rattle.std.proofs.lemmas.Result.{IfErr-weaker}
 use Rattle.leveldb_base.specs.declared.error.Status.{Status}
-use Rattle.leveldb_base.specs.Status.{status_text, annotated}
+use Rattle.leveldb_base.specs.Error.{status_text, annotated}
 use Rattle.leveldb_base.specs.declared.error.StatusCode.TheVariants.{NotFound}
 use Rattle.leveldb_env.specs.declared.mem_env.journal.Journal.{Journal}
 use Rattle.leveldb_env.specs.declared.mem_env.journal.Change.TheVariants.{Emptied, Created, Extended, Synced, Deleted, Renamed, Cleared}

@@ -70,6 +70,7 @@ IsTooLarge bits_per_key keys = 2 ^ 32 ≤ 8 * bits_len bits_per_key (length keys
 abbrev pub bits_of : List ℕ → ℕ
 bits_of filter = 8 * (length filter - 1)
 
+-- how many bits a key has in a filter, which its last byte says
 abbrev pub count_in : List ℕ → ℕ
 count_in filter = slice_index filter (length filter - 1)
 

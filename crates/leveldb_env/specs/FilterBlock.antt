@@ -5,7 +5,7 @@ use Rattle.std.specs.List.{concat}
 use Rattle.std.specs.Option.{option_map_or}
 use Rattle.std.specs.Coded.{Coded, code_by, coded×, coded_list, coded_ℕ}
 use Rattle.leveldb_base.specs.Varint.{little}
-use Rattle.leveldb_base.specs.Status.{IsOutOfMemory}
+use Rattle.leveldb_base.specs.Error.{IsOutOfMemory}
 use Rattle.leveldb_base.specs.declared.error.Status.{Status}
 use Rattle.leveldb_base.specs.declared.error.StatusCode.TheVariants.{NotSupported}
 
@@ -108,11 +108,13 @@ pub record KeepsKeys (FP : Type 0) (make : FP → List (List ℕ) → List ℕ) 
 
 -- ---- codes of the records above, which a proof needs of a type's model
 
+-- a filter block that is read, as nested pairs of encodable parts
 abbrev pub reading_code : {FP : Type 0} → Coded FP → Coded (Reading FP)
 reading_code {FP} c =
     code_by (FP × List (List ℕ)) (coded× c (coded_list (coded_list coded_ℕ)))
     (λ m. (m.policy, m.filters)) (λ p. record { policy = p.0; filters = p.1 }) (λ _. refl)
 
+-- a filter block that is built, as nested pairs of encodable parts
 abbrev pub building_code : {FP : Type 0} → Coded FP → Coded (Building FP)
 building_code {FP} c =
     code_by (FP × (List (List ℕ) × List (List ℕ))) (coded× c (coded× (coded_list (coded_list coded_ℕ)) (coded_list (coded_list coded_ℕ))))

@@ -8,7 +8,7 @@ use mathlib.Core.HLevel.{Σ_prop_path}
 use Rattle.std.proofs.lemmas.List.{append-nil, length-replicate}
 use Rattle.std.proofs.lemmas.List.Elements.{All-nil, All-cons, Contains-push, Contains-append_left}
 use Rattle.leveldb_base.specs.Varint.{little}
-use Rattle.leveldb_base.specs.VarintLaws.{apart, apart_right}
+use Rattle.leveldb_base.proofs.VarintLemmas.{apart, apart_right}
 use Rattle.leveldb_env.specs.FilterBlock.{offsets_from, filter_block, OneReading, OneSpelling, Building, filter_of, with_filters, finished, IsKept, KeepsKeys}
 use Rattle.leveldb_env.specs.FilterBlockParts.{places_from, IsHeld, Held}
 use Rattle.leveldb_env.specs.NumberLaws.{one_fixed, one_numbers}

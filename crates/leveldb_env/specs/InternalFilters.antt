@@ -2,7 +2,7 @@
 use Rattle.std.proofs.Common.{◌≡◌, ℕ, Bool, true, ap, ◌∙◌, arith, List, map}
 use Rattle.std.specs.Prelude.{Contains}
 use Rattle.std.proofs.lemmas.List.{length-map, get_or-map}
-use Rattle.leveldb_base.specs.Keys.{user_part}
+use Rattle.leveldb_base.specs.KeyTypes.{user_part}
 
 Contains-map : (f : List ℕ → List ℕ) (keys : List (List ℕ)) (key : List ℕ) → Contains keys key → Contains (map f keys) (f key)
 Contains-map f keys key there =

@@ -5,7 +5,7 @@ use Rattle.std.specs.BTreeSet.{contains_text}
 use Rattle.std.specs.declared.alloc.Global.{Global}
 use Rattle.std.proofs.Common.{lit<}
 use Rattle.std.proofs.lemmas.Bool.{false≢true}
-use Rattle.leveldb_base.specs.Status.{status_text, annotated}
+use Rattle.leveldb_base.specs.Error.{status_text, annotated}
 use Rattle.leveldb_base.specs.declared.error.Status.{Status}
 use Rattle.leveldb_base.specs.declared.error.StatusCode.TheVariants.{NotFound, LockError}
 use Rattle.leveldb_env.specs.declared.mem_env.MemEnv.{MemEnv}

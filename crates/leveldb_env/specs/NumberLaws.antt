@@ -6,8 +6,7 @@ use Rattle.std.proofs.lemmas.List.Elements.{All-nil, All-cons, All-head, All-tai
 use Rattle.byteorder.specs.Endian.{little_from, little_number}
 use Rattle.byteorder.specs.Numbers.{little_from-lt, little_number-reads_back}
 use Rattle.leveldb_base.specs.Varint.{little}
-use Rattle.leveldb_base.specs.VarintLaws.{apart}
-use Rattle.leveldb_base.specs.LittleLaws.{little-little_number}
+use Rattle.leveldb_base.proofs.VarintLemmas.{apart, little-little_number}
 use Rattle.leveldb_env.specs.Numbers.{numbers, numbers_in}
 
 -- ---- one spelling

@@ -12,6 +12,7 @@ pub record Opened (E F : Type 0) : Type 0 where
   pub env : E
   pub file : F
 
+-- an environment with one of its open files
 abbrev pub opened : {E F : Type 0} → E → F → Opened E F
 opened env file = record { env = env; file = file }
 
@@ -36,6 +37,7 @@ ComesNextAt (Some file) place room piece = ComesNext place room piece (bytes_of 
 abbrev pub done : Result (Unit {0}) Status
 done = Ok tt
 
+-- a call failed with this status
 abbrev pub refused : Status → Result (Unit {0}) Status
 refused status = Err status
 

@@ -5,7 +5,7 @@
 //! each, and the byte 11.
 ghost use Rattle.std.specs.Prelude.{◌≡◌, ◌↔◌, ◌⊎◌, ◌+◌, ◌-◌, ◌*◌, ◌/◌, ◌^◌, ◌<◌, ◌≤◌, [], ◌∷◌, ◌++◌, length, flat_map, get_or, replicate, All, IfOk, IfErr, OnOk, OnErr, IsErrAnd, IsTrue, IsOk};
 ghost use Rattle.std.specs.List.{concat};
-ghost use Rattle.leveldb_base.specs.Status.{IsOutOfMemory};
+ghost use Rattle.leveldb_base.specs.Error.{IsOutOfMemory};
 ghost use Rattle.leveldb_base.specs.Varint.{little};
 ghost use Rattle.leveldb_base.specs.declared.error.StatusCode.TheVariants.{Corruption, NotSupported};
 ghost use Rattle.leveldb_env.specs.FilterBlock.{IsFilterBlock, IsNoFilterBlock, OneReading, OneSpelling, KeepsKeys, passes, filter_of, with_key, started, finished, IsTooLarge, IsNotMade};

@@ -1,7 +1,7 @@
 //! An environment in memory.
 ghost use Rattle.std.specs.Prelude.{◌≡◌, ◌⊎◌, ◌<◌, ◌+◌, ◌^◌, true, false, refl, ℕ, List, length, map, codes, Ok, IfOk, IfErr, IfSome, IsErrAnd, OnOk, OnErr, Some, None, IsSome, IsSomeAnd, is_some, string_bytes};
 ghost use Rattle.std.specs.BTreeSet.{contains_text};
-ghost use Rattle.leveldb_base.specs.Status.{status_text, annotated};
+ghost use Rattle.leveldb_base.specs.Error.{status_text, annotated};
 ghost use Rattle.leveldb_env.specs.Disk.{bytes_of, emptied, created, deleted, renamed, extended, synced, without_folder, lock_set, LeavesDisk};
 ghost use Rattle.leveldb_env.specs.Calls.{NoMemory, Lists};
 ghost use Rattle.leveldb_env.specs.Picks.{picked, tails_of, IsAllowed, IsRefused, LeavesByTails};

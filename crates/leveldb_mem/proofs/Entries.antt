@@ -8,11 +8,10 @@ use Rattle.std.specs.List.{All}
 use Rattle.std.specs.Option.{option_eq}
 use Rattle.byteorder.specs.Endian.{little_number}
 use Rattle.byteorder.specs.Numbers.{little_from-lt}
-use Rattle.leveldb_base.specs.LittleLaws.{little-little_number}
+use Rattle.leveldb_base.proofs.VarintLemmas.{little-little_number, one_sized}
 use Rattle.std.proofs.lemmas.List.Concat.{flat_map-append}
 use Rattle.leveldb_base.specs.History.{Item}
 use Rattle.leveldb_base.specs.Varint.{little, sized, ReadsSized}
-use Rattle.leveldb_base.specs.VarintLaws.{one_sized}
 use Rattle.leveldb_mem.specs.Batch.{item_of, batch_of, spelling, entry_bytes, ReadsEntry, CountsEntries, batch_bytes, IsBatch, AreEntries}
 use Rattle.leveldb_mem.proofs.Batches.{entries_there, count_there}
 use Rattle.leveldb_mem.specs.BatchLaws.{one_entry, one_list, AreEntries-prop, length-entry_bytes-ge, length-entries-ge, length-batch}

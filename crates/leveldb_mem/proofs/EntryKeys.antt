@@ -6,9 +6,11 @@ use Rattle.std.specs.Ordering.{ordering_then, nat_cmp}
 use Rattle.byteorder.specs.Numbers.{length-bytes_low_first}
 use Rattle.leveldb_base.specs.History.{Item, Entry}
 use Rattle.leveldb_base.specs.Varint.{little, varint, sized}
-use Rattle.leveldb_base.specs.VarintLaws.{length-varint_64, one_sized}
-use Rattle.leveldb_base.specs.Keys.{tag, internal_key, user_part, sequence_part, type_part, memtable_key, inner_key, internal_accepts, memtable_accepts, internal_cmp, memtable_cmp}
-use Rattle.leveldb_base.specs.KeyLaws.{length-internal_key, user_part-internal_key, sequence_part-internal_key, type_part-internal_key, internal_accepts-internal_key, inner_key-sized, inner_key-memtable_key}
+use Rattle.leveldb_base.proofs.VarintLemmas.{length-varint_64, one_sized}
+use Rattle.leveldb_base.specs.KeyTypes.{tag, internal_key, user_part, sequence_part, type_part, memtable_key, inner_key, internal_cmp, memtable_cmp}
+use Rattle.leveldb_base.specs.Cmp.{internal_accepts, memtable_accepts}
+use Rattle.leveldb_base.specs.CmpLaws.{length-internal_key, user_part-internal_key, sequence_part-internal_key, internal_accepts-internal_key}
+use Rattle.leveldb_base.proofs.KeyTypesLemmas.{type_part-internal_key, inner_key-sized, inner_key-memtable_key}
 use Rattle.leveldb_base.specs.declared.key_types.ValueType.{ValueType}
 use Rattle.leveldb_mem.specs.Entries.{value_length}
 use Rattle.leveldb_mem.specs.Batch.{spelling, entry_bytes}

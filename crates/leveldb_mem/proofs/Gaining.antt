@@ -9,11 +9,11 @@ use Rattle.std.specs.declared.cmp.Ordering.TheVariants.{Less, Equal, Greater}
 use Rattle.std.specs.Ordering.{ordering_then, nat_cmp}
 use Rattle.std.specs.Cmp.{nat_cmp_total, tied_itself}
 use Rattle.leveldb_base.specs.History.{Entry}
-use Rattle.leveldb_base.specs.Order.{IsPreorderOn}
-use Rattle.leveldb_base.specs.OrderLaws.{itself_equal}
-use Rattle.leveldb_base.specs.Keys.{memtable_cmp}
-use Rattle.leveldb_base.specs.Places.{Pair}
-use Rattle.leveldb_base.specs.ViewLaws.Elements.{in_front, in_rest, in_cases}
+use Rattle.leveldb_base.specs.Cmp.{IsPreorderOn}
+use Rattle.leveldb_base.specs.CmpLaws.{itself_equal}
+use Rattle.leveldb_base.specs.KeyTypes.{memtable_cmp}
+use Rattle.leveldb_base.specs.Types.{Pair}
+use Rattle.leveldb_base.proofs.HistoryLemmas.{in_front, in_rest, in_cases}
 use Rattle.leveldb_mem.specs.Searching.{key_at}
 use Rattle.leveldb_mem.specs.SkipMap.{Inserts, HasKey}
 use Rattle.leveldb_mem.specs.Entries.{Gains, IsNewTo}

@@ -3,7 +3,7 @@ use Rattle.std.proofs.Common.{◌≡◌, ℕ, zero, suc, ◌+◌, ◌<◌, ◌�
 use Rattle.std.proofs.lemmas.Bool.{false≢true, cases_Bool}
 use Rattle.std.specs.Ordering.{is_lt}
 use Rattle.std.specs.declared.cmp.Ordering.{Ordering}
-use Rattle.leveldb_base.specs.Places.{Pair, count_before}
+use Rattle.leveldb_base.specs.Types.{Pair, count_before}
 use Rattle.leveldb_mem.specs.Searching.{key_at, count_while, IsParted}
 
 -- keys before the first place pass, and those from the second on don't

@@ -5,7 +5,7 @@ use Rattle.std.proofs.lemmas.List.{length-map, map-append}
 use Rattle.std.proofs.lemmas.List.Elements.{All-head, All-tail}
 use Rattle.std.proofs.lemmas.List.Sums.{sum_by-cons, sum_by-append}
 use Rattle.leveldb_base.specs.History.{Item, Entry}
-use Rattle.leveldb_base.specs.Places.{Pair}
+use Rattle.leveldb_base.specs.Types.{Pair}
 use Rattle.leveldb_mem.specs.Batch.{entry_bytes, BatchOf}
 use Rattle.leveldb_mem.specs.BatchLaws.{length-batch}
 use Rattle.leveldb_mem.specs.Entries.{bytes_in, Kept, KeepsRoom}

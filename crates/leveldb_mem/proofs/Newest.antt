@@ -9,16 +9,15 @@ use Rattle.std.proofs.lemmas.List.Elements.{Contains-get_or, at_from_Contains}
 use Rattle.std.specs.declared.cmp.Ordering.{Ordering}
 use Rattle.std.specs.declared.cmp.Ordering.TheVariants.{Less, Equal, Greater}
 use Rattle.std.specs.Ordering.{is_lt, ordering_then, nat_cmp}
-use Rattle.leveldb_base.specs.History.{Entry}
-use Rattle.leveldb_base.specs.Order.{IsPreorderOn}
-use Rattle.leveldb_base.specs.OrderLaws.{itself_equal}
-use Rattle.leveldb_base.specs.Keys.{internal_key, internal_cmp, user_part, sequence_part, type_part, inner_key, memtable_accepts, memtable_cmp}
-use Rattle.leveldb_base.specs.KeyLaws.{user_part-internal_key, sequence_part-internal_key, inner_key-sized}
+use Rattle.leveldb_base.specs.History.{Entry, IsNewest}
+use Rattle.leveldb_base.specs.Cmp.{IsPreorderOn, memtable_accepts}
+use Rattle.leveldb_base.specs.CmpLaws.{itself_equal, user_part-internal_key, sequence_part-internal_key}
+use Rattle.leveldb_base.specs.KeyTypes.{internal_key, internal_cmp, user_part, sequence_part, type_part, inner_key, memtable_cmp}
+use Rattle.leveldb_base.proofs.KeyTypesLemmas.{inner_key-sized}
 use Rattle.leveldb_base.specs.declared.key_types.ValueType.{ValueType}
 use Rattle.leveldb_base.specs.declared.key_types.ValueType.TheVariants.{TypeValue}
-use Rattle.leveldb_base.specs.Places.{Pair, count_before}
+use Rattle.leveldb_base.specs.Types.{Pair, count_before}
 use Rattle.leveldb_base.specs.Varint.{sized}
-use Rattle.leveldb_base.specs.View.{IsNewest}
 use Rattle.leveldb_mem.specs.Searching.{key_at, count_while, IsParted}
 use Rattle.leveldb_mem.specs.SkipMap.{IsSorted}
 use Rattle.leveldb_mem.specs.Entries.{HasNewest, FindsNewest}

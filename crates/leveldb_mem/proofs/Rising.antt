@@ -7,9 +7,9 @@ use Rattle.std.proofs.lemmas.List.Elements.{All-get_or, All-append, All-cons, Al
 use Rattle.std.specs.Ordering.{is_lt, is_eq, ordering_reverse}
 use Rattle.std.specs.declared.cmp.Ordering.{Ordering}
 use Rattle.std.specs.declared.cmp.Ordering.TheVariants.{Less, Equal, Greater}
-use Rattle.leveldb_base.specs.Order.{IsPreorderOn}
-use Rattle.leveldb_base.specs.Places.{Pair, count_before}
-use Rattle.leveldb_base.specs.View.{IsBeforeAll, AreRising}
+use Rattle.leveldb_base.specs.Cmp.{IsPreorderOn}
+use Rattle.leveldb_base.specs.Types.{Pair, count_before}
+use Rattle.leveldb_base.specs.History.{IsBeforeAll, AreRising}
 use Rattle.leveldb_mem.specs.Searching.{key_at, count_while, IsParted}
 use Rattle.leveldb_mem.specs.SkipMap.{IsSorted, IsGap, Inserts, HasKey}
 use Rattle.leveldb_mem.proofs.Halving.{count-le, before_count, at_count, count_before-is}

@@ -10,12 +10,12 @@ use Rattle.std.specs.declared.cmp.Ordering.{Ordering}
 use Rattle.std.specs.declared.cmp.Ordering.TheVariants.{Less, Equal, Greater}
 use Rattle.std.specs.Ordering.{is_lt, ordering_then, nat_cmp}
 use Rattle.std.specs.Prelude.{nat_eq}
-use Rattle.leveldb_base.specs.Order.{IsPreorderOn}
-use Rattle.leveldb_base.specs.OrderLaws.{alike_right}
-use Rattle.leveldb_base.specs.Keys.{user_part, sequence_part, inner_key, internal_cmp, memtable_accepts, memtable_cmp}
-use Rattle.leveldb_base.specs.KeyLaws.{inner_key-memtable_key}
-use Rattle.leveldb_base.specs.Places.{Pair, count_before}
-use Rattle.leveldb_base.specs.View.{IsBeforeAll, AreRising}
+use Rattle.leveldb_base.specs.Cmp.{IsPreorderOn, memtable_accepts}
+use Rattle.leveldb_base.specs.CmpLaws.{alike_right}
+use Rattle.leveldb_base.specs.KeyTypes.{user_part, sequence_part, inner_key, internal_cmp, memtable_cmp}
+use Rattle.leveldb_base.proofs.KeyTypesLemmas.{inner_key-memtable_key}
+use Rattle.leveldb_base.specs.Types.{Pair, count_before}
+use Rattle.leveldb_base.specs.History.{IsBeforeAll, AreRising}
 use Rattle.leveldb_mem.specs.Searching.{key_at, count_while, IsParted}
 use Rattle.leveldb_mem.specs.SkipMap.{IsSorted}
 use Rattle.leveldb_mem.specs.MemTable.{entry_from, entry_key, entries_in, IsEntryPair, internal_pair, inner_value, type_of, bytes_of_value}

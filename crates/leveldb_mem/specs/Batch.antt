@@ -15,6 +15,7 @@ pub record Batch : Type 0 where
   pub first : ℕ
   pub items : List Item
 
+-- the batch of these changes, whose first entry has this number
 abbrev pub batch_of : ℕ → List Item → Batch
 batch_of first items = record { first = first; items = items }
 
@@ -29,6 +30,7 @@ abbrev pub spelling : List ℕ → Option (List ℕ) → List ℕ
 spelling key (Some value) = 1 ∷ (sized key ++ sized value)
 spelling key None = 0 ∷ sized key
 
+-- the bytes of a change in a batch
 unfoldable pub entry_bytes : Item → List ℕ
 entry_bytes item = spelling item.key item.value
 

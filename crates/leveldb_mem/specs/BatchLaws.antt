@@ -9,7 +9,7 @@ use Rattle.byteorder.specs.Endian.{little_from}
 use Rattle.byteorder.specs.Numbers.{little_number-reads_back, length-bytes_low_first}
 use Rattle.leveldb_base.specs.History.{Item}
 use Rattle.leveldb_base.specs.Varint.{little, sized}
-use Rattle.leveldb_base.specs.VarintLaws.{apart, one_sized, length-varint-pos}
+use Rattle.leveldb_base.proofs.VarintLemmas.{apart, one_sized, length-varint-pos}
 use Rattle.leveldb_mem.specs.Batch.{item_of, batch_of, spelling, entry_bytes, batch_bytes, BatchOf, Batch, IsBatch, IsShort, AreEntries, OneReading, OneSpelling, EachShort, CountFits}
 
 -- a fixed number at the front of a text, and what follows

@@ -1,7 +1,6 @@
 -- Entries as memory keeps them. A list stands for the set of its elements.
 use Rattle.std.specs.Prelude.{◌≡◌, ◌≤◌, ◌+◌, ◌↔◌, ℕ, List, [], ◌∷◌, ◌++◌, length, Option, Some, None, Contains}
-use Rattle.leveldb_base.specs.History.{Item, Entry}
-use Rattle.leveldb_base.specs.View.{IsNewest}
+use Rattle.leveldb_base.specs.History.{Item, Entry, IsNewest}
 
 -- one set has what the other has, and these
 abbrev pub Gains : List Entry → List Entry → List Entry → Type 0

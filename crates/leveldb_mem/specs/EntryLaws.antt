@@ -2,9 +2,8 @@
 use Rattle.std.proofs.Common.{◌≡◌, ◌≤◌, ◌<◌, ◌+◌, ⊎_elim, ℕ, List, [], ◌∷◌, ap, subst, arith}
 use Rattle.std.specs.Prelude.{Contains}
 use Rattle.std.proofs.lemmas.List.Elements.{Contains-push_cases}
-use Rattle.leveldb_base.specs.History.{Item, Entry, placed}
-use Rattle.leveldb_base.specs.ViewLaws.{AreUpTo}
-use Rattle.leveldb_base.specs.ViewLaws.Elements.{in_none, in_cases}
+use Rattle.leveldb_base.specs.History.{Item, Entry, placed, AreUpTo}
+use Rattle.leveldb_base.proofs.HistoryLemmas.{in_none, in_cases}
 use Rattle.leveldb_mem.specs.Entries.{Gains, AreNewTo}
 use Rattle.leveldb_mem.specs.MemTable.{entry_of}
 

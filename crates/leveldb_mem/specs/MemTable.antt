@@ -2,9 +2,9 @@
 use Rattle.std.specs.Prelude.{◌≡◌, ◌+◌, ◌*◌, ℕ, List, [], length, drop, map, sum_by, slice_get, Option, Some, None, refl}
 use Rattle.std.specs.Coded.{Coded, code_by, coded×, coded_list, coded_option, coded_ℕ}
 use Rattle.leveldb_base.specs.History.{Entry}
-use Rattle.leveldb_base.specs.Keys.{internal_key, user_part, sequence_part, type_part, memtable_key, inner_key}
+use Rattle.leveldb_base.specs.KeyTypes.{internal_key, user_part, sequence_part, type_part, memtable_key, inner_key}
 use Rattle.leveldb_base.specs.Varint.{sized}
-use Rattle.leveldb_base.specs.Places.{Pair}
+use Rattle.leveldb_base.specs.Types.{Pair}
 use Rattle.leveldb_base.specs.declared.key_types.ValueType.{ValueType}
 use Rattle.leveldb_base.specs.declared.key_types.ValueType.TheVariants.{TypeDeletion, TypeValue}
 use Rattle.leveldb_mem.specs.Entries.{Kept}
@@ -14,11 +14,13 @@ pub record Memory (C : Type 0) : Type 0 where
   pub cmp : C
   pub kept : Kept
 
+-- an entry, as nested pairs of encodable parts
 abbrev pub entry_code : Coded Entry
 entry_code =
     code_by (ℕ × (List ℕ × Option (List ℕ))) (coded× coded_ℕ (coded× (coded_list coded_ℕ) (coded_option (coded_list coded_ℕ))))
     (λ e. (e.sequence, (e.key, e.value))) (λ p. record { sequence = p.0; key = p.1.0; value = p.1.1 }) (λ _. refl)
 
+-- a memtable, as nested pairs of encodable parts
 abbrev pub memory_code : {C : Type 0} → Coded C → Coded (Memory C)
 memory_code {C} c =
     code_by (C × (List Entry × (ℕ × ℕ))) (coded× c (coded× (coded_list entry_code) (coded× coded_ℕ coded_ℕ)))
@@ -62,6 +64,7 @@ entry_from key =
 abbrev pub IsEntryPair : Pair → Type 0
 IsEntryPair pair = (pair.0 ≡ entry_key (entry_from pair.0)) × (pair.1 ≡ [])
 
+-- the entries that the keys of these pairs encode, in their order
 abbrev pub entries_in : List Pair → List Entry
 entries_in pairs = map (λ pair. entry_from pair.0) pairs
 

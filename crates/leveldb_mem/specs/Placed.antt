@@ -1,6 +1,6 @@
 -- How the pairs of a map lie in memory: all keys and values in one text, nodes that cut it, and the nodes in order.
 use Rattle.std.specs.Prelude.{◌≡◌, ℕ, ◌+◌, ◌<◌, ◌≤◌, List, length, map, sum_by, slice_range, slice_index_or, All}
-use Rattle.leveldb_base.specs.Places.{Pair}
+use Rattle.leveldb_base.specs.Types.{Pair}
 use Rattle.leveldb_mem.specs.declared.skipmap.placed.Node.{Node}
 
 -- pairs, what stands behind them of a pair that is to come, and room: for so many pairs and so many bytes

@@ -1,6 +1,6 @@
 -- Places in a list of pairs, by a test of their keys.
 use Rattle.std.specs.Prelude.{◌≡◌, ℕ, ◌+◌, ◌<◌, ◌≤◌, Bool, true, List, [], ◌∷◌, if◌then◌else◌, length, slice_index_or}
-use Rattle.leveldb_base.specs.Places.{Pair}
+use Rattle.leveldb_base.specs.Types.{Pair}
 
 -- the key at a place
 abbrev pub key_at : List Pair → ℕ → List ℕ

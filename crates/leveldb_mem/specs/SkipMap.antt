@@ -4,8 +4,8 @@ use Rattle.std.specs.List.{insert, starts_with}
 use Rattle.std.specs.Coded.{Coded, code_by, coded×, coded_list, coded_ℕ}
 use Rattle.std.specs.declared.cmp.Ordering.{Ordering}
 use Rattle.std.specs.declared.cmp.Ordering.TheVariants.{Equal}
-use Rattle.leveldb_base.specs.Places.{Pair}
-use Rattle.leveldb_base.specs.View.{AreRising}
+use Rattle.leveldb_base.specs.Types.{Pair}
+use Rattle.leveldb_base.specs.History.{AreRising}
 use Rattle.leveldb_mem.specs.Placed.{bytes_of}
 
 -- a comparator, the pairs, and room for so many more with so many bytes
@@ -15,6 +15,7 @@ pub record Held (C : Type 0) : Type 0 where
   pub places : ℕ
   pub bytes : ℕ
 
+-- a map, as nested pairs of encodable parts
 abbrev pub held_code : {C : Type 0} → Coded C → Coded (Held C)
 held_code {C} c =
     code_by (C × (List Pair × (ℕ × ℕ))) (coded× c (coded× (coded_list (coded× (coded_list coded_ℕ) (coded_list coded_ℕ))) (coded× coded_ℕ coded_ℕ)))

@@ -2,13 +2,12 @@
 ghost use Rattle.std.specs.Prelude.{◌≡◌, ◌⊎◌, ◌+◌, ◌*◌, ◌<◌, ◌≤◌, ◌^◌, ℕ, List, [], ◌∷◌, ◌++◌, length, OnOk, OnErr, IfErr, IsTrue, ◌↔◌, Some, None, map, slice_get, option_copied};
 ghost use Rattle.std.specs.Bool.{OnTrue, OnFalse};
 ghost use Rattle.std.specs.Option.{option_map};
-ghost use Rattle.leveldb_base.specs.Status.{IsOutOfMemory};
+ghost use Rattle.leveldb_base.specs.Error.{IsOutOfMemory};
 ghost use Rattle.leveldb_base.specs.declared.error.StatusCode.TheVariants.{AlreadyExists};
-ghost use Rattle.leveldb_base.specs.History.{placed, greatest};
+ghost use Rattle.leveldb_base.specs.History.{placed, greatest, AreRising};
 ghost use Rattle.leveldb_base.specs.Varint.{little, varint, sized};
-ghost use Rattle.leveldb_base.specs.Keys.{tag, inner_key, internal_cmp, user_part, sequence_part};
-ghost use Rattle.leveldb_base.specs.Places.{count_before};
-ghost use Rattle.leveldb_base.specs.View.{AreRising};
+ghost use Rattle.leveldb_base.specs.KeyTypes.{tag, inner_key, internal_cmp, user_part, sequence_part};
+ghost use Rattle.leveldb_base.specs.Types.{count_before};
 ghost use Rattle.leveldb_mem.specs.Batch.{item_of};
 ghost use Rattle.leveldb_mem.specs.Entries.{Gains, IsNewTo, AreNewTo, FindsNewest, HasRoom, KeepsRoom, Adds, value_length};
 ghost use Rattle.leveldb_mem.specs.MemTable.{entry_of, type_of, bytes_of_value, value_of, entry_key, entry_from, inner_value, internal_pair, memory_of_entries, Grows, GivesAt};
@@ -288,7 +287,7 @@ impl<C: UserCmp> MemTable<C> {
 
 // The bytes that spell a length, written into these.
 #[inline]
-#[tactic(auto, using(leveldb_base::specs::VarintLaws::varint_lengths))]
+#[tactic(auto, using(leveldb_base::proofs::VarintLemmas::varint_lengths))]
 fn spell_length(bytes: &mut [u8], number: usize) -> &[u8]
     requires { 10 ≤ length bytes.old }
     ensures { result.now ≡ varint number }

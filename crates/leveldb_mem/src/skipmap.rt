@@ -2,9 +2,9 @@
 ghost use Rattle.std.specs.Prelude.{◌≡◌, ◌≢◌, ◌↔◌, ◌⊎◌, ◌+◌, ◌^◌, ◌<◌, ◌≤◌, ◌==◌, true, [], ◌++◌, length, OnOk, OnErr, IfErr, IsErrAnd, Some, None, slice_get};
 ghost use Rattle.std.specs.Bool.{OnTrue, OnFalse};
 ghost use Rattle.std.specs.Option.{ForSome};
-ghost use Rattle.leveldb_base.specs.Status.{IsOutOfMemory};
+ghost use Rattle.leveldb_base.specs.Error.{IsOutOfMemory};
 ghost use Rattle.leveldb_base.specs.declared.error.StatusCode.TheVariants.{InvalidArgument, AlreadyExists};
-ghost use Rattle.leveldb_base.specs.Places.{count_before, seek_place, pair_at};
+ghost use Rattle.leveldb_base.specs.Types.{count_before, seek_position, pair_at};
 ghost use Rattle.leveldb_mem.specs.Searching.{key_at, count_while, IsParted};
 ghost use Rattle.leveldb_mem.specs.SkipMap.{IsSorted, Inserts, HasKey, key_begins, memory_of};
 
@@ -71,7 +71,7 @@ impl<C: Cmp> SkipMap<C> {
 
     /// Whether the first key at or after `key` begins with it.
     pub fn contains(&self, key: &[u8]) -> bool
-        ensures { result ≡ key_begins (pair_at self.now.pairs (seek_place (C.cmp self.now.cmp) self.now.pairs key.now)) key.now }
+        ensures { result ≡ key_begins (pair_at self.now.pairs (seek_position (C.cmp self.now.cmp) self.now.pairs key.now)) key.now }
     {
         let at = self.keys_before(key);
         at < self.pairs.len() && self.pairs.key(at).starts_with(key)
@@ -256,7 +256,7 @@ impl<'a, C: Cmp> LdbIterator for SkipMapIter<'a, C> {
 
     ghost pairs = { λ it. it.map.now.pairs };
 
-    ghost place = { λ it. it.place };
+    ghost position = { λ it. it.place };
 
     ghost order = { λ it. C.cmp it.map.now.cmp };
 

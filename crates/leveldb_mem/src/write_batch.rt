@@ -2,7 +2,7 @@
 ghost use Rattle.std.specs.Prelude.{◌≡◌, ◌↔◌, ◌⊎◌, ◌+◌, ◌^◌, ◌<◌, ◌≤◌, [], ◌∷◌, ◌++◌, length, take, drop, Some, None, IfOk, OnOk, OnErr, IfErr, IfSome, IsErrAnd, IsTrue, vec_len, vec_capacity, option_copied};
 ghost use Rattle.std.specs.Iterator.{YieldsFirstBy, item_count};
 ghost use Rattle.std.specs.Option.{SomeIff};
-ghost use Rattle.leveldb_base.specs.Status.{IsOutOfMemory};
+ghost use Rattle.leveldb_base.specs.Error.{IsOutOfMemory};
 ghost use Rattle.leveldb_base.specs.declared.error.StatusCode.TheVariants.{InvalidArgument, NotSupported};
 ghost use Rattle.leveldb_base.specs.History.{placed, greatest};
 ghost use Rattle.leveldb_base.specs.Varint.{little, sized};
@@ -258,7 +258,7 @@ fn write_count(bytes: &mut [u8], count: u32)
 
 // How many bytes the text takes behind its length, where it is within the limit.
 #[inline]
-#[tactic(auto, using(leveldb_base::specs::VarintLaws::varint_lengths))]
+#[tactic(auto, using(leveldb_base::proofs::VarintLemmas::varint_lengths))]
 fn sized_length(text: &[u8]) -> Option<usize>
     ensures length { SomeIff result (length text.now ≤ 2 ^ 30) (length (sized text.now)) }
     ensures bound { IfSome result (λ length. length ≤ 2 ^ 30 + 5) }
@@ -271,7 +271,7 @@ fn sized_length(text: &[u8]) -> Option<usize>
 
 // How many bytes the entry takes, where there is room for it.
 #[inline]
-#[tactic(auto, using(leveldb_base::specs::VarintLaws::varint_lengths))]
+#[tactic(auto, using(leveldb_base::proofs::VarintLemmas::varint_lengths))]
 fn entry_length(key: &[u8], value: Option<&[u8]>, room: usize) -> Option<usize>
     requires { room ≤ 2 ^ 30 }
     ensures { let size = length (spelling key.now (option_copied value.entry)) in SomeIff result (size ≤ room) size }
@@ -289,7 +289,7 @@ fn entry_length(key: &[u8], value: Option<&[u8]>, room: usize) -> Option<usize>
 
 // Puts the kind of an entry, and its key behind its length.
 #[inline]
-#[tactic(auto, using(leveldb_base::specs::VarintLaws::varint_lengths))]
+#[tactic(auto, using(leveldb_base::proofs::VarintLemmas::varint_lengths))]
 fn put_key(entries: &mut Vec<u8>, kind: u8, key: &[u8])
     requires { vec_len entries.old + 1 + length (sized key.now) ≤ vec_capacity entries.old }
     ensures items { entries.new.items ≡ entries.old.items ++ kind ∷ sized key.now }
@@ -303,7 +303,7 @@ fn put_key(entries: &mut Vec<u8>, kind: u8, key: &[u8])
 
 // Puts a value behind its length.
 #[inline]
-#[tactic(auto, using(leveldb_base::specs::VarintLaws::varint_lengths))]
+#[tactic(auto, using(leveldb_base::proofs::VarintLemmas::varint_lengths))]
 fn put_value(entries: &mut Vec<u8>, value: &[u8])
     requires { vec_len entries.old + length (sized value.now) ≤ vec_capacity entries.old }
     ensures { entries.new.items ≡ entries.old.items ++ sized value.now }

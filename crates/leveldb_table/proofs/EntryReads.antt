@@ -6,7 +6,7 @@ use Rattle.std.proofs.lemmas.List.{take-append-drop}
 use Rattle.std.specs.List.{IsSplitAt}
 use Rattle.byteorder.specs.Endian.{little_number}
 use Rattle.leveldb_base.specs.Varint.{varint}
-use Rattle.leveldb_base.specs.VarintLaws.{one_number}
+use Rattle.leveldb_base.proofs.VarintLemmas.{one_number}
 use Rattle.leveldb_env.specs.Numbers.{numbers_in}
 use Rattle.leveldb_env.specs.NumberLaws.{numbers_more, numbers_none}
 use Rattle.leveldb_table.specs.Block.{Entry, spelling, entry_bytes, IsShort}

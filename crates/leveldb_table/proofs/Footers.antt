@@ -4,8 +4,8 @@ use Rattle.std.proofs.lemmas.List.{take_rest, drop-drop, drop-take, drop_at, tak
 use Rattle.std.proofs.Math.Seq.{take-append_seam, drop-append_seam}
 use Rattle.std.proofs.Math.ListN.{drop_of_length-le}
 use borrow.Rule.Slice.PartMut.{put_mid}
-use Rattle.leveldb_base.specs.Handle.{Handle, HandleFits, handle_bytes, ReadsHandle}
-use Rattle.leveldb_base.specs.HandleLaws.{one_handle}
+use Rattle.leveldb_base.specs.BlockHandle.{Handle, HandleFits, handle_bytes, ReadsHandle}
+use Rattle.leveldb_base.proofs.BlockHandleLemmas.{one_handle}
 use Rattle.leveldb_table.specs.Footer.{magic, filled, footer_bytes, ReadsFooter}
 use Rattle.leveldb_table.specs.TableReading.{EndsIn}
 use Rattle.leveldb_table.specs.FooterLaws.{zeros, length-filled, length-footer_bytes}

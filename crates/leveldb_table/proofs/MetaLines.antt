@@ -9,12 +9,11 @@ use Rattle.std.proofs.Math.Numerals.{add-one}
 use Rattle.std.proofs.lemmas.Bool.{false_from_ne_true, ltb-false}
 use Rattle.std.proofs.lemmas.Option.{slice_get_past}
 use Rattle.std.proofs.lemmas.Slice.Eq.{bytes_eq-Decides}
-use Rattle.leveldb_base.specs.Bytewise.{bytewise}
-use Rattle.leveldb_base.specs.BytewiseLaws.{bytewise_preorder, bytewise_exact}
-use Rattle.leveldb_base.specs.OrderLaws.{itself_equal}
-use Rattle.leveldb_base.specs.Handle.{Handle, handle_bytes}
-use Rattle.leveldb_base.specs.HandleLaws.{one_handle}
-use Rattle.leveldb_base.specs.Places.{Pair, count_before, seek_place, pair_at}
+use Rattle.leveldb_base.specs.Cmp.{bytewise}
+use Rattle.leveldb_base.specs.CmpLaws.{bytewise_preorder, bytewise_exact, itself_equal}
+use Rattle.leveldb_base.specs.BlockHandle.{Handle, handle_bytes}
+use Rattle.leveldb_base.proofs.BlockHandleLemmas.{one_handle}
+use Rattle.leveldb_base.specs.Types.{Pair, count_before, seek_position, pair_at}
 use Rattle.leveldb_table.specs.Block.{RiseBehind, KeysRise}
 use Rattle.leveldb_table.specs.Table.{first_from}
 use Rattle.leveldb_table.specs.TableReading.{SaysHandle, HasFiltersBy, IsFiltersAt}
@@ -33,7 +32,7 @@ counted cmp key (pair ∷ pairs) =
     [ true ↦ ap (slice_get (pair ∷ pairs)) (add-one (count_before cmp key pairs)) ∙ counted cmp key pairs | false ↦ refl ]
 
 -- it is the first at or after the key
-pub sought : (cmp : List ℕ → List ℕ → Ordering) (key : List ℕ) (pairs : List Pair) → pair_at pairs (seek_place cmp pairs key) ≡ first_from cmp key pairs
+pub sought : (cmp : List ℕ → List ℕ → Ordering) (key : List ℕ) (pairs : List Pair) → pair_at pairs (seek_position cmp pairs key) ≡ first_from cmp key pairs
 sought cmp key pairs = at_within pairs (count_before cmp key pairs) (nat_lt (count_before cmp key pairs) (length pairs)) refl ∙ counted cmp key pairs
 
 -- ---- the value under a key

@@ -8,7 +8,7 @@ use Rattle.std.proofs.lemmas.Bool.{cases_lt}
 use Rattle.std.proofs.lemmas.Bool.Decides.{nat_tests}
 use Rattle.std.proofs.lemmas.List.{take_at, drop_at}
 use Rattle.std.proofs.lemmas.Option.{slice_get_within}
-use Rattle.leveldb_base.specs.Places.{Pair, place_within, next_place, previous_place, count_before, seek_place}
+use Rattle.leveldb_base.specs.Types.{Pair, position_within, next_position, previous_position, count_before, seek_position}
 use Rattle.leveldb_base.specs.Varint.{little, varint}
 use Rattle.leveldb_table.specs.Block.{Entry, spelling, entry_bytes, key_of, pairs_of, IsShort, AreEntries, restart_points, block_bytes, IsHeld}
 use Rattle.leveldb_table.specs.BlockLaws.{one_entry, length-entry_bytes-ge}
@@ -189,10 +189,10 @@ point_within (entry ∷ entries) f point p some = start_within f (loads_point f.
 
 -- ---- places
 
-place_in : (pairs : List Pair) (n : ℕ) → n < length pairs → place_within pairs n ≡ Some n
+place_in : (pairs : List Pair) (n : ℕ) → n < length pairs → position_within pairs n ≡ Some n
 place_in pairs n h = let t : nat_lt n (length pairs) ≡ true = grind (arith, nat_tests) in ap (λ b. if b then Some n else None) t
 
-place_out : (pairs : List Pair) (n : ℕ) → length pairs ≤ n → place_within pairs n ≡ None
+place_out : (pairs : List Pair) (n : ℕ) → length pairs ≤ n → position_within pairs n ≡ None
 place_out pairs n h = let t : nat_lt n (length pairs) ≡ false = grind (arith, nat_tests) in ap (λ b. if b then Some n else None) t
 
 -- the place of an entry, by where it begins
@@ -219,7 +219,7 @@ pub record IsNext (entries : List Entry) (key : List ℕ) (limit : ℕ) (spot : 
   pub index : ℕ
   pub within : index ≤ length entries
   pub begins : next ≡ start_of entries index
-  pub place : next_place (pairs_of None entries) (place_of entries spot) ≡ place_within (pairs_of None entries) index
+  pub place : next_position (pairs_of None entries) (place_of entries spot) ≡ position_within (pairs_of None entries) index
   pub loads : index < length entries → Loads entries key next
 
 pub is_next : {bytes : List ℕ} {limit : ℕ} {entries : List Entry} → Fronts bytes limit entries → (key : List ℕ) (spot : Option Spot) (next : ℕ) → IsWithin bytes entries key spot → MatchOption spot (next ≡ 0) (λ there. next ≡ there.next) → IsNext entries key limit spot next
@@ -237,7 +237,7 @@ is_next {bytes} {limit} {entries} f key (Some spot) next h e =
       index = suc i;
       within = omega (arith, inside);
       begins = e ∙ h.ends;
-      place = let more : i + 1 ≡ suc i = omega arith in ap (place_within (pairs_of None entries)) more;
+      place = let more : i + 1 ≡ suc i = omega arith in ap (position_within (pairs_of None entries)) more;
       loads = λ some. loads_next f.allowed key i next (slice_range bytes spot.value spot.next) some (e ∙ h.ends) h.pair;
     }
 
@@ -254,14 +254,14 @@ module _ {bytes : List ℕ} {limit : ℕ} {entries : List Entry} (f : Fronts byt
       ]
 
   -- at the end there is no place
-  pub next_ends : next ≡ limit → None ≡ next_place (pairs_of None entries) (place_of entries spot)
+  pub next_ends : next ≡ limit → None ≡ next_position (pairs_of None entries) (place_of entries spot)
   next_ends e =
       let b = n.begins in
       let same = same_start entries n.index (length entries) n.within (omega arith) (sym b ∙ e ∙ f.ends ∙ sym (start-end entries)) in
       sym (n.place ∙ place_out (pairs_of None entries) n.index (omega (arith, same, length-pairs_of None entries)))
 
   -- the entry that is loaded is the next place
-  pub next_reached : (after : Option Spot) (next_key : List ℕ) (behind : ℕ) → (next ≡ limit → ⊥) → StandsBetween bytes entries next_key after next behind → place_of entries after ≡ next_place (pairs_of None entries) (place_of entries spot)
+  pub next_reached : (after : Option Spot) (next_key : List ℕ) (behind : ℕ) → (next ≡ limit → ⊥) → StandsBetween bytes entries next_key after next behind → place_of entries after ≡ next_position (pairs_of None entries) (place_of entries spot)
   next_reached after next_key behind not_end h =
       elim (cases_lt n.index (length entries)) [
         | inl less ↦
@@ -281,7 +281,7 @@ pub record IsHere (entries : List Entry) (spot : Option Spot) (start : ℕ) : Ty
   pub within : index ≤ length entries
   pub begins : start ≡ start_of entries index
   pub place : 0 < start → place_of entries spot ≡ Some index
-  pub none : start ≡ 0 → previous_place (place_of entries spot) ≡ None
+  pub none : start ≡ 0 → previous_position (place_of entries spot) ≡ None
 
 begun-zero : (entries : List Entry) → begun 0 entries ≡ 0
 begun-zero [] = refl
@@ -304,7 +304,7 @@ is_here {bytes} {limit} {entries} f key (Some spot) start h e =
       place = λ _. refl;
       none = λ zero_start.
           let first : begun spot.start entries ≡ 0 = ap (λ z. begun z entries) (sym e ∙ zero_start) ∙ begun-zero entries in
-          ap (λ z. previous_place (Some z)) first;
+          ap (λ z. previous_position (Some z)) first;
     }
 
 module _ {bytes : List ℕ} {limit : ℕ} {entries : List Entry} (f : Fronts bytes limit entries) {spot : Option Spot} {start : ℕ} (h : IsHere entries spot start) (some : 0 < start) where
@@ -312,20 +312,20 @@ module _ {bytes : List ℕ} {limit : ℕ} {entries : List Entry} (f : Fronts byt
   positive zero e = absurd (omega (arith, some, e))
   positive (suc n) e = (n, refl)
 
-  previous : (n : ℕ) → previous_place (Some (suc n)) ≡ Some n
+  previous : (n : ℕ) → previous_position (Some (suc n)) ≡ Some n
   previous n =
       let t : nat_lt 0 (suc n) ≡ true = grind (arith, nat_tests) in
       let back : suc n - 1 ≡ n = omega arith in
       ap (λ b. if b then Some (suc n - 1) else None) t ∙ ap (λ z. Some z) back
 
   -- the entry that ends there is the place before
-  pub previous_reached : (after : Option Spot) (key : List ℕ) → StandsBefore bytes entries key after start → place_of entries after ≡ previous_place (place_of entries spot)
+  pub previous_reached : (after : Option Spot) (key : List ℕ) → StandsBefore bytes entries key after start → place_of entries after ≡ previous_position (place_of entries spot)
   previous_reached after key there =
       let b = h.begins in let w = h.within in
       let index = positive h.index b in
       let n = index.0 in let is = index.1 in
       place_before f key after start n there (omega (arith, is, w)) (b ∙ ap (start_of entries) is)
-      ∙ sym (ap previous_place (h.place some ∙ ap (λ z. Some z) is) ∙ previous n)
+      ∙ sym (ap previous_position (h.place some ∙ ap (λ z. Some z) is) ∙ previous n)
 
 -- ---- the last
 
@@ -418,7 +418,7 @@ module _ {cmp : List ℕ → List ℕ → Ordering} {bytes : List ℕ} {limit : 
   seeks_loads less = seeks.loads (inside less)
 
   -- no entry is left
-  pub seeks_ends : limit ≤ next → None ≡ seek_place cmp (pairs_of None entries) target
+  pub seeks_ends : limit ≤ next → None ≡ seek_position cmp (pairs_of None entries) target
   seeks_ends ends =
       let b = seeks.begins in let e = f.ends in let w = seeks.within in let c = seeks.before in
       let all : length entries ≤ seeks.index = elim (cases_lt seeks.index (length entries)) [
@@ -458,11 +458,11 @@ module _ {cmp : List ℕ → List ℕ → Ordering} {bytes : List ℕ} {limit : 
         )
 
     -- the entry's key isn't before the target: it is found
-    pub seeks_found : StandsBetween bytes entries next_key spot next after → is_lt (cmp next_key target) ≡ false → place_of entries spot ≡ seek_place cmp (pairs_of None entries) target
+    pub seeks_found : StandsBetween bytes entries next_key spot next after → is_lt (cmp next_key target) ≡ false → place_of entries spot ≡ seek_position cmp (pairs_of None entries) target
     seeks_found h ge =
         let at = at_spot spot h in
         let i = inside less in
         let count = count_stops cmp target (pairs_of None entries) seeks.index next_key at.0 seeks.before at.1 ge in
         place_at bytes entries next_key spot next after seeks.index h seeks.within seeks.begins
         ∙ sym (place_in (pairs_of None entries) seeks.index (omega (arith, i, length-pairs_of None entries)))
-        ∙ ap (place_within (pairs_of None entries)) (sym count)
+        ∙ ap (position_within (pairs_of None entries)) (sym count)

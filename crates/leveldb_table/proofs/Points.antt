@@ -8,8 +8,8 @@ use Rattle.std.specs.declared.cmp.Ordering.TheVariants.{Less, Equal, Greater}
 use Rattle.std.proofs.lemmas.List.{drop_at, drop-drop}
 use Rattle.std.proofs.lemmas.List.Elements.{All-head, All-tail}
 use Rattle.byteorder.specs.Endian.{little_number}
-use Rattle.leveldb_base.specs.Order.{IsPreorderOn}
-use Rattle.leveldb_base.specs.Places.{Pair, count_before}
+use Rattle.leveldb_base.specs.Cmp.{IsPreorderOn}
+use Rattle.leveldb_base.specs.Types.{Pair, count_before}
 use Rattle.leveldb_base.specs.Varint.{little}
 use Rattle.leveldb_env.specs.NumberLaws.{length-fours, number_at}
 use Rattle.leveldb_table.specs.Block.{Entry, entry_bytes, pairs_of, RiseBehind, KeysRise, restart_points, block_bytes, IsHeld}

@@ -6,9 +6,9 @@ use Rattle.std.specs.declared.cmp.Ordering.{Ordering}
 use Rattle.std.specs.declared.cmp.Ordering.TheVariants.{Less, Equal, Greater}
 use Rattle.std.specs.Ordering.{is_lt, ordering_reverse, ordering_then, nat_cmp}
 use Rattle.std.proofs.lemmas.Bool.{and_parts}
-use Rattle.leveldb_base.specs.Keys.{internal_accepts, internal_cmp, sequence_part, user_part}
-use Rattle.leveldb_base.specs.Order.{IsPreorderOn}
-use Rattle.leveldb_base.specs.Places.{Pair}
+use Rattle.leveldb_base.specs.Cmp.{internal_accepts, IsPreorderOn}
+use Rattle.leveldb_base.specs.KeyTypes.{internal_cmp, sequence_part, user_part}
+use Rattle.leveldb_base.specs.Types.{Pair}
 use Rattle.leveldb_env.specs.Coders.{Codings}
 use Rattle.leveldb_env.specs.FilterBlock.{passes}
 use Rattle.leveldb_table.specs.Block.{RiseBehind, KeysRise}

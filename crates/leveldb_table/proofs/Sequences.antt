@@ -1,7 +1,7 @@
 -- Entries one behind the other: their pairs, and the last of their keys.
 use Rattle.std.proofs.Common.{◌≡◌, ℕ, List, [], ◌∷◌, ◌++◌, length, Option, None, Some, refl, ap, arith}
 use Rattle.std.specs.declared.cmp.Ordering.{Ordering}
-use Rattle.leveldb_base.specs.Places.{Pair}
+use Rattle.leveldb_base.specs.Types.{Pair}
 use Rattle.leveldb_table.specs.Block.{Entry, key_of, pairs_of, AreEntries, RiseBehind}
 use Rattle.leveldb_table.specs.Walk.{last_key}
 

@@ -1,6 +1,6 @@
 -- What follows from how a pair is added and why one is refused.
 use Rattle.std.proofs.Common.{◌≡◌, ◌≢◌, ℕ, ◌<◌, ◌≤◌, true, refl, List, [], ◌∷◌, length, Result, Ok, Err, inl, inr, ◌⊎◌, ap, subst, arith}
-use Rattle.leveldb_base.specs.Places.{Pair}
+use Rattle.leveldb_base.specs.Types.{Pair}
 use Rattle.leveldb_base.specs.declared.cmp.Cmp.{Ghosts as CmpGhosts}
 use Rattle.leveldb_base.specs.declared.error.Status.{Status}
 use Rattle.leveldb_env.specs.Coders.{Codings}

@@ -5,9 +5,9 @@ use Rattle.std.specs.Cmp.Lexicographic.{same_text}
 use Rattle.std.specs.declared.cmp.Ordering.{Ordering}
 use Rattle.byteorder.specs.Endian.{little_number}
 use Rattle.byteorder.specs.Numbers.{length-bytes_low_first, little_number-reads_back}
-use Rattle.leveldb_base.specs.Handle.{Handle}
+use Rattle.leveldb_base.specs.BlockHandle.{Handle}
 use Rattle.leveldb_base.specs.Varint.{little}
-use Rattle.leveldb_base.specs.VarintLaws.{apart}
+use Rattle.leveldb_base.proofs.VarintLemmas.{apart}
 use Rattle.leveldb_base.specs.declared.cmp.Cmp.{Ghosts as CmpGhosts}
 use Rattle.leveldb_env.specs.Coders.{Codings, Decodes}
 use Rattle.leveldb_table.specs.Cache.{Cached, value_of, others, looked_for, put_first}

@@ -5,9 +5,9 @@ use Rattle.std.specs.List.{AllByRecursion}
 use Rattle.std.specs.Option.{option_map_or}
 use Rattle.std.specs.declared.cmp.Ordering.{Ordering}
 use Rattle.std.specs.declared.cmp.Ordering.TheVariants.{Less, Equal, Greater}
-use Rattle.leveldb_base.specs.Order.{IsPreorderOn, IsSeparator}
-use Rattle.leveldb_base.specs.OrderLaws.{itself_equal}
-use Rattle.leveldb_base.specs.Places.{Pair}
+use Rattle.leveldb_base.specs.Cmp.{IsPreorderOn, IsSeparator}
+use Rattle.leveldb_base.specs.CmpLaws.{itself_equal}
+use Rattle.leveldb_base.specs.Types.{Pair}
 use Rattle.leveldb_env.specs.FilterBlock.{Building, IsKept, KeepsKeys, finished, passes}
 use Rattle.leveldb_table.specs.Block.{RiseBehind, KeysRise}
 use Rattle.leveldb_table.specs.Built.{last_added}

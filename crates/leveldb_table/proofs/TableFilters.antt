@@ -6,7 +6,7 @@ use Rattle.std.proofs.lemmas.Bool.Decides.{eqb_tells}
 use Rattle.std.proofs.lemmas.List.{append-nil}
 use Rattle.std.proofs.lemmas.List.Concat.{flat_map-append}
 use Rattle.std.specs.List.{AllByRecursion}
-use Rattle.leveldb_base.specs.Places.{Pair}
+use Rattle.leveldb_base.specs.Types.{Pair}
 use Rattle.leveldb_env.specs.FilterBlock.{Building, filter_of, with_filters, started}
 use Rattle.leveldb_table.specs.Table.{Part, AreLinked, blocks_len, keys_for, filters_before}
 use Rattle.leveldb_table.proofs.TableOrders.{all_append, all_with}

@@ -6,8 +6,8 @@ use Rattle.std.proofs.lemmas.List.Concat.{flat_map-append}
 use Rattle.std.specs.List.{AllByRecursion}
 use Rattle.std.specs.declared.cmp.Ordering.{Ordering}
 use Rattle.std.specs.declared.cmp.Ordering.TheVariants.{Less}
-use Rattle.leveldb_base.specs.Handle.{Handle, handle_bytes}
-use Rattle.leveldb_base.specs.Places.{Pair}
+use Rattle.leveldb_base.specs.BlockHandle.{Handle, handle_bytes}
+use Rattle.leveldb_base.specs.Types.{Pair}
 use Rattle.leveldb_env.specs.FilterBlock.{Building, with_key, started, IsKept, KeepsKeys}
 use Rattle.leveldb_table.specs.Block.{Entry, pairs_of, KeysRise}
 use Rattle.leveldb_table.specs.Built.{last_added, block_made}

@@ -2,7 +2,7 @@
 use Rattle.std.proofs.Common.{◌≡◌, ℕ, Bool, true, false, if◌then◌else◌, List, Option, None, Some, Result, Ok, Err, refl, sym, ◌∙◌}
 use Rattle.std.specs.Prelude.{IfOk}
 use Rattle.std.specs.declared.cmp.Ordering.{Ordering}
-use Rattle.leveldb_base.specs.Places.{seek_place, pair_at}
+use Rattle.leveldb_base.specs.Types.{seek_position, pair_at}
 use Rattle.leveldb_base.specs.declared.cmp.Cmp.{Ghosts as CmpGhosts}
 use Rattle.leveldb_table.specs.Table.{Part, first_from, named_part}
 use Rattle.leveldb_table.specs.TableEnters.{let_place}
@@ -17,11 +17,11 @@ ok_says (Ok answer) says h = says answer h
 ok_says (Err error) says h = tt
 
 module _ (cmp : List ℕ → List ℕ → Ordering) (lets : ℕ → List ℕ → Bool) (key : List ℕ) (parts : List Part) where
-  at_passed : (b : Bool) → pair_at (pairs_in parts) (if b then seek_place cmp (pairs_in parts) key else None) ≡ (if b then first_from cmp key (pairs_in parts) else None)
+  at_passed : (b : Bool) → pair_at (pairs_in parts) (if b then seek_position cmp (pairs_in parts) key else None) ≡ (if b then first_from cmp key (pairs_in parts) else None)
   at_passed true = sym (first_is cmp key (pairs_in parts))
   at_passed false = refl
 
-  at_named : (named : Option Part) → pair_at (pairs_in parts) (elim named [ None ↦ None | Some part ↦ if lets part.handle.offset key then seek_place cmp (pairs_in parts) key else None ])
+  at_named : (named : Option Part) → pair_at (pairs_in parts) (elim named [ None ↦ None | Some part ↦ if lets part.handle.offset key then seek_position cmp (pairs_in parts) key else None ])
       ≡ elim named [ None ↦ None | Some part ↦ if lets part.handle.offset key then first_from cmp key (pairs_in parts) else None ]
   at_named None = refl
   at_named (Some part) = at_passed (lets part.handle.offset key)

@@ -5,9 +5,9 @@ use Rattle.std.specs.Prelude.{IfSome, ◌/◌}
 use Rattle.std.specs.List.{AllByRecursion}
 use Rattle.std.specs.declared.cmp.Ordering.{Ordering}
 use Rattle.std.specs.declared.cmp.Ordering.TheVariants.{Greater}
-use Rattle.leveldb_base.specs.Handle.{Handle, handle_bytes}
-use Rattle.leveldb_base.specs.Order.{IsPreorderOn, IsSeparator, IsSuccessor}
-use Rattle.leveldb_base.specs.Places.{Pair}
+use Rattle.leveldb_base.specs.BlockHandle.{Handle, handle_bytes}
+use Rattle.leveldb_base.specs.Cmp.{IsPreorderOn, IsSeparator, IsSuccessor}
+use Rattle.leveldb_base.specs.Types.{Pair}
 use Rattle.leveldb_env.specs.Coders.{Codings, Decodes}
 use Rattle.leveldb_env.specs.FilterBlock.{finished, KeepsKeys}
 use Rattle.leveldb_table.specs.Block.{IsBlock}

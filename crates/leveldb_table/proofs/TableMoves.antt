@@ -3,9 +3,9 @@ use Rattle.std.proofs.Common.{◌≡◌, ◌≢◌, ℕ, ◌<◌, true, false, L
 use Rattle.std.specs.Prelude.{OnOk, OnErr, IsErrAnd, is_some}
 use Rattle.std.specs.declared.cmp.Ordering.{Ordering}
 use Rattle.std.proofs.lemmas.Option.{slice_get-get_or}
-use Rattle.leveldb_base.specs.Handle.{Handle, handle_bytes}
-use Rattle.leveldb_base.specs.HandleLaws.{one_handle}
-use Rattle.leveldb_base.specs.Places.{Pair, IsPlace, place_within, next_place, pair_at}
+use Rattle.leveldb_base.specs.BlockHandle.{Handle, handle_bytes}
+use Rattle.leveldb_base.proofs.BlockHandleLemmas.{one_handle}
+use Rattle.leveldb_base.specs.Types.{Pair, IsPosition, position_within, next_position, pair_at}
 use Rattle.leveldb_base.specs.declared.cmp.Cmp.{Ghosts as CmpGhosts}
 use Rattle.leveldb_base.specs.declared.error.Status.{Status}
 use Rattle.leveldb_env.specs.declared.env.Env.{Ghosts as EnvGhosts}
@@ -81,11 +81,11 @@ lacks_part {codings} {cmp} {bytes} {status = status} part (lacking handle names 
 
 -- ---- places
 
-first_in : (pairs : List Pair) → pairs ≢ [] → place_within pairs 0 ≡ Some 0
+first_in : (pairs : List Pair) → pairs ≢ [] → position_within pairs 0 ≡ Some 0
 first_in [] some = absurd (some refl)
 first_in (pair ∷ pairs) some = place_in (pair ∷ pairs) 0 (omega arith)
 
-pub first_none : (pairs : List Pair) → place_within pairs 0 ≡ None → pairs ≡ []
+pub first_none : (pairs : List Pair) → position_within pairs 0 ≡ None → pairs ≡ []
 first_none [] none = refl
 first_none (pair ∷ pairs) none = absurd (some_none (sym (place_in (pair ∷ pairs) 0 (omega arith)) ∙ none))
 
@@ -94,12 +94,12 @@ stands_along parts place {line} {other} {pairs} {others} {inner} {spot} l p i s 
     subst (λ z. StandsAt parts z pairs inner place) (sym l) (subst (λ z. StandsAt parts other z inner place) (sym p) (subst (λ z. StandsAt parts other others z place) (sym i) s))
 
 -- from no place, the next block is the first
-pub behind_none : (parts : List Part) (line at : Option ℕ) (pairs : List Pair) (inner place : Option ℕ) → line ≡ None → inner ≡ None → StandsAt parts at pairs inner place → IsBehind parts line (next_place (pairs_in parts) place)
-behind_none parts line at pairs inner None none out stands = record { before = []; behind = parts; parted = refl; next = ap (next_place (map index_pair parts)) none; to = refl }
+pub behind_none : (parts : List Part) (line at : Option ℕ) (pairs : List Pair) (inner place : Option ℕ) → line ≡ None → inner ≡ None → StandsAt parts at pairs inner place → IsBehind parts line (next_position (pairs_in parts) place)
+behind_none parts line at pairs inner None none out stands = record { before = []; behind = parts; parted = refl; next = ap (next_position (map index_pair parts)) none; to = refl }
 behind_none parts line at pairs inner (Some n) none out stands = absurd (some_none (sym stands.at_place ∙ out))
 
 -- and from the last pair of a block, the one behind it
-pub behind_last : (parts : List Part) (line : Option ℕ) (pairs : List Pair) (inner place : Option ℕ) → inner ≢ None → next_place pairs inner ≡ None → StandsAt parts line pairs inner place → IsBehind parts line (next_place (pairs_in parts) place)
+pub behind_last : (parts : List Part) (line : Option ℕ) (pairs : List Pair) (inner place : Option ℕ) → inner ≢ None → next_position pairs inner ≡ None → StandsAt parts line pairs inner place → IsBehind parts line (next_position (pairs_in parts) place)
 behind_last parts line pairs inner None some last at = absurd (some at)
 behind_last parts line pairs inner (Some n) some last at = behind_block at last
 
@@ -118,7 +118,7 @@ module _ {C : Type 0} {order : CmpGhosts C} where
   block_lines walk other e = ap (λ (b : Block C order). pairs_of None b.held.0) e
 
   within_lines : (index : BlockWalk C order) (i : ℕ) → place_over index ≡ Some i → i < length (pairs_over index)
-  within_lines index i e = let P : Option ℕ → Type 0 = IsPlace (pairs_over index) in subst P e (IsWithin-place index.block.contents index.block.held.0 index.core.key.items index.core.spot index.within)
+  within_lines index i e = let P : Option ℕ → Type 0 = IsPosition (pairs_over index) in subst P e (IsWithin-place index.block.contents index.block.held.0 index.core.key.items index.core.spot index.within)
 
   pub line_is_of : {codings : Codings} {cmp : List ℕ → List ℕ → Ordering} {bytes : List ℕ} {parts : List Part} (index : BlockWalk C order) → HasParts codings cmp bytes parts → pairs_over index ≡ map index_pair parts
       → is_some (place_over index) ≡ true → IsLineOf codings cmp bytes parts index
@@ -185,13 +185,13 @@ module _ {C : Type 0} {order : CmpGhosts C} where
   module _ {codings : Codings} {cmp : List ℕ → List ℕ → Ordering} {bytes : List ℕ} {parts : List Part} {place : Option ℕ} {old : TableCore C order} (has : HasParts codings cmp bytes parts)
       (behind : IsBehind parts (place_over old.index) place) (indexed : IsIndexed cmp parts old) where
     -- to its first pair
-    pub next_stands : (new : TableCore C order) → IsInto codings cmp bytes (next_place (pairs_over old.index) (place_over old.index)) (λ pairs. place_within pairs 0) old new → (inner_place new.inner ≡ Some 0) × Stands cmp parts new place
+    pub next_stands : (new : TableCore C order) → IsInto codings cmp bytes (next_position (pairs_over old.index) (place_over old.index)) (λ pairs. position_within pairs 0) old new → (inner_place new.inner ≡ Some 0) × Stands cmp parts new place
     next_stands new next =
         let lines = next.lines ∙ indexed.lines in
         let at = line_is_of new.index has lines next.some in
-        let line : next_place (map index_pair parts) (place_over old.index) ≡ Some at.i = ap (λ z. next_place z (place_over old.index)) (sym indexed.lines) ∙ sym next.at_line ∙ at.at_line in
+        let line : next_position (map index_pair parts) (place_over old.index) ≡ Some at.i = ap (λ z. next_position z (place_over old.index)) (sym indexed.lines) ∙ sym next.at_line ∙ at.at_line in
         let pairs = part_pairs codings new.inner at.is (subst (λ l. IsBlockOf codings cmp bytes l (inner_block new.inner)) at.line next.block) in
-        let first : inner_place new.inner ≡ Some 0 = next.place ∙ ap (λ z. place_within z 0) pairs ∙ first_in at.part.pairs at.is.some in (
+        let first : inner_place new.inner ≡ Some 0 = next.place ∙ ap (λ z. position_within z 0) pairs ∙ first_in at.part.pairs at.is.some in (
           first,
           record {
             lines = lines;

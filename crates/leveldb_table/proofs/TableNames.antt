@@ -6,16 +6,16 @@ use Rattle.std.proofs.lemmas.Bool.Decides.{nat_tests}
 use Rattle.std.proofs.lemmas.Option.{slice_get_past}
 use Rattle.std.specs.Ordering.{is_lt}
 use Rattle.std.specs.declared.cmp.Ordering.{Ordering}
-use Rattle.leveldb_base.specs.Handle.{Handle, handle_bytes}
-use Rattle.leveldb_base.specs.HandleLaws.{one_handle}
-use Rattle.leveldb_base.specs.Places.{Pair, place_within, count_before, seek_place, pair_at}
+use Rattle.leveldb_base.specs.BlockHandle.{Handle, handle_bytes}
+use Rattle.leveldb_base.proofs.BlockHandleLemmas.{one_handle}
+use Rattle.leveldb_base.specs.Types.{Pair, position_within, count_before, seek_position, pair_at}
 use Rattle.leveldb_base.specs.declared.cmp.Cmp.{Ghosts as CmpGhosts}
 use Rattle.leveldb_table.specs.Block.{pairs_of}
 use Rattle.leveldb_table.specs.Table.{Part, index_pair, named_part, offset_for}
 use Rattle.leveldb_table.specs.declared.block.Block.{Block}
 
 -- a place that the list may have
-pair_within : (pairs : List Pair) (i : ℕ) → pair_at pairs (place_within pairs i) ≡ slice_get pairs i
+pair_within : (pairs : List Pair) (i : ℕ) → pair_at pairs (position_within pairs i) ≡ slice_get pairs i
 pair_within pairs i = (elim (nat_lt i (length pairs)) as (λ b. nat_lt i (length pairs) ≡ b → pair_at pairs (if b then Some i else None) ≡ slice_get pairs i) [
   | true ↦ λ here. refl
   | false ↦ λ none. (let past : length pairs ≤ i = grind (arith, nat_tests) in sym (slice_get_past pairs i past))
@@ -32,9 +32,9 @@ module _ (cmp : List ℕ → List ℕ → Ordering) (key : List ℕ) where
       ]
 
   -- a search goes to the named block's line
-  pub named_line : (lines : List Pair) (parts : List Part) → lines ≡ map index_pair parts → pair_at lines (seek_place cmp lines key) ≡ option_map index_pair (named_part cmp key parts)
+  pub named_line : (lines : List Pair) (parts : List Part) → lines ≡ map index_pair parts → pair_at lines (seek_position cmp lines key) ≡ option_map index_pair (named_part cmp key parts)
   named_line lines parts e =
-      ap (λ pairs. pair_at pairs (seek_place cmp pairs key)) e ∙ pair_within (map index_pair parts) (count_before cmp key (map index_pair parts)) ∙ counted parts
+      ap (λ pairs. pair_at pairs (seek_position cmp pairs key)) e ∙ pair_within (map index_pair parts) (count_before cmp key (map index_pair parts)) ∙ counted parts
 
   -- what all blocks have, the named one has
   pub named_has : (P : Part → Type 0) (parts : List Part) → AllByRecursion P parts → IfSome (named_part cmp key parts) P
@@ -48,7 +48,7 @@ module _ (cmp : List ℕ → List ℕ → Ordering) (key : List ℕ) where
   named_one P parts all there = subst (λ named. IfSome named P) there (named_has P parts all)
 
   -- no line is found
-  pub names_none : (lines : List Pair) (parts : List Part) → lines ≡ map index_pair parts → pair_at lines (seek_place cmp lines key) ≡ None → named_part cmp key parts ≡ None
+  pub names_none : (lines : List Pair) (parts : List Part) → lines ≡ map index_pair parts → pair_at lines (seek_position cmp lines key) ≡ None → named_part cmp key parts ≡ None
   names_none lines parts e none = (elim (named_part cmp key parts) as (λ named. option_map index_pair named ≡ None → named ≡ None) [
     | None ↦ λ same. refl
     | Some part ↦ λ same. cc
@@ -60,7 +60,7 @@ module _ (cmp : List ℕ → List ℕ → Ordering) (key : List ℕ) where
     pub named : named_part cmp key parts ≡ Some part
     pub spelled : index_pair part ≡ line
 
-  pub names_some : (lines : List Pair) (parts : List Part) (line : Pair) → lines ≡ map index_pair parts → pair_at lines (seek_place cmp lines key) ≡ Some line → Named parts line
+  pub names_some : (lines : List Pair) (parts : List Part) (line : Pair) → lines ≡ map index_pair parts → pair_at lines (seek_position cmp lines key) ≡ Some line → Named parts line
   names_some lines parts line e found = (elim (named_part cmp key parts) as (λ named. named_part cmp key parts ≡ named → option_map index_pair named ≡ Some line → Named parts line) [
     | None ↦ λ none same. absurd (cc)
     | Some part ↦ λ there same. record { part = part; named = there; spelled = cc }
@@ -80,7 +80,7 @@ whole_is g h e = (one_handle g h [] [] (append-nil (handle_bytes g) ∙ e ∙ sy
 module _ {C : Type 0} {order : CmpGhosts C} where
   -- what a walk over an index finds, as a search in its lines
   pub sought : {block index : Block C order} {pairs : List Pair} {place : Option ℕ} (key : List ℕ) → block ≡ index → pairs ≡ pairs_of None block.held.0
-      → place ≡ seek_place (order.cmp block.cmp) (pairs_of None block.held.0) key → pair_at pairs place ≡ pair_at (pairs_of None index.held.0) (seek_place (order.cmp index.cmp) (pairs_of None index.held.0) key)
+      → place ≡ seek_position (order.cmp block.cmp) (pairs_of None block.held.0) key → pair_at pairs place ≡ pair_at (pairs_of None index.held.0) (seek_position (order.cmp index.cmp) (pairs_of None index.held.0) key)
   sought {block} {place = place} key e same at =
       ap (λ lines. pair_at lines place) same ∙ ap (pair_at (pairs_of None block.held.0)) at
-      ∙ ap (λ (there : Block C order). pair_at (pairs_of None there.held.0) (seek_place (order.cmp there.cmp) (pairs_of None there.held.0) key)) e
+      ∙ ap (λ (there : Block C order). pair_at (pairs_of None there.held.0) (seek_position (order.cmp there.cmp) (pairs_of None there.held.0) key)) e

@@ -8,10 +8,10 @@ use Rattle.std.specs.declared.cmp.Ordering.{Ordering}
 use Rattle.std.proofs.lemmas.Bool.{cases_eq}
 use Rattle.std.proofs.lemmas.List.{take_all}
 use Rattle.std.proofs.lemmas.Slice.Eq.{bytes_eq-Decides}
-use Rattle.leveldb_base.specs.Bytewise.{bytewise}
-use Rattle.leveldb_base.specs.Handle.{Handle, HandleFits, handle_bytes}
-use Rattle.leveldb_base.specs.VarintLaws.{apart_right}
-use Rattle.leveldb_base.specs.Places.{Pair}
+use Rattle.leveldb_base.specs.Cmp.{bytewise}
+use Rattle.leveldb_base.specs.BlockHandle.{Handle, HandleFits, handle_bytes}
+use Rattle.leveldb_base.proofs.VarintLemmas.{apart_right}
+use Rattle.leveldb_base.specs.Types.{Pair}
 use Rattle.leveldb_base.specs.declared.error.Status.{Status}
 use Rattle.leveldb_base.specs.declared.error.StatusCode.TheVariants.{Corruption}
 use Rattle.leveldb_env.specs.declared.env.Env.{Ghosts}

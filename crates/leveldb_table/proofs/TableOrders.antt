@@ -4,9 +4,9 @@ use Rattle.std.specs.List.{AllByRecursion}
 use Rattle.std.specs.declared.cmp.Ordering.{Ordering}
 use Rattle.std.specs.declared.cmp.Ordering.TheVariants.{Less, Equal, Greater}
 use Rattle.std.specs.Ordering.{ordering_reverse}
-use Rattle.leveldb_base.specs.Order.{IsPreorderOn}
-use Rattle.leveldb_base.specs.OrderLaws.{alike_right}
-use Rattle.leveldb_base.specs.Places.{Pair}
+use Rattle.leveldb_base.specs.Cmp.{IsPreorderOn}
+use Rattle.leveldb_base.specs.CmpLaws.{alike_right}
+use Rattle.leveldb_base.specs.Types.{Pair}
 use Rattle.leveldb_table.specs.Block.{RiseBehind, KeysRise}
 use Rattle.leveldb_table.specs.Built.{last_added}
 

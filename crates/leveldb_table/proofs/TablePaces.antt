@@ -2,8 +2,8 @@
 use Rattle.std.proofs.Common.{◌≡◌, ◌≢◌, ℕ, ◌+◌, ◌<◌, Bool, true, false, List, [], ◌∷◌, length, Option, None, Some, Ok, Err, refl, sym, ◌∙◌, ap, subst, inl, inr, arith}
 use Rattle.std.specs.Prelude.{is_some}
 use Rattle.std.specs.declared.cmp.Ordering.{Ordering}
-use Rattle.leveldb_base.specs.Handle.{Handle, HandleFits}
-use Rattle.leveldb_base.specs.Places.{Pair, IsPlace, place_within, next_place, previous_place, seek_place, pair_at}
+use Rattle.leveldb_base.specs.BlockHandle.{Handle, HandleFits}
+use Rattle.leveldb_base.specs.Types.{Pair, IsPosition, position_within, next_position, previous_position, seek_position, pair_at}
 use Rattle.leveldb_base.specs.declared.cmp.Cmp.{Ghosts as CmpGhosts}
 use Rattle.leveldb_base.specs.declared.error.Status.{Status}
 use Rattle.leveldb_base.specs.declared.error.StatusCode.TheVariants.{Corruption}
@@ -30,7 +30,7 @@ use Rattle.leveldb_table.proofs.TableSeeks.{IsSought}
 -- ---- inside a block
 
 -- by the place of all pairs
-stands_on : (parts : List Part) (line : Option ℕ) (pairs : List Pair) (inner place : Option ℕ) (k : ℕ) → inner ≢ None → next_place pairs inner ≡ Some k → StandsAt parts line pairs inner place → StandsAt parts line pairs (Some k) (next_place (pairs_in parts) place)
+stands_on : (parts : List Part) (line : Option ℕ) (pairs : List Pair) (inner place : Option ℕ) (k : ℕ) → inner ≢ None → next_position pairs inner ≡ Some k → StandsAt parts line pairs inner place → StandsAt parts line pairs (Some k) (next_position (pairs_in parts) place)
 stands_on parts line pairs inner None k some on at = absurd (some at)
 stands_on parts line pairs inner (Some n) k some on at = next_in at k on
 
@@ -38,8 +38,8 @@ module _ {C E F T : Type 0} {order : CmpGhosts C} {env : EnvGhosts E F} {codings
     {Step : Codings → (List ℕ → List ℕ → Ordering) → List ℕ → TableCore C order → Outcome → Type 0} {state : E} {cache : Cached (CachedBlock C order)} where
   -- a step to the next pair of the block
   pub moves_inside : (old new : TableCore C order) (answer : T) → inner_place old.inner ≢ None → new.index ≡ old.index → inner_pairs new.inner ≡ inner_pairs old.inner
-      → inner_place new.inner ≡ next_place (inner_pairs old.inner) (inner_place old.inner) → is_some (inner_place new.inner) ≡ true → ((bytes : List ℕ) → Step codings cmp bytes old (Ok (table_place new)))
-      → Moves env codings cmp id file Fit next_place Step state cache old (Ok answer) state cache new
+      → inner_place new.inner ≡ next_position (inner_pairs old.inner) (inner_place old.inner) → is_some (inner_place new.inner) ≡ true → ((bytes : List ℕ) → Step codings cmp bytes old (Ok (table_place new)))
+      → Moves env codings cmp id file Fit next_position Step state cache old (Ok answer) state cache new
   moves_inside old new answer some index pairs on there step =
       let found = some_there (inner_place new.inner) there in
       record {
@@ -47,7 +47,7 @@ module _ {C E F T : Type 0} {order : CmpGhosts C} {env : EnvGhosts E F} {codings
         ok = λ bytes has parts place right fit holds stands. record {
           lines = ap pairs_over index ∙ stands.lines;
           ordered = ap (λ (z : BlockWalk C order). order.cmp z.block.cmp) index ∙ stands.ordered;
-          at = stands_along parts (next_place (pairs_in parts) place) (ap place_over index) pairs found.1 (stands_on parts (place_over old.index) (inner_pairs old.inner) (inner_place old.inner) place found.0 some (sym on ∙ found.1) stands.at);
+          at = stands_along parts (next_position (pairs_in parts) place) (ap place_over index) pairs found.1 (stands_on parts (place_over old.index) (inner_pairs old.inner) (inner_place old.inner) place found.0 some (sym on ∙ found.1) stands.at);
         };
         steps = λ bytes has holds. step bytes;
         err = tt;
@@ -76,25 +76,25 @@ outside None old out Else none h = h
 outside (Some i) old out Else none h = absurd (some_none none)
 
 module _ (codings : Codings) (cmp : List ℕ → List ℕ → Ordering) (bytes : List ℕ) (lines : List Pair) where
-  on_inside : (at : Option ℕ) (old new : TablePlace) → at ≢ None → new.line ≡ old.line → new.pairs ≡ old.pairs → new.inner ≡ next_place old.pairs at → is_some new.inner ≡ true → GoesOn codings cmp bytes lines at old (Ok new)
+  on_inside : (at : Option ℕ) (old new : TablePlace) → at ≢ None → new.line ≡ old.line → new.pairs ≡ old.pairs → new.inner ≡ next_position old.pairs at → is_some new.inner ≡ true → GoesOn codings cmp bytes lines at old (Ok new)
   on_inside None old new some line pairs inner there = absurd (some refl)
-  on_inside (Some i) old new some line pairs inner there = inside (place_within old.pairs (i + 1)) old new (GoesToFirst codings cmp bytes lines (next_place lines old.line) (Ok new)) line pairs inner there
+  on_inside (Some i) old new some line pairs inner there = inside (position_within old.pairs (i + 1)) old new (GoesToFirst codings cmp bytes lines (next_position lines old.line) (Ok new)) line pairs inner there
 
-  on_outside : (at : Option ℕ) (old : TablePlace) (out : Outcome) → at ≢ None → next_place old.pairs at ≡ None → GoesToFirst codings cmp bytes lines (next_place lines old.line) out → GoesOn codings cmp bytes lines at old out
+  on_outside : (at : Option ℕ) (old : TablePlace) (out : Outcome) → at ≢ None → next_position old.pairs at ≡ None → GoesToFirst codings cmp bytes lines (next_position lines old.line) out → GoesOn codings cmp bytes lines at old out
   on_outside None old out some last first = absurd (some refl)
-  on_outside (Some i) old out some last first = outside (place_within old.pairs (i + 1)) old out (GoesToFirst codings cmp bytes lines (next_place lines old.line) out) last first
+  on_outside (Some i) old out some last first = outside (position_within old.pairs (i + 1)) old out (GoesToFirst codings cmp bytes lines (next_position lines old.line) out) last first
 
-  on_from_none : (at : Option ℕ) (old : TablePlace) (out : Outcome) → at ≡ None → GoesToFirst codings cmp bytes lines (place_within lines 0) out → GoesOn codings cmp bytes lines at old out
+  on_from_none : (at : Option ℕ) (old : TablePlace) (out : Outcome) → at ≡ None → GoesToFirst codings cmp bytes lines (position_within lines 0) out → GoesOn codings cmp bytes lines at old out
   on_from_none None old out none first = first
   on_from_none (Some i) old out none first = absurd (some_none none)
 
-  on_to_first : (at : Option ℕ) (old : TablePlace) (out : Outcome) → at ≡ None → GoesOn codings cmp bytes lines at old out → GoesToFirst codings cmp bytes lines (place_within lines 0) out
+  on_to_first : (at : Option ℕ) (old : TablePlace) (out : Outcome) → at ≡ None → GoesOn codings cmp bytes lines at old out → GoesToFirst codings cmp bytes lines (position_within lines 0) out
   on_to_first None old out none on = on
   on_to_first (Some i) old out none on = absurd (some_none none)
 
-  back_outside : (at : Option ℕ) (old : TablePlace) (out : Outcome) → at ≢ None → previous_place at ≡ None → GoesToLast codings cmp bytes lines (previous_place old.line) out → GoesBack codings cmp bytes lines at old out
+  back_outside : (at : Option ℕ) (old : TablePlace) (out : Outcome) → at ≢ None → previous_position at ≡ None → GoesToLast codings cmp bytes lines (previous_position old.line) out → GoesBack codings cmp bytes lines at old out
   back_outside None old out some first last = absurd (some refl)
-  back_outside (Some i) old out some first last = outside (previous_place (Some i)) old out (GoesToLast codings cmp bytes lines (previous_place old.line) out) first last
+  back_outside (Some i) old out some first last = outside (previous_position (Some i)) old out (GoesToLast codings cmp bytes lines (previous_position old.line) out) first last
 
   pub seeks_none : (key : List ℕ) (line : Option ℕ) (new : TablePlace) → line ≡ None → new.line ≡ line → new.inner ≡ None → Seeks codings cmp bytes lines key line (Ok new)
   seeks_none key None new none at inner = (at, inner)
@@ -141,13 +141,13 @@ module _ (codings : Codings) (cmp : List ℕ → List ℕ → Ordering) (bytes :
       record { handle = handle; fits = fits; names = names; goes = subst (λ b. SeeksIfLet codings cmp bytes lines b key i (Ok new)) (sym refuses) none }
 
   -- the next line's block, by another list of the same lines
-  next_along : {others : List Pair} {line other : Option ℕ} (out : Outcome) → others ≡ lines → other ≡ line → GoesToFirst codings cmp bytes others (next_place others other) out → GoesToFirst codings cmp bytes lines (next_place lines line) out
+  next_along : {others : List Pair} {line other : Option ℕ} (out : Outcome) → others ≡ lines → other ≡ line → GoesToFirst codings cmp bytes others (next_position others other) out → GoesToFirst codings cmp bytes lines (next_position lines line) out
   next_along {others} {line} {other} out same at first =
-      subst (λ z. GoesToFirst codings cmp bytes z (next_place z line) out) same (subst (λ z. GoesToFirst codings cmp bytes others (next_place others z) out) at first)
+      subst (λ z. GoesToFirst codings cmp bytes z (next_position z line) out) same (subst (λ z. GoesToFirst codings cmp bytes others (next_position others z) out) at first)
 
-  previous_along : {others : List Pair} {line other : Option ℕ} (out : Outcome) → others ≡ lines → other ≡ line → GoesToLast codings cmp bytes others (previous_place other) out → GoesToLast codings cmp bytes lines (previous_place line) out
+  previous_along : {others : List Pair} {line other : Option ℕ} (out : Outcome) → others ≡ lines → other ≡ line → GoesToLast codings cmp bytes others (previous_position other) out → GoesToLast codings cmp bytes lines (previous_position line) out
   previous_along {others} {line} {other} out same at last =
-      subst (λ z. GoesToLast codings cmp bytes z (previous_place line) out) same (subst (λ z. GoesToLast codings cmp bytes others (previous_place z) out) at last)
+      subst (λ z. GoesToLast codings cmp bytes z (previous_position line) out) same (subst (λ z. GoesToLast codings cmp bytes others (previous_position z) out) at last)
 
   -- the block of a line of this list that is lacking, by another list of the same lines
   pub into_lacking : {others : List Pair} (to : List Pair → Option ℕ) {line other : Option ℕ} {status : Status} → others ≡ lines → other ≡ line → LacksLine codings cmp bytes (pair_at others other) status
@@ -171,7 +171,7 @@ module _ {C : Type 0} {order : CmpGhosts C} where
   some_pairs None there = cc
   some_pairs (Some walk) there =
       let at = some_there (place_over walk) there in
-      let P : Option ℕ → Type 0 = IsPlace (pairs_over walk) in
+      let P : Option ℕ → Type 0 = IsPosition (pairs_over walk) in
       no_place_in (pairs_over walk) at.0 (subst P at.1 (IsWithin-place walk.block.contents walk.block.held.0 walk.core.key.items walk.core.spot walk.within))
 
 module _ {C : Type 0} {order : CmpGhosts C} (codings : Codings) (cmp : List ℕ → List ℕ → Ordering) (bytes : List ℕ) where
@@ -224,26 +224,26 @@ module _ {C : Type 0} {order : CmpGhosts C} (codings : Codings) (cmp : List ℕ 
       on_from_none codings cmp bytes (pairs_over old.index) (inner_place old.inner) (table_place old) out none (next_along codings cmp bytes (pairs_over old.index) {line = None} out lines line next)
 
   pub forward_inside : (old new : TableCore C order) → inner_place old.inner ≢ None → new.index ≡ old.index → inner_pairs new.inner ≡ inner_pairs old.inner
-      → inner_place new.inner ≡ next_place (inner_pairs old.inner) (inner_place old.inner) → is_some (inner_place new.inner) ≡ true → Forward codings cmp bytes old (Ok (table_place new))
+      → inner_place new.inner ≡ next_position (inner_pairs old.inner) (inner_place old.inner) → is_some (inner_place new.inner) ≡ true → Forward codings cmp bytes old (Ok (table_place new))
   forward_inside old new some index pairs on there = on_inside codings cmp bytes (pairs_over old.index) (inner_place old.inner) (table_place old) (table_place new) some (ap place_over index) pairs on there
 
-  pub forward_next : (old mid : TableCore C order) (out : Outcome) → mid.index ≡ old.index → inner_place old.inner ≢ None → next_place (inner_pairs old.inner) (inner_place old.inner) ≡ None → ToNext codings cmp bytes mid out → Forward codings cmp bytes old out
+  pub forward_next : (old mid : TableCore C order) (out : Outcome) → mid.index ≡ old.index → inner_place old.inner ≢ None → next_position (inner_pairs old.inner) (inner_place old.inner) ≡ None → ToNext codings cmp bytes mid out → Forward codings cmp bytes old out
   forward_next old mid out index some last next =
       on_outside codings cmp bytes (pairs_over old.index) (inner_place old.inner) (table_place old) out some last (next_along codings cmp bytes (pairs_over old.index) out (ap pairs_over index) (ap place_over index) next)
 
   pub forward_to_first : (old mid : TableCore C order) (out : Outcome) → mid.index ≡ old.index → mid.inner ≡ None → Forward codings cmp bytes mid out → ToFirst codings cmp bytes old out
   forward_to_first old mid out index none forward =
-      subst (λ (z : BlockWalk C order). GoesToFirst codings cmp bytes (pairs_over z) (place_within (pairs_over z) 0) out) index
+      subst (λ (z : BlockWalk C order). GoesToFirst codings cmp bytes (pairs_over z) (position_within (pairs_over z) 0) out) index
       (on_to_first codings cmp bytes (pairs_over mid.index) (inner_place mid.inner) (table_place mid) out (ap inner_place none) forward)
 
-  pub backward_previous : (old mid : TableCore C order) (out : Outcome) → mid.index ≡ old.index → inner_place old.inner ≢ None → previous_place (inner_place old.inner) ≡ None → ToPrevious codings cmp bytes mid out → Backward codings cmp bytes old out
+  pub backward_previous : (old mid : TableCore C order) (out : Outcome) → mid.index ≡ old.index → inner_place old.inner ≢ None → previous_position (inner_place old.inner) ≡ None → ToPrevious codings cmp bytes mid out → Backward codings cmp bytes old out
   backward_previous old mid out index some first previous =
       back_outside codings cmp bytes (pairs_over old.index) (inner_place old.inner) (table_place old) out some first (previous_along codings cmp bytes (pairs_over old.index) out (ap pairs_over index) (ap place_over index) previous)
 
   -- ---- a key
 
   seeks_along : (lines : List Pair) (line : Option ℕ) (key : List ℕ) (old mid : TableCore C order) (out : Outcome) → pairs_over old.index ≡ lines → is_some line ≡ true → place_over old.index ≡ line → IsSought codings cmp bytes key old mid
-      → InsideOr (seek_place cmp (inner_pairs mid.inner) key) (record { line = line; pairs = inner_pairs mid.inner; inner = None }) out (GoesToFirst codings cmp bytes lines (next_place lines line) out)
+      → InsideOr (seek_position cmp (inner_pairs mid.inner) key) (record { line = line; pairs = inner_pairs mid.inner; inner = None }) out (GoesToFirst codings cmp bytes lines (next_position lines line) out)
       → Seeks codings cmp bytes lines key line out
   seeks_along lines None key old mid out same some at sought goes = cc
   seeks_along lines (Some i) key old mid out same some at sought goes = seeks_in codings cmp bytes lines key i out (record {
@@ -258,7 +258,7 @@ module _ {C : Type 0} {order : CmpGhosts C} (codings : Codings) (cmp : List ℕ 
   sought_inside key old new line some sought there =
       let lines = pairs_over old.index in
       seeks_along lines (line_for key old) key old new (Ok (table_place new)) refl (ap is_some (sym line) ∙ some) line sought
-      (inside (seek_place cmp (inner_pairs new.inner) key) (record { line = line_for key old; pairs = inner_pairs new.inner; inner = None }) (table_place new) (GoesToFirst codings cmp bytes lines (next_place lines (line_for key old)) (Ok (table_place new)))
+      (inside (seek_position cmp (inner_pairs new.inner) key) (record { line = line_for key old; pairs = inner_pairs new.inner; inner = None }) (table_place new) (GoesToFirst codings cmp bytes lines (next_position lines (line_for key old)) (Ok (table_place new)))
       (ap place_over sought.index ∙ line) refl sought.place there)
 
   pub sought_next : (key : List ℕ) (old mid : TableCore C order) (out : Outcome) → place_over old.index ≡ line_for key old → is_some (place_over old.index) ≡ true → IsSought codings cmp bytes key old mid → inner_place mid.inner ≡ None
@@ -266,7 +266,7 @@ module _ {C : Type 0} {order : CmpGhosts C} (codings : Codings) (cmp : List ℕ 
   sought_next key old mid out line some sought none next =
       let lines = pairs_over old.index in
       seeks_along lines (line_for key old) key old mid out refl (ap is_some (sym line) ∙ some) line sought
-      (outside (seek_place cmp (inner_pairs mid.inner) key) (record { line = line_for key old; pairs = inner_pairs mid.inner; inner = None }) out (GoesToFirst codings cmp bytes lines (next_place lines (line_for key old)) out)
+      (outside (seek_position cmp (inner_pairs mid.inner) key) (record { line = line_for key old; pairs = inner_pairs mid.inner; inner = None }) out (GoesToFirst codings cmp bytes lines (next_position lines (line_for key old)) out)
       (sym sought.place ∙ none) (next_along codings cmp bytes lines out (ap pairs_over sought.index) (ap place_over sought.index ∙ line) next))
 
   -- refused at its line
@@ -277,8 +277,8 @@ module _ {C : Type 0} {order : CmpGhosts C} (codings : Codings) (cmp : List ℕ 
   -- by another walk's index of the same lines and order
   pub sought_along : (key : List ℕ) (old mid : TableCore C order) (out : Outcome) → pairs_over mid.index ≡ pairs_over old.index → mid.index.block.cmp ≡ old.index.block.cmp → Sought key codings cmp bytes mid out → Sought key codings cmp bytes old out
   sought_along key old mid out lines same sought =
-      subst (λ (o : C). Seeks codings cmp bytes (pairs_over old.index) key (seek_place (order.cmp o) (pairs_over old.index) key) out) same
-      (subst (λ z. Seeks codings cmp bytes z key (seek_place (order.cmp mid.index.block.cmp) z key) out) lines sought)
+      subst (λ (o : C). Seeks codings cmp bytes (pairs_over old.index) key (seek_position (order.cmp o) (pairs_over old.index) key) out) same
+      (subst (λ z. Seeks codings cmp bytes z key (seek_position (order.cmp mid.index.block.cmp) z key) out) lines sought)
 
   -- ---- a look-up
 
@@ -290,7 +290,7 @@ module _ {C : Type 0} {order : CmpGhosts C} (codings : Codings) (cmp : List ℕ 
 
   -- by other lines and another order that are the same
   pub looked_along : (lets : ℕ → List ℕ → Bool) (key : List ℕ) {lines : List Pair} {index_cmp : List ℕ → List ℕ → Ordering} (old : TableCore C order) (out : Outcome) → pairs_over old.index ≡ lines → order.cmp old.index.block.cmp ≡ index_cmp
-      → LookedUp lets key codings cmp bytes old out → LooksFor codings cmp bytes lines lets key (seek_place index_cmp lines key) out
+      → LookedUp lets key codings cmp bytes old out → LooksFor codings cmp bytes lines lets key (seek_position index_cmp lines key) out
   looked_along lets key {lines} {index_cmp} old out same ordered looked =
-      subst (λ (o : List ℕ → List ℕ → Ordering). LooksFor codings cmp bytes lines lets key (seek_place o lines key) out) ordered
-      (subst (λ z. LooksFor codings cmp bytes z lets key (seek_place (order.cmp old.index.block.cmp) z key) out) same looked)
+      subst (λ (o : List ℕ → List ℕ → Ordering). LooksFor codings cmp bytes lines lets key (seek_position o lines key) out) ordered
+      (subst (λ z. LooksFor codings cmp bytes z lets key (seek_position (order.cmp old.index.block.cmp) z key) out) same looked)

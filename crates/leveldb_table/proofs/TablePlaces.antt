@@ -2,7 +2,7 @@
 use Rattle.std.proofs.Common.{◌≡◌, ℕ, ◌+◌, List, [], ◌∷◌, ◌++◌, Some, length, get_or, take, drop, refl, sym, ◌∙◌, ap, arith, append_assoc, length-append}
 use Rattle.std.proofs.lemmas.List.{length-drop, length-take, length-take-le, take-append-drop, take_at, take_more, get_or_at, drop_at}
 use Rattle.leveldb_base.specs.Crc.{crc_of, masked}
-use Rattle.leveldb_base.specs.Handle.{Handle, HandleFits}
+use Rattle.leveldb_base.specs.BlockHandle.{Handle, HandleFits}
 use Rattle.leveldb_base.specs.Varint.{little}
 use Rattle.leveldb_env.specs.Coders.{Codings, Decodes, decoded_by}
 use Rattle.leveldb_table.specs.Table.{StoresAt, HasBlockAt, with_trailer}

@@ -9,8 +9,8 @@ use Rattle.std.specs.List.{AllByRecursion}
 use Rattle.std.specs.Ordering.{is_lt, ordering_reverse}
 use Rattle.std.specs.declared.cmp.Ordering.{Ordering}
 use Rattle.std.specs.declared.cmp.Ordering.TheVariants.{Less, Equal, Greater}
-use Rattle.leveldb_base.specs.Order.{IsPreorderOn}
-use Rattle.leveldb_base.specs.Places.{Pair, place_within, next_place, previous_place, count_before, seek_place, pair_at}
+use Rattle.leveldb_base.specs.Cmp.{IsPreorderOn}
+use Rattle.leveldb_base.specs.Types.{Pair, position_within, next_position, previous_position, count_before, seek_position, pair_at}
 use Rattle.leveldb_env.specs.Coders.{Codings, Decodes}
 use Rattle.leveldb_table.specs.Table.{Part, IsPart, AreParted, UpTo, After, index_pair, first_from, named_part}
 use Rattle.leveldb_table.specs.Table.{AreAccepted}
@@ -22,20 +22,20 @@ use Rattle.leveldb_table.proofs.TableOrders.{all_left, all_right, all_with, then
 
 -- ---- places
 
-pub place_in : (pairs : List Pair) (n : ℕ) → n < length pairs → place_within pairs n ≡ Some n
+pub place_in : (pairs : List Pair) (n : ℕ) → n < length pairs → position_within pairs n ≡ Some n
 place_in pairs n h = let t : nat_lt n (length pairs) ≡ true = grind (arith, nat_tests) in ap (λ b. if b then Some n else None) t
 
-pub place_out : (pairs : List Pair) (n : ℕ) → length pairs ≤ n → place_within pairs n ≡ None
+pub place_out : (pairs : List Pair) (n : ℕ) → length pairs ≤ n → position_within pairs n ≡ None
 place_out pairs n h = let t : nat_lt n (length pairs) ≡ false = grind (arith, nat_tests) in ap (λ b. if b then Some n else None) t
 
-pub place_some : (pairs : List Pair) (n k : ℕ) → place_within pairs n ≡ Some k → (k ≡ n) × (n < length pairs)
+pub place_some : (pairs : List Pair) (n k : ℕ) → position_within pairs n ≡ Some k → (k ≡ n) × (n < length pairs)
 place_some pairs n k e =
     elim (cases_lt n (length pairs)) [
       | inl less ↦ let there = place_in pairs n less in (cc, less)
       | inr more ↦ let none = place_out pairs n more in cc
     ]
 
-pub place_none : (pairs : List Pair) (n : ℕ) → place_within pairs n ≡ None → length pairs ≤ n
+pub place_none : (pairs : List Pair) (n : ℕ) → position_within pairs n ≡ None → length pairs ≤ n
 place_none pairs n e =
     elim (cases_lt n (length pairs)) [
       | inl less ↦ let there = place_in pairs n less in cc
@@ -126,11 +126,11 @@ long_none (part ∷ parts) e = cc
 
 module _ {parts : List Part} {line : Option ℕ} {pairs : List Pair} {place : Option ℕ} {n : ℕ} (s : StandsIn parts line pairs place n) where
   -- the next place of the block, by the place in it
-  next_inner : next_place pairs place ≡ place_within s.part.pairs (s.inner + 1)
-  next_inner = ap (λ z. next_place z place) s.same ∙ ap (next_place s.part.pairs) s.at_place
+  next_inner : next_position pairs place ≡ position_within s.part.pairs (s.inner + 1)
+  next_inner = ap (λ z. next_position z place) s.same ∙ ap (next_position s.part.pairs) s.at_place
 
   -- behind the last pair of a block is the place behind that block
-  pub behind_block : next_place pairs place ≡ None → IsBehind parts line (next_place (pairs_in parts) (Some n))
+  pub behind_block : next_position pairs place ≡ None → IsBehind parts line (next_position (pairs_in parts) (Some n))
   behind_block e =
       let past = place_none s.part.pairs (s.inner + 1) (sym next_inner ∙ e) in
       let within = s.within in
@@ -144,11 +144,11 @@ module _ {parts : List Part} {line : Option ℕ} {pairs : List Pair} {place : Op
         before = front;
         behind = s.behind;
         parted = s.parted ∙ sym (append_assoc s.before (s.part ∷ []) s.behind);
-        next = ap (next_place (map index_pair parts)) s.at_line ∙ ap (place_within (map index_pair parts)) (sym more);
-        to = ap (place_within (pairs_in parts)) passed;
+        next = ap (next_position (map index_pair parts)) s.at_line ∙ ap (position_within (map index_pair parts)) (sym more);
+        to = ap (position_within (pairs_in parts)) passed;
       }
 
-  pub next_in : (k : ℕ) → next_place pairs place ≡ Some k → StandsAt parts line pairs (Some k) (next_place (pairs_in parts) (Some n))
+  pub next_in : (k : ℕ) → next_position pairs place ≡ Some k → StandsAt parts line pairs (Some k) (next_position (pairs_in parts) (Some n))
   next_in k e =
       let there = place_some s.part.pairs (s.inner + 1) k (sym next_inner ∙ e) in
       let same = there.0 in
@@ -170,7 +170,7 @@ module _ {parts : List Part} {line : Option ℕ} {pairs : List Pair} {place : Op
 
 module _ {parts : List Part} {line place : Option ℕ} (p : IsBehind parts line place) where
   -- the next line is that of the first block behind
-  at_behind : (i : ℕ) → next_place (map index_pair parts) line ≡ Some i → (i ≡ length p.before) × (i < length parts)
+  at_behind : (i : ℕ) → next_position (map index_pair parts) line ≡ Some i → (i ≡ length p.before) × (i < length parts)
   at_behind i e =
       let there = place_some (map index_pair parts) (length p.before) i (sym p.next ∙ e) in
       let same = there.0 in
@@ -178,7 +178,7 @@ module _ {parts : List Part} {line place : Option ℕ} (p : IsBehind parts line 
       (same, omega (arith, same, less, length-map parts index_pair))
 
   -- to the first pair of the next block
-  pub to_block : (i : ℕ) (part : Part) → next_place (map index_pair parts) line ≡ Some i → slice_get parts i ≡ Some part → part.pairs ≢ [] → StandsAt parts (Some i) part.pairs (Some 0) place
+  pub to_block : (i : ℕ) (part : Part) → next_position (map index_pair parts) line ≡ Some i → slice_get parts i ≡ Some part → part.pairs ≢ [] → StandsAt parts (Some i) part.pairs (Some 0) place
   to_block i part e there some =
       let at = at_behind i e in
       let first : slice_get p.behind 0 ≡ Some part =
@@ -202,7 +202,7 @@ module _ {parts : List Part} {line place : Option ℕ} (p : IsBehind parts line 
 -- ---- looking up
 
 -- the pair at a place, if there is one
-at_within : (pairs : List Pair) (n : ℕ) → pair_at pairs (place_within pairs n) ≡ slice_get pairs n
+at_within : (pairs : List Pair) (n : ℕ) → pair_at pairs (position_within pairs n) ≡ slice_get pairs n
 at_within pairs n =
     elim (cases_lt n (length pairs)) [
       | inl less ↦ ap (pair_at pairs) (place_in pairs n less)
@@ -218,7 +218,7 @@ first_counted : (cmp : List ℕ → List ℕ → Ordering) (key : List ℕ) (pai
 first_counted cmp key [] = refl
 first_counted cmp key (pair ∷ pairs) = step_first cmp key pair pairs (is_lt (cmp pair.0 key)) (first_counted cmp key pairs)
 
-pub first_is : (cmp : List ℕ → List ℕ → Ordering) (key : List ℕ) (pairs : List Pair) → first_from cmp key pairs ≡ pair_at pairs (seek_place cmp pairs key)
+pub first_is : (cmp : List ℕ → List ℕ → Ordering) (key : List ℕ) (pairs : List Pair) → first_from cmp key pairs ≡ pair_at pairs (seek_position cmp pairs key)
 first_is cmp key pairs = first_counted cmp key pairs ∙ sym (at_within pairs (count_before cmp key pairs))
 
 step_named : (cmp : List ℕ → List ℕ → Ordering) (key : List ℕ) (part : Part) (parts : List Part) (b : Bool) → named_part cmp key parts ≡ slice_get parts (count_before cmp key (map index_pair parts))
@@ -231,12 +231,12 @@ pub named_counted : (cmp : List ℕ → List ℕ → Ordering) (key : List ℕ) 
 named_counted cmp key [] = refl
 named_counted cmp key (part ∷ parts) = step_named cmp key part parts (is_lt (cmp part.index_key key)) (named_counted cmp key parts)
 
-pub named_at : (cmp : List ℕ → List ℕ → Ordering) (key : List ℕ) (parts : List Part) (i : ℕ) (part : Part) → seek_place cmp (map index_pair parts) key ≡ Some i → slice_get parts i ≡ Some part → named_part cmp key parts ≡ Some part
+pub named_at : (cmp : List ℕ → List ℕ → Ordering) (key : List ℕ) (parts : List Part) (i : ℕ) (part : Part) → seek_position cmp (map index_pair parts) key ≡ Some i → slice_get parts i ≡ Some part → named_part cmp key parts ≡ Some part
 named_at cmp key parts i part e there =
     let same = (place_some (map index_pair parts) (count_before cmp key (map index_pair parts)) i e).0 in
     named_counted cmp key parts ∙ ap (slice_get parts) (sym same) ∙ there
 
-pub named_none : (cmp : List ℕ → List ℕ → Ordering) (key : List ℕ) (parts : List Part) → seek_place cmp (map index_pair parts) key ≡ None → named_part cmp key parts ≡ None
+pub named_none : (cmp : List ℕ → List ℕ → Ordering) (key : List ℕ) (parts : List Part) → seek_position cmp (map index_pair parts) key ≡ None → named_part cmp key parts ≡ None
 named_none cmp key parts e =
     let past = place_none (map index_pair parts) (count_before cmp key (map index_pair parts)) e in
     named_counted cmp key parts ∙ slice_get_past parts (count_before cmp key (map index_pair parts)) (omega (arith, past, length-map parts index_pair))
@@ -385,7 +385,7 @@ module _ {accepts : List ℕ → Bool} {cmp : List ℕ → List ℕ → Ordering
   it = sought order key fit parts parted accepted
 
   -- where the key is behind all index keys, it is behind all keys
-  pub seek_none : seek_place cmp (map index_pair parts) key ≡ None → seek_place cmp (pairs_in parts) key ≡ None
+  pub seek_none : seek_position cmp (map index_pair parts) key ≡ None → seek_position cmp (pairs_in parts) key ≡ None
   seek_none e =
       let past = place_none (map index_pair parts) (count_before cmp key (map index_pair parts)) e in
       let count = it.count in
@@ -397,7 +397,7 @@ module _ {accepts : List ℕ → Bool} {cmp : List ℕ → List ℕ → Ordering
       place_out (pairs_in parts) (count_before cmp key (pairs_in parts)) (omega (arith, passed, all, last))
 
   -- the block that the index names for the key, and those behind it
-  named_here : (i : ℕ) (part : Part) → seek_place cmp (map index_pair parts) key ≡ Some i → slice_get parts i ≡ Some part → (i ≡ length it.before) × (rest : List Part) × (it.behind ≡ part ∷ rest)
+  named_here : (i : ℕ) (part : Part) → seek_position cmp (map index_pair parts) key ≡ Some i → slice_get parts i ≡ Some part → (i ≡ length it.before) × (rest : List Part) × (it.behind ≡ part ∷ rest)
   named_here i part e there =
       let same : i ≡ length it.before = (place_some (map index_pair parts) (count_before cmp key (map index_pair parts)) i e).0 ∙ sym it.count in
       let more : length it.before + 0 ≡ i = omega (arith, same) in
@@ -405,8 +405,8 @@ module _ {accepts : List ℕ → Bool} {cmp : List ℕ → List ℕ → Ordering
       (same, rest.0, rest.1)
 
   -- a key of that block
-  pub seek_in : (i : ℕ) (part : Part) (j : ℕ) → seek_place cmp (map index_pair parts) key ≡ Some i → slice_get parts i ≡ Some part → seek_place cmp part.pairs key ≡ Some j
-      → StandsAt parts (Some i) part.pairs (Some j) (seek_place cmp (pairs_in parts) key)
+  pub seek_in : (i : ℕ) (part : Part) (j : ℕ) → seek_position cmp (map index_pair parts) key ≡ Some i → slice_get parts i ≡ Some part → seek_position cmp part.pairs key ≡ Some j
+      → StandsAt parts (Some i) part.pairs (Some j) (seek_position cmp (pairs_in parts) key)
   seek_in i part j e there found =
       let here = named_here i part e there in
       let place = place_some part.pairs (count_before cmp key part.pairs) j found in
@@ -430,8 +430,8 @@ module _ {accepts : List ℕ → Bool} {cmp : List ℕ → List ℕ → Ordering
       subst (StandsAt parts (Some i) part.pairs (Some j)) (sym (place_in (pairs_in parts) (count_before cmp key (pairs_in parts)) (within_in stands))) stands
 
   -- or it has none, and the first key of the next block is the one
-  pub seek_behind : AllByRecursion (λ part. part.pairs ≢ []) parts → (i : ℕ) (part : Part) → seek_place cmp (map index_pair parts) key ≡ Some i → slice_get parts i ≡ Some part → seek_place cmp part.pairs key ≡ None
-      → IsBehind parts (Some i) (seek_place cmp (pairs_in parts) key)
+  pub seek_behind : AllByRecursion (λ part. part.pairs ≢ []) parts → (i : ℕ) (part : Part) → seek_position cmp (map index_pair parts) key ≡ Some i → slice_get parts i ≡ Some part → seek_position cmp part.pairs key ≡ None
+      → IsBehind parts (Some i) (seek_position cmp (pairs_in parts) key)
   seek_behind some i part e there none =
       let here = named_here i part e there in
       let rest = here.1 in
@@ -452,23 +452,23 @@ module _ {accepts : List ℕ → Bool} {cmp : List ℕ → List ℕ → Ordering
         before = front;
         behind = rest;
         parted = whole ∙ sym (append_assoc it.before (part ∷ []) rest);
-        next = ap (place_within (map index_pair parts)) more;
-        to = ap (place_within (pairs_in parts)) counts;
+        next = ap (position_within (map index_pair parts)) more;
+        to = ap (position_within (pairs_in parts)) counts;
       }
 
 -- ---- back
 
-prev_is : (n m : ℕ) → n ≡ m + 1 → previous_place (Some n) ≡ Some m
+prev_is : (n m : ℕ) → n ≡ m + 1 → previous_position (Some n) ≡ Some m
 prev_is n m e =
     let t : nat_lt 0 n ≡ true = grind (arith, nat_tests) in
     let back : n - 1 ≡ m = omega (arith, e) in
     ap (λ b. if b then Some (n - 1) else None) t ∙ ap (λ z. Some z) back
 
-prev_some : (n k : ℕ) → previous_place (Some n) ≡ Some k → n ≡ k + 1
+prev_some : (n k : ℕ) → previous_position (Some n) ≡ Some k → n ≡ k + 1
 prev_some zero k e = cc
 prev_some (suc n) k e = let there = prev_is (suc n) n (omega arith) in let same : n ≡ k = cc in omega (arith, same)
 
-prev_none : (n : ℕ) → previous_place (Some n) ≡ None → n ≡ 0
+prev_none : (n : ℕ) → previous_position (Some n) ≡ None → n ≡ 0
 prev_none zero e = refl
 prev_none (suc n) e = let there = prev_is (suc n) n (omega arith) in cc
 
@@ -478,14 +478,14 @@ last_some (pair ∷ pairs) k e = let same : length pairs ≡ k = cc in omega (ar
 
 module _ {parts : List Part} {line : Option ℕ} {pairs : List Pair} {place : Option ℕ} {n : ℕ} (s : StandsIn parts line pairs place n) where
   -- the line before
-  line_back : (i : ℕ) → previous_place line ≡ Some i → length s.before ≡ i + 1
-  line_back i e = prev_some (length s.before) i (ap previous_place (sym s.at_line) ∙ e)
+  line_back : (i : ℕ) → previous_position line ≡ Some i → length s.before ≡ i + 1
+  line_back i e = prev_some (length s.before) i (ap previous_position (sym s.at_line) ∙ e)
 
   -- to the last pair of the block before
-  pub previous_block : previous_place place ≡ None → (i : ℕ) (part : Part) (k : ℕ) → previous_place line ≡ Some i → slice_get parts i ≡ Some part → last_place part.pairs ≡ Some k
-      → StandsAt parts (Some i) part.pairs (Some k) (previous_place (Some n))
+  pub previous_block : previous_position place ≡ None → (i : ℕ) (part : Part) (k : ℕ) → previous_position line ≡ Some i → slice_get parts i ≡ Some part → last_place part.pairs ≡ Some k
+      → StandsAt parts (Some i) part.pairs (Some k) (previous_position (Some n))
   previous_block e i part k l there last =
-      let first = prev_none s.inner (ap previous_place (sym s.at_place) ∙ e) in
+      let first = prev_none s.inner (ap previous_position (sym s.at_place) ∙ e) in
       let back = line_back i l in
       let counts = s.counts in
       let long = last_some part.pairs k last in

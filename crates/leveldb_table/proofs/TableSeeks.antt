@@ -4,9 +4,9 @@ use Rattle.std.specs.Prelude.{IfSome, IsErrAnd, is_some}
 use Rattle.std.specs.Option.{IsSomeAnd}
 use Rattle.std.specs.declared.cmp.Ordering.{Ordering}
 use Rattle.std.proofs.lemmas.Option.{slice_get-get_or}
-use Rattle.leveldb_base.specs.Handle.{Handle, handle_bytes, HandleFits}
-use Rattle.leveldb_base.specs.Order.{IsPreorderOn}
-use Rattle.leveldb_base.specs.Places.{Pair, IsPlace, place_within, next_place, previous_place, seek_place, pair_at}
+use Rattle.leveldb_base.specs.BlockHandle.{Handle, handle_bytes, HandleFits}
+use Rattle.leveldb_base.specs.Cmp.{IsPreorderOn}
+use Rattle.leveldb_base.specs.Types.{Pair, IsPosition, position_within, next_position, previous_position, seek_position, pair_at}
 use Rattle.leveldb_base.specs.declared.cmp.Cmp.{Ghosts as CmpGhosts}
 use Rattle.leveldb_base.specs.declared.error.Status.{Status}
 use Rattle.leveldb_base.specs.declared.error.StatusCode.TheVariants.{Corruption}
@@ -34,12 +34,12 @@ use Rattle.leveldb_table.proofs.TablePlacesIn.{parts_some, named_at, named_none,
 
 -- for a block that the index names, and where it names none
 let_named : (cmp : List ℕ → List ℕ → Ordering) (lets : ℕ → List ℕ → Bool) (key : List ℕ) (parts : List Part) (part : Part) (b : Bool) → named_part cmp key parts ≡ Some part → lets part.handle.offset key ≡ b
-    → let_place cmp lets key parts ≡ (if b then seek_place cmp (pairs_in parts) key else None)
+    → let_place cmp lets key parts ≡ (if b then seek_position cmp (pairs_in parts) key else None)
 let_named cmp lets key parts part b named is =
-    ap (λ o. elim o [ None ↦ None | Some part ↦ if lets part.handle.offset key then seek_place cmp (pairs_in parts) key else None ]) named ∙ ap (λ z. if z then seek_place cmp (pairs_in parts) key else None) is
+    ap (λ o. elim o [ None ↦ None | Some part ↦ if lets part.handle.offset key then seek_position cmp (pairs_in parts) key else None ]) named ∙ ap (λ z. if z then seek_position cmp (pairs_in parts) key else None) is
 
-pub let_none : (cmp : List ℕ → List ℕ → Ordering) (lets : ℕ → List ℕ → Bool) (key : List ℕ) (parts : List Part) → seek_place cmp (map index_pair parts) key ≡ None → let_place cmp lets key parts ≡ None
-let_none cmp lets key parts none = ap (λ o. elim o [ None ↦ None | Some part ↦ if lets part.handle.offset key then seek_place cmp (pairs_in parts) key else None ]) (named_none cmp key parts none)
+pub let_none : (cmp : List ℕ → List ℕ → Ordering) (lets : ℕ → List ℕ → Bool) (key : List ℕ) (parts : List Part) → seek_position cmp (map index_pair parts) key ≡ None → let_place cmp lets key parts ≡ None
+let_none cmp lets key parts none = ap (λ o. elim o [ None ↦ None | Some part ↦ if lets part.handle.offset key then seek_position cmp (pairs_in parts) key else None ]) (named_none cmp key parts none)
 
 -- ---- lines
 
@@ -65,12 +65,12 @@ place_there : (lines : List Pair) (place : Option ℕ) {pair : Pair} → pair_at
 place_there lines None is = absurd (some_none (sym is))
 place_there lines (Some i) is = refl
 
-place_none_at : (lines : List Pair) (place : Option ℕ) → IsPlace lines place → pair_at lines place ≡ None → place ≡ None
+place_none_at : (lines : List Pair) (place : Option ℕ) → IsPosition lines place → pair_at lines place ≡ None → place ≡ None
 place_none_at lines None within is = refl
 place_none_at lines (Some i) within is = absurd (some_none (sym (slice_get-get_or lines i ([], []) within) ∙ is))
 
 -- at the first pair of a block
-pub before_first : (parts : List Part) (line : Option ℕ) (pairs : List Pair) (inner place : Option ℕ) → inner ≢ None → previous_place inner ≡ None → StandsAt parts line pairs inner place → IsBefore parts line (previous_place place)
+pub before_first : (parts : List Part) (line : Option ℕ) (pairs : List Pair) (inner place : Option ℕ) → inner ≢ None → previous_position inner ≡ None → StandsAt parts line pairs inner place → IsBefore parts line (previous_position place)
 before_first parts line pairs inner None some first at = absurd (some at)
 before_first parts line pairs inner (Some n) some first at = record { pairs = pairs; inner = inner; n = n; stands = at; first = first; to = refl }
 
@@ -93,26 +93,26 @@ module _ {C : Type 0} {order : CmpGhosts C} where
 
   -- a place of the block in the table's order
   sought_inner : (codings : Codings) (cmp : List ℕ → List ℕ → Ordering) (bytes : List ℕ) (line : Option Pair) (inner : Option (BlockWalk C order)) (place : Option ℕ) (key : List ℕ)
-      → IfSome inner (λ walk. place ≡ seek_place (order.cmp walk.block.cmp) (pairs_over walk) key) → IsBlockOf codings cmp bytes line (inner_block inner) → place ≡ seek_place cmp (inner_pairs inner) key
+      → IfSome inner (λ walk. place ≡ seek_position (order.cmp walk.block.cmp) (pairs_over walk) key) → IsBlockOf codings cmp bytes line (inner_block inner) → place ≡ seek_position cmp (inner_pairs inner) key
   sought_inner codings cmp bytes line None place key sought of = absurd of
-  sought_inner codings cmp bytes line (Some walk) place key sought of = sought ∙ ap (λ (o : List ℕ → List ℕ → Ordering). seek_place o (pairs_over walk) key) of.1
+  sought_inner codings cmp bytes line (Some walk) place key sought of = sought ∙ ap (λ (o : List ℕ → List ℕ → Ordering). seek_position o (pairs_over walk) key) of.1
 
   -- the walk has the block of its line, and sought a key there
   pub record IsSought (codings : Codings) (cmp : List ℕ → List ℕ → Ordering) (bytes key : List ℕ) (old new : TableCore C order) : Type 0 where
     pub index : new.index ≡ old.index
     pub block : IsBlockOf codings cmp bytes (line_of old) (inner_block new.inner)
-    pub place : inner_place new.inner ≡ seek_place cmp (inner_pairs new.inner) key
+    pub place : inner_place new.inner ≡ seek_position cmp (inner_pairs new.inner) key
 
   -- by reading what stands at the line's handle, and a search
   pub is_sought : (codings : Codings) (cmp : List ℕ → List ℕ → Ordering) (bytes key : List ℕ) (old loaded new : TableCore C order) (handle : Handle) → HandleFits handle → IsSomeAnd (line_of old) (λ pair. pair.1 ≡ handle_bytes handle)
       → loaded.index ≡ old.index → IsBlockAt codings cmp bytes handle (inner_block loaded.inner) → new.index ≡ loaded.index → inner_block new.inner ≡ inner_block loaded.inner → inner_pairs new.inner ≡ inner_pairs loaded.inner
-      → IfSome loaded.inner (λ walk. inner_place new.inner ≡ seek_place (order.cmp walk.block.cmp) (pairs_over walk) key) → IsSought codings cmp bytes key old new
+      → IfSome loaded.inner (λ walk. inner_place new.inner ≡ seek_position (order.cmp walk.block.cmp) (pairs_over walk) key) → IsSought codings cmp bytes key old new
   is_sought codings cmp bytes key old loaded new handle fits names same at kept inner pairs sought =
       let of = block_of codings cmp bytes (line_of old) handle (inner_block loaded.inner) fits names at in
       record {
         index = kept ∙ same;
         block = subst (λ b. IsBlockOf codings cmp bytes (line_of old) b) (sym inner) of;
-        place = sought_inner codings cmp bytes (line_of old) loaded.inner (inner_place new.inner) key sought of ∙ ap (λ z. seek_place cmp z key) (sym pairs);
+        place = sought_inner codings cmp bytes (line_of old) loaded.inner (inner_place new.inner) key sought of ∙ ap (λ z. seek_position cmp z key) (sym pairs);
       }
 
   -- ---- one call after another
@@ -204,8 +204,8 @@ module _ {C : Type 0} {order : CmpGhosts C} where
 
     -- from no place to the first pair is by a step
     pub moves_first : {T : Type 0} {Part_step Step : Codings → (List ℕ → List ℕ → Ordering) → List ℕ → TableCore C order → Outcome → Type 0} {old_env new_env : E} {old_cache new_cache : Cached (CachedBlock C order)} {mid new : TableCore C order} {result : Result T Status} (old : TableCore C order) → mid.index ≡ old.index → mid.inner ≡ None
-        → ((bytes : List ℕ) (out : Outcome) → Part_step codings cmp bytes mid out → Step codings cmp bytes old out) → Moves env codings cmp id file (λ _. Unit {0}) next_place Part_step old_env old_cache mid result new_env new_cache new
-        → Moves env codings cmp id file (λ _. Unit {0}) (λ pairs _. place_within pairs 0) Step old_env old_cache old result new_env new_cache new
+        → ((bytes : List ℕ) (out : Outcome) → Part_step codings cmp bytes mid out → Step codings cmp bytes old out) → Moves env codings cmp id file (λ _. Unit {0}) next_position Part_step old_env old_cache mid result new_env new_cache new
+        → Moves env codings cmp id file (λ _. Unit {0}) (λ pairs _. position_within pairs 0) Step old_env old_cache old result new_env new_cache new
     moves_first {Part_step = Part_step} {Step = Step} {mid = mid} {new = new} {result = result} old index none step moves =
         let at : (parts : List Part) (place : Option ℕ) → Stands cmp parts old place → Stands cmp parts mid None = λ parts place stands. record {
           lines = ap pairs_over index ∙ stands.lines;
@@ -260,18 +260,18 @@ module _ {C : Type 0} {order : CmpGhosts C} where
 
   -- the line for a key, by the order and the lines of the data blocks
   pub index_line : {cmp : List ℕ → List ℕ → Ordering} (parts : List Part) (index : BlockWalk C order) (key : List ℕ) (place : Option ℕ) → pairs_over index ≡ map index_pair parts → order.cmp index.block.cmp ≡ cmp
-      → place ≡ seek_place (order.cmp index.block.cmp) (pairs_over index) key → seek_place cmp (map index_pair parts) key ≡ place
+      → place ≡ seek_position (order.cmp index.block.cmp) (pairs_over index) key → seek_position cmp (map index_pair parts) key ≡ place
   index_line parts index key place lines ordered line =
-      ap (λ (o : List ℕ → List ℕ → Ordering). seek_place o (map index_pair parts) key) (sym ordered) ∙ ap (λ z. seek_place (order.cmp index.block.cmp) z key) (sym lines) ∙ sym line
+      ap (λ (o : List ℕ → List ℕ → Ordering). seek_position o (map index_pair parts) key) (sym ordered) ∙ ap (λ z. seek_position (order.cmp index.block.cmp) z key) (sym lines) ∙ sym line
 
   module _ {codings : Codings} {cmp : List ℕ → List ℕ → Ordering} {bytes : List ℕ} {parts : List Part} {old : TableCore C order} (key : List ℕ) (has : HasParts codings cmp bytes parts) (indexed : IsIndexed cmp parts old)
-      (line : place_over old.index ≡ seek_place (order.cmp old.index.block.cmp) (pairs_over old.index) key) where
-    sought_line : seek_place cmp (map index_pair parts) key ≡ place_over old.index
+      (line : place_over old.index ≡ seek_position (order.cmp old.index.block.cmp) (pairs_over old.index) key) where
+    sought_line : seek_position cmp (map index_pair parts) key ≡ place_over old.index
     sought_line = index_line parts old.index key (place_over old.index) indexed.lines indexed.ordered line
 
     module _ {accepts : List ℕ → Bool} (preorder : IsPreorderOn accepts cmp) (accepted : AreAccepted accepts parts) (fit : accepts key ≡ true) where
       -- in the line's block
-      pub sought_in : (new : TableCore C order) → is_some (place_over old.index) ≡ true → IsSought codings cmp bytes key old new → is_some (inner_place new.inner) ≡ true → Stands cmp parts new (seek_place cmp (pairs_in parts) key)
+      pub sought_in : (new : TableCore C order) → is_some (place_over old.index) ≡ true → IsSought codings cmp bytes key old new → is_some (inner_place new.inner) ≡ true → Stands cmp parts new (seek_position cmp (pairs_in parts) key)
       sought_in new some sought there =
           let at = line_is_of old.index has indexed.lines some in
           let pairs = part_pairs codings new.inner at.is (subst (λ l. IsBlockOf codings cmp bytes l (inner_block new.inner)) at.line sought.block) in
@@ -279,28 +279,28 @@ module _ {C : Type 0} {order : CmpGhosts C} where
           record {
             lines = ap pairs_over sought.index ∙ indexed.lines;
             ordered = ap (λ (z : BlockWalk C order). order.cmp z.block.cmp) sought.index ∙ indexed.ordered;
-            at = stands_along parts (seek_place cmp (pairs_in parts) key) (ap place_over sought.index ∙ at.at_line) pairs found.1
-                (seek_in preorder has.parted accepted key fit at.i at.part found.0 (sought_line ∙ at.at_line) at.there (ap (λ z. seek_place cmp z key) (sym pairs) ∙ sym sought.place ∙ found.1));
+            at = stands_along parts (seek_position cmp (pairs_in parts) key) (ap place_over sought.index ∙ at.at_line) pairs found.1
+                (seek_in preorder has.parted accepted key fit at.i at.part found.0 (sought_line ∙ at.at_line) at.there (ap (λ z. seek_position cmp z key) (sym pairs) ∙ sym sought.place ∙ found.1));
           }
 
       -- or in the next one
-      pub sought_behind : (new : TableCore C order) → is_some (place_over old.index) ≡ true → IsSought codings cmp bytes key old new → inner_place new.inner ≡ None → IsBehind parts (place_over new.index) (seek_place cmp (pairs_in parts) key)
+      pub sought_behind : (new : TableCore C order) → is_some (place_over old.index) ≡ true → IsSought codings cmp bytes key old new → inner_place new.inner ≡ None → IsBehind parts (place_over new.index) (seek_position cmp (pairs_in parts) key)
       sought_behind new some sought none =
           let at = line_is_of old.index has indexed.lines some in
           let pairs = part_pairs codings new.inner at.is (subst (λ l. IsBlockOf codings cmp bytes l (inner_block new.inner)) at.line sought.block) in
-          let after = seek_behind preorder has.parted accepted key fit (parts_some has) at.i at.part (sought_line ∙ at.at_line) at.there (ap (λ z. seek_place cmp z key) (sym pairs) ∙ sym sought.place ∙ none) in
+          let after = seek_behind preorder has.parted accepted key fit (parts_some has) at.i at.part (sought_line ∙ at.at_line) at.there (ap (λ z. seek_position cmp z key) (sym pairs) ∙ sym sought.place ∙ none) in
           record {
             before = after.before;
             behind = after.behind;
             parted = after.parted;
-            next = ap (next_place (map index_pair parts)) (ap place_over sought.index ∙ at.at_line) ∙ after.next;
+            next = ap (next_position (map index_pair parts)) (ap place_over sought.index ∙ at.at_line) ∙ after.next;
             to = after.to;
           }
 
   -- where the filters let the key pass or not at the handle of the line
   pub let_by : {codings : Codings} {cmp : List ℕ → List ℕ → Ordering} {bytes : List ℕ} {parts : List Part} (index : BlockWalk C order) (key line_key value : List ℕ) (handle : Handle) (lets : ℕ → List ℕ → Bool) (b : Bool)
-      → HasParts codings cmp bytes parts → pairs_over index ≡ map index_pair parts → seek_place cmp (map index_pair parts) key ≡ place_over index → pair_at (pairs_over index) (place_over index) ≡ Some (line_key, value)
-      → value ≡ handle_bytes handle → lets handle.offset key ≡ b → let_place cmp lets key parts ≡ (if b then seek_place cmp (pairs_in parts) key else None)
+      → HasParts codings cmp bytes parts → pairs_over index ≡ map index_pair parts → seek_position cmp (map index_pair parts) key ≡ place_over index → pair_at (pairs_over index) (place_over index) ≡ Some (line_key, value)
+      → value ≡ handle_bytes handle → lets handle.offset key ≡ b → let_place cmp lets key parts ≡ (if b then seek_position cmp (pairs_in parts) key else None)
   let_by {cmp = cmp} {parts = parts} index key line_key value handle lets b has lines sought is names passes =
       let at = line_is_of index has lines (place_there (pairs_over index) (place_over index) is) in
       let same : at.part.handle ≡ handle = same_handle at.part.handle handle (same_value (index_pair at.part) (line_key, value) (sym at.line ∙ is) ∙ names) in
@@ -311,7 +311,7 @@ module _ {C : Type 0} {order : CmpGhosts C} where
   module _ {codings : Codings} {cmp : List ℕ → List ℕ → Ordering} {bytes : List ℕ} {parts : List Part} {place : Option ℕ} {old : TableCore C order} (has : HasParts codings cmp bytes parts)
       (before : IsBefore parts (place_over old.index) place) (indexed : IsIndexed cmp parts old) where
     -- to its last pair
-    pub previous_stands : (new : TableCore C order) → IsInto codings cmp bytes (previous_place (place_over old.index)) last_place old new → ((k : ℕ) × (inner_place new.inner ≡ Some k)) × Stands cmp parts new place
+    pub previous_stands : (new : TableCore C order) → IsInto codings cmp bytes (previous_position (place_over old.index)) last_place old new → ((k : ℕ) × (inner_place new.inner ≡ Some k)) × Stands cmp parts new place
     previous_stands new next =
         let lines = next.lines ∙ indexed.lines in
         let at = line_is_of new.index has lines next.some in
@@ -322,7 +322,7 @@ module _ {C : Type 0} {order : CmpGhosts C} where
           record {
             lines = lines;
             ordered = ap order.cmp next.same_order ∙ indexed.ordered;
-            at = subst (λ z. StandsAt parts (place_over new.index) (inner_pairs new.inner) (inner_place new.inner) z) (sym before.to) (stands_along parts (previous_place (Some before.n)) at.at_line pairs there
+            at = subst (λ z. StandsAt parts (place_over new.index) (inner_pairs new.inner) (inner_place new.inner) z) (sym before.to) (stands_along parts (previous_position (Some before.n)) at.at_line pairs there
                 (previous_block before.stands before.first at.i at.part last.0 (sym next.at_line ∙ at.at_line) at.there last.1));
           },
         )

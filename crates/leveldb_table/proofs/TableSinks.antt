@@ -2,7 +2,7 @@
 use Rattle.std.proofs.Common.{◌≡◌, ◌⊎◌, ℕ, List, ◌+◌, Result, Ok, Err, Option, None, Some, inl, inr, subst, arith}
 use Rattle.std.specs.Prelude.{IfErr, IsErr, IsErrAnd, IsSomeAnd}
 use Rattle.std.specs.declared.cmp.Ordering.{Ordering}
-use Rattle.leveldb_base.specs.Handle.{Handle}
+use Rattle.leveldb_base.specs.BlockHandle.{Handle}
 use Rattle.leveldb_base.specs.declared.error.Status.{Status}
 use Rattle.leveldb_env.specs.Coders.{Coding, Codings, RefusesWith, IsUnset, decoded_under}
 use Rattle.leveldb_table.specs.TableBuilding.{IsPlaced}

@@ -5,8 +5,8 @@ use Rattle.std.specs.Prelude.{OnOk, OnErr, IfErr, IsOk}
 use Rattle.std.specs.List.{AllByRecursion}
 use Rattle.std.specs.declared.cmp.Ordering.{Ordering}
 use Rattle.std.specs.declared.cmp.Ordering.TheVariants.{Less, Greater}
-use Rattle.leveldb_base.specs.Order.{IsPreorderOn, IsSeparator}
-use Rattle.leveldb_base.specs.Places.{Pair}
+use Rattle.leveldb_base.specs.Cmp.{IsPreorderOn, IsSeparator}
+use Rattle.leveldb_base.specs.Types.{Pair}
 use Rattle.leveldb_table.specs.Block.{KeysRise}
 use Rattle.leveldb_table.specs.Built.{last_added}
 use Rattle.leveldb_table.proofs.TableOrders.{all_append, all_left, all_right, last_holds, line_rises, turned_from}

@@ -6,9 +6,9 @@ use Rattle.std.specs.declared.cmp.Ordering.TheVariants.{Less, Equal, Greater}
 use Rattle.std.specs.Ordering.{ordering_reverse, ordering_then, nat_cmp, is_lt}
 use Rattle.std.specs.Str.{bytes_eq}
 use Rattle.leveldb_base.specs.declared.key_types.ValueType.TheVariants.{TypeValue}
-use Rattle.leveldb_base.specs.Order.{IsPreorderOn, IsSeparator}
-use Rattle.leveldb_base.specs.Keys.{internal_key, user_part, sequence_part, internal_accepts, internal_cmp, internal_separator, greatest_sequence}
-use Rattle.leveldb_base.specs.KeyLaws.{user_part-internal_key}
+use Rattle.leveldb_base.specs.Cmp.{IsPreorderOn, IsSeparator, internal_accepts, internal_separator}
+use Rattle.leveldb_base.specs.KeyTypes.{internal_key, user_part, sequence_part, internal_cmp, greatest_sequence}
+use Rattle.leveldb_base.specs.CmpLaws.{user_part-internal_key}
 use Rattle.leveldb_table.specs.TableBuilding.{SeparatesUsers}
 
 -- where two equal keys separate themselves, else a key of this user's key

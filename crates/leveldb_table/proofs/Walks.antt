@@ -4,7 +4,7 @@ use Rattle.std.proofs.lemmas.Bool.{cases_lt}
 use Rattle.std.proofs.lemmas.Bool.Decides.{nat_tests}
 use Rattle.std.proofs.lemmas.List.{take_at, drop_at, take_all, append-nil, length-take-le}
 use Rattle.std.proofs.lemmas.List.Concat.{flat_map-append}
-use Rattle.leveldb_base.specs.Places.{Pair}
+use Rattle.leveldb_base.specs.Types.{Pair}
 use Rattle.leveldb_table.specs.Block.{Entry, entry_bytes, key_of, pairs_of, SharesFrom, AreEntries, points_from, restart_points}
 use Rattle.leveldb_table.specs.BlockLaws.{length-entry_bytes-ge}
 use Rattle.leveldb_table.specs.Walk.{last_key, start_of, begun, IsPoint, Serves, Loads}

@@ -4,7 +4,7 @@ use Rattle.std.specs.Prelude.{◌≡◌, ℕ, ◌+◌, ◌^◌, ◌<◌, ◌≤�
 use Rattle.std.specs.List.{All}
 use Rattle.std.specs.declared.cmp.Ordering.{Ordering}
 use Rattle.std.specs.declared.cmp.Ordering.TheVariants.{Less}
-use Rattle.leveldb_base.specs.Places.{Pair}
+use Rattle.leveldb_base.specs.Types.{Pair}
 use Rattle.leveldb_base.specs.Varint.{little, varint}
 
 -- A pair as it stands in a block: whether a restart point names it, how many bytes its key shares with the key before it,
@@ -19,6 +19,7 @@ pub record Entry : Type 0 where
 abbrev pub spelling : ℕ → List ℕ → List ℕ → List ℕ
 spelling shared rest value = varint shared ++ (varint (length rest) ++ (varint (length value) ++ (rest ++ value)))
 
+-- the bytes of an entry in a block
 unfoldable pub entry_bytes : Entry → List ℕ
 entry_bytes entry = spelling entry.shared entry.rest entry.value
 

@@ -5,9 +5,9 @@ use Rattle.std.proofs.Props.{props}
 use Rattle.std.proofs.lemmas.Bool.Decides.{nat_tests}
 use Rattle.std.specs.declared.cmp.Ordering.{Ordering}
 use mathlib.Core.HLevel.{Σ_prop_path}
-use Rattle.leveldb_base.specs.Places.{Pair}
+use Rattle.leveldb_base.specs.Types.{Pair}
 use Rattle.leveldb_base.specs.Varint.{little, varint}
-use Rattle.leveldb_base.specs.VarintLaws.{apart, apart_right, one_number, length-varint-pos}
+use Rattle.leveldb_base.proofs.VarintLemmas.{apart, apart_right, one_number, length-varint-pos}
 use Rattle.leveldb_env.specs.NumberLaws.{length-fours, one_fixed, one_numbers}
 use Rattle.leveldb_table.specs.Block.{Entry, spelling, entry_bytes, key_of, pairs_of, SharesFrom, AreEntries, RiseBehind, points_from, restart_points, block_bytes, IsSpelled, IsHeld, Held}
 

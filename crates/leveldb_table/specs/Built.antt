@@ -3,7 +3,7 @@ use Rattle.std.specs.Prelude.{◌≡◌, ℕ, suc, ◌+◌, ◌*◌, ◌%◌, �
 use Rattle.std.specs.Prelude.{Bool, true, false, nat_eq, if◌then◌else◌, List, [], ◌∷◌, ◌++◌, length, drop, flat_map, None}
 use Rattle.std.specs.List.{All}
 use Rattle.std.specs.declared.cmp.Ordering.{Ordering}
-use Rattle.leveldb_base.specs.Places.{Pair}
+use Rattle.leveldb_base.specs.Types.{Pair}
 use Rattle.leveldb_table.specs.Block.{Entry, entry_bytes, pairs_of, AreEntries, KeysRise, restart_points, block_bytes, IsBlock}
 use Rattle.leveldb_table.specs.Reading.{key_before}
 use Rattle.leveldb_table.specs.Walk.{last_key}

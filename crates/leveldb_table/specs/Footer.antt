@@ -1,6 +1,6 @@
 -- The footer, a table's last bytes, which say where its metaindex and its index stand.
 use Rattle.std.specs.Prelude.{◌≡◌, ℕ, ◌-◌, List, [], ◌∷◌, ◌++◌, length, replicate, Option, None, Some}
-use Rattle.leveldb_base.specs.Handle.{Handle, HandleFits, handle_bytes}
+use Rattle.leveldb_base.specs.BlockHandle.{Handle, HandleFits, handle_bytes}
 use Rattle.leveldb_table.specs.declared.table_builder.footer.Footer.{Footer}
 
 -- the bytes that end each table

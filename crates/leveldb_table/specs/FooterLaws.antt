@@ -1,8 +1,8 @@
 -- Each footer has 48 bytes and one reading.
 use Rattle.std.proofs.Common.{◌≡◌, ℕ, ◌-◌, List, ◌++◌, length, replicate, Option, None, Some, refl, sym, ◌∙◌, ap, arith, append_assoc, length-append}
 use Rattle.std.proofs.lemmas.List.{length-replicate}
-use Rattle.leveldb_base.specs.Handle.{Handle, HandleFits, handle_bytes}
-use Rattle.leveldb_base.specs.HandleLaws.{one_handle, length-handle_bytes}
+use Rattle.leveldb_base.specs.BlockHandle.{Handle, HandleFits, handle_bytes}
+use Rattle.leveldb_base.proofs.BlockHandleLemmas.{one_handle, length-handle_bytes}
 use Rattle.leveldb_table.specs.Footer.{magic, filled, footer_bytes, ReadsFooter}
 use Rattle.leveldb_table.specs.declared.table_builder.footer.Footer.{Footer}
 

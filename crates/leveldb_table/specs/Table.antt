@@ -6,10 +6,10 @@ use Rattle.std.specs.List.{AllByRecursion}
 use Rattle.std.specs.declared.cmp.Ordering.{Ordering}
 use Rattle.std.specs.declared.cmp.Ordering.TheVariants.{Less}
 use Rattle.std.specs.Ordering.{is_lt}
-use Rattle.leveldb_base.specs.Bytewise.{bytewise}
+use Rattle.leveldb_base.specs.Cmp.{bytewise}
 use Rattle.leveldb_base.specs.Crc.{crc_of, masked}
-use Rattle.leveldb_base.specs.Handle.{Handle, handle_bytes, HandleFits}
-use Rattle.leveldb_base.specs.Places.{Pair}
+use Rattle.leveldb_base.specs.BlockHandle.{Handle, handle_bytes, HandleFits}
+use Rattle.leveldb_base.specs.Types.{Pair}
 use Rattle.leveldb_base.specs.Varint.{little}
 use Rattle.leveldb_env.specs.FilterBlock.{IsFilterBlock, filter_of, finished, passes}
 use Rattle.leveldb_table.specs.Block.{IsBlock, KeysRise}
@@ -64,6 +64,7 @@ index_pair part = (part.index_key, handle_bytes part.handle)
 abbrev pub UpTo : (List ℕ → List ℕ → Ordering) → List ℕ → List Pair → Type 0
 UpTo cmp key pairs = AllByRecursion (λ pair. cmp key pair.0 ≢ Less) pairs
 
+-- a key is before all keys of some pairs
 abbrev pub After : (List ℕ → List ℕ → Ordering) → List ℕ → List Pair → Type 0
 After cmp key pairs = AllByRecursion (λ pair. cmp key pair.0 ≡ Less) pairs
 

@@ -1,9 +1,9 @@
 -- How a pair is added to a table builder, why one is refused, and what a refusal leaves in the sink.
 use Rattle.std.specs.Prelude.{◌≡◌, ◌⊎◌, ℕ, ◌+◌, ◌/◌, ◌<◌, true, false, List, [], length, Result, Ok}
 use Rattle.std.specs.declared.cmp.Ordering.{Ordering}
-use Rattle.leveldb_base.specs.Handle.{Handle, handle_bytes}
-use Rattle.leveldb_base.specs.Places.{Pair}
-use Rattle.leveldb_base.specs.Status.{IsOutOfMemory}
+use Rattle.leveldb_base.specs.BlockHandle.{Handle, handle_bytes}
+use Rattle.leveldb_base.specs.Types.{Pair}
+use Rattle.leveldb_base.specs.Error.{IsOutOfMemory}
 use Rattle.leveldb_base.specs.declared.cmp.Cmp.{Ghosts as CmpGhosts}
 use Rattle.leveldb_base.specs.declared.error.Status.{Status}
 use Rattle.leveldb_base.specs.declared.error.StatusCode.TheVariants.{NotSupported}

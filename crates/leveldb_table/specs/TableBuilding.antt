@@ -5,9 +5,9 @@ use Rattle.std.specs.declared.cmp.Ordering.{Ordering}
 use Rattle.std.specs.declared.cmp.Ordering.TheVariants.{Less, Greater}
 use Rattle.leveldb_base.specs.declared.error.Status.{Status}
 use Rattle.leveldb_base.specs.declared.error.StatusCode.TheVariants.{IOError}
-use Rattle.leveldb_base.specs.Bytewise.{bytewise}
-use Rattle.leveldb_base.specs.Handle.{Handle, handle_bytes, HandleFits}
-use Rattle.leveldb_base.specs.Places.{Pair}
+use Rattle.leveldb_base.specs.Cmp.{bytewise}
+use Rattle.leveldb_base.specs.BlockHandle.{Handle, handle_bytes, HandleFits}
+use Rattle.leveldb_base.specs.Types.{Pair}
 use Rattle.leveldb_env.specs.Sinks.{PutsAll}
 use Rattle.leveldb_env.specs.Coders.{Codings, Decodes}
 use Rattle.leveldb_env.specs.FilterBlock.{IsFilterBlock, finished}
@@ -32,6 +32,7 @@ last_of core = last_added (pairs_of None core.block.built.0)
 abbrev pub order_of : {C FP : Type 0} {order : CmpGhosts C} {policy : PolicyGhosts FP} → BuilderCore C FP order policy → C
 order_of core = core.block.cmp
 
+-- the filter policy of a table that is built
 abbrev pub policy_of : {C FP : Type 0} {order : CmpGhosts C} {policy : PolicyGhosts FP} → BuilderCore C FP order policy → FP
 policy_of core = core.filter.policy
 

@@ -1,9 +1,9 @@
 -- How the last of a table is put, why a table wasn't finished, and what a refusal leaves in the sink: a beginning of what would be there.
 use Rattle.std.specs.Prelude.{◌≡◌, ◌≢◌, ◌⊎◌, ℕ, ◌+◌, true, false, List, [], ◌∷◌, length, Result, Ok}
 use Rattle.std.specs.declared.cmp.Ordering.{Ordering}
-use Rattle.leveldb_base.specs.Bytewise.{bytewise}
-use Rattle.leveldb_base.specs.Handle.{Handle, handle_bytes}
-use Rattle.leveldb_base.specs.Status.{IsOutOfMemory}
+use Rattle.leveldb_base.specs.Cmp.{bytewise}
+use Rattle.leveldb_base.specs.BlockHandle.{Handle, handle_bytes}
+use Rattle.leveldb_base.specs.Error.{IsOutOfMemory}
 use Rattle.leveldb_base.specs.declared.cmp.Cmp.{Ghosts as CmpGhosts}
 use Rattle.leveldb_base.specs.declared.error.Status.{Status}
 use Rattle.leveldb_env.specs.Coders.{Codings, IsUnset}

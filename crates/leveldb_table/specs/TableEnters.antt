@@ -2,8 +2,8 @@
 use Rattle.std.specs.Prelude.{◌≡◌, ◌++◌, ℕ, Bool, true, if◌then◌else◌, List, length, map, Option, None, Some, Result, Ok, Err, OnOk, OnErr}
 use Rattle.std.specs.Option.{IsSomeAnd}
 use Rattle.std.specs.declared.cmp.Ordering.{Ordering}
-use Rattle.leveldb_base.specs.Handle.{Handle}
-use Rattle.leveldb_base.specs.Places.{Pair, next_place, previous_place, seek_place, place_within, pair_at}
+use Rattle.leveldb_base.specs.BlockHandle.{Handle}
+use Rattle.leveldb_base.specs.Types.{Pair, next_position, previous_position, seek_position, position_within, pair_at}
 use Rattle.leveldb_base.specs.declared.cmp.Cmp.{Ghosts as CmpGhosts}
 use Rattle.leveldb_base.specs.declared.error.Status.{Status}
 use Rattle.leveldb_env.specs.declared.env.Env.{Ghosts as EnvGhosts}
@@ -24,8 +24,8 @@ pub record IsBehind (parts : List Part) (line place : Option ℕ) : Type 0 where
   pub before : List Part
   pub behind : List Part
   pub parted : parts ≡ before ++ behind
-  pub next : next_place (map index_pair parts) line ≡ place_within (map index_pair parts) (length before)
-  pub to : place ≡ place_within (pairs_in parts) (length (pairs_in before))
+  pub next : next_position (map index_pair parts) line ≡ position_within (map index_pair parts) (length before)
+  pub to : place ≡ position_within (pairs_in parts) (length (pairs_in before))
 
 -- the walk is at the first pair of the line's block, and the place is the one before
 pub record IsBefore (parts : List Part) (line place : Option ℕ) : Type 0 where
@@ -33,19 +33,20 @@ pub record IsBefore (parts : List Part) (line place : Option ℕ) : Type 0 where
   pub inner : Option ℕ
   pub n : ℕ
   pub stands : StandsIn parts line pairs inner n
-  pub first : previous_place inner ≡ None
-  pub to : place ≡ previous_place (Some n)
+  pub first : previous_position inner ≡ None
+  pub to : place ≡ previous_position (Some n)
 
 -- where a look-up goes: to the first pair at or after the key, but to no place where the filters don't let the key pass at the block that the
 -- index names for it
 abbrev pub let_place : (List ℕ → List ℕ → Ordering) → (ℕ → List ℕ → Bool) → List ℕ → List Part → Option ℕ
 let_place cmp lets key parts =
-    elim (named_part cmp key parts) [ None ↦ None | Some part ↦ if lets part.handle.offset key then seek_place cmp (pairs_in parts) key else None ]
+    elim (named_part cmp key parts) [ None ↦ None | Some part ↦ if lets part.handle.offset key then seek_position cmp (pairs_in parts) key else None ]
 
 -- where a walk goes for a key, and where for a look-up
 abbrev pub SeeksTo : (List ℕ → Bool) → (List ℕ → List ℕ → Ordering) → List ℕ → List Part → Option ℕ → Type 0
-SeeksTo accepts cmp key parts place = AreAccepted accepts parts × (accepts key ≡ true) × (place ≡ seek_place cmp (pairs_in parts) key)
+SeeksTo accepts cmp key parts place = AreAccepted accepts parts × (accepts key ≡ true) × (place ≡ seek_position cmp (pairs_in parts) key)
 
+-- as SeeksTo, where the filters let the key pass; else it leads to no position
 abbrev pub LetTo : (List ℕ → Bool) → (List ℕ → List ℕ → Ordering) → (ℕ → List ℕ → Bool) → List ℕ → List Part → Option ℕ → Type 0
 LetTo accepts cmp lets key parts place = AreAccepted accepts parts × (accepts key ≡ true) × (place ≡ let_place cmp lets key parts)
 

@@ -3,8 +3,8 @@
 -- and for no other block.
 use Rattle.std.specs.Prelude.{◌≡◌, ◌≢◌, ◌⊎◌, ◌+◌, ℕ, Bool, true, false, List, [], Option, None, Some, Ok, Err, IsOkAnd}
 use Rattle.std.specs.declared.cmp.Ordering.{Ordering}
-use Rattle.leveldb_base.specs.Handle.{Handle, HandleFits}
-use Rattle.leveldb_base.specs.Places.{Pair, place_within, next_place, previous_place, seek_place, pair_at}
+use Rattle.leveldb_base.specs.BlockHandle.{Handle, HandleFits}
+use Rattle.leveldb_base.specs.Types.{Pair, position_within, next_position, previous_position, seek_position, pair_at}
 use Rattle.leveldb_base.specs.declared.cmp.Cmp.{Ghosts as CmpGhosts}
 use Rattle.leveldb_base.specs.declared.error.Status.{Status}
 use Rattle.leveldb_base.specs.declared.error.StatusCode.TheVariants.{Corruption}
@@ -53,26 +53,27 @@ module _ (codings : Codings) (cmp : List ℕ → List ℕ → Ordering) (bytes :
 
   -- to the first pair of this line's block, and to its last
   abbrev pub GoesToFirst : Option ℕ → Outcome → Type 0
-  GoesToFirst line out = GoesInto (λ pairs. place_within pairs 0) line out
+  GoesToFirst line out = GoesInto (λ pairs. position_within pairs 0) line out
 
+  -- to the last pair of a line's block
   abbrev pub GoesToLast : Option ℕ → Outcome → Type 0
   GoesToLast line out = GoesInto last_place line out
 
   -- From a pair to the next of its block, and from its last to the first pair of the next line's block; from no place to that of the first line's.
   abbrev pub GoesOn : Option ℕ → TablePlace → Outcome → Type 0
-  GoesOn None old out = GoesToFirst (place_within lines 0) out
-  GoesOn (Some i) old out = InsideOr (place_within old.pairs (i + 1)) old out (GoesToFirst (next_place lines old.line) out)
+  GoesOn None old out = GoesToFirst (position_within lines 0) out
+  GoesOn (Some i) old out = InsideOr (position_within old.pairs (i + 1)) old out (GoesToFirst (next_position lines old.line) out)
 
   -- From a pair to the one before it in its block, and from its first to the last pair of the block of the line before; from no place it stays.
   abbrev pub GoesBack : Option ℕ → TablePlace → Outcome → Type 0
   GoesBack None old out = out ≡ Ok old
-  GoesBack (Some i) old out = InsideOr (previous_place (Some i)) old out (GoesToLast (previous_place old.line) out)
+  GoesBack (Some i) old out = InsideOr (previous_position (Some i)) old out (GoesToLast (previous_position old.line) out)
 
   -- to the first pair at or after the key in this line's block, and where that has none, to the first pair of the next line's
   pub record SeeksIn (key : List ℕ) (line : ℕ) (out : Outcome) : Type 0 where
     pub pairs : List Pair
     pub block : HasLine line pairs
-    pub goes : InsideOr (seek_place cmp pairs key) (record { line = Some line; pairs = pairs; inner = None }) out (GoesToFirst (next_place lines (Some line)) out)
+    pub goes : InsideOr (seek_position cmp pairs key) (record { line = Some line; pairs = pairs; inner = None }) out (GoesToFirst (next_position lines (Some line)) out)
 
   -- Without a line it comes nowhere. Else it seeks in the line's block, or is refused since that is lacking.
   abbrev pub Seeks : List ℕ → Option ℕ → Outcome → Type 0
@@ -102,7 +103,7 @@ module _ {E C FP F : Type 0} {order : CmpGhosts C} where
   -- what a look-up of a key in an open table comes to
   abbrev pub LooksUpIn : Codings → (FP → List ℕ → List ℕ → Bool) → Table E C FP F order → List ℕ → List ℕ → Outcome → Type 0
   LooksUpIn codings matches table key bytes out =
-      LooksFor codings (order.cmp table.cmp) bytes (lines_of table) (lets matches table) key (seek_place (order.cmp table.index.cmp) (lines_of table) key) out
+      LooksFor codings (order.cmp table.cmp) bytes (lines_of table) (lets matches table) key (seek_position (order.cmp table.index.cmp) (lines_of table) key) out
 
   -- What it finds: the pair at the place to which it comes, if that is one.
   pub record Finds (codings : Codings) (matches : FP → List ℕ → List ℕ → Bool) (table : Table E C FP F order) (key bytes : List ℕ) (found : Option Pair) : Type 0 where
@@ -115,29 +116,32 @@ module _ {E C FP F : Type 0} {order : CmpGhosts C} where
 module _ {C : Type 0} {order : CmpGhosts C} where
   -- the line of its index for a key
   abbrev pub line_for : List ℕ → TableCore C order → Option ℕ
-  line_for key core = seek_place (order.cmp core.index.block.cmp) (pairs_over core.index) key
+  line_for key core = seek_position (order.cmp core.index.block.cmp) (pairs_over core.index) key
 
   -- to the next pair, and to the one before
   abbrev pub Forward : Codings → (List ℕ → List ℕ → Ordering) → List ℕ → TableCore C order → Outcome → Type 0
   Forward codings cmp bytes old out = GoesOn codings cmp bytes (pairs_over old.index) (inner_place old.inner) (table_place old) out
 
+  -- from where the iterator is to the pair before
   abbrev pub Backward : Codings → (List ℕ → List ℕ → Ordering) → List ℕ → TableCore C order → Outcome → Type 0
   Backward codings cmp bytes old out = GoesBack codings cmp bytes (pairs_over old.index) (inner_place old.inner) (table_place old) out
 
   -- to the first pair of the first block
   abbrev pub ToFirst : Codings → (List ℕ → List ℕ → Ordering) → List ℕ → TableCore C order → Outcome → Type 0
-  ToFirst codings cmp bytes old out = GoesToFirst codings cmp bytes (pairs_over old.index) (place_within (pairs_over old.index) 0) out
+  ToFirst codings cmp bytes old out = GoesToFirst codings cmp bytes (pairs_over old.index) (position_within (pairs_over old.index) 0) out
 
   -- to the first pair of the next line's block, and to the last of that of the line before
   abbrev pub ToNext : Codings → (List ℕ → List ℕ → Ordering) → List ℕ → TableCore C order → Outcome → Type 0
-  ToNext codings cmp bytes old out = GoesToFirst codings cmp bytes (pairs_over old.index) (next_place (pairs_over old.index) (place_over old.index)) out
+  ToNext codings cmp bytes old out = GoesToFirst codings cmp bytes (pairs_over old.index) (next_position (pairs_over old.index) (place_over old.index)) out
 
+  -- to the last pair of the block of the line before the index's
   abbrev pub ToPrevious : Codings → (List ℕ → List ℕ → Ordering) → List ℕ → TableCore C order → Outcome → Type 0
-  ToPrevious codings cmp bytes old out = GoesToLast codings cmp bytes (pairs_over old.index) (previous_place (place_over old.index)) out
+  ToPrevious codings cmp bytes old out = GoesToLast codings cmp bytes (pairs_over old.index) (previous_position (place_over old.index)) out
 
   -- to the first pair at or after a key by the line that the index has for it, and the same where the filters let the key pass
   abbrev pub Sought : List ℕ → Codings → (List ℕ → List ℕ → Ordering) → List ℕ → TableCore C order → Outcome → Type 0
   Sought key codings cmp bytes old out = Seeks codings cmp bytes (pairs_over old.index) key (line_for key old) out
 
+  -- as Sought, where the filters let the key pass
   abbrev pub LookedUp : (ℕ → List ℕ → Bool) → List ℕ → Codings → (List ℕ → List ℕ → Ordering) → List ℕ → TableCore C order → Outcome → Type 0
   LookedUp lets key codings cmp bytes old out = LooksFor codings cmp bytes (pairs_over old.index) lets key (line_for key old) out

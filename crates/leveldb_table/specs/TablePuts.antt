@@ -1,7 +1,7 @@
 -- Blocks put into a table's file.
 use Rattle.std.specs.Prelude.{◌≡◌, ◌⊎◌, ℕ, ◌+◌, ◌^◌, ◌≤◌, List, [], length, Result, Ok, Err, None, IsSomeAnd}
-use Rattle.leveldb_base.specs.Handle.{Handle, HandleFits, handle_bytes}
-use Rattle.leveldb_base.specs.Status.{IsOutOfMemory}
+use Rattle.leveldb_base.specs.BlockHandle.{Handle, HandleFits, handle_bytes}
+use Rattle.leveldb_base.specs.Error.{IsOutOfMemory}
 use Rattle.leveldb_base.specs.declared.error.Status.{Status}
 use Rattle.leveldb_base.specs.declared.error.StatusCode.TheVariants.{NotSupported}
 use Rattle.leveldb_env.specs.Coders.{Codings, Decodes, IsUnset, RefusesWith}

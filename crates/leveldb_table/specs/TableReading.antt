@@ -6,9 +6,9 @@ use Rattle.std.specs.Map.{lookup}
 use Rattle.std.specs.Str.{bytes_eq}
 use Rattle.std.specs.declared.cmp.Ordering.{Ordering}
 use Rattle.std.specs.declared.cmp.Ordering.TheVariants.{Less, Greater}
-use Rattle.leveldb_base.specs.Bytewise.{bytewise}
-use Rattle.leveldb_base.specs.Handle.{Handle, handle_bytes, HandleFits}
-use Rattle.leveldb_base.specs.Places.{Pair, seek_place, pair_at}
+use Rattle.leveldb_base.specs.Cmp.{bytewise}
+use Rattle.leveldb_base.specs.BlockHandle.{Handle, handle_bytes, HandleFits}
+use Rattle.leveldb_base.specs.Types.{Pair, seek_position, pair_at}
 use Rattle.leveldb_base.specs.declared.cmp.Cmp.{Ghosts as CmpGhosts}
 use Rattle.leveldb_base.specs.declared.error.Status.{Status}
 use Rattle.leveldb_base.specs.declared.error.StatusCode.TheVariants.{Corruption}
@@ -104,7 +104,7 @@ found_in cmp lets key parts =
 
 -- the line that an index has for a key: the first whose key is at or after it
 abbrev pub key_line : (List ℕ → List ℕ → Ordering) → List ℕ → List Pair → Option Pair
-key_line cmp key lines = pair_at lines (seek_place cmp lines key)
+key_line cmp key lines = pair_at lines (seek_position cmp lines key)
 
 -- The offset is that of the handle which the line names; without a line, it is the one given.
 abbrev pub IsOffsetBy : Option Pair → ℕ → ℕ → Type 0

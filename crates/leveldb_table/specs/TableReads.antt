@@ -1,8 +1,8 @@
 -- What reading the blocks of a table's file gives.
 use Rattle.std.specs.Prelude.{◌≡◌, ◌⊎◌, ◌^◌, ◌<◌, ℕ, List, length, drop, Option, None, Some, Result, IsTrue, IsSomeAnd}
 use Rattle.std.specs.declared.cmp.Ordering.{Ordering}
-use Rattle.leveldb_base.specs.Handle.{Handle, handle_bytes, HandleFits}
-use Rattle.leveldb_base.specs.Places.{Pair}
+use Rattle.leveldb_base.specs.BlockHandle.{Handle, handle_bytes, HandleFits}
+use Rattle.leveldb_base.specs.Types.{Pair}
 use Rattle.leveldb_base.specs.declared.error.Status.{Status}
 use Rattle.leveldb_base.specs.declared.error.StatusCode.TheVariants.{Corruption}
 use Rattle.leveldb_env.specs.Calls.{Still, SameLocks, HasCause, IsMissing}
@@ -33,6 +33,7 @@ abbrev pub IsUndecodedBy : Option Coding → ℕ → List ℕ → Status → Typ
 IsUndecodedBy None id stored status = IsUnset id status
 IsUndecodedBy (Some coding) id stored status = (coding.decoded stored ≡ None) × RefusesWith coding status
 
+-- what is stored under this id isn't decoded, and the status says why
 abbrev pub IsUndecoded : Codings → ℕ → List ℕ → Status → Type 0
 IsUndecoded codings id stored status = IsUndecodedBy (codings id) id stored status
 

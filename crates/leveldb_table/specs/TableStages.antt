@@ -3,8 +3,8 @@ use Rattle.std.specs.Prelude.{◌≡◌, ◌≢◌, ℕ, ◌+◌, ◌/◌, ◌<�
 use Rattle.std.specs.List.{AllByRecursion}
 use Rattle.std.specs.declared.cmp.Ordering.{Ordering}
 use Rattle.std.specs.declared.cmp.Ordering.TheVariants.{Less}
-use Rattle.leveldb_base.specs.Handle.{Handle, handle_bytes, HandleFits}
-use Rattle.leveldb_base.specs.Places.{Pair}
+use Rattle.leveldb_base.specs.BlockHandle.{Handle, handle_bytes, HandleFits}
+use Rattle.leveldb_base.specs.Types.{Pair}
 use Rattle.leveldb_env.specs.FilterBlock.{Building, started, with_key, IsKept}
 use Rattle.leveldb_table.specs.Block.{KeysRise}
 use Rattle.leveldb_table.specs.Built.{last_added, block_made, IsMade}
@@ -21,6 +21,7 @@ pub record Stage (FP : Type 0) : Type 0 where
   pub interval : ℕ
   pub index_interval : ℕ
 
+-- a table that is built, from its parts
 abbrev pub stage_of : {FP : Type 0} → Building FP → ℕ → List Pair → List Pair → ℕ → ℕ → ℕ → Stage FP
 stage_of filter offset lines open_pairs count interval index_interval =
     record { filter = filter; offset = offset; lines = lines; open_pairs = open_pairs; count = count; interval = interval; index_interval = index_interval }

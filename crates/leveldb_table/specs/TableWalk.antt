@@ -1,8 +1,8 @@
 -- Where a walk over a table stands: at a line of the index, and at a pair of the data block that the line names.
 use Rattle.std.specs.Prelude.{◌≡◌, ◌+◌, ◌<◌, ℕ, List, [], ◌∷◌, ◌++◌, length, map, Option, None, Some, Result, Ok, Err, OnOk, OnErr}
 use Rattle.std.specs.declared.cmp.Ordering.{Ordering}
-use Rattle.leveldb_base.specs.Handle.{Handle, handle_bytes, HandleFits}
-use Rattle.leveldb_base.specs.Places.{Pair, pair_at}
+use Rattle.leveldb_base.specs.BlockHandle.{Handle, handle_bytes, HandleFits}
+use Rattle.leveldb_base.specs.Types.{Pair, pair_at}
 use Rattle.leveldb_base.specs.declared.cmp.Cmp.{Ghosts as CmpGhosts}
 use Rattle.leveldb_base.specs.declared.error.Status.{Status}
 use Rattle.leveldb_env.specs.declared.env.Env.{Ghosts as EnvGhosts}
@@ -61,6 +61,7 @@ module _ {C : Type 0} {order : CmpGhosts C} where
   abbrev pub pairs_over : BlockWalk C order → List Pair
   pairs_over walk = pairs_of None walk.block.held.0
 
+  -- the position of a walk over its block's pairs, if it has one
   abbrev pub place_over : BlockWalk C order → Option ℕ
   place_over walk = place_of walk.block.held.0 walk.core.spot
 
@@ -69,10 +70,12 @@ module _ {C : Type 0} {order : CmpGhosts C} where
   inner_block None = None
   inner_block (Some walk) = Some walk.block
 
+  -- the pairs of its block, none where there is no walk
   abbrev pub inner_pairs : Option (BlockWalk C order) → List Pair
   inner_pairs None = []
   inner_pairs (Some walk) = pairs_over walk
 
+  -- its position, none where there is no walk
   abbrev pub inner_place : Option (BlockWalk C order) → Option ℕ
   inner_place None = None
   inner_place (Some walk) = place_over walk

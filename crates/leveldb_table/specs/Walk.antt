@@ -3,7 +3,7 @@ use Rattle.std.specs.Prelude.{◌≡◌, ℕ, suc, ◌-◌, ◌<◌, ◌≤◌, 
 use Rattle.std.specs.Prelude.{List, [], ◌∷◌, ◌++◌, length, take, drop, flat_map, slice_get, slice_index, slice_range, Option, None, Some, IfSome, IsSomeAnd}
 use Rattle.std.specs.Option.{option_map}
 use Rattle.std.specs.declared.cmp.Ordering.{Ordering}
-use Rattle.leveldb_base.specs.Places.{Pair, count_before}
+use Rattle.leveldb_base.specs.Types.{Pair, count_before}
 use Rattle.leveldb_table.specs.Block.{Entry, entry_bytes, key_of, pairs_of, restart_points}
 use Rattle.leveldb_table.specs.declared.block.walk.Spot.{Spot}
 

@@ -1,6 +1,6 @@
 //! Blocks: sorted pairs as bytes, checked once and then walked both ways.
 ghost use Rattle.std.specs.Prelude.{◌≡◌, ◌⊎◌, None, IfOk, IfErr, IsErrAnd};
-ghost use Rattle.leveldb_base.specs.Status.{IsOutOfMemory};
+ghost use Rattle.leveldb_base.specs.Error.{IsOutOfMemory};
 ghost use Rattle.leveldb_base.specs.declared.error.StatusCode.TheVariants.{Corruption};
 ghost use Rattle.leveldb_table.specs.Block.{Held, IsBlock, IsNoBlock, pairs_of};
 ghost use Rattle.leveldb_table.specs.BlockLaws.{Held-prop};

@@ -1,6 +1,6 @@
 //! Block builders: pairs in order, put into the bytes of a block.
 ghost use Rattle.std.specs.Prelude.{◌≡◌, ◌↔◌, ◌⊎◌, ℕ, ◌+◌, ◌*◌, ◌^◌, ◌<◌, ◌≤◌, Bool, true, false, List, [], ◌∷◌, ◌++◌, length, take, drop, flat_map, max, None, vec_len, vec_capacity, IfOk, IfErr, OnOk, OnErr, IsErrAnd, IsTrue};
-ghost use Rattle.leveldb_base.specs.Status.{IsOutOfMemory};
+ghost use Rattle.leveldb_base.specs.Error.{IsOutOfMemory};
 ghost use Rattle.leveldb_base.specs.Varint.{little, varint};
 ghost use Rattle.leveldb_base.specs.declared.error.StatusCode.TheVariants.{NotSupported};
 ghost use Rattle.leveldb_table.specs.Block.{IsBlock, IsSpelled, KeysRise, pairs_of, spelling};
@@ -249,7 +249,7 @@ fn put_point(points: &mut Vec<u32>, restart: bool, count: usize, offset: usize)
 
 // Writes an entry's three lengths at the front, and answers how many bytes that took.
 #[inline]
-#[tactic(auto, using(leveldb_base::specs::VarintLaws::varint_lengths))]
+#[tactic(auto, using(leveldb_base::proofs::VarintLemmas::varint_lengths))]
 fn encode_lengths(dst: &mut [u8], shared: usize, rest: usize, value: usize) -> usize
     requires { 30 ≤ length dst.old }
     ensures used { result ≡ length (varint shared ++ (varint rest ++ varint value)) }

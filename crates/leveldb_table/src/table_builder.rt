@@ -3,7 +3,7 @@ ghost use Rattle.std.specs.Prelude.{◌≡◌, ◌+◌, ◌-◌, ◌^◌, ◌<�
 ghost use Rattle.std.specs.declared.cmp.Ordering.TheVariants.{Less};
 ghost use Rattle.leveldb_env.specs.Coders.{Codings, IsUnset};
 ghost use Rattle.leveldb_table.specs.TableEnds.{IsRefusedFinish, StopsUnset};
-ghost use Rattle.leveldb_base.specs.Status.{IsOutOfMemory};
+ghost use Rattle.leveldb_base.specs.Error.{IsOutOfMemory};
 ghost use Rattle.leveldb_table.specs.TableStages.{with_pair};
 ghost use Rattle.leveldb_table.specs.TableAdds.{ClosesBlock, TriesOpen, IsRefusedAdd};
 ghost use Rattle.leveldb_table.specs.TableBuilding.{stage, last_of, order_of, policy_of, KeepsChoices, IsBegun, IsBroken, IsBuilt, IsFull, table_estimate, Adds, Finishes};

@@ -1,9 +1,9 @@
 //! Tables: files that are opened once, and then looked up and walked block by block.
 ghost use Rattle.std.specs.Prelude.{◌≡◌, ◌⊎◌, ◌+◌, ◌^◌, ◌<◌, List, ℕ, Bool, true, None, Some, length, map, IfOk, IfSome, IfErr, Err, OnErr, IsErrAnd};
-ghost use Rattle.leveldb_base.specs.Bytewise.{bytewise};
-ghost use Rattle.leveldb_base.specs.Handle.{Handle, handle_bytes, HandleFits};
-ghost use Rattle.leveldb_base.specs.Places.{Pair};
-ghost use Rattle.leveldb_base.specs.Status.{IsOutOfMemory};
+ghost use Rattle.leveldb_base.specs.Cmp.{bytewise};
+ghost use Rattle.leveldb_base.specs.BlockHandle.{Handle, handle_bytes, HandleFits};
+ghost use Rattle.leveldb_base.specs.Types.{Pair};
+ghost use Rattle.leveldb_base.specs.Error.{IsOutOfMemory};
 ghost use Rattle.leveldb_base.specs.declared.error.StatusCode.TheVariants.{Corruption, NotSupported};
 ghost use Rattle.leveldb_env.specs.Coders.{Codings, Decodes};
 ghost use Rattle.leveldb_table.specs.Block.{IsBlock, pairs_of};
@@ -60,7 +60,7 @@ impl<E: Env, C: UserCmp + Copy + Drop, FP: FilterPolicy + Copy + Drop> Table<
     InternalKeyCmp<C>,
     InternalFilterPolicy<FP>,
 > {
-    ghost use Rattle.leveldb_base.specs.Keys.{internal_cmp};
+    ghost use Rattle.leveldb_base.specs.KeyTypes.{internal_cmp};
     ghost use Rattle.leveldb_table.specs.TableReading.{Opens, OpensNot, LacksPart, lines_of, filters_of};
 
     /// Opens the table of internal keys whose footer ends at `size` in a file, its length where the file is one table, under

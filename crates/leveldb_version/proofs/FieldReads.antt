@@ -1,7 +1,7 @@
 -- What reading an edit's fields finds.
 use Rattle.std.proofs.Common.{◌≡◌, ℕ, ◌^◌, ◌<◌, ◌≤◌, List, ◌∷◌, ◌++◌, length, None, IsUtf8, sym, ◌∙◌, ap, subst, arith, append_assoc, length-append}
 use Rattle.leveldb_base.specs.Varint.{varint, sized, ReadsSized}
-use Rattle.leveldb_base.specs.VarintLaws.{one_number, one_sized}
+use Rattle.leveldb_base.proofs.VarintLemmas.{one_number, one_sized}
 use Rattle.leveldb_version.specs.Edit.{Pointer, NewFile, LevelFile, Field, comparator_is, log_is, previous_log_is, next_file_is, last_sequence_is, points, deletes, adds, field_bytes, FieldFits}
 use Rattle.leveldb_version.specs.EditReading.{ReadsFront}
 

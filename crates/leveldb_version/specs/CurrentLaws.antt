@@ -7,7 +7,7 @@ use Rattle.std.proofs.lemmas.Fmt.{IsAscii-from_digits}
 use Rattle.leveldb_base.specs.declared.types.FileType.{FileType}
 use Rattle.std.proofs.lemmas.List.{append_cancel_right}
 use Rattle.leveldb_base.specs.Names.{IsFileName, file_name}
-use Rattle.leveldb_base.specs.NameLaws.{one_reading, made_name}
+use Rattle.leveldb_base.proofs.NamesLemmas.{one_reading, made_name}
 use Rattle.leveldb_base.specs.declared.types.FileType.TheVariants.{Descriptor}
 use Rattle.leveldb_version.specs.Current.{IsCurrentText, current_text}
 

@@ -44,6 +44,7 @@ empty_edit = record { comparator = None; log_number = None; previous_log = None;
 
 -- ---- fields
 
+-- a field of an edit: one thing that it says, or one file or pointer that it changes
 pub data Field : Type 0 where
   comparator_is : List ℕ → Field
   log_is : ℕ → Field
@@ -78,34 +79,42 @@ FieldFits (adds it) = (it.level < 7) × (it.number < 2 ^ 64) × (it.size < 2 ^ 6
 
 -- ---- the value that a field gives, where it is a field of this kind
 
+-- the comparator's name in a field, if the field has one
 abbrev pub comparator_in : Field → Option (List ℕ)
 comparator_in (comparator_is name) = Some name
 comparator_in _ = None
 
+-- the log's number in a field, if the field has one
 abbrev pub log_in : Field → Option ℕ
 log_in (log_is number) = Some number
 log_in _ = None
 
+-- the previous log's number in a field, if the field has one
 abbrev pub previous_log_in : Field → Option ℕ
 previous_log_in (previous_log_is number) = Some number
 previous_log_in _ = None
 
+-- the next file's number in a field, if the field has one
 abbrev pub next_file_in : Field → Option ℕ
 next_file_in (next_file_is number) = Some number
 next_file_in _ = None
 
+-- the last sequence number in a field, if the field has one
 abbrev pub last_sequence_in : Field → Option ℕ
 last_sequence_in (last_sequence_is number) = Some number
 last_sequence_in _ = None
 
+-- the compaction pointer in a field, if the field has one
 abbrev pub pointer_in : Field → Option Pointer
 pointer_in (points it) = Some it
 pointer_in _ = None
 
+-- the deleted file in a field, if the field has one
 abbrev pub deleted_in : Field → Option LevelFile
 deleted_in (deletes it) = Some it
 deleted_in _ = None
 
+-- the added file in a field, if the field has one
 abbrev pub added_in : Field → Option NewFile
 added_in (adds it) = Some it
 added_in _ = None

@@ -11,7 +11,7 @@ use Rattle.std.proofs.lemmas.List.{append-nil}
 use Rattle.std.proofs.lemmas.List.Elements.{filter_map-append}
 use Rattle.std.proofs.lemmas.List.Sums.{fold-append}
 use Rattle.leveldb_base.specs.Varint.{varint, sized}
-use Rattle.leveldb_base.specs.VarintLaws.{one_number, one_sized}
+use Rattle.leveldb_base.proofs.VarintLemmas.{one_number, one_sized}
 use Rattle.leveldb_version.specs.EditReading.{with_field}
 use Rattle.leveldb_version.specs.Edit.{Pointer, NewFile, LevelFile, Edit, Field, comparator_is, log_is, previous_log_is, next_file_is, last_sequence_is, points, deletes, adds, field_bytes, comparator_in, log_in, previous_log_in, next_file_in, last_sequence_in, pointer_in, deleted_in, added_in, last_value, file_order, files_in_order, edit_of_fields, fields_of, edit_bytes, OneEdit, WrittenIsRead}
 

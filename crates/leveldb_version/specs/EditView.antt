@@ -6,6 +6,7 @@ use Rattle.leveldb_version.specs.Edit.{Edit, Pointer, NewFile}
 use Rattle.leveldb_version.specs.declared.version_edit.CompactionPointer.{CompactionPointer}
 use Rattle.leveldb_version.specs.declared.version_edit.VersionEdit.{VersionEdit}
 
+-- a compaction pointer of the code as the definitions have it
 abbrev pub pointer_of : CompactionPointer → Pointer
 pointer_of it = record { level = it.level; key = it.key }
 

@@ -17,6 +17,7 @@ changes edit = map deleting edit.deleted ++ map adding edit.added
 abbrev pub level_file : NewFile → LevelFile
 level_file file = (file.level, file.number)
 
+-- whether two levels and numbers are the same
 abbrev pub is_same_file : LevelFile → LevelFile → Bool
 is_same_file a b = (a.0 == b.0) && (a.1 == b.1)
 

@@ -4,7 +4,7 @@
 //! number. Of several values of 1 to 4 and 9 the last counts.
 ghost use Rattle.std.specs.Prelude.{◌≡◌, ◌⊎◌, [], ◌∷◌, ◌++◌, Some, IfOk, IfErr, OnOk, OnErr, IsSomeAnd, string_bytes};
 ghost use Rattle.std.specs.BTreeSet.{insert_key};
-ghost use Rattle.leveldb_base.specs.Status.{IsOutOfMemory};
+ghost use Rattle.leveldb_base.specs.Error.{IsOutOfMemory};
 ghost use Rattle.leveldb_base.specs.declared.error.StatusCode.TheVariants.{Corruption};
 ghost use Rattle.leveldb_version.specs.Edit.{Edit, IsEdit, empty_edit, file_order, edit_bytes, HasLevels, OneEdit, WrittenIsRead};
 ghost use Rattle.leveldb_version.specs.EditReading.{field_of, files_in, with_field};

@@ -1,6 +1,6 @@
 //! The names of a store's manifests and of what stands beside them, and the text of `CURRENT`.
 ghost use Rattle.std.specs.Prelude.{◌≡◌, ◌<◌, ◌^◌, ℕ, List, MatchOption, IfOk, IfErr, string_bytes};
-ghost use Rattle.leveldb_base.specs.Status.{IsOutOfMemory};
+ghost use Rattle.leveldb_base.specs.Error.{IsOutOfMemory};
 ghost use Rattle.leveldb_base.specs.Names.{IsFileName, file_name, file_path};
 ghost use Rattle.leveldb_version.specs.FileSet.{AppliesInOrder, LiveIsAddedLast};
 ghost use Rattle.leveldb_version.specs.Current.{IsCurrentText, current_text as text_of_current};

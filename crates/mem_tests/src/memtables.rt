@@ -1,6 +1,6 @@
 //! What is found of keys at sequence numbers before, at, between and after their versions, and what failed calls leave.
 ghost use Rattle.std.specs.Prelude.{◌≡◌, ◌<◌, IfOk, OnErr};
-ghost use Rattle.leveldb_base.specs.ViewLaws.{AreUpTo};
+ghost use Rattle.leveldb_base.specs.History.{AreUpTo};
 
 use crate::checks::{failed_with, five_changes};
 use leveldb_base::cmp::DefaultCmp;

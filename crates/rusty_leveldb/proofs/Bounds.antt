@@ -1,7 +1,7 @@
 -- Greater bounds, and a store that isn't there.
 use Rattle.std.proofs.Common.{◌≡◌, ◌≤◌, ◌+◌, inl, inr, ⊎_elim, ℕ, List, [], refl, sym, ap, subst, arith, Option, None}
-use Rattle.leveldb_base.specs.History.{Entry, History, joined, count_of}
-use Rattle.leveldb_base.specs.ViewLaws.Elements.{in_none}
+use Rattle.leveldb_base.specs.History.{Entry, History, with_batch, count_of}
+use Rattle.leveldb_base.proofs.HistoryLemmas.{in_none}
 use Rattle.leveldb_env.specs.Disk.{Files, LeavesFile}
 use Rattle.rusty_leveldb.specs.Contents.{Contents, nothing_there}
 use Rattle.rusty_leveldb.specs.OneLog.{IsRead, log_path}
@@ -27,9 +27,9 @@ module _ (store : List ℕ) (reads : Files → Contents → Type 0) where
       record {
         now = ⊎_elim
             (λ (c : Carries store reads (last + count_of pending) history files). inl (carries_more (last + count_of pending) (more + count_of pending) le2 history files c))
-            (λ (c : Carries store reads (last + count_of pending) (joined history pending) files). inr (carries_more (last + count_of pending) (more + count_of pending) le2 (joined history pending) files c))
+            (λ (c : Carries store reads (last + count_of pending) (with_batch history pending) files). inr (carries_more (last + count_of pending) (more + count_of pending) le2 (with_batch history pending) files c))
             holds.now;
-        crash = safe_more (last + count_of pending) (more + count_of pending) covered le2 (joined history pending) files holds.crash;
+        crash = safe_more (last + count_of pending) (more + count_of pending) covered le2 (with_batch history pending) files holds.crash;
       }
 
 -- ---- where nothing is

@@ -3,9 +3,8 @@ use Rattle.std.proofs.Common.{◌≡◌, ◌≢◌, ◌+◌, ◌-◌, ◌^◌, �
 use Rattle.std.specs.Prelude.{Contains, IsTrue, Result, string_bytes}
 use Rattle.std.specs.declared.cmp.Ordering.{Ordering}
 use Rattle.leveldb_base.specs.declared.error.Status.{Status}
-use Rattle.leveldb_base.specs.Status.{text_of}
-use Rattle.leveldb_base.specs.History.{entries_of}
-use Rattle.leveldb_base.specs.View.{SameView}
+use Rattle.leveldb_base.specs.Error.{text_of}
+use Rattle.leveldb_base.specs.History.{entries_of, SameView}
 use Rattle.leveldb_env.specs.declared.env.Env.{Ghosts}
 use Rattle.leveldb_env.specs.Disk.{File, Disk, lock_set, synced, same}
 use Rattle.leveldb_env.specs.Times.{Told}

@@ -1,7 +1,7 @@
 -- What disk and state are when a store broke at a sync or at its close, or was closed.
 use Rattle.std.proofs.Common.{◌≡◌, ◌≤◌, ◌+◌, ⊎_elim, ℕ, Bool, List, length, refl, sym, ◌∙◌, ap, subst, arith, Some, None}
-use Rattle.leveldb_base.specs.History.{Entry, IsHistory, joined, greatest, entries_of, count_of}
-use Rattle.leveldb_base.specs.ViewLaws.Elements.{in_none}
+use Rattle.leveldb_base.specs.History.{Entry, IsHistory, with_batch, greatest, entries_of, count_of}
+use Rattle.leveldb_base.proofs.HistoryLemmas.{in_none}
 use Rattle.leveldb_env.specs.Disk.{File, Files, Disk, synced, file_kept}
 use Rattle.leveldb_env.specs.FileLaws.{synced-same}
 use Rattle.rusty_leveldb.specs.Contents.{made}
@@ -32,9 +32,9 @@ pub is_broke : (old : State) (covered : ℕ) → IsState old → old.mode ≡ op
 is_broke old covered is opened few =
     let suits = when_open old is opened in
     record {
-      history = subst (λ batch. IsHistory (joined old.history batch)) suits.0 is.history;
+      history = subst (λ batch. IsHistory (with_batch old.history batch)) suits.0 is.history;
       reached = is.reached;
-      pending = subst (λ batch. greatest (entries_of (joined old.history batch)) ≤ old.last + count_of batch) suits.0 is.pending;
+      pending = subst (λ batch. greatest (entries_of (with_batch old.history batch)) ≤ old.last + count_of batch) suits.0 is.pending;
       covered = few;
       held = is.held;
       mode = suits.1;

@@ -2,9 +2,8 @@
 use Rattle.std.proofs.Common.{◌≡◌, ◌≤◌, ◌<◌, ⊎_elim, inl, inr, ℕ, Bool, true, false, List, [], ◌∷◌, refl, arith, Some, None, IsTrue}
 use Rattle.std.proofs.lemmas.List.Elements.{All-nil, All-cons}
 use Rattle.std.specs.declared.cmp.Ordering.{Ordering}
-use Rattle.leveldb_base.specs.History.{Entry}
-use Rattle.leveldb_base.specs.View.{Shows}
-use Rattle.leveldb_base.specs.ViewLaws.Elements.{in_front}
+use Rattle.leveldb_base.specs.History.{Entry, HasValueAt}
+use Rattle.leveldb_base.proofs.HistoryLemmas.{in_front}
 use Rattle.rusty_leveldb.specs.Contents.{made}
 use Rattle.rusty_leveldb.specs.State.{State, Opening, open_store, write, get, done, found, open_mode, closed}
 use Rattle.rusty_leveldb.specs.Causes.{Faults, Misfits, IsLongKey, IsLongBatch}
@@ -32,7 +31,7 @@ module _ (cmp : List ℕ → List ℕ → Ordering) (opening : Opening) (key val
   abbrev left : State
   left = record written { mode = closed; locked = false }
 
-  shown : Shows (entry ∷ []) 1 key value
+  shown : HasValueAt (entry ∷ []) 1 key value
   shown = record { entry = entry; newest = record { there = in_front entry []; seen = omega arith; newest = λ other c k seen. seen }; key_is = refl; value_is = refl }
 
   -- no operand of the opening is refused

@@ -4,9 +4,8 @@ use Rattle.std.specs.Prelude.{IsErrAnd, Result, Ok, Err}
 use Rattle.std.specs.declared.cmp.Ordering.{Ordering}
 use Rattle.leveldb_base.specs.declared.error.Status.{Status}
 use Rattle.leveldb_base.specs.declared.error.StatusCode.TheVariants.{InvalidArgument}
-use Rattle.leveldb_base.specs.Status.{text_of}
-use Rattle.leveldb_base.specs.History.{Entry, entries_of}
-use Rattle.leveldb_base.specs.View.{LooksUp, SameView}
+use Rattle.leveldb_base.specs.Error.{text_of}
+use Rattle.leveldb_base.specs.History.{Entry, entries_of, IsValueAt, SameView}
 use Rattle.leveldb_env.specs.declared.env.Env.{Ghosts}
 use Rattle.leveldb_env.specs.Disk.{Disk}
 use Rattle.leveldb_env.specs.Calls.{NoMemory}
@@ -31,7 +30,7 @@ abbrev pub value_found : Option (Option (List ℕ)) → Option (List ℕ)
 value_found None = None
 value_found (Some value) = value
 
-newest_looks_up : (entries : List Entry) (s : ℕ) (key : List ℕ) (found : Option (Option (List ℕ))) → FindsNewest entries s key found → LooksUp entries s key (value_found found)
+newest_looks_up : (entries : List Entry) (s : ℕ) (key : List ℕ) (found : Option (Option (List ℕ))) → FindsNewest entries s key found → IsValueAt entries s key (value_found found)
 newest_looks_up entries s key None none = λ value shows. none shows.entry shows.newest.there shows.key_is shows.newest.seen
 newest_looks_up entries s key (Some None) has = λ value shows.
     let one : shows.entry ≡ has.entry = has.only shows.entry shows.newest shows.key_is in
@@ -39,7 +38,7 @@ newest_looks_up entries s key (Some None) has = λ value shows.
     cc
 newest_looks_up entries s key (Some (Some value)) has = record { entry = has.entry; newest = has.newest; key_is = has.key_is; value_is = has.value_is }
 
-same_looks_up : (these those : List Entry) (s : ℕ) (key : List ℕ) (value : Option (List ℕ)) → SameView these those s → LooksUp these s key value → LooksUp those s key value
+same_looks_up : (these those : List Entry) (s : ℕ) (key : List ℕ) (value : Option (List ℕ)) → SameView these those s → IsValueAt these s key value → IsValueAt those s key value
 same_looks_up these those s key None same none = λ value shows. none value ((same key value).1 shows)
 same_looks_up these those s key (Some value) same shows = (same key value).0 shows
 
@@ -99,7 +98,7 @@ module _ {E C FP F I : Type 0} {D : I → Type 0} (env : Ghosts E F) (cmp : List
     get_starved (Err status) starved = starved_refused status starved
 
     found_now : (newest : Option (Option (List ℕ))) → FindsNewest engine.recent.kept.entries engine.recent.last key newest
-        → (store : List ℕ) (old : State) → IsState old → Remembers env store engine old → LooksUp (entries_of old.history) old.last key (value_found newest)
+        → (store : List ℕ) (old : State) → IsState old → Remembers env store engine old → IsValueAt (entries_of old.history) old.last key (value_found newest)
     found_now newest finds store old is remembers =
         same_looks_up engine.recent.kept.entries (entries_of old.history) old.last key (value_found newest) (remembers.same old.last is.reached)
         (newest_looks_up engine.recent.kept.entries old.last key newest

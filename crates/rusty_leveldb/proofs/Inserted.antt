@@ -2,8 +2,7 @@
 use Rattle.std.proofs.Common.{◌≡◌, ◌≤◌, ◌<◌, ◌+◌, ◌-◌, ⊎_elim, ℕ, List, [], ◌∷◌, length, ap, subst, arith}
 use Rattle.std.specs.Prelude.{Contains}
 use Rattle.std.proofs.lemmas.List.Elements.{Contains-append_cases}
-use Rattle.leveldb_base.specs.History.{Item, Entry, placed, greatest}
-use Rattle.leveldb_base.specs.ViewLaws.{AreUpTo}
+use Rattle.leveldb_base.specs.History.{Item, Entry, placed, greatest, AreUpTo}
 use Rattle.leveldb_mem.specs.Batch.{Batch}
 use Rattle.leveldb_mem.specs.Entries.{Kept, Gains, AreNewTo}
 use Rattle.leveldb_mem.specs.EntryLaws.{new_behind}

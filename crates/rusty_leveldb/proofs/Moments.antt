@@ -4,7 +4,7 @@
 -- then says of a crash.
 use Rattle.std.proofs.Common.{◌≡◌, ◌≤◌, ℕ, zero, suc, List, [], ◌∷◌, ◌++◌, length, take, refl, sym, ◌∙◌, ap, subst, arith}
 use Rattle.std.proofs.lemmas.List.{length-take}
-use Rattle.leveldb_base.specs.History.{Entry, History, IsBeginning}
+use Rattle.leveldb_base.specs.History.{Entry, History, IsPrefixAtLeast}
 use Rattle.leveldb_env.specs.Disk.{Files, Disk}
 use Rattle.leveldb_env.specs.Times.{Told, Since}
 use Rattle.leveldb_env.specs.Runs.{Run, Run-mono, Run-trans, since_start}
@@ -60,7 +60,7 @@ stays_then missing t u first second = tt
 stays_then (made name) t u first second = subst (λ x. Stays x u) first second
 
 -- a beginning of a beginning
-beginning_within : (least covered : ℕ) (risk more : Risk) (part : History) → least ≤ covered → Grows risk more → IsBeginning covered risk.history part → IsBeginning least more.history part
+beginning_within : (least covered : ℕ) (risk more : Risk) (part : History) → least ≤ covered → Grows risk more → IsPrefixAtLeast covered risk.history part → IsPrefixAtLeast least more.history part
 beginning_within least covered risk more part few grows b =
     let fits : b.count ≤ length (take grows.count more.history) = subst (λ h. b.count ≤ length h) grows.first b.there in
     let short = length-take grows.count more.history in

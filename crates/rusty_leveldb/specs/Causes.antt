@@ -34,6 +34,7 @@ HasFailed before after = (before < after) ⊎ (before ≡ 2 ^ 64 - 1)
 abbrev pub IsLongBatch : List Item → Type 0
 IsLongBatch items = max_length < length (batch_bytes 0 items)
 
+-- a key is longer than the greatest length
 abbrev pub IsLongKey : List ℕ → Type 0
 IsLongKey key = max_length < length key
 

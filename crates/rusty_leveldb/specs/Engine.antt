@@ -3,8 +3,7 @@ use Rattle.std.specs.Prelude.{◌≡◌, ◌≢◌, ◌≤◌, ◌%◌, ◌⊎�
 use Rattle.std.specs.declared.cmp.Ordering.{Ordering}
 use Rattle.leveldb_base.specs.declared.error.Status.{Status}
 use Rattle.leveldb_base.specs.declared.error.StatusCode.TheVariants.{InvalidArgument, NotSupported, Corruption, IOError, LockError}
-use Rattle.leveldb_base.specs.History.{Item, Entry, entries_of, greatest}
-use Rattle.leveldb_base.specs.View.{SameView}
+use Rattle.leveldb_base.specs.History.{Item, Entry, entries_of, greatest, SameView}
 use Rattle.leveldb_env.specs.declared.env.Env.{Ghosts}
 use Rattle.leveldb_env.specs.Disk.{File, Disk, bytes_of, AreBytes}
 use Rattle.leveldb_env.specs.Times.{Told}
@@ -111,10 +110,12 @@ module _ {E C FP F I : Type 0} {D : I → Type 0} (env : Ghosts E F) where
   abbrev pub LogExcused : Engine E C FP F I D → E → Status → Type 0
   LogExcused engine at e = IsGone env.tells_disk (env.name_of engine.log) (env.tells at) e
 
+  -- why a write may fail where the device didn't: the store is closed or broken, the batch is too long, no numbers are left, or the log vanished
   abbrev pub WriteExcused : Engine E C FP F I D → E → List Item → Status → Type 0
   WriteExcused engine at items e = ShutOut engine.mode e ⊎ ShutDown engine.mode engine.writer e
       ⊎ ((e.code ≡ InvalidArgument) × IsLongBatch items) ⊎ ((e.code ≡ NotSupported) × AreUsedUp engine.recent.last (length items)) ⊎ LogExcused engine at e
 
+  -- why a flush may fail where the device didn't: the store is closed or broken, or the log vanished
   abbrev pub SyncExcused : Engine E C FP F I D → E → Status → Type 0
   SyncExcused engine at e = ShutOut engine.mode e ⊎ ShutDown engine.mode engine.writer e ⊎ LogExcused engine at e
 
@@ -122,6 +123,7 @@ module _ {E C FP F I : Type 0} {D : I → Type 0} (env : Ghosts E F) where
   abbrev pub CloseExcused : Engine E C FP F I D → E → E → Status → Type 0
   CloseExcused engine at now e = SyncExcused engine at e × (env.failures now ≡ env.failures at)
 
+-- why a look-up may fail: the store is closed, the key is too long, or memory ran out
 abbrev pub GetExcused : Mode → List ℕ → Status → Type 0
 GetExcused mode key e = ShutOut mode e ⊎ ((e.code ≡ InvalidArgument) × IsLongKey key) ⊎ NoMemory e
 

@@ -1,8 +1,7 @@
 -- What a disk keeps of a history.
 -- `store` is the store's path, and `reads files contents` says that the files are a whole store with these contents.
 use Rattle.std.specs.Prelude.{◌≡◌, ◌≤◌, ◌+◌, ◌⊎◌, ℕ, List, Option, Some, Contains}
-use Rattle.leveldb_base.specs.History.{Entry, History, IsBeginning, entries_of, greatest, joined, count_of}
-use Rattle.leveldb_base.specs.View.{SameView}
+use Rattle.leveldb_base.specs.History.{Entry, History, IsPrefixAtLeast, entries_of, greatest, with_batch, count_of, SameView}
 use Rattle.leveldb_env.specs.Disk.{File, Files, Leaves, bytes_of}
 use Rattle.leveldb_mem.specs.Log.{log_block_size}
 use Rattle.leveldb_mem.specs.Honest.{HonestTail}
@@ -32,7 +31,7 @@ module _ (store : List ℕ) (reads : Files → Contents → Type 0) where
   -- they carry a beginning of the history that has at least so many batches
   pub record CarriesBeginning (bound covered : ℕ) (history : History) (files : Files) : Type 0 where
     pub part : History
-    pub beginning : IsBeginning covered history part
+    pub beginning : IsPrefixAtLeast covered history part
     pub carries : Carries bound part files
 
   -- whatever honest files a crash leaves now carry such a beginning
@@ -41,8 +40,8 @@ module _ (store : List ℕ) (reads : Files → Contents → Type 0) where
 
   -- the files hold the history, up to this last number, with so many batches covered and, perhaps, one batch pending
   pub record Holds (files : Files) (history : History) (last covered : ℕ) (pending : Option (List Entry)) : Type 0 where
-    pub now : Carries (last + count_of pending) history files ⊎ Carries (last + count_of pending) (joined history pending) files
-    pub crash : IsSafe (last + count_of pending) covered (joined history pending) files
+    pub now : Carries (last + count_of pending) history files ⊎ Carries (last + count_of pending) (with_batch history pending) files
+    pub crash : IsSafe (last + count_of pending) covered (with_batch history pending) files
 
   -- what is read of the files says so of the store
   abbrev pub HasStore : Store → Files → Type 0

@@ -1,9 +1,8 @@
 -- The store as a machine: which answer a request may have in a state, and in which state the store then is.
 use Rattle.std.specs.Prelude.{◌≡◌, ◌≤◌, ◌+◌, ◌-◌, ◌^◌, ◌⊎◌, ℕ, Bool, true, false, List, [], ◌∷◌, ◌++◌, length, Option, Some, None, Contains, IsTrue}
 use Rattle.std.specs.declared.cmp.Ordering.{Ordering}
-use Rattle.leveldb_base.specs.History.{Item, Entry, History, placed, entries_of, greatest, joined, count_of, IsBeginning}
-use Rattle.leveldb_base.specs.View.{LooksUp, IsView}
-use Rattle.leveldb_base.specs.Places.{Pair, place_within, next_place, previous_place, seek_place, pair_at}
+use Rattle.leveldb_base.specs.History.{Item, Entry, History, placed, entries_of, greatest, with_batch, count_of, IsPrefixAtLeast, IsValueAt, IsView}
+use Rattle.leveldb_base.specs.Types.{Pair, position_within, next_position, previous_position, seek_position, pair_at}
 use Rattle.rusty_leveldb.specs.Contents.{Store, missing, made, Stays}
 use Rattle.rusty_leveldb.specs.State.{Mode, open_mode, broken, closed, Snapshot, Opening, State, Move, seek_to_first, advance, prev, seek, reset, Request, open_store, write, get, walk, get_snapshot, release_snapshot, flush, compact_range, close, abandon, Refusal, Landing, stands_on, nowhere, move_refused, Answer, done, found, walked, snapshot, refused}
 use Rattle.rusty_leveldb.specs.Causes.{Faults, Cause, out_of_memory, device_failed, lock_is_held, bad_operand, store_exists, Misfits, MoveMisfits, Comes, MoveComes, IsClosedRefusal, IsBrokenRefusal}
@@ -83,7 +82,7 @@ pub record Opens (old : State) (opening : Opening) (new : State) : Type 0 where
   pub may : MayOpen opening old.store
   pub stays : Stays old.store new.store
   pub store : IsStoreOf opening new.store
-  pub joins : (new.history ≡ old.history) ⊎ (new.history ≡ joined old.history old.pending)
+  pub joins : (new.history ≡ old.history) ⊎ (new.history ≡ with_batch old.history old.pending)
   pub reached : greatest (entries_of new.history) ≤ new.last
   pub bounded : new.last ≤ old.last + count_of old.pending
   pub covered : MayCover old.covered new.history new.covered
@@ -130,15 +129,15 @@ IsSequenceOf old (Some one) s = Contains old.held one × (s ≡ one.sequence)
 pub record Gets (old : State) (at : Option Snapshot) (key : List ℕ) (value : Option (List ℕ)) : Type 0 where
   pub sequence : ℕ
   pub at_is : IsSequenceOf old at sequence
-  pub looks : LooksUp (entries_of old.history) sequence key value
+  pub looks : IsValueAt (entries_of old.history) sequence key value
 
 module _ (cmp : List ℕ → List ℕ → Ordering) where
   -- where a move leads from a place
   abbrev pub place_after : List Pair → Option ℕ → Move → Option ℕ
-  place_after pairs place seek_to_first = place_within pairs 0
-  place_after pairs place advance = next_place pairs place
-  place_after pairs place prev = previous_place place
-  place_after pairs place (seek key) = seek_place cmp pairs key
+  place_after pairs place seek_to_first = position_within pairs 0
+  place_after pairs place advance = next_position pairs place
+  place_after pairs place prev = previous_position place
+  place_after pairs place (seek key) = seek_position cmp pairs key
   place_after pairs place reset = None
 
   -- Each move leads where an iterator over the pairs goes; a refused one leaves no place, and its cause is one of this move's
@@ -239,7 +238,7 @@ pub record Risk : Type 0 where
 
 -- between two requests: the history, and what is pending
 abbrev pub risk_between : State → Risk
-risk_between state = record { history = joined state.history state.pending; bound = state.last + count_of state.pending }
+risk_between state = record { history = with_batch state.history state.pending; bound = state.last + count_of state.pending }
 
 -- At a moment of a request: the history after it, and what is pending then; so a batch is at risk once its append has begun.
 -- While a store is opened it is the history before it, since what was pending may yet be found.
@@ -249,7 +248,7 @@ risk_of request old new = risk_between new
 
 -- A crash leaves a beginning with all that was covered, whole batches only; all of it is covered from then on.
 pub record Crashes (old : State) (risk : Risk) (new : State) : Type 0 where
-  pub beginning : IsBeginning old.covered risk.history new.history
+  pub beginning : IsPrefixAtLeast old.covered risk.history new.history
   pub stays : Stays old.store new.store
   pub state : new ≡ record {
     history = new.history;

@@ -32,6 +32,7 @@ pub record Life : Type 0 where
   pub answered : List (ℕ × Event)
   pub ending : Ending
 
+-- the events of a life without their moments
 abbrev pub events_of : List (ℕ × Event) → List Event
 events_of answered = map (λ one. one.1) answered
 

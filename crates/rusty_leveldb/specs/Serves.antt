@@ -5,7 +5,7 @@ use Rattle.std.specs.Prelude.{◌≡◌, ◌≢◌, ◌≤◌, ◌⊎◌, ◌↔
 use Rattle.std.specs.Option.{option_map}
 use Rattle.std.specs.declared.cmp.Ordering.{Ordering}
 use Rattle.leveldb_base.specs.declared.error.Status.{Status}
-use Rattle.leveldb_base.specs.Status.{text_of}
+use Rattle.leveldb_base.specs.Error.{text_of}
 use Rattle.leveldb_env.specs.Disk.{File, Files, Disk, Leaves, bytes_of, or_empty}
 use Rattle.leveldb_env.specs.Times.{Told}
 use Rattle.leveldb_env.specs.Runs as calls
@@ -83,6 +83,7 @@ IsLogging (write items sync) = Unit {0}
 IsLogging flush = Unit {0}
 IsLogging request = ⊥
 
+-- the answer is a refusal
 abbrev pub IsRefused : Answer → Type 0
 IsRefused (refused refusal) = Unit {0}
 IsRefused answer = ⊥

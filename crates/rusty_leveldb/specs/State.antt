@@ -1,8 +1,8 @@
 -- The store as a machine: its state, what is asked of it and what it answers.
 use Rattle.std.specs.Prelude.{◌≡◌, ◌≤◌, ◌+◌, ℕ, Bool, List, [], Option, None, Contains, length, IsTrue}
 use Rattle.leveldb_base.specs.declared.error.StatusCode.{StatusCode}
-use Rattle.leveldb_base.specs.History.{Item, Entry, History, IsHistory, entries_of, greatest, joined, count_of}
-use Rattle.leveldb_base.specs.Places.{Pair}
+use Rattle.leveldb_base.specs.History.{Item, Entry, History, IsHistory, entries_of, greatest, with_batch, count_of}
+use Rattle.leveldb_base.specs.Types.{Pair}
 use Rattle.rusty_leveldb.specs.Contents.{Store}
 
 -- ---- the state
@@ -29,6 +29,7 @@ pub record Opening : Type 0 where
   -- the compressor that new blocks ask for is set
   pub compresses : Bool
 
+-- the state of the machine: what the store holds, how much of it is durable, and in which mode it is
 pub record State : Type 0 where
   pub history : History
   -- the last number, at or above the history's
@@ -59,9 +60,9 @@ SuitsMode closed state = IsAtRest state
 
 -- what holds of every state: its numbers fit together
 pub record IsState (state : State) : Type 0 where
-  pub history : IsHistory (joined state.history state.pending)
+  pub history : IsHistory (with_batch state.history state.pending)
   pub reached : greatest (entries_of state.history) ≤ state.last
-  pub pending : greatest (entries_of (joined state.history state.pending)) ≤ state.last + count_of state.pending
+  pub pending : greatest (entries_of (with_batch state.history state.pending)) ≤ state.last + count_of state.pending
   pub covered : state.covered ≤ length state.history
   pub held : (one : Snapshot) → Contains state.held one → (one.sequence ≤ state.last) × Contains state.given one.number
   pub mode : SuitsMode state.mode state
@@ -100,6 +101,7 @@ pub data Landing : Type 0 where
   nowhere : Landing
   move_refused : Refusal → Landing
 
+-- what a request is answered with
 pub data Answer : Type 0 where
   done : Answer
   found : Option (List ℕ) → Answer

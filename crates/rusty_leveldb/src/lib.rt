@@ -9,7 +9,7 @@ pub use db_impl::DB;
 pub use leveldb_base::cmp::{Cmp, DefaultCmp};
 pub use leveldb_base::error::{Result, Status, StatusCode};
 pub use leveldb_base::types::LdbIterator;
-pub use leveldb_base::{blockhandle, cmp, crc, error, history, key_types, names, types, varint};
+pub use leveldb_base::{blockhandle, cmp, crc, error, key_types, laws, names, types, varint};
 pub use leveldb_env::compressor::{Compressor, CompressorId, CompressorList};
 pub use leveldb_env::filter::{BloomPolicy, FilterPolicy};
 pub use leveldb_env::mem_env::MemEnv;

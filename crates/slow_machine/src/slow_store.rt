@@ -1,14 +1,14 @@
 //! The slow store: batches in a list and no file. It knows every state that a store may be in by what was asked and answered,
 //! and so which answers and which maps are allowed next.
 ghost use Rattle.std.specs.Prelude.{◌≡◌, ◌+◌, ◌<◌, ◌^◌, IfOk, IfErr, length, map};
-ghost use Rattle.leveldb_base.specs.Status.{IsOutOfMemory};
+ghost use Rattle.leveldb_base.specs.Error.{IsOutOfMemory};
 ghost use Rattle.leveldb_base.specs.History.{placed};
-ghost use Rattle.leveldb_base.specs.Lent.{entry_of};
+ghost use Rattle.slow_history.specs.View.{entry_of};
 ghost use Rattle.slow_machine.specs.Items.{item_of, entry_at};
 
 use leveldb_base::cmp::UserCmp;
 use leveldb_base::error::{Result, StatusCode, err};
-use leveldb_base::history::{Entry, LentPair, look_up, view_of};
+use slow_history::{Entry, BorrowedPair, look_up, view_of};
 use leveldb_base::types::{MAX_SEQUENCE_NUMBER, SequenceNumber};
 use std::alloc::Global;
 
@@ -374,7 +374,7 @@ impl SlowStore {
         &mut self,
         cmp: &C,
         at: Option<u64>,
-        pairs: &[LentPair<'_>],
+        pairs: &[BorrowedPair<'_>],
     ) -> Result<()> {
         let mut states = Vec::new(self.alloc);
         for state in &self.states {
@@ -387,7 +387,7 @@ impl SlowStore {
     }
 
     /// The maps that an open store may now show, each once.
-    pub fn maps<C: UserCmp>(&self, cmp: &C) -> Result<Vec<Vec<LentPair<'_>>>> {
+    pub fn maps<C: UserCmp>(&self, cmp: &C) -> Result<Vec<Vec<BorrowedPair<'_>>>> {
         let mut maps = Vec::new(self.alloc);
         for state in &self.states {
             let entries = self.entries_of(state)?;
@@ -434,7 +434,7 @@ impl SlowStore {
         cmp: &C,
         state: &State,
         at: Option<u64>,
-        pairs: &[LentPair<'_>],
+        pairs: &[BorrowedPair<'_>],
     ) -> Result<bool> {
         let Some(sequence) = self.sequence_at(state, at) else {
             return Ok(false);

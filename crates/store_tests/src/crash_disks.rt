@@ -2,7 +2,7 @@
 use crate::replies::{is_map, look_ups};
 use crate::steps::{Call, Step, commands_of, crash_inside, judge};
 use leveldb_base::error::Result;
-use leveldb_base::history::LentPair;
+use slow_history::BorrowedPair;
 use leveldb_env::mem_env::{Pick, RecordEnv};
 use leveldb_env::options::Options;
 use rusty_leveldb::shell::{Reply, Report, live, run};
@@ -178,7 +178,7 @@ impl Tally {
     }
 
     /// Counts one crash, and returns whether what was found is an allowed map.
-    pub fn count(&mut self, maps: &[Vec<LentPair<'_>>], found: &[Reply]) -> bool {
+    pub fn count(&mut self, maps: &[Vec<BorrowedPair<'_>>], found: &[Reply]) -> bool {
         if let [first, .., last] = maps {
             self.open = self.open.saturating_add(1);
             self.shortest = self

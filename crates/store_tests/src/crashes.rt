@@ -3,7 +3,7 @@
 use crate::replies::{bytes_of, is_map, is_same, look_ups};
 use leveldb_base::cmp::DefaultCmp;
 use leveldb_base::error::Result;
-use leveldb_base::history::LentPair;
+use slow_history::BorrowedPair;
 use rusty_leveldb::env::Env;
 use rusty_leveldb::env::whole_files::read_file;
 use rusty_leveldb::mem_env::{MemEnv, Pick};
@@ -144,7 +144,7 @@ fn crash_and_go_on(
     alloc: Global,
     env: &MemEnv,
     tail: &[u8],
-    maps: &[Vec<LentPair<'_>>],
+    maps: &[Vec<BorrowedPair<'_>>],
 ) -> Result<()> {
     let mut left = env.crashed(alloc, &pick(alloc, tail)?)?;
     let found = look_up_all(alloc, &mut left)?;
@@ -170,7 +170,7 @@ fn crash_with_each_tail(
     alloc: Global,
     env: &MemEnv,
     unsynced: &[u8],
-    maps: &[Vec<LentPair<'_>>],
+    maps: &[Vec<BorrowedPair<'_>>],
 ) -> Result<()> {
     for end in 0..=unsynced.len() {
         crash_and_go_on(rt, alloc, env, &unsynced[..end], maps)?;
@@ -184,7 +184,7 @@ fn crash_with_a_wrong_byte(
     alloc: Global,
     env: &MemEnv,
     unsynced: &[u8],
-    maps: &[Vec<LentPair<'_>>],
+    maps: &[Vec<BorrowedPair<'_>>],
 ) -> Result<()> {
     let mut raised = Vec::from_slice(alloc, unsynced)?;
     if let Some(last) = raised.last_mut() {

@@ -10,6 +10,8 @@ mod crashes;
 #[cfg(test)]
 mod engines;
 #[cfg(test)]
+mod example;
+#[cfg(test)]
 mod lives;
 #[cfg(test)]
 mod program;

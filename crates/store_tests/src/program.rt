@@ -231,7 +231,7 @@ fn broken_input(rt: HostRuntime) -> io::Result<()> {
     let mut env = MemEnv::new(alloc);
     let mut input = Broken(b"put 61 31\nget 61\n");
     let ending = run_program(alloc, &mut env, &["db"], &mut input)?;
-    assert_ending(&rt, &ending, 1, b"", b"ldb: \n");
+    assert_ending(&rt, &ending, 1, b"", b"ldb: Corruption\n");
     assert_run(
         &rt,
         &mut env,
@@ -260,7 +260,7 @@ fn write_to_room(rt: &impl Abort, alloc: Global, room: usize, wanted: &[u8]) -> 
             == if has_all {
                 b"".as_slice()
             } else {
-                b"ldb: \n".as_slice()
+                b"ldb: PermissionDenied\n".as_slice()
             }
     );
     Ok(())

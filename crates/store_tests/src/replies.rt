@@ -1,6 +1,6 @@
 //! What the tests of crashes share: the keys, and the map that a store's replies show.
 use leveldb_base::error::Result;
-use leveldb_base::history::LentPair;
+use slow_history::BorrowedPair;
 use rusty_leveldb::shell::{Command, Reply};
 use std::alloc::Global;
 
@@ -20,7 +20,7 @@ pub fn look_ups(alloc: Global) -> Result<Vec<Command>> {
     Ok(commands)
 }
 
-fn has(map: &[LentPair<'_>], key: &str, reply: &Reply) -> bool {
+fn has(map: &[BorrowedPair<'_>], key: &str, reply: &Reply) -> bool {
     let found = map.iter().find(|pair| pair.0 == key.as_bytes());
     match (found, reply) {
         (Some(pair), Reply::Value(value)) => pair.1 == value.as_slice(),
@@ -30,7 +30,7 @@ fn has(map: &[LentPair<'_>], key: &str, reply: &Reply) -> bool {
 }
 
 /// Whether the replies to all look-ups are those of this map.
-pub fn is_map(map: &[LentPair<'_>], replies: &[Reply]) -> bool {
+pub fn is_map(map: &[BorrowedPair<'_>], replies: &[Reply]) -> bool {
     replies.len() == KEYS.len()
         && KEYS
             .iter()

@@ -1,7 +1,7 @@
 //! The slow store at worked rows: which maps an opening, a crash and a snapshot may show.
 use leveldb_base::cmp::DefaultCmp;
 use leveldb_base::error::Result;
-use leveldb_base::history::LentPair;
+use slow_history::BorrowedPair;
 use slow_machine::{Found, Item, SlowStore};
 use std::alloc::Global;
 use std::process::Abort;
@@ -32,7 +32,7 @@ fn put(slow: &mut SlowStore, alloc: Global, key: &[u8], value: &[u8], sync: bool
     slow.wrote(items(alloc, key, Some(value))?.as_slice(), sync)
 }
 
-fn are_maps(found: &[Vec<LentPair<'_>>], wanted: &[Map<'_>]) -> bool {
+fn are_maps(found: &[Vec<BorrowedPair<'_>>], wanted: &[Map<'_>]) -> bool {
     let are_equal = found
         .iter()
         .zip(wanted)

@@ -1,21 +1,22 @@
 //! The orders of internal keys and of memtable keys, each made from an order of users' keys.
 ghost use Rattle.std.specs.Prelude.{◌≡◌, ◌<◌, ◌^◌, ℕ, List, IfOk, IfErr};
-ghost use Rattle.leveldb_base.specs.Status.{IsOutOfMemory};
-ghost use Rattle.leveldb_base.specs.Keys.{internal_key, internal_accepts, internal_cmp, internal_separator, internal_successor, memtable_accepts, memtable_cmp};
-ghost use Rattle.leveldb_base.specs.KeyOrderLaws.{internal_preorder, internal_separates, internal_succeeds, memtable_preorder, memtable_separates, memtable_succeeds};
+ghost use Rattle.leveldb_base.specs.Error.{IsOutOfMemory};
+ghost use Rattle.leveldb_base.specs.KeyTypes.{internal_key, internal_cmp, memtable_cmp};
+ghost use Rattle.leveldb_base.specs.Cmp.{internal_accepts, internal_separator, internal_successor, memtable_accepts};
+ghost use Rattle.leveldb_base.specs.CmpLaws.{internal_preorder, internal_separates, internal_succeeds, memtable_preorder, memtable_separates, memtable_succeeds};
 
 use crate::cmp::{Cmp, UserCmp};
 use crate::error::Result;
 use crate::key_types::{
-    InternalKey, UserKey, ValueType, cmp_internal_key, cmp_memtable_key, front_key, split_sequence,
-    tag_bytes,
+    InternalKey, TAG_LEN, UserKey, ValueType, cmp_internal_key, cmp_memtable_key, front_key,
+    split_sequence, tag_bytes,
 };
 use crate::types::{MAX_SEQUENCE_NUMBER, SequenceNumber};
 use std::alloc::Global;
 use std::cmp::Ordering;
 
-/// Orders internal keys: by the user's key rising, then by the sequence number falling. It accepts keys with a whole
-/// tag whose user's key is accepted.
+/// Orders internal keys: by the user's key rising, then by the sequence number falling. It accepts
+/// keys with a whole tag whose user's key is accepted.
 #[derive(Clone, Copy, Debug)]
 pub struct InternalKeyCmp<C>(pub C);
 
@@ -29,7 +30,7 @@ impl<C: Cmp> InternalKeyCmp<C> {
     }
 }
 
-/// A user comparator is asked for, since a separator of keys that differ and yet are equal may be after both.
+/// It needs a user comparator: a separator of keys that differ and yet are equal may be after both.
 impl<C: UserCmp> Cmp for InternalKeyCmp<C> {
     ghost accepts = { λ c. internal_accepts (C.accepts c.0) };
 
@@ -73,22 +74,25 @@ impl<C: UserCmp> Cmp for InternalKeyCmp<C> {
 
     ghost preorder = { λ c. internal_preorder (C.preorder c.0) };
 
-    ghost separates = { λ c. internal_separates (C.preorder c.0) (C.exact c.0) (C.shortest_sep c.0) (C.separates c.0) };
+    ghost separates = { λ c.
+        internal_separates (C.preorder c.0) (C.exact c.0) (C.shortest_sep c.0) (C.separates c.0) };
 
-    ghost succeeds = { λ c. internal_succeeds (C.preorder c.0) (C.short_succ c.0) (C.succeeds c.0) };
+    ghost succeeds = { λ c.
+        internal_succeeds (C.preorder c.0) (C.short_succ c.0) (C.succeeds c.0) };
 }
 
 // Whether the key has a whole tag and an accepted user's key.
 fn accepts_internal_key<C: Cmp>(ucmp: &C, key: InternalKey<'_>) -> bool
     ensures { result ≡ internal_accepts (C.accepts ucmp.now) key.now }
 {
-    key.len() >= 8 && ucmp.accepts(split_sequence(key).0)
+    key.len() >= TAG_LEN && ucmp.accepts(split_sequence(key).0)
 }
 
 // The internal key of a user's key, for a value.
 fn with_tag(user: Vec<u8>, sequence: SequenceNumber) -> Result<Vec<u8>>
     requires { sequence < 2 ^ 56 }
-    ensures ok { IfOk result (λ key. key.items ≡ internal_key user.items sequence ValueType.TypeValue) }
+    ensures ok { IfOk result (λ key.
+        key.items ≡ internal_key user.items sequence ValueType.TypeValue) }
     ensures cause { IfErr result IsOutOfMemory }
 {
     let mut key = user;
@@ -96,9 +100,9 @@ fn with_tag(user: Vec<u8>, sequence: SequenceNumber) -> Result<Vec<u8>>
     Ok(key)
 }
 
-/// Orders memtable keys and look-up keys by their internal keys. It accepts keys whose internal key has a whole tag
-/// and an accepted user's key. Such keys are never shortened: `find_shortest_sep` and `find_short_succ` answer the
-/// first key.
+/// Orders memtable keys and look-up keys by their internal keys. It accepts keys whose internal key
+/// has a whole tag and an accepted user's key. Such keys are never shortened: `find_shortest_sep`
+/// and `find_short_succ` return the first key.
 #[derive(Clone, Copy, Debug)]
 pub struct MemtableKeyCmp<C>(pub C);
 

@@ -29,14 +29,15 @@ impl Digest {
     /// Reads the next piece. However a text is cut, its pieces leave what the whole leaves.
     pub fn update(&mut self, data: &[u8])
         ensures register { self.new ≡ crc_register self.old «data».now }
-        ensures text { (text : List ℕ) → HasRead self.old text → HasRead self.new (text ++ «data».now) }
+        ensures text { (text : List ℕ) → HasRead self.old text
+            → HasRead self.new (text ++ «data».now) }
         ensures pieces { (a b : List ℕ) → «data».now ≡ a ++ b
             → self.new ≡ crc_register (crc_register self.old a) b }
     {
         self.register = after_text(self.register, data);
     }
 
-    /// The checksum of the pieces, one behind another.
+    /// The checksum of the pieces, one after another.
     pub fn finalize(self) -> u32
         ensures sum { result ≡ bit_xor self 0xffffffff }
         ensures text { (text : List ℕ) → HasRead self text → result ≡ crc_of text }
@@ -116,7 +117,7 @@ fn mixed(register: u32, word: [u8; 4]) -> [u8; 4]
     [word[0] ^ a, word[1] ^ b, word[2] ^ c, word[3] ^ d]
 }
 
-// The register after a word and so many zero bytes, where it was empty.
+// The register after a word and `zeros` zero bytes, where it was empty.
 #[inline]
 fn word_then_zeros(word: [u8; 4], zeros: usize) -> u32
     requires { zeros ≤ 12 }
@@ -127,7 +128,7 @@ fn word_then_zeros(word: [u8; 4], zeros: usize) -> u32
         ^ (byte_then_zeros(c, zeros + 1) ^ byte_then_zeros(d, zeros))
 }
 
-// The register after a byte and so many zero bytes, where it was empty.
+// The register after a byte and `zeros` zero bytes, where it was empty.
 #[inline]
 fn byte_then_zeros(byte: u8, zeros: usize) -> u32
     requires { zeros < 16 }

@@ -1,8 +1,8 @@
 //! Filters of internal keys, into which the users' keys alone go.
 ghost use Rattle.std.specs.Prelude.{◌≡◌, ◌≤◌, ℕ, List, IfOk, IfErr, All, length, map};
 ghost use Rattle.std.specs.List.Sorted.{IsNonDecreasing};
-ghost use Rattle.leveldb_base.specs.Keys.{user_part};
-ghost use Rattle.leveldb_base.specs.Status.{IsOutOfMemory};
+ghost use Rattle.leveldb_base.specs.KeyTypes.{user_part};
+ghost use Rattle.leveldb_base.specs.Error.{IsOutOfMemory};
 ghost use Rattle.leveldb_env.specs.Filters.{keys_at};
 
 use crate::filter::{FilterPolicy, key_at};

@@ -1,7 +1,7 @@
 //! Texts one behind the other in one vector, so that all of them can be lent at once.
 ghost use Rattle.std.specs.Prelude.{◌≡◌, ◌-◌, ◌≤◌, [], ◌∷◌, ◌++◌, length, replicate, OnOk, OnErr, IfErr};
 ghost use Rattle.std.specs.List.{concat};
-ghost use Rattle.leveldb_base.specs.Status.{IsOutOfMemory};
+ghost use Rattle.leveldb_base.specs.Error.{IsOutOfMemory};
 ghost use Rattle.leveldb_env.specs.FilterBlock.{offsets_from};
 
 use leveldb_base::error::Result;

@@ -4,7 +4,7 @@ use Rattle.std.specs.List.{concat}
 use Rattle.std.proofs.lemmas.List.{length-replicate}
 use Rattle.std.proofs.lemmas.Bool.{ltb-false}
 use Rattle.std.proofs.Math.Nat.{mod_self, add-mod_left, mod-add-mod, mod-eq_of_lt, mod-lt}
-use Rattle.leveldb_base.specs.VarintLaws.{apart}
+use Rattle.leveldb_base.proofs.VarintLemmas.{apart}
 use Rattle.leveldb_mem.specs.Log.{filler, room, behind, Fragment, IsFragment, AreFragments, record_type, fragments_of, IsRecord, End, clean, LogOf, FillBlocks, IsFramedRecord, IsFramed}
 use Rattle.leveldb_mem.specs.LogLaws.Fragments.{fragment_of, unchecked, length-fragment, same_fragment}
 

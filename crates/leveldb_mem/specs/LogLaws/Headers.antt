@@ -3,7 +3,7 @@ use Rattle.std.proofs.Common.{◌≡◌, ◌≢◌, ℕ, ◌+◌, ◌-◌, ◌*�
 use Rattle.std.proofs.lemmas.List.{append_cancel_left}
 use Rattle.std.proofs.lemmas.Bool.{lt-ltb, le-ltb}
 use Rattle.leveldb_base.specs.Varint.{little}
-use Rattle.leveldb_base.specs.VarintLaws.{apart}
+use Rattle.leveldb_base.proofs.VarintLemmas.{apart}
 use Rattle.leveldb_mem.specs.Log.{filler, room, Fragment, checksum, IsChecksum, fragment_bytes, IsFragment, IsDamaged}
 use Rattle.leveldb_mem.specs.LogLaws.Texts.{same_head, same_tail}
 use Rattle.leveldb_mem.specs.LogLaws.Fragments.{fragment_of, short, length-sum, length-fragment}

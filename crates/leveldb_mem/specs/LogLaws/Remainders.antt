@@ -10,9 +10,11 @@ use Rattle.leveldb_mem.specs.LogLaws.Records.{one_remainder}
 abbrev pub NoFragment : Bool → ℕ → ℕ → List ℕ → Type 0
 NoFragment checked size place bytes = (f : Fragment) (front more : List ℕ) → bytes ≡ front ++ more → IsFragment checked size f place front → ⊥
 
+-- no front of the bytes is the rest of a record at this offset
 abbrev pub NoRemainder : Bool → ℕ → Bool → ℕ → List ℕ → Type 0
 NoRemainder checked size first place bytes = (text front more : List ℕ) → bytes ≡ front ++ more → IsRemainder checked size first text place front → ⊥
 
+-- no front of the bytes is a whole record at this offset
 abbrev pub NoRecord : Bool → ℕ → ℕ → List ℕ → Type 0
 NoRecord checked size place bytes = (text front more : List ℕ) → bytes ≡ front ++ more → IsRecord checked size text place front → ⊥
 

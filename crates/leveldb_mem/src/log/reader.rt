@@ -1,6 +1,6 @@
 //! The reader of a log: it joins fragments to records.
 ghost use Rattle.std.specs.Prelude.{◌≡◌, ◌≢◌, ◌↔◌, ℕ, ◌+◌, ◌-◌, ◌*◌, ◌%◌, ◌≤◌, ◌<◌, true, false, [], take, drop, length, slice_index, slice_range, vec_len, IfOk, OnOk, IfErr, IfSome, IsErrAnd, IsTrue, MatchOption, List, All, Ok, string_bytes, map, if◌then◌else◌};
-ghost use Rattle.leveldb_base.specs.Status.{status_text};
+ghost use Rattle.leveldb_base.specs.Error.{status_text};
 ghost use Rattle.leveldb_base.specs.declared.error.StatusCode.TheVariants.{Corruption};
 ghost use Rattle.leveldb_env.specs.Sources.{GivesSome, GivesAll, GivesUp};
 ghost use Rattle.leveldb_env.specs.Calls.{NoMemory};

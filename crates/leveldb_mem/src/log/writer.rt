@@ -1,6 +1,6 @@
 //! The writer of a log: it frames records and hands each on in one put.
 ghost use Rattle.std.specs.Prelude.{◌≡◌, ◌≢◌, ◌%◌, ◌<◌, ◌≤◌, ◌++◌, true, false, [], length, OnOk, IfOk, IfErr, IsErrAnd};
-ghost use Rattle.leveldb_base.specs.Status.{IsOutOfMemory};
+ghost use Rattle.leveldb_base.specs.Error.{IsOutOfMemory};
 ghost use Rattle.leveldb_mem.specs.Log.{IsBlockSize, log_block_size, filler, room, checksum, fragment_bytes, fragment_at, framed_record};
 ghost use Rattle.leveldb_mem.specs.LogLaws.Fragments.{fragment_of};
 ghost use Rattle.leveldb_mem.specs.Writing.{IsBroken, Adds, Keeps, Refuses, Flushes};

@@ -1,7 +1,7 @@
 //! A user's key as of a sequence number, among memtable keys.
 ghost use Rattle.std.specs.Prelude.{◌≡◌};
 ghost use Rattle.std.specs.Ordering.{is_lt, ordering_then, nat_cmp};
-ghost use Rattle.leveldb_base.specs.Keys.{inner_key, user_part, sequence_part};
+ghost use Rattle.leveldb_base.specs.KeyTypes.{inner_key, user_part, sequence_part};
 
 use crate::memtable::iterator::inner_text;
 use crate::skipmap::search::Probe;

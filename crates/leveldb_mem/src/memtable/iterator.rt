@@ -2,7 +2,7 @@
 ghost use Rattle.std.specs.Prelude.{◌≡◌, ◌<◌, length, map};
 ghost use Rattle.std.specs.Ordering.{is_lt};
 ghost use Rattle.std.specs.Option.{ForSome};
-ghost use Rattle.leveldb_base.specs.Keys.{inner_key, internal_cmp};
+ghost use Rattle.leveldb_base.specs.KeyTypes.{inner_key, internal_cmp};
 ghost use Rattle.leveldb_mem.specs.MemTable.{internal_pair};
 
 use crate::memtable::MemTable;
@@ -43,7 +43,7 @@ impl<'a, C: UserCmp> LdbIterator for MemtableIterator<'a, C> {
 
     ghost pairs = { λ it. map internal_pair it.table.now.kept.entries };
 
-    ghost place = { λ it. it.place };
+    ghost position = { λ it. it.place };
 
     ghost order = { λ it. internal_cmp (C.cmp it.table.now.cmp) };
 

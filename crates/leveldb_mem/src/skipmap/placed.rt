@@ -1,7 +1,7 @@
 //! Pairs of a key and a value in an order that is chosen at each insertion. Keys and values lie in one vector.
 ghost use Rattle.std.specs.Prelude.{◌≡◌, ◌+◌, ◌*◌, ◌^◌, ◌<◌, ◌≤◌, [], ◌++◌, length, take, drop, slice_index_or, OnOk, OnErr, IfErr};
 ghost use Rattle.std.specs.List.{insert};
-ghost use Rattle.leveldb_base.specs.Status.{IsOutOfMemory};
+ghost use Rattle.leveldb_base.specs.Error.{IsOutOfMemory};
 ghost use Rattle.leveldb_mem.specs.Placed.{bytes_of};
 ghost use Rattle.leveldb_mem.specs.Searching.{key_at};
 

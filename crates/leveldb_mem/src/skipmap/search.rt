@@ -1,7 +1,7 @@
 //! How many keys at the front of a map come before something.
 ghost use Rattle.std.specs.Prelude.{◌≡◌, ◌-◌, ◌≤◌, ℕ, Bool, true, List, length, MatchOption, ◌&&◌, nat_lt};
 ghost use Rattle.std.specs.Ordering.{is_lt, is_eq};
-ghost use Rattle.leveldb_base.specs.Places.{count_before};
+ghost use Rattle.leveldb_base.specs.Types.{count_before};
 ghost use Rattle.leveldb_mem.specs.Searching.{key_at, count_while, IsParted};
 ghost use Rattle.leveldb_mem.specs.SkipMap.{IsSorted, HasKey, IsGap};
 

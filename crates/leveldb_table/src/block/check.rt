@@ -1,6 +1,6 @@
 //! The check of a block's bytes, in one pass.
 ghost use Rattle.std.specs.Prelude.{◌≡◌, ◌↔◌, All, ◌+◌, ◌*◌, ◌<◌, ◌≤◌, true, length, MatchOption, IsSome, List, [], ◌∷◌, ◌++◌, take, IfOk, OnOk, IfErr, IsTrue};
-ghost use Rattle.leveldb_base.specs.Status.{IsOutOfMemory};
+ghost use Rattle.leveldb_base.specs.Error.{IsOutOfMemory};
 ghost use Rattle.leveldb_env.specs.Numbers.{numbers_in};
 ghost use Rattle.leveldb_table.specs.Block.{key_of, SharesFrom, RiseBehind};
 ghost use Rattle.leveldb_table.specs.BlockLaws.{begins, points_after};

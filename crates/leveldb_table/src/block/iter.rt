@@ -1,6 +1,6 @@
 //! A walk over a block, beside a borrow of it.
 ghost use Rattle.std.specs.Prelude.{◌≡◌, None, OnOk, OnErr, IfErr};
-ghost use Rattle.leveldb_base.specs.Status.{IsOutOfMemory};
+ghost use Rattle.leveldb_base.specs.Error.{IsOutOfMemory};
 ghost use Rattle.leveldb_table.specs.Block.{pairs_of};
 ghost use Rattle.leveldb_table.specs.Walk.{IsWithin, place_of, last_place};
 ghost use Rattle.leveldb_table.specs.WalkLaws.{IsWithin-prop, IsWithin-place};
@@ -45,7 +45,7 @@ impl<'a, C: Cmp> BlockIter<'a, C> {
 impl<'a, C: Cmp> LdbIterator for BlockIter<'a, C> {
     ghost pairs = { λ it. pairs_of None it.block.now.held.0 };
 
-    ghost place = { λ it. place_of it.block.now.held.0 it.core.spot };
+    ghost position = { λ it. place_of it.block.now.held.0 it.core.spot };
 
     ghost order = { λ it. C.cmp it.block.now.cmp };
 

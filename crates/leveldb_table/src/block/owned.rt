@@ -1,7 +1,7 @@
 //! A walk over a block that it holds.
 ghost use Rattle.std.specs.Prelude.{◌≡◌, None, Some, IfOk, IfErr, OnOk, OnErr, is_some, option_map};
-ghost use Rattle.leveldb_base.specs.Places.{next_place, previous_place, seek_place, pair_at};
-ghost use Rattle.leveldb_base.specs.Status.{IsOutOfMemory};
+ghost use Rattle.leveldb_base.specs.Types.{next_position, previous_position, seek_position, pair_at};
+ghost use Rattle.leveldb_base.specs.Error.{IsOutOfMemory};
 ghost use Rattle.leveldb_table.specs.Block.{pairs_of};
 ghost use Rattle.leveldb_table.specs.Walk.{IsWithin, place_of, last_place};
 ghost use Rattle.leveldb_table.specs.WalkLaws.{IsWithin-prop, IsWithin-place};
@@ -64,7 +64,7 @@ impl<C: Cmp> BlockWalk<C> {
 impl<C: Cmp> LdbIterator for BlockWalk<C> {
     ghost pairs = { λ it. pairs_of None it.block.held.0 };
 
-    ghost place = { λ it. place_of it.block.held.0 it.core.spot };
+    ghost position = { λ it. place_of it.block.held.0 it.core.spot };
 
     ghost order = { λ it. C.cmp it.block.cmp };
 
@@ -72,7 +72,7 @@ impl<C: Cmp> LdbIterator for BlockWalk<C> {
 
     fn advance(&mut self) -> Result<bool>
         ensures block { self.new.block ≡ self.old.block }
-        ensures ok { OnOk result (place_of self.new.block.held.0 self.new.core.spot ≡ next_place (pairs_of None self.old.block.held.0) (place_of self.old.block.held.0 self.old.core.spot)) }
+        ensures ok { OnOk result (place_of self.new.block.held.0 self.new.core.spot ≡ next_position (pairs_of None self.old.block.held.0) (place_of self.old.block.held.0 self.old.core.spot)) }
         ensures answer { IfOk result (λ there. there ≡ is_some (place_of self.new.block.held.0 self.new.core.spot)) }
         ensures err { OnErr result (place_of self.new.block.held.0 self.new.core.spot ≡ None) }
         ensures cause { IfErr result IsOutOfMemory }
@@ -82,7 +82,7 @@ impl<C: Cmp> LdbIterator for BlockWalk<C> {
 
     fn prev(&mut self) -> Result<bool>
         ensures block { self.new.block ≡ self.old.block }
-        ensures ok { OnOk result (place_of self.new.block.held.0 self.new.core.spot ≡ previous_place (place_of self.old.block.held.0 self.old.core.spot)) }
+        ensures ok { OnOk result (place_of self.new.block.held.0 self.new.core.spot ≡ previous_position (place_of self.old.block.held.0 self.old.core.spot)) }
         ensures answer { IfOk result (λ there. there ≡ is_some (place_of self.new.block.held.0 self.new.core.spot)) }
         ensures err { OnErr result (place_of self.new.block.held.0 self.new.core.spot ≡ None) }
         ensures cause { IfErr result IsOutOfMemory }
@@ -92,7 +92,7 @@ impl<C: Cmp> LdbIterator for BlockWalk<C> {
 
     fn seek(&mut self, key: &[u8]) -> Result<()>
         ensures block { self.new.block ≡ self.old.block }
-        ensures ok { OnOk result (place_of self.new.block.held.0 self.new.core.spot ≡ seek_place (C.cmp self.old.block.cmp) (pairs_of None self.old.block.held.0) key.now) }
+        ensures ok { OnOk result (place_of self.new.block.held.0 self.new.core.spot ≡ seek_position (C.cmp self.old.block.cmp) (pairs_of None self.old.block.held.0) key.now) }
         ensures err { OnErr result (place_of self.new.block.held.0 self.new.core.spot ≡ None) }
         ensures cause { IfErr result IsOutOfMemory }
     {

@@ -1,7 +1,7 @@
 //! A walk over a block, which keeps no borrow of it.
 ghost use Rattle.std.specs.Prelude.{◌≡◌, ℕ, ◌<◌, ◌≤◌, length, Some, None, MatchOption, IfOk, OnOk, OnErr, IfErr, is_some};
-ghost use Rattle.leveldb_base.specs.Places.{next_place, previous_place, seek_place, place_within, pair_at, pair_of};
-ghost use Rattle.leveldb_base.specs.Status.{IsOutOfMemory};
+ghost use Rattle.leveldb_base.specs.Types.{next_position, previous_position, seek_position, position_within, pair_at, pair_of};
+ghost use Rattle.leveldb_base.specs.Error.{IsOutOfMemory};
 ghost use Rattle.leveldb_table.specs.Block.{pairs_of};
 ghost use Rattle.leveldb_table.specs.Walk.{last_place, start_of, IsPoint, Loads, IsWithin, place_of, StandsBetween, StandsBefore};
 
@@ -103,7 +103,7 @@ impl BlockCore {
     pub fn advance<C: Cmp>(&mut self, block: &Block<C>) -> Result<bool>
         requires { IsWithin block.now.contents block.now.held.0 self.old.key.items self.old.spot }
         ensures within { IsWithin block.now.contents block.now.held.0 self.new.key.items self.new.spot }
-        ensures ok { OnOk result (place_of block.now.held.0 self.new.spot ≡ next_place (pairs_of None block.now.held.0) (place_of block.now.held.0 self.old.spot)) }
+        ensures ok { OnOk result (place_of block.now.held.0 self.new.spot ≡ next_position (pairs_of None block.now.held.0) (place_of block.now.held.0 self.old.spot)) }
         ensures answer { IfOk result (λ there. there ≡ is_some (place_of block.now.held.0 self.new.spot)) }
         ensures err { OnErr result (place_of block.now.held.0 self.new.spot ≡ None) }
         ensures cause { IfErr result IsOutOfMemory }
@@ -122,7 +122,7 @@ impl BlockCore {
     pub fn prev<C: Cmp>(&mut self, block: &Block<C>) -> Result<bool>
         requires { IsWithin block.now.contents block.now.held.0 self.old.key.items self.old.spot }
         ensures within { IsWithin block.now.contents block.now.held.0 self.new.key.items self.new.spot }
-        ensures ok { OnOk result (place_of block.now.held.0 self.new.spot ≡ previous_place (place_of block.now.held.0 self.old.spot)) }
+        ensures ok { OnOk result (place_of block.now.held.0 self.new.spot ≡ previous_position (place_of block.now.held.0 self.old.spot)) }
         ensures answer { IfOk result (λ there. there ≡ is_some (place_of block.now.held.0 self.new.spot)) }
         ensures err { OnErr result (place_of block.now.held.0 self.new.spot ≡ None) }
         ensures cause { IfErr result IsOutOfMemory }
@@ -140,7 +140,7 @@ impl BlockCore {
     pub fn seek<C: Cmp>(&mut self, block: &Block<C>, key: &[u8]) -> Result<()>
         requires { IsWithin block.now.contents block.now.held.0 self.old.key.items self.old.spot }
         ensures within { IsWithin block.now.contents block.now.held.0 self.new.key.items self.new.spot }
-        ensures ok { OnOk result (place_of block.now.held.0 self.new.spot ≡ seek_place (C.cmp block.now.cmp) (pairs_of None block.now.held.0) key.now) }
+        ensures ok { OnOk result (place_of block.now.held.0 self.new.spot ≡ seek_position (C.cmp block.now.cmp) (pairs_of None block.now.held.0) key.now) }
         ensures err { OnErr result (place_of block.now.held.0 self.new.spot ≡ None) }
         ensures cause { IfErr result IsOutOfMemory }
     {

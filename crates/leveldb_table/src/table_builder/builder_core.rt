@@ -1,10 +1,10 @@
 //! What a table builder knows of its table, without the sink that the table goes to.
 ghost use Rattle.std.specs.Prelude.{◌≡◌, ◌≢◌, ◌⊎◌, ◌+◌, ◌-◌, ◌^◌, min, ◌<◌, ◌≤◌, ◌++◌, ◌∷◌, [], ℕ, List, Bool, true, false, Option, None, Some, Ok, IfOk, IfErr, IfSome, OnOk, OnErr, IsErr, IsErrAnd, length, codes, max};
 ghost use Rattle.std.specs.declared.cmp.Ordering.TheVariants.{Less, Greater};
-ghost use Rattle.leveldb_base.specs.Bytewise.{bytewise};
-ghost use Rattle.leveldb_base.specs.Handle.{Handle, handle_bytes, HandleFits};
-ghost use Rattle.leveldb_base.specs.Places.{Pair};
-ghost use Rattle.leveldb_base.specs.Status.{IsOutOfMemory};
+ghost use Rattle.leveldb_base.specs.Cmp.{bytewise};
+ghost use Rattle.leveldb_base.specs.BlockHandle.{Handle, handle_bytes, HandleFits};
+ghost use Rattle.leveldb_base.specs.Types.{Pair};
+ghost use Rattle.leveldb_base.specs.Error.{IsOutOfMemory};
 ghost use Rattle.leveldb_base.specs.declared.error.StatusCode.TheVariants.{NotSupported};
 ghost use Rattle.leveldb_env.specs.Coders.{Codings, Decodes, IsUnset};
 ghost use Rattle.leveldb_table.specs.Block.{KeysRise, pairs_of};

@@ -1,6 +1,6 @@
 //! The footer, a table's last bytes, which say where its metaindex and its index stand.
 ghost use Rattle.std.specs.Prelude.{◌≡◌, ℕ, ◌+◌, ◌≤◌, List, ◌++◌, Option, Some, length, drop, IsTrue, ◌↔◌, replicate};
-ghost use Rattle.leveldb_base.specs.Handle.{Handle, HandleFits};
+ghost use Rattle.leveldb_base.specs.BlockHandle.{Handle, HandleFits};
 ghost use Rattle.leveldb_base.specs.Varint.{little};
 ghost use Rattle.leveldb_table.specs.Footer.{magic, footer_bytes, ReadsFooter};
 ghost use Rattle.leveldb_table.specs.declared.table_builder.footer.Footer.{Footer};
@@ -55,7 +55,7 @@ impl Footer {
     }
 
     /// Writes the footer over the first 48 bytes of `to`.
-    #[tactic(auto, using(leveldb_base::specs::HandleLaws::handle_lengths))]
+    #[tactic(auto, using(leveldb_base::proofs::BlockHandleLemmas::handle_lengths))]
     pub fn encode(&self, to: &mut [u8])
         requires { 48 ≤ length to.old }
         ensures { to.new ≡ footer_bytes self.now.meta_index self.now.index ++ drop 48 to.old }

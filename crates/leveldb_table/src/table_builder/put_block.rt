@@ -1,6 +1,6 @@
 //! Blocks put into a table's file, each with its trailer.
 ghost use Rattle.std.specs.Prelude.{◌≡◌, ◌+◌, ◌^◌, ◌<◌, ◌≤◌, ◌++◌, ◌∷◌, [], ℕ, List, None, IfOk, IfErr, IfSome, IfNone, OnOk, IsErrAnd, length};
-ghost use Rattle.leveldb_base.specs.Status.{IsOutOfMemory};
+ghost use Rattle.leveldb_base.specs.Error.{IsOutOfMemory};
 ghost use Rattle.leveldb_env.specs.Coders.{Decodes, IsUnset};
 ghost use Rattle.leveldb_table.specs.Table.{with_trailer};
 ghost use Rattle.leveldb_table.specs.TablePuts.{PutsBlock, IsNotPut, IsRefused, PutsNone};

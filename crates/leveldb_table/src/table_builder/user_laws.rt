@@ -1,6 +1,6 @@
 //! Which part of a key filters go by: separators keep the order of these parts.
 ghost use Rattle.std.specs.Prelude.{ℕ, List};
-ghost use Rattle.leveldb_base.specs.Keys.{user_part};
+ghost use Rattle.leveldb_base.specs.KeyTypes.{user_part};
 ghost use Rattle.leveldb_base.specs.declared.cmp.internal.InternalKeyCmp.{InternalKeyCmp};
 ghost use Rattle.leveldb_table.specs.TableBuilding.{SeparatesUsers};
 

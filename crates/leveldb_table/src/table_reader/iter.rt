@@ -1,8 +1,8 @@
 //! A walk over a table, beside borrows of what it takes.
 ghost use Rattle.std.specs.Prelude.{◌≡◌, ℕ, List, Option, None, Some, IfOk, IfErr, is_some, true};
 ghost use Rattle.std.specs.declared.cmp.Ordering.{Ordering};
-ghost use Rattle.leveldb_base.specs.Places.{next_place, previous_place, seek_place, place_within, pair_of, pair_at};
-ghost use Rattle.leveldb_base.specs.Status.{IsOutOfMemory};
+ghost use Rattle.leveldb_base.specs.Types.{next_position, previous_position, seek_position, position_within, pair_of, pair_at};
+ghost use Rattle.leveldb_base.specs.Error.{IsOutOfMemory};
 ghost use Rattle.leveldb_table.specs.Table.{Part};
 
 use crate::block_cache::BlockCache;
@@ -63,7 +63,7 @@ impl<'a, E: Env, C: Cmp + Copy + Drop, FP: FilterPolicy> TableIterator<'a, E, C,
     /// Answers whether it stands on a pair.
     pub fn advance(&mut self, coders: &CompressorList) -> Result<bool>
         ensures moves { Moves E.Env (⟦<CompressorList as Coders>⟧.codings coders.now) (C.cmp self.old.table.now.cmp) self.old.table.now.id self.old.table.now.file
-            (λ _. Unit {0}) next_place Forward
+            (λ _. Unit {0}) next_position Forward
             self.old.env.now self.old.cache.now self.old.core result self.new.env.now self.new.cache.now self.new.core }
         ensures env_reference { self.new.env.ghost_name ≡ self.old.env.ghost_name }
         ensures cache_reference { self.new.cache.ghost_name ≡ self.old.cache.ghost_name }
@@ -77,7 +77,7 @@ impl<'a, E: Env, C: Cmp + Copy + Drop, FP: FilterPolicy> TableIterator<'a, E, C,
     /// Answers whether it stands on a pair.
     pub fn prev(&mut self, coders: &CompressorList) -> Result<bool>
         ensures moves { Moves E.Env (⟦<CompressorList as Coders>⟧.codings coders.now) (C.cmp self.old.table.now.cmp) self.old.table.now.id self.old.table.now.file
-            (λ _. Unit {0}) (λ _. previous_place) Backward
+            (λ _. Unit {0}) (λ _. previous_position) Backward
             self.old.env.now self.old.cache.now self.old.core result self.new.env.now self.new.cache.now self.new.core }
         ensures env_reference { self.new.env.ghost_name ≡ self.old.env.ghost_name }
         ensures cache_reference { self.new.cache.ghost_name ≡ self.old.cache.ghost_name }
@@ -90,7 +90,7 @@ impl<'a, E: Env, C: Cmp + Copy + Drop, FP: FilterPolicy> TableIterator<'a, E, C,
     /// Goes to the first pair whose key is at or after `key`, or to no place where all keys are before it.
     pub fn seek(&mut self, coders: &CompressorList, key: &[u8]) -> Result<()>
         ensures moves { Moves E.Env (⟦<CompressorList as Coders>⟧.codings coders.now) (C.cmp self.old.table.now.cmp) self.old.table.now.id self.old.table.now.file
-            (CanSeek (C.accepts self.old.table.now.cmp) key.now) (λ pairs _. seek_place (C.cmp self.old.table.now.cmp) pairs key.now) (Sought key.now)
+            (CanSeek (C.accepts self.old.table.now.cmp) key.now) (λ pairs _. seek_position (C.cmp self.old.table.now.cmp) pairs key.now) (Sought key.now)
             self.old.env.now self.old.cache.now self.old.core result self.new.env.now self.new.cache.now self.new.core }
         ensures env_reference { self.new.env.ghost_name ≡ self.old.env.ghost_name }
         ensures cache_reference { self.new.cache.ghost_name ≡ self.old.cache.ghost_name }
@@ -103,7 +103,7 @@ impl<'a, E: Env, C: Cmp + Copy + Drop, FP: FilterPolicy> TableIterator<'a, E, C,
     /// Goes to the first pair, or to no place in an empty table.
     pub fn seek_to_first(&mut self, coders: &CompressorList) -> Result<()>
         ensures moves { Moves E.Env (⟦<CompressorList as Coders>⟧.codings coders.now) (C.cmp self.old.table.now.cmp) self.old.table.now.id self.old.table.now.file
-            (λ _. Unit {0}) (λ pairs _. place_within pairs 0) ToFirst
+            (λ _. Unit {0}) (λ pairs _. position_within pairs 0) ToFirst
             self.old.env.now self.old.cache.now self.old.core result self.new.env.now self.new.cache.now self.new.core }
         ensures env_reference { self.new.env.ghost_name ≡ self.old.env.ghost_name }
         ensures cache_reference { self.new.cache.ghost_name ≡ self.old.cache.ghost_name }

@@ -1,9 +1,9 @@
 //! What holds of each table: how it is opened, which pairs it has, and what a filter's refusal tells.
 ghost use Rattle.std.specs.Prelude.{◌≡◌, ℕ, Bool, true, false, List, length, map, Option, Some, IfSome};
 ghost use Rattle.std.specs.declared.cmp.Ordering.{Ordering};
-ghost use Rattle.leveldb_base.specs.Handle.{Handle};
-ghost use Rattle.leveldb_base.specs.Keys.{user_part};
-ghost use Rattle.leveldb_base.specs.Places.{Pair};
+ghost use Rattle.leveldb_base.specs.BlockHandle.{Handle};
+ghost use Rattle.leveldb_base.specs.KeyTypes.{user_part};
+ghost use Rattle.leveldb_base.specs.Types.{Pair};
 ghost use Rattle.leveldb_base.specs.declared.cmp.internal.InternalKeyCmp.{InternalKeyCmp};
 ghost use Rattle.leveldb_env.specs.Coders.{Codings, Decodes};
 ghost use Rattle.leveldb_env.specs.FilterBlock.{passes};

@@ -1,7 +1,7 @@
 //! What is read when a table is opened.
 ghost use Rattle.std.specs.Prelude.{◌≡◌, ◌⊎◌, ℕ, List, Option, IfOk, IfErr, IfSome};
-ghost use Rattle.leveldb_base.specs.Handle.{Handle};
-ghost use Rattle.leveldb_base.specs.Status.{IsOutOfMemory};
+ghost use Rattle.leveldb_base.specs.BlockHandle.{Handle};
+ghost use Rattle.leveldb_base.specs.Error.{IsOutOfMemory};
 ghost use Rattle.leveldb_base.specs.declared.error.StatusCode.TheVariants.{Corruption};
 ghost use Rattle.leveldb_table.specs.Table.{filter_key};
 ghost use Rattle.leveldb_table.specs.TableReading.{EndsIn, HasFiltersBy, SaysHandle, SaysNoHandle, value_under, filters_in};

@@ -2,9 +2,9 @@
 ghost use Rattle.std.specs.Prelude.{◌≡◌, ◌⊎◌, List, ℕ, None, Some, IfOk, IfErr, IfSome, OnOk, OnErr, IsErrAnd, Option, is_some, true, map};
 ghost use Rattle.std.specs.Option.{IsSomeAnd};
 ghost use Rattle.std.specs.declared.cmp.Ordering.{Ordering};
-ghost use Rattle.leveldb_base.specs.Handle.{handle_bytes, HandleFits};
-ghost use Rattle.leveldb_base.specs.Places.{next_place, previous_place, seek_place, place_within, pair_of, pair_at};
-ghost use Rattle.leveldb_base.specs.Status.{IsOutOfMemory};
+ghost use Rattle.leveldb_base.specs.BlockHandle.{handle_bytes, HandleFits};
+ghost use Rattle.leveldb_base.specs.Types.{next_position, previous_position, seek_position, position_within, pair_of, pair_at};
+ghost use Rattle.leveldb_base.specs.Error.{IsOutOfMemory};
 ghost use Rattle.leveldb_base.specs.declared.error.StatusCode.TheVariants.{Corruption};
 ghost use Rattle.leveldb_table.specs.Table.{Part, HasBlockAt};
 ghost use Rattle.leveldb_table.specs.TableCached.{HoldsOf, IsOf, Gathers};
@@ -69,7 +69,7 @@ impl<C: Cmp + Copy + Drop> TableCore<C> {
         coders: &CompressorList,
     ) -> Result<bool>
         ensures moves { Moves E.Env (⟦<CompressorList as Coders>⟧.codings coders.now) (C.cmp table.now.cmp) table.now.id table.now.file
-            (λ _. Unit {0}) next_place Forward env.old cache.old self.old result env.new cache.new self.new }
+            (λ _. Unit {0}) next_position Forward env.old cache.old self.old result env.new cache.new self.new }
         ensures answer { IfOk result (λ there. there ≡ is_some (inner_place self.new.inner)) }
     {
         if !self.valid() {
@@ -90,7 +90,7 @@ impl<C: Cmp + Copy + Drop> TableCore<C> {
         coders: &CompressorList,
     ) -> Result<bool>
         ensures moves { Moves E.Env (⟦<CompressorList as Coders>⟧.codings coders.now) (C.cmp table.now.cmp) table.now.id table.now.file
-            (λ _. Unit {0}) (λ _. previous_place) Backward env.old cache.old self.old result env.new cache.new self.new }
+            (λ _. Unit {0}) (λ _. previous_position) Backward env.old cache.old self.old result env.new cache.new self.new }
         ensures answer { IfOk result (λ there. there ≡ is_some (inner_place self.new.inner)) }
     {
         if !self.valid() {
@@ -112,7 +112,7 @@ impl<C: Cmp + Copy + Drop> TableCore<C> {
         key: &[u8],
     ) -> Result<()>
         ensures moves { Moves E.Env (⟦<CompressorList as Coders>⟧.codings coders.now) (C.cmp table.now.cmp) table.now.id table.now.file
-            (CanSeek (C.accepts table.now.cmp) key.now) (λ pairs _. seek_place (C.cmp table.now.cmp) pairs key.now) (Sought key.now)
+            (CanSeek (C.accepts table.now.cmp) key.now) (λ pairs _. seek_position (C.cmp table.now.cmp) pairs key.now) (Sought key.now)
             env.old cache.old self.old result env.new cache.new self.new }
     {
         self.inner = None;
@@ -133,7 +133,7 @@ impl<C: Cmp + Copy + Drop> TableCore<C> {
         coders: &CompressorList,
     ) -> Result<()>
         ensures moves { Moves E.Env (⟦<CompressorList as Coders>⟧.codings coders.now) (C.cmp table.now.cmp) table.now.id table.now.file
-            (λ _. Unit {0}) (λ pairs _. place_within pairs 0) ToFirst env.old cache.old self.old result env.new cache.new self.new }
+            (λ _. Unit {0}) (λ pairs _. position_within pairs 0) ToFirst env.old cache.old self.old result env.new cache.new self.new }
     {
         self.reset();
         self.advance(table, env, cache, coders)?;
@@ -218,7 +218,7 @@ impl<C: Cmp + Copy + Drop> TableCore<C> {
         key: &[u8],
     ) -> Result<()>
         requires none { self.old.inner ≡ None }
-        requires line { place_over self.old.index ≡ seek_place (C.cmp self.old.index.block.cmp) (pairs_over self.old.index) key.now }
+        requires line { place_over self.old.index ≡ seek_position (C.cmp self.old.index.block.cmp) (pairs_over self.old.index) key.now }
         requires names { IsNamedBy (line_of self.old) handle }
         requires fits { HandleFits handle }
         ensures enters { Enters E.Env (⟦<CompressorList as Coders>⟧.codings coders.now) (C.cmp table.now.cmp) table.now.id table.now.file
@@ -326,7 +326,7 @@ impl<C: Cmp + Copy + Drop> TableCore<C> {
     fn step_forward(&mut self) -> Result<bool>
         ensures block { inner_block self.new.inner ≡ inner_block self.old.inner }
         ensures pairs { inner_pairs self.new.inner ≡ inner_pairs self.old.inner }
-        ensures ok { OnOk result (inner_place self.new.inner ≡ next_place (inner_pairs self.old.inner) (inner_place self.old.inner)) }
+        ensures ok { OnOk result (inner_place self.new.inner ≡ next_position (inner_pairs self.old.inner) (inner_place self.old.inner)) }
         ensures answer { IfOk result (λ there. there ≡ is_some (inner_place self.new.inner)) }
         ensures err { OnErr result (inner_place self.new.inner ≡ None) }
         ensures index { self.new.index ≡ self.old.index }
@@ -342,7 +342,7 @@ impl<C: Cmp + Copy + Drop> TableCore<C> {
     fn step_back(&mut self) -> Result<bool>
         ensures block { inner_block self.new.inner ≡ inner_block self.old.inner }
         ensures pairs { inner_pairs self.new.inner ≡ inner_pairs self.old.inner }
-        ensures ok { OnOk result (inner_place self.new.inner ≡ previous_place (inner_place self.old.inner)) }
+        ensures ok { OnOk result (inner_place self.new.inner ≡ previous_position (inner_place self.old.inner)) }
         ensures answer { IfOk result (λ there. there ≡ is_some (inner_place self.new.inner)) }
         ensures err { OnErr result (inner_place self.new.inner ≡ None) }
         ensures index { self.new.index ≡ self.old.index }
@@ -374,7 +374,7 @@ impl<C: Cmp + Copy + Drop> TableCore<C> {
     fn seek_inside(&mut self, key: &[u8]) -> Result<bool>
         ensures block { inner_block self.new.inner ≡ inner_block self.old.inner }
         ensures pairs { inner_pairs self.new.inner ≡ inner_pairs self.old.inner }
-        ensures ok { OnOk result (IfSome self.old.inner (λ walk. inner_place self.new.inner ≡ seek_place (C.cmp walk.block.cmp) (pairs_over walk) key.now)) }
+        ensures ok { OnOk result (IfSome self.old.inner (λ walk. inner_place self.new.inner ≡ seek_position (C.cmp walk.block.cmp) (pairs_over walk) key.now)) }
         ensures answer { IfOk result (λ there. there ≡ is_some (inner_place self.new.inner)) }
         ensures err { OnErr result (inner_place self.new.inner ≡ None) }
         ensures index { self.new.index ≡ self.old.index }

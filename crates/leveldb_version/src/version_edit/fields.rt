@@ -2,7 +2,7 @@
 ghost use Rattle.std.specs.Prelude.{◌≡◌, ◌^◌, ◌<◌, ◌∷◌, ◌++◌, flat_map, map, All, OnOk, IfErr, IfSome, string_bytes};
 ghost use Rattle.std.specs.List.Sorted.{IsStrictlySortedBy};
 ghost use Rattle.std.specs.Option.{option_map, option_to_list};
-ghost use Rattle.leveldb_base.specs.Status.{IsOutOfMemory};
+ghost use Rattle.leveldb_base.specs.Error.{IsOutOfMemory};
 ghost use Rattle.leveldb_base.specs.Varint.{varint};
 ghost use Rattle.leveldb_version.specs.Edit.{comparator_is, points, deletes, adds, FieldFits, field_bytes, file_order};
 ghost use Rattle.leveldb_version.specs.EditReading.{ReadsFront, with_rest, field_with_rest};

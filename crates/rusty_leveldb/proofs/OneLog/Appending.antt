@@ -2,7 +2,7 @@
 use Rattle.std.proofs.Common.{◌≡◌, ◌≢◌, ◌≤◌, ◌<◌, ◌+◌, ◌⊎◌, inl, inr, ⊎_elim, ℕ, zero, suc, List, [], ◌∷◌, ◌++◌, length, take, drop, refl, sym, ◌∙◌, ap, subst, arith, Option, Some, append-nil, append_assoc, length-append}
 use Rattle.std.proofs.lemmas.List.{get_or-take, get_or_past, take_all, take-append-drop, take-append-le, length-take}
 use Rattle.std.proofs.lemmas.Bool.{cases_lt}
-use Rattle.leveldb_base.specs.History.{Item, Entry, History, IsBeginning, placed, entries_of, greatest}
+use Rattle.leveldb_base.specs.History.{Item, Entry, History, IsPrefixAtLeast, placed, entries_of, greatest}
 use Rattle.leveldb_env.specs.Disk.{File, bytes_of, kept_file, longer_file, AreBytes}
 use Rattle.leveldb_mem.specs.Log.{log_block_size, End, clean, IsLogFile, frame_at}
 use Rattle.leveldb_mem.specs.Honest.{HonestTail}
@@ -87,7 +87,7 @@ module _ (file : File) (history : History) (bound covered : ℕ) (safe : Safe bo
   -- so many of the records carry a beginning
   pub record Part (n : ℕ) : Type 0 where
     pub part : History
-    pub beginning : IsBeginning covered history part
+    pub beginning : IsPrefixAtLeast covered history part
     pub tells : Tells bound (contents_of (take n now.batches)) part
 
   pub part_of : (n : ℕ) → length first ≤ n → n ≤ length now.records → Part n
@@ -115,7 +115,7 @@ module _ (file : File) (history : History) (bound covered : ℕ) (safe : Safe bo
 -- ---- one batch more
 
 -- a beginning of a history is one of a longer history
-pub beginning_longer : (covered : ℕ) (history part : History) (batch : List Entry) → IsBeginning covered history part → IsBeginning covered (history ++ batch ∷ []) part
+pub beginning_longer : (covered : ℕ) (history part : History) (batch : List Entry) → IsPrefixAtLeast covered history part → IsPrefixAtLeast covered (history ++ batch ∷ []) part
 beginning_longer covered history part batch b = record {
   count = b.count;
   enough = b.enough;
@@ -124,7 +124,7 @@ beginning_longer covered history part batch b = record {
 }
 
 -- a history is a beginning of itself
-pub beginning_whole : (least : ℕ) (history : History) → least ≤ length history → IsBeginning least history history
+pub beginning_whole : (least : ℕ) (history : History) → least ≤ length history → IsPrefixAtLeast least history history
 beginning_whole least history few = record { count = length history; enough = few; there = omega arith; first = sym (take_all (length history) history (omega arith)) }
 
 pub begun_longer : (bound more covered : ℕ) (history : History) (batch : List Entry) (file : Option File) → bound ≤ more → CarriedBeginning bound covered history file → CarriedBeginning more covered (history ++ batch ∷ []) file

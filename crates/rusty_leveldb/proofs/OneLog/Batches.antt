@@ -3,9 +3,8 @@ use Rattle.std.proofs.Common.{◌≡◌, ◌≤◌, ◌<◌, ◌+◌, ⊎_elim, 
 use Rattle.std.specs.Prelude.{Contains, max}
 use Rattle.std.proofs.lemmas.List.Concat.{flat_map-append}
 use Rattle.std.proofs.lemmas.List.Elements.{Contains-append_cases}
-use Rattle.leveldb_base.specs.History.{Item, Entry, History, placed, entries_of, greatest}
-use Rattle.leveldb_base.specs.View.{SameView}
-use Rattle.leveldb_base.specs.ViewLaws.{same_with_more}
+use Rattle.leveldb_base.specs.History.{Item, Entry, History, placed, entries_of, greatest, SameView}
+use Rattle.leveldb_base.proofs.HistoryLemmas.{same_with_more}
 use Rattle.leveldb_mem.specs.Batch.{Batch}
 use Rattle.rusty_leveldb.specs.OneLog.{AreInOrder, entries_in, all_entries, contents_of, max_sequence}
 use Rattle.rusty_leveldb.specs.Holds.{Tells}

@@ -1,6 +1,6 @@
 -- A disk whose store is one log: what is read of it, and what is safe on it, is so by the log's file alone.
 use Rattle.std.proofs.Common.{◌≡◌, ◌≤◌, ◌+◌, inl, inr, ⊎_elim, ℕ, List, ◌++◌, length, sym, ap, subst, arith, Option, Some, None}
-use Rattle.leveldb_base.specs.History.{Entry, History, joined, count_of}
+use Rattle.leveldb_base.specs.History.{Entry, History, with_batch, count_of}
 use Rattle.leveldb_env.specs.Disk.{File, Files, kept_file, LeavesFile}
 use Rattle.rusty_leveldb.specs.Contents.{Store, missing, made, Contents, Stays}
 use Rattle.rusty_leveldb.specs.OneLog.{log_path, IsRead, IsOneLog}
@@ -38,8 +38,8 @@ module _ (store : List ℕ) where
   -- it holds what it did: creating, appending to, syncing or deleting another file, as the lock's, changes nothing that is read
   pub holds_on : (old files : Files) (history : History) (last covered : ℕ) (pending : Option (List Entry)) → files name ≡ old name → Holds store reads old history last covered pending → Holds store reads files history last covered pending
   holds_on old files history last covered pending same holds = record {
-    now = ⊎_elim (λ c. inl (carries_on (last + count_of pending) history old files same c)) (λ c. inr (carries_on (last + count_of pending) (joined history pending) old files same c)) holds.now;
-    crash = safe_on (last + count_of pending) covered (joined history pending) old files same holds.crash;
+    now = ⊎_elim (λ c. inl (carries_on (last + count_of pending) history old files same c)) (λ c. inr (carries_on (last + count_of pending) (with_batch history pending) old files same c)) holds.now;
+    crash = safe_on (last + count_of pending) covered (with_batch history pending) old files same holds.crash;
   }
 
   pub has_on : (there : Store) (old files : Files) → files name ≡ old name → HasStore store reads there old → HasStore store reads there files

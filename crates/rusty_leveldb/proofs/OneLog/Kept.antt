@@ -4,7 +4,7 @@ use Rattle.std.specs.Prelude.{All}
 use Rattle.std.specs.Option.{option_map}
 use Rattle.std.proofs.lemmas.List.{nil_from_length}
 use Rattle.std.proofs.lemmas.List.Elements.{All-nil, All-cons}
-use Rattle.leveldb_base.specs.History.{History, IsBeginning}
+use Rattle.leveldb_base.specs.History.{History, IsPrefixAtLeast}
 use Rattle.leveldb_env.specs.Disk.{File, bytes_of, kept_file, file_kept, LeavesFile}
 use Rattle.leveldb_mem.specs.Log.{log_block_size, End, clean, IsLogFile, framed}
 use Rattle.leveldb_mem.specs.LogLaws.{log_laws, framing_reads, records_framed, usual_size}
@@ -57,7 +57,7 @@ left_of_kept bound history (Some file) left is leaves c =
     subst (Carried bound history) (sym leaves.3) (same_bytes bound history file (kept_file (file.kept ++ leaves.0)) same c)
 
 -- so it is safe with what it carries
-pub kept_safe : (bound covered : ℕ) (history part : History) (file : Option File) → IsKept file → IsBeginning covered history part → Carried bound part file → Safe bound covered history file
+pub kept_safe : (bound covered : ℕ) (history part : History) (file : Option File) → IsKept file → IsPrefixAtLeast covered history part → Carried bound part file → Safe bound covered history file
 kept_safe bound covered history part file is beginning c left leaves honest = record { part = part; beginning = beginning; carried = left_of_kept bound part file left is leaves c }
 
 -- ---- a log that is made

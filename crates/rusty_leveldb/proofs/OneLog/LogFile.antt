@@ -3,7 +3,7 @@ use Rattle.std.proofs.Common.{◌≡◌, ◌≤◌, inl, ℕ, Bool, true, false,
 use Rattle.std.specs.Prelude.{codes}
 use Rattle.std.specs.Str.{bytes_eq}
 use Rattle.std.specs.Cmp.Lexicographic.{bytes_decides}
-use Rattle.leveldb_base.specs.History.{History, IsBeginning}
+use Rattle.leveldb_base.specs.History.{History, IsPrefixAtLeast}
 use Rattle.leveldb_base.specs.Names.{IsNumber}
 use Rattle.leveldb_env.specs.Disk.{File, Files, bytes_of, kept_file, with_file, AreBytes, LeavesFile, Leaves}
 use Rattle.leveldb_env.specs.FileLaws.{at_same, at_other}
@@ -36,7 +36,7 @@ pub record Carried (bound : ℕ) (history : History) (file : Option File) : Type
 -- the file carries a beginning of the history that has at least so many batches
 pub record CarriedBeginning (bound covered : ℕ) (history : History) (file : Option File) : Type 0 where
   pub part : History
-  pub beginning : IsBeginning covered history part
+  pub beginning : IsPrefixAtLeast covered history part
   pub carried : Carried bound part file
 
 -- a crash left no record that was never written

@@ -1,7 +1,7 @@
 -- A store that is one log as it is opened: a log that is made, and one that takes the place of a log with a bad end.
 use Rattle.std.proofs.Common.{◌≡◌, ◌≤◌, ◌+◌, ◌⊎◌, inl, inr, ⊎_elim, ℕ, List, [], ◌∷◌, ◌++◌, length, refl, sym, ◌∙◌, ap, subst, arith, Option, Some, None, length-append}
-use Rattle.leveldb_base.specs.History.{Entry, History, IsBeginning, joined, count_of}
-use Rattle.leveldb_base.specs.ViewLaws.Elements.{in_none}
+use Rattle.leveldb_base.specs.History.{Entry, History, IsPrefixAtLeast, with_batch, count_of}
+use Rattle.leveldb_base.proofs.HistoryLemmas.{in_none}
 use Rattle.leveldb_env.specs.Disk.{File, Files, bytes_of, kept_file, created, renamed, deleted, or_empty}
 use Rattle.leveldb_env.specs.Calls.{EitherSide}
 use Rattle.leveldb_env.specs.FileLaws.{at_same, renamed-there}
@@ -26,21 +26,21 @@ module _ (store : List ℕ) where
   -- The disk carries this: the history, or that with what was pending, and it has all that was covered.
   pub record Found (files : Files) (history : History) (bound covered : ℕ) (pending : Option (List Entry)) : Type 0 where
     pub part : History
-    pub which : (part ≡ history) ⊎ (part ≡ joined history pending)
-    pub beginning : IsBeginning covered (joined history pending) part
+    pub which : (part ≡ history) ⊎ (part ≡ with_batch history pending)
+    pub beginning : IsPrefixAtLeast covered (with_batch history pending) part
     pub carries : Carries store reads bound part files
 
   pub found : (files : Files) (history : History) (last covered : ℕ) (pending : Option (List Entry)) → covered ≤ length history → Holds store reads files history last covered pending
       → Found files history (last + count_of pending) covered pending
   found files history last covered pending few holds = ⊎_elim
       (λ c. record { part = history; which = inl refl; beginning = without pending; carries = c })
-      (λ c. record { part = joined history pending; which = inr refl; beginning = with pending; carries = c }) holds.now
+      (λ c. record { part = with_batch history pending; which = inr refl; beginning = with pending; carries = c }) holds.now
     where
-      without : (batch : Option (List Entry)) → IsBeginning covered (joined history batch) history
+      without : (batch : Option (List Entry)) → IsPrefixAtLeast covered (with_batch history batch) history
       without None = beginning_whole covered history few
       without (Some batch) = beginning_longer covered history history batch (beginning_whole covered history few)
 
-      with : (batch : Option (List Entry)) → IsBeginning covered (joined history batch) (joined history batch)
+      with : (batch : Option (List Entry)) → IsPrefixAtLeast covered (with_batch history batch) (with_batch history batch)
       with None = beginning_whole covered history few
       with (Some batch) = beginning_whole covered (history ++ batch ∷ []) (omega (arith, few, length-append history (batch ∷ [])))
 
@@ -71,7 +71,7 @@ module _ (store : List ℕ) where
         carries store bound history m (subst (Carried bound history) (sym (created_there m e)) (created_carries bound history (subst (Carried bound history) gone (carried store bound history files c))))
 
     -- either side is safe
-    pub creating_safe : (bound covered : ℕ) (history part : History) (m : Files) → EitherSide (created name) files m → IsBeginning covered history part → Carries store reads bound part files
+    pub creating_safe : (bound covered : ℕ) (history part : History) (m : Files) → EitherSide (created name) files m → IsPrefixAtLeast covered history part → Carries store reads bound part files
         → IsSafe store reads bound covered history files → IsSafe store reads bound covered history m
     creating_safe bound covered history part m (inl same) beginning c safe = safe_on store bound covered history files m (ap (λ (f : Files). f name) same) safe
     creating_safe bound covered history part m (inr e) beginning c safe =
@@ -99,7 +99,7 @@ module _ (store : List ℕ) where
         (same_records bound history file other records end other_end read read_too (subst (Carried bound history) there (carried store bound history files c))))
 
     -- either side is safe
-    pub replacing_safe : (bound covered : ℕ) (history part : History) (m : Files) → EitherSide (renamed from name) files m → IsBeginning covered history part → Carries store reads bound part files
+    pub replacing_safe : (bound covered : ℕ) (history part : History) (m : Files) → EitherSide (renamed from name) files m → IsPrefixAtLeast covered history part → Carries store reads bound part files
         → IsSafe store reads bound covered history files → IsSafe store reads bound covered history m
     replacing_safe bound covered history part m (inl same) beginning c safe = safe_on store bound covered history files m (ap (λ (f : Files). f name) same) safe
     replacing_safe bound covered history part m (inr e) beginning c safe =

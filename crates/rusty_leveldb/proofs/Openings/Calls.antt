@@ -3,7 +3,7 @@ use Rattle.std.proofs.Common.{◌≡◌, ◌⊎◌, ◌%◌, inl, inr, ⊎_elim,
 use Rattle.std.specs.Prelude.{if◌then◌else◌, IsTrue, OnOk}
 use Rattle.std.specs.Option.{option_map}
 use Rattle.leveldb_base.specs.declared.error.Status.{Status}
-use Rattle.leveldb_base.specs.Status.{IsOutOfMemory}
+use Rattle.leveldb_base.specs.Error.{IsOutOfMemory}
 use Rattle.leveldb_env.specs.Disk.{File, Files, bytes_of, file_kept, or_empty, created, synced}
 use Rattle.leveldb_env.specs.Times.{Told}
 use Rattle.leveldb_env.specs.Calls.{Does, EitherSide, Still, NoMemory}

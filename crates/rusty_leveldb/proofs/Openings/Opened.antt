@@ -2,9 +2,8 @@
 use Rattle.std.proofs.Common.{◌≡◌, ◌⊎◌, ◌≤◌, ◌+◌, inl, inr, ⊎_elim, ℕ, Bool, false, true, List, [], length, refl, sym, ◌∙◌, ap, subst, arith, Option, Some, None}
 use Rattle.std.specs.Prelude.{IsTrue, Contains, ◌↔◌, string_bytes}
 use Rattle.std.specs.declared.cmp.Ordering.{Ordering}
-use Rattle.leveldb_base.specs.History.{Entry, entries_of, greatest, joined, count_of}
-use Rattle.leveldb_base.specs.View.{Shows}
-use Rattle.leveldb_base.specs.ViewLaws.Elements.{in_none}
+use Rattle.leveldb_base.specs.History.{Entry, entries_of, greatest, with_batch, count_of, HasValueAt}
+use Rattle.leveldb_base.proofs.HistoryLemmas.{in_none}
 use Rattle.leveldb_env.specs.declared.env.Env.{Ghosts}
 use Rattle.leveldb_env.specs.Disk.{File, AreBytes}
 use Rattle.leveldb_env.specs.Times.{Told}
@@ -32,7 +31,7 @@ use Rattle.rusty_leveldb.proofs.Openings.Moments.{opening_moments}
 use Rattle.rusty_leveldb.proofs.Openings.Survives.{some_contents, stays_made}
 
 -- sets of the same entries show the same
-shows_same : (these those : List Entry) (t : ℕ) (key value : List ℕ) → ((entry : Entry) → Contains these entry ↔ Contains those entry) → Shows these t key value → Shows those t key value
+shows_same : (these those : List Entry) (t : ℕ) (key value : List ℕ) → ((entry : Entry) → Contains these entry ↔ Contains those entry) → HasValueAt these t key value → HasValueAt those t key value
 shows_same these those t key value just shows = record {
   entry = shows.entry;
   newest = record {
@@ -97,7 +96,7 @@ module _ {E C FP F I : Type 0} {D : I → Type 0} (env : Ghosts E F) (name : Lis
 
   now_is_state : IsState now
   now_is_state = record {
-    history = history_part old.covered (joined old.history old.pending) found.part represents.disk_is.is_state.history found.beginning;
+    history = history_part old.covered (with_batch old.history old.pending) found.part represents.disk_is.is_state.history found.beginning;
     reached = reached;
     pending = omega (arith, reached);
     covered = omega arith;

@@ -4,7 +4,7 @@ use Rattle.std.specs.Prelude.{◌-◌, ◌^◌, IsTrue}
 use Rattle.std.specs.declared.cmp.Ordering.{Ordering}
 use Rattle.leveldb_base.specs.declared.error.Status.{Status}
 use Rattle.leveldb_base.specs.declared.error.StatusCode.TheVariants.{InvalidArgument, Corruption, LockError}
-use Rattle.leveldb_base.specs.Status.{text_of}
+use Rattle.leveldb_base.specs.Error.{text_of}
 use Rattle.leveldb_env.specs.declared.env.Env.{Ghosts}
 use Rattle.leveldb_env.specs.Disk.{File, Disk, created}
 use Rattle.leveldb_env.specs.Times.{Told}

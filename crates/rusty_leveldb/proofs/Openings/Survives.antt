@@ -1,6 +1,6 @@
 -- What a store's state keeps of its disk while the store is opened: the log may be made or written anew meanwhile.
 use Rattle.std.proofs.Common.{◌≡◌, ◌≤◌, ◌+◌, inl, inr, ⊎_elim, ℕ, Bool, List, length, refl, sym, ◌∙◌, ap, subst, Option, Some, None}
-use Rattle.leveldb_base.specs.History.{Entry, History, joined, count_of}
+use Rattle.leveldb_base.specs.History.{Entry, History, with_batch, count_of}
 use Rattle.leveldb_env.specs.Disk.{File, Files, Disk}
 use Rattle.leveldb_mem.specs.Log.{End}
 use Rattle.rusty_leveldb.specs.Contents.{Store, missing, made, Contents, Stays}
@@ -58,7 +58,7 @@ module _ (store : List ℕ) (old : State) (files new : Files) where
     pub kept_holds : old.covered ≤ length old.history → Holds store (Reads store) files old.history old.last old.covered old.pending → Holds store (Reads store) new old.history old.last old.covered old.pending
     kept_holds few holds =
         let bound = old.last + count_of old.pending in
-        let whole = joined old.history old.pending in
+        let whole = with_batch old.history old.pending in
         let f = opening.found store files old.history old.last old.covered old.pending few holds in
         record {
           now = ⊎_elim (λ c. inl (carries store bound old.history new (over bound old.history (carried store bound old.history files c))))

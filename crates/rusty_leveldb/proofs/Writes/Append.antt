@@ -2,8 +2,8 @@
 use Rattle.std.proofs.Common.{◌≡◌, ◌≤◌, ◌+◌, inl, inr, ℕ, List, [], ◌∷◌, ◌++◌, length, take, refl, sym, ◌∙◌, ap, subst, arith, Some, Bool}
 use Rattle.std.specs.declared.cmp.Ordering.{Ordering}
 use Rattle.leveldb_base.specs.declared.error.Status.{Status}
-use Rattle.leveldb_base.specs.Status.{text_of}
-use Rattle.leveldb_base.specs.History.{Item, Entry, History, IsHistory, entries_of, greatest, joined}
+use Rattle.leveldb_base.specs.Error.{text_of}
+use Rattle.leveldb_base.specs.History.{Item, Entry, History, IsHistory, entries_of, greatest, with_batch}
 use Rattle.leveldb_env.specs.declared.env.Env.{Ghosts}
 use Rattle.leveldb_env.specs.Disk.{File, Files, bytes_of, longer_file, AreBytes}
 use Rattle.leveldb_env.specs.Calls.{Appending}
@@ -48,7 +48,7 @@ module _ {E C FP F I : Type 0} {D : I → Type 0} (env : Ghosts E F) (store : Li
   -- ---- the history with the batch
 
   pub old_history : IsHistory old.history
-  old_history = subst (λ p. IsHistory (joined old.history p)) was.none was.disk_is.is_state.history
+  old_history = subst (λ p. IsHistory (with_batch old.history p)) was.none was.disk_is.is_state.history
 
   pub longer_history : IsHistory longer
   longer_history = history_more old.history old.last items was.disk_is.is_state.reached old_history

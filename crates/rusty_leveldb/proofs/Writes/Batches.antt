@@ -2,8 +2,7 @@
 use Rattle.std.proofs.Common.{◌≡◌, ◌+◌, ℕ, zero, suc, List, [], ◌∷◌, length, refl, ap, arith, length-append}
 use Rattle.std.specs.Prelude.{Contains, ◌↔◌, max}
 use Rattle.std.specs.Int.{bytes_low_first}
-use Rattle.leveldb_base.specs.History.{Item, Entry, placed, greatest}
-use Rattle.leveldb_base.specs.View.{Shows, SameView}
+use Rattle.leveldb_base.specs.History.{Item, Entry, placed, greatest, HasValueAt, SameView}
 use Rattle.leveldb_mem.specs.Batch.{BatchOf, batch_bytes}
 use Rattle.rusty_leveldb.specs.Causes.{IsLongBatch}
 
@@ -26,7 +25,7 @@ pub not_long : (bytes : List ℕ) (first : ℕ) (items : List Item) → BatchOf 
 not_long bytes first items is long = let spelled = ap length is.spelled in let same = long_as 0 first items in let most = is.limited in omega arith
 
 shows_in : (xs ys : List Entry) (s : ℕ) → ((entry : Entry) → Contains xs entry → Contains ys entry) → ((entry : Entry) → Contains ys entry → Contains xs entry)
-    → (key value : List ℕ) → Shows xs s key value → Shows ys s key value
+    → (key value : List ℕ) → HasValueAt xs s key value → HasValueAt ys s key value
 shows_in xs ys s to from key value shows = record {
   entry = shows.entry;
   newest = record { there = to shows.entry shows.newest.there; seen = shows.newest.seen; newest = λ other c k seen. shows.newest.newest other (from other c) k seen };

@@ -3,9 +3,8 @@ use Rattle.std.proofs.Common.{◌≡◌, ◌≤◌, ◌+◌, ◌%◌, ◌⊎◌,
 use Rattle.std.specs.Prelude.{Contains, max, string_bytes}
 use Rattle.std.proofs.lemmas.List.Elements.{Contains-append_cases}
 use Rattle.std.specs.declared.cmp.Ordering.{Ordering}
-use Rattle.leveldb_base.specs.History.{Item, Entry, History, IsHistory, entries_of, greatest, joined, count_of}
-use Rattle.leveldb_base.specs.View.{SameView}
-use Rattle.leveldb_base.specs.ViewLaws.{AreUpTo, same_with_more}
+use Rattle.leveldb_base.specs.History.{Item, Entry, History, IsHistory, entries_of, greatest, with_batch, count_of, SameView, AreUpTo}
+use Rattle.leveldb_base.proofs.HistoryLemmas.{same_with_more}
 use Rattle.leveldb_env.specs.declared.env.Env.{Ghosts}
 use Rattle.leveldb_env.specs.Disk.{File, Files, bytes_of, longer_file, file_kept, extended, synced, AreBytes}
 use Rattle.leveldb_env.specs.Times.{Told}
@@ -104,9 +103,9 @@ module _ {E C FP F I : Type 0} {D : I → Type 0} (env : Ghosts E F) (store : Li
 
     is_state : IsState new
     is_state = record {
-      history = subst (λ p. IsHistory (joined the_longer p)) (sym was.none) (longer_history env store engine from old was items bytes next);
+      history = subst (λ p. IsHistory (with_batch the_longer p)) (sym was.none) (longer_history env store engine from old was items bytes next);
       reached = longer_reached env store engine from old was items bytes next;
-      pending = subst (λ p. greatest (entries_of (joined the_longer p)) ≤ old.last + length items + count_of p) (sym was.none) (omega (arith, longer_reached env store engine from old was items bytes next));
+      pending = subst (λ p. greatest (entries_of (with_batch the_longer p)) ≤ old.last + length items + count_of p) (sym was.none) (omega (arith, longer_reached env store engine from old was items bytes next));
       covered = wrote.within;
       held = λ one there. (omega (arith, (was.disk_is.is_state.held one there).0), (was.disk_is.is_state.held one there).1);
       mode = subst (λ m. SuitsMode m new) (sym was.mode) (was.none, was.held);

@@ -3,8 +3,8 @@ use Rattle.std.proofs.Common.{◌≡◌, ◌≤◌, ◌+◌, ◌%◌, inl, inr, 
 use Rattle.std.specs.Prelude.{OnOk, OnErr, string_bytes}
 use Rattle.std.specs.declared.cmp.Ordering.{Ordering}
 use Rattle.leveldb_base.specs.declared.error.Status.{Status}
-use Rattle.leveldb_base.specs.Status.{text_of}
-use Rattle.leveldb_base.specs.History.{IsHistory, joined}
+use Rattle.leveldb_base.specs.Error.{text_of}
+use Rattle.leveldb_base.specs.History.{IsHistory, with_batch}
 use Rattle.leveldb_env.specs.declared.env.Env.{Ghosts}
 use Rattle.leveldb_env.specs.Disk.{File, Files, bytes_of, file_kept, synced}
 use Rattle.leveldb_env.specs.FileLaws.{SameBut-synced, synced-same}
@@ -150,7 +150,7 @@ module _ {E C FP F I : Type 0} {D : I → Type 0} (env : Ghosts E F) (cmp : List
       same (record {
         still = still;
         mode = broke_mode;
-        history = subst (λ p. IsHistory (joined old.history p)) was.none was.disk_is.is_state.history;
+        history = subst (λ p. IsHistory (with_batch old.history p)) was.none was.disk_is.is_state.history;
         reached = omega (arith, was.disk_is.is_state.reached);
         holds = subst (λ f. Holds store (Reads store) f old.history old.last old.covered None) (sym same) was.holds;
         file = was.writes.file;

@@ -1,7 +1,7 @@
 -- What a crash leaves at each moment of an append to the log of an open store, and of a sync of it.
 use Rattle.std.proofs.Common.{◌≡◌, ◌≤◌, ◌+◌, inl, inr, ⊎_elim, ℕ, Bool, List, [], ◌∷◌, length, refl, sym, ◌∙◌, ap, subst, arith, Some, None, Result, IsTrue, length-append}
 use Rattle.leveldb_base.specs.declared.error.Status.{Status}
-use Rattle.leveldb_base.specs.History.{Item, Entry, History, joined, count_of}
+use Rattle.leveldb_base.specs.History.{Item, Entry, History, with_batch, count_of}
 use Rattle.leveldb_env.specs.declared.env.Env.{Ghosts}
 use Rattle.leveldb_env.specs.Disk.{File, Files, file_kept, longer_file, extended, synced}
 use Rattle.leveldb_env.specs.Times.{Told}
@@ -58,7 +58,7 @@ module _ {E C FP F I : Type 0} {D : I → Type 0} (env : Ghosts E F) (store : Li
 
   -- the same with what is pending, which is nothing
   pub with_none : (to : E) → Run (IsSpared store (Reads store) old (risk_at old.history (old.last + 0))) (env.tells from) (env.tells to) → Run (IsSpared store (Reads store) old (risk_between old)) (env.tells from) (env.tells to)
-  with_none to run = subst (λ p. Run (IsSpared store (Reads store) old (risk_at (joined old.history p) (old.last + count_of p))) (env.tells from) (env.tells to)) (sym was.none) run
+  with_none to run = subst (λ p. Run (IsSpared store (Reads store) old (risk_at (with_batch old.history p) (old.last + count_of p))) (env.tells from) (env.tells to)) (sym was.none) run
 
   -- ---- an append of one batch more
 
@@ -122,7 +122,7 @@ module _ {E C FP F I : Type 0} {D : I → Type 0} (env : Ghosts E F) (store : Li
 
     -- the same where the write is done and nothing is pending
     pub done_moments : {told : Told} → Run (IsSpared store (Reads store) old risk_behind) (env.tells from) told
-        → Run (IsSpared store (Reads store) old (risk_at (joined the_longer old.pending) (old.last + length items + count_of old.pending))) (env.tells from) told
-    done_moments {told} run = subst (λ p. Run (IsSpared store (Reads store) old (risk_at (joined the_longer p) (old.last + length items + count_of p))) (env.tells from) told) (sym was.none)
+        → Run (IsSpared store (Reads store) old (risk_at (with_batch the_longer old.pending) (old.last + length items + count_of old.pending))) (env.tells from) told
+    done_moments {told} run = subst (λ p. Run (IsSpared store (Reads store) old (risk_at (with_batch the_longer p) (old.last + length items + count_of p))) (env.tells from) told) (sym was.none)
         (Run-mono (spared_more store (Reads store) old old risk_behind (risk_at the_longer (old.last + length items + 0)) (omega arith) (stays_as old.store)
         (grows_same the_longer (old.last + length the_batch) (old.last + length items + 0) (omega (arith, placed_length (old.last + 1) items)))) run)

@@ -5,7 +5,7 @@ use Rattle.std.specs.declared.alloc.Global.{Global}
 use Rattle.std.specs.declared.cmp.Ordering.{Ordering}
 use Rattle.leveldb_base.specs.declared.error.Status.{Status}
 use Rattle.leveldb_base.specs.declared.error.StatusCode.TheVariants.{IOError}
-use Rattle.leveldb_base.specs.Status.{text_of}
+use Rattle.leveldb_base.specs.Error.{text_of}
 use Rattle.leveldb_env.specs.declared.env.Env.{Ghosts}
 use Rattle.leveldb_mem.specs.Writing.{Writing}
 use Rattle.rusty_leveldb.specs.declared.db_impl.engine.Mode.{Mode}

@@ -2,8 +2,7 @@
 use Rattle.std.proofs.Common.{◌≡◌, ◌≤◌, ◌+◌, ◌⊎◌, inl, inr, ⊎_elim, ℕ, List, refl, sym, ◌∙◌, ap, subst, arith, Option, Some, None, Err, IsTrue}
 use Rattle.std.specs.Prelude.{Contains, string_bytes}
 use Rattle.leveldb_base.specs.declared.error.Status.{Status}
-use Rattle.leveldb_base.specs.History.{Entry, History, IsHistory, entries_of, greatest, joined, count_of}
-use Rattle.leveldb_base.specs.View.{SameView}
+use Rattle.leveldb_base.specs.History.{Entry, History, IsHistory, entries_of, greatest, with_batch, count_of, SameView}
 use Rattle.leveldb_env.specs.declared.env.Env.{Ghosts}
 use Rattle.leveldb_env.specs.Disk.{File, Files}
 use Rattle.leveldb_env.specs.Times.{Told}
@@ -120,8 +119,8 @@ module _ {E C FP F I : Type 0} {D : I → Type 0} (env : Ghosts E F) (store : Li
   pub record Broke (engine after : Engine E C FP F I D) (from to : E) (old : State) (batch : Option (List Entry)) : Type 0 where
     pub still : IsStill engine after
     pub mode : after.mode ≡ Broken
-    pub history : IsHistory (joined old.history batch)
-    pub reached : greatest (entries_of (joined old.history batch)) ≤ old.last + count_of batch
+    pub history : IsHistory (with_batch old.history batch)
+    pub reached : greatest (entries_of (with_batch old.history batch)) ≤ old.last + count_of batch
     pub holds : Holds store (Reads store) (env.tells to).disk.files old.history old.last old.covered batch
     pub file : File
     pub there : (env.tells to).disk.files (log_path store) ≡ Some file

@@ -1,6 +1,6 @@
 //! The names of a store's files.
 ghost use Rattle.std.specs.Prelude.{◌≡◌, ◌∷◌, ◌++◌, OnOk, IfOk, IfErr, string_bytes};
-ghost use Rattle.leveldb_base.specs.Status.{IsOutOfMemory};
+ghost use Rattle.leveldb_base.specs.Error.{IsOutOfMemory};
 ghost use Rattle.rusty_leveldb.specs.Engine.{IsStoreName};
 
 use leveldb_base::error::{Result, StatusCode, err};

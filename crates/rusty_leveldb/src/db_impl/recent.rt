@@ -1,7 +1,7 @@
 //! The entries of a store in memory, and the number of the last.
 ghost use Rattle.std.specs.Prelude.{◌≡◌, ◌≤◌, ◌+◌, [], OnOk, IfOk, IfErr};
-ghost use Rattle.leveldb_base.specs.Status.{IsOutOfMemory};
-ghost use Rattle.leveldb_base.specs.ViewLaws.{AreUpTo};
+ghost use Rattle.leveldb_base.specs.Error.{IsOutOfMemory};
+ghost use Rattle.leveldb_base.specs.History.{AreUpTo};
 ghost use Rattle.leveldb_base.specs.declared.error.StatusCode.TheVariants.{NotSupported};
 ghost use Rattle.leveldb_mem.specs.Entries.{HasRoom, FindsNewest};
 ghost use Rattle.rusty_leveldb.specs.Recent.{Follows, Inserts, AreUsedUp, lent_newest};
@@ -24,7 +24,7 @@ pub struct Recent<C: Cmp> {
 
 impl<C: Cmp> Model for Recent<C> {
     ghost use Rattle.std.specs.Prelude.{◌≤◌};
-    ghost use Rattle.leveldb_base.specs.ViewLaws.{AreUpTo};
+    ghost use Rattle.leveldb_base.specs.History.{AreUpTo};
     ghost use Rattle.rusty_leveldb.specs.Recent.{Numbered};
     ghost use Rattle.rusty_leveldb.specs.OneLog.{max_sequence};
 

@@ -1,6 +1,6 @@
 //! What the records of a store's log say.
 ghost use Rattle.std.specs.Prelude.{◌≡◌, ◌⊎◌, OnOk, IfOk, IfErr, map};
-ghost use Rattle.leveldb_base.specs.Status.{IsOutOfMemory};
+ghost use Rattle.leveldb_base.specs.Error.{IsOutOfMemory};
 ghost use Rattle.leveldb_base.specs.declared.error.StatusCode.TheVariants.{Corruption};
 ghost use Rattle.leveldb_mem.specs.Batch.{IsBatch};
 ghost use Rattle.leveldb_mem.specs.Log.{log_block_size, framed};

@@ -40,7 +40,10 @@ impl fmt::Display for Fault {
             Fault::Usage => f.write_str("usage: ldb DIR"),
             Fault::BadLine(number) => write!(f, "bad command in line {number}"),
             Fault::TooLong => f.write_str("input too long"),
-            Fault::Refused(status) => write!(f, "ldb: {status}"),
+            Fault::Refused(status) => match &status.err {
+                None => write!(f, "ldb: {}", status.code),
+                Some(text) => write!(f, "ldb: {text}"),
+            },
         }
     }
 }

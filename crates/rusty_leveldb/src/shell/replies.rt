@@ -1,6 +1,6 @@
 //! Replies as text.
 ghost use Rattle.std.specs.Prelude.{◌≡◌, ◌++◌, ℕ, List, length, take, codes, OnOk, OnErr};
-ghost use Rattle.leveldb_base.specs.Status.{code_text};
+ghost use Rattle.leveldb_base.specs.Error.{code_text};
 ghost use Rattle.rusty_leveldb.specs.Language.{hex_word, reply_line, reply_lines, Appends};
 
 use super::commands::Reply;

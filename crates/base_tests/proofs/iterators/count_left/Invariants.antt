@@ -10,8 +10,8 @@ invariant-loop-n g l =
     record {
       same : it_of.pairs l.it ≡ it_of.pairs l.fn.it;
       excuses : (other : g.row.I.Denot) (status : Status) → it_of.fails l.it other status → it_of.fails l.fn.it other status;
-      count : l.n + option_map_or (λ i. i + 1) (it_of.place l.fn.it) 0 ≡ option_map_or (λ i. i + 1) (it_of.place l.it) 0;
+      count : l.n + option_map_or (λ i. i + 1) (it_of.position l.fn.it) 0 ≡ option_map_or (λ i. i + 1) (it_of.position l.it) 0;
     }
 
 abbrev pub decreases-loop-n : goal.decreases-loop-n
-decreases-loop-n g l = length (g.I.LdbIterator.pairs l.fn.it) - option_map_or (λ i. i + 1) (g.I.LdbIterator.place l.it) 0
+decreases-loop-n g l = length (g.I.LdbIterator.pairs l.fn.it) - option_map_or (λ i. i + 1) (g.I.LdbIterator.position l.it) 0

@@ -1,6 +1,6 @@
 use Rattle.std.proofs.Common.{◌≡◌, ◌+◌, drop}
-use Rattle.leveldb_base.specs.Bytewise.{bytewise}
-use Rattle.leveldb_base.specs.Places.{count_before}
+use Rattle.leveldb_base.specs.Cmp.{bytewise}
+use Rattle.leveldb_base.specs.Types.{count_before}
 use Rattle.base_tests.proofs.iterators.keys_before.Given as goal
 
 -- those so far, and those at the front of what is left

@@ -1,8 +1,8 @@
 use Rattle.std.proofs.Common.{ℕ, List, [], ◌∷◌, ◌++◌, Some, None, sym, ap, arith, ◌∙◌}
 use Rattle.leveldb_base.specs.declared.key_types.ValueType.TheVariants.{TypeValue}
-use Rattle.leveldb_base.specs.VarintLaws.{varint-small}
-use Rattle.leveldb_base.specs.Keys.{tag}
-use Rattle.leveldb_base.specs.KeyLaws.{HasParts-memtable_key}
+use Rattle.leveldb_base.proofs.VarintLemmas.{varint-small}
+use Rattle.leveldb_base.specs.KeyTypes.{tag}
+use Rattle.leveldb_base.proofs.KeyTypesLemmas.{HasParts-memtable_key}
 use Rattle.base_tests.proofs.keys.entries.Goals as goal
 
 pub parse_memtable_key-requires : goal.parse_memtable_key-requires

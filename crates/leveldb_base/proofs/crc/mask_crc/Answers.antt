@@ -1,5 +1,5 @@
 use Rattle.std.proofs.Common.{arith}
-use Rattle.leveldb_base.specs.CrcLaws.{unmasked-masked}
+use Rattle.leveldb_base.proofs.CrcLemmas.{unmasked-masked}
 use Rattle.leveldb_base.proofs.crc.mask_crc.Goals as goal
 
 pub returns-clause-undone : goal.returns-clause-undone

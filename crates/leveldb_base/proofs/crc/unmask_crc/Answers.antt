@@ -1,5 +1,5 @@
 use Rattle.std.proofs.Common.{arith}
-use Rattle.leveldb_base.specs.CrcLaws.{masked-unmasked}
+use Rattle.leveldb_base.proofs.CrcLemmas.{masked-unmasked}
 use Rattle.leveldb_base.proofs.crc.unmask_crc.Goals as goal
 
 pub returns-clause-undone : goal.returns-clause-undone

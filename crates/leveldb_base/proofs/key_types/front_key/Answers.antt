@@ -1,5 +1,5 @@
 use Rattle.std.proofs.Common.{arith, sym}
-use Rattle.leveldb_base.specs.KeyLaws.{inner_key-read, inner_key-unread}
+use Rattle.leveldb_base.proofs.KeyTypesLemmas.{inner_key-read, inner_key-unread}
 use Rattle.leveldb_base.proofs.key_types.front_key.Goals as goal
 
 pub returns-in-Some : goal.returns-in-Some

@@ -1,6 +1,6 @@
 use Rattle.std.proofs.Common.{◌≡◌, ℕ, List, ◌++◌, length, drop, Some, sym, ◌∙◌, ap}
 use Rattle.leveldb_base.specs.Varint.{varint, ReadsVarint}
-use Rattle.leveldb_base.specs.VarintLaws.{read_number, one_number}
+use Rattle.leveldb_base.proofs.VarintLemmas.{read_number, one_number}
 use Rattle.leveldb_base.proofs.key_types.front_len.Goals as goal
 
 -- the number that was read is the only one that stands in front

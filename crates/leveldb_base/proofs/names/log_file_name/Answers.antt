@@ -1,7 +1,7 @@
 use Rattle.std.proofs.Common.{◌∙◌, ap, ◌∷◌, ◌++◌}
 use Rattle.std.specs.Prelude.{codes}
 use Rattle.std.specs.Fmt.{styled_decimal}
-use Rattle.leveldb_base.specs.NameLaws.{padded_is_six_digits}
+use Rattle.leveldb_base.proofs.NamesLemmas.{padded_is_six_digits}
 use Rattle.leveldb_base.proofs.names.log_file_name.Goals as goal
 
 pub returns-clause-ok : goal.returns-clause-ok

@@ -1,6 +1,6 @@
 use Rattle.std.proofs.Common.{sym, ◌∙◌, ap, ◌++◌}
 use Rattle.std.specs.Prelude.{codes}
-use Rattle.leveldb_base.proofs.NameReads.{manifest_without_number, undotted, unknown_extension, unnumbered}
+use Rattle.leveldb_base.proofs.NamesLemmas.{manifest_without_number, undotted, unknown_extension, unnumbered}
 use Rattle.leveldb_base.proofs.names.read_name.Goals as goal
 
 pub returns-in_err-read_number : goal.returns-in_err-read_number

@@ -1,5 +1,5 @@
 use Rattle.std.proofs.Common.{arith}
-use Rattle.leveldb_base.proofs.VarintSteps.{writes_room, writes_more, writes_last}
+use Rattle.leveldb_base.proofs.VarintLemmas.{writes_room, writes_more, writes_last}
 use Rattle.leveldb_base.proofs.varint.encode_varint64.Goals as goal
 
 pub bounds-dst-used : goal.bounds-dst-used

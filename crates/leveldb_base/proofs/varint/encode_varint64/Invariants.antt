@@ -1,4 +1,4 @@
-use Rattle.leveldb_base.proofs.VarintSteps.{Writes}
+use Rattle.leveldb_base.proofs.VarintLemmas.{Writes}
 use Rattle.leveldb_base.proofs.varint.encode_varint64.Given as goal
 
 abbrev pub invariant-loop-rest : goal.invariant-loop-rest

@@ -1,5 +1,5 @@
 use Rattle.std.proofs.lemmas.List.{take_rest}
-use Rattle.leveldb_base.proofs.VarintReads.{reads_sized}
+use Rattle.leveldb_base.proofs.VarintLemmas.{reads_sized}
 use Rattle.leveldb_base.proofs.varint.get_length_prefixed_slice.Goals as goal
 
 pub returns : goal.returns

@@ -1,5 +1,5 @@
 use Rattle.std.proofs.Common.{arith}
-use Rattle.leveldb_base.proofs.VarintReads.{reads_fits, reads_more, reads_last, reads_cut, reads_zero, reads_tenth}
+use Rattle.leveldb_base.proofs.VarintLemmas.{reads_fits, reads_more, reads_last, reads_cut, reads_zero, reads_tenth}
 use Rattle.leveldb_base.proofs.varint.get_long_varint.Goals as goal
 
 pub returns-then-byte-gt1 : goal.returns-then-byte-gt1

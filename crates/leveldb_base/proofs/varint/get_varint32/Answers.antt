@@ -1,5 +1,5 @@
 use Rattle.std.proofs.Common.{arith}
-use Rattle.leveldb_base.proofs.VarintReads.{reads_wide}
+use Rattle.leveldb_base.proofs.VarintLemmas.{reads_wide}
 use Rattle.leveldb_base.proofs.varint.get_varint32.Goals as goal
 
 pub returns-in-Err : goal.returns-in-Err

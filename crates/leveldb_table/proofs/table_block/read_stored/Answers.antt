@@ -1,6 +1,6 @@
 use Rattle.std.proofs.Common.{◌≡◌, length, take, sym, ◌∙◌, ap, inr, arith}
 use Rattle.std.proofs.lemmas.List.{length-take-le}
-use Rattle.leveldb_base.specs.Handle.{HandleFits}
+use Rattle.leveldb_base.specs.BlockHandle.{HandleFits}
 use Rattle.leveldb_table.specs.Table.{with_trailer}
 use Rattle.leveldb_table.proofs.TableCalls.{reads_own}
 use Rattle.leveldb_table.proofs.TablePlaces.{read_as, stands_as, stores_from}

@@ -1,7 +1,7 @@
 use Rattle.std.proofs.Common.{◌≡◌, ℕ, List, [], length, drop, Some, Result, Ok, Err, sym, ◌∙◌, ap, append-nil}
 use Rattle.std.specs.Prelude.{IfErr, IsErrAnd}
-use Rattle.leveldb_base.specs.Handle.{Handle, handle_bytes, HandleFits, ReadsHandle}
-use Rattle.leveldb_base.specs.HandleLaws.{one_handle}
+use Rattle.leveldb_base.specs.BlockHandle.{Handle, handle_bytes, HandleFits, ReadsHandle}
+use Rattle.leveldb_base.proofs.BlockHandleLemmas.{one_handle}
 use Rattle.leveldb_base.specs.declared.error.Status.{Status}
 use Rattle.leveldb_table.proofs.table_reader.whole_handle.Goals as goal
 use Rattle.leveldb_table.proofs.table_reader.whole_handle.Goals.{in_default-via-in-Some+else-used-bytes, in_default-via-in_default}

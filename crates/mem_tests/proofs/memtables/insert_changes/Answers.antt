@@ -1,6 +1,5 @@
 use Rattle.std.proofs.Common.{List, subst, sym}
-use Rattle.leveldb_base.specs.History.{Entry}
-use Rattle.leveldb_base.specs.ViewLaws.{AreUpTo}
+use Rattle.leveldb_base.specs.History.{Entry, AreUpTo}
 use Rattle.mem_tests.proofs.memtables.insert_changes.Goals as goal
 
 pub insert_at_ten-requires-in-Err : goal.insert_at_ten-requires-in-Err

@@ -1,6 +1,6 @@
 use Rattle.std.proofs.Common.{◌≡◌, ◌+◌, ◌++◌, drop, map}
 use Rattle.leveldb_base.specs.History.{placed}
-use Rattle.leveldb_base.specs.Lent.{entry_of}
+use Rattle.slow_history.specs.View.{entry_of}
 use Rattle.slow_machine.specs.Items.{item_of}
 use Rattle.slow_machine.proofs.slow_store.placed_batch.Given as goal
 

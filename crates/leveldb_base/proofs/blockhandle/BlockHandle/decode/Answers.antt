@@ -1,5 +1,5 @@
 use Rattle.std.proofs.lemmas.List.{take_rest}
-use Rattle.leveldb_base.proofs.HandleReads.{reads_handle, reads_no_size}
+use Rattle.leveldb_base.proofs.BlockHandleLemmas.{reads_handle, reads_no_size}
 use Rattle.leveldb_base.proofs.blockhandle.BlockHandle.decode.Goals as goal
 
 pub returns-in_err-size : goal.returns-in_err-size

@@ -1,7 +1,7 @@
 use Rattle.std.proofs.Common.{◌∙◌, ap, ap₂, arith}
 use Rattle.std.specs.Int.Bits.{bit_xor}
 use Rattle.leveldb_base.specs.Crc.{crc_zeros}
-use Rattle.leveldb_base.proofs.CrcPieces.{crc_register-block}
+use Rattle.leveldb_base.proofs.CrcLemmas.{crc_register-block}
 use Rattle.leveldb_base.proofs.crc.register.after_block.Goals as goal
 
 pub returns : goal.returns

@@ -2,7 +2,7 @@ use Rattle.std.proofs.Common.{◌∙◌, ap, ◌/◌}
 use Rattle.std.specs.Int.Bits.{bit_xor}
 use Rattle.std.proofs.lemmas.Nat.{and_mask}
 use Rattle.leveldb_base.specs.Crc.{crc_zeros}
-use Rattle.leveldb_base.proofs.CrcPieces.{crc_byte-apart}
+use Rattle.leveldb_base.proofs.CrcLemmas.{crc_byte-apart}
 use Rattle.leveldb_base.proofs.crc.register.after_byte.Goals as goal
 
 pub returns : goal.returns

@@ -1,6 +1,6 @@
 use Rattle.std.proofs.Common.{◌∙◌, ap}
 use Rattle.leveldb_base.specs.Crc.{crc_register}
-use Rattle.leveldb_base.proofs.CrcPieces.{crc_register-chunks}
+use Rattle.leveldb_base.proofs.CrcLemmas.{crc_register-chunks}
 use Rattle.leveldb_base.proofs.crc.register.after_text.Goals as goal
 
 pub returns : goal.returns

@@ -1,5 +1,5 @@
 use Rattle.std.proofs.Common.{◌∙◌}
-use Rattle.leveldb_base.proofs.CrcZeros.{crc_zeros-none}
+use Rattle.leveldb_base.proofs.CrcLemmas.{crc_zeros-none}
 use Rattle.leveldb_base.proofs.crc.register.after_word.Goals as goal
 
 pub returns : goal.returns

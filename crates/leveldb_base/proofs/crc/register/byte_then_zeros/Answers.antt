@@ -1,5 +1,5 @@
 use Rattle.std.proofs.Common.{arith}
-use Rattle.leveldb_base.proofs.CrcTables.{get_or-TABLES}
+use Rattle.leveldb_base.proofs.CrcLemmas.{get_or-TABLES}
 use Rattle.leveldb_base.proofs.crc.register.byte_then_zeros.Goals as goal
 
 pub returns : goal.returns

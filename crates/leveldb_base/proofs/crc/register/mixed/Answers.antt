@@ -1,5 +1,5 @@
 use Rattle.std.proofs.Common.{arith}
-use Rattle.leveldb_base.proofs.CrcPieces.{crc_register-mixed}
+use Rattle.leveldb_base.proofs.CrcLemmas.{crc_register-mixed}
 use Rattle.leveldb_base.proofs.crc.register.mixed.Goals as goal
 
 pub returns : goal.returns

@@ -1,7 +1,7 @@
 use Rattle.std.proofs.Common.{◌∙◌, ap, ap₂, arith, get_or}
 use Rattle.std.specs.Int.Bits.{bit_xor}
 use Rattle.leveldb_base.specs.Crc.{crc_register, crc_zeros}
-use Rattle.leveldb_base.proofs.CrcPieces.{crc_zeros-word, four_elements}
+use Rattle.leveldb_base.proofs.CrcLemmas.{crc_zeros-word, four_elements}
 use Rattle.leveldb_base.proofs.crc.register.word_then_zeros.Goals as goal
 
 pub returns : goal.returns

@@ -2,7 +2,7 @@ use Rattle.std.proofs.Common.{◌≡◌, ℕ, ◌+◌, ◌<◌, ◌≤◌, List,
 use Rattle.std.specs.List.{concat, All}
 use Rattle.std.specs.List.Sorted.{IsNonDecreasing}
 use Rattle.std.proofs.lemmas.List.{map_more, take_all}
-use Rattle.leveldb_base.specs.Keys.{user_part}
+use Rattle.leveldb_base.specs.KeyTypes.{user_part}
 use Rattle.leveldb_env.specs.Filters.{keys_at}
 use Rattle.leveldb_env.proofs.KeyCuts.{length-keys_at}
 use Rattle.leveldb_env.proofs.KeyStarts.{starts, starts-more, concat-more, starts-within, starts-rising, keys_at-starts}

@@ -1,8 +1,8 @@
 use Rattle.std.proofs.Common.{◌≡◌, ◌++◌, true, false, List, option_copied, ap, sym, subst, ◌∙◌, ⊎_elim, arith}
 use Rattle.std.proofs.lemmas.Bool.{cases_Bool, OnTrue_at, OnTrue_from, OnFalse_at, OnFalse_from}
 use Rattle.std.specs.Prelude.{All}
-use Rattle.leveldb_base.specs.Keys.{memtable_accepts}
-use Rattle.leveldb_base.specs.Places.{Pair}
+use Rattle.leveldb_base.specs.Cmp.{memtable_accepts}
+use Rattle.leveldb_base.specs.Types.{Pair}
 use Rattle.leveldb_mem.specs.MemTable.{entry_of, entry_key, entry_from, type_of, bytes_of_value, IsEntryPair, entries_in}
 use Rattle.leveldb_mem.proofs.EntryKeys.{key_of_parts, length-parts, entry_again, accepted_key}
 use Rattle.leveldb_mem.proofs.Memories.{grows}

@@ -1,6 +1,6 @@
 use Rattle.std.proofs.Common.{◌≡◌, ◌++◌, ◌∙◌, ap, sym, subst, refl, length, List}
 use Rattle.std.proofs.lemmas.Result.{err_from_is_err_and}
-use Rattle.leveldb_base.specs.Places.{Pair}
+use Rattle.leveldb_base.specs.Types.{Pair}
 use Rattle.leveldb_mem.specs.SkipMap.{IsSorted}
 use Rattle.leveldb_mem.proofs.Rising.{placed_at, inserts_at}
 use Rattle.leveldb_mem.proofs.skipmap.SkipMap.insert.Goals as goal

@@ -1,5 +1,5 @@
 use Rattle.std.proofs.Common.{◌≡◌, ◌++◌, ◌∙◌, [], ap, sym, subst, refl, length, List, ◌≤◌, arith, append-nil, length-append}
-use Rattle.leveldb_base.specs.Places.{Pair}
+use Rattle.leveldb_base.specs.Types.{Pair}
 use Rattle.leveldb_mem.specs.SkipMap.{IsSorted}
 use Rattle.leveldb_mem.proofs.Rising.{placed_at, inserts_at}
 use Rattle.leveldb_mem.proofs.skipmap.SkipMap.put_parts.Goals as goal

@@ -1,5 +1,5 @@
 use Rattle.std.proofs.lemmas.List.{take_rest}
-use Rattle.leveldb_base.specs.VarintLaws.{read_number}
+use Rattle.leveldb_base.proofs.VarintLemmas.{read_number}
 use Rattle.leveldb_table.proofs.block.entry.take_number.Goals as goal
 
 pub returns : goal.returns

@@ -1,5 +1,5 @@
 use Rattle.std.proofs.Common.{arith}
-use Rattle.leveldb_base.specs.HandleLaws.{length-handle_bytes}
+use Rattle.leveldb_base.proofs.BlockHandleLemmas.{length-handle_bytes}
 use Rattle.leveldb_table.proofs.table_builder.builder_core.add_handle.Goals as goal
 
 pub encode_to-used-requires : goal.encode_to-used-requires

@@ -3,7 +3,7 @@ use Rattle.leveldb_env.specs.contracts.compressor.CompressorListCoders.TheImpl
 use Rattle.leveldb_table.specs.TableEnters.{let_place}
 use Rattle.leveldb_table.specs.TableReading.{lets}
 use Rattle.leveldb_table.specs.TableWalk.{inner_place, inner_pairs, table_place}
-use Rattle.leveldb_base.specs.Places.{pair_at}
+use Rattle.leveldb_base.specs.Types.{pair_at}
 use Rattle.leveldb_table.proofs.TableCalls.{reads_weaker, reads_refused}
 use Rattle.leveldb_table.proofs.TableLookups.{ok_says, found_by}
 use Rattle.leveldb_table.proofs.TableMoves.{none_there}

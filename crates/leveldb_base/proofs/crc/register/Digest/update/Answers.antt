@@ -1,6 +1,6 @@
 use Rattle.std.proofs.Common.{◌∙◌, ap}
 use Rattle.leveldb_base.specs.Crc.{crc_register}
-use Rattle.leveldb_base.specs.CrcLaws.{HasRead-append, crc_register-append}
+use Rattle.leveldb_base.proofs.CrcLemmas.{HasRead-append, crc_register-append}
 use Rattle.leveldb_base.proofs.crc.register.Digest.update.Goals as goal
 
 pub returns-clause-text : goal.returns-clause-text

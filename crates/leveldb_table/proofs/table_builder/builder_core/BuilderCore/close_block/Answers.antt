@@ -1,7 +1,7 @@
 use Rattle.std.proofs.Common.{◌∙◌, ◌≡◌, ◌+◌, ◌/◌, ◌<◌, ◌≤◌, length, sym, subst, arith, refl, inl, inr}
 use Rattle.std.proofs.lemmas.List.{append-nil}
 use Rattle.std.proofs.lemmas.Result.{err_from_is_err_and}
-use Rattle.leveldb_base.specs.Handle.{handle_bytes}
+use Rattle.leveldb_base.specs.BlockHandle.{handle_bytes}
 use Rattle.leveldb_table.specs.Block.{pairs_of}
 use Rattle.leveldb_table.specs.Table.{with_trailer}
 use Rattle.leveldb_table.proofs.TableSteps.{IfErr-below, OnOk-with, is_line}

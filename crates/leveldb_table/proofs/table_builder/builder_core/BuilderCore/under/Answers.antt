@@ -1,5 +1,5 @@
 use Rattle.std.proofs.Common.{◌∙◌, [], map, None, refl, sym, ap}
-use Rattle.leveldb_base.specs.Places.{Pair}
+use Rattle.leveldb_base.specs.Types.{Pair}
 use Rattle.leveldb_table.specs.Block.{pairs_of}
 use Rattle.leveldb_table.proofs.table_builder.builder_core.BuilderCore.under.Goals as goal
 

@@ -1,5 +1,5 @@
 use Rattle.std.proofs.Common.{rules, ◌≡◌, Some, sym, ap, ◌∙◌}
-use Rattle.leveldb_base.specs.Places.{pair_at}
+use Rattle.leveldb_base.specs.Types.{pair_at}
 use Rattle.leveldb_table.specs.TableWalk.{inner_place, inner_pairs, place_over}
 use Rattle.leveldb_table.proofs.TablePlacesIn.{current_at}
 use Rattle.leveldb_table.proofs.table_reader.walk.TableCore.current.Goals as goal

@@ -1,5 +1,5 @@
 use Rattle.std.proofs.Common.{◌≡◌, Some, ap, ◌∙◌, sym}
-use Rattle.leveldb_base.specs.Places.{pair_of}
+use Rattle.leveldb_base.specs.Types.{pair_of}
 use Rattle.leveldb_table.specs.TableEnters.{line_of}
 use Rattle.leveldb_table.specs.TableReads.{lacking}
 use Rattle.leveldb_table.proofs.TableCalls.{reads_weaker}

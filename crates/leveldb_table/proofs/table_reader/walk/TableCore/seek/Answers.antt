@@ -1,5 +1,5 @@
 use Rattle.std.proofs.Common.{◌≡◌, None, Some, refl, sym, ◌∙◌, ap, inr}
-use Rattle.leveldb_base.specs.Places.{seek_place, pair_at, pair_of}
+use Rattle.leveldb_base.specs.Types.{seek_position, pair_at, pair_of}
 use Rattle.leveldb_env.specs.contracts.compressor.CompressorListCoders.TheImpl
 use Rattle.leveldb_table.specs.TableEnters.{SeeksTo}
 use Rattle.leveldb_table.specs.TableMoves.{line_for, Sought}
@@ -18,7 +18,7 @@ returns-in_default g c =
     let found = c.in_ok-seek.ensures in
     let none = none_at c.seek.new.self (sym c.current.ensures ∙ ap pair_of c.in_default.is) in
     record {
-      moves = moves_enters {Way = SeeksTo (g.C.Cmp.accepts c.args.table.now.cmp) (g.C.Cmp.cmp c.args.table.now.cmp) key} {to = λ pairs _. seek_place (g.C.Cmp.cmp c.args.table.now.cmp) pairs key} {Part_step = Sought key} old refl refl (λ parts place fit stands. (fit.0, fit.1, refl)) (λ bytes out sought. sought)
+      moves = moves_enters {Way = SeeksTo (g.C.Cmp.accepts c.args.table.now.cmp) (g.C.Cmp.cmp c.args.table.now.cmp) key} {to = λ pairs _. seek_position (g.C.Cmp.cmp c.args.table.now.cmp) pairs key} {Part_step = Sought key} old refl refl (λ parts place fit stands. (fit.0, fit.1, refl)) (λ bytes out sought. sought)
           (enters_ends old _ tt (block_lines c.seek.new.self old.index found.block) (ap (λ z. z.cmp) found.block) refl
           (λ bytes parts place right fit indexed. fit.2 ∙ seek_none (g.met.C.Cmp.preorder c.args.table.now.cmp) right.parted fit.0 key fit.1 (index_line parts old.index key _ indexed.lines indexed.ordered found.ok ∙ none))
           (λ bytes. seeks_none ((TheImpl.ghosts g.dyn-1).codings c.args.coders.now) (g.C.Cmp.cmp c.args.table.now.cmp) bytes (pairs_over old.index) key (line_for key old) _ (sym found.ok ∙ none) found.ok refl));
@@ -32,7 +32,7 @@ returns-in_err-handle g c =
     let lines = block_lines c.seek.new.self old.index found.block in
     let line : pair_at (pairs_over c.seek.new.self) (place_over c.seek.new.self) ≡ Some (c.in-Some.field-0-0.now, c.in-Some.value.now) = sym c.current.ensures ∙ ap pair_of c.in-Some.is in
     record {
-      moves = moves_enters {Way = SeeksTo (g.C.Cmp.accepts c.args.table.now.cmp) (g.C.Cmp.cmp c.args.table.now.cmp) key} {to = λ pairs _. seek_place (g.C.Cmp.cmp c.args.table.now.cmp) pairs key} {Part_step = Sought key} old refl refl (λ parts place fit stands. (fit.0, fit.1, refl)) (λ bytes out sought. sought)
+      moves = moves_enters {Way = SeeksTo (g.C.Cmp.accepts c.args.table.now.cmp) (g.C.Cmp.cmp c.args.table.now.cmp) key} {to = λ pairs _. seek_position (g.C.Cmp.cmp c.args.table.now.cmp) pairs key} {Part_step = Sought key} old refl refl (λ parts place fit stands. (fit.0, fit.1, refl)) (λ bytes out sought. sought)
           (enters_own old _ c.from_residual-in_err-handle.result lines (ap (λ z. z.cmp) found.block) refl c.from_residual-in_err-handle.ensures.1 (λ status is.
           let code = ap (λ z. z.code) is ∙ c.in_err-handle.ensures.err.0 in
           inr (
@@ -49,6 +49,6 @@ returns g c =
     let old = c.args.self.now in
     let found = c.in_ok-seek.ensures in
     record {
-      moves = moves_enters {Way = SeeksTo (g.C.Cmp.accepts c.args.table.now.cmp) (g.C.Cmp.cmp c.args.table.now.cmp) c.args.key.now} {to = λ pairs _. seek_place (g.C.Cmp.cmp c.args.table.now.cmp) pairs c.args.key.now} old (block_lines c.seek.new.self old.index found.block) (ap (λ z. z.cmp) found.block)
+      moves = moves_enters {Way = SeeksTo (g.C.Cmp.accepts c.args.table.now.cmp) (g.C.Cmp.cmp c.args.table.now.cmp) c.args.key.now} {to = λ pairs _. seek_position (g.C.Cmp.cmp c.args.table.now.cmp) pairs c.args.key.now} old (block_lines c.seek.new.self old.index found.block) (ap (λ z. z.cmp) found.block)
           (λ parts place fit stands. (fit.0, fit.1, refl)) (λ bytes out. sought_along ((TheImpl.ghosts g.dyn-1).codings c.args.coders.now) (g.C.Cmp.cmp c.args.table.now.cmp) bytes c.args.key.now old (record old { index = c.seek.new.self; inner = None }) out (block_lines c.seek.new.self old.index found.block) (ap (λ z. z.cmp) found.block)) c.enter.ensures.enters;
     }

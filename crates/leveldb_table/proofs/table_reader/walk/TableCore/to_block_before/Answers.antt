@@ -1,5 +1,5 @@
 use Rattle.std.proofs.Common.{◌≡◌, List, ℕ, None, sym, ◌∙◌, ap, inl, inr}
-use Rattle.leveldb_base.specs.Places.{previous_place}
+use Rattle.leveldb_base.specs.Types.{previous_position}
 use Rattle.leveldb_env.specs.contracts.compressor.CompressorListCoders.TheImpl
 use Rattle.leveldb_table.specs.TableCached.{HoldsOf}
 use Rattle.leveldb_table.specs.TableReads.{Has}
@@ -48,8 +48,8 @@ returns-then-not-branch-2-clause-enters g c =
     let there = sym c.in_ok-prev.ensures.answer ∙ c.if-not-branch.false in
     let index : new.index ≡ c.prev.new.self = step.index ∙ read.index in
     let into : (bytes : List ℕ) → Has g.E.Env c.args.env.now c.args.table.now.file bytes → HoldsOf codings cmp c.args.table.now.id bytes c.args.cache.now
-    → IsInto codings cmp bytes (previous_place (place_over old.index)) last_place old new = λ bytes has holds.
-    is_into codings cmp bytes (previous_place (place_over old.index)) last_place old loaded new c.prev.new.self c.in_ok-prev.ensures.block c.in_ok-prev.ensures.ok there
+    → IsInto codings cmp bytes (previous_position (place_over old.index)) last_place old new = λ bytes has holds.
+    is_into codings cmp bytes (previous_position (place_over old.index)) last_place old loaded new c.prev.new.self c.in_ok-prev.ensures.block c.in_ok-prev.ensures.ok there
     read.index (read.block bytes has holds) step.index step.block step.pairs step.ok in
     let none : inner_place new.inner ≡ None = none_there (inner_place new.inner) (sym step.answer ∙ c.if-not-branch-2.true) in
     record {
@@ -81,8 +81,8 @@ returns-clause-enters g c =
     let there = sym c.in_ok-prev.ensures.answer ∙ c.if-not-branch.false in
     let index : new.index ≡ c.prev.new.self = step.index ∙ read.index in
     let into : (bytes : List ℕ) → Has g.E.Env c.args.env.now c.args.table.now.file bytes → HoldsOf codings cmp c.args.table.now.id bytes c.args.cache.now
-    → IsInto codings cmp bytes (previous_place (place_over old.index)) last_place old new = λ bytes has holds.
-    is_into codings cmp bytes (previous_place (place_over old.index)) last_place old loaded new c.prev.new.self c.in_ok-prev.ensures.block c.in_ok-prev.ensures.ok there
+    → IsInto codings cmp bytes (previous_position (place_over old.index)) last_place old new = λ bytes has holds.
+    is_into codings cmp bytes (previous_position (place_over old.index)) last_place old loaded new c.prev.new.self c.in_ok-prev.ensures.block c.in_ok-prev.ensures.ok there
     read.index (read.block bytes has holds) step.index step.block step.pairs step.ok in
     record {
       reads = reads_ok g.E.Env read.reads.looks read.reads.cause.ok;

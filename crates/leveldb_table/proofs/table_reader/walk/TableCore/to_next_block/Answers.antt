@@ -1,5 +1,5 @@
 use Rattle.std.proofs.Common.{◌≡◌, List, ℕ, None, sym, ◌∙◌, ap, inl, inr}
-use Rattle.leveldb_base.specs.Places.{next_place, place_within}
+use Rattle.leveldb_base.specs.Types.{next_position, position_within}
 use Rattle.leveldb_env.specs.contracts.compressor.CompressorListCoders.TheImpl
 use Rattle.leveldb_table.specs.TableCached.{HoldsOf}
 use Rattle.leveldb_table.specs.TableReads.{Has}
@@ -23,7 +23,7 @@ returns-in_err-load_line-clause-enters g c =
             lacks.0,
             λ bytes has. (
               λ parts place right fit holds indexed. line_lacks index right (lines ∙ indexed.lines) (lacks.1 bytes has),
-              λ holds. into_lacking codings cmp bytes (pairs_over old.index) (λ pairs. place_within pairs 0) lines c.in_ok-advance.ensures.ok (lacks.1 bytes has),
+              λ holds. into_lacking codings cmp bytes (pairs_over old.index) (λ pairs. position_within pairs 0) lines c.in_ok-advance.ensures.ok (lacks.1 bytes has),
             ),
           )) c.in_err-load_line.ensures.reads);
       ok = λ bytes has parts place right fit holds indexed. ok_refused _ _ c.from_residual-in_err-load_line.result c.from_residual-in_err-load_line.ensures.1;
@@ -46,9 +46,9 @@ returns-then-not-branch-2-clause-enters g c =
     let there = sym c.in_ok-advance.ensures.answer ∙ c.if-not-branch.false in
     let index : new.index ≡ c.advance.new.self = step.index ∙ read.index in
     let into : (bytes : List ℕ) → Has g.E.Env c.args.env.now c.args.table.now.file bytes → HoldsOf codings cmp c.args.table.now.id bytes c.args.cache.now
-    → IsInto codings cmp bytes (next_place (pairs_over old.index) (place_over old.index)) (λ pairs. place_within pairs 0) old new = λ bytes has holds.
-    is_into codings cmp bytes (next_place (pairs_over old.index) (place_over old.index)) (λ pairs. place_within pairs 0) old loaded new c.advance.new.self c.in_ok-advance.ensures.block c.in_ok-advance.ensures.ok there
-    read.index (read.block bytes has holds) step.index step.block step.pairs (step.ok ∙ ap (next_place (inner_pairs loaded.inner)) read.place) in
+    → IsInto codings cmp bytes (next_position (pairs_over old.index) (place_over old.index)) (λ pairs. position_within pairs 0) old new = λ bytes has holds.
+    is_into codings cmp bytes (next_position (pairs_over old.index) (place_over old.index)) (λ pairs. position_within pairs 0) old loaded new c.advance.new.self c.in_ok-advance.ensures.block c.in_ok-advance.ensures.ok there
+    read.index (read.block bytes has holds) step.index step.block step.pairs (step.ok ∙ ap (next_position (inner_pairs loaded.inner)) read.place) in
     let none : inner_place new.inner ≡ None = none_there (inner_place new.inner) (sym step.answer ∙ c.if-not-branch-2.true) in
     record {
       reads = reads_own g.E.Env c.refuse_empty.result read.reads.looks read.reads.cause.ok c.refuse_empty.ensures
@@ -79,9 +79,9 @@ returns-clause-enters g c =
     let there = sym c.in_ok-advance.ensures.answer ∙ c.if-not-branch.false in
     let index : new.index ≡ c.advance.new.self = step.index ∙ read.index in
     let into : (bytes : List ℕ) → Has g.E.Env c.args.env.now c.args.table.now.file bytes → HoldsOf codings cmp c.args.table.now.id bytes c.args.cache.now
-    → IsInto codings cmp bytes (next_place (pairs_over old.index) (place_over old.index)) (λ pairs. place_within pairs 0) old new = λ bytes has holds.
-    is_into codings cmp bytes (next_place (pairs_over old.index) (place_over old.index)) (λ pairs. place_within pairs 0) old loaded new c.advance.new.self c.in_ok-advance.ensures.block c.in_ok-advance.ensures.ok there
-    read.index (read.block bytes has holds) step.index step.block step.pairs (step.ok ∙ ap (next_place (inner_pairs loaded.inner)) read.place) in
+    → IsInto codings cmp bytes (next_position (pairs_over old.index) (place_over old.index)) (λ pairs. position_within pairs 0) old new = λ bytes has holds.
+    is_into codings cmp bytes (next_position (pairs_over old.index) (place_over old.index)) (λ pairs. position_within pairs 0) old loaded new c.advance.new.self c.in_ok-advance.ensures.block c.in_ok-advance.ensures.ok there
+    read.index (read.block bytes has holds) step.index step.block step.pairs (step.ok ∙ ap (next_position (inner_pairs loaded.inner)) read.place) in
     record {
       reads = reads_ok g.E.Env read.reads.looks read.reads.cause.ok;
       ok = λ bytes has parts place right fit holds indexed. (next_stands right fit indexed new (into bytes has holds)).1;

@@ -1,6 +1,5 @@
 use Rattle.std.proofs.Common.{sym, subst, List}
-use Rattle.leveldb_base.specs.History.{Entry}
-use Rattle.leveldb_base.specs.ViewLaws.{AreUpTo}
+use Rattle.leveldb_base.specs.History.{Entry, AreUpTo}
 use Rattle.rusty_leveldb.proofs.db_impl.recent.Recent.prepare.Goals as goal
 
 pub invariant_of-self : goal.invariant_of-self

@@ -1,0 +1,132 @@
+//! What the program is asked for.
+ghost use Rattle.std.specs.Prelude.{◌≡◌, ◌<◌, ◌≤◌, IfOk, IfSome};
+
+use crate::rows::Row;
+use leveldb_base::error::Status;
+use std::alloc::{AllocError, AllocFailed, Global};
+use std::{fmt, io};
+
+/// The greatest `--num`.
+pub const MOST_NUM: u64 = 10_000_000;
+
+/// The greatest `--value_size`.
+pub const MOST_VALUE_SIZE: usize = 1 << 20;
+
+/// How much a row does. A row of several sizes does up to twice the `--num`.
+#[derive(Clone, Copy, Debug)]
+pub struct Scale {
+    pub num: u64,
+    pub value_size: usize,
+    pub ghost some: { 0 < num },
+    pub ghost few: { num ≤ 20000000 },
+    pub ghost short: { value_size ≤ 1048576 },
+}
+
+/// What the program is asked for.
+#[derive(Drop)]
+pub struct Flags<'a> {
+    pub rows: Vec<Row>,
+    pub num: u64,
+    pub value_size: usize,
+    pub db: &'a str,
+    pub ghost some: { 0 < num },
+    pub ghost few: { num ≤ 10000000 },
+    pub ghost short: { value_size ≤ 1048576 },
+}
+
+/// Why the program stopped.
+#[derive(Drop)]
+pub enum Fault {
+    /// A word is none of its flags.
+    Usage,
+    /// A call failed.
+    Failed(Status),
+}
+
+impl fmt::Display for Fault {
+    fn fmt<W: fmt::Write>(&self, f: &mut fmt::Formatter<W>) -> fmt::Result {
+        match self {
+            Fault::Usage => f.write_str(
+                "usage: db_bench [--benchmarks=ROW,..] [--num=N] [--value_size=N] [--db=NAME]",
+            ),
+            Fault::Failed(status) => write!(f, "db_bench: {status}"),
+        }
+    }
+}
+
+impl From<Status> for Fault {
+    fn from(status: Status) -> Fault {
+        Fault::Failed(status)
+    }
+}
+
+impl From<AllocError> for Fault {
+    fn from(error: AllocError) -> Fault {
+        Fault::Failed(error.into())
+    }
+}
+
+impl<T: Drop> From<AllocFailed<T>> for Fault {
+    fn from(error: AllocFailed<T>) -> Fault {
+        Fault::Failed(error.into())
+    }
+}
+
+impl From<io::Error> for Fault {
+    fn from(error: io::Error) -> Fault {
+        Fault::Failed(error.into())
+    }
+}
+
+/// Reads the flags; a later one replaces an earlier one.
+/// Without flags each row is run, over 100000 entries of 100 bytes.
+pub fn parse<'a>(alloc: Global, words: &'a [String]) -> Result<Flags<'a>, Fault> {
+    let mut flags = Flags {
+        rows: Vec::from_slice(alloc, &Row::ALL)?,
+        num: 100_000,
+        value_size: 100,
+        db: "bench",
+    };
+    for word in words {
+        set(alloc, &mut flags, word.as_str())?;
+    }
+    Ok(flags)
+}
+
+// Sets what one word says.
+fn set<'a>(alloc: Global, flags: &mut Flags<'a>, word: &'a str) -> Result<(), Fault> {
+    if let Some(names) = word.strip_prefix("--benchmarks=") {
+        flags.rows = read_rows(alloc, names)?;
+    } else if let Some(digits) = word.strip_prefix("--num=") {
+        flags.num = read_number(digits, 1, MOST_NUM)?;
+    } else if let Some(digits) = word.strip_prefix("--value_size=") {
+        flags.value_size = read_number(digits, 0, MOST_VALUE_SIZE as u64)? as usize;
+    } else if let Some(name) = word.strip_prefix("--db=") {
+        flags.db = name;
+    } else {
+        return Err(Fault::Usage);
+    }
+    Ok(())
+}
+
+// The rows of these names, with a comma between two.
+fn read_rows(alloc: Global, names: &str) -> Result<Vec<Row>, Fault> {
+    let mut rows = Vec::new(alloc);
+    for name in names.split(',') {
+        let Some(row) = Row::named(name) else {
+            return Err(Fault::Usage);
+        };
+        rows.push(row)?;
+    }
+    Ok(rows)
+}
+
+// A number from `least` to `most`.
+fn read_number(digits: &str, least: u64, most: u64) -> Result<u64, Fault>
+    ensures { IfOk result (λ number. (least ≤ number) × (number ≤ most)) }
+{
+    match digits.parse::<u64>() {
+        Ok(number) if least <= number && number <= most => Ok(number),
+        _ => Err(Fault::Usage),
+    }
+}

@@ -1,8 +1,0 @@
-use Rattle.leveldb_base.specs.ViewLaws.{one_view, each_has_view}
-use Rattle.leveldb_base.proofs.history.views_are_one.Goals as goal
-
-pub returns-clause-one : goal.returns-clause-one
-returns-clause-one c = one_view
-
-pub returns-clause-each : goal.returns-clause-each
-returns-clause-each c = each_has_view
