@@ -8,8 +8,8 @@ ghost use Rattle.slow_machine.specs.Items.{item_of, entry_at};
 
 use leveldb_base::cmp::UserCmp;
 use leveldb_base::error::{Result, StatusCode, err};
-use slow_history::{Entry, BorrowedPair, look_up, view_of};
 use leveldb_base::types::{MAX_SEQUENCE_NUMBER, SequenceNumber};
+use slow_history::{BorrowedPair, Entry, look_up, view_of};
 use std::alloc::Global;
 
 /// A key given a value, or none, which deletes it.

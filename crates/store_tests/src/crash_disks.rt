@@ -2,10 +2,10 @@
 use crate::replies::{is_map, look_ups};
 use crate::steps::{Call, Step, commands_of, crash_inside, judge};
 use leveldb_base::error::Result;
-use slow_history::BorrowedPair;
 use leveldb_env::mem_env::{Pick, RecordEnv};
 use leveldb_env::options::Options;
 use rusty_leveldb::shell::{Reply, Report, live, run};
+use slow_history::BorrowedPair;
 use slow_machine::SlowStore;
 use std::alloc::Global;
 

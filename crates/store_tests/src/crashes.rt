@@ -3,12 +3,12 @@
 use crate::replies::{bytes_of, is_map, is_same, look_ups};
 use leveldb_base::cmp::DefaultCmp;
 use leveldb_base::error::Result;
-use slow_history::BorrowedPair;
 use rusty_leveldb::env::Env;
 use rusty_leveldb::env::whole_files::read_file;
 use rusty_leveldb::mem_env::{MemEnv, Pick};
 use rusty_leveldb::options::Options;
 use rusty_leveldb::shell::{Command, Item, Reply, run};
+use slow_history::BorrowedPair;
 use slow_machine::{Item as SlowItem, SlowStore};
 use std::alloc::Global;
 use std::process::Abort;

@@ -1,7 +1,7 @@
 //! What the tests of crashes share: the keys, and the map that a store's replies show.
 use leveldb_base::error::Result;
-use slow_history::BorrowedPair;
 use rusty_leveldb::shell::{Command, Reply};
+use slow_history::BorrowedPair;
 use std::alloc::Global;
 
 /// All keys that are ever written, in order.
