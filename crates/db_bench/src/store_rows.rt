@@ -1,7 +1,7 @@
 //! Rows of the store. Each makes a store of its own, in memory.
 //!
-//! A store is used by the function that opens it: the check counts a function that takes one by `&mut` as one whose contract may say less than it seems
-//! to, since a store's options can have boxed compressors.
+//! Each function opens the store that it uses: the gate refuses a crate with a function that takes one
+//! by `&mut` (docs/index.md says why).
 ghost use Rattle.std.specs.Prelude.{◌≡◌, ◌+◌, ◌/◌, IfOk};
 
 use crate::keys::{Numbers, Values, key_of, missing_key_of};
