@@ -1,12 +1,12 @@
 -- Edits apply one after another, and a live file is one that was added and changed no more.
 use Rattle.std.proofs.Common.{◌≡◌, ◌⊎◌, inl, inr, if◌then◌else◌, List, [], ◌∷◌, ◌++◌, Option, None, Some, All, Bool, true, false, refl, sym, ◌∙◌, ap, append-nil, rules}
-use Rattle.std.specs.Prelude.{flat_map}
+use Rattle.std.specs.Prelude.{◌↔◌, flat_map}
 use Rattle.std.specs.List.{filter_map, cons_option, last_or}
 use Rattle.std.specs.Option.{option_or}
 use Rattle.std.proofs.lemmas.List.Elements.{filter_map-append, All-nil, All-cons, All-head, All-tail}
 use Rattle.std.proofs.lemmas.Grind.{flat_map-append}
-use Rattle.leveldb_version.specs.Edit.{LevelFile, NewFile, Edit}
-use Rattle.leveldb_version.specs.FileSet.{Change, deleting, adding, changes, level_file, is_same_file, left_by, last_one, live_at, last_set, IsLive, AppliesInOrder, LiveIsAddedLast}
+use Rattle.leveldb_version.specs.VersionEdit.{LevelFile, NewFile, Edit}
+use Rattle.leveldb_version.specs.VersionSet.{Change, deleting, adding, changes, level_file, is_same_file, left_by, last_one, live_at, last_set, IsLive, Applied, live_after}
 
 -- ---- edits one after another
 
@@ -37,7 +37,7 @@ value_after value edits edit =
     ∙ last_or-append None (filter_map value edits) (cons_option (value edit) [])
     ∙ last_or-single (value edit) (last_set value edits)
 
-pub applies_in_order : AppliesInOrder
+pub applies_in_order : (edits : List Edit) (edit : Edit) → Applied edit (live_after edits) (live_after (edits ++ edit ∷ []))
 applies_in_order edits edit = record {
   file = file_after edits edit;
   comparator = value_after (λ it. it.comparator) edits edit;
@@ -49,7 +49,7 @@ applies_in_order edits edit = record {
 
 -- ---- the last of what a test finds
 
--- what was found last stands in the list, with nothing found behind it
+-- what was found last is in the list, and nothing is found after it
 record IsFoundLast {X Y : Type 0} (h : X → Option Y) (xs : List X) (value : Y) : Type 0 where
   before : List X
   last : X
@@ -62,26 +62,26 @@ record IsFoundLast {X Y : Type 0} (h : X → Option Y) (xs : List X) (value : Y)
 abbrev Finds : {X Y : Type 0} → (X → Option Y) → Y → List X → Y → Type 0
 Finds h value xs found = ((found ≡ value) × All (λ x. h x ≡ None) xs) ⊎ IsFoundLast h xs found
 
-behind_one : {X Y : Type 0} (h : X → Option Y) (x : X) (xs : List X) (value : Y) → IsFoundLast h xs value → IsFoundLast h (x ∷ xs) value
-behind_one h x xs value it = record { before = x ∷ it.before; last = it.last; later = it.later; parts = ap (λ z. x ∷ z) it.parts; found = it.found; rest = it.rest }
+found_after_one : {X Y : Type 0} (h : X → Option Y) (x : X) (xs : List X) (value : Y) → IsFoundLast h xs value → IsFoundLast h (x ∷ xs) value
+found_after_one h x xs value it = record { before = x ∷ it.before; last = it.last; later = it.later; parts = ap (λ z. x ∷ z) it.parts; found = it.found; rest = it.rest }
 
-finds_behind : {X Y : Type 0} (h : X → Option Y) (value : Y) (x : X) (xs : List X) (found : Y) (o : Option Y) → h x ≡ o
+finds_after : {X Y : Type 0} (h : X → Option Y) (value : Y) (x : X) (xs : List X) (found : Y) (o : Option Y) → h x ≡ o
     → ((start : Y) → last_one start (filter_map h xs) ≡ found → Finds h start xs found)
     → last_one value (cons_option o (filter_map h xs)) ≡ found → Finds h value (x ∷ xs) found
-finds_behind h value x xs found None e further same =
+finds_after h value x xs found None e further same =
     elim (further value same) [
       | inl none ↦ inl (none.0, All-cons (λ z. h z ≡ None) x xs e none.1)
-      | inr it ↦ inr (behind_one h x xs found it)
+      | inr it ↦ inr (found_after_one h x xs found it)
     ]
-finds_behind h value x xs found (Some y) e further same =
+finds_after h value x xs found (Some y) e further same =
     elim (further y same) [
       | inl none ↦ inr (record { before = []; last = x; later = xs; parts = refl; found = e ∙ ap (λ z. Some z) (sym none.0); rest = none.1 })
-      | inr it ↦ inr (behind_one h x xs found it)
+      | inr it ↦ inr (found_after_one h x xs found it)
     ]
 
 finds : {X Y : Type 0} (h : X → Option Y) (value : Y) (xs : List X) (found : Y) → last_one value (filter_map h xs) ≡ found → Finds h value xs found
 finds h value [] found same = inl (sym same, All-nil (λ x. h x ≡ None))
-finds h value (x ∷ xs) found same = finds_behind h value x xs found (h x) refl (λ start. finds h start xs found) same
+finds h value (x ∷ xs) found same = finds_after h value x xs found (h x) refl (λ start. finds h start xs found) same
 
 nothing_found : {X Y : Type 0} (h : X → Option Y) (xs : List X) → All (λ x. h x ≡ None) xs → filter_map h xs ≡ []
 nothing_found h [] all = refl
@@ -138,5 +138,5 @@ added_is_live edits file it =
     ap (λ z. last_one None (filter_map (left_by (level_file file)) z)) it.added
     ∙ found_last (left_by (level_file file)) None it.before (adding file) it.later (Some file) (leaves_it file) it.kept
 
-pub live_is_added_last : LiveIsAddedLast
+pub live_is_added_last : (edits : List Edit) (file : NewFile) → (live_at edits (level_file file) ≡ Some file) ↔ IsLive edits file
 live_is_added_last edits file = (live_was_added edits file, added_is_live edits file)

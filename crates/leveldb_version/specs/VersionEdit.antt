@@ -1,12 +1,16 @@
--- A version edit: what a record of the manifest changes in a store's files, and the bytes that stand for it.
-use Rattle.std.specs.Prelude.{◌≡◌, ℕ, ◌^◌, ◌<◌, List, [], ◌∷◌, ◌++◌, flat_map, fold, map, Option, Some, None, IsUtf8, All}
+-- A version edit: what a record of the manifest changes in a store's files, and the bytes that
+-- encode it.
+use Rattle.std.specs.Prelude.{◌≡◌, ℕ, ◌^◌, ◌<◌, List, [], ◌∷◌, ◌++◌, flat_map, fold, map, Option, Some, None, IsUtf8, All, string_bytes}
 use Rattle.std.specs.declared.cmp.Ordering.{Ordering}
 use Rattle.std.specs.List.{filter_map, last_or}
 use Rattle.std.specs.List.Sorted.{IsStrictlySortedBy}
-use Rattle.std.specs.Option.{option_to_list}
+use Rattle.std.specs.Option.{option_map, option_to_list}
 use Rattle.std.specs.Ordering.{ordering_then, nat_cmp}
 use Rattle.std.specs.BTreeSet.{insert_key}
 use Rattle.leveldb_base.specs.Varint.{varint, sized}
+use Rattle.leveldb_base.specs.declared.types.FileMetaData.{FileMetaData}
+use Rattle.leveldb_version.specs.declared.version_edit.CompactionPointer.{CompactionPointer}
+use Rattle.leveldb_version.specs.declared.version_edit.VersionEdit.{VersionEdit}
 
 -- ---- what an edit says
 
@@ -14,7 +18,7 @@ use Rattle.leveldb_base.specs.Varint.{varint, sized}
 abbrev pub LevelFile : Type 0
 LevelFile = ℕ × ℕ
 
--- the internal key behind which a level's next compaction begins
+-- a compaction pointer: the internal key after which a level's next compaction begins
 pub record Pointer : Type 0 where
   pub level : ℕ
   pub key : List ℕ
@@ -27,7 +31,8 @@ pub record NewFile : Type 0 where
   pub smallest : List ℕ
   pub largest : List ℕ
 
--- the single values that an edit sets, and what it does to levels; deleted files by level and then number, each once
+-- The single values that an edit sets, and what it changes in levels. Deleted files are in order of
+-- level and then number, each once.
 pub record Edit : Type 0 where
   pub comparator : Option (List ℕ)
   pub log_number : Option ℕ
@@ -40,11 +45,20 @@ pub record Edit : Type 0 where
 
 -- nothing is set, and no level changes
 abbrev pub empty_edit : Edit
-empty_edit = record { comparator = None; log_number = None; previous_log = None; next_file = None; last_sequence = None; pointers = []; deleted = []; added = [] }
+empty_edit = record {
+  comparator = None;
+  log_number = None;
+  previous_log = None;
+  next_file = None;
+  last_sequence = None;
+  pointers = [];
+  deleted = [];
+  added = [];
+}
 
 -- ---- fields
 
--- a field of an edit: one thing that it says, or one file or pointer that it changes
+-- a field of an edit: one value that it sets, or one pointer or file that it changes
 pub data Field : Type 0 where
   comparator_is : List ℕ → Field
   log_is : ℕ → Field
@@ -55,7 +69,13 @@ pub data Field : Type 0 where
   deletes : LevelFile → Field
   adds : NewFile → Field
 
--- a field as bytes: its tag, and behind it the parts of its value
+-- a new file as bytes, without its tag
+abbrev pub file_bytes : NewFile → List ℕ
+file_bytes it =
+    varint it.level
+    ++ (varint it.number ++ (varint it.size ++ (sized it.smallest ++ sized it.largest)))
+
+-- a field as bytes: its tag, and after it the parts of its value
 abbrev pub field_bytes : Field → List ℕ
 field_bytes (comparator_is name) = 1 ∷ sized name
 field_bytes (log_is number) = 2 ∷ varint number
@@ -63,8 +83,12 @@ field_bytes (next_file_is number) = 3 ∷ varint number
 field_bytes (last_sequence_is number) = 4 ∷ varint number
 field_bytes (points it) = 5 ∷ (varint it.level ++ sized it.key)
 field_bytes (deletes it) = 6 ∷ (varint it.0 ++ varint it.1)
-field_bytes (adds it) = 7 ∷ (varint it.level ++ (varint it.number ++ (varint it.size ++ (sized it.smallest ++ sized it.largest))))
+field_bytes (adds it) = 7 ∷ file_bytes it
 field_bytes (previous_log_is number) = 9 ∷ varint number
+
+-- the fields of one kind for these values, as bytes
+abbrev pub bytes_of_each : {A : Type 0} → (A → Field) → List A → List ℕ
+bytes_of_each make values = flat_map field_bytes (map make values)
 
 -- what a field may hold: a name that is text, numbers of 64 bits, and one of seven levels
 abbrev pub FieldFits : Field → Type 0
@@ -77,7 +101,7 @@ FieldFits (points it) = it.level < 7
 FieldFits (deletes it) = (it.0 < 7) × (it.1 < 2 ^ 64)
 FieldFits (adds it) = (it.level < 7) × (it.number < 2 ^ 64) × (it.size < 2 ^ 64)
 
--- ---- the value that a field gives, where it is a field of this kind
+-- ---- the value that a field gives, if it is a field of this kind
 
 -- the comparator's name in a field, if the field has one
 abbrev pub comparator_in : Field → Option (List ℕ)
@@ -119,13 +143,13 @@ abbrev pub added_in : Field → Option NewFile
 added_in (adds it) = Some it
 added_in _ = None
 
--- ---- what fields say together
+-- ---- the edit that fields make
 
 -- of several values the last
 abbrev pub last_value : {A : Type 0} → (Field → Option A) → List Field → Option A
 last_value value fields = last_or None (filter_map value fields)
 
--- files by level, and in a level by number
+-- the order of files: by level, and in a level by number
 abbrev pub file_order : LevelFile → LevelFile → Ordering
 file_order a b = ordering_then (nat_cmp a.0 b.0) (nat_cmp a.1 b.1)
 
@@ -146,10 +170,21 @@ edit_of_fields fields = record {
   added = filter_map added_in fields;
 }
 
--- the bytes are some fields in any order, one behind the other, and these make the edit
+-- the edit after one more field
+abbrev pub with_field : Edit → Field → Edit
+with_field edit (comparator_is name) = record edit { comparator = Some name }
+with_field edit (log_is number) = record edit { log_number = Some number }
+with_field edit (previous_log_is number) = record edit { previous_log = Some number }
+with_field edit (next_file_is number) = record edit { next_file = Some number }
+with_field edit (last_sequence_is number) = record edit { last_sequence = Some number }
+with_field edit (points it) = record edit { pointers = edit.pointers ++ it ∷ [] }
+with_field edit (deletes it) = record edit { deleted = insert_key file_order edit.deleted it }
+with_field edit (adds it) = record edit { added = edit.added ++ it ∷ [] }
+
+-- the bytes encode the edit: they are fields in any order, one after the other, that make it
 pub record IsEdit (bytes : List ℕ) (edit : Edit) : Type 0 where
   pub fields : List Field
-  pub spelled : bytes ≡ flat_map field_bytes fields
+  pub encoded : bytes ≡ flat_map field_bytes fields
   pub fits : All FieldFits fields
   pub made : edit ≡ edit_of_fields fields
 
@@ -171,23 +206,46 @@ fields_of edit =
 unfoldable pub edit_bytes : Edit → List ℕ
 edit_bytes edit = flat_map field_bytes (fields_of edit)
 
--- an edit that can be written: each field may be read, and the deleted files are in order
-pub record CanWrite (edit : Edit) : Type 0 where
+-- the edit can be written and read: its fields fit, and its deleted files are in order
+pub record IsEncodable (edit : Edit) : Type 0 where
   pub fits : All FieldFits (fields_of edit)
   pub ordered : IsStrictlySortedBy file_order edit.deleted
 
--- the store has each level that the edit names
-pub record HasLevels (edit : Edit) : Type 0 where
+-- each level that the edit names is one of the seven
+pub record LevelsFit (edit : Edit) : Type 0 where
   pub pointers : All (λ it. it.level < 7) edit.pointers
   pub deleted : All (λ it. it.0 < 7) edit.deleted
   pub added : All (λ it. it.level < 7) edit.added
 
--- ---- laws
+-- ---- the edit of a `VersionEdit`
 
--- the same bytes are one edit only
-abbrev pub OneEdit : Type 0
-OneEdit = (bytes : List ℕ) (d e : Edit) → IsEdit bytes d → IsEdit bytes e → d ≡ e
+-- a compaction pointer of the code
+abbrev pub pointer_of : CompactionPointer → Pointer
+pointer_of it = record { level = it.level; key = it.key }
 
--- what is written for an edit is that edit
-abbrev pub WrittenIsRead : Type 0
-WrittenIsRead = (edit : Edit) → CanWrite edit → IsEdit (edit_bytes edit) edit
+-- a new file of the code, without the seeks that it may take, which no edit keeps
+abbrev pub new_file_of : ℕ × FileMetaData → NewFile
+new_file_of it = record {
+  level = it.0;
+  number = it.1.num;
+  size = it.1.size;
+  smallest = it.1.smallest;
+  largest = it.1.largest;
+}
+
+-- the edit that the code's value represents
+abbrev pub edit_of : VersionEdit → Edit
+edit_of it = record {
+  comparator = option_map string_bytes it.comparator;
+  log_number = it.log_number;
+  previous_log = it.prev_log_number;
+  next_file = it.next_file_number;
+  last_sequence = it.last_seq;
+  pointers = map pointer_of it.compaction_ptrs.items;
+  deleted = it.deleted.keys;
+  added = map new_file_of it.new_files.items;
+}
+
+-- no new file may take a seek
+abbrev pub HasNoSeeks : VersionEdit → Type 0
+HasNoSeeks it = All (λ file. file.1.allowed_seeks ≡ 0) it.new_files.items

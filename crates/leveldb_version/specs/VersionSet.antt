@@ -1,8 +1,11 @@
--- What version edits, one after another, leave: the files of each level, and the numbers that go with them.
-use Rattle.std.specs.Prelude.{◌≡◌, ◌↔◌, ◌==◌, ◌&&◌, ℕ, Bool, if◌then◌else◌, List, [], ◌∷◌, ◌++◌, Option, None, Some, All, map, flat_map}
+-- What version edits, one after another, leave: the files of each level, and the single values that
+-- go with them.
+use Rattle.std.specs.Prelude.{◌≡◌, ◌==◌, ◌&&◌, ℕ, Bool, if◌then◌else◌, List, [], ◌∷◌, ◌++◌, Option, None, Some, All, map, flat_map}
 use Rattle.std.specs.List.{filter_map, last_or}
 use Rattle.std.specs.Option.{option_or}
-use Rattle.leveldb_version.specs.Edit.{LevelFile, NewFile, Edit}
+use Rattle.leveldb_version.specs.VersionEdit.{LevelFile, NewFile, Edit}
+
+-- ---- changes
 
 -- a change of the files: one of a level is deleted, or one is added
 pub data Change : Type 0 where
@@ -21,22 +24,24 @@ level_file file = (file.level, file.number)
 abbrev pub is_same_file : LevelFile → LevelFile → Bool
 is_same_file a b = (a.0 == b.0) && (a.1 == b.1)
 
--- what a change leaves under a level and a number, where it is a change there
+-- what a change leaves at a level and a number, if it is a change there
 abbrev pub left_by : LevelFile → Change → Option (Option NewFile)
 left_by at (deleting file) = if is_same_file file at then Some None else None
 left_by at (adding file) = if is_same_file (level_file file) at then Some (Some file) else None
 
--- the last of some values, or this one where there are none
+-- ---- the set
+
+-- the last of some values, or this one if there are none
 abbrev pub last_one : {A : Type 0} → A → List A → A
 last_one value [] = value
 last_one value (next ∷ values) = last_one next values
 
--- The file that is live under a level and a number: it is added there by an edit, and by a later change neither
--- deleted nor replaced.
+-- The file that is live at a level and a number: an edit adds it there, and no later change deletes
+-- or replaces it.
 abbrev pub live_at : List Edit → LevelFile → Option NewFile
 live_at edits at = last_one None (filter_map (left_by at) (flat_map changes edits))
 
--- the value that edits set last, where one sets it
+-- the value that edits set last, if one sets it
 abbrev pub last_set : {A : Type 0} → (Edit → Option A) → List Edit → Option A
 last_set value edits = last_or None (filter_map value edits)
 
@@ -60,28 +65,19 @@ live_after edits = record {
   last_sequence = last_set (λ edit. edit.last_sequence) edits;
 }
 
--- ---- laws
-
--- the file was added, and no later change is of its level and number
-pub record IsLive (edits : List Edit) (file : NewFile) : Type 0 where
-  pub before : List Change
-  pub later : List Change
-  pub added : flat_map changes edits ≡ before ++ adding file ∷ later
-  pub kept : All (λ change. left_by (level_file file) change ≡ None) later
-
--- one more edit has made this set of that one
+-- one more edit makes the second set of the first
 pub record Applied (edit : Edit) (before after : FileSet) : Type 0 where
-  pub file : (at : LevelFile) → after.file at ≡ last_one (before.file at) (filter_map (left_by at) (changes edit))
+  pub file : (at : LevelFile) →
+      after.file at ≡ last_one (before.file at) (filter_map (left_by at) (changes edit))
   pub comparator : after.comparator ≡ option_or edit.comparator before.comparator
   pub log_number : after.log_number ≡ option_or edit.log_number before.log_number
   pub previous_log : after.previous_log ≡ option_or edit.previous_log before.previous_log
   pub next_file : after.next_file ≡ option_or edit.next_file before.next_file
   pub last_sequence : after.last_sequence ≡ option_or edit.last_sequence before.last_sequence
 
--- edits apply one after another
-abbrev pub AppliesInOrder : Type 0
-AppliesInOrder = (edits : List Edit) (edit : Edit) → Applied edit (live_after edits) (live_after (edits ++ edit ∷ []))
-
--- a file that is live under its level and number was added there and changed no more, and the other way round
-abbrev pub LiveIsAddedLast : Type 0
-LiveIsAddedLast = (edits : List Edit) (file : NewFile) → (live_at edits (level_file file) ≡ Some file) ↔ IsLive edits file
+-- the file is added, and no later change is of its level and number
+pub record IsLive (edits : List Edit) (file : NewFile) : Type 0 where
+  pub before : List Change
+  pub later : List Change
+  pub added : flat_map changes edits ≡ before ++ adding file ∷ later
+  pub kept : All (λ change. left_by (level_file file) change ≡ None) later

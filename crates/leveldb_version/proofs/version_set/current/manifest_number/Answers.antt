@@ -1,7 +1,6 @@
 use Rattle.leveldb_base.specs.declared.types.FileType.TheVariants.{Descriptor}
-use Rattle.leveldb_version.specs.CurrentLaws.{other_use}
-use Rattle.leveldb_version.proofs.CurrentReads.{name_read, name_refused}
-use Rattle.leveldb_version.proofs.version_set.manifest_number.Goals as goal
+use Rattle.leveldb_version.proofs.CurrentLemmas.{other_use, name_read, name_refused}
+use Rattle.leveldb_version.proofs.version_set.current.manifest_number.Goals as goal
 
 pub returns-in_err-number : goal.returns-in_err-number
 returns-in_err-number c =

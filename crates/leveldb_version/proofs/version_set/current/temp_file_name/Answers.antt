@@ -2,7 +2,7 @@ use Rattle.std.proofs.Common.{◌∙◌, ap, ◌∷◌, ◌++◌}
 use Rattle.std.specs.Prelude.{codes}
 use Rattle.std.specs.Fmt.{styled_decimal}
 use Rattle.leveldb_base.proofs.NamesLemmas.{padded_is_six_digits}
-use Rattle.leveldb_version.proofs.version_set.temp_file_name.Goals as goal
+use Rattle.leveldb_version.proofs.version_set.current.temp_file_name.Goals as goal
 
 pub returns-clause-ok : goal.returns-clause-ok
 returns-clause-ok c =
