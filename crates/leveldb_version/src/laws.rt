@@ -5,7 +5,7 @@ ghost use Rattle.leveldb_base.specs.Names.{file_name};
 ghost use Rattle.leveldb_base.specs.declared.types.FileType.TheVariants.{Descriptor};
 ghost use Rattle.leveldb_version.specs.VersionEdit.{Edit, NewFile, IsEdit, IsEncodable, edit_bytes};
 ghost use Rattle.leveldb_version.specs.Current.{IsCurrentText, current_text};
-ghost use Rattle.leveldb_version.specs.VersionSet.{Applied, IsLive, live_after, live_at, level_file};
+ghost use Rattle.leveldb_version.specs.VersionSet.{Applied, IsLive, ListsFiles, IsFullEdit, SameFiles, SameNumbers, HasNumbers, live_after, live_at, level_file, live_files, full_edit};
 
 /// The same bytes are one edit only, and what is written for an edit is that edit. So decoding what
 /// was encoded gives the edit back, but for the seeks that its new files may take.
@@ -33,4 +33,20 @@ pub fn edits_apply_in_order()
 pub fn live_files_were_added_last()
     ensures { (edits : List Edit) (file : NewFile)
         → (live_at edits (level_file file) ≡ Some file) ↔ IsLive edits file }
+{}
+
+/// The live files are a list that has each of them once.
+pub fn live_files_are_a_list()
+    ensures { (edits : List Edit) → ListsFiles (live_after edits) (live_files edits) }
+{}
+
+/// One edit with the comparator, all compaction pointers and all live files may take the place of
+/// the edits before it: whatever edits follow, the files are the same, and the numbers are too once
+/// later edits set them. There is such an edit.
+pub fn one_edit_replaces_many()
+    ensures files { (edits more : List Edit) (edit : Edit) → IsFullEdit (live_after edits) edit
+        → SameFiles (live_after (edit ∷ more)) (live_after (edits ++ more)) }
+    ensures numbers { (edits others more : List Edit) → HasNumbers (live_after more)
+        → SameNumbers (live_after (others ++ more)) (live_after (edits ++ more)) }
+    ensures made { (edits : List Edit) → IsFullEdit (live_after edits) (full_edit edits) }
 {}

@@ -1,6 +1,56 @@
-//! The set of a store's files, and how a store finds the manifest that keeps it.
+//! The set of a store's files: what it asks of a file's keys, and how a store finds the manifest
+//! that keeps it.
+ghost use Rattle.std.specs.Prelude.{◌≡◌, ◌↔◌, IsTrue, OnOk, IfErr, map};
+ghost use Rattle.leveldb_version.specs.VersionEdit.{new_file_of};
+ghost use Rattle.leveldb_version.specs.VersionSet.{IsKeyRange, HaveKeyRanges};
+
+use leveldb_base::cmp::Cmp;
+use leveldb_base::error::{Result, Status, StatusCode};
+use leveldb_base::key_types::{TAG_LEN, cmp_internal_key};
+use leveldb_base::types::{FileMetaData, FileNum};
+use std::alloc::Global;
+
 mod current;
 
 pub use current::{
     current_file_name, current_text, manifest_file_name, parse_current_text, temp_file_name,
 };
+
+/// Whether the file's keys are internal keys, of eight bytes at least, and the smallest is not after
+/// the largest.
+pub fn has_key_range<C: Cmp>(ucmp: &C, file: &FileMetaData) -> bool
+    ensures { IsTrue result ↔ IsKeyRange (C.cmp ucmp.now) file.now.smallest file.now.largest }
+{
+    file.smallest.len() >= TAG_LEN
+        && file.largest.len() >= TAG_LEN
+        && cmp_internal_key(ucmp, &file.smallest, &file.largest).is_le()
+}
+
+/// Checks the keys of files that an edit adds, or that are live.
+/// Returns `Corruption` if those of one are no range of internal keys; the text has its number.
+pub fn check_key_ranges<C: Cmp>(
+    alloc: Global,
+    ucmp: &C,
+    files: &[(usize, FileMetaData)],
+) -> Result<()>
+    ensures ok { OnOk result (HaveKeyRanges (C.cmp ucmp.now) (map new_file_of files.now)) }
+    ensures malformed { IfErr result (λ status. (status.code ≡ StatusCode.Corruption)
+        × ¬ HaveKeyRanges (C.cmp ucmp.now) (map new_file_of files.now)) }
+{
+    for (_, file) in files {
+        if !has_key_range(ucmp, file) {
+            return Err(no_key_range(alloc, file.num));
+        }
+    }
+    Ok(())
+}
+
+// The error for a table of this number.
+fn no_key_range(alloc: Global, number: FileNum) -> Status
+    ensures { result.code ≡ StatusCode.Corruption }
+{
+    match format!(in alloc; "table {number:06}: smallest and largest key are no range") {
+        Ok(text) => Status::new(alloc, StatusCode::Corruption, text.as_str()),
+        Err(_) => Status::new(alloc, StatusCode::Corruption, ""),
+    }
+}
