@@ -16,8 +16,8 @@ pub use current::{
     current_file_name, current_text, manifest_file_name, parse_current_text, temp_file_name,
 };
 
-/// Whether the file's keys are internal keys, of eight bytes at least, and the smallest is not after
-/// the largest.
+/// Whether the file's keys are internal keys, of eight bytes at least, and the smallest is not
+/// after the largest.
 pub fn has_key_range<C: Cmp>(ucmp: &C, file: &FileMetaData) -> bool
     ensures { IsTrue result ↔ IsKeyRange (C.cmp ucmp.now) file.now.smallest file.now.largest }
 {

@@ -19,7 +19,8 @@ pub fn manifest_file_name(alloc: Global, store: &str, number: FileNum) -> Result
 
 /// The path of the file that becomes `CURRENT`; its number is the manifest's.
 pub fn temp_file_name(alloc: Global, store: &str, number: FileNum) -> Result<String>
-    ensures ok { IfOk result (λ name. string_bytes name ≡ file_path store.now FileType.Temp number) }
+    ensures ok { IfOk result (λ name.
+        string_bytes name ≡ file_path store.now FileType.Temp number) }
     ensures cause { IfErr result IsOutOfMemory }
 {
     Ok(format!(in alloc; "{store}/{number:06}.dbtmp")?)
