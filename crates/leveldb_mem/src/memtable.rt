@@ -8,9 +8,8 @@ ghost use Rattle.leveldb_base.specs.History.{placed, greatest, AreRising};
 ghost use Rattle.leveldb_base.specs.Varint.{little, varint, sized};
 ghost use Rattle.leveldb_base.specs.KeyTypes.{tag, inner_key, internal_cmp, user_part, sequence_part};
 ghost use Rattle.leveldb_base.specs.Types.{count_before};
-ghost use Rattle.leveldb_mem.specs.Batch.{item_of};
-ghost use Rattle.leveldb_mem.specs.Entries.{Gains, IsNewTo, AreNewTo, FindsNewest, HasRoom, KeepsRoom, Adds, value_length};
-ghost use Rattle.leveldb_mem.specs.MemTable.{entry_of, type_of, bytes_of_value, value_of, entry_key, entry_from, inner_value, internal_pair, memory_of_entries, Grows, GivesAt};
+ghost use Rattle.leveldb_mem.specs.WriteBatch.{item_of};
+ghost use Rattle.leveldb_mem.specs.MemTable.{Gains, IsNewTo, AreNewTo, FindsNewest, HasRoom, KeepsRoom, AddsEntry, value_length, entry_of, type_of, bytes_of_value, value_of, entry_key, entry_from, inner_value, internal_pair, memory_of_entries, Grows, GivesAt};
 
 use crate::memtable::as_of::{AsOf, user_and_sequence};
 use crate::memtable::iterator::AtInternalKey;
@@ -42,11 +41,11 @@ pub struct MemTable<C: Cmp> {
 }
 
 impl<C: Cmp> Model for MemTable<C> {
-    ghost use Rattle.leveldb_mem.specs.MemTable.{Memory, memory_code};
+    ghost use Rattle.leveldb_mem.specs.MemTable.{MemTableState, memtable_code};
 
-    ghost Value = { Memory C };
+    ghost Value = { MemTableState C };
 
-    ghost coded = { memory_code C.code };
+    ghost coded = { memtable_code C.code };
 
     ghost use Rattle.std.specs.Prelude.{◌-◌, ◌*◌, ◌≤◌, All};
     ghost use Rattle.leveldb_mem.specs.MemTable.{entries_in, IsEntryPair, most_beside};
@@ -99,7 +98,7 @@ impl<C: UserCmp> MemTable<C> {
         requires room { HasRoom self.old.kept (item_of key.now (option_copied value) ∷ []) }
         requires new { IsNewTo self.old.kept.entries sequence key.now }
         ensures cmp { self.new.cmp ≡ self.old.cmp }
-        ensures adds { Adds self.old.kept (entry_of sequence key.now (option_copied value.entry)) self.new.kept }
+        ensures adds { AddsEntry self.old.kept (entry_of sequence key.now (option_copied value.entry)) self.new.kept }
         ensures grows { Grows self.old.kept.entries (entry_of sequence key.now (option_copied value.entry)) self.new.kept.entries }
     {
         self.put(sequence, key, value);
@@ -267,7 +266,7 @@ impl<C: UserCmp> MemTable<C> {
         requires numbered { sequence < 2 ^ 56 }
         requires room { HasRoom self.old.kept (item_of key.now (option_copied value) ∷ []) }
         ensures cmp { self.new.cmp ≡ self.old.cmp }
-        ensures put { OnTrue result (Adds self.old.kept (entry_of sequence key.now (option_copied value.entry)) self.new.kept) }
+        ensures put { OnTrue result (AddsEntry self.old.kept (entry_of sequence key.now (option_copied value.entry)) self.new.kept) }
         ensures grows { OnTrue result (Grows self.old.kept.entries (entry_of sequence key.now (option_copied value.entry)) self.new.kept.entries) }
         ensures new { OnTrue result (IsNewTo self.old.kept.entries sequence key.now) }
         ensures left { OnFalse result (self.new.kept.entries ≡ self.old.kept.entries) }
@@ -278,9 +277,9 @@ impl<C: UserCmp> MemTable<C> {
         let parts = type_and_bytes(value);
         let tag = tag_bytes(sequence, parts.0);
         let mut first = [0; 10];
-        let head = spell_length(&mut first, key.len() + TAG_LEN);
+        let head = encode_length(&mut first, key.len() + TAG_LEN);
         let mut second = [0; 10];
-        let size = spell_length(&mut second, parts.1.len());
+        let size = encode_length(&mut second, parts.1.len());
         self.map.put_parts(head, key, &tag, size, parts.1)
     }
 }
@@ -288,7 +287,7 @@ impl<C: UserCmp> MemTable<C> {
 // The bytes that spell a length, written into these.
 #[inline]
 #[tactic(auto, using(leveldb_base::proofs::VarintLemmas::varint_lengths))]
-fn spell_length(bytes: &mut [u8], number: usize) -> &[u8]
+fn encode_length(bytes: &mut [u8], number: usize) -> &[u8]
     requires { 10 ≤ length bytes.old }
     ensures { result.now ≡ varint number }
 {

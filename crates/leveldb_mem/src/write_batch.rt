@@ -6,9 +6,9 @@ ghost use Rattle.leveldb_base.specs.Error.{IsOutOfMemory};
 ghost use Rattle.leveldb_base.specs.declared.error.StatusCode.TheVariants.{InvalidArgument, NotSupported};
 ghost use Rattle.leveldb_base.specs.History.{placed, greatest};
 ghost use Rattle.leveldb_base.specs.Varint.{little, sized};
-ghost use Rattle.leveldb_mem.specs.Batch.{item_of, batch_of, with_item, spelling, BatchOf, IsBatch, IsTooLong, AreEntries, CountsEntries, ReadsEntry, lent_item, lent_entry, OneReading, OneSpelling, EachShort, CountFits};
-ghost use Rattle.leveldb_mem.specs.BatchLaws.{IsBatch-prop, AreEntries-prop};
-ghost use Rattle.leveldb_mem.specs.Entries.{Gains, AreNewTo};
+ghost use Rattle.leveldb_mem.specs.WriteBatch.{item_of, batch_of, with_item, change_encoding, BatchOf, IsBatch, IsTooLong, AreEntries, CountsEntries, ReadsEntry, borrowed_item, borrowed_entry};
+ghost use Rattle.leveldb_mem.specs.WriteBatchLaws.{IsBatch-prop, AreEntries-prop};
+ghost use Rattle.leveldb_mem.specs.MemTable.{Gains, AreNewTo};
 
 use crate::memtable::MemTable;
 use byteorder::{ByteOrder, LittleEndian};
@@ -42,7 +42,7 @@ pub struct WriteBatch {
 }
 
 impl Model for WriteBatch {
-    ghost use Rattle.leveldb_mem.specs.Batch.{Batch};
+    ghost use Rattle.leveldb_mem.specs.WriteBatch.{Batch};
 
     ghost Value = { Batch };
 
@@ -224,7 +224,7 @@ impl<'a> Model for WriteBatchIter<'a> {
 impl<'a> Iterator for WriteBatchIter<'a> {
     type Item = (&'a [u8], Option<&'a [u8]>);
 
-    ghost next_gives = { YieldsFirstBy lent_item (λ left. left) };
+    ghost next_gives = { YieldsFirstBy borrowed_item (λ left. left) };
 
     ghost remaining = { item_count (λ left. left) };
 
@@ -274,7 +274,7 @@ fn sized_length(text: &[u8]) -> Option<usize>
 #[tactic(auto, using(leveldb_base::proofs::VarintLemmas::varint_lengths))]
 fn entry_length(key: &[u8], value: Option<&[u8]>, room: usize) -> Option<usize>
     requires { room ≤ 2 ^ 30 }
-    ensures { let size = length (spelling key.now (option_copied value.entry)) in SomeIff result (size ≤ room) size }
+    ensures { let size = length (change_encoding key.now (option_copied value.entry)) in SomeIff result (size ≤ room) size }
 {
     let key_length = sized_length(key)?;
     let length = match value {
@@ -317,8 +317,8 @@ fn put_value(entries: &mut Vec<u8>, value: &[u8])
 // Puts an entry behind the others.
 #[inline]
 fn put_entry(entries: &mut Vec<u8>, key: &[u8], value: Option<&[u8]>)
-    requires { vec_len entries.old + length (spelling key.now (option_copied value)) ≤ vec_capacity entries.old }
-    ensures { entries.new.items ≡ entries.old.items ++ spelling key.now (option_copied value.entry) }
+    requires { vec_len entries.old + length (change_encoding key.now (option_copied value)) ≤ vec_capacity entries.old }
+    ensures { entries.new.items ≡ entries.old.items ++ change_encoding key.now (option_copied value.entry) }
 {
     match value {
         None => put_key(entries, DELETION, key),
@@ -331,7 +331,7 @@ fn put_entry(entries: &mut Vec<u8>, key: &[u8], value: Option<&[u8]>)
 
 // The entry at the front, and what follows it.
 fn take_entry(bytes: &[u8]) -> Option<((&[u8], Option<&[u8]>), &[u8])>
-    ensures { ReadsEntry bytes.now (lent_entry result) }
+    ensures { ReadsEntry bytes.now (borrowed_entry result) }
 {
     let (kind, rest) = bytes.split_first()?;
     let (key, rest) = get_length_prefixed_slice(rest)?;
@@ -368,16 +368,3 @@ fn is_batch(bytes: &[u8]) -> bool
     let count = LittleEndian::read_u32(&bytes[COUNT_OFFSET..]);
     count_entries(&bytes[HEADER_SIZE..]) == Some(count as usize)
 }
-
-/// Bytes are a batch in one way, and a batch has one spelling: encoded again at its own number, what was read is the
-/// bytes that were read.
-pub fn batches_are_their_bytes()
-    ensures reading { OneReading }
-    ensures spelling { OneSpelling }
-{}
-
-/// The limit of a batch's bytes limits each key and each value, and how many changes there are.
-pub fn batches_are_limited()
-    ensures texts { EachShort }
-    ensures count { CountFits }
-{}

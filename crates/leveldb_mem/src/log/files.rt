@@ -4,7 +4,7 @@ ghost use Rattle.leveldb_env.specs.Disk.{bytes_of, same};
 ghost use Rattle.leveldb_env.specs.Calls.{Does, Still, SameLocks, HasCause, IsMissing};
 ghost use Rattle.leveldb_env.specs.OpenFiles.{opened, IsGivenUp};
 ghost use Rattle.leveldb_mem.specs.Log.{IsLogFile, clean, bad};
-ghost use Rattle.leveldb_mem.specs.LogFiles.{IsReadAsLog};
+ghost use Rattle.leveldb_mem.specs.Log.Files.{IsReadAsLog};
 
 use crate::log::read_records;
 use leveldb_base::error::Result;
@@ -23,7 +23,7 @@ pub fn read_log_file<E: Env>(alloc: Global, env: &mut E, name: &str) -> Result<(
     records_of_rest(alloc, env, &mut file)
 }
 
-// The records of what an open file has from its place on.
+// The records of what an open file has from its offset on.
 fn records_of_rest<E: Env>(
     alloc: Global,
     env: &mut E,

@@ -5,8 +5,8 @@ ghost use Rattle.leveldb_base.specs.declared.error.StatusCode.TheVariants.{Corru
 ghost use Rattle.leveldb_env.specs.Sources.{GivesSome, GivesAll, GivesUp};
 ghost use Rattle.leveldb_env.specs.Calls.{NoMemory};
 ghost use Rattle.leveldb_mem.specs.Log.{IsBlockSize, log_block_size, clean, bad, LogOf};
-ghost use Rattle.leveldb_mem.specs.Reading.{Comes, Shows, Finds, FindsRecord, FindsEnd, IsDamage, Refuses};
-ghost use Rattle.leveldb_mem.specs.ReadingSteps.{told_length, HasRightChecksum, Passes, Takes, SkipsFiller};
+ghost use Rattle.leveldb_mem.specs.Log.Reader.{IsUnreadThenGiven, HoldsOfRest, FindsNext, FindsRecord, FindsEnd, IsDamage, FailsToRead};
+ghost use Rattle.leveldb_mem.specs.Log.Taking.{declared_length, HasRightChecksum, PassesFragment, TakesNext, SkipsFiller};
 
 use super::{BLOCK_SIZE, HEADER_SIZE, type_of};
 use leveldb_base::crc::{crc32, mask_crc};
@@ -56,26 +56,25 @@ pub struct ReaderCore {
 
 impl Model for ReaderCore {
     ghost use Rattle.std.specs.Prelude.{slice_range, vec_len};
-    ghost use Rattle.leveldb_mem.specs.Reading.{Reading};
-    ghost use Rattle.leveldb_mem.specs.ReaderKept.{IsKept};
+    ghost use Rattle.leveldb_mem.specs.Log.Reader.{ReaderState, IsReaderBuffer};
 
-    ghost Value = { Reading };
+    ghost Value = { ReaderState };
 
     ghost view = { λ core. record {
       checked = core.check_crcs;
       size = core.block_size;
-      place = core.used;
+      offset = core.used;
       unread = slice_range core.block.items core.used core.filled;
       failed = core.failed;
     } };
 
-    ghost invariant = { λ core. IsKept core.block_size core.used core.filled (vec_len core.block) };
+    ghost invariant = { λ core. IsReaderBuffer core.block_size core.used core.filled (vec_len core.block) };
 }
 
 impl ReaderCore {
     /// For a log from its beginning on. Where checksums aren't asked for, any is taken as right.
     pub fn new(alloc: Global, check_crcs: bool) -> ReaderCore
-        ensures { result ≡ record { checked = check_crcs; size = log_block_size; place = 0; unread = []; failed = false } }
+        ensures { result ≡ record { checked = check_crcs; size = log_block_size; offset = 0; unread = []; failed = false } }
     {
         ReaderCore::sized(alloc, check_crcs, BLOCK_SIZE)
     }
@@ -83,7 +82,7 @@ impl ReaderCore {
     /// The same, for blocks of so many bytes.
     pub fn sized(alloc: Global, check_crcs: bool, block_size: usize) -> ReaderCore
         requires { IsBlockSize block_size }
-        ensures { result ≡ record { checked = check_crcs; size = block_size; place = 0; unread = []; failed = false } }
+        ensures { result ≡ record { checked = check_crcs; size = block_size; offset = 0; unread = []; failed = false } }
     {
         ReaderCore {
             check_crcs,
@@ -98,16 +97,16 @@ impl ReaderCore {
     // The bytes that are still to be read.
     fn unread(&self) -> &[u8]
         ensures value { result.now ≡ self.now.unread }
-        ensures within { length result.now ≤ self.now.size - self.now.place }
+        ensures within { length result.now ≤ self.now.size - self.now.offset }
     {
         &self.block[self.used..self.filled]
     }
 
     // How many bytes are left of the block.
     fn space(&self) -> usize
-        ensures left { result ≡ self.now.size - self.now.place }
+        ensures left { result ≡ self.now.size - self.now.offset }
         ensures size { IsBlockSize self.now.size }
-        ensures inside { self.now.place < self.now.size }
+        ensures inside { self.now.offset < self.now.size }
         ensures within { length self.now.unread ≤ result }
     {
         self.block_size - self.used
@@ -115,12 +114,12 @@ impl ReaderCore {
 
     // Reads on until so many bytes are to be read or the source is at its end. Whether they are there is answered.
     fn fill<S: Source>(&mut self, source: &mut S, count: usize) -> Result<bool>
-        requires { self.old.place + count ≤ self.old.size }
+        requires { self.old.offset + count ≤ self.old.size }
         ensures reader { IfOk result (λ there. self.new ≡ record self.old { unread = self.new.unread }) }
         ensures there { IfOk result (λ there. there ≡ true
-            → Comes (GivesSome S.gives) self.old.unread source.old self.new.unread source.new × (count ≤ length self.new.unread)) }
+            → IsUnreadThenGiven (GivesSome S.gives) self.old.unread source.old self.new.unread source.new × (count ≤ length self.new.unread)) }
         ensures short { IfOk result (λ there. there ≡ false
-            → Comes (GivesAll S.gives) self.old.unread source.old self.new.unread source.new × (length self.new.unread < count)) }
+            → IsUnreadThenGiven (GivesAll S.gives) self.old.unread source.old self.new.unread source.new × (length self.new.unread < count)) }
         ensures err { IfErr result (λ status. GivesUp S.gives source.old status source.new) }
     {
         make_long(&mut self.block, self.block_size)?;
@@ -134,7 +133,7 @@ impl ReaderCore {
     /// Damage of another kind than a wrong checksum, a refused read of the source and want of memory fail the reader:
     /// every later call is `Corruption`.
     pub fn next_record<S: Source>(&mut self, source: &mut S, target: &mut Vec<u8>) -> Result<Found>
-        ensures found { IfOk result (λ found. Finds S.gives found self.old source.old target.new.items self.new source.new) }
+        ensures found { IfOk result (λ found. FindsNext S.gives found self.old source.old target.new.items self.new source.new) }
         ensures damage { IfOk result (λ found. IsDamage found → self.new.failed ≡ true) }
         ensures err { self.old.failed ≡ false
             → IfErr result (λ status. GivesUp S.gives source.old status source.new × (self.new.failed ≡ true)) }
@@ -169,7 +168,7 @@ impl ReaderCore {
             → FindsRecord S.gives self.old source.old target.new.items self.new source.new) }
         ensures end { result ≡ Ok 0 → FindsEnd S.gives self.old source.old self.new source.new }
         ensures err { self.old.failed ≡ false
-            → IfErr result (λ status. Refuses S.gives self.old source.old status self.new source.new) }
+            → IfErr result (λ status. FailsToRead S.gives self.old source.old status self.new source.new) }
         ensures failed { self.old.failed ≡ true → IsErrAnd result (λ status. status.code ≡ Corruption)
             × (self.new ≡ self.old) × (source.new ≡ source.old) }
         ensures cleared { self.old.failed ≡ true → target.new.items ≡ [] }
@@ -194,8 +193,8 @@ impl ReaderCore {
     fn take_record<S: Source>(&mut self, source: &mut S, target: &mut Vec<u8>) -> Result<Found>
         requires empty { target.old.items ≡ [] }
         requires block { IsBlockSize self.old.size }
-        requires inside { self.old.place < self.old.size }
-        ensures ok { IfOk result (λ found. Finds S.gives found self.old source.old target.new.items self.new source.new) }
+        requires inside { self.old.offset < self.old.size }
+        ensures ok { IfOk result (λ found. FindsNext S.gives found self.old source.old target.new.items self.new source.new) }
         ensures err { IfErr result (λ status. GivesUp S.gives source.old status source.new) }
     {
         let mut first = true;
@@ -227,7 +226,7 @@ impl ReaderCore {
     // Takes what comes next. The data of a fragment is put behind what the target holds.
     fn take_fragment<S: Source>(&mut self, source: &mut S, target: &mut Vec<u8>) -> Result<Taken>
         ensures ok { IfOk result (λ taken.
-            Takes S.gives taken self.old source.old target.old.items self.new source.new target.new.items) }
+            TakesNext S.gives taken self.old source.old target.old.items self.new source.new target.new.items) }
         ensures err { IfErr result (λ status. GivesUp S.gives source.old status source.new) }
     {
         if self.space() >= HEADER_SIZE {
@@ -242,11 +241,11 @@ impl ReaderCore {
         }
     }
 
-    // Passes the zeros at the block's end, or answers what comes in their place.
+    // Passes the zeros at the block's end, or answers what comes in their offset.
     fn skip_filler<S: Source>(&mut self, source: &mut S) -> Result<Option<Taken>>
-        requires { self.old.size - self.old.place < 7 }
+        requires { self.old.size - self.old.offset < 7 }
         ensures ok { IfOk result (λ stop. MatchOption stop (SkipsFiller S.gives self.old source.old self.new source.new)
-            (λ taken. (text : List ℕ) → Takes S.gives taken self.old source.old text self.new source.new text)) }
+            (λ taken. (text : List ℕ) → TakesNext S.gives taken self.old source.old text self.new source.new text)) }
         ensures err { IfErr result (λ status. GivesUp S.gives source.old status source.new) }
     {
         let space = self.space();
@@ -262,9 +261,9 @@ impl ReaderCore {
 
     // The same where a header fits into the block.
     fn take_in_block<S: Source>(&mut self, source: &mut S, target: &mut Vec<u8>) -> Result<Taken>
-        requires { 7 ≤ self.old.size - self.old.place }
+        requires { 7 ≤ self.old.size - self.old.offset }
         ensures ok { IfOk result (λ taken.
-            Takes S.gives taken self.old source.old target.old.items self.new source.new target.new.items) }
+            TakesNext S.gives taken self.old source.old target.old.items self.new source.new target.new.items) }
         ensures err { IfErr result (λ status. GivesUp S.gives source.old status source.new) }
     {
         if !self.fill(source, HEADER_SIZE)? {
@@ -295,12 +294,12 @@ impl ReaderCore {
     // Passes the fragment with so much data that stands at the front. Where its checksum is taken, its data is put behind
     // what the target holds.
     fn pass_fragment(&mut self, target: &mut Vec<u8>, count: usize) -> Result<Taken>
-        requires header { 7 ≤ self.old.size - self.old.place }
-        requires told { count ≡ told_length self.old.unread }
+        requires header { 7 ≤ self.old.size - self.old.offset }
+        requires told { count ≡ declared_length self.old.unread }
         requires bytes { slice_index self.old.unread 4 < 256 × (slice_index self.old.unread 5 < 256) }
-        requires within { self.old.place + (7 + count) ≤ self.old.size }
+        requires within { self.old.offset + (7 + count) ≤ self.old.size }
         requires there { 7 + count ≤ length self.old.unread }
-        ensures ok { IfOk result (λ taken. Passes taken self.old target.old.items self.new target.new.items) }
+        ensures ok { IfOk result (λ taken. PassesFragment taken self.old target.old.items self.new target.new.items) }
         ensures memory { IfErr result NoMemory }
     {
         let (fragment, _) = self.unread().split_at(HEADER_SIZE + count);
@@ -317,8 +316,8 @@ impl ReaderCore {
     // Goes on behind so many bytes.
     fn advance(&mut self, count: usize)
         requires there { count ≤ length self.old.unread }
-        requires within { self.old.place + count ≤ self.old.size }
-        ensures { self.new ≡ record self.old { place = (self.old.place + count) % self.old.size; unread = drop count self.old.unread } }
+        requires within { self.old.offset + count ≤ self.old.size }
+        ensures { self.new ≡ record self.old { offset = (self.old.offset + count) % self.old.size; unread = drop count self.old.unread } }
     {
         self.used += count;
         if self.used == self.block_size {
@@ -338,13 +337,13 @@ fn is_zeros(bytes: &[u8]) -> bool
 #[inline]
 fn data_length(header: &[u8]) -> usize
     requires { 7 ≤ length header.now }
-    ensures told { result ≡ told_length header.now }
+    ensures told { result ≡ declared_length header.now }
     ensures bytes { slice_index header.now 4 < 256 × (slice_index header.now 5 < 256) }
 {
     usize::from(header[4]) + 256 * usize::from(header[5])
 }
 
-// Why a fragment of this type has no place where it stands.
+// Why a fragment of this type has no offset where it stands.
 fn misplaced(kind: u8) -> &'static str {
     match kind {
         1 | 2 => "record inside another",
@@ -410,7 +409,7 @@ pub struct LogReader<R: Source> {
 impl<R: Source> LogReader<R> {
     /// For a log from its beginning on. Where checksums aren't asked for, any is taken as right.
     pub fn new(alloc: Global, source: R, check_crcs: bool) -> LogReader<R>
-        ensures core { result.core ≡ record { checked = check_crcs; size = log_block_size; place = 0; unread = []; failed = false } }
+        ensures core { result.core ≡ record { checked = check_crcs; size = log_block_size; offset = 0; unread = []; failed = false } }
         ensures source { result.source ≡ source }
     {
         LogReader {
@@ -422,7 +421,7 @@ impl<R: Source> LogReader<R> {
     /// The same, for blocks of so many bytes.
     pub fn sized(alloc: Global, source: R, check_crcs: bool, block_size: usize) -> LogReader<R>
         requires { IsBlockSize block_size }
-        ensures core { result.core ≡ record { checked = check_crcs; size = block_size; place = 0; unread = []; failed = false } }
+        ensures core { result.core ≡ record { checked = check_crcs; size = block_size; offset = 0; unread = []; failed = false } }
         ensures source { result.source ≡ source }
     {
         LogReader {
@@ -439,7 +438,7 @@ impl<R: Source> LogReader<R> {
             → FindsRecord R.gives self.old.core self.old.source target.new.items self.new.core self.new.source) }
         ensures end { result ≡ Ok 0 → FindsEnd R.gives self.old.core self.old.source self.new.core self.new.source }
         ensures err { self.old.core.failed ≡ false
-            → IfErr result (λ status. Refuses R.gives self.old.core self.old.source status self.new.core self.new.source) }
+            → IfErr result (λ status. FailsToRead R.gives self.old.core self.old.source status self.new.core self.new.source) }
         ensures failed { self.old.core.failed ≡ true → IsErrAnd result (λ status. status.code ≡ Corruption)
             × (self.new.core ≡ self.old.core) × (self.new.source ≡ self.old.source) }
         ensures cleared { self.old.core.failed ≡ true → target.new.items ≡ [] }
@@ -455,7 +454,7 @@ pub fn read_records<S: Source>(
     source: &mut S,
     check_crcs: bool,
 ) -> Result<(Vec<Vec<u8>>, bool)>
-    ensures log { IfOk result (λ found. Shows S.gives
+    ensures log { IfOk result (λ found. HoldsOfRest S.gives
         (LogOf check_crcs log_block_size (map (λ v. v.items) found.0.items) (if found.1 then clean else bad) 0) [] source.old source.new) }
     ensures err { IfErr result (λ status. GivesUp S.gives source.old status source.new) }
 {

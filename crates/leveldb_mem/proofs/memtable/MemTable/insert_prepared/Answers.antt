@@ -1,6 +1,6 @@
 use Rattle.std.proofs.Common.{◌∙◌, refl, option_copied}
-use Rattle.leveldb_mem.specs.Batch.{item_of}
-use Rattle.leveldb_mem.proofs.Inserting.{inserting_from, inserting_next, inserted_all, next_fits, next_room, next_new}
+use Rattle.leveldb_mem.specs.WriteBatch.{item_of}
+use Rattle.leveldb_mem.proofs.EntryLemmas.{inserting_from, inserting_next, inserted_all, next_fits, next_room, next_new}
 use Rattle.leveldb_mem.proofs.memtable.MemTable.insert_prepared.Goals as goal
 
 pub loop-key-init : goal.loop-key-init

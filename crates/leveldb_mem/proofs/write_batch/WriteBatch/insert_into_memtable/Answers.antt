@@ -3,8 +3,8 @@ use Rattle.std.specs.Prelude.{IsErrAnd}
 use Rattle.std.proofs.lemmas.Result.{err_from_is_err_and}
 use Rattle.leveldb_base.specs.Error.{IsOutOfMemory}
 use Rattle.leveldb_base.specs.History.{Entry, placed}
-use Rattle.leveldb_mem.specs.Entries.{Gains, AreNewTo}
-use Rattle.leveldb_mem.proofs.Inserting.{all_fit, none_fit, no_want}
+use Rattle.leveldb_mem.specs.MemTable.{Gains, AreNewTo}
+use Rattle.leveldb_mem.proofs.EntryLemmas.{all_fit, none_fit, no_want}
 use Rattle.leveldb_mem.proofs.write_batch.WriteBatch.insert_into_memtable.Goals as goal
 
 pub returns-then-from-saturating_sub-clause-too_great : goal.returns-then-from-saturating_sub-clause-too_great

@@ -1,6 +1,6 @@
 use Rattle.std.proofs.Common.{◌≡◌, inl, inr, true, false, ◌+◌, ◌++◌, take, sym, ap, ◌∙◌, refl}
 use Rattle.std.proofs.lemmas.List.{take_rest}
-use Rattle.leveldb_mem.proofs.FragmentSteps.{passes_part, passes_damaged}
+use Rattle.leveldb_mem.proofs.TakingLemmas.{passes_part, passes_damaged}
 use Rattle.leveldb_mem.proofs.log.reader.ReaderCore.pass_fragment.Goals as goal
 use Rattle.leveldb_mem.proofs.log.reader.ReaderCore.pass_fragment.Goals.{else-self-via-then-self+else-not-has_right_checksum, else-self-via-else-self}
 

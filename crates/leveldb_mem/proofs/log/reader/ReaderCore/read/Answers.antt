@@ -1,5 +1,5 @@
 use Rattle.std.proofs.lemmas.Result.{err_from_is_err_and}
-use Rattle.leveldb_mem.specs.Reading.{torn}
+use Rattle.leveldb_mem.specs.Log.Reader.{torn}
 use Rattle.leveldb_mem.proofs.log.reader.ReaderCore.read.Goals as goal
 
 pub returns-in-Damage-clause-err : goal.returns-in-Damage-clause-err
