@@ -1,4 +1,4 @@
--- How a record goes on behind some of its parts.
+-- How a record goes on after some of its parts.
 use Rattle.std.proofs.Common.{◌≡◌, ◌≢◌, ℕ, ◌<◌, ◌≤◌, Bool, true, false, List, [], ◌∷◌, ◌++◌, length, refl, sym, subst, ◌∙◌, ap, arith, append_assoc, length-append}
 use Rattle.leveldb_mem.specs.Log.{offset_after, Fragment, checksum, IsFragment, IsFrontAndRest, AreFragments, record_type, IsRemainder, IsDamaged, begun_of, BreaksOff, fragment_of, NoFragment}
 use Rattle.leveldb_mem.proofs.FragmentLemmas.{in_front, unchecked, alike, one_fragment, length-fragment}
@@ -52,7 +52,7 @@ break_of size first offset bytes inside off = by_parts off.parts off.laid
         })
 
 module _ (size : ℕ) (fits : size ≤ 32768) where
-  -- where no fragment stands none has a wrong checksum
+  -- where there is no fragment none has a wrong checksum
   pub never_without : (first : Bool) (offset : ℕ) (bytes : List ℕ) → offset < size → NoFragment false size offset bytes → NeverBreaks size first offset bytes
   never_without first offset bytes inside none front more e off = by_break (break_of size first offset front inside off)
     where
@@ -60,7 +60,7 @@ module _ (size : ℕ) (fits : size ≤ 32768) where
       by_break (at_once f damaged) = none f front more e damaged.unchecked
       by_break (later b) = none b.fragment b.front (b.rest ++ more) (e ∙ sym (in_front front b.front b.rest more (front ++ more) b.bytes_are refl)) (unchecked true size b.fragment offset b.front b.is_front)
 
-  -- behind a fragment with a right checksum a record breaks off only where the fragment goes on
+  -- after a fragment with a right checksum a record breaks off only where the fragment goes on
   pub never_after : (first : Bool) (f : Fragment) (offset : ℕ) (part rest : List ℕ) → offset < size → IsFragment true size f offset part
       → (f.type ≡ record_type first false → NeverBreaks size false (offset_after size offset part) rest) → NeverBreaks size first offset (part ++ rest)
   never_after first f offset part rest inside is never front more e off = by_break (break_of size first offset front inside off)
@@ -76,7 +76,7 @@ module _ (size : ℕ) (fits : size ≤ 32768) where
 
 -- ---- parts
 
--- behind this front, which has the parts with this text, what is left of the record decides on the whole
+-- after this front, which has the parts with this text, what is left of the record decides on the whole
 pub record BeginsRecord (checked : Bool) (size offset : ℕ) (first : Bool) (front text : List ℕ) : Type 0 where
   pub whole : (others rest : List ℕ) → IsRemainder checked size first others (offset_after size offset front) rest → IsRemainder checked size true (text ++ others) offset (front ++ rest)
   pub none : (rest : List ℕ) → NoRemainder checked size first (offset_after size offset front) rest → NoRemainder checked size true offset (front ++ rest)
@@ -97,7 +97,7 @@ module _ (checked : Bool) (size offset : ℕ) (inside : offset < size) where
   }
 
   module _ (fits : size ≤ 32768) (first : Bool) (front text : List ℕ) (leads : BeginsRecord checked size offset first front text) (there : offset_after size offset front < size) where
-    -- behind one part more
+    -- after one part more
     pub begins_more : (f : Fragment) (part : List ℕ) → IsFragment checked size f (offset_after size offset front) part → f.type ≡ record_type first false → BeginsRecord checked size offset false (front ++ part) (text ++ f.part)
     begins_more f part is goes_on =
         let further = offset_after_both size offset front part (front ++ part) refl in
@@ -142,7 +142,7 @@ module _ (checked : Bool) (size offset : ℕ) (inside : offset < size) where
           let long = length-fragment checked size f (offset_after size offset front) part is in
           omega arith
 
-      -- where a part comes that has no offset
+      -- where a part comes that has no place
       pub torn_at_other : f.type ≢ record_type first true → f.type ≢ record_type first false → (more : List ℕ) → IsTorn checked size offset (front ++ (part ++ more))
       torn_at_other not_last not_more more =
           torn_without (part ++ more) (some_here more)

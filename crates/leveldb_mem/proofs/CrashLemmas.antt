@@ -17,7 +17,7 @@ breaks_here size first f offset bytes inside is = record {
   laid = record { front = []; rest = bytes; bytes_are = refl; is_front = refl; is_rest = subst (λ z. IsDamaged size f z bytes) (sym (offset_after_none size offset inside [] refl)) is };
 }
 
--- so does one behind a part of the record
+-- so does one after a part of the record
 pub breaks_after : (size : ℕ) (first : Bool) (f : Fragment) (offset : ℕ) (front rest : List ℕ) → f.type ≡ record_type first false → IsFragment true size f offset front
     → BreaksOff size false (offset_after size offset front) rest → BreaksOff size first offset (front ++ rest)
 breaks_after size first f offset front rest goes_on is off =
@@ -35,7 +35,7 @@ breaks_after size first f offset front rest goes_on is off =
     }
 
 module _ (size : ℕ) (fits : size ≤ 32768) where
-  -- where a wrong checksum stands no fragment does
+  -- where a wrong checksum is there is no fragment
   no_fragment : (f : Fragment) (offset : ℕ) (front more : List ℕ) → IsDamaged size f offset front → NoFragment true size offset (front ++ more)
   no_fragment f offset front more damaged g found others e is =
       let same = alike false size fits offset g f found front others more (unchecked true size g offset found is) damaged.unchecked (sym e) in
@@ -51,7 +51,7 @@ module _ (size : ℕ) (fits : size ≤ 32768) where
       let here = subst (λ z. IsDamaged size f z laid.rest) (offset_after_none size offset inside laid.front laid.is_front) laid.is_rest in
       subst (IsDamaged size f offset) (sym (laid.bytes_are ∙ ap (λ z. z ++ laid.rest) laid.is_front)) here
 
-  -- otherwise a part stands before the others
+  -- otherwise a part comes before the others
   next_part : (first : Bool) (part : List ℕ) (parts : List (List ℕ)) (f : Fragment) (offset : ℕ) (bytes : List ℕ) → Broken first (part ∷ parts) f offset bytes
       → IsFrontAndRest size (IsFragment true size (fragment_of (record_type first false) part)) (Broken false parts f) offset bytes
   next_part first part parts f offset bytes laid =
@@ -70,7 +70,7 @@ module _ (size : ℕ) (fits : size ≤ 32768) where
         };
       }
 
-  -- where bytes break off stands nothing of a record
+  -- where bytes break off there is nothing of a record
   none_left : (first : Bool) (offset : ℕ) (parts : List (List ℕ)) (f : Fragment) (front more : List ℕ) → offset < size → Broken first parts f offset front → NoRemainder true size first offset (front ++ more)
   none_left first offset [] f front more inside laid = none_without true size first offset (front ++ more) (no_fragment f offset front more (damaged_here first f offset front inside laid))
   none_left first offset (part ∷ parts) f front more inside laid =
@@ -89,7 +89,7 @@ module _ (size : ℕ) (fits : size ≤ 32768) where
       let all = length-append front more in
       ((λ e. (let n = ap length e in omega arith)), no_record_without true size offset (front ++ more) none)
 
-  -- no part of a record stands where a damaged fragment does
+  -- no part of a record is where a damaged fragment does
   not_here : (first : Bool) (part : List ℕ) (parts : List (List ℕ)) (f g : Fragment) (offset : ℕ) (a b x y : List ℕ) → offset < size → Broken first [] f offset a → Broken first (part ∷ parts) g offset b → a ++ x ≢ b ++ y
   not_here first part parts f g offset a b x y inside these those e =
       let next = next_part first part parts g offset b those in
@@ -113,7 +113,7 @@ module _ (size : ℕ) (fits : size ≤ 32768) where
   pub breaks_once : (offset : ℕ) (these those more others : List ℕ) → offset < size → BreaksOff size true offset these → BreaksOff size true offset those → these ++ more ≡ those ++ others → these ≡ those
   breaks_once offset these those more others inside off other e = same_break true offset off.parts other.parts off.fragment other.fragment these those more others inside off.laid other.laid e
 
--- ---- what a crash leaves of a log reads as a beginning of the records that stood
+-- ---- what a crash leaves of a log reads as a prefix of the records that were there
 
 -- Wherever whole fragments are followed by one, and what is left has one there too, the two are the same.
 abbrev Unforged : ℕ → ℕ → List ℕ → List ℕ → Type 0
@@ -127,7 +127,7 @@ longer_front : (whole front rest these more others : List ℕ) → whole ≡ fro
 longer_front whole front rest these more others e same d = e ∙ ap (λ z. z ++ rest) same ∙ ap (λ z. these ++ z) d ∙ sym (append_assoc these more others)
 
 module _ (size : ℕ) (large : 8 ≤ size) (fits : size ≤ 32768) where
-  -- the first fragments are the same, and what stands behind them is unforged too
+  -- the first fragments are the same, and what comes after them is unforged too
   first_same : (offset : ℕ) → offset < size → (f g : Fragment) (a b x y w l : List ℕ) → IsFragment true size f offset a → IsFragment true size g offset b
       → w ≡ a ++ x → l ≡ b ++ y → Unforged size offset w l → (f ≡ g) × (a ≡ b) × Unforged size (offset_after size offset b) x y
   first_same offset inside f g a b x y w l is_a is_b e d unforged =
@@ -163,7 +163,7 @@ module _ (size : ℕ) (large : 8 ≤ size) (fits : size ≤ 32768) where
       subst (λ z. Unforged size (offset_after size offset z) x y) (sym whole)
       (subst (λ z. Unforged size (offset_after size offset front) x (z ++ y)) none_g (subst (λ z. Unforged size (offset_after size offset front) (z ++ x) (g ++ y)) none_f unforged))
 
-  -- what is left of a record is the same, and what stands behind it is unforged too
+  -- what is left of a record is the same, and what comes after it is unforged too
   same_parts : (offset : ℕ) → offset < size → (first : Bool) (p : List ℕ) (ps : List (List ℕ)) (q : List ℕ) (qs : List (List ℕ)) (a b x y w l : List ℕ)
       → AreFragments true size (fragments_of first p ps) offset a → AreFragments true size (fragments_of first q qs) offset b → w ≡ a ++ x → l ≡ b ++ y → Unforged size offset w l
       → (a ≡ b) × Unforged size (offset_after size offset b) x y
@@ -207,7 +207,7 @@ module _ (size : ℕ) (large : 8 ≤ size) (fits : size ≤ 32768) where
       let whole = longer_front w f.front f.rest g.front others.0 others.1 f.bytes_are same.0 others.2 in
       (g.front ++ others.0, others.1, whole, omega arith, record { front = g.front; rest = others.0; bytes_are = refl; is_front = g.is_front; is_rest = others.4 })
 
-  -- an honest tail of what is written forges nothing of it, nor of what would be written behind it
+  -- an honest tail of what is written forges nothing of it, nor of what would be written after it
   honest_unforged : (written more left : List ℕ) → length left ≤ length written → HonestTail size written left → Unforged size 0 (written ++ more) left
   honest_unforged written more left short honest fragments before front others begin other rest f g chain e is d l found =
       let n = length-append begin (other ++ rest) in
@@ -258,7 +258,7 @@ module _ (size : ℕ) (large : 8 ≤ size) (fits : size ≤ 32768) where
       let cut = split written more same.0 same.1 (omega arith) same.2 in
       (same.0, cut.0, cut.1, same.4)
 
-  -- so they are a beginning of the records that stood
+  -- so they are a prefix of the records that were there
   pub honest_stood : (written more left : List ℕ) (rs stood ss : List (List ℕ)) (d e : End) → LogOf true size rs clean 0 (written ++ more) → LogOf true size stood d 0 written → LogOf true size ss e 0 left
       → length left ≤ length written → HonestTail size written left → (others : List (List ℕ)) × (stood ≡ ss ++ others)
   honest_stood written more left rs stood ss d e f is g short honest =
@@ -275,7 +275,7 @@ module _ (size : ℕ) (large : 8 ≤ size) (fits : size ≤ 32768) where
 
 -- ---- a log's file: one record more, a record that is cut short, and a crash
 
--- a beginning of some records and one more
+-- a prefix of some records and one more
 pub beginning : (records found others : List (List ℕ)) (one : List ℕ) → records ++ one ∷ [] ≡ found ++ others
     → ((length found ≤ length records) × (found ≡ take (length found) records)) ⊎ (found ≡ records ++ one ∷ [])
 beginning records found [] one e = inr (sym (e ∙ append-nil found))
@@ -294,7 +294,7 @@ all_of records found (other ∷ others) e few =
     let n = length-append records (other ∷ others) in
     absurd (omega arith)
 
--- a fragment stands within the bytes
+-- a fragment is within the bytes
 pub within : (size : ℕ) (bytes : List ℕ) (offset n : ℕ) → FragmentAt size bytes offset n → offset + n ≤ length bytes
 within size bytes offset n there =
     let whole = ap length there.bytes_are in
@@ -311,7 +311,7 @@ module _ (size : ℕ) (block : IsBlockSize size) where
   abbrev frame : ℕ → List ℕ → List ℕ
   frame offset text = framed_record size text (offset % size)
 
-  -- behind a clean end the frame of a record is one record more
+  -- after a clean end the frame of a record is one record more
   pub one_more : (bytes : List ℕ) (records : List (List ℕ)) (text : List ℕ) → text ≢ [] → LogFile bytes records clean → LogFile (bytes ++ frame (length bytes) text) (records ++ text ∷ []) clean
   one_more bytes records text some is =
       let offset = offset_after size 0 bytes in
@@ -330,7 +330,7 @@ module _ (size : ℕ) (block : IsBlockSize size) where
       let whole : (bytes ++ take n f) ++ drop n f ≡ bytes ++ f = append_assoc bytes (take n f) (drop n f) ∙ ap (λ z. bytes ++ z) (take-append-drop n f) in
       subst (λ z. LogFile z (records ++ text ∷ []) clean) (sym whole) (one_more bytes records text some is)
 
-  -- a beginning of the frame is no record, or that one, and one that isn't whole is none
+  -- a prefix of the frame is no record, or that one, and one that isn't whole is none
   pub cut_short : (bytes : List ℕ) (records : List (List ℕ)) (text : List ℕ) (n : ℕ) → text ≢ [] → LogFile bytes records clean
       → (found : List (List ℕ)) × (end : End) × LogFile (bytes ++ take n (frame (length bytes) text)) found end × ((found ≡ records) ⊎ (found ≡ records ++ text ∷ []))
       × (n < length (frame (length bytes) text) → found ≡ records)
@@ -357,7 +357,7 @@ module _ (size : ℕ) (block : IsBlockSize size) where
             one_or_none,
       )
 
-  -- for each number of records, from those that a front has on, a longer front has just these
+  -- for each number of records, from those that a front has on, a longer front has exactly these
   pub cut_at : (front rest : List ℕ) (first records : List (List ℕ)) (first_end end : End) (n : ℕ) → LogFile front first first_end → LogFile (front ++ rest) records end
       → length first ≤ n → n ≤ length records → (k : ℕ) × (cut_end : End) × LogFile (front ++ take k rest) (take n records) cut_end
   cut_at front rest first records first_end end n is_first is low high =
@@ -376,7 +376,7 @@ module _ (size : ℕ) (block : IsBlockSize size) where
             (length c.0, clean, subst (λ z. LogFile z (take n records) clean) there p.3)
       ] refl
 
-  -- an honest tail behind a front reads as a beginning of the records that stood, and goes on with those of the front
+  -- an honest tail after a front reads as a prefix of the records that were there, and goes on with those of the front
   pub torn : (front rest tail : List ℕ) (first records stood : List (List ℕ)) (text : List ℕ) (n : ℕ) (first_end end : End) → text ≢ [] → LogFile front first first_end → LogFile (front ++ rest) records clean
       → let whole = front ++ rest ++ take n (frame (length (front ++ rest)) text) in
       LogFile whole stood end → length (front ++ tail) ≤ length whole → HonestTail size whole (front ++ tail)

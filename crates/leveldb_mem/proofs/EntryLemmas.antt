@@ -1,5 +1,6 @@
 -- Sets of entries that gain some.
 use Rattle.std.proofs.Common.{◌≡◌, ◌≤◌, ◌<◌, ◌+◌, ⊎_elim, ℕ, List, [], ◌∷◌, ap, subst, arith, ◌^◌, Bool, true, ◌++◌, get_or, length-append, Result, Ok, Err, refl, sym, ◌∙◌, ◌⊎◌, inl, ◌-◌, length, append-nil, append_assoc}
+use Rattle.std.proofs.lemmas.List.Sums.{sum_by-cons}
 use Rattle.std.specs.Prelude.{Contains, ◌↔◌, All, IsErrAnd, IfErr}
 use Rattle.std.proofs.lemmas.List.Elements.{Contains-push_cases, All-append, All-cons, All-tail, Contains-append_left, Contains-append_right, Contains-append_cases, at_from_Contains, Contains-get_or}
 use Rattle.std.proofs.lemmas.Cmp.{ranked}
@@ -17,14 +18,14 @@ use Rattle.leveldb_base.specs.Types.{Pair}
 use Rattle.leveldb_base.specs.Error.{IsOutOfMemory}
 use Rattle.leveldb_base.specs.declared.error.Status.{Status}
 use Rattle.leveldb_base.specs.declared.error.StatusCode.TheVariants.{NotSupported}
-use Rattle.leveldb_mem.specs.MemTable.{Gains, AreNewTo, entry_of, IsNewTo, entry_key, entry_from, entries_in, IsEntryPair, Kept, HasRoom, AddsEntry}
+use Rattle.leveldb_mem.specs.MemTable.{Gains, AreNewTo, entry_of, IsNewTo, entry_key, entry_from, entries_in, IsEntryPair, Kept, HasRoom, AddsEntry, Grows, GrowsByAll}
 use Rattle.leveldb_mem.specs.Searching.{key_at}
 use Rattle.leveldb_mem.specs.SkipMap.{Inserts, HasKey}
 use Rattle.leveldb_mem.proofs.MemTableLemmas.{entry_again, entry_order, entry_place, entry_there}
 
--- ---- sets of entries up to a number, and batches behind them: what a caller that knows how far its numbers go owes an insertion
+-- ---- sets of entries up to a number, and batches after them: what a caller that knows how far its numbers go owes an insertion
 
--- a placed batch's entries have its first number or one behind it
+-- a placed batch's entries have its first number or one after it
 pub placed_from : (first : ℕ) (items : List Item) (entry : Entry) → Contains (placed first items) entry → first ≤ entry.sequence
 placed_from first [] entry there = absurd (in_none entry there)
 placed_from first (item ∷ items) entry there =
@@ -44,7 +45,7 @@ one_up_to n old new one low gains le entry there =
     (λ (e : one ≡ entry). let s = ap (λ (x : Entry). x.sequence) e in omega (arith, s))
     (Contains-push_cases old one entry ((gains entry).0 there))
 
--- a batch behind them is new
+-- a batch after them is new
 pub new_after : (n : ℕ) (entries : List Entry) (first : ℕ) (items : List Item) → AreUpTo n entries → n < first → AreNewTo entries (placed first items)
 new_after n entries first items low above entry there other was key number =
     let a = low other was in let b = placed_from first items entry there in omega (arith, a, b, number)
@@ -173,6 +174,11 @@ gained_before these those final more entry one others = λ x. (there x, back x)
         (λ (new : Contains more x). Contains-append_right those more x new)
         (Contains-append_cases (these ++ entry ∷ []) more x (subst (λ (all : List Entry). Contains all x) (sym whole) h)))
 
+grown_before : (these those final more : List Entry) (entry : Entry) → Grows these entry those → GrowsByAll those more final → GrowsByAll these (entry ∷ more) final
+grown_before these those final more entry one others =
+    let all = sum_by-cons (λ entry. length (entry_key entry)) entry more in
+    record { count = omega (arith, one.count, others.count); memory = omega (arith, one.memory, others.memory, all) }
+
 -- ---- numbers
 
 least_fit : (first : ℕ) (items : List Item) → first + length items ≤ 2 ^ 56 → greatest (placed first items) < 2 ^ 56
@@ -193,7 +199,7 @@ pub none_fit : (first : ℕ) (items : List Item) → 2 ^ 56 - first < length ite
 none_fit first [] lt = absurd (omega arith)
 none_fit first (item ∷ items) lt = let last = last_of first item items in omega (arith, last)
 
--- a want of memory has another code
+-- out of memory has another code
 pub no_want : {T : Type 0} (r : Result T Status) → IsErrAnd r IsOutOfMemory → IsErrAnd r (λ status. status.code ≡ NotSupported) → ⊥
 no_want (Ok x) h k = absurd h
 no_want (Err e) h k = let a = h.0 in cc
@@ -206,17 +212,22 @@ pub record Inserting (old all : List Entry) (kept : Kept) (sequence : ℕ) (rest
   pub fit : greatest (placed sequence rest) < 2 ^ 56
   pub new : AreNewTo kept.entries (placed sequence rest)
   pub gains : (final : List Entry) → Gains kept.entries (placed sequence rest) final → Gains old all final
+  pub grows : (final : List Entry) → GrowsByAll kept.entries (placed sequence rest) final → GrowsByAll old all final
 
 pub inserting_from : (kept : Kept) (first : ℕ) (items rest : List Item) → rest ≡ items → HasRoom kept items → greatest (placed first items) < 2 ^ 56
     → AreNewTo kept.entries (placed first items) → Inserting kept.entries (placed first items) kept first rest
 inserting_from kept first items rest all room fit new =
     subst (λ (z : List Item). Inserting kept.entries (placed first items) kept first z) (sym all)
-    (record { room = room; fit = fit; new = new; gains = λ final gains. gains })
+    (record { room = room; fit = fit; new = new; gains = λ final gains. gains; grows = λ final grows. grows })
 
 -- no item is left
 pub inserted_all : (old all : List Entry) (kept : Kept) (sequence : ℕ) (rest : List Item) → rest ≡ [] → Inserting old all kept sequence rest → Gains old all kept.entries
 inserted_all old all kept sequence rest none inserting =
     (subst (λ (items : List Item). Inserting old all kept sequence items) none inserting).gains kept.entries (same_gained kept.entries)
+
+pub inserted_growth : (old all : List Entry) (kept : Kept) (sequence : ℕ) (rest : List Item) → rest ≡ [] → Inserting old all kept sequence rest → GrowsByAll old all kept.entries
+inserted_growth old all kept sequence rest none inserting =
+    (subst (λ (items : List Item). Inserting old all kept sequence items) none inserting).grows kept.entries (record { count = omega arith; memory = omega arith })
 
 module _ (old all : List Entry) (kept : Kept) (sequence : ℕ) (rest : List Item) (item : Item) (others : List Item) (next : rest ≡ item ∷ others) (whole : Inserting old all kept sequence rest) where
   inserting : Inserting old all kept sequence (item ∷ others)
@@ -231,7 +242,7 @@ module _ (old all : List Entry) (kept : Kept) (sequence : ℕ) (rest : List Item
   pub next_new : IsNewTo kept.entries sequence item.key
   next_new = inserting.new (entry_of sequence item.key item.value) (in_front _ (placed (sequence + 1) others))
 
-  module _ (after : Kept) (adds : AddsEntry kept (entry_of sequence item.key item.value) after) where
+  module _ (after : Kept) (adds : AddsEntry kept (entry_of sequence item.key item.value) after) (one : Grows kept.entries (entry_of sequence item.key item.value) after.entries) where
     still_new : AreNewTo after.entries (placed (sequence + 1) others)
     still_new entry there other was key number =
         ⊎_elim
@@ -247,4 +258,5 @@ module _ (old all : List Entry) (kept : Kept) (sequence : ℕ) (rest : List Item
       fit = let all_fit = inserting.fit in omega (arith, all_fit);
       new = still_new;
       gains = λ final gains. inserting.gains final (gained_before kept.entries after.entries final (placed (sequence + 1) others) (entry_of sequence item.key item.value) adds.gains gains);
+      grows = λ final grows. inserting.grows final (grown_before kept.entries after.entries final (placed (sequence + 1) others) (entry_of sequence item.key item.value) one grows);
     }

@@ -15,7 +15,7 @@ module _ {A : Type 0} where
   pub same_tail : {a b : A} {x y : List A} → a ∷ x ≡ b ∷ y → x ≡ y
   same_tail e = cc
 
-  -- a text that stands in front of another
+  -- a text that is a prefix of another
   pub in_front : (a b c x y : List A) → a ≡ b ++ c → a ++ x ≡ y → b ++ (c ++ x) ≡ y
   in_front a b c x y is e = sym (append_assoc b c x) ∙ ap (λ z. z ++ x) (sym is) ∙ e
 
@@ -103,23 +103,23 @@ module _ (checked : Bool) (size : ℕ) (fits : size ≤ 32768) where
 pub same_fragment : (size : ℕ) (f : Fragment) (offset : ℕ) (a b : List ℕ) → IsFragment true size f offset a → IsFragment true size f offset b → a ≡ b
 same_fragment size f offset a b is_a is_b = is_a.bytes_are ∙ ap (λ z. filler size offset ++ fragment_bytes z f) (is_a.summed ∙ sym is_b.summed) ∙ sym is_b.bytes_are
 
--- ---- what the seven bytes of a header say of the fragment that stands there, if one does
+-- ---- what the seven bytes of a header say of the fragment that is there, if one is
 
--- where a header fits no filler stands, and what is left of the block is for the data
+-- where a header fits there is no filler, and what is left of the block is for the data
 pub filler-fits : (size offset : ℕ) → 7 ≤ size - offset → filler size offset ≡ []
 filler-fits size offset wide = ap (λ t. elim t as (λ b. List ℕ) [ true ↦ replicate (size - offset) 0 | false ↦ [] ]) (le-ltb (size - offset) 7 wide)
 
 pub room-fits : (size offset : ℕ) → 7 ≤ size - offset → room size offset ≡ size - offset - 7
 room-fits size offset wide = ap (λ t. (if t then size else size - offset) - 7) (le-ltb (size - offset) 7 wide)
 
--- where none fits zeros stand, and the next block is for the data
+-- where none fits there are zeros, and the next block is for the data
 pub filler-ends : (size offset : ℕ) → size - offset < 7 → filler size offset ≡ replicate (size - offset) 0
 filler-ends size offset narrow = ap (λ t. elim t as (λ b. List ℕ) [ true ↦ replicate (size - offset) 0 | false ↦ [] ]) (lt-ltb (size - offset) 7 narrow)
 
 pub room-ends : (size offset : ℕ) → size - offset < 7 → room size offset ≡ size - 7
 room-ends size offset narrow = ap (λ t. (if t then size else size - offset) - 7) (lt-ltb (size - offset) 7 narrow)
 
--- What the seven bytes behind the filler tell of a fragment that stands there: its checksum, its length and its type; its data follows.
+-- What the seven bytes after the filler say of a fragment that is there: its checksum, its length and its type; its data follows.
 pub header_says : (checked : Bool) (size : ℕ) → size ≤ 32768 → (f : Fragment) (offset : ℕ) (front more : List ℕ) (is : IsFragment checked size f offset front) (sum rest : List ℕ) (low high type : ℕ)
     → length sum ≡ 4 → front ++ more ≡ filler size offset ++ (sum ++ low ∷ high ∷ type ∷ rest) → (is.sum ≡ sum) × (length f.part ≡ low + 256 * high) × (f.type ≡ type) × (f.part ++ more ≡ rest)
 unfolding fragment_bytes
@@ -134,7 +134,7 @@ header_says checked size fits f offset front more is sum rest low high type four
     let few = short checked size fits offset f.part is.within in
     (parts.0, omega arith, same_head (same_tail (same_tail parts.1)), same_tail (same_tail (same_tail parts.1)))
 
--- where fewer bytes stand than filler and a header take, no fragment does
+-- where there are fewer bytes than filler and a header take, there is no fragment
 pub none_short : (checked : Bool) (size offset : ℕ) (bytes : List ℕ) → length bytes < length (filler size offset) + 7 → NoFragment checked size offset bytes
 none_short checked size offset bytes few f front more e is =
     let whole = ap length e in
@@ -142,7 +142,7 @@ none_short checked size offset bytes few f front more e is =
     let long = length-fragment checked size f offset front is in
     omega arith
 
--- nor where other bytes stand than the filler
+-- nor where other bytes are there than the filler
 pub none_unfilled : (checked : Bool) (size offset : ℕ) (before rest : List ℕ) → length before ≡ length (filler size offset) → before ≢ filler size offset → NoFragment checked size offset (before ++ rest)
 none_unfilled checked size offset before rest count other f front more e is =
     let there = e ∙ ap (λ z. z ++ more) is.bytes_are ∙ append_assoc (filler size offset) (fragment_bytes is.sum f) more in
@@ -160,12 +160,12 @@ module _ (size offset : ℕ) (sum part : List ℕ) (low high type : ℕ) where
       let high_is : length part / 256 % 256 ≡ high = omega arith in
       ap (λ z. filler size offset ++ (sum ++ z ∷ high ∷ type ∷ part)) (sym low_is) ∙ ap (λ z. filler size offset ++ (sum ++ (length part % 256) ∷ z ∷ type ∷ part)) (sym high_is)
 
-  -- data of the length that the header says, within the block and behind a checksum that is taken, is a fragment
+  -- data of the length that the header says, within the block and after a checksum that is taken, is a fragment
   pub headed_fragment : (checked : Bool) → length part ≡ low + 256 * high → low < 256 → high < 256 → length part ≤ room size offset → IsChecksum checked (fragment_of type part) sum
       → IsFragment checked size (fragment_of type part) offset headed
   headed_fragment checked count low_byte high_byte within summed = record { sum = sum; within = within; summed = summed; bytes_are = headed_bytes count low_byte high_byte }
 
-  -- behind another checksum it is damaged
+  -- after another checksum it is damaged
   pub headed_damaged : length sum ≡ 4 → length part ≡ low + 256 * high → low < 256 → high < 256 → length part ≤ room size offset → sum ≢ checksum (fragment_of type part)
       → IsDamaged size (fragment_of type part) offset headed
   headed_damaged four count low_byte high_byte within other = record {

@@ -63,7 +63,7 @@ module _ {S : Type 0} (gives : S → ℕ → Result (List ℕ) Status → S → 
           (joins.begun is_first).1,
         )
 
-    -- and behind it
+    -- and after it
     pub ends_torn : first ≡ false → FindsEnd gives now at new to → HoldsOfRest gives (IsTorn old.checked old.size old.offset) old.unread source to
     ends_torn not_first ends =
         let some = joins.going not_first in
@@ -82,7 +82,7 @@ module _ {S : Type 0} (gives : S → ℕ → Result (List ℕ) Status → S → 
         some_bytes [] some = absurd (some refl)
         some_bytes (byte ∷ bytes) some = some_with (byte ∷ bytes) (omega arith)
 
-    -- the reader behind a front of what it still has to read
+    -- the reader after a front of what it still has to read
     goes_on : (bytes part : List ℕ) → new ≡ after_front (with_unread now bytes) part new.unread → new ≡ after_front old (front ++ part) new.unread
     goes_on bytes part reader =
         reader ∙ ap {B = ReaderState} (λ r. record r { offset = offset_after r.size r.offset part; unread = new.unread }) joins.reader
@@ -123,7 +123,7 @@ module _ {S : Type 0} (gives : S → ℕ → Result (List ℕ) Status → S → 
           subst (λ z. IsRemainder old.checked old.size true z old.offset (front ++ bytes)) (sym takes.passes.text_is)
           (joins.leads.whole part bytes (last_fragment old.checked old.size first (fragment_of type part) (offset_after old.size old.offset front) bytes last is))
 
-      -- all that comes, cut behind the part
+      -- all that comes, cut after the part
       cut : (more : List ℕ) → ((front ++ bytes) ++ new.unread) ++ more ≡ front ++ (bytes ++ (new.unread ++ more))
       cut more = append_assoc (front ++ bytes) new.unread more ∙ append_assoc front bytes (new.unread ++ more)
 
@@ -143,7 +143,7 @@ module _ {S : Type 0} (gives : S → ℕ → Result (List ℕ) Status → S → 
           (torn_without_data old.checked old.size old.offset inside block.most first front text joins.leads there (fragment_of type part) bytes is last
           (subst (λ z. IsRemainder old.checked old.size true z old.offset (front ++ bytes)) none (whole last)) (new.unread ++ more)))
 
-      -- a part that has no offset
+      -- a part that has no place
       pub part_torn : type ≢ record_type first true → type ≢ record_type first false → HoldsOfRest gives (IsTorn old.checked old.size old.offset) old.unread source to
       part_torn not_last not_more =
           whatever_follows ((front ++ bytes) ++ new.unread) come (λ more. subst (IsTorn old.checked old.size old.offset) (sym (cut more))

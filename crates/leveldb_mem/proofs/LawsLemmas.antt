@@ -1,8 +1,8 @@
 -- The laws of the log, proved.
 use Rattle.std.proofs.Common.{refl, sym, ◌∙◌, ap, arith, length-append, lit≤}
 use Rattle.std.proofs.lemmas.List.{take_at, take-append-le, drop-append-le, length-drop}
-use Rattle.std.specs.Prelude.{◌≡◌, ◌≢◌, ℕ, ◌+◌, ◌<◌, ◌≤◌, ◌⊎◌, Bool, true, List, [], ◌∷◌, ◌++◌, length, take, drop, All}
-use Rattle.leveldb_mem.specs.Log.{IsBlockSize, log_block_size, offset_after, End, clean, bad, LogOf, IsLogFile, IsFramedRecord, IsFramed, framed_record, framed, frame_at, BreaksOff, FragmentAt, HonestTail}
+use Rattle.std.specs.Prelude.{◌≡◌, ℕ, ◌≤◌, true, List, ◌++◌, length, take, drop}
+use Rattle.leveldb_mem.specs.Log.{IsBlockSize, log_block_size}
 use Rattle.leveldb_mem.specs.Laws.{OneLogReading, EachIsLog, AreFirst, CutReads, FirstRecords, BreaksBad, BreaksOnce, RecordFramed, RecordsFramed, OneRecordFraming, OneFraming, FramingReads, LogsAppend, FramingsAppend, CutIsHonest, CrashLeaves, LogLaws}
 use Rattle.leveldb_mem.proofs.LogLemmas as logs
 use Rattle.leveldb_mem.proofs.CrashLemmas as crashes
@@ -13,7 +13,7 @@ one_reading checked size offset bytes records others end other_end block = logs.
 pub each_reads : EachIsLog
 each_reads checked size offset bytes block = logs.log_reads checked size block.most offset bytes
 
--- what stands in front of some records
+-- what is a prefix of some records
 first_of : (least : ℕ) (records found others : List (List ℕ)) → records ≡ found ++ others → least ≤ length found → AreFirst least records found
 first_of least records found others e enough =
     let whole = ap length e in

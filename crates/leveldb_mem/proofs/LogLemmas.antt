@@ -19,7 +19,7 @@ not_both true e = cc
 not_both false e = cc
 
 module _ (checked : Bool) (size : ℕ) (fits : size ≤ 32768) where
-  -- bytes that begin with a fragment have one rest behind it
+  -- bytes that begin with a fragment have one rest after it
   pub same_first : (offset : ℕ) (f g : Fragment) (P Q : ℕ → List ℕ → Type 0) (a b x y : List ℕ) (these : IsFrontAndRest size (IsFragment checked size f) P offset a) (those : IsFrontAndRest size (IsFragment checked size g) Q offset b)
       → a ++ x ≡ b ++ y → (f ≡ g) × (these.front ≡ those.front) × (these.rest ++ x ≡ those.rest ++ y)
   same_first offset f g P Q a b x y these those e =
@@ -90,7 +90,7 @@ module _ (checked : Bool) (size : ℕ) where
     laid = record { front = bytes; rest = []; bytes_are = sym (append-nil bytes); is_front = subst (λ type. IsFragment checked size (fragment_of type f.part) offset bytes) is_last is; is_rest = refl };
   }
 
-  -- another fragment stands before what is left
+  -- another fragment comes before what is left
   pub next_fragment : (first : Bool) (f : Fragment) (text : List ℕ) (offset : ℕ) (front rest : List ℕ) → f.type ≡ record_type first false → IsFragment checked size f offset front
       → IsRemainder checked size false text (offset_after size offset front) rest → IsRemainder checked size first (f.part ++ text) offset (front ++ rest)
   next_fragment first f text offset front rest goes_on is others = record {
@@ -100,7 +100,7 @@ module _ (checked : Bool) (size : ℕ) where
     laid = record { front = front; rest = rest; bytes_are = refl; is_front = subst (λ type. IsFragment checked size (fragment_of type f.part) offset front) goes_on is; is_rest = others.laid };
   }
 
-  -- what is left of a record, as its first fragment and either nothing or what is left behind that
+  -- what is left of a record, as its first fragment and either nothing or what is left after that
   pub record Start (first : Bool) (text : List ℕ) (offset : ℕ) (bytes : List ℕ) : Type 0 where
     pub fragment : Fragment
     pub front : List ℕ
@@ -123,7 +123,7 @@ module _ (checked : Bool) (size : ℕ) where
         goes_on = inr (refl, next ++ concat parts, record { part = next; parts = parts; text_is = refl; laid = laid.is_rest });
       }
 
-  -- where no fragment stands nothing of a record does
+  -- where there is no fragment there is nothing of a record
   pub none_without : (first : Bool) (offset : ℕ) (bytes : List ℕ) → NoFragment checked size offset bytes → NoRemainder checked size first offset bytes
   none_without first offset bytes none text front more e is =
       let s = start_of first text offset front is in
@@ -134,7 +134,7 @@ module _ (checked : Bool) (size : ℕ) where
   no_record_without offset bytes none text front more e is = none text front more e is.whole
 
   module _ (fits : size ≤ 32768) where
-    -- behind a fragment that isn't the last, nothing of a record stands unless the fragment goes on with a record and its rest stands there
+    -- after a fragment that isn't the last, there is nothing of a record unless the fragment goes on with a record and its rest is there
     pub none_after : (first : Bool) (f : Fragment) (offset : ℕ) (bytes front rest : List ℕ) → bytes ≡ front ++ rest → IsFragment checked size f offset front → f.type ≢ record_type first true
         → (f.type ≡ record_type first false → NoRemainder checked size false (offset_after size offset front) rest) → NoRemainder checked size first offset bytes
     none_after first f offset bytes front rest e is not_last none text found more h remainder =
@@ -153,7 +153,7 @@ module _ (checked : Bool) (size : ℕ) where
     none_without_data offset bytes front more e is text found others h is_record =
         is_record.some (one_remainder checked size fits offset true text [] found front others more is_record.whole is (sym h ∙ e)).0
 
--- ---- two readings of one log are one, and a log cut anywhere reads as a beginning of its records
+-- ---- two readings of one log are one, and a log cut anywhere reads as a prefix of its records
 
 module _ (checked : Bool) (size : ℕ) (fits : size ≤ 32768) where
   none_in_nothing : (offset : ℕ) (text front rest : List ℕ) → IsRecord checked size text offset front → [] ≡ front ++ rest → ⊥
@@ -163,7 +163,7 @@ module _ (checked : Bool) (size : ℕ) (fits : size ≤ 32768) where
       let whole = ap length e in
       omega arith
 
-  -- at an end stands no record
+  -- at an end there is no record
   pub no_record : (offset : ℕ) (end : End) (bytes text front rest : List ℕ) → Ends checked size end offset bytes → bytes ≡ front ++ rest → IsRecord checked size text offset front → ⊥
   no_record offset clean bytes text front rest ends e is = none_in_nothing offset text front rest is (sym ends ∙ e)
   no_record offset bad bytes text front rest ends e is = ends.1 text front rest e is
@@ -174,7 +174,7 @@ module _ (checked : Bool) (size : ℕ) (fits : size ≤ 32768) where
   one_end offset bytes bad clean f g = absurd (f.0 g)
   one_end offset bytes bad bad f g = refl
 
-  -- where one log goes on behind another, their first records are the same, and so is the offset behind them
+  -- where one log goes on after another, their first records are the same, and so is the offset after them
   same_record : (offset : ℕ) (r s : List ℕ) (rs ss : List (List ℕ)) (e d : End) (a b more : List ℕ) (these : IsFrontAndRest size (IsRecord checked size r) (LogOf checked size rs e) offset a)
       (those : IsFrontAndRest size (IsRecord checked size s) (LogOf checked size ss d) offset b) → a ≡ b ++ more
       → (r ≡ s) × LogOf checked size rs e (offset_after size offset those.front) (those.rest ++ more)
@@ -183,7 +183,7 @@ module _ (checked : Bool) (size : ℕ) (fits : size ≤ 32768) where
       let same = one_record checked size fits offset r s these.front those.front these.rest (those.rest ++ more) these.is_front those.is_front joined in
       (same.0, subst (LogOf checked size rs e (offset_after size offset those.front)) same.2 (subst (λ z. LogOf checked size rs e (offset_after size offset z) these.rest) same.1 these.is_rest))
 
-  -- a log cut anywhere reads as a beginning of its records
+  -- a log cut anywhere reads as a prefix of its records
   pub cut_log : (offset : ℕ) (bytes more : List ℕ) (rs cut : List (List ℕ)) (e d : End)
       → LogOf checked size rs e offset (bytes ++ more) → LogOf checked size cut d offset bytes → (others : List (List ℕ)) × (rs ≡ cut ++ others)
   cut_log offset bytes more rs [] e d f g = (rs, refl)
@@ -194,7 +194,7 @@ module _ (checked : Bool) (size : ℕ) (fits : size ≤ 32768) where
       let rest = cut_log (offset_after size offset g.front) g.rest more rs cut e d same.1 g.is_rest in
       (rest.0, ap (λ z. z ∷ rs) same.0 ∙ ap (λ z. s ∷ z) rest.1)
 
-  -- what stands behind a log and adds no record to it is nothing, if the end behind it is clean
+  -- what comes after a log and adds no record to it is nothing, if the end after it is clean
   pub nothing_more : (offset : ℕ) (bytes more : List ℕ) (rs : List (List ℕ)) (d : End) → LogOf checked size rs clean offset (bytes ++ more) → LogOf checked size rs d offset bytes → more ≡ []
   nothing_more offset bytes more [] d f g =
       let whole = ap length f in
@@ -224,7 +224,7 @@ first_records checked size offset bytes (r ∷ records) end (suc n) few is =
     let whole = is.bytes_are ∙ ap (λ z. is.front ++ z) others.2 ∙ sym (append_assoc is.front others.0 others.1) in
     (is.front ++ others.0, others.1, whole, record { front = is.front; rest = others.0; bytes_are = refl; is_front = is.is_front; is_rest = others.3 })
 
--- ---- records have one framing, it reads as these records, and logs stand one behind the other
+-- ---- records have one framing, it reads as these records, and logs come one after the other
 
 -- filler, a header and data that fills the block reach to the block's end
 block_end : (size offset : ℕ) → 8 ≤ size → offset < size → (offset + (length (filler size offset) + (7 + room size offset))) % size ≡ 0
@@ -313,7 +313,7 @@ module _ (size : ℕ) (large : 8 ≤ size) where
   pub offset_after-lt : (offset : ℕ) (a : List ℕ) → offset_after size offset a < size
   offset_after-lt offset a = mod-lt (offset + length a) start
 
-  -- behind a fragment that fills its block a block begins
+  -- after a fragment that fills its block a block begins
   pub fills : (offset : ℕ) (f : Fragment) (a : List ℕ) → offset < size → IsFragment true size f offset a → length f.part ≡ room size offset → offset_after size offset a ≡ 0
   fills offset f a inside is full =
       let whole = length-fragment true size f offset a is ∙ ap (λ n. length (filler size offset) + (7 + n)) full in
@@ -350,7 +350,7 @@ module _ (size : ℕ) (large : 8 ≤ size) where
       let rest = one_framing (offset_after size offset g.front) (offset_after-lt offset g.front) texts f.rest g.rest moved g.is_rest in
       f.bytes_are ∙ ap (λ z. z ++ f.rest) fronts ∙ ap (λ z. g.front ++ z) rest ∙ sym g.bytes_are
 
-  -- a log behind one that ends cleanly
+  -- a log after one that ends cleanly
   pub log_append : (checked : Bool) (offset : ℕ) → offset < size → (rs ss : List (List ℕ)) (a b : List ℕ) (e : End)
       → LogOf checked size rs clean offset a → LogOf checked size ss e (offset_after size offset a) b → LogOf checked size (rs ++ ss) e offset (a ++ b)
   log_append checked offset inside [] ss a b e f g =
@@ -363,7 +363,7 @@ module _ (size : ℕ) (large : 8 ≤ size) where
     is_rest = log_append checked (offset_after size offset f.front) (offset_after-lt offset f.front) rs ss f.rest b e f.is_rest (subst (λ z. LogOf checked size ss e z b) (sym (offset_after_both size offset f.front f.rest a f.bytes_are)) g);
   }
 
-  -- a framing behind another
+  -- a framing after another
   pub framing_append : (offset : ℕ) → offset < size → (rs ss : List (List ℕ)) (a b : List ℕ)
       → IsFramed size rs offset a → IsFramed size ss (offset_after size offset a) b → IsFramed size (rs ++ ss) offset (a ++ b)
   framing_append offset inside [] ss a b f g =
@@ -400,7 +400,7 @@ module _ (size : ℕ) (large : 8 ≤ size) where
         full = λ e. (let none = ap length e in omega arith);
       }
 
-  -- a fragment that fills its block stands before what is left
+  -- a fragment that fills its block comes before what is left
   pub next_framed : (first : Bool) (part text : List ℕ) (offset : ℕ) (bytes : List ℕ) → offset < size → length part ≡ room size offset → IsFramedRemainder size false text 0 bytes
       → IsFramedRemainder size first (part ++ text) offset (fragment_at size (fragment_of (record_type first false) part) offset ++ bytes)
   next_framed first part text offset bytes inside full rest =
@@ -506,14 +506,14 @@ module _ (checked : Bool) (size : ℕ) (fits : size ≤ 32768) where
     bytes_are : bytes ≡ front ++ rest
     is : IsFragment checked size fragment offset front
 
-  -- behind the filler stand a fragment's bytes and what follows it
+  -- after the filler come a fragment's bytes and what follows it
   after_filler : (offset : ℕ) (bytes : List ℕ) (f : Fragment) (front more : List ℕ) → bytes ≡ front ++ more → (is : IsFragment checked size f offset front)
       → bytes ≡ filler size offset ++ drop (length (filler size offset)) bytes
   after_filler offset bytes f front more e is =
       front_again bytes (filler size offset) (fragment_bytes is.sum f ++ more) (e ∙ ap (λ z. z ++ more) is.bytes_are ∙ append_assoc (filler size offset) (fragment_bytes is.sum f) more)
 
   module _ (offset : ℕ) (bytes sum rest : List ℕ) (low high type : ℕ) (four : length sum ≡ 4) (header : sum ++ low ∷ high ∷ type ∷ rest ≡ drop (length (filler size offset)) bytes) where
-    -- the fragment of which the header tells
+    -- the fragment of which the header gives
     abbrev told : Fragment
     told = fragment_of type (take (low + 256 * high) rest)
 

@@ -15,7 +15,7 @@ seven_left_headers : map (λ k. slice_index (frame_at 32761 (codes "x")) k) (4 �
 unfolding framed_record fragment_at fragment_bytes checksum
 seven_left_headers = refl
 
--- six are left: they are zeros, and a Full stands behind them
+-- six are left: they are zeros, and a Full comes after them
 six_left : length (frame_at 32762 (codes "x")) ≡ 32776 - 32762
 unfolding framed_record fragment_at fragment_bytes checksum
 six_left = refl

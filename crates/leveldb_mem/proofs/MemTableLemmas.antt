@@ -51,7 +51,7 @@ value_again : (value : Option (List ℕ)) → value_of (type_of value) (bytes_of
 value_again None = refl
 value_again (Some bytes) = refl
 
--- an entry's memtable key stands for the entry
+-- an entry's memtable key encodes the entry
 pub entry_again : (entry : Entry) → entry.sequence < 2 ^ 56 → entry_from (entry_key entry) ≡ entry
 unfolding entry_from entry_key
 entry_again entry h =
@@ -74,7 +74,7 @@ length-value : (value : Option (List ℕ)) → length (bytes_of_value value) ≡
 length-value None = refl
 length-value (Some bytes) = refl
 
--- memtable keys are ordered by the entries that they stand for
+-- memtable keys are ordered by the entries that they encode
 pub entry_order : (cmp : List ℕ → List ℕ → Ordering) (a b : List ℕ)
     → memtable_cmp cmp a b ≡ ordering_then (cmp (entry_from a).key (entry_from b).key) (nat_cmp (entry_from b).sequence (entry_from a).sequence)
 unfolding entry_from
@@ -96,7 +96,7 @@ bytes_in-entry item = by_value item.key item.value
 
 module _ (h u t s b : List ℕ) (sequence : ℕ) (kind : ValueType) (value : Option (List ℕ)) (kind_is : kind ≡ type_of value) (bytes_are : b ≡ bytes_of_value value)
     (head_is : h ≡ varint (length u + 8)) (tag_is : t ≡ little 8 (tag sequence kind)) (size_is : s ≡ varint (length b)) where
-  -- parts that are spelled so are an entry's memtable key
+  -- parts that are encoded so are an entry's memtable key
   pub key_of_parts : h ++ u ++ t ++ s ++ b ≡ entry_key (entry_of sequence u value)
   unfolding entry_key
   key_of_parts =
@@ -121,7 +121,7 @@ length-inner_key key e =
     let inner = ap inner_key e ∙ inner_key-memtable_key entry.key entry.sequence kind (bytes_of_value entry.value) in
     omega (arith, ap length inner, length-internal_key entry.key entry.sequence kind)
 
--- what stands behind the internal key of an entry's memtable key, as it is read
+-- what comes after the internal key of an entry's memtable key, as it is read
 pub read_value : (key internal rest : List ℕ) → key ≡ sized internal ++ rest → inner_value key ≡ inner_key rest
 read_value key internal rest e =
     let inner : inner_key key ≡ internal = ap inner_key e ∙ inner_key-sized internal rest in
@@ -299,7 +299,7 @@ grows {old} {new} {key} put entry e =
 
 -- ---- what a look-up among sorted memtable keys finds
 
--- where the first of two answers ties, the second decides
+-- where the first of two comparisons ties, the second decides
 tied_less : (r : Ordering) (s q : ℕ) → r ≡ Equal → ordering_then r (nat_cmp s q) ≡ Less → s < q
 tied_less Less s q e h = let f : ⊥ = cc in absurd f
 tied_less Equal s q e h = ranked s q Less (sym h)
@@ -317,7 +317,7 @@ first_not_greater Less s h = inl refl
 first_not_greater Equal s h = inr refl
 first_not_greater Greater s h = let f : ⊥ = cc in absurd f
 
--- an entry that is there stands at some place
+-- an entry that is there is at some index
 pub entry_place : (pairs : List Pair) (entry : Entry) → Contains (entries_in pairs) entry → (i : ℕ) × (i < length pairs) × (entry_from (key_at pairs i) ≡ entry)
 entry_place pairs entry there =
     let found = at_from_Contains (entries_in pairs) entry there in
@@ -341,7 +341,7 @@ entry_got pairs i h =
 same_some : {a b : Entry} → Some a ≡ Some b → a ≡ b
 same_some e = cc
 
--- what was got stands within
+-- what was got is within
 got_within : (pairs : List Pair) (i : ℕ) (entry : Entry) → slice_get (entries_in pairs) i ≡ Some entry → i < length pairs
 got_within pairs i entry e = omega (arith, slice_get_within (entries_in pairs) i entry e, length-map pairs (λ (pair : Pair). entry_from pair.0))
 
@@ -349,7 +349,7 @@ got_within pairs i entry e = omega (arith, slice_get_within (entries_in pairs) i
 abbrev pub as_of : (List ℕ → List ℕ → Ordering) → List ℕ → List ℕ → ℕ → Bool
 as_of cmp k user number = is_lt (ordering_then (cmp (user_part (inner_key k)) user) (nat_cmp number (sequence_part (inner_key k))))
 
--- there is no entry behind the last
+-- there is no entry after the last
 pub gives_nothing : (pairs : List Pair) (i : ℕ) (user : List ℕ) → length pairs ≤ i → GivesAt (entries_in pairs) i user None
 gives_nothing pairs i user h entry got same = let within = got_within pairs i entry got in omega (arith, within)
 
@@ -405,7 +405,7 @@ module _ {accepts : List ℕ → Bool} {cmp : List ℕ → List ℕ → Ordering
     counted : count_while test pairs ≡ place
     counted = count_before-is (memtable_cmp cmp) (sized internal) pairs
 
-    -- entries of the key that are looked for stand at the place or behind it
+    -- entries of the key that are looked for are at the index or after it
     seen : (i : ℕ) → (entry i).key ≡ user → (entry i).sequence ≤ limit → place ≤ i
     seen i e low = ⊎_elim
         (λ (lt : i < place).
@@ -442,7 +442,7 @@ module _ {accepts : List ℕ → Bool} {cmp : List ℕ → List ℕ → Ordering
             (cases_order i place);
       }
 
-      -- what stands there is the key's newest entry
+      -- what is there is the key's newest entry
       pub finds_entry : HasNewest (entries_in pairs) limit user (entry place).value
       finds_entry = record {
         entry = entry place;
@@ -465,7 +465,7 @@ module _ {accepts : List ℕ → Bool} {cmp : List ℕ → List ℕ → Ordering
             (cases_order i place);
       }
 
-    -- where no entry of the key stands there, it has none
+    -- where no entry of the key is there, it has none
     pub finds_none : (place < length pairs → (entry place).key ≢ user) → FindsNewest (entries_in pairs) limit user None
     finds_none other e there key low =
         let found = entry_place pairs e there in

@@ -1,5 +1,5 @@
 -- A reader of a log: what a source gives, and the records of a log one after another.
-use Rattle.std.proofs.Common.{◌≡◌, ℕ, List, [], ◌∷◌, ◌++◌, Result, refl, sym, subst, ◌∙◌, ap, append_assoc, append-nil, ◌+◌, ◌<◌, Bool, true, false, length, arith, suc, ◌-◌, ◌≤◌, take, drop, slice_range, zero-add, inr}
+use Rattle.std.proofs.Common.{Err, ◌≡◌, ℕ, List, [], ◌∷◌, ◌++◌, Result, refl, sym, subst, ◌∙◌, ap, append_assoc, append-nil, ◌+◌, ◌<◌, Bool, true, false, length, arith, suc, ◌-◌, ◌≤◌, take, drop, slice_range, zero-add, inr}
 use Rattle.std.specs.List.{concat}
 use Rattle.std.proofs.lemmas.List.Folds.{concat-append}
 use Rattle.std.specs.Prelude.{Option, None, Some, IfSome, IsTrue}
@@ -8,6 +8,7 @@ use Rattle.std.proofs.lemmas.List.{length-take-le, take-append-le, take_at, drop
 use Rattle.std.proofs.lemmas.Slice.{between_is}
 use Rattle.std.proofs.lemmas.List.Edits.{length-between}
 use Rattle.leveldb_base.specs.declared.error.Status.{Status}
+use Rattle.leveldb_base.specs.declared.error.StatusCode.TheVariants.{Corruption}
 use Rattle.leveldb_env.specs.Bytes.{Draws}
 use Rattle.leveldb_env.specs.Sources.{GivesSome, GivesAll, GivesUp, GivesFirst}
 use Rattle.leveldb_env.specs.SourceLaws.{GivesSome-none, GivesSome-first, GivesAll-first}
@@ -17,7 +18,7 @@ use Rattle.leveldb_env.specs.Disk.{bytes_of}
 use Rattle.leveldb_env.specs.OpenFiles.{opened, standing, ChangesOpened, ReadsLent, IsFurther}
 use Rattle.leveldb_env.specs.OpenFileLaws.{IsFurther-lent, IsReadOut-lent}
 use Rattle.leveldb_env.specs.Calls.{NoMemory}
-use Rattle.leveldb_mem.specs.Log.Reader.{IsUnreadThenGiven, HoldsOfRest, at_end, whatever_follows, ReaderState, IsTorn, FindsRecord, FindsEnd, FindsWrongChecksum, ReadSoFar}
+use Rattle.leveldb_mem.specs.Log.Reader.{IsUnreadThenGiven, HoldsOfRest, at_end, whatever_follows, ReaderState, IsTorn, FindsRecord, FindsEnd, FindsWrongChecksum, ReadSoFar, FailsToRead, ReadResult}
 use Rattle.leveldb_mem.specs.Log.{IsBlockSize, log_block_size, offset_after, IsRecord, End, clean, bad, Ends, LogOf, BreaksOff}
 use Rattle.leveldb_mem.specs.Log.Files.{IsReadAsLog}
 use Rattle.leveldb_mem.proofs.LogLemmas.{offset_after_both, offset_after_none, log_append}
@@ -45,7 +46,7 @@ module _ {S : Type 0} (gives : S → ℕ → Result (List ℕ) Status → S → 
   pub GivesUp-after : {from mid to : S} {these : List ℕ} {status : Status} → GivesSome gives from these mid → GivesUp gives mid status to → GivesUp gives from status to
   GivesUp-after {these = these} first second = record { mid = second.mid; bytes = these ++ second.bytes; given_before = GivesSome-trans first second.given_before; why = second.why }
 
-  -- bytes that come behind a front
+  -- bytes that come after a front
   joins : (unread given front rest more whole bytes : List ℕ) → whole ≡ unread ++ given → whole ≡ front ++ rest → bytes ≡ rest ++ more → front ++ bytes ≡ unread ++ (given ++ more)
   joins unread given front rest more whole bytes came cut next =
       ap (λ z. front ++ z) next ∙ sym (append_assoc front rest more) ∙ ap (λ z. z ++ more) (sym cut ∙ came) ∙ append_assoc unread given more
@@ -66,7 +67,7 @@ module _ {S : Type 0} (gives : S → ℕ → Result (List ℕ) Status → S → 
     bytes_are = joins unread first.given front rest second.given (front ++ rest) bytes first.bytes_are refl second.bytes_are;
   }
 
-  -- what shows behind a front shows of the whole
+  -- what shows after a front shows of the whole
   pub HoldsOfRest-after : {P Q : List ℕ → Type 0} {from mid to : S} {unread : List ℕ} (front rest : List ℕ) → IsUnreadThenGiven (GivesSome gives) unread from (front ++ rest) mid
       → ((bytes : List ℕ) → P bytes → Q (front ++ bytes)) → HoldsOfRest gives P rest mid to → HoldsOfRest gives Q unread from to
   HoldsOfRest-after front rest first so (at_end bytes second holds) = at_end (front ++ bytes) (UnreadThenGivenAll-after front first second) (so bytes holds)
@@ -124,7 +125,7 @@ module _ {S : Type 0} (gives : S → ℕ → Result (List ℕ) Status → S → 
     pub ReadSoFar-clean : FindsEnd gives now at new to → HoldsOfRest gives (LogOf checked size records clean 0) [] from to
     ReadSoFar-clean finds = at_end (front ++ []) (UnreadThenGivenAll-after gives front has.come finds.come) (subst (LogOf checked size records clean 0) (sym (append-nil front)) has.log)
 
-    -- a log that ends badly behind these records
+    -- a log that ends badly after these records
     ends_badly : (rest : List ℕ) → Ends checked size bad (offset_after size 0 front) rest → LogOf checked size records bad 0 (front ++ rest)
     ends_badly rest ends = subst (λ z. LogOf checked size z bad 0 (front ++ rest)) (append-nil records) (log_append size block.least checked 0 start records [] front rest bad has.log ends)
 
@@ -163,7 +164,7 @@ if_some None so is = tt
 if_some (Some x) so is = so x is
 
 module _ {E F : Type 0} (env : Ghosts E F) where
-  -- of a file that is lent, from its offset on
+  -- of a file that is borrowed, from its offset on
   pub HoldsOfRest-borrowed : {P : List ℕ → Type 0} {from to : EnvFile E F} → HoldsOfRest (ReadsLent env) P [] from to
       → (bytes : List ℕ) × ChangesOpened (λ old new. IsFurther env old bytes new) from to
       × (IsTrue env.tells_disk → IfSome (standing env (opened from.env.now from.file.now)) (λ file. P (drop (env.place_of from.file.now) (bytes_of file))))
@@ -184,7 +185,7 @@ module _ {E F : Type 0} (env : Ghosts E F) where
       let read = HoldsOfRest-borrowed shows in
       record { changes = record { bytes = read.0; further = read.1.changes; log = read.2 }; same_env = read.1.same_env; same_file = read.1.same_file }
 
--- ---- parts of lists: what stands between two places of a buffer
+-- ---- parts of lists: what is between two offsets of a buffer
 
 -- a front with some of what follows it
 pub take-append-add : (front rest : List ℕ) (n : ℕ) → take (length front + n) (front ++ rest) ≡ front ++ take n rest
@@ -194,7 +195,7 @@ take-append-add (x ∷ front) rest n =
     ap (λ k. take k (x ∷ (front ++ rest))) more ∙ ap (λ z. x ∷ z) (take-append-add front rest n)
 
 module _ (xs ys : List ℕ) (from at count : ℕ) where
-  -- after a write behind a offset, what stood before it stands there still
+  -- after a write after an offset, what was before it is there still
   pub take-appended : at ≤ length xs → from ≤ at → take from (put_mid at count xs ys) ≡ take from xs
   take-appended inside before =
       take-append-le from (take at xs) (ys ++ post_of at count xs) (omega (arith, length-take-le at xs inside)) ∙ take-take from at xs before
@@ -208,7 +209,7 @@ module _ (xs ys : List ℕ) (from at count : ℕ) where
       ∙ ap (drop from) (ap (λ k. take (k + n) written) (sym front) ∙ take-append-add (take at xs) (ys ++ post_of at count xs) n ∙ ap (λ z. take at xs ++ z) (take-append-le n ys (post_of at count xs) few))
       ∙ drop-append-le from (take at xs) (take n ys) (omega arith) ∙ ap (λ z. z ++ take n ys) (sym (between_is xs from at))
 
-  -- what stood before the offset is the same
+  -- what was before the offset is the same
   pub range-appended_all : at ≤ length xs → from ≤ at → slice_range (put_mid at count xs ys) from at ≡ slice_range xs from at
   range-appended_all inside before =
       between_is (put_mid at count xs ys) from at ∙ ap (drop from) (take_at (take at xs) (ys ++ post_of at count xs) at (length-take-le at xs inside)) ∙ sym (between_is xs from at)
@@ -222,7 +223,7 @@ range-split xs from mid to first second inside =
     ∙ ap (drop from) (ap (λ n. take n xs) reach ∙ ap (take (length (take mid xs) + (to - mid))) (sym (take-append-drop mid xs)) ∙ take-append-add (take mid xs) (drop mid xs) (to - mid))
     ∙ drop-append-le from (take mid xs) (take (to - mid) (drop mid xs)) (omega arith) ∙ ap (λ z. z ++ slice_range xs mid to) (sym (between_is xs from mid))
 
--- what stands behind the same front
+-- what comes after the same front
 pub range-more : (xs ys : List ℕ) (from mid to : ℕ) → from ≤ mid → mid ≤ to → mid ≤ length ys → take mid ys ≡ take mid xs → slice_range ys from to ≡ slice_range xs from mid ++ slice_range ys mid to
 range-more xs ys from mid to first second inside same =
     range-split ys from mid to first second inside ∙ ap (λ z. z ++ slice_range ys mid to) (between_is ys from mid ∙ ap (drop from) same ∙ sym (between_is xs from mid))
@@ -240,7 +241,7 @@ same_reader r p q these those e d = ap (λ z. record r { offset = z; unread = th
 -- what was read into a buffer, whose front stays as it was
 module _ (old held new stored : List ℕ) (used filled count : ℕ) (read : used ≤ filled) (more : filled ≤ count) (inside : count ≤ length new)
     (front : take filled held ≡ take filled old) (kept : take filled new ≡ take filled held) (is_stored : stored ≡ new) where
-  -- comes behind what was there
+  -- comes after what was there
   pub came : {S : Type 0} (Gives : S → List ℕ → S → Type 0) (source to : S) (unread : List ℕ) → slice_range old used filled ≡ unread → Gives source (slice_range new filled count) to
       → IsUnreadThenGiven Gives unread source (slice_range stored used count) to
   came Gives source to unread unread_is gives = record {
@@ -255,3 +256,12 @@ module _ (old held new stored : List ℕ) (used filled count : ℕ) (read : used
 -- memory was wanted before any read
 pub wants_memory : {S : Type 0} (gives : S → ℕ → Result (List ℕ) Status → S → Type 0) (source : S) (status : Status) → NoMemory status → GivesUp gives source status source
 wants_memory gives source status memory = record { mid = source; bytes = []; given_before = GivesSome-none gives source; why = inr (refl, memory) }
+
+-- ---- a read that fails
+
+-- what an error of a read has to say
+pub read_failed : {S : Type 0} (gives : S → ℕ → Result (List ℕ) Status → S → Type 0) (old : ReaderState) (source : S) (result : Result ℕ Status) (status : Status) (text : List ℕ) (new : ReaderState) (to : S)
+    → result ≡ Err status → text ≡ [] → (old.failed ≡ false → FailsToRead gives old source status new to)
+    → (old.failed ≡ true → (status.code ≡ Corruption) × (new ≡ old) × (to ≡ source)) → ReadResult gives old source result text new to
+read_failed gives old source result status text new to e none fails failed =
+    subst (λ r. ReadResult gives old source r text new to) (sym e) (record { count = tt; found = tt; end = λ ok. absurd (cc); err = fails; failed = failed; cleared = none })

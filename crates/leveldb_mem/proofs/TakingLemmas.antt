@@ -137,7 +137,7 @@ module _ (old : ReaderState) (count : ℕ) (wide : 7 ≤ old.size - old.offset) 
     pub passes_damaged : (fragment : List ℕ) → fragment ≡ front → old.checked ≡ true → (HasRightChecksum fragment → ⊥) → PassesDamaged old new
     passes_damaged fragment is_front asked = subst (λ z. (HasRightChecksum z → ⊥) → PassesDamaged old new) (sym is_front) (damaged_passed asked)
 
--- ---- what comes in offset of a fragment
+-- ---- what comes in place of a fragment
 
 pub some_from_length : (bytes : List ℕ) → 0 < length bytes → bytes ≢ []
 some_from_length bytes some e = (let none = ap length e in omega arith)
@@ -249,7 +249,7 @@ module _ {S : Type 0} (gives : S → ℕ → Result (List ℕ) Status → S → 
   takes_passed bytes come reader End passes = elim passes [ ]
   takes_passed bytes come reader (Damage cause) passes = elim passes [ ]
 
--- ---- what comes behind the filler at a block's end
+-- ---- what comes after the filler at a block's end
 
 module _ (size offset : ℕ) (large : 8 ≤ size) (narrow : size - offset < 7) (inside : offset < size) where
   abbrev zeros : List ℕ
@@ -258,7 +258,7 @@ module _ (size offset : ℕ) (large : 8 ≤ size) (narrow : size - offset < 7) (
   same_room : room size 0 ≡ room size offset
   same_room = room-fits size 0 (omega arith) ∙ (let same : size - 0 - 7 ≡ size - 7 = omega arith in same) ∙ sym (room-ends size offset narrow)
 
-  -- the offset behind filler and a front
+  -- the offset after filler and a front
   pub after_zeros : (front : List ℕ) → offset_after size 0 front ≡ offset_after size offset (zeros ++ front)
   after_zeros front =
       let count = length-filler size offset narrow inside in
@@ -271,11 +271,11 @@ module _ (size offset : ℕ) (large : 8 ≤ size) (narrow : size - offset < 7) (
     at_start : (front : List ℕ) (is : IsFragment checked size f 0 front) → front ≡ fragment_bytes is.sum f
     at_start front is = is.bytes_are ∙ ap (λ z. z ++ fragment_bytes is.sum f) (filler-fits size 0 (omega arith))
 
-    -- a fragment at a block's start stands behind filler too
+    -- a fragment at a block's start comes after filler too
     pub fragment_after : (front : List ℕ) → IsFragment checked size f 0 front → IsFragment checked size f offset (zeros ++ front)
     fragment_after front is = record { sum = is.sum; within = subst (λ n. length f.part ≤ n) same_room is.within; summed = is.summed; bytes_are = ap (λ z. zeros ++ z) (at_start front is) }
 
-    -- and one behind filler at a block's start
+    -- and one after filler at a block's start
     pub fragment_before : (front : List ℕ) (is : IsFragment checked size f offset front) → IsFragment checked size f 0 (fragment_bytes is.sum f)
     fragment_before front is = record {
       sum = is.sum;
@@ -288,7 +288,7 @@ module _ (size offset : ℕ) (large : 8 ≤ size) (narrow : size - offset < 7) (
   unfolding fragment_after
   damaged_after f front is = record { unchecked = fragment_after false f front is.unchecked; wrong = is.wrong }
 
-  -- no fragment behind filler is none
+  -- no fragment after filler is none
   pub none_after_zeros : (bytes : List ℕ) → IsNoFragment size 0 bytes → IsNoFragment size offset (zeros ++ bytes)
   none_after_zeros bytes none = record {
     some = some_from_length (zeros ++ bytes) (omega (arith, length-append zeros bytes, length-filler size offset narrow inside));
@@ -307,7 +307,7 @@ module _ {S : Type 0} (gives : S → ℕ → Result (List ℕ) Status → S → 
       reader ∙ ap {B = ReaderState} (λ r. record r { offset = offset_after r.size r.offset front; unread = new.unread }) skips.reader
       ∙ ap (λ offset. record old { offset = offset; unread = new.unread }) (after_zeros old.size old.offset large narrow inside front)
 
-  -- what is taken behind filler, and isn't the end, is taken with it
+  -- what is taken after filler, and isn't the end, is taken with it
   pub takes_after : (taken : Taken) (text after : List ℕ) → (taken ≡ End → ⊥) → TakesNext gives taken mid s text new to after → TakesNext gives taken old source text new to after
   takes_after (Part type) text after more takes =
       let passes = takes.passes in
@@ -344,7 +344,7 @@ module _ {S : Type 0} (gives : S → ℕ → Result (List ℕ) Status → S → 
       (λ bytes none. none_after_zeros old.size old.offset large narrow inside bytes (subst (λ r. IsNoFragment r.size r.offset bytes) skips.reader none)) takes
   takes_after End text after more takes = absurd (more refl)
 
-  -- nothing behind filler is no end
+  -- nothing after filler is no end
   pub no_end_after : FindsEnd gives mid s new to → HoldsOfRest gives (IsNoFragment old.size old.offset) old.unread source to
   no_end_after ends =
       let count = length-filler old.size old.offset narrow inside in

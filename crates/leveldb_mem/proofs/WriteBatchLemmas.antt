@@ -2,26 +2,23 @@
 use Rattle.std.proofs.Common.{◌≡◌, ℕ, ◌+◌, ◌*◌, ◌^◌, ◌<◌, ◌≤◌, List, [], ◌∷◌, ◌++◌, length, flat_map, Option, Some, None, refl, sym, ◌∙◌, ap, arith, append_assoc, length-append, ◌-◌, take, drop, replicate, Result, Ok, Err, inl, inr, subst, length-drop, ◌≢◌, ◌↔◌, IsTrue, eqb, eq-eqb, get_or}
 use Rattle.std.specs.List.{All}
 use Rattle.std.proofs.lemmas.List.Elements.{All-nil, All-cons, All-drop, All-from_get_or}
-use Rattle.std.specs.Coded.{Coded-set, coded_list, coded_ℕ}
-use Rattle.std.proofs.Props.{props}
 use Rattle.std.proofs.lemmas.List.{take_at, drop_at, take-append-le, drop-append-le, append-nil, take-append-drop}
 use Rattle.std.proofs.lemmas.List.Concat.{flat_map-append}
 use Rattle.std.proofs.lemmas.Bool.{cases_lt, eqb-true}
 use Rattle.std.specs.Prelude.{IsErrAnd, OnErr}
 use Rattle.std.proofs.lemmas.List.Folds.{drop_split}
 use Rattle.std.specs.Option.{option_eq}
-use mathlib.Core.HLevel.{Σ_prop_path}
-use Rattle.byteorder.specs.Endian.{little_from, little_number}
+use Rattle.byteorder.specs.Endian.{little_number}
 use Rattle.byteorder.specs.Numbers.{little_number-reads_back, length-bytes_low_first, little_from-lt}
 use Rattle.leveldb_base.specs.History.{Item}
 use Rattle.leveldb_base.specs.Varint.{little, sized, ReadsSized}
-use Rattle.leveldb_base.proofs.VarintLemmas.{apart, one_sized, length-varint-pos, little-little_number}
+use Rattle.leveldb_base.proofs.VarintLemmas.{one_sized, little-little_number}
 use Rattle.leveldb_base.specs.Error.{IsOutOfMemory}
 use Rattle.leveldb_base.specs.declared.error.Status.{Status}
 use Rattle.leveldb_base.specs.declared.error.StatusCode.TheVariants.{InvalidArgument}
 use Rattle.leveldb_mem.specs.WriteBatch.{item_of, batch_of, change_encoding, entry_bytes, batch_bytes, BatchOf, Batch, IsBatch, IsShort, AreEntries, with_item, IsTooLong, ReadsEntry, CountsEntries}
-use Rattle.leveldb_mem.specs.Laws.{OneBatchReading, OneBatchEncoding, EachShort, CountFits}
-use Rattle.leveldb_mem.specs.WriteBatchLaws.{BatchOf-one, one_list, length-entry_bytes-ge, IsBatch-prop, one_entry, AreEntries-prop}
+use Rattle.leveldb_mem.specs.Laws.{EachShort, CountFits}
+use Rattle.leveldb_mem.specs.WriteBatchLaws.{one_list, length-entry_bytes-ge, IsBatch-prop, one_entry, AreEntries-prop}
 
 -- ---- limits
 
@@ -48,7 +45,7 @@ length-batch_bytes first items =
 pub length-batch : {bytes : List ℕ} {first : ℕ} {items : List Item} → BatchOf bytes first items → length bytes ≡ 12 + length (flat_map entry_bytes items)
 length-batch {bytes} {first} {items} batch = ap length batch.encoded ∙ length-batch_bytes first items
 
--- there are fewer items than a number of 32 bits tells
+-- there are fewer items than a number of 32 bits says
 pub length-items-le : {bytes : List ℕ} {first : ℕ} {items : List Item} → BatchOf bytes first items → 2 * length items + 12 ≤ 2 ^ 30
 length-items-le {items = items} batch = omega (arith, length-batch batch, batch.limited, length-entries-ge items)
 
@@ -78,7 +75,7 @@ items_short bytes first items batch = short_entries items (omega (arith, length-
 
 -- ---- what a batch's bytes tell, and what a change of them makes of the batch
 
--- a part behind two fronts
+-- a part after two fronts
 after_two : (a b x : List ℕ) (i j : ℕ) → length a ≡ i → length a + length b ≡ j → (take i (a ++ (b ++ x)) ≡ a) × (drop i (a ++ (b ++ x)) ≡ b ++ x) × (drop j (a ++ (b ++ x)) ≡ x)
 after_two a b x i j e f = (
   take_at a (b ++ x) i e,
@@ -95,17 +92,17 @@ parts first items = after_two (little 8 first) (little 4 (length items)) (flat_m
     (length-bytes_low_first 0 8 first) (omega (arith, length-bytes_low_first 0 8 first, length-bytes_low_first 0 4 (length items)))
 
 module _ {bytes : List ℕ} {first : ℕ} {items : List Item} (batch : BatchOf bytes first items) where
-  -- what stands behind the header
+  -- what comes after the header
   pub entries_there : drop 12 bytes ≡ flat_map entry_bytes items
   entries_there = ap (λ z. drop 12 z) batch.encoded ∙ (parts first items).2
 
-  -- the number that the header tells
+  -- the number that the header says
   pub first_there : little_number 8 bytes ≡ first
   unfolding batch_bytes
   first_there = ap (λ z. little_number 8 z) batch.encoded
       ∙ little_number-reads_back 8 first (little 4 (length items) ++ flat_map entry_bytes items) batch.numbered
 
-  -- the count that the header tells
+  -- the count that the header says
   pub count_there : little_number 4 (drop 8 bytes) ≡ length items
   count_there = ap (λ z. little_number 4 (drop 8 z)) batch.encoded ∙ ap (λ z. little_number 4 z) (parts first items).1
       ∙ little_number-reads_back 4 (length items) (flat_map entry_bytes items) (omega (arith, length-items-le batch))
@@ -125,7 +122,7 @@ module _ {bytes : List ℕ} {first : ℕ} {items : List Item} (batch : BatchOf b
       let more = flat_map-append entry_bytes items (item ∷ []) ∙ ap (λ z. flat_map entry_bytes items ++ z) (append-nil (entry_bytes item)) in
       omega (arith, length-batch_bytes first (items ++ item ∷ []), ap length more, length-append (flat_map entry_bytes items) (entry_bytes item), length-batch batch)
 
-  -- one more item, where its bytes stand behind the others and the header counts it
+  -- one more item, where its bytes come after the others and the header counts it
   pub one_more : (item : Item) → length bytes + length (entry_bytes item) ≤ 2 ^ 30
       → BatchOf (take 8 (bytes ++ entry_bytes item) ++ (little 4 (length items + 1) ++ drop 12 (bytes ++ entry_bytes item))) first (items ++ item ∷ [])
   unfolding batch_bytes
@@ -145,11 +142,11 @@ module _ {bytes : List ℕ} {first : ℕ} {items : List Item} (batch : BatchOf b
         limited = omega (arith, ap length encoded, length-one_more item, h);
       }
 
--- a vector of so many bytes whose bytes were lent and are now these
+-- a vector of so many bytes whose bytes were borrowed and are now these
 refilled : (len : ℕ) (written bytes : List ℕ) → length written ≡ len → take len (written ++ drop (length written) bytes) ≡ written
 refilled len written bytes e = take_at written (drop (length written) bytes) len e
 
--- a batch whose bytes were lent to write another number
+-- a batch whose bytes were borrowed to write another number
 pub renumbered : {bytes lent written : List ℕ} {first : ℕ} {items : List Item} (len n : ℕ) → BatchOf bytes first items → n < 2 ^ 64 → len ≡ length bytes
     → lent ≡ bytes → written ≡ little 8 n ++ drop 8 lent → BatchOf (take len (written ++ drop (length written) bytes)) n items
 renumbered {bytes} {lent} {written} {first} {items} len n batch h size e f =
@@ -163,7 +160,7 @@ pub empty_batch : {bytes : List ℕ} → bytes ≡ replicate 12 0 → BatchOf by
 unfolding batch_bytes
 empty_batch e = record { encoded = e; numbered = omega arith; limited = omega (arith, ap length e) }
 
--- bytes stand for the batch that they are
+-- bytes encode the batch that they are
 pub batch_is : {bytes : List ℕ} (read : IsBatch bytes) (batch : Batch) → BatchOf bytes batch.first batch.items → read.0 ≡ batch
 batch_is {bytes} read batch encoded = ap (λ z. z.0) (IsBatch-prop bytes read (batch, encoded))
 
@@ -183,7 +180,7 @@ module _ {bytes : List ℕ} {batch : Batch} (read : BatchOf bytes batch.first ba
   pub not_too_long : length (entry_bytes item) ≤ 2 ^ 30 - len → IsTooLong (with_item batch item) → ⊥
   not_too_long h long = omega (arith, h, long, whole, read.limited, length-one_more read item)
 
--- a batch whose bytes were lent to count one more item, which stands behind the others
+-- a batch whose bytes were borrowed to count one more item, which comes after the others
 pub counted : {bytes grown lent written : List ℕ} {batch : Batch} (len count : ℕ) (item : Item) → BatchOf bytes batch.first batch.items
     → length bytes + length (entry_bytes item) ≤ 2 ^ 30 → count ≡ length batch.items → grown ≡ bytes ++ entry_bytes item → len ≡ length grown → lent ≡ grown
     → written ≡ take 8 lent ++ (little 4 (count + 1) ++ drop 12 lent) → BatchOf (take len (written ++ drop (length written) grown)) batch.first (batch.items ++ item ∷ [])
@@ -196,7 +193,7 @@ counted {bytes} {grown} {lent} {written} {batch} len count item read fits n g si
     omega (arith, ap length whole, ap length made.encoded, length-one_more read item, ap length g, length-append bytes (entry_bytes item), size) in
     subst (λ z. BatchOf z batch.first (batch.items ++ item ∷ [])) (sym (refilled len written grown long ∙ whole)) made
 
--- a want of memory is no wrong argument
+-- out of memory is no wrong argument
 pub other_cause : {T : Type 0} (r : Result T Status) → IsErrAnd r IsOutOfMemory → IsErrAnd r (λ status. status.code ≡ InvalidArgument) → ⊥
 other_cause (Ok x) h k = absurd h
 other_cause (Err e) h k = let a = h.0 in cc
@@ -206,13 +203,13 @@ pub OnErr-always : {T E P : Type 0} (r : Result T E) → P → OnErr r P
 OnErr-always (Ok x) h = tt
 OnErr-always (Err e) h = h
 
--- ---- what reading entries, one behind the other, finds
+-- ---- what reading entries, one after the other, finds
 
--- a text that stands there is no longer than the bytes
+-- a text that is there is no longer than the bytes
 length-sized-le : (text more bytes : List ℕ) → bytes ≡ sized text ++ more → length text ≤ length bytes
 length-sized-le text more bytes e = omega (arith, ap length e, length-append {A = ℕ})
 
--- where no key stands behind the kind, there is no entry
+-- where no key comes after the kind, there is no entry
 no_key : (kind : ℕ) (rest : List ℕ) → length rest < 2 ^ 64 → ReadsSized rest None → (key : List ℕ) (value : Option (List ℕ)) (more : List ℕ) → kind ∷ rest ≡ change_encoding key value ++ more → ⊥
 no_key kind rest fits none key (Some value) more e =
     let tail : rest ≡ (sized key ++ sized value) ++ more = cc in
@@ -222,7 +219,7 @@ no_key kind rest fits none key None more e =
     let tail : rest ≡ sized key ++ more = cc in
     none key more (omega (arith, fits, length-sized-le key more rest tail)) tail
 
--- where no value stands behind the key, there is no entry that has one
+-- where no value comes after the key, there is no entry that has one
 no_value : (key rest after : List ℕ) → length rest < 2 ^ 64 → rest ≡ sized key ++ after → ReadsSized after None → (j : List ℕ) (value : Option (List ℕ)) (more : List ℕ) → 1 ∷ rest ≡ change_encoding j value ++ more → ⊥
 no_value key rest after fits front none j (Some value) more e =
     let tail : rest ≡ (sized j ++ sized value) ++ more = cc in
@@ -302,7 +299,7 @@ module _ {bytes rest : List ℕ} {count : ℕ} (read : HasRead bytes rest count)
 pub shorter : {rest : List ℕ} (item : Item) (others : List ℕ) → rest ≡ entry_bytes item ++ others → length others < length rest
 shorter item others e = omega (arith, ap length e, length-append (entry_bytes item) others, length-entry_bytes-ge item)
 
--- bytes with a header are the numbers that it tells, and what stands behind it
+-- bytes with a header are the numbers that it says, and what comes after it
 header_again : (bytes : List ℕ) → 12 ≤ length bytes → All (λ b. b < 256) bytes → bytes ≡ little 8 (little_number 8 bytes) ++ (little 4 (little_number 4 (drop 8 bytes)) ++ drop 12 bytes)
 header_again bytes long small =
     sym (take-append-drop 8 bytes)
@@ -311,7 +308,7 @@ header_again bytes long small =
     ∙ ap (λ z. little 8 (little_number 8 bytes) ++ (z ++ drop 12 bytes))
     (sym (little-little_number 4 (drop 8 bytes) (omega (arith, long, length-drop 8 bytes)) (All-drop (λ b. b < 256) 8 bytes small)))
 
--- where entries stand behind the header, as many as it counts, the bytes are a batch
+-- where entries come after the header, as many as it counts, the bytes are a batch
 batch_by_count : (bytes : List ℕ) → 12 ≤ length bytes → length bytes ≤ 2 ^ 30 → ((i : ℕ) → get_or bytes i 0 < 256)
     → CountsEntries (drop 12 bytes) (Some (little_number 4 (drop 8 bytes))) → IsBatch bytes
 unfolding batch_bytes
@@ -352,7 +349,7 @@ batch_fits read = (omega (arith, length-batch read.1), read.1.limited)
 pub entries_seen : {bytes : List ℕ} (read : AreEntries bytes) {items : List Item} → read.0 ≡ items → bytes ≡ flat_map entry_bytes items
 entries_seen read e = read.1 ∙ ap (λ z. flat_map entry_bytes z) e
 
--- bytes stand for the entries that they are
+-- bytes encode the entries that they are
 pub entries_are : {bytes : List ℕ} (read : AreEntries bytes) (items : List Item) → bytes ≡ flat_map entry_bytes items → read.0 ≡ items
 entries_are {bytes} read items e = ap (λ z. z.0) (AreEntries-prop bytes read (items, e))
 
@@ -372,7 +369,7 @@ first_left (first ∷ items) e item others f =
     let same = one_entry first item (flat_map entry_bytes items) others (sym e ∙ f) in
     (items, sym same.1, ap (λ z. z ∷ items) same.0)
 
--- the others are what an iterator over what follows stands for
+-- the others are what an iterator over what follows encodes
 pub others_left : {others : List ℕ} {items more : List Item} {item : Item} → items ≡ item ∷ more → others ≡ flat_map entry_bytes more → (read : AreEntries others) → items ≡ item ∷ read.0
 others_left {others} {items} {more} {item} e f read = e ∙ ap (λ z. item ∷ z) (sym (entries_are read more f))
 

@@ -42,7 +42,7 @@ module _ (size : ℕ) where
         | false ↦ λ e. (let long = leb-false (length rest) (room size offset) e in absurd (omega arith))
       ] refl
 
-  -- a fragment that fills its block stands before the framing of what is left
+  -- a fragment that fills its block comes before the framing of what is left
   within_next : (fragments : ℕ) (first : Bool) (rest : List ℕ) (offset : ℕ) → room size offset < length rest
       → framed_within (suc fragments) size first rest offset
       ≡ fragment_at size (fragment_of (record_type first false) (take (room size offset) rest)) offset ++ framed_within fragments size false (drop (room size offset) rest) 0
@@ -68,7 +68,7 @@ module _ (size : ℕ) where
         by_fragments zero few is = absurd (omega (arith, going.some))
         by_fragments (suc fragments) few is = ap (λ z. put ++ z) (sym (within_last fragments first rest offset short)) ∙ is
 
-    -- behind a fragment that fills its block the rest goes on in the next
+    -- after a fragment that fills its block the rest goes on in the next
     pub goes_on : 8 ≤ size → (part others after : List ℕ) → room size offset < length rest → part ≡ take (room size offset) rest → others ≡ drop (room size offset) rest
         → after ≡ put ++ fragment_at size (fragment_of (record_type first false) part) offset → GoesOn size whole after false others 0
     goes_on large part others after long part_is others_is after_is = by_fragments going.fragments going.few going.whole_is

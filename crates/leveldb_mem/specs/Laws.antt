@@ -1,5 +1,5 @@
 -- What holds of every log and of every batch: the statements that the contracts of module `laws` name.
-use Rattle.std.specs.Prelude.{◌^◌, ◌≡◌, ◌≢◌, ℕ, ◌+◌, ◌<◌, ◌≤◌, ◌⊎◌, Bool, true, List, [], ◌∷◌, ◌++◌, length, take, drop, All}
+use Rattle.std.specs.Prelude.{◌^◌, ◌≡◌, ◌≢◌, ℕ, ◌+◌, ◌<◌, ◌≤◌, ◌⊎◌, Bool, true, List, [], ◌∷◌, ◌++◌, length, take, All}
 use Rattle.leveldb_base.specs.History.{Item}
 use Rattle.leveldb_mem.specs.Log.{IsBlockSize, log_block_size, offset_after, End, clean, bad, LogOf, IsLogFile, IsFramedRecord, IsFramed, framed_record, framed, frame_at, BreaksOff, FragmentAt, HonestTail}
 use Rattle.leveldb_mem.specs.WriteBatch.{BatchOf, IsShort}
@@ -64,12 +64,12 @@ OneFraming = (size offset : ℕ) (records : List (List ℕ)) (these those : List
 abbrev pub FramingReads : Type 0
 FramingReads = (checked : Bool) (size offset : ℕ) (records : List (List ℕ)) (bytes : List ℕ) → IsFramed size records offset bytes → LogOf checked size records clean offset bytes
 
--- a log behind a clean end goes on with its records
+-- a log after a clean end goes on with its records
 abbrev pub LogsAppend : Type 0
 LogsAppend = (checked : Bool) (size offset : ℕ) (records others : List (List ℕ)) (front rest : List ℕ) (end : End) → IsBlockSize size → offset < size
     → LogOf checked size records clean offset front → LogOf checked size others end (offset_after size offset front) rest → LogOf checked size (records ++ others) end offset (front ++ rest)
 
--- a framing behind another is the framing of both lists
+-- a framing after another is the framing of both lists
 abbrev pub FramingsAppend : Type 0
 FramingsAppend = (size offset : ℕ) (records others : List (List ℕ)) (front rest : List ℕ) → IsBlockSize size → offset < size
     → IsFramed size records offset front → IsFramed size others (offset_after size offset front) rest → IsFramed size (records ++ others) offset (front ++ rest)
@@ -80,7 +80,7 @@ FramingsAppend = (size offset : ℕ) (records others : List (List ℕ)) (front r
 abbrev pub CutIsHonest : Type 0
 CutIsHonest = (size : ℕ) (front rest : List ℕ) → HonestTail size (front ++ rest) front
 
--- Of a log whose last bytes may be missing, as a refused append leaves it, an honest crash leaves the first of the records that stood:
+-- Of a log whose last bytes may be missing, as a refused append leaves it, an honest crash leaves the first of the records that were there:
 -- at least those that the kept bytes read as.
 abbrev pub CrashLeaves : Type 0
 CrashLeaves = (size : ℕ) (kept since missing tail : List ℕ) (first stood records found : List (List ℕ)) (first_end stood_end found_end : End) → IsBlockSize size
@@ -92,18 +92,18 @@ CrashLeaves = (size : ℕ) (kept since missing tail : List ℕ) (first stood rec
 pub record LogLaws : Type 0 where
   -- bytes are one list of records
   pub one : (bytes : List ℕ) (these those : List (List ℕ)) (e1 e2 : End) → IsLogFile bytes these e1 → IsLogFile bytes those e2 → (these ≡ those) × (e1 ≡ e2)
-  -- a fragment stands within the bytes
+  -- a fragment is within the bytes
   pub fits : (bytes : List ℕ) (offset n : ℕ) → FragmentAt log_block_size bytes offset n → offset + n ≤ length bytes
-  -- behind a clean end the frame of a record is one record more
+  -- after a clean end the frame of a record is one record more
   pub more : (bytes : List ℕ) (records : List (List ℕ)) (text : List ℕ) → text ≢ [] → IsLogFile bytes records clean → IsLogFile (bytes ++ frame_at (length bytes) text) (records ++ text ∷ []) clean
-  -- a beginning of the frame is no record, or that one, and one that isn't whole is none
+  -- a prefix of the frame is no record, or that one, and one that isn't whole is none
   pub part : (bytes : List ℕ) (records : List (List ℕ)) (text : List ℕ) (n : ℕ) → text ≢ [] → IsLogFile bytes records clean
       → (found : List (List ℕ)) × (e : End) × IsLogFile (bytes ++ take n (frame_at (length bytes) text)) found e × ((found ≡ records) ⊎ (found ≡ records ++ text ∷ []))
       × (n < length (frame_at (length bytes) text) → found ≡ records)
-  -- for each number of records, from those that a front has on, a longer front has just these
+  -- for each number of records, from those that a front has on, a longer front has exactly these
   pub cut : (front rest : List ℕ) (first records : List (List ℕ)) (e1 e2 : End) (n : ℕ) → IsLogFile front first e1 → IsLogFile (front ++ rest) records e2 → length first ≤ n → n ≤ length records
       → (k : ℕ) × (e : End) × IsLogFile (front ++ take k rest) (take n records) e
-  -- an honest tail behind a front gives the first of the records that stood
+  -- an honest tail after a front gives the first of the records that were there
   pub torn : (front rest tail : List ℕ) (first records stood : List (List ℕ)) (text : List ℕ) (n : ℕ) (e1 e2 : End) → text ≢ [] → IsLogFile front first e1 → IsLogFile (front ++ rest) records clean
       → let whole = front ++ rest ++ take n (frame_at (length (front ++ rest)) text) in
       IsLogFile whole stood e2 → length (front ++ tail) ≤ length whole → HonestTail log_block_size whole (front ++ tail)

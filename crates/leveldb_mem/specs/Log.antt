@@ -23,7 +23,7 @@ pub record IsBlockSize (size : ℕ) : Type 0 where
 abbrev pub header_size : ℕ
 header_size = 7
 
--- what stands before a fragment at this offset of a block: nothing, or zeros to the block's end where no header fits
+-- what comes before a fragment at this offset of a block: nothing, or zeros to the block's end where no header fits
 abbrev pub filler : ℕ → ℕ → List ℕ
 filler size offset = elim (nat_lt (size - offset) header_size) [ true ↦ replicate (size - offset) 0 | false ↦ [] ]
 
@@ -31,7 +31,7 @@ filler size offset = elim (nat_lt (size - offset) header_size) [ true ↦ replic
 abbrev pub room : ℕ → ℕ → ℕ
 room size offset = (if nat_lt (size - offset) header_size then size else size - offset) - header_size
 
--- the offset in its block behind some bytes
+-- the offset in its block after some bytes
 abbrev pub offset_after : ℕ → ℕ → List ℕ → ℕ
 offset_after size offset bytes = (offset + length bytes) % size
 
@@ -53,7 +53,7 @@ abbrev pub IsChecksum : Bool → Fragment → List ℕ → Type 0
 IsChecksum true fragment sum = sum ≡ checksum fragment
 IsChecksum false fragment sum = length sum ≡ 4
 
--- a fragment's bytes behind this checksum
+-- a fragment's bytes after this checksum
 unfoldable pub fragment_bytes : List ℕ → Fragment → List ℕ
 fragment_bytes sum fragment = sum ++ (little 2 (length fragment.part) ++ fragment.type ∷ fragment.part)
 
@@ -68,7 +68,7 @@ pub record IsFragment (checked : Bool) (size : ℕ) (fragment : Fragment) (offse
 abbrev pub NoFragment : Bool → ℕ → ℕ → List ℕ → Type 0
 NoFragment checked size offset bytes = (f : Fragment) (front more : List ℕ) → bytes ≡ front ++ more → IsFragment checked size f offset front → ⊥
 
--- from this offset on the bytes are a front, and behind it a rest
+-- from this offset on the bytes are a front, and after it a rest
 pub record IsFrontAndRest (size : ℕ) (IsFront IsRest : ℕ → List ℕ → Type 0) (offset : ℕ) (bytes : List ℕ) : Type 0 where
   pub front : List ℕ
   pub rest : List ℕ
@@ -177,7 +177,7 @@ frame_at offset text = framed_record log_block_size text (offset % log_block_siz
 
 -- ---- a wrong checksum
 
--- from this offset on the bytes are filler and the fragment within its block, behind four bytes that aren't its checksum
+-- from this offset on the bytes are filler and the fragment within its block, after four bytes that aren't its checksum
 pub record IsDamaged (size : ℕ) (fragment : Fragment) (offset : ℕ) (bytes : List ℕ) : Type 0 where
   pub unchecked : IsFragment false size fragment offset bytes
   pub wrong : unchecked.sum ≢ checksum fragment
@@ -201,7 +201,7 @@ pub record Agree (these those : List ℕ) : Type 0 where
   pub others : List ℕ
   pub same : these ++ more ≡ those ++ others
 
--- At this offset of the bytes a fragment began, if only by its first byte: behind whole fragments stand its filler and a byte at least.
+-- At this offset of the bytes a fragment began, if only by its first byte: after whole fragments come its filler and a byte at least.
 pub record FragmentBegins (size : ℕ) (bytes : List ℕ) (offset : ℕ) : Type 0 where
   pub before : List ℕ
   pub rest : List ℕ
@@ -215,7 +215,7 @@ pub record FragmentBegins (size : ℕ) (bytes : List ℕ) (offset : ℕ) : Type 
   pub agree : Agree rest written
   pub begun : length (filler size (offset_after size 0 before)) < length rest
 
--- At this offset stand so many bytes that are filler and a fragment with a right checksum.
+-- At this offset are so many bytes that are filler and a fragment with a right checksum.
 pub record FragmentAt (size : ℕ) (bytes : List ℕ) (offset n : ℕ) : Type 0 where
   pub before : List ℕ
   pub found : List ℕ

@@ -10,7 +10,7 @@ use Rattle.leveldb_base.specs.declared.key_types.ValueType.TheVariants.{TypeDele
 
 -- ---- sets of entries
 
--- In this section a list stands for the set of its elements.
+-- In this section a list encodes the set of its elements.
 
 -- one set has what the other has, and these
 abbrev pub Gains : List Entry → List Entry → List Entry → Type 0
@@ -113,11 +113,11 @@ value_of TypeValue bytes = Some bytes
 unfoldable pub entry_key : Entry → List ℕ
 entry_key entry = memtable_key entry.key entry.sequence (type_of entry.value) (bytes_of_value entry.value)
 
--- the text behind the internal key of a memtable key
+-- the text after the internal key of a memtable key
 abbrev pub inner_value : List ℕ → List ℕ
 inner_value key = inner_key (drop (length (sized (inner_key key))) key)
 
--- the entry that a memtable key stands for
+-- the entry that a memtable key encodes
 unfoldable pub entry_from : List ℕ → Entry
 entry_from key =
     let internal = inner_key key in
@@ -131,7 +131,7 @@ IsEntryPair pair = (pair.0 ≡ entry_key (entry_from pair.0)) × (pair.1 ≡ [])
 abbrev pub entries_in : List Pair → List Entry
 entries_in pairs = map (λ pair. entry_from pair.0) pairs
 
--- what the entry at a place gives a key, or none where it is another key's or there is none
+-- what the entry at an index gives a key, or none where it is another key's or there is none
 abbrev pub GivesAt : List Entry → ℕ → List ℕ → Option (Option (List ℕ)) → Type 0
 GivesAt entries at key (Some value) = (sequence : ℕ) × (slice_get entries at ≡ Some (entry_of sequence key value))
 GivesAt entries at key None = (entry : Entry) → slice_get entries at ≡ Some entry → entry.key ≡ key → ⊥
@@ -148,6 +148,12 @@ memory_of_entries entries = 128 + (64 * length entries + sum_by (λ entry. lengt
 pub record Grows (old : List Entry) (entry : Entry) (new : List Entry) : Type 0 where
   pub count : length new ≡ length old + 1
   pub memory : memory_of_entries new ≡ memory_of_entries old + 64 + length (entry_key entry)
+
+-- these entries more, and as much more memory as counts for each
+pub record GrowsByAll (old more new : List Entry) : Type 0 where
+  pub count : length new ≡ length old + length more
+  pub memory : memory_of_entries new ≡ memory_of_entries old
+      + (64 * length more + sum_by (λ entry. length (entry_key entry)) more)
 
 -- the internal key of an entry with its value; a deletion has the empty one
 abbrev pub internal_pair : Entry → Pair

@@ -1,10 +1,10 @@
 -- A write batch: changes of keys that are made together, and the bytes that encode them in the log.
-use Rattle.std.specs.Prelude.{◌≡◌, ℕ, ◌^◌, ◌<◌, ◌≤◌, List, [], ◌∷◌, ◌++◌, length, flat_map, Option, Some, None, IfSome, All, option_copied}
+use Rattle.std.specs.Prelude.{◌≡◌, ℕ, ◌^◌, ◌<◌, ◌≤◌, List, [], ◌∷◌, ◌++◌, length, flat_map, Option, Some, None, IfSome, option_copied}
 use Rattle.std.specs.Borrow.{Bor}
 use Rattle.leveldb_base.specs.History.{Item}
 use Rattle.leveldb_base.specs.Varint.{little, sized}
 
--- ---- what a batch stands for
+-- ---- what a batch encodes
 
 -- a key with its new value, or with none where it is deleted
 abbrev pub item_of : List ℕ → Option (List ℕ) → Item
@@ -19,7 +19,7 @@ pub record Batch : Type 0 where
 abbrev pub batch_of : ℕ → List Item → Batch
 batch_of first items = record { first = first; items = items }
 
--- one more change behind the others
+-- one more change after the others
 abbrev pub with_item : Batch → Item → Batch
 with_item batch item = batch_of batch.first (batch.items ++ item ∷ [])
 
@@ -60,7 +60,7 @@ IsTooLong batch = max_length < length (batch_bytes batch.first batch.items)
 abbrev pub IsShort : Item → Type 0
 IsShort item = (length item.key ≤ max_length) × IfSome item.value (λ value. length value ≤ max_length)
 
--- the bytes are some entries, one behind the other
+-- the bytes are some entries, one after the other
 abbrev pub AreEntries : List ℕ → Type 0
 AreEntries bytes = (items : List Item) × (bytes ≡ flat_map entry_bytes items)
 
@@ -71,16 +71,16 @@ abbrev pub CountsEntries : List ℕ → Option ℕ → Type 0
 CountsEntries bytes (Some count) = (items : List Item) × (bytes ≡ flat_map entry_bytes items) × (length items ≡ count)
 CountsEntries bytes None = (items : List Item) → bytes ≡ flat_map entry_bytes items → ⊥
 
--- what reading an entry at the front of some bytes gives: the item and what follows it, or nothing where none stands there
+-- what reading an entry at the front of some bytes gives: the item and what follows it, or nothing where there is none
 abbrev pub ReadsEntry : List ℕ → Option (Item × List ℕ) → Type 0
 ReadsEntry bytes (Some (item, rest)) = bytes ≡ entry_bytes item ++ rest
 ReadsEntry bytes None = (item : Item) (rest : List ℕ) → bytes ≡ entry_bytes item ++ rest → ⊥
 
--- the item that a lent key and a lent value are
+-- the item that a borrowed key and a borrowed value are
 abbrev pub borrowed_item : Bor (List ℕ) × Option (Bor (List ℕ)) → Item
 borrowed_item lent = item_of lent.0.now (option_copied lent.1)
 
--- the item, and the bytes behind it
+-- the item, and the bytes after it
 abbrev pub borrowed_entry : Option ((Bor (List ℕ) × Option (Bor (List ℕ))) × Bor (List ℕ)) → Option (Item × List ℕ)
 borrowed_entry None = None
 borrowed_entry (Some entry) = Some (borrowed_item entry.0, entry.1.now)

@@ -1,7 +1,5 @@
 -- Bytes are a batch in one way. These lemmas are in specs/, since a ghost field of `WriteBatch` cites the last two.
-use Rattle.std.proofs.Common.{◌≡◌, ℕ, ◌+◌, ◌*◌, ◌^◌, ◌<◌, ◌≤◌, List, [], ◌∷◌, ◌++◌, length, flat_map, Option, Some, None, refl, sym, ◌∙◌, ap, arith, append_assoc, length-append}
-use Rattle.std.specs.List.{All}
-use Rattle.std.proofs.lemmas.List.Elements.{All-nil, All-cons}
+use Rattle.std.proofs.Common.{◌≡◌, ℕ, ◌+◌, ◌^◌, ◌<◌, ◌≤◌, List, [], ◌∷◌, ◌++◌, length, flat_map, Option, Some, None, refl, sym, ◌∙◌, ap, arith, append_assoc, length-append}
 use Rattle.std.specs.Coded.{Coded-set, coded_list, coded_ℕ}
 use Rattle.std.proofs.Props.{props}
 use mathlib.Core.HLevel.{Σ_prop_path}
@@ -10,8 +8,8 @@ use Rattle.byteorder.specs.Numbers.{little_number-reads_back, length-bytes_low_f
 use Rattle.leveldb_base.specs.History.{Item}
 use Rattle.leveldb_base.specs.Varint.{little, sized}
 use Rattle.leveldb_base.proofs.VarintLemmas.{apart, one_sized, length-varint-pos}
-use Rattle.leveldb_mem.specs.WriteBatch.{item_of, batch_of, change_encoding, entry_bytes, batch_bytes, BatchOf, Batch, IsBatch, IsShort, AreEntries}
-use Rattle.leveldb_mem.specs.Laws.{OneBatchReading, OneBatchEncoding, EachShort, CountFits}
+use Rattle.leveldb_mem.specs.WriteBatch.{item_of, batch_of, change_encoding, entry_bytes, batch_bytes, BatchOf, Batch, IsBatch, AreEntries}
+use Rattle.leveldb_mem.specs.Laws.{OneBatchReading, OneBatchEncoding}
 
 -- a fixed number at the front of a text, and what follows
 one_fixed : (width m n : ℕ) (x y : List ℕ) → m < 256 ^ width → n < 256 ^ width → little width m ++ x ≡ little width n ++ y → (m ≡ n) × (x ≡ y)

@@ -9,7 +9,7 @@ ghost use Rattle.leveldb_base.specs.Varint.{little, varint, sized};
 ghost use Rattle.leveldb_base.specs.KeyTypes.{tag, inner_key, internal_cmp, user_part, sequence_part};
 ghost use Rattle.leveldb_base.specs.Types.{count_before};
 ghost use Rattle.leveldb_mem.specs.WriteBatch.{item_of};
-ghost use Rattle.leveldb_mem.specs.MemTable.{Gains, IsNewTo, AreNewTo, FindsNewest, HasRoom, KeepsRoom, AddsEntry, value_length, entry_of, type_of, bytes_of_value, value_of, entry_key, entry_from, inner_value, internal_pair, memory_of_entries, Grows, GivesAt};
+ghost use Rattle.leveldb_mem.specs.MemTable.{Gains, IsNewTo, AreNewTo, FindsNewest, HasRoom, KeepsRoom, AddsEntry, value_length, entry_of, type_of, bytes_of_value, value_of, entry_key, entry_from, inner_value, internal_pair, memory_of_entries, Grows, GrowsByAll, GivesAt};
 
 use crate::memtable::as_of::{AsOf, user_and_sequence};
 use crate::memtable::iterator::AtInternalKey;
@@ -110,7 +110,10 @@ impl<C: UserCmp> MemTable<C> {
         requires room { HasRoom self.old.kept batch.now.items }
         requires new { AreNewTo self.old.kept.entries (placed first batch.now.items) }
         ensures cmp { self.new.cmp ≡ self.old.cmp }
-        ensures entries { Gains self.old.kept.entries (placed first batch.now.items) self.new.kept.entries }
+        ensures entries { Gains self.old.kept.entries (placed first batch.now.items)
+            self.new.kept.entries }
+        ensures grows { GrowsByAll self.old.kept.entries (placed first batch.now.items)
+            self.new.kept.entries }
     {
         let mut sequence = first;
         for (key, value) in batch.iter() {

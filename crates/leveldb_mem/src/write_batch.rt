@@ -8,7 +8,7 @@ ghost use Rattle.leveldb_base.specs.History.{placed, greatest};
 ghost use Rattle.leveldb_base.specs.Varint.{little, sized};
 ghost use Rattle.leveldb_mem.specs.WriteBatch.{item_of, batch_of, with_item, change_encoding, BatchOf, IsBatch, IsTooLong, AreEntries, CountsEntries, ReadsEntry, borrowed_item, borrowed_entry};
 ghost use Rattle.leveldb_mem.specs.WriteBatchLaws.{IsBatch-prop, AreEntries-prop};
-ghost use Rattle.leveldb_mem.specs.MemTable.{Gains, AreNewTo};
+ghost use Rattle.leveldb_mem.specs.MemTable.{Gains, AreNewTo, GrowsByAll};
 
 use crate::memtable::MemTable;
 use byteorder::{ByteOrder, LittleEndian};
@@ -178,7 +178,10 @@ impl WriteBatch {
     ) -> Result<()>
         requires { AreNewTo memtable.old.kept.entries (placed seq self.now.items) }
         ensures cmp { memtable.new.cmp ≡ memtable.old.cmp }
-        ensures ok { OnOk result (Gains memtable.old.kept.entries (placed seq self.now.items) memtable.new.kept.entries) }
+        ensures ok { OnOk result (Gains memtable.old.kept.entries (placed seq self.now.items)
+            memtable.new.kept.entries) }
+        ensures grows { OnOk result (GrowsByAll memtable.old.kept.entries
+            (placed seq self.now.items) memtable.new.kept.entries) }
         ensures err { OnErr result (memtable.new.kept.entries ≡ memtable.old.kept.entries) }
         ensures too_great { IsErrAnd result (λ status. status.code ≡ NotSupported) ↔ (2 ^ 56 ≤ greatest (placed seq self.now.items)) }
         ensures cause { IfErr result (λ status. (status.code ≡ NotSupported) ⊎ IsOutOfMemory status) }

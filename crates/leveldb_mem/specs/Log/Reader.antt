@@ -1,5 +1,5 @@
 -- A reader of a log, and what its calls find.
-use Rattle.std.specs.Prelude.{◌≡◌, ℕ, Bool, true, false, List, [], ◌++◌, Result, codes, string_bytes, IfSome, ◌<◌, ◌≤◌}
+use Rattle.std.specs.Prelude.{◌≡◌, Ok, length, IfOk, IfErr, IsErrAnd, OnErr, ℕ, Bool, true, false, List, [], ◌++◌, Result, codes, string_bytes, IfSome, ◌<◌, ◌≤◌}
 use Rattle.leveldb_base.specs.declared.error.Status.{Status}
 use Rattle.leveldb_base.specs.declared.error.StatusCode.TheVariants.{Corruption}
 use Rattle.leveldb_env.specs.Sources.{GivesSome, GivesAll, GivesUp}
@@ -20,7 +20,7 @@ pub record ReaderState : Type 0 where
   -- whether it has failed
   pub failed : Bool
 
--- a reader behind a front of the bytes, with these still to be read
+-- a reader after a front of the bytes, with these still to be read
 abbrev pub after_front : ReaderState → List ℕ → List ℕ → ReaderState
 after_front reader front unread = record reader { offset = offset_after reader.size reader.offset front; unread = unread }
 
@@ -33,7 +33,7 @@ pub record IsTorn (checked : Bool) (size offset : ℕ) (bytes : List ℕ) : Type
   pub ends : Ends checked size bad offset bytes
   pub never_breaks : checked ≡ true → NeverBreaks size true offset bytes
 
--- the refusal of a fragment with a wrong checksum
+-- the error of a fragment with a wrong checksum
 pub record IsWrongChecksum (status : Status) : Type 0 where
   pub code : status.code ≡ Corruption
   pub text : IfSome status.err (λ text. string_bytes text ≡ codes "Corruption: Invalid Checksum")
@@ -83,13 +83,34 @@ module _ {S : Type 0} (gives : S → ℕ → Result (List ℕ) Status → S → 
   FindsNext WrongChecksum old source text new to = FindsWrongChecksum old source new to
   FindsNext (Damage cause) old source text new to = HoldsOfRest (IsTorn old.checked old.size old.offset) old.unread source to
 
-  -- why a read was refused, and what that leaves
-  pub data FailsToRead (old : ReaderState) (source : S) (status : Status) (new : ReaderState) (to : S) : Type 0 where
-    wrong_checksum : IsWrongChecksum status → FindsWrongChecksum old source new to → FailsToRead old source status new to
-    torn : status.code ≡ Corruption → HoldsOfRest (IsTorn old.checked old.size old.offset) old.unread source to → new.failed ≡ true → FailsToRead old source status new to
-    given_up : GivesUp gives source status to → new.failed ≡ true → FailsToRead old source status new to
+  -- why a read failed, and what that leaves
+  pub data FailsToRead (old : ReaderState) (source : S) (status : Status)
+      (new : ReaderState) (to : S) : Type 0 where
+    wrong_checksum : IsWrongChecksum status → FindsWrongChecksum old source new to
+        → FailsToRead old source status new to
+    torn : status.code ≡ Corruption
+        → HoldsOfRest (IsTorn old.checked old.size old.offset) old.unread source to
+        → new.failed ≡ true → FailsToRead old source status new to
+    given_up : GivesUp gives source status to → new.failed ≡ true
+        → FailsToRead old source status new to
 
-  -- So far these records were read, from the log's beginning on, and what the reader still has to read comes behind them.
+  -- what reading a record returns, and what it leaves: of the target, only what is in it after the call
+  pub record ReadResult (old : ReaderState) (source : S) (result : Result ℕ Status)
+      (text : List ℕ) (new : ReaderState) (to : S) : Type 0 where
+    -- the length of the record
+    pub count : IfOk result (λ count. count ≡ length text)
+    -- a record was read
+    pub found : IfOk result (λ count. 0 < count → FindsRecord old source text new to)
+    -- or there is no further one
+    pub end : result ≡ Ok 0 → FindsEnd old source new to
+    pub err : old.failed ≡ false → IfErr result (λ status. FailsToRead old source status new to)
+    -- a reader that has failed does nothing
+    pub failed : old.failed ≡ true → IsErrAnd result (λ status. status.code ≡ Corruption)
+        × (new ≡ old) × (to ≡ source)
+    -- no part of a record is left in the target
+    pub cleared : OnErr result (text ≡ [])
+
+  -- So far these records were read, from the log's start on, and what the reader still has to read comes after them.
   pub record ReadSoFar (checked : Bool) (size : ℕ) (from : S) (records : List (List ℕ)) (now : ReaderState) (at : S) : Type 0 where
     pub front : List ℕ
     pub come : IsUnreadThenGiven (GivesSome gives) [] from (front ++ now.unread) at
@@ -98,7 +119,7 @@ module _ {S : Type 0} (gives : S → ℕ → Result (List ℕ) Status → S → 
 
 -- ---- how the block is held
 
--- what was read of the block stands before what is there of it, and that within the block
+-- what was read of the block comes before what is there of it, and that within the block
 pub record IsReaderBuffer (size used filled held : ℕ) : Type 0 where
   pub block : IsBlockSize size
   pub inside : used < size

@@ -22,7 +22,7 @@ pub record IsNoFragment (size offset : ℕ) (bytes : List ℕ) : Type 0 where
   pub some : bytes ≢ []
   pub none : NoFragment false size offset bytes
 
--- a fragment that stands at the front is passed, and its data put behind the text
+-- a fragment that is at the front is passed, and its data is appended to the text
 pub record PassesPart (old : ReaderState) (text : List ℕ) (type : ℕ) (new : ReaderState) (text_after : List ℕ) : Type 0 where
   pub front : List ℕ
   pub part : List ℕ
@@ -31,7 +31,7 @@ pub record PassesPart (old : ReaderState) (text : List ℕ) (type : ℕ) (new : 
   pub text_is : text_after ≡ text ++ part
   pub reader : new ≡ after_front old front new.unread
 
--- a fragment with a wrong checksum that stands at the front is passed
+-- a fragment with a wrong checksum that is at the front is passed
 pub record PassesDamaged (old : ReaderState) (new : ReaderState) : Type 0 where
   pub front : List ℕ
   pub fragment : Fragment
@@ -40,7 +40,7 @@ pub record PassesDamaged (old : ReaderState) (new : ReaderState) : Type 0 where
   pub damaged : IsDamaged old.size fragment old.offset front
   pub reader : new ≡ after_front old front new.unread
 
--- what stands at the front is passed, by what is answered
+-- what is at the front is passed, by what is returned
 abbrev pub PassesFragment : Taken → ReaderState → List ℕ → ReaderState → List ℕ → Type 0
 PassesFragment (Part type) old text new text_after = PassesPart old text type new text_after
 PassesFragment WrongChecksum old text new text_after = PassesDamaged old new
@@ -68,7 +68,7 @@ module _ {S : Type 0} (gives : S → ℕ → Result (List ℕ) Status → S → 
     pub come : IsUnreadThenGiven (GivesSome gives) old.unread source bytes to
     pub passes : PassesDamaged (with_unread old bytes) new
 
-  -- what comes next, by what is answered
+  -- what comes next, by what is returned
   abbrev pub TakesNext : Taken → ReaderState → S → List ℕ → ReaderState → S → List ℕ → Type 0
   TakesNext End old source text new to text_after = FindsEnd gives old source new to × (text_after ≡ text)
   TakesNext (Part type) old source text new to text_after = TakesPart old source text type new to text_after

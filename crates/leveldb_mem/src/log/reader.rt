@@ -5,7 +5,7 @@ ghost use Rattle.leveldb_base.specs.declared.error.StatusCode.TheVariants.{Corru
 ghost use Rattle.leveldb_env.specs.Sources.{GivesSome, GivesAll, GivesUp};
 ghost use Rattle.leveldb_env.specs.Calls.{NoMemory};
 ghost use Rattle.leveldb_mem.specs.Log.{IsBlockSize, log_block_size, clean, bad, LogOf};
-ghost use Rattle.leveldb_mem.specs.Log.Reader.{IsUnreadThenGiven, HoldsOfRest, FindsNext, FindsRecord, FindsEnd, IsDamage, FailsToRead};
+ghost use Rattle.leveldb_mem.specs.Log.Reader.{IsUnreadThenGiven, HoldsOfRest, FindsNext, IsDamage, ReadResult};
 ghost use Rattle.leveldb_mem.specs.Log.Taking.{declared_length, HasRightChecksum, PassesFragment, TakesNext, SkipsFiller};
 
 use super::{BLOCK_SIZE, HEADER_SIZE, type_of};
@@ -72,14 +72,14 @@ impl Model for ReaderCore {
 }
 
 impl ReaderCore {
-    /// For a log from its beginning on. Where checksums aren't asked for, any is taken as right.
+    /// For a log from its start on. Without `check_crcs` any checksum is taken as right.
     pub fn new(alloc: Global, check_crcs: bool) -> ReaderCore
         ensures { result ≡ record { checked = check_crcs; size = log_block_size; offset = 0; unread = []; failed = false } }
     {
         ReaderCore::sized(alloc, check_crcs, BLOCK_SIZE)
     }
 
-    /// The same, for blocks of so many bytes.
+    /// The same, for blocks of `block_size` bytes.
     pub fn sized(alloc: Global, check_crcs: bool, block_size: usize) -> ReaderCore
         requires { IsBlockSize block_size }
         ensures { result ≡ record { checked = check_crcs; size = block_size; offset = 0; unread = []; failed = false } }
@@ -112,7 +112,7 @@ impl ReaderCore {
         self.block_size - self.used
     }
 
-    // Reads on until so many bytes are to be read or the source is at its end. Whether they are there is answered.
+    // Reads on until `count` bytes are unread or the source is at its end. Returns whether they are.
     fn fill<S: Source>(&mut self, source: &mut S, count: usize) -> Result<bool>
         requires { self.old.offset + count ≤ self.old.size }
         ensures reader { IfOk result (λ there. self.new ≡ record self.old { unread = self.new.unread }) }
@@ -128,10 +128,11 @@ impl ReaderCore {
         Ok(needed <= self.filled)
     }
 
-    /// Reads what comes next, a record into the target. Where no record comes, the target holds some bytes of one, or none.
+    /// Reads what comes next, a record into the target. If no record comes, the target holds some
+    /// bytes of one, or none.
     ///
-    /// Damage of another kind than a wrong checksum, a refused read of the source and want of memory fail the reader:
-    /// every later call is `Corruption`.
+    /// Damage other than a wrong checksum, a read of the source that fails and memory that runs out
+    /// fail the reader: every later call is `Corruption`.
     pub fn next_record<S: Source>(&mut self, source: &mut S, target: &mut Vec<u8>) -> Result<Found>
         ensures found { IfOk result (λ found. FindsNext S.gives found self.old source.old target.new.items self.new source.new) }
         ensures damage { IfOk result (λ found. IsDamage found → self.new.failed ≡ true) }
@@ -158,27 +159,25 @@ impl ReaderCore {
         }
     }
 
-    /// Reads the next record into the target, and answers its length; 0 where the log ends between two records.
+    /// Reads the next record into the target and returns its length; 0 if the log ends between two
+    /// records. After an error the target is empty.
     ///
-    /// Any damage is `Corruption`. Behind a wrong checksum the next call goes on, as at a log of its own. Other damage, a
-    /// refused read of the source and want of memory fail the reader: every later call is `Corruption`.
+    /// Any damage is `Corruption`. After a wrong checksum the next call goes on, as in a log of its
+    /// own. Other damage, a read of the source that fails and memory that runs out fail the reader:
+    /// every later call is `Corruption`.
     pub fn read<S: Source>(&mut self, source: &mut S, target: &mut Vec<u8>) -> Result<usize>
-        ensures count { IfOk result (λ count. count ≡ length target.new.items) }
-        ensures record { IfOk result (λ count. 0 < count
-            → FindsRecord S.gives self.old source.old target.new.items self.new source.new) }
-        ensures end { result ≡ Ok 0 → FindsEnd S.gives self.old source.old self.new source.new }
-        ensures err { self.old.failed ≡ false
-            → IfErr result (λ status. FailsToRead S.gives self.old source.old status self.new source.new) }
-        ensures failed { self.old.failed ≡ true → IsErrAnd result (λ status. status.code ≡ Corruption)
-            × (self.new ≡ self.old) × (source.new ≡ source.old) }
-        ensures cleared { self.old.failed ≡ true → target.new.items ≡ [] }
+        ensures { ReadResult S.gives self.old source.old result target.new.items
+            self.new source.new }
     {
-        match self.next_record(source, target)? {
-            Found::Record => Ok(target.len()),
-            Found::End => Ok(0),
-            Found::WrongChecksum => self.corruption("Invalid Checksum"),
-            Found::Damage(cause) => self.corruption(cause),
-        }
+        let failed = match self.next_record(source, target) {
+            Ok(Found::Record) => return Ok(target.len()),
+            Ok(Found::End) => return Ok(0),
+            Ok(Found::WrongChecksum) => self.corruption("Invalid Checksum"),
+            Ok(Found::Damage(cause)) => self.corruption(cause),
+            Err(status) => Err(status),
+        };
+        target.clear();
+        failed
     }
 
     fn corruption<T>(&self, cause: &str) -> Result<T>
@@ -223,7 +222,7 @@ impl ReaderCore {
         })
     }
 
-    // Takes what comes next. The data of a fragment is put behind what the target holds.
+    // Takes what comes next. The data of a fragment is appended to the target.
     fn take_fragment<S: Source>(&mut self, source: &mut S, target: &mut Vec<u8>) -> Result<Taken>
         ensures ok { IfOk result (λ taken.
             TakesNext S.gives taken self.old source.old target.old.items self.new source.new target.new.items) }
@@ -236,12 +235,12 @@ impl ReaderCore {
             return Ok(stop);
         }
         match self.take_in_block(source, target)? {
-            Taken::End => Ok(Taken::Damage("no fragment behind filler")),
+            Taken::End => Ok(Taken::Damage("no fragment after filler")),
             taken => Ok(taken),
         }
     }
 
-    // Passes the zeros at the block's end, or answers what comes in their offset.
+    // Passes the zeros at the block's end, or returns what comes in their place.
     fn skip_filler<S: Source>(&mut self, source: &mut S) -> Result<Option<Taken>>
         requires { self.old.size - self.old.offset < 7 }
         ensures ok { IfOk result (λ stop. MatchOption stop (SkipsFiller S.gives self.old source.old self.new source.new)
@@ -259,7 +258,7 @@ impl ReaderCore {
         Ok(None)
     }
 
-    // The same where a header fits into the block.
+    // The same if a header fits into the block.
     fn take_in_block<S: Source>(&mut self, source: &mut S, target: &mut Vec<u8>) -> Result<Taken>
         requires { 7 ≤ self.old.size - self.old.offset }
         ensures ok { IfOk result (λ taken.
@@ -291,11 +290,11 @@ impl ReaderCore {
         }
     }
 
-    // Passes the fragment with so much data that stands at the front. Where its checksum is taken, its data is put behind
-    // what the target holds.
+    // Passes the fragment at the front, whose data has `count` bytes. If its checksum is taken, its
+    // data is appended to the target.
     fn pass_fragment(&mut self, target: &mut Vec<u8>, count: usize) -> Result<Taken>
         requires header { 7 ≤ self.old.size - self.old.offset }
-        requires told { count ≡ declared_length self.old.unread }
+        requires stated { count ≡ declared_length self.old.unread }
         requires bytes { slice_index self.old.unread 4 < 256 × (slice_index self.old.unread 5 < 256) }
         requires within { self.old.offset + (7 + count) ≤ self.old.size }
         requires there { 7 + count ≤ length self.old.unread }
@@ -313,7 +312,7 @@ impl ReaderCore {
         Ok(Taken::Part(kind))
     }
 
-    // Goes on behind so many bytes.
+    // Goes on after `count` bytes.
     fn advance(&mut self, count: usize)
         requires there { count ≤ length self.old.unread }
         requires within { self.old.offset + count ≤ self.old.size }
@@ -337,13 +336,13 @@ fn is_zeros(bytes: &[u8]) -> bool
 #[inline]
 fn data_length(header: &[u8]) -> usize
     requires { 7 ≤ length header.now }
-    ensures told { result ≡ declared_length header.now }
+    ensures stated { result ≡ declared_length header.now }
     ensures bytes { slice_index header.now 4 < 256 × (slice_index header.now 5 < 256) }
 {
     usize::from(header[4]) + 256 * usize::from(header[5])
 }
 
-// Why a fragment of this type has no offset where it stands.
+// Why a fragment of this type can't come here.
 fn misplaced(kind: u8) -> &'static str {
     match kind {
         1 | 2 => "record inside another",
@@ -361,7 +360,7 @@ fn has_right_checksum(fragment: &[u8]) -> bool
     fragment[..4] == sum[..]
 }
 
-// Makes the bytes so many, if they are fewer.
+// Makes the bytes `size` many, if they are fewer.
 fn make_long(bytes: &mut Vec<u8>, size: usize) -> Result<()>
     requires { vec_len bytes.old ≤ size }
     ensures long { OnOk result (vec_len bytes.new ≡ size) }
@@ -375,8 +374,8 @@ fn make_long(bytes: &mut Vec<u8>, size: usize) -> Result<()>
     Ok(())
 }
 
-// Reads behind the first bytes of the target until so many are there or the source is at its end.
-// How many are there is answered.
+// Reads into the target, after the `there` bytes that it has, until it has `needed` or the source is
+// at its end. Returns how many it has.
 fn draw<S: Source>(source: &mut S, target: &mut [u8], there: usize, needed: usize) -> Result<usize>
     requires there { there ≤ length target.old }
     requires fits { needed ≤ length target.old }
@@ -407,7 +406,7 @@ pub struct LogReader<R: Source> {
 }
 
 impl<R: Source> LogReader<R> {
-    /// For a log from its beginning on. Where checksums aren't asked for, any is taken as right.
+    /// For a log from its start on. Without `check_crcs` any checksum is taken as right.
     pub fn new(alloc: Global, source: R, check_crcs: bool) -> LogReader<R>
         ensures core { result.core ≡ record { checked = check_crcs; size = log_block_size; offset = 0; unread = []; failed = false } }
         ensures source { result.source ≡ source }
@@ -418,7 +417,7 @@ impl<R: Source> LogReader<R> {
         }
     }
 
-    /// The same, for blocks of so many bytes.
+    /// The same, for blocks of `block_size` bytes.
     pub fn sized(alloc: Global, source: R, check_crcs: bool, block_size: usize) -> LogReader<R>
         requires { IsBlockSize block_size }
         ensures core { result.core ≡ record { checked = check_crcs; size = block_size; offset = 0; unread = []; failed = false } }
@@ -430,25 +429,18 @@ impl<R: Source> LogReader<R> {
         }
     }
 
-    /// Reads the next record into the target, and answers its length; 0 where the log ends between two records.
-    /// Of refusals `ReaderCore::read` tells more.
+    /// Reads the next record into the target and returns its length; 0 if the log ends between two
+    /// records. After an error the target is empty. `ReaderCore::read` says more of errors.
     pub fn read(&mut self, target: &mut Vec<u8>) -> Result<usize>
-        ensures count { IfOk result (λ count. count ≡ length target.new.items) }
-        ensures record { IfOk result (λ count. 0 < count
-            → FindsRecord R.gives self.old.core self.old.source target.new.items self.new.core self.new.source) }
-        ensures end { result ≡ Ok 0 → FindsEnd R.gives self.old.core self.old.source self.new.core self.new.source }
-        ensures err { self.old.core.failed ≡ false
-            → IfErr result (λ status. FailsToRead R.gives self.old.core self.old.source status self.new.core self.new.source) }
-        ensures failed { self.old.core.failed ≡ true → IsErrAnd result (λ status. status.code ≡ Corruption)
-            × (self.new.core ≡ self.old.core) × (self.new.source ≡ self.old.source) }
-        ensures cleared { self.old.core.failed ≡ true → target.new.items ≡ [] }
+        ensures { ReadResult R.gives self.old.core self.old.source result target.new.items
+            self.new.core self.new.source }
     {
         self.core.read(&mut self.source, target)
     }
 }
 
-/// The records of all that a source still gives, as a log from its beginning on, and whether it ends between two of them.
-/// Behind other ends nothing more is read.
+/// The records of all that a source still gives, as a log from its start on, and whether it ends
+/// between two of them. After other ends nothing more is read.
 pub fn read_records<S: Source>(
     alloc: Global,
     source: &mut S,

@@ -1,8 +1,8 @@
-//! The writer of a log: it frames records and hands each on in one put.
+//! The writer of a log: it frames records and puts each into its sink in one piece.
 ghost use Rattle.std.specs.Prelude.{◌≡◌, ◌≢◌, ◌%◌, ◌<◌, ◌≤◌, ◌++◌, true, false, [], length, OnOk, IfOk, IfErr, IsErrAnd};
 ghost use Rattle.leveldb_base.specs.Error.{IsOutOfMemory};
 ghost use Rattle.leveldb_mem.specs.Log.{IsBlockSize, log_block_size, filler, room, checksum, fragment_bytes, fragment_at, framed_record, fragment_of};
-ghost use Rattle.leveldb_mem.specs.Log.Writer.{IsBroken, AddsRecord, SameWriterAndSink, FailsToAdd, Flushes};
+ghost use Rattle.leveldb_mem.specs.Log.Writer.{IsBroken, AddRecordResult, FlushResult};
 
 use super::{BLOCK_SIZE, HEADER_SIZE, type_of};
 use leveldb_base::crc::{digest, mask_crc};
@@ -53,7 +53,7 @@ impl WriterCore {
         }
     }
 
-    /// For a log that begins with what is written, in blocks of so many bytes.
+    /// For a log that begins with what is written, in blocks of `block_size` bytes.
     pub fn sized(alloc: Global, block_size: usize) -> WriterCore
         requires { IsBlockSize block_size }
         ensures { result ≡ record { size = block_size; offset = 0; broken = false } }
@@ -66,13 +66,10 @@ impl WriterCore {
         }
     }
 
-    /// Frames a record and puts it into the sink. How many bytes the framing has is answered.
-    /// An empty record puts nothing.
+    /// Frames a record and puts it into the sink. Returns the length of the framing.
+    /// An empty record puts nothing. After an error of the sink every call is `IOError`.
     pub fn add_record<S: Sink>(&mut self, sink: &mut S, text: &[u8]) -> Result<usize>
-        ensures ok { IfOk result (λ count. AddsRecord S.puts self.old sink.old text.now count self.new sink.new) }
-        ensures err { self.old.broken ≡ false
-            → IfErr result (λ status. FailsToAdd S.puts self.old sink.old text.now status self.new sink.new) }
-        ensures broken { self.old.broken ≡ true → IsErrAnd result IsBroken × SameWriterAndSink self.old sink.old self.new sink.new }
+        ensures { AddRecordResult S.puts self.old sink.old text.now result self.new sink.new }
     {
         self.check_unbroken()?;
         if text.is_empty() {
@@ -96,8 +93,7 @@ impl WriterCore {
 
     /// Flushes the sink.
     pub fn flush<S: Sink>(&mut self, sink: &mut S) -> Result<()>
-        ensures usable { self.old.broken ≡ false → Flushes S.flushes self.old sink.old result self.new sink.new }
-        ensures broken { self.old.broken ≡ true → IsErrAnd result IsBroken × SameWriterAndSink self.old sink.old self.new sink.new }
+        ensures { FlushResult S.flushes self.old sink.old result self.new sink.new }
     {
         self.check_unbroken()?;
         let flushed = sink.flush();
@@ -107,7 +103,7 @@ impl WriterCore {
         flushed
     }
 
-    /// Whether the sink has refused a call.
+    /// Returns whether a call of the sink has failed.
     pub fn is_broken(&self) -> bool
         ensures { result ≡ self.now.broken }
     {
@@ -129,7 +125,7 @@ impl WriterCore {
     }
 }
 
-// Puts the framing of a record at this offset behind what is there.
+// Appends the framing of a record at this offset.
 fn put_framing(dst: &mut Vec<u8>, block_size: usize, offset: usize, text: &[u8]) -> Result<()>
     requires size { IsBlockSize block_size }
     requires inside { offset < block_size }
@@ -150,7 +146,7 @@ fn put_framing(dst: &mut Vec<u8>, block_size: usize, offset: usize, text: &[u8])
     put_fragment(dst, block_size, offset, type_of(first, true), rest)
 }
 
-// Puts filler, where the fragment needs it, and the fragment behind what is there.
+// Appends filler, where the fragment needs it, and the fragment.
 fn put_fragment(
     dst: &mut Vec<u8>,
     block_size: usize,
@@ -170,7 +166,7 @@ fn put_fragment(
     Ok(())
 }
 
-// Puts zeros up to the block's end where no header fits.
+// Appends zeros up to the block's end where no header fits.
 fn put_filler(dst: &mut Vec<u8>, block_size: usize, offset: usize) -> Result<()>
     requires size { IsBlockSize block_size }
     requires inside { offset < block_size }
@@ -242,7 +238,7 @@ impl<W: Sink> LogWriter<W> {
         }
     }
 
-    /// For a log that begins with what is written, in blocks of so many bytes.
+    /// For a log that begins with what is written, in blocks of `block_size` bytes.
     pub fn sized(alloc: Global, sink: W, block_size: usize) -> LogWriter<W>
         requires { IsBlockSize block_size }
         ensures core { result.core ≡ record { size = block_size; offset = 0; broken = false } }
@@ -254,25 +250,19 @@ impl<W: Sink> LogWriter<W> {
         }
     }
 
-    /// Frames a record and puts it into the sink. How many bytes the framing has is answered.
-    /// An empty record puts nothing.
+    /// Frames a record and puts it into the sink. Returns the length of the framing.
+    /// An empty record puts nothing. After an error of the sink every call is `IOError`.
     pub fn add_record(&mut self, text: &[u8]) -> Result<usize>
-        ensures ok { IfOk result
-            (λ count. AddsRecord W.puts self.old.core self.old.sink text.now count self.new.core self.new.sink) }
-        ensures err { self.old.core.broken ≡ false → IfErr result
-            (λ status. FailsToAdd W.puts self.old.core self.old.sink text.now status self.new.core self.new.sink) }
-        ensures broken { self.old.core.broken ≡ true
-            → IsErrAnd result IsBroken × SameWriterAndSink self.old.core self.old.sink self.new.core self.new.sink }
+        ensures { AddRecordResult W.puts self.old.core self.old.sink text.now
+            result self.new.core self.new.sink }
     {
         self.core.add_record(&mut self.sink, text)
     }
 
     /// Flushes the sink.
     pub fn flush(&mut self) -> Result<()>
-        ensures usable { self.old.core.broken ≡ false
-            → Flushes W.flushes self.old.core self.old.sink result self.new.core self.new.sink }
-        ensures broken { self.old.core.broken ≡ true
-            → IsErrAnd result IsBroken × SameWriterAndSink self.old.core self.old.sink self.new.core self.new.sink }
+        ensures { FlushResult W.flushes self.old.core self.old.sink
+            result self.new.core self.new.sink }
     {
         self.core.flush(&mut self.sink)
     }

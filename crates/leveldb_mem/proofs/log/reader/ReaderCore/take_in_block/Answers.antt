@@ -20,7 +20,7 @@ returns-then-count-space-clause-ok g c =
     let there = c.in_ok-fill.ensures.there c.if-not-branch.false in
     let size = ap (λ r. r.size) c.in_ok-fill.ensures.reader in
     let space = ap (λ r. r.size - r.offset) c.in_ok-fill.ensures.reader in
-    let told = c.data_length-count.ensures.told ∙ ap declared_length c.unread.ensures.value in
+    let told = c.data_length-count.ensures.stated ∙ ap declared_length c.unread.ensures.value in
     let past : old.size - old.offset - 7 < declared_length bytes = omega arith in
     let fits : old.size ≤ 32768 = omega (arith, c.space.ensures.size.most) in
     whatever_follows bytes there.0 (none_past old.size old.offset fits c.requires bytes there.1 past)
@@ -39,7 +39,7 @@ returns-then-not-branch-2-clause-ok g c =
     let short = c.in_ok-fill-2.ensures.short c.if-not-branch-2.true in
     let size = ap (λ r. r.size) c.in_ok-fill.ensures.reader in
     let fits : old.size ≤ 32768 = omega (arith, c.space.ensures.size.most) in
-    let told = declared_again c.fill.new.self.unread bytes c.unread.result.now c.data_length-count.result there.1 short.0 c.data_length-count.ensures.told c.unread.ensures.value in
+    let told = declared_again c.fill.new.self.unread bytes c.unread.result.now c.data_length-count.result there.1 short.0 c.data_length-count.ensures.stated c.unread.ensures.value in
     at_end bytes (UnreadThenGivenAll-after g.S.Source.gives [] there.0 short.0) (none_cut old.size old.offset fits c.requires bytes told.0 (omega (arith, told.1, short.1)))
 
 pub returns-clause-ok : goal.returns-clause-ok
