@@ -1,5 +1,8 @@
 -- A write batch: changes of keys that are made together, and the bytes that encode them in the log.
-use Rattle.std.specs.Prelude.{◌≡◌, ℕ, ◌^◌, ◌<◌, ◌≤◌, List, [], ◌∷◌, ◌++◌, length, flat_map, Option, Some, None, IfSome, option_copied}
+use Rattle.std.specs.Prelude.{◌≡◌, ℕ, ◌^◌, ◌<◌, ◌≤◌, List, [], ◌∷◌, ◌++◌, length, flat_map, Option, Some, None, IfSome, option_copied, Result, OnOk, OnErr, IfErr, IsErrAnd, ◌↔◌, ◌⊎◌}
+use Rattle.leveldb_base.specs.Error.{IsOutOfMemory}
+use Rattle.leveldb_base.specs.declared.error.Status.{Status}
+use Rattle.leveldb_base.specs.declared.error.StatusCode.TheVariants.{InvalidArgument}
 use Rattle.std.specs.Borrow.{Bor}
 use Rattle.leveldb_base.specs.History.{Item}
 use Rattle.leveldb_base.specs.Varint.{little, sized}
@@ -55,6 +58,16 @@ IsBatch bytes = (batch : Batch) × BatchOf bytes batch.first batch.items
 -- the batch is past the limit
 abbrev pub IsTooLong : Batch → Type 0
 IsTooLong batch = max_length < length (batch_bytes batch.first batch.items)
+
+-- what adding a change to a batch returns, and what it leaves
+pub record AddChangeResult (old : Batch) (item : Item) (result : Result (Unit {0}) Status)
+    (new : Batch) : Type 0 where
+  pub ok : OnOk result (new ≡ with_item old item)
+  -- an error leaves the batch
+  pub err : OnErr result (new ≡ old)
+  -- a change for which there is no room is an error, and no other is `InvalidArgument`
+  pub too_long : IsErrAnd result (λ status. status.code ≡ InvalidArgument) ↔ IsTooLong (with_item old item)
+  pub cause : IfErr result (λ status. (status.code ≡ InvalidArgument) ⊎ IsOutOfMemory status)
 
 -- key and value are within the limit
 abbrev pub IsShort : Item → Type 0

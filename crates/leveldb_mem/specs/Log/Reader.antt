@@ -20,6 +20,10 @@ pub record ReaderState : Type 0 where
   -- whether it has failed
   pub failed : Bool
 
+-- a reader at a log's start
+abbrev pub new_reader : Bool → ℕ → ReaderState
+new_reader checked size = record { checked = checked; size = size; offset = 0; unread = []; failed = false }
+
 -- a reader after a front of the bytes, with these still to be read
 abbrev pub after_front : ReaderState → List ℕ → List ℕ → ReaderState
 after_front reader front unread = record reader { offset = offset_after reader.size reader.offset front; unread = unread }

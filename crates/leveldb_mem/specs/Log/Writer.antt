@@ -14,6 +14,10 @@ pub record WriterState : Type 0 where
   -- whether a call of its sink has failed
   pub broken : Bool
 
+-- a writer in blocks of this size, at this offset of its block
+abbrev pub new_writer : ℕ → ℕ → WriterState
+new_writer size offset = record { size = size; offset = offset; broken = false }
+
 -- a call came after one that failed in the sink
 pub record IsBroken (status : Status) : Type 0 where
   pub code : status.code ≡ IOError

@@ -1,12 +1,17 @@
 //! The reader of a log: it joins fragments to records.
-ghost use Rattle.std.specs.Prelude.{◌≡◌, ◌≢◌, ◌↔◌, ℕ, ◌+◌, ◌-◌, ◌*◌, ◌%◌, ◌≤◌, ◌<◌, true, false, [], take, drop, length, slice_index, slice_range, vec_len, IfOk, OnOk, IfErr, IfSome, IsErrAnd, IsTrue, MatchOption, List, All, Ok, string_bytes, map, if◌then◌else◌};
+ghost use Rattle.std.specs.Prelude.{◌≡◌, ◌≢◌, ◌↔◌, ℕ, ◌+◌, ◌-◌, ◌*◌, ◌%◌, ◌≤◌, ◌<◌, true, false};
+ghost use Rattle.std.specs.Prelude.{[], take, drop, length, slice_index, slice_range, vec_len, List};
+ghost use Rattle.std.specs.Prelude.{IfOk, OnOk, IfErr, IfSome, IsErrAnd, IsTrue, MatchOption, All};
+ghost use Rattle.std.specs.Prelude.{string_bytes, map, if◌then◌else◌};
 ghost use Rattle.leveldb_base.specs.Error.{status_text};
 ghost use Rattle.leveldb_base.specs.declared.error.StatusCode.TheVariants.{Corruption};
 ghost use Rattle.leveldb_env.specs.Sources.{GivesSome, GivesAll, GivesUp};
 ghost use Rattle.leveldb_env.specs.Calls.{NoMemory};
 ghost use Rattle.leveldb_mem.specs.Log.{IsBlockSize, log_block_size, clean, bad, LogOf};
-ghost use Rattle.leveldb_mem.specs.Log.Reader.{IsUnreadThenGiven, HoldsOfRest, FindsNext, IsDamage, ReadResult};
-ghost use Rattle.leveldb_mem.specs.Log.Taking.{declared_length, HasRightChecksum, PassesFragment, TakesNext, SkipsFiller};
+ghost use Rattle.leveldb_mem.specs.Log.Reader.{IsUnreadThenGiven, HoldsOfRest, FindsNext};
+ghost use Rattle.leveldb_mem.specs.Log.Reader.{IsDamage, ReadResult, new_reader};
+ghost use Rattle.leveldb_mem.specs.Log.Taking.{declared_length, HasRightChecksum};
+ghost use Rattle.leveldb_mem.specs.Log.Taking.{PassesFragment, TakesNext, SkipsFiller};
 
 use super::{BLOCK_SIZE, HEADER_SIZE, type_of};
 use leveldb_base::crc::{crc32, mask_crc};
@@ -22,7 +27,8 @@ pub enum Found {
     Record,
     /// The end of the log, between two records.
     End,
-    /// A fragment with a wrong checksum, which was passed. What follows it can be read as a log of its own.
+    /// A fragment with a wrong checksum, which was passed. What follows it can be read as a log of
+    /// its own.
     WrongChecksum,
     /// No record, for this cause.
     Damage(&'static str),
@@ -41,7 +47,7 @@ enum Taken {
     Damage(&'static str),
 }
 
-/// What a reader knows of its log, without the source that the log comes from: each call is given that.
+/// What a reader knows of its log, without the source of the log: each call is given that.
 /// It holds one block at most.
 #[derive(Drop)]
 pub struct ReaderCore {
@@ -68,13 +74,14 @@ impl Model for ReaderCore {
       failed = core.failed;
     } };
 
-    ghost invariant = { λ core. IsReaderBuffer core.block_size core.used core.filled (vec_len core.block) };
+    ghost invariant = { λ core.
+        IsReaderBuffer core.block_size core.used core.filled (vec_len core.block) };
 }
 
 impl ReaderCore {
     /// For a log from its start on. Without `check_crcs` any checksum is taken as right.
     pub fn new(alloc: Global, check_crcs: bool) -> ReaderCore
-        ensures { result ≡ record { checked = check_crcs; size = log_block_size; offset = 0; unread = []; failed = false } }
+        ensures { result ≡ new_reader check_crcs log_block_size }
     {
         ReaderCore::sized(alloc, check_crcs, BLOCK_SIZE)
     }
@@ -82,7 +89,7 @@ impl ReaderCore {
     /// The same, for blocks of `block_size` bytes.
     pub fn sized(alloc: Global, check_crcs: bool, block_size: usize) -> ReaderCore
         requires { IsBlockSize block_size }
-        ensures { result ≡ record { checked = check_crcs; size = block_size; offset = 0; unread = []; failed = false } }
+        ensures { result ≡ new_reader check_crcs block_size }
     {
         ReaderCore {
             check_crcs,
@@ -112,14 +119,20 @@ impl ReaderCore {
         self.block_size - self.used
     }
 
-    // Reads on until `count` bytes are unread or the source is at its end. Returns whether they are.
+    // Reads on until `count` bytes are unread or the source is at its end. Returns whether they
+    // are.
     fn fill<S: Source>(&mut self, source: &mut S, count: usize) -> Result<bool>
         requires { self.old.offset + count ≤ self.old.size }
-        ensures reader { IfOk result (λ there. self.new ≡ record self.old { unread = self.new.unread }) }
+        ensures reader { IfOk result (λ there.
+            self.new ≡ record self.old { unread = self.new.unread }) }
         ensures there { IfOk result (λ there. there ≡ true
-            → IsUnreadThenGiven (GivesSome S.gives) self.old.unread source.old self.new.unread source.new × (count ≤ length self.new.unread)) }
+            → IsUnreadThenGiven (GivesSome S.gives) self.old.unread source.old
+            self.new.unread source.new
+            × (count ≤ length self.new.unread)) }
         ensures short { IfOk result (λ there. there ≡ false
-            → IsUnreadThenGiven (GivesAll S.gives) self.old.unread source.old self.new.unread source.new × (length self.new.unread < count)) }
+            → IsUnreadThenGiven (GivesAll S.gives) self.old.unread source.old
+            self.new.unread source.new
+            × (length self.new.unread < count)) }
         ensures err { IfErr result (λ status. GivesUp S.gives source.old status source.new) }
     {
         make_long(&mut self.block, self.block_size)?;
@@ -134,11 +147,14 @@ impl ReaderCore {
     /// Damage other than a wrong checksum, a read of the source that fails and memory that runs out
     /// fail the reader: every later call is `Corruption`.
     pub fn next_record<S: Source>(&mut self, source: &mut S, target: &mut Vec<u8>) -> Result<Found>
-        ensures found { IfOk result (λ found. FindsNext S.gives found self.old source.old target.new.items self.new source.new) }
+        ensures found { IfOk result (λ found. FindsNext S.gives found self.old source.old
+            target.new.items self.new source.new) }
         ensures damage { IfOk result (λ found. IsDamage found → self.new.failed ≡ true) }
         ensures err { self.old.failed ≡ false
-            → IfErr result (λ status. GivesUp S.gives source.old status source.new × (self.new.failed ≡ true)) }
-        ensures failed { self.old.failed ≡ true → IsErrAnd result (λ status. status.code ≡ Corruption)
+            → IfErr result (λ status. GivesUp S.gives source.old status source.new
+            × (self.new.failed ≡ true)) }
+        ensures failed { self.old.failed ≡ true
+            → IsErrAnd result (λ status. status.code ≡ Corruption)
             × (self.new ≡ self.old) × (source.new ≡ source.old) }
         ensures cleared { self.old.failed ≡ true → target.new.items ≡ [] }
     {
@@ -193,7 +209,8 @@ impl ReaderCore {
         requires empty { target.old.items ≡ [] }
         requires block { IsBlockSize self.old.size }
         requires inside { self.old.offset < self.old.size }
-        ensures ok { IfOk result (λ found. FindsNext S.gives found self.old source.old target.new.items self.new source.new) }
+        ensures ok { IfOk result (λ found. FindsNext S.gives found self.old source.old
+            target.new.items self.new source.new) }
         ensures err { IfErr result (λ status. GivesUp S.gives source.old status source.new) }
     {
         let mut first = true;
@@ -225,7 +242,8 @@ impl ReaderCore {
     // Takes what comes next. The data of a fragment is appended to the target.
     fn take_fragment<S: Source>(&mut self, source: &mut S, target: &mut Vec<u8>) -> Result<Taken>
         ensures ok { IfOk result (λ taken.
-            TakesNext S.gives taken self.old source.old target.old.items self.new source.new target.new.items) }
+            TakesNext S.gives taken self.old source.old target.old.items
+            self.new source.new target.new.items) }
         ensures err { IfErr result (λ status. GivesUp S.gives source.old status source.new) }
     {
         if self.space() >= HEADER_SIZE {
@@ -243,8 +261,10 @@ impl ReaderCore {
     // Passes the zeros at the block's end, or returns what comes in their place.
     fn skip_filler<S: Source>(&mut self, source: &mut S) -> Result<Option<Taken>>
         requires { self.old.size - self.old.offset < 7 }
-        ensures ok { IfOk result (λ stop. MatchOption stop (SkipsFiller S.gives self.old source.old self.new source.new)
-            (λ taken. (text : List ℕ) → TakesNext S.gives taken self.old source.old text self.new source.new text)) }
+        ensures ok { IfOk result (λ stop. MatchOption stop
+            (SkipsFiller S.gives self.old source.old self.new source.new)
+            (λ taken. (text : List ℕ)
+            → TakesNext S.gives taken self.old source.old text self.new source.new text)) }
         ensures err { IfErr result (λ status. GivesUp S.gives source.old status source.new) }
     {
         let space = self.space();
@@ -262,7 +282,8 @@ impl ReaderCore {
     fn take_in_block<S: Source>(&mut self, source: &mut S, target: &mut Vec<u8>) -> Result<Taken>
         requires { 7 ≤ self.old.size - self.old.offset }
         ensures ok { IfOk result (λ taken.
-            TakesNext S.gives taken self.old source.old target.old.items self.new source.new target.new.items) }
+            TakesNext S.gives taken self.old source.old target.old.items
+            self.new source.new target.new.items) }
         ensures err { IfErr result (λ status. GivesUp S.gives source.old status source.new) }
     {
         if !self.fill(source, HEADER_SIZE)? {
@@ -295,10 +316,12 @@ impl ReaderCore {
     fn pass_fragment(&mut self, target: &mut Vec<u8>, count: usize) -> Result<Taken>
         requires header { 7 ≤ self.old.size - self.old.offset }
         requires stated { count ≡ declared_length self.old.unread }
-        requires bytes { slice_index self.old.unread 4 < 256 × (slice_index self.old.unread 5 < 256) }
+        requires bytes { slice_index self.old.unread 4 < 256
+            × (slice_index self.old.unread 5 < 256) }
         requires within { self.old.offset + (7 + count) ≤ self.old.size }
         requires there { 7 + count ≤ length self.old.unread }
-        ensures ok { IfOk result (λ taken. PassesFragment taken self.old target.old.items self.new target.new.items) }
+        ensures ok { IfOk result (λ taken.
+            PassesFragment taken self.old target.old.items self.new target.new.items) }
         ensures memory { IfErr result NoMemory }
     {
         let (fragment, _) = self.unread().split_at(HEADER_SIZE + count);
@@ -316,7 +339,10 @@ impl ReaderCore {
     fn advance(&mut self, count: usize)
         requires there { count ≤ length self.old.unread }
         requires within { self.old.offset + count ≤ self.old.size }
-        ensures { self.new ≡ record self.old { offset = (self.old.offset + count) % self.old.size; unread = drop count self.old.unread } }
+        ensures { self.new ≡ record self.old {
+          offset = (self.old.offset + count) % self.old.size;
+          unread = drop count self.old.unread;
+        } }
     {
         self.used += count;
         if self.used == self.block_size {
@@ -364,7 +390,8 @@ fn has_right_checksum(fragment: &[u8]) -> bool
 fn make_long(bytes: &mut Vec<u8>, size: usize) -> Result<()>
     requires { vec_len bytes.old ≤ size }
     ensures long { OnOk result (vec_len bytes.new ≡ size) }
-    ensures kept { (n : ℕ) → n ≤ vec_len bytes.old → take n bytes.new.items ≡ take n bytes.old.items }
+    ensures kept { (n : ℕ) → n ≤ vec_len bytes.old
+        → take n bytes.new.items ≡ take n bytes.old.items }
     ensures most { vec_len bytes.old ≤ vec_len bytes.new × (vec_len bytes.new ≤ size) }
     ensures memory { IfErr result NoMemory }
 {
@@ -374,8 +401,8 @@ fn make_long(bytes: &mut Vec<u8>, size: usize) -> Result<()>
     Ok(())
 }
 
-// Reads into the target, after the `there` bytes that it has, until it has `needed` or the source is
-// at its end. Returns how many it has.
+// Reads into the target, after the `there` bytes that it has, until it has `needed` or the source
+// is at its end. Returns how many it has.
 fn draw<S: Source>(source: &mut S, target: &mut [u8], there: usize, needed: usize) -> Result<usize>
     requires there { there ≤ length target.old }
     requires fits { needed ≤ length target.old }
@@ -408,7 +435,7 @@ pub struct LogReader<R: Source> {
 impl<R: Source> LogReader<R> {
     /// For a log from its start on. Without `check_crcs` any checksum is taken as right.
     pub fn new(alloc: Global, source: R, check_crcs: bool) -> LogReader<R>
-        ensures core { result.core ≡ record { checked = check_crcs; size = log_block_size; offset = 0; unread = []; failed = false } }
+        ensures core { result.core ≡ new_reader check_crcs log_block_size }
         ensures source { result.source ≡ source }
     {
         LogReader {
@@ -420,7 +447,7 @@ impl<R: Source> LogReader<R> {
     /// The same, for blocks of `block_size` bytes.
     pub fn sized(alloc: Global, source: R, check_crcs: bool, block_size: usize) -> LogReader<R>
         requires { IsBlockSize block_size }
-        ensures core { result.core ≡ record { checked = check_crcs; size = block_size; offset = 0; unread = []; failed = false } }
+        ensures core { result.core ≡ new_reader check_crcs block_size }
         ensures source { result.source ≡ source }
     {
         LogReader {
@@ -447,7 +474,8 @@ pub fn read_records<S: Source>(
     check_crcs: bool,
 ) -> Result<(Vec<Vec<u8>>, bool)>
     ensures log { IfOk result (λ found. HoldsOfRest S.gives
-        (LogOf check_crcs log_block_size (map (λ v. v.items) found.0.items) (if found.1 then clean else bad) 0) [] source.old source.new) }
+        (LogOf check_crcs log_block_size (map (λ v. v.items) found.0.items)
+        (if found.1 then clean else bad) 0) [] source.old source.new) }
     ensures err { IfErr result (λ status. GivesUp S.gives source.old status source.new) }
 {
     let mut core = ReaderCore::new(alloc, check_crcs);

@@ -1,8 +1,10 @@
 //! The writer of a log: it frames records and puts each into its sink in one piece.
-ghost use Rattle.std.specs.Prelude.{◌≡◌, ◌≢◌, ◌%◌, ◌<◌, ◌≤◌, ◌++◌, true, false, [], length, OnOk, IfOk, IfErr, IsErrAnd};
+ghost use Rattle.std.specs.Prelude.{◌≡◌, ◌≢◌, ◌%◌, ◌<◌, ◌≤◌, ◌++◌, true, false, [], length};
+ghost use Rattle.std.specs.Prelude.{OnOk, IfErr};
 ghost use Rattle.leveldb_base.specs.Error.{IsOutOfMemory};
-ghost use Rattle.leveldb_mem.specs.Log.{IsBlockSize, log_block_size, filler, room, checksum, fragment_bytes, fragment_at, framed_record, fragment_of};
-ghost use Rattle.leveldb_mem.specs.Log.Writer.{IsBroken, AddRecordResult, FlushResult};
+ghost use Rattle.leveldb_mem.specs.Log.{IsBlockSize, log_block_size, filler, room, checksum};
+ghost use Rattle.leveldb_mem.specs.Log.{fragment_bytes, fragment_at, framed_record, fragment_of};
+ghost use Rattle.leveldb_mem.specs.Log.Writer.{IsBroken, AddRecordResult, FlushResult, new_writer};
 
 use super::{BLOCK_SIZE, HEADER_SIZE, type_of};
 use leveldb_base::crc::{digest, mask_crc};
@@ -28,7 +30,8 @@ impl Model for WriterCore {
 
     ghost Value = { WriterState };
 
-    ghost view = { λ core. record { size = core.block_size; offset = core.offset; broken = core.broken } };
+    ghost view = { λ core.
+        record { size = core.block_size; offset = core.offset; broken = core.broken } };
 
     ghost invariant = { λ core. IsBlockSize core.block_size × (core.offset < core.block_size) };
 }
@@ -36,14 +39,14 @@ impl Model for WriterCore {
 impl WriterCore {
     /// For a log that begins with what is written.
     pub fn new(alloc: Global) -> WriterCore
-        ensures { result ≡ record { size = log_block_size; offset = 0; broken = false } }
+        ensures { result ≡ new_writer log_block_size 0 }
     {
         WriterCore::new_with_off(alloc, 0)
     }
 
     /// For a log that has `off` bytes.
     pub fn new_with_off(alloc: Global, off: usize) -> WriterCore
-        ensures { result ≡ record { size = log_block_size; offset = off % log_block_size; broken = false } }
+        ensures { result ≡ new_writer log_block_size (off % log_block_size) }
     {
         WriterCore {
             block_size: BLOCK_SIZE,
@@ -56,7 +59,7 @@ impl WriterCore {
     /// For a log that begins with what is written, in blocks of `block_size` bytes.
     pub fn sized(alloc: Global, block_size: usize) -> WriterCore
         requires { IsBlockSize block_size }
-        ensures { result ≡ record { size = block_size; offset = 0; broken = false } }
+        ensures { result ≡ new_writer block_size 0 }
     {
         WriterCore {
             block_size,
@@ -130,7 +133,8 @@ fn put_framing(dst: &mut Vec<u8>, block_size: usize, offset: usize, text: &[u8])
     requires size { IsBlockSize block_size }
     requires inside { offset < block_size }
     requires some { text.now ≢ [] }
-    ensures ok { OnOk result (dst.new.items ≡ dst.old.items ++ framed_record block_size text.now offset) }
+    ensures ok { OnOk result
+        (dst.new.items ≡ dst.old.items ++ framed_record block_size text.now offset) }
     ensures memory { IfErr result IsOutOfMemory }
 {
     let mut offset = offset;
@@ -157,7 +161,8 @@ fn put_fragment(
     requires size { IsBlockSize block_size }
     requires inside { offset < block_size }
     requires fits { length part.now ≤ room block_size offset }
-    ensures ok { OnOk result (dst.new.items ≡ dst.old.items ++ fragment_at block_size (fragment_of kind part.now) offset) }
+    ensures ok { OnOk result (dst.new.items
+        ≡ dst.old.items ++ fragment_at block_size (fragment_of kind part.now) offset) }
     ensures memory { IfErr result IsOutOfMemory }
 {
     put_filler(dst, block_size, offset)?;
@@ -183,7 +188,8 @@ fn put_filler(dst: &mut Vec<u8>, block_size: usize, offset: usize) -> Result<()>
 // The header of a fragment.
 fn header_of(kind: u8, part: &[u8]) -> [u8; HEADER_SIZE]
     requires { length part.now < 65536 }
-    ensures { result ++ part.now ≡ fragment_bytes (checksum (fragment_of kind part.now)) (fragment_of kind part.now) }
+    ensures { let fragment = fragment_of kind part.now in
+        result ++ part.now ≡ fragment_bytes (checksum fragment) fragment }
 {
     let mut digest = digest();
     digest.update(&[kind]);
@@ -218,7 +224,7 @@ pub struct LogWriter<W: Sink> {
 impl<W: Sink> LogWriter<W> {
     /// For a log that begins with what is written.
     pub fn new(alloc: Global, sink: W) -> LogWriter<W>
-        ensures core { result.core ≡ record { size = log_block_size; offset = 0; broken = false } }
+        ensures core { result.core ≡ new_writer log_block_size 0 }
         ensures sink { result.sink ≡ sink }
     {
         LogWriter {
@@ -229,7 +235,7 @@ impl<W: Sink> LogWriter<W> {
 
     /// For a log that has `off` bytes.
     pub fn new_with_off(alloc: Global, sink: W, off: usize) -> LogWriter<W>
-        ensures core { result.core ≡ record { size = log_block_size; offset = off % log_block_size; broken = false } }
+        ensures core { result.core ≡ new_writer log_block_size (off % log_block_size) }
         ensures sink { result.sink ≡ sink }
     {
         LogWriter {
@@ -241,7 +247,7 @@ impl<W: Sink> LogWriter<W> {
     /// For a log that begins with what is written, in blocks of `block_size` bytes.
     pub fn sized(alloc: Global, sink: W, block_size: usize) -> LogWriter<W>
         requires { IsBlockSize block_size }
-        ensures core { result.core ≡ record { size = block_size; offset = 0; broken = false } }
+        ensures core { result.core ≡ new_writer block_size 0 }
         ensures sink { result.sink ≡ sink }
     {
         LogWriter {
