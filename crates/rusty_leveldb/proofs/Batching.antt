@@ -11,8 +11,8 @@ use Rattle.leveldb_base.specs.Error.{IsOutOfMemory, text_of}
 use Rattle.leveldb_base.specs.History.{Item}
 use Rattle.leveldb_env.specs.declared.env.Env.{Ghosts}
 use Rattle.leveldb_env.specs.Disk.{Disk}
-use Rattle.leveldb_mem.specs.Batch.{Batch, with_item, entry_bytes, batch_bytes, IsTooLong}
-use Rattle.leveldb_mem.specs.BatchLaws.{length-batch_bytes}
+use Rattle.leveldb_mem.specs.WriteBatch.{Batch, with_item, entry_bytes, batch_bytes, IsTooLong}
+use Rattle.leveldb_mem.proofs.WriteBatchLemmas.{length-batch_bytes}
 use Rattle.rusty_leveldb.specs.declared.db_impl.engine.Engine.{Engine}
 use Rattle.rusty_leveldb.specs.declared.shell.commands.Item as item
 use Rattle.rusty_leveldb.specs.Shell.{change_of}

@@ -5,8 +5,7 @@
 use Rattle.std.proofs.Common.{◌≡◌, ℕ, Bool, true, false, cond, List, Some, refl, sym, ◌∙◌, ap, subst}
 use Rattle.std.specs.Str.{bytes_eq}
 use Rattle.leveldb_env.specs.Disk.{Files, bytes_of, LeavesFile, Leaves}
-use Rattle.leveldb_mem.specs.Log.{log_block_size}
-use Rattle.leveldb_mem.specs.Honest.{HonestTail}
+use Rattle.leveldb_mem.specs.Log.{log_block_size, HonestTail}
 use Rattle.std.specs.Cmp.Lexicographic.{bytes_decides}
 use Rattle.rusty_leveldb.specs.Contents.{Contents}
 use Rattle.rusty_leveldb.specs.Holds.{IsHonest}

@@ -12,7 +12,7 @@ use Rattle.leveldb_env.specs.Calls.{Does, Still, Relocks, HasCause, IsGone}
 use Rattle.leveldb_env.specs.Runs.{Run, call}
 use Rattle.leveldb_env.specs.FileLaws.{SameBut, SameBut-synced, bytes_eq-same, bytes_eq-apart}
 use Rattle.leveldb_env.specs.OpenFiles.{opened, Syncs}
-use Rattle.leveldb_mem.specs.Writing.{Flushes}
+use Rattle.leveldb_mem.specs.Log.Writer.{Flushes}
 use Rattle.rusty_leveldb.specs.declared.db_impl.engine.Mode.{Mode}
 use Rattle.rusty_leveldb.specs.declared.db_impl.engine.Mode.TheVariants.{Open, Broken, Closed}
 use Rattle.rusty_leveldb.specs.declared.db_impl.engine.Engine.{Engine}

@@ -3,9 +3,9 @@ use Rattle.std.proofs.Common.{◌≡◌, ◌≤◌, ◌<◌, ◌+◌, ◌-◌, �
 use Rattle.std.specs.Prelude.{Contains}
 use Rattle.std.proofs.lemmas.List.Elements.{Contains-append_cases}
 use Rattle.leveldb_base.specs.History.{Item, Entry, placed, greatest, AreUpTo}
-use Rattle.leveldb_mem.specs.Batch.{Batch}
-use Rattle.leveldb_mem.specs.Entries.{Kept, Gains, AreNewTo}
-use Rattle.leveldb_mem.specs.EntryLaws.{new_behind}
+use Rattle.leveldb_mem.specs.WriteBatch.{Batch}
+use Rattle.leveldb_mem.specs.MemTable.{Kept, Gains, AreNewTo}
+use Rattle.leveldb_mem.proofs.EntryLemmas.{new_after}
 use Rattle.rusty_leveldb.specs.OneLog.{max_sequence}
 use Rattle.rusty_leveldb.specs.Recent.{Numbered, Follows, Inserts}
 use Rattle.rusty_leveldb.proofs.Histories.{up_to}
@@ -32,7 +32,7 @@ greatest_none first (item ∷ items) none = absurd (omega arith)
 module _ (batch : Batch) (old : Numbered) (low : AreUpTo old.last old.kept.entries) (fits : old.last ≤ max_sequence) (follows : Follows old.last batch)
     (first count : ℕ) (first_is : first ≡ batch.first) (count_is : count ≡ length batch.items) where
   pub new_entries : AreNewTo old.kept.entries (placed first batch.items)
-  new_entries = new_behind old.last old.kept.entries first batch.items low (omega (arith, follows.above, first_is))
+  new_entries = new_after old.last old.kept.entries first batch.items low (omega (arith, follows.above, first_is))
 
   module _ (after : Kept) (gains : Gains old.kept.entries (placed first batch.items) after.entries) where
     same : placed first batch.items ≡ placed batch.first batch.items

@@ -7,9 +7,9 @@ use Rattle.leveldb_base.specs.declared.error.StatusCode.TheVariants.{Corruption}
 use Rattle.leveldb_base.specs.Error.{IsOutOfMemory}
 use Rattle.std.proofs.lemmas.List.Elements.{Contains-append_left, Contains-append_right, Contains-append_cases}
 use Rattle.leveldb_base.specs.History.{Item, Entry, placed, greatest}
-use Rattle.leveldb_mem.specs.Batch.{Batch, IsBatch}
-use Rattle.leveldb_mem.specs.BatchLaws.{BatchOf-one}
-use Rattle.leveldb_mem.specs.Entries.{Gains}
+use Rattle.leveldb_mem.specs.WriteBatch.{Batch, IsBatch}
+use Rattle.leveldb_mem.specs.WriteBatchLaws.{BatchOf-one}
+use Rattle.leveldb_mem.specs.MemTable.{Gains}
 use Rattle.rusty_leveldb.specs.OneLog.{Each, IsRecordOf, AreInOrder, entries_in, all_entries, max_sequence}
 use Rattle.rusty_leveldb.specs.Recent.{Numbered, Follows, Inserts}
 use Rattle.rusty_leveldb.specs.Replay.{AreBatches, IsReplayed, IsDamaged}

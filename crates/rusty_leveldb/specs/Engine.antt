@@ -10,7 +10,7 @@ use Rattle.leveldb_env.specs.Times.{Told}
 use Rattle.leveldb_env.specs.Calls.{NoMemory, IsGone}
 use Rattle.leveldb_env.specs.declared.options.Options.{Options}
 use Rattle.leveldb_mem.specs.Log.{log_block_size, clean, IsLogFile}
-use Rattle.leveldb_mem.specs.Writing.{Writing, IsBroken}
+use Rattle.leveldb_mem.specs.Log.Writer.{WriterState, IsBroken}
 use Rattle.rusty_leveldb.specs.declared.db_impl.engine.Mode.{Mode}
 use Rattle.rusty_leveldb.specs.declared.db_impl.engine.Mode.TheVariants.{Open, Broken, Closed}
 use Rattle.rusty_leveldb.specs.declared.db_impl.engine.Engine.{Engine}
@@ -27,11 +27,11 @@ abbrev pub IsShut : Mode → Type 0
 IsShut mode = mode ≡ Closed
 
 -- it broke, or the writer of its log did: every call that writes is refused
-abbrev pub IsStuck : Mode → Writing → Type 0
+abbrev pub IsStuck : Mode → WriterState → Type 0
 IsStuck mode writer = (mode ≡ Broken) ⊎ IsTrue writer.broken
 
 -- it is closed, or it broke: every call that writes is refused
-abbrev pub IsHalted : Mode → Writing → Type 0
+abbrev pub IsHalted : Mode → WriterState → Type 0
 IsHalted mode writer = IsShut mode ⊎ IsStuck mode writer
 
 -- the machine's mode
@@ -49,7 +49,7 @@ module _ {E C FP F I : Type 0} {D : I → Type 0} (env : Ghosts E F) (store : Li
     pub records : List (List ℕ)
     pub ends : IsLogFile (bytes_of file) records clean
     pub name : env.name_of engine.log ≡ log_path store
-    pub writer : engine.writer ≡ record { size = log_block_size; place = length (bytes_of file) % log_block_size; broken = false }
+    pub writer : engine.writer ≡ record { size = log_block_size; offset = length (bytes_of file) % log_block_size; broken = false }
 
   -- memory shows what the history shows, from its end on, and no entry of it is past that end
   pub record Remembers (engine : Engine E C FP F I D) (state : State) : Type 0 where
@@ -98,11 +98,11 @@ abbrev pub ShutOut : Mode → Status → Type 0
 ShutOut mode e = IsShut mode × (e.code ≡ InvalidArgument)
 
 -- the store broke earlier
-abbrev pub ShutDown : Mode → Writing → Status → Type 0
+abbrev pub ShutDown : Mode → WriterState → Status → Type 0
 ShutDown mode writer e = IsStuck mode writer × IsBroken e
 
 -- one of the two, and of a closed store the first
-abbrev pub HaltedBy : Mode → Writing → Status → Type 0
+abbrev pub HaltedBy : Mode → WriterState → Status → Type 0
 HaltedBy mode writer e = (ShutOut mode e ⊎ ShutDown mode writer e) × (e.code ≡ IOError → IsShut mode → ⊥)
 
 module _ {E C FP F I : Type 0} {D : I → Type 0} (env : Ghosts E F) where

@@ -3,8 +3,7 @@
 use Rattle.std.specs.Prelude.{◌≡◌, ◌≤◌, ◌+◌, ◌⊎◌, ℕ, List, Option, Some, Contains}
 use Rattle.leveldb_base.specs.History.{Entry, History, IsPrefixAtLeast, entries_of, greatest, with_batch, count_of, SameView}
 use Rattle.leveldb_env.specs.Disk.{File, Files, Leaves, bytes_of}
-use Rattle.leveldb_mem.specs.Log.{log_block_size}
-use Rattle.leveldb_mem.specs.Honest.{HonestTail}
+use Rattle.leveldb_mem.specs.Log.{log_block_size, HonestTail}
 use Rattle.rusty_leveldb.specs.Names.{IsJournal}
 use Rattle.rusty_leveldb.specs.Contents.{Store, Contents, Stays}
 

@@ -3,8 +3,8 @@ use Rattle.std.specs.Prelude.{◌≡◌, ◌≤◌, ◌<◌, ◌+◌, ℕ, List,
 use Rattle.std.specs.Option.{option_map}
 use Rattle.std.specs.Borrow.{Bor}
 use Rattle.leveldb_base.specs.History.{placed, greatest}
-use Rattle.leveldb_mem.specs.Batch.{Batch}
-use Rattle.leveldb_mem.specs.Entries.{Kept, Gains}
+use Rattle.leveldb_mem.specs.WriteBatch.{Batch}
+use Rattle.leveldb_mem.specs.MemTable.{Kept, Gains}
 use Rattle.rusty_leveldb.specs.OneLog.{max_sequence}
 
 -- what a look-up lends: a value or a deletion, or that there is none

@@ -6,7 +6,7 @@ use Rattle.leveldb_env.specs.Disk.{File, Files, Disk, bytes_of, kept_file, file_
 use Rattle.leveldb_env.specs.Times.{Told}
 use Rattle.leveldb_env.specs.Calls.{EitherSide, NoMemory}
 use Rattle.leveldb_mem.specs.Log.{log_block_size, End, clean, IsLogFile, framed}
-use Rattle.leveldb_mem.specs.Writing.{Writing}
+use Rattle.leveldb_mem.specs.Log.Writer.{WriterState}
 use Rattle.rusty_leveldb.specs.Names.{lock_path}
 use Rattle.rusty_leveldb.specs.OneLog.{log_path, temp_path, IsRead}
 use Rattle.rusty_leveldb.specs.Contents.{Contents}
@@ -75,7 +75,7 @@ pub record StaysUnopened (name : List ℕ) (create : Bool) (old new : Told) (bef
   pub others : SparesOthers name old.disk new.disk
 
 -- The log has the records that were found there, all its bytes kept, and ends cleanly; memory has what they say, and the writer stands at the end.
-pub record IsRecovered (create : Bool) (was now : Option File) (writer : Writing) (recent : Numbered) : Type 0 where
+pub record IsRecovered (create : Bool) (was now : Option File) (writer : WriterState) (recent : Numbered) : Type 0 where
   pub records : List (List ℕ)
   pub end : End
   pub was_found : IsFoundAs create was records end
@@ -84,7 +84,7 @@ pub record IsRecovered (create : Bool) (was now : Option File) (writer : Writing
   pub there : now ≡ Some file
   pub since : file.since ≡ []
   pub read : IsLogFile (bytes_of file) records clean
-  pub stands : writer ≡ record { size = log_block_size; place = length (bytes_of file) % log_block_size; broken = false }
+  pub stands : writer ≡ record { size = log_block_size; offset = length (bytes_of file) % log_block_size; broken = false }
 
 -- ---- refusals
 

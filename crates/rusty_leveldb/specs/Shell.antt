@@ -5,7 +5,7 @@ use Rattle.leveldb_base.specs.declared.error.Status.{Status}
 use Rattle.leveldb_base.specs.History as history
 use Rattle.leveldb_env.specs.declared.env.Env.{Ghosts}
 use Rattle.leveldb_env.specs.Calls.{NoMemory}
-use Rattle.leveldb_mem.specs.Batch.{item_of}
+use Rattle.leveldb_mem.specs.WriteBatch.{item_of}
 use Rattle.rusty_leveldb.specs.declared.shell.commands.Command.{Command}
 use Rattle.rusty_leveldb.specs.declared.shell.commands.Command.TheVariants as command
 use Rattle.rusty_leveldb.specs.declared.shell.commands.Item.{Item}

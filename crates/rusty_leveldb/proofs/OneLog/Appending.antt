@@ -4,10 +4,10 @@ use Rattle.std.proofs.lemmas.List.{get_or-take, get_or_past, take_all, take-appe
 use Rattle.std.proofs.lemmas.Bool.{cases_lt}
 use Rattle.leveldb_base.specs.History.{Item, Entry, History, IsPrefixAtLeast, placed, entries_of, greatest}
 use Rattle.leveldb_env.specs.Disk.{File, bytes_of, kept_file, longer_file, AreBytes}
-use Rattle.leveldb_mem.specs.Log.{log_block_size, End, clean, IsLogFile, frame_at}
-use Rattle.leveldb_mem.specs.Honest.{HonestTail}
-use Rattle.leveldb_mem.specs.LogLaws.{log_laws, AreFirst}
-use Rattle.leveldb_mem.specs.Batch.{Batch, BatchOf, batch_bytes}
+use Rattle.leveldb_mem.specs.Log.{log_block_size, End, clean, IsLogFile, frame_at, HonestTail}
+use Rattle.leveldb_mem.proofs.LawsLemmas.{log_laws}
+use Rattle.leveldb_mem.specs.Laws.{AreFirst}
+use Rattle.leveldb_mem.specs.WriteBatch.{Batch, BatchOf, batch_bytes}
 use Rattle.rusty_leveldb.specs.OneLog.{Each, IsRecordOf, AreInOrder, contents_of, max_sequence}
 use Rattle.rusty_leveldb.specs.Holds.{Tells}
 use Rattle.rusty_leveldb.proofs.Histories.{placed_length}
@@ -19,7 +19,7 @@ use Rattle.rusty_leveldb.proofs.OneLog.LogFile.{Carried, CarriedBeginning, Safe,
 pub batch_some : (bytes : List ℕ) (first : ℕ) (items : List Item) → BatchOf bytes first items → bytes ≢ []
 unfolding batch_bytes
 batch_some bytes first items is e =
-    let whole : batch_bytes first items ≡ [] = sym is.spelled ∙ e in cc
+    let whole : batch_bytes first items ≡ [] = sym is.encoded ∙ e in cc
 
 -- what is read of some bytes, and what it tells
 pub record Reading (bytes : List ℕ) (bound : ℕ) (history : History) : Type 0 where

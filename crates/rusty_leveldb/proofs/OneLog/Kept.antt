@@ -7,8 +7,8 @@ use Rattle.std.proofs.lemmas.List.Elements.{All-nil, All-cons}
 use Rattle.leveldb_base.specs.History.{History, IsPrefixAtLeast}
 use Rattle.leveldb_env.specs.Disk.{File, bytes_of, kept_file, file_kept, LeavesFile}
 use Rattle.leveldb_mem.specs.Log.{log_block_size, End, clean, IsLogFile, framed}
-use Rattle.leveldb_mem.specs.LogLaws.{log_laws, framing_reads, records_framed, usual_size}
-use Rattle.leveldb_mem.specs.Batch.{Batch}
+use Rattle.leveldb_mem.proofs.LawsLemmas.{log_laws, framing_reads, records_framed, usual_size}
+use Rattle.leveldb_mem.specs.WriteBatch.{Batch}
 use Rattle.rusty_leveldb.specs.OneLog.{Each, IsRecordOf, contents_of}
 use Rattle.rusty_leveldb.specs.Contents.{nothing_there}
 use Rattle.rusty_leveldb.specs.Holds.{Tells}

@@ -7,10 +7,9 @@ use Rattle.leveldb_base.specs.History.{History, IsPrefixAtLeast}
 use Rattle.leveldb_base.specs.Names.{IsNumber}
 use Rattle.leveldb_env.specs.Disk.{File, Files, bytes_of, kept_file, with_file, AreBytes, LeavesFile, Leaves}
 use Rattle.leveldb_env.specs.FileLaws.{at_same, at_other}
-use Rattle.leveldb_mem.specs.Log.{log_block_size, End, IsLogFile}
-use Rattle.leveldb_mem.specs.Honest.{HonestTail}
-use Rattle.leveldb_mem.specs.LogLaws.{cut_is_honest}
-use Rattle.leveldb_mem.specs.Batch.{Batch}
+use Rattle.leveldb_mem.specs.Log.{log_block_size, End, IsLogFile, HonestTail}
+use Rattle.leveldb_mem.proofs.LawsLemmas.{cut_is_honest}
+use Rattle.leveldb_mem.specs.WriteBatch.{Batch}
 use Rattle.rusty_leveldb.specs.Contents.{Contents}
 use Rattle.rusty_leveldb.specs.OneLog.{log_path, Each, IsRecordOf, AreInOrder, contents_of, IsRead, IsOneLog}
 use Rattle.rusty_leveldb.specs.Names.{IsJournal}

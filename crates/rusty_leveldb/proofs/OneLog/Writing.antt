@@ -6,8 +6,8 @@ use Rattle.leveldb_env.specs.Disk.{File, Files, bytes_of, file_kept, longer_file
 use Rattle.leveldb_env.specs.Calls.{EitherSide, Appending}
 use Rattle.leveldb_env.specs.FileLaws.{at_same, extended-same, appended}
 use Rattle.leveldb_mem.specs.Log.{clean, IsLogFile, frame_at}
-use Rattle.leveldb_mem.specs.LogLaws.{log_laws}
-use Rattle.leveldb_mem.specs.Batch.{BatchOf}
+use Rattle.leveldb_mem.proofs.LawsLemmas.{log_laws}
+use Rattle.leveldb_mem.specs.WriteBatch.{BatchOf}
 use Rattle.rusty_leveldb.specs.Contents.{Contents}
 use Rattle.rusty_leveldb.specs.OneLog.{log_path, IsOneLog, max_sequence}
 use Rattle.rusty_leveldb.specs.Holds.{Carries, IsSafe, Holds}

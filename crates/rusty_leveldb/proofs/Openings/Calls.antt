@@ -10,7 +10,7 @@ use Rattle.leveldb_env.specs.Calls.{Does, EitherSide, Still, NoMemory}
 use Rattle.leveldb_env.specs.Runs.{Run, Run-mono, Run-trans}
 use Rattle.leveldb_env.specs.FileLaws.{at_same}
 use Rattle.leveldb_mem.specs.Log.{log_block_size, End, clean, bad}
-use Rattle.leveldb_mem.specs.Writing.{Writing}
+use Rattle.leveldb_mem.specs.Log.Writer.{WriterState}
 use Rattle.rusty_leveldb.specs.Recent.{Numbered}
 use Rattle.rusty_leveldb.specs.Replay.{AreBatches, IsReplayed, IsDamaged}
 use Rattle.rusty_leveldb.specs.Recovery.{IsFoundAs, framed_file, kept_log, IsMadeKept, SparesLog, IsRecovered, HasCauses, IsFoundOr, IsUntold, IsNotMade, IsNoLog}
@@ -65,8 +65,8 @@ module _ (create : Bool) (first read mid now : Files) (name path : List ℕ) (te
   open_spares is either = subst (λ p. SparesLog create (first p) (now p)) named (opening_spares create (first name) records is_clean has are (mid name) (now name) (since_first is) either)
 
   -- when it is open
-  pub open_recovers : (size : ℕ) (writer : Writing) (recent : Numbered) → mid name ≡ (if is_clean then read name else Some (framed_file records)) → now name ≡ Some (kept_log (mid name))
-      → size ≡ length (bytes_of (kept_log (mid name))) → writer ≡ record { size = log_block_size; place = size % log_block_size; broken = false } → IsReplayed records recent
+  pub open_recovers : (size : ℕ) (writer : WriterState) (recent : Numbered) → mid name ≡ (if is_clean then read name else Some (framed_file records)) → now name ≡ Some (kept_log (mid name))
+      → size ≡ length (bytes_of (kept_log (mid name))) → writer ≡ record { size = log_block_size; offset = size % log_block_size; broken = false } → IsReplayed records recent
       → IsRecovered create (first path) (now path) writer recent
   open_recovers size writer recent is there sized stands replayed = subst (λ p. IsRecovered create (first p) (now p) writer recent) named
       (opened_recovers create (first name) records is_clean has are (mid name) (now name) size writer recent (since_first is) there sized stands replayed)

@@ -5,7 +5,7 @@ use Rattle.leveldb_base.specs.declared.error.Status.{Status}
 use Rattle.leveldb_base.specs.declared.error.StatusCode.TheVariants.{Corruption}
 use Rattle.leveldb_env.specs.Disk.{File, Files, Disk, created, lock_set, same}
 use Rattle.leveldb_env.specs.Times.{Told}
-use Rattle.leveldb_mem.specs.Writing.{Writing}
+use Rattle.leveldb_mem.specs.Log.Writer.{WriterState}
 use Rattle.leveldb_env.specs.Calls.{Does, EitherSide, Still, SameLocks, Relocks, HasCause, NoMemory, IsLocked}
 use Rattle.leveldb_env.specs.FileLaws.{bytes_eq-same, bytes_eq-apart}
 use Rattle.rusty_leveldb.specs.OneLog.{log_path, IsRead}
@@ -113,7 +113,7 @@ still_taken name from taken to is locks rest = (
 )
 
 -- a store that was opened isn't one that is never opened
-pub may_open : {name : List ℕ} {create : Bool} {from taken : Disk} {now : Option File} {writer : Writing} {recent : Numbered} → IsTaken name from taken → IsRecovered create (taken.files (log_path name)) now writer recent → NeverOpens name create from → ⊥
+pub may_open : {name : List ℕ} {create : Bool} {from taken : Disk} {now : Option File} {writer : WriterState} {recent : Numbered} → IsTaken name from taken → IsRecovered create (taken.files (log_path name)) now writer recent → NeverOpens name create from → ⊥
 may_open {name} {create} {from} {taken} took got = ⊎_elim
     (λ held. let never : true ≡ false = sym held ∙ took.was_free in absurd (cc))
     (λ unusable. usable create (taken.files (log_path name)) got.records got.end got.was_found got.replayed.read (subst (IsUnusable create) (sym took.log) unusable))

@@ -10,7 +10,7 @@ use Rattle.leveldb_env.specs.Calls.{Appending}
 use Rattle.leveldb_env.specs.FileLaws.{extended-same, SameBut-appending}
 use Rattle.leveldb_env.specs.Runs.{Run}
 use Rattle.leveldb_mem.specs.Log.{frame_at}
-use Rattle.leveldb_mem.specs.Batch.{BatchOf}
+use Rattle.leveldb_mem.specs.WriteBatch.{BatchOf}
 use Rattle.rusty_leveldb.specs.declared.db_impl.engine.Mode.TheVariants.{Broken}
 use Rattle.rusty_leveldb.specs.declared.db_impl.engine.Engine.{Engine}
 use Rattle.rusty_leveldb.specs.OneLog.{log_path, max_sequence}

@@ -9,8 +9,8 @@ use Rattle.leveldb_env.specs.Calls.{HasCause, IsGone}
 use Rattle.leveldb_env.specs.FileLaws.{at_same}
 use Rattle.leveldb_env.specs.OpenFiles.{opened, Appends, Syncs}
 use Rattle.leveldb_env.specs.Runs.{cause_after, cause_same}
-use Rattle.leveldb_mem.specs.Writing.{Adds, Refuses, Flushes}
-use Rattle.leveldb_mem.specs.Writing as writing
+use Rattle.leveldb_mem.specs.Log.Writer.{AddsRecord, FailsToAdd, Flushes}
+use Rattle.leveldb_mem.specs.Log.Writer as writing
 use Rattle.rusty_leveldb.specs.declared.db_impl.engine.Mode.TheVariants.{Open, Broken, Closed}
 use Rattle.rusty_leveldb.specs.declared.db_impl.engine.Engine.{Engine}
 use Rattle.rusty_leveldb.specs.Engine.{WriteExcused, LogExcused}
@@ -41,7 +41,7 @@ module _ {E C FP F I : Type 0} {D : I → Type 0} (env : Ghosts E F) (engine : E
   write_cause before after status cause = cause_same (Err status) to_write to_log cause
 
   -- a refused append
-  pub append_cause : (status : Status) (writer : writing.Writing) (log : F) (to : E) → Refuses (Appends env) engine.writer (opened from engine.log) bytes status writer (opened to log)
+  pub append_cause : (status : Status) (writer : writing.WriterState) (log : F) (to : E) → FailsToAdd (Appends env) engine.writer (opened from engine.log) bytes status writer (opened to log)
       → HasCause {T = Unit {0}} (WriteExcused env engine from items) (env.failures from) (env.failures to) (Err status)
   append_cause status writer log to refusal = ⊎_elim
       (λ kept.
@@ -50,7 +50,7 @@ module _ {E C FP F I : Type 0} {D : I → Type 0} (env : Ghosts E F) (engine : E
       (λ put. write_cause (env.failures from) (env.failures to) status put.0.cause) refusal.why
 
   -- where the device refused it, the writer is broken
-  pub append_breaks : (status : Status) (writer : writing.Writing) (log : F) (to : E) → Refuses (Appends env) engine.writer (opened from engine.log) bytes status writer (opened to log)
+  pub append_breaks : (status : Status) (writer : writing.WriterState) (log : F) (to : E) → FailsToAdd (Appends env) engine.writer (opened from engine.log) bytes status writer (opened to log)
       → env.failures from < env.failures to → IsTrue writer.broken
   append_breaks status writer log to refusal more = ⊎_elim
       (λ kept.
@@ -60,7 +60,7 @@ module _ {E C FP F I : Type 0} {D : I → Type 0} (env : Ghosts E F) (engine : E
 
   -- ---- behind an append that was done
 
-  module _ (writer : writing.Writing) (log : F) (mid : E) (count : ℕ) (adds : Adds (Appends env) engine.writer (opened from engine.log) bytes count writer (opened mid log)) where
+  module _ (writer : writing.WriterState) (log : F) (mid : E) (count : ℕ) (adds : AddsRecord (Appends env) engine.writer (opened from engine.log) bytes count writer (opened mid log)) where
     put : Appends env (opened from engine.log) (writing.frame engine.writer bytes) (Ok tt) (opened mid log)
     put = adds.put (batch_some bytes (engine.recent.last + 1) items next.is_batch)
 
@@ -84,13 +84,13 @@ module _ {E C FP F I : Type 0} {D : I → Type 0} (env : Ghosts E F) (engine : E
     gone_still e (inr none) = inr (none.0, none.1, under_name none.1 ∙ ap (option_map (longer_file (writing.frame engine.writer bytes))) none.2)
 
     -- a refused sync
-    pub sync_cause : (status : Status) (then : writing.Writing) (log_then : F) (to : E) → Flushes (Syncs env) writer (opened mid log) (Err status) then (opened to log_then)
+    pub sync_cause : (status : Status) (then : writing.WriterState) (log_then : F) (to : E) → Flushes (Syncs env) writer (opened mid log) (Err status) then (opened to log_then)
         → HasCause {T = Unit {0}} (WriteExcused env engine from items) (env.failures from) (env.failures to) (Err status)
     sync_cause status then log_then to flushed = write_cause (env.failures from) (env.failures to) status
         (cause_after append_counted (cause_same (Err status) gone_before gone_still flushed.flushed.cause))
 
     -- a sync that was done
-    pub sync_counted : (then : writing.Writing) (log_then : F) (to : E) → Flushes (Syncs env) writer (opened mid log) (Ok tt) then (opened to log_then) → env.failures to ≡ env.failures from
+    pub sync_counted : (then : writing.WriterState) (log_then : F) (to : E) → Flushes (Syncs env) writer (opened mid log) (Ok tt) then (opened to log_then) → env.failures to ≡ env.failures from
     sync_counted then log_then to flushed = flushed.flushed.cause.ok ∙ append_counted
 
   -- a write that was done

@@ -12,9 +12,9 @@ use Rattle.leveldb_env.specs.Calls.{EitherSide, Appending}
 use Rattle.leveldb_env.specs.Runs.{Run}
 use Rattle.leveldb_env.specs.FileLaws.{SameBut, SameBut-trans, SameBut-synced, SameBut-appending, extended-same, synced-same, appended}
 use Rattle.leveldb_mem.specs.Log.{log_block_size, clean, IsLogFile}
-use Rattle.leveldb_mem.specs.LogLaws.{log_laws}
-use Rattle.leveldb_mem.specs.Writing.{behind_frame}
-use Rattle.leveldb_mem.specs.Batch.{batch_of}
+use Rattle.leveldb_mem.proofs.LawsLemmas.{log_laws}
+use Rattle.leveldb_mem.specs.Log.Writer.{after_frame}
+use Rattle.leveldb_mem.specs.WriteBatch.{batch_of}
 use Rattle.rusty_leveldb.specs.declared.db_impl.engine.Mode.TheVariants.{Open}
 use Rattle.rusty_leveldb.specs.declared.db_impl.engine.Engine.{Engine}
 use Rattle.rusty_leveldb.specs.Names.{lock_path}
@@ -51,7 +51,7 @@ module _ {E C FP F I : Type 0} {D : I → Type 0} (env : Ghosts E F) (store : Li
     pub locks : (env.tells to).disk.locked ≡ (env.tells from).disk.locked
     pub lock : after.lock ≡ engine.lock
     pub mode : after.mode ≡ Open
-    pub writer : after.writer ≡ behind_frame engine.writer bytes
+    pub writer : after.writer ≡ after_frame engine.writer bytes
     pub log : env.name_of after.log ≡ env.name_of engine.log
     pub inserts : Inserts engine.recent (batch_of (old.last + 1) items) after.recent
     pub up_to_last : AreUpTo engine.recent.last engine.recent.kept.entries
@@ -123,8 +123,8 @@ module _ {E C FP F I : Type 0} {D : I → Type 0} (env : Ghosts E F) (store : Li
       locked = ap (λ locked. locked (lock_path store)) added.locks ∙ was.disk_is.locked;
     }
 
-    writer_is : after.writer ≡ record { size = log_block_size; place = length (bytes_of wrote.file) % log_block_size; broken = false }
-    writer_is = added.writer ∙ ap (λ w. behind_frame w bytes) was.writes.writer ∙ ap (λ n. record { size = log_block_size; place = n; broken = false }) place
+    writer_is : after.writer ≡ record { size = log_block_size; offset = length (bytes_of wrote.file) % log_block_size; broken = false }
+    writer_is = added.writer ∙ ap (λ w. after_frame w bytes) was.writes.writer ∙ ap (λ n. record { size = log_block_size; offset = n; broken = false }) place
       where
         place : (length (bytes_of was.writes.file) % log_block_size + length the_frame) % log_block_size ≡ length (bytes_of wrote.file) % log_block_size
         place = let all = ap length wrote.bytes_are ∙ length-append (bytes_of was.writes.file) the_frame in omega arith

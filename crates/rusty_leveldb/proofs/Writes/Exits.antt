@@ -11,9 +11,9 @@ use Rattle.leveldb_env.specs.Calls.{Does, EitherSide, Appending}
 use Rattle.leveldb_env.specs.FileLaws.{extended-same, appended}
 use Rattle.leveldb_env.specs.OpenFiles.{opened, Appends, Syncs}
 use Rattle.leveldb_env.specs.Runs.{Run, Run-call, Run-mono, cause_after}
-use Rattle.leveldb_mem.specs.Batch.{batch_of}
-use Rattle.leveldb_mem.specs.Writing.{Adds, Refuses, Flushes}
-use Rattle.leveldb_mem.specs.Writing as writing
+use Rattle.leveldb_mem.specs.WriteBatch.{batch_of}
+use Rattle.leveldb_mem.specs.Log.Writer.{AddsRecord, FailsToAdd, Flushes}
+use Rattle.leveldb_mem.specs.Log.Writer as writing
 use Rattle.rusty_leveldb.specs.declared.db_impl.engine.Mode.TheVariants.{Open, Broken}
 use Rattle.rusty_leveldb.specs.declared.db_impl.engine.Engine.{Engine}
 use Rattle.rusty_leveldb.specs.OneLog.{log_path}
@@ -74,7 +74,7 @@ module _ {E C FP F I : Type 0} {D : I → Type 0} (env : Ghosts E F) (tells : Is
         same_mode : after.mode ≡ engine.mode
         same_mode = mode ∙ ap (λ (b : Bool). if b then Broken else engine.mode) (ap (λ w. w.broken) writer ∙ sound)
 
-    pub append_refused : (status : Status) → Refuses (Appends env) engine.writer (opened from engine.log) bytes status after.writer (opened to after.log) → Refused status
+    pub append_refused : (status : Status) → FailsToAdd (Appends env) engine.writer (opened from engine.log) bytes status after.writer (opened to after.log) → Refused status
     append_refused status refusal = ⊎_elim
         (λ kept.
         let same_env : to ≡ from = ap (λ o. o.env) kept.1.same_sink in
@@ -92,7 +92,7 @@ module _ {E C FP F I : Type 0} {D : I → Type 0} (env : Ghosts E F) (tells : Is
   -- ---- an append that was done
 
   module _ (middle : Engine E C FP F I D) (mid : E) (rest : middle ≡ record engine { log = middle.log; writer = middle.writer; mode = middle.mode })
-      (mode : middle.mode ≡ (if middle.writer.broken then Broken else engine.mode)) (count : ℕ) (adds : Adds (Appends env) engine.writer (opened from engine.log) bytes count middle.writer (opened mid middle.log)) where
+      (mode : middle.mode ≡ (if middle.writer.broken then Broken else engine.mode)) (count : ℕ) (adds : AddsRecord (Appends env) engine.writer (opened from engine.log) bytes count middle.writer (opened mid middle.log)) where
     put : Appends env (opened from engine.log) (writing.frame engine.writer bytes) (Ok tt) (opened mid middle.log)
     put = adds.put (batch_some bytes (old.last + 1) items next.is_batch)
 

@@ -11,7 +11,7 @@ use Rattle.leveldb_env.specs.FileLaws.{SameBut-synced, synced-same}
 use Rattle.leveldb_env.specs.OpenFiles.{opened, Syncs}
 use Rattle.leveldb_env.specs.Runs.{Run}
 use Rattle.leveldb_mem.specs.Log.{log_block_size, clean, IsLogFile}
-use Rattle.leveldb_mem.specs.Writing.{Flushes}
+use Rattle.leveldb_mem.specs.Log.Writer.{Flushes}
 use Rattle.rusty_leveldb.specs.declared.db_impl.engine.Mode.TheVariants.{Open, Broken}
 use Rattle.rusty_leveldb.specs.declared.db_impl.engine.Engine.{Engine}
 use Rattle.rusty_leveldb.specs.Names.{lock_path}
@@ -121,7 +121,7 @@ module _ {E C FP F I : Type 0} {D : I → Type 0} (env : Ghosts E F) (cmp : List
           records = was.writes.records;
           ends = subst (λ b. IsLogFile b was.writes.records clean) (sym same_bytes) was.writes.ends;
           name = log ∙ was.writes.name;
-          writer = writer ∙ was.writes.writer ∙ ap (λ b. record { size = log_block_size; place = length b % log_block_size; broken = false }) (sym same_bytes);
+          writer = writer ∙ was.writes.writer ∙ ap (λ b. record { size = log_block_size; offset = length b % log_block_size; broken = false }) (sym same_bytes);
         };
       }
 

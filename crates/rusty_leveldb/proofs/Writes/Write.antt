@@ -7,8 +7,8 @@ use Rattle.leveldb_base.specs.History.{Item, AreUpTo}
 use Rattle.leveldb_env.specs.declared.env.Env.{Ghosts}
 use Rattle.leveldb_env.specs.Disk.{AreBytes}
 use Rattle.leveldb_env.specs.OpenFiles.{opened, Appends, Syncs}
-use Rattle.leveldb_mem.specs.Batch.{Batch, BatchOf, batch_of, with_item}
-use Rattle.leveldb_mem.specs.Writing.{Writing, broken_off, Adds, Refuses, Flushes}
+use Rattle.leveldb_mem.specs.WriteBatch.{Batch, BatchOf, batch_of, with_item}
+use Rattle.leveldb_mem.specs.Log.Writer.{WriterState, broken_writer, AddsRecord, FailsToAdd, Flushes}
 use Rattle.rusty_leveldb.specs.declared.db_impl.engine.Mode.{Mode}
 use Rattle.rusty_leveldb.specs.declared.db_impl.engine.Mode.TheVariants.{Open, Broken}
 use Rattle.rusty_leveldb.specs.declared.db_impl.engine.Engine.{Engine}
@@ -75,12 +75,12 @@ module _ {E C FP F I : Type 0} {D : I → Type 0} (env : Ghosts E F) (tells : Is
 
   -- the append was refused
   pub refused_append : (after : Engine E C FP F I D) (to : E) (status : Status) → after ≡ record prepared { log = after.log; writer = after.writer; mode = after.mode } → after.mode ≡ (if after.writer.broken then Broken else engine.mode)
-      → Refuses (Appends env) engine.writer (opened from engine.log) bytes status after.writer (opened to after.log) → Wrote env store cmp engine from old items sync after to (refused (refusal_of status))
+      → FailsToAdd (Appends env) engine.writer (opened from engine.log) bytes status after.writer (opened to after.log) → Wrote env store cmp engine from old items sync after to (refused (refusal_of status))
   refused_append after to status rest mode refusal = from_prepared (refused (refusal_of status)) after to (append_refused env tells store prepared from old now open_now items bytes next_now cmp sync after to rest mode status refusal)
 
   -- it was done
   module _ (middle : Engine E C FP F I D) (mid : E) (rest : middle ≡ record prepared { log = middle.log; writer = middle.writer; mode = middle.mode }) (mode : middle.mode ≡ (if middle.writer.broken then Broken else engine.mode))
-      (count : ℕ) (adds : Adds (Appends env) engine.writer (opened from engine.log) bytes count middle.writer (opened mid middle.log)) where
+      (count : ℕ) (adds : AddsRecord (Appends env) engine.writer (opened from engine.log) bytes count middle.writer (opened mid middle.log)) where
     -- and the sync was refused
     pub refused_sync : (after : Engine E C FP F I D) (to : E) (status : Status) → after ≡ record middle { log = after.log; writer = after.writer; mode = after.mode } → after.mode ≡ Broken
         → Flushes (Syncs env) middle.writer (opened mid middle.log) (Err status) after.writer (opened to after.log) → Wrote env store cmp engine from old items sync after to (refused (refusal_of status))
@@ -153,8 +153,8 @@ stays_plain old middle self mode self_is = subst (λ m. IsTrue m.writer.broken �
 pub stays_synced : {E C FP F I : Type 0} {D : I → Type 0} (old : Mode) (middle after self : Engine E C FP F I D) → middle.mode ≡ (if middle.writer.broken then Broken else old)
     → after.writer ≡ middle.writer → after.mode ≡ middle.mode → self ≡ after → IsTrue self.writer.broken ⊎ (self.mode ≡ old)
 stays_synced old middle after self mode writer same self_is =
-    stays_plain old after self (same ∙ mode ∙ ap (λ (w : Writing). if w.broken then Broken else old) (sym writer)) self_is
+    stays_plain old after self (same ∙ mode ∙ ap (λ (w : WriterState). if w.broken then Broken else old) (sym writer)) self_is
 
 -- a writer that broke tells so
-pub stays_refused : (old after : Writing) (before now : Mode) → after ≡ broken_off old → IsTrue after.broken ⊎ (now ≡ before)
-stays_refused old after before now broke = inl (ap (λ (w : Writing). w.broken) broke)
+pub stays_refused : (old after : WriterState) (before now : Mode) → after ≡ broken_writer old → IsTrue after.broken ⊎ (now ≡ before)
+stays_refused old after before now broke = inl (ap (λ (w : WriterState). w.broken) broke)

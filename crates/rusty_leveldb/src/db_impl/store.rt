@@ -1,7 +1,7 @@
 //! The public store: an engine beside a borrow of its environment. Its calls lend the environment to the engine.
 ghost use Rattle.std.specs.Prelude.{◌≡◌, ◌<◌, ◌⊎◌, ◌∷◌, [], Some, None, true, false, IfOk, IfErr, OnOk, OnErr, IsErrAnd, IsTrue};
 ghost use Rattle.leveldb_env.specs.Calls.{HasCause};
-ghost use Rattle.leveldb_mem.specs.Batch.{item_of};
+ghost use Rattle.leveldb_mem.specs.WriteBatch.{item_of};
 ghost use Rattle.rusty_leveldb.specs.State.{Opening, open_store, write, get, flush, close, abandon, done, refused};
 ghost use Rattle.rusty_leveldb.specs.Serves.{done_or, found_or, refusal_of};
 ghost use Rattle.rusty_leveldb.specs.declared.db_impl.engine.Mode.TheVariants.{Open};

@@ -1,7 +1,7 @@
 //! Runs of commands.
 ghost use Rattle.std.specs.Prelude.{◌≡◌, ◌≤◌, ◌⊎◌, ◌++◌, List, Some, length, drop, map, IfOk, OnOk, IfErr, IsTrue};
 ghost use Rattle.leveldb_base.specs.Error.{IsOutOfMemory};
-ghost use Rattle.leveldb_mem.specs.Batch.{with_item, IsTooLong};
+ghost use Rattle.leveldb_mem.specs.WriteBatch.{with_item, IsTooLong};
 ghost use Rattle.rusty_leveldb.specs.Causes.{IsLongBatch, HasFailed};
 ghost use Rattle.rusty_leveldb.specs.Engine.{IsStoreName, TimeGoesOn, Answers, OpenExcused};
 ghost use Rattle.rusty_leveldb.specs.Recovery.{NeverOpens};

@@ -4,9 +4,8 @@ use Rattle.leveldb_base.specs.Error.{IsOutOfMemory}
 use Rattle.leveldb_base.specs.declared.error.Status.{Status}
 use Rattle.leveldb_base.specs.declared.error.StatusCode.TheVariants.{AlreadyExists}
 use Rattle.leveldb_base.specs.History.{Entry}
-use Rattle.leveldb_mem.specs.Entries.{Gains, IsNewTo}
-use Rattle.leveldb_mem.specs.MemTable.{entry_of, Grows}
-use Rattle.leveldb_mem.proofs.Gaining.{caused}
+use Rattle.leveldb_mem.specs.MemTable.{Gains, IsNewTo, entry_of, Grows}
+use Rattle.leveldb_mem.proofs.EntryLemmas.{caused}
 use Rattle.leveldb_mem.proofs.memtable.MemTable.add.Goals as goal
 
 pub returns-then-put-clause-new : goal.returns-then-put-clause-new

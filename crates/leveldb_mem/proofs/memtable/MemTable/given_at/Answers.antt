@@ -1,7 +1,7 @@
 use Rattle.std.proofs.Common.{◌≡◌, [], List, Option, Some, ℕ, sym, subst, arith}
 use Rattle.std.proofs.lemmas.Bool.{iff_false}
 use Rattle.leveldb_mem.specs.MemTable.{entries_in, value_of, GivesAt}
-use Rattle.leveldb_mem.proofs.Newest.{gives_nothing, gives_other, gives_read}
+use Rattle.leveldb_mem.proofs.MemTableLemmas.{gives_nothing, gives_other, gives_read}
 use Rattle.leveldb_mem.proofs.memtable.MemTable.given_at.Goals as goal
 
 pub split_entry-parts-requires : goal.split_entry-parts-requires

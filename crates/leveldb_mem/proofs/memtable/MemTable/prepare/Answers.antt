@@ -1,6 +1,6 @@
 use Rattle.std.proofs.Common.{arith}
 use Rattle.std.proofs.lemmas.Result.{on_ok_weaker}
-use Rattle.leveldb_mem.proofs.Memories.{bytes_in-batch}
+use Rattle.leveldb_mem.proofs.MemTableLemmas.{bytes_in-batch}
 use Rattle.leveldb_mem.proofs.memtable.MemTable.prepare.Goals as goal
 
 pub returns-clause-ok : goal.returns-clause-ok

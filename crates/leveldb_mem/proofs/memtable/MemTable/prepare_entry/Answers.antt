@@ -1,4 +1,4 @@
-use Rattle.leveldb_mem.proofs.Memories.{keeps_room}
+use Rattle.leveldb_mem.proofs.MemTableLemmas.{keeps_room}
 use Rattle.leveldb_mem.proofs.memtable.MemTable.prepare_entry.Goals as goal
 
 pub returns-clause-room : goal.returns-clause-room

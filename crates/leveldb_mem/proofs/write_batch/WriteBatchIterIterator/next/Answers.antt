@@ -1,5 +1,5 @@
 use Rattle.std.proofs.Common.{rules}
-use Rattle.leveldb_mem.proofs.Entries.{entries_seen, none_left, first_left, others_left, length-others_left}
+use Rattle.leveldb_mem.proofs.WriteBatchLemmas.{entries_seen, none_left, first_left, others_left, length-others_left}
 use Rattle.leveldb_mem.proofs.write_batch.WriteBatchIterIterator.next.Goals as goal
 
 pub returns-in_err-item-clause-steps : goal.returns-in_err-item-clause-steps
