@@ -1,4 +1,4 @@
--- The Bloom filter: the bits that stand for a key, what is made of keys, and which keys match what was made.
+-- The Bloom filter: the bits of a key, what is made of keys, and which keys match what was made.
 use Rattle.std.specs.Prelude.{ℕ, zero, suc, ◌+◌, ◌-◌, ◌*◌, ◌/◌, ◌%◌, ◌^◌, ◌≤◌, min, max, Bool, ◌||◌, ◌==◌, nat_lt, nat_le, if◌then◌else◌, List, [], ◌∷◌, ◌++◌, length, map, slice_index, bit_xor}
 use Rattle.std.specs.List.{list_any, list_all, range_with_len}
 use Rattle.std.specs.Int.{w32, rotate_left, div_ceil, bit_at}
@@ -11,14 +11,14 @@ unfoldable pub mixed : ℕ → ℕ → ℕ → ℕ
 mixed shift hash number = let product = (hash + number) * 0xc6a4a793 % 2 ^ 32 in bit_xor product (product / 2 ^ shift)
 
 -- a text goes in: four bytes at a time as a number, the lowest first, then the one to three that are left
-unfoldable pub hash_behind : ℕ → List ℕ → ℕ
-hash_behind hash [] = hash
-hash_behind hash (a ∷ b ∷ c ∷ d ∷ rest) = hash_behind (mixed 16 hash (little_number 4 (a ∷ b ∷ c ∷ d ∷ []))) rest
-hash_behind hash rest = mixed 24 hash (little_number (length rest) rest)
+unfoldable pub hash_after : ℕ → List ℕ → ℕ
+hash_after hash [] = hash
+hash_after hash (a ∷ b ∷ c ∷ d ∷ rest) = hash_after (mixed 16 hash (little_number 4 (a ∷ b ∷ c ∷ d ∷ []))) rest
+hash_after hash rest = mixed 24 hash (little_number (length rest) rest)
 
 -- the hash of a key: it begins with a seed and the key's length
 unfoldable pub bloom_hash : List ℕ → ℕ
-bloom_hash key = hash_behind (bit_xor 0xbc9f1d34 (length key * 0xc6a4a793 % 2 ^ 32)) key
+bloom_hash key = hash_after (bit_xor 0xbc9f1d34 (length key * 0xc6a4a793 % 2 ^ 32)) key
 
 -- ---- the bits that stand for a key
 
@@ -61,8 +61,8 @@ bloom_filter bits_per_key keys =
     bytes_with len (is_probe (8 * len) count keys) ++ count ∷ []
 
 -- the filter's bits can't be numbered in 32 bits
-abbrev pub IsTooLarge : ℕ → List (List ℕ) → Type 0
-IsTooLarge bits_per_key keys = 2 ^ 32 ≤ 8 * bits_len bits_per_key (length keys)
+abbrev pub HasTooManyBits : ℕ → List (List ℕ) → Type 0
+HasTooManyBits bits_per_key keys = 2 ^ 32 ≤ 8 * bits_len bits_per_key (length keys)
 
 -- ---- what matches
 
@@ -75,9 +75,9 @@ abbrev pub count_in : List ℕ → ℕ
 count_in filter = slice_index filter (length filter - 1)
 
 -- a filter that tells nothing: it has no bits, more than 30 probes a key, or bits that can't be numbered in 32 bits
-abbrev pub tells_nothing : List ℕ → Bool
-tells_nothing filter = nat_le (length filter) 1 || nat_lt 30 (count_in filter) || nat_le (2 ^ 32) (bits_of filter)
+abbrev pub matches_all : List ℕ → Bool
+matches_all filter = nat_le (length filter) 1 || nat_lt 30 (count_in filter) || nat_le (2 ^ 32) (bits_of filter)
 
 -- such a filter lets every key pass, and another one those of which each probe is set
 unfoldable pub bloom_matches : List ℕ → List ℕ → Bool
-bloom_matches key filter = tells_nothing filter || list_all (has_bit filter) (probes (bits_of filter) (count_in filter) key)
+bloom_matches key filter = matches_all filter || list_all (has_bit filter) (probes (bits_of filter) (count_in filter) key)

@@ -1,17 +1,34 @@
--- The laws of filter blocks: bytes have one reading, filters one spelling, and a key that was added is found.
-use Rattle.std.proofs.Common.{◌≡◌, ℕ, zero, suc, ◌+◌, ◌-◌, ◌/◌, ◌^◌, ◌<◌, inl, inr, Bool, true, List, [], ◌∷◌, ◌++◌, length, flat_map, get_or, replicate, slice_get, Option, None, Some, Contains, refl, sym, ◌∙◌, ap, subst, arith, append_assoc, length-append}
-use Rattle.std.specs.Prelude.{IsSomeAnd}
+-- A filter block has one list of filters. This is in specs/ since a ghost field of `FilterBlockReader`
+-- is unique by it, and the checker takes no term of proofs/ there.
+use Rattle.std.proofs.Common.{◌≡◌, ℕ, zero, suc, ◌+◌, ◌-◌, ◌*◌, ◌/◌, ◌^◌, ◌<◌, ◌≤◌, List, [], ◌∷◌, ◌++◌, length, drop, get_or, flat_map, refl, sym, ◌∙◌, ap, subst, arith, append_assoc, length-drop, inl, inr, Bool, true, replicate, slice_get, Option, None, Some, Contains, length-append}
 use Rattle.std.specs.List.{All, concat}
+use Rattle.std.proofs.lemmas.List.{take-append-drop, drop_at, drop-drop, nil_from_length, append-nil, length-replicate}
+use Rattle.std.proofs.lemmas.List.Elements.{All-nil, All-cons, All-head, All-tail, All-drop, Contains-push, Contains-append_left}
+use Rattle.byteorder.specs.Endian.{little_from, little_number}
+use Rattle.byteorder.specs.Numbers.{little_from-lt, little_number-reads_back}
+use Rattle.leveldb_base.specs.Varint.{little}
+use Rattle.leveldb_base.proofs.VarintLemmas.{apart, little-little_number, apart_right}
+use Rattle.leveldb_env.specs.FilterBlock.{numbers, numbers_in, offsets_from, filter_block, FilterBlocksAreInjective, FilterBlocksAreUnique, FiltersBuilt, filter_of, with_filters, finished, IsKeyKept, KeepsKeys, places_from, IsBlockEndingAt, HasFiltersEndingAt}
+use Rattle.std.specs.Prelude.{IsSomeAnd}
 use Rattle.std.specs.Option.{option_map_or}
 use Rattle.std.proofs.Props.{props}
 use mathlib.Core.HLevel.{Σ_prop_path}
-use Rattle.std.proofs.lemmas.List.{append-nil, length-replicate}
-use Rattle.std.proofs.lemmas.List.Elements.{All-nil, All-cons, Contains-push, Contains-append_left}
-use Rattle.leveldb_base.specs.Varint.{little}
-use Rattle.leveldb_base.proofs.VarintLemmas.{apart, apart_right}
-use Rattle.leveldb_env.specs.FilterBlock.{offsets_from, filter_block, OneReading, OneSpelling, Building, filter_of, with_filters, finished, IsKept, KeepsKeys}
-use Rattle.leveldb_env.specs.FilterBlockParts.{places_from, IsHeld, Held}
-use Rattle.leveldb_env.specs.NumberLaws.{one_fixed, one_numbers}
+
+-- ---- numbers of four bytes each
+
+pub one_fixed : (m n : ℕ) (x y : List ℕ) → m < 2 ^ 32 → n < 2 ^ 32 → little 4 m ++ x ≡ little 4 n ++ y → (m ≡ n) × (x ≡ y)
+one_fixed m n x y hm hn e = (
+  sym (little_number-reads_back 4 m x (omega (arith, hm))) ∙ ap (little_from 0 4) e ∙ little_number-reads_back 4 n y (omega (arith, hn)),
+  (apart (little 4 m) (little 4 n) x y refl e).1,
+)
+
+pub one_numbers : (ms ns : List ℕ) → All (λ n. n < 2 ^ 32) ms → All (λ n. n < 2 ^ 32) ns → flat_map (little 4) ms ≡ flat_map (little 4) ns → ms ≡ ns
+one_numbers [] [] hm hn e = refl
+one_numbers [] (n ∷ ns) hm hn e = absurd (omega (arith, ap length e))
+one_numbers (m ∷ ms) [] hm hn e = absurd (omega (arith, ap length e))
+one_numbers (m ∷ ms) (n ∷ ns) hm hn e =
+    let first = one_fixed m n (flat_map (little 4) ms) (flat_map (little 4) ns) (All-head (λ z. z < 2 ^ 32) m ms hm) (All-head (λ z. z < 2 ^ 32) n ns hn) e in
+    ap (λ z. z ∷ ms) first.0 ∙ ap (λ z. n ∷ z) (one_numbers ms ns (All-tail (λ z. z < 2 ^ 32) m ms hm) (All-tail (λ z. z < 2 ^ 32) n ns hn) first.1)
 
 -- ---- where texts begin
 
@@ -75,7 +92,7 @@ one_end xs ys hx hy e =
     let last = (apart_right (a ++ p) (b ++ q) m n refl (append_assoc a p m ∙ e ∙ sym (append_assoc b q n))).1 in
     (one_fixed (length a) (length b) (11 ∷ []) (11 ∷ []) hx hy last).0
 
-pub one_reading : OneReading
+pub one_reading : FilterBlocksAreInjective
 one_reading bytes xs ys f g =
     let same = sym f.spelled ∙ g.spelled in
     let end = one_end xs ys f.fits g.fits same in
@@ -86,71 +103,9 @@ one_reading bytes xs ys f g =
     one_texts 0 xs ys parts.0
     (one_numbers (places_from 0 xs) (places_from 0 ys) (places_small 0 (2 ^ 32) xs (omega (arith, f.fits))) (places_small 0 (2 ^ 32) ys (omega (arith, g.fits))) places)
 
-pub one_spelling : OneSpelling
-one_spelling bytes others filters f g = f.spelled ∙ sym g.spelled
-
-IsHeld-prop : (bytes : List ℕ) (limit : ℕ) (filters : List (List ℕ)) → IsProp (IsHeld bytes limit filters)
+IsHeld-prop : (bytes : List ℕ) (limit : ℕ) (filters : List (List ℕ)) → IsProp (IsBlockEndingAt bytes limit filters)
 IsHeld-prop bytes limit filters = hlevel props
 
 -- a filter block is held in one way
-pub Held-prop : (bytes : List ℕ) (limit : ℕ) → IsProp (Held bytes limit)
-Held-prop bytes limit = λ u v. Σ_prop_path (IsHeld-prop bytes limit) (one_reading bytes u.0 v.0 u.1.block v.1.block)
-
--- ---- what was added is found
-
--- what holds of an element holds of it in a longer list
-left_get : {X : Type 0} (P : X → Type 0) (xs ys : List X) (i : ℕ) → IsSomeAnd (slice_get xs i) P → IsSomeAnd (slice_get (xs ++ ys) i) P
-left_get P [] ys i h = absurd h
-left_get P (x ∷ xs) ys zero h = h
-left_get P (x ∷ xs) ys (suc i) h = left_get P xs ys i h
-
-here_get : {X : Type 0} (P : X → Type 0) (xs : List X) (y : X) (ys : List X) → P y → IsSomeAnd (slice_get (xs ++ y ∷ ys) (length xs)) P
-here_get P [] y ys h = h
-here_get P (x ∷ xs) y ys h = here_get P xs y ys h
-
-some_pass : {X : Type 0} (test : X → Bool) (o : Option X) → IsSomeAnd o (λ x. test x ≡ true) → option_map_or test o true ≡ true
-some_pass test None h = absurd h
-some_pass test (Some x) h = h
-
-module _ {FP : Type 0} (make : FP → List (List ℕ) → List ℕ) (matches : FP → List ℕ → List ℕ → Bool) (finds : (policy : FP) (keys : List (List ℕ)) (key : List ℕ) → Contains keys key → matches policy key (make policy keys) ≡ true) where
-  made : (policy : FP) (keys : List (List ℕ)) (key : List ℕ) → Contains keys key → matches policy key (filter_of (make policy) keys) ≡ true
-  made policy [] key h = absurd (omega (arith, h.1))
-  made policy (first ∷ keys) key h = finds policy (first ∷ keys) key h
-
-  -- a filter that is made of the keys matches each of them
-  closed : (policy : FP) (filters keys more : List (List ℕ)) (offset : ℕ) (key : List ℕ) → IsKept (matches policy) filters keys offset key
-      → IsSomeAnd (slice_get (filters ++ filter_of (make policy) keys ∷ more) (offset / 2048)) (λ filter. matches policy key filter ≡ true)
-  closed policy filters keys more offset key (inl open_yet) =
-      subst (λ i. IsSomeAnd (slice_get (filters ++ filter_of (make policy) keys ∷ more) i) (λ filter. matches policy key filter ≡ true)) (sym open_yet.0)
-      (here_get (λ filter. matches policy key filter ≡ true) filters (filter_of (make policy) keys) more (made policy keys key open_yet.1))
-  closed policy filters keys more offset key (inr there) = left_get (λ filter. matches policy key filter ≡ true) filters (filter_of (make policy) keys ∷ more) (offset / 2048) there
-
-  length-with : (building : Building FP) (count : ℕ) → length (with_filters (make building.policy) count building).filters ≡ length building.filters + count
-  length-with building zero = omega arith
-  length-with building (suc others) =
-      omega (arith, length-append building.filters (filter_of (make building.policy) building.keys ∷ replicate others []), length-replicate others (let none : List ℕ = [] in none))
-
-  kept_with : (building : Building FP) (offset count : ℕ) (key : List ℕ) → IsKept (matches building.policy) building.filters building.keys offset key
-      → (let more = with_filters (make building.policy) count building in IsKept (matches more.policy) more.filters more.keys offset key)
-  kept_with building offset zero key h = h
-  kept_with building offset (suc others) key h = inr (closed building.policy building.filters building.keys (replicate others []) offset key h)
-
-  kept_more : (policy : FP) (filters keys : List (List ℕ)) (offset : ℕ) (key other : List ℕ) → IsKept (matches policy) filters keys offset key → IsKept (matches policy) filters (keys ++ other ∷ []) offset key
-  kept_more policy filters keys offset key other (inl open_yet) = inl (open_yet.0, Contains-append_left keys (other ∷ []) key open_yet.1)
-  kept_more policy filters keys offset key other (inr there) = inr there
-
-  kept_end : (policy : FP) (filters keys : List (List ℕ)) (offset : ℕ) (key : List ℕ) → IsKept (matches policy) filters keys offset key
-      → IsSomeAnd (slice_get (finished (make policy) filters keys) (offset / 2048)) (λ filter. matches policy key filter ≡ true)
-  kept_end policy filters [] offset key (inl open_yet) = absurd (omega (arith, open_yet.1.1))
-  kept_end policy filters [] offset key (inr there) = there
-  kept_end policy filters (first ∷ keys) offset key h = closed policy filters (first ∷ keys) [] offset key h
-
-  pub keeps_keys : KeepsKeys FP make matches
-  keeps_keys = record {
-    opens = λ building offset h. omega (arith, h, length-with building (offset / 2048 - length building.filters));
-    adds = λ building offset key e. inl (e, Contains-push building.keys key);
-    goes_on = λ building offset key other h. kept_more building.policy building.filters building.keys offset key other h;
-    starts = λ building offset next key h. kept_with building offset (next / 2048 - length building.filters) key h;
-    finishes = λ building offset key h. some_pass (matches building.policy key) (slice_get (finished (make building.policy) building.filters building.keys) (offset / 2048))
-        (kept_end building.policy building.filters building.keys offset key h);
-  }
+pub HasFiltersEndingAt-prop : (bytes : List ℕ) (limit : ℕ) → IsProp (HasFiltersEndingAt bytes limit)
+HasFiltersEndingAt-prop bytes limit = λ u v. Σ_prop_path (IsHeld-prop bytes limit) (one_reading bytes u.0 v.0 u.1.block v.1.block)

@@ -10,8 +10,8 @@ use Rattle.std.specs.Str.{bytes_eq}
 use Rattle.std.specs.declared.alloc.Global.{Global}
 use Rattle.leveldb_base.specs.declared.error.Status.{Status}
 use Rattle.leveldb_base.specs.declared.error.StatusCode.TheVariants.{InvalidArgument}
-use Rattle.leveldb_env.specs.Calls.{NoMemory}
-use Rattle.leveldb_env.specs.Disk.{Files, kept_file, AreBytes, Leaves}
+use Rattle.leveldb_base.specs.Error.{IsOutOfMemory}
+use Rattle.leveldb_env.specs.Env.{Files, kept_file, AreBytes, FilesCrashTo}
 
 -- names, each with the tail that is picked for it
 abbrev pub Tails : Type 0
@@ -45,9 +45,9 @@ pub record ListsTails (files : Files) (tails : Tails) : Type 0 where
   pub in_order : IsStrictlySortedBy (slice_cmp nat_cmp) (keys_of tails)
 
 -- whatever a crash leaves, it leaves by tails that are allowed
-abbrev pub LeavesByTails : Files → Type 0
-LeavesByTails files = (left : Files) → Leaves files left → (tails : Tails) × IsAllowed files tails × (left ≡ picked tails files)
+abbrev pub CrashesByTails : Files → Type 0
+CrashesByTails files = (left : Files) → FilesCrashTo files left → (tails : Tails) × IsAllowed files tails × (left ≡ picked tails files)
 
 -- a choice is refused where no crash leaves it, and else for want of memory alone
-abbrev pub IsRefused : Files → Tails → Status → Type 0
-IsRefused files tails e = (NoMemory e × IsAllowed files tails) ⊎ ((e.code ≡ InvalidArgument) × (IsAllowed files tails → ⊥))
+abbrev pub IsChoiceError : Files → Tails → Status → Type 0
+IsChoiceError files tails e = (IsOutOfMemory e × IsAllowed files tails) ⊎ ((e.code ≡ InvalidArgument) × (IsAllowed files tails → ⊥))

@@ -1,7 +1,7 @@
 //! Filters: what tells of most keys that they are in none of the blocks that it was made for.
 ghost use Rattle.std.specs.Prelude.{◌≡◌, ◌<◌, ◌≤◌, ℕ, Bool, true, List, [], length, All, Contains, IfOk, IfErr, OnOk, slice_index_or};
 ghost use Rattle.std.specs.List.Sorted.{IsNonDecreasing};
-ghost use Rattle.leveldb_env.specs.Filters.{keys_at, IsNoFilter};
+ghost use Rattle.leveldb_env.specs.Filter.{keys_at, IsFilterError};
 
 use leveldb_base::error::Result;
 use std::alloc::Global;
@@ -37,7 +37,7 @@ pub trait FilterPolicy {
         requires within { All (λ offset. offset ≤ length keys.now) key_offsets.now }
         ensures ok { IfOk result (λ filter. filter.items ≡ filter_for self.now (keys_at key_offsets.now keys.now)) }
         ensures fits { OnOk result (too_large self.now (keys_at key_offsets.now keys.now) → ⊥) }
-        ensures cause { IfErr result (IsNoFilter (too_large self.now (keys_at key_offsets.now keys.now))) };
+        ensures cause { IfErr result (IsFilterError (too_large self.now (keys_at key_offsets.now keys.now))) };
 
     /// Whether the key may be one of those that the filter was made for. It takes no memory.
     fn key_may_match(&self, key: &[u8], filter: &[u8]) -> bool

@@ -8,10 +8,8 @@ ghost use Rattle.std.specs.List.{concat};
 ghost use Rattle.leveldb_base.specs.Error.{IsOutOfMemory};
 ghost use Rattle.leveldb_base.specs.Varint.{little};
 ghost use Rattle.leveldb_base.specs.declared.error.StatusCode.TheVariants.{Corruption, NotSupported};
-ghost use Rattle.leveldb_env.specs.FilterBlock.{IsFilterBlock, IsNoFilterBlock, OneReading, OneSpelling, KeepsKeys, passes, filter_of, with_key, started, finished, IsTooLarge, IsNotMade};
-ghost use Rattle.leveldb_env.specs.FilterBlockParts.{places_from, BeginsAt, RiseFrom, Held, Checks};
-ghost use Rattle.leveldb_env.specs.FilterBlockLaws.{Held-prop};
-ghost use Rattle.leveldb_env.specs.Numbers.{numbers_in};
+ghost use Rattle.leveldb_env.specs.FilterBlock.{IsFilterBlock, IsNoFilterBlock, FilterBlocksAreInjective, FilterBlocksAreUnique, KeepsKeys, passes, filter_of, with_key, started, finished, IsFilterTooLarge, IsFilterNotMade, places_from, BeginsAt, RiseFrom, HasFiltersEndingAt, FindsFiltersEnd, numbers_in};
+ghost use Rattle.leveldb_env.specs.FilterBlockLaws.{HasFiltersEndingAt-prop};
 
 use crate::filter::FilterPolicy;
 use byteorder::{ByteOrder, LittleEndian};
@@ -40,11 +38,11 @@ pub struct FilterBlockBuilder<FP: FilterPolicy> {
 }
 
 impl<FP: FilterPolicy> Model for FilterBlockBuilder<FP> {
-    ghost use Rattle.leveldb_env.specs.FilterBlock.{Building, building_code};
+    ghost use Rattle.leveldb_env.specs.FilterBlock.{FiltersBuilt, filters_built_code};
 
-    ghost Value = { Building FP };
+    ghost Value = { FiltersBuilt FP };
 
-    ghost coded = { building_code FP.code };
+    ghost coded = { filters_built_code FP.code };
 
     ghost use Rattle.std.specs.Prelude.{◌^◌, ◌<◌, length};
     ghost use Rattle.std.specs.List.{concat};
@@ -101,10 +99,10 @@ impl<FP: FilterPolicy> FilterBlockBuilder<FP> {
         ensures policy { self.new.policy ≡ self.old.policy }
         ensures open { OnOk result (length self.new.filters ≡ offset / 2048) }
         ensures none { offset / 2048 ≡ length self.old.filters → IsOk result }
-        ensures not_too_large { OnOk result (length self.old.filters < offset / 2048 → IsTooLarge (FP.too_large self.old.policy) (FP.filter_for self.old.policy) self.old.filters self.old.keys → ⊥) }
+        ensures not_too_large { OnOk result (length self.old.filters < offset / 2048 → IsFilterTooLarge (FP.too_large self.old.policy) (FP.filter_for self.old.policy) self.old.filters self.old.keys → ⊥) }
         ensures fits { length (concat self.new.filters) < 2 ^ 32 }
         ensures err { OnErr result (self.new ≡ self.old) }
-        ensures cause { IfErr result (IsNotMade (FP.too_large self.old.policy) (FP.filter_for self.old.policy) self.old.filters self.old.keys) }
+        ensures cause { IfErr result (IsFilterNotMade (FP.too_large self.old.policy) (FP.filter_for self.old.policy) self.old.filters self.old.keys) }
     {
         let missing = offset / FILTER_BASE - self.filters.len();
         if missing == 0 {
@@ -121,8 +119,8 @@ impl<FP: FilterPolicy> FilterBlockBuilder<FP> {
     where
         FP: Drop,
         ensures ok { IfOk result (λ block. IsFilterBlock block.items (finished (FP.filter_for self.policy) self.filters self.keys)) }
-        ensures not_too_large { OnOk result (IsTooLarge (FP.too_large self.policy) (FP.filter_for self.policy) self.filters self.keys → ⊥) }
-        ensures cause { IfErr result (IsNotMade (FP.too_large self.policy) (FP.filter_for self.policy) self.filters self.keys) }
+        ensures not_too_large { OnOk result (IsFilterTooLarge (FP.too_large self.policy) (FP.filter_for self.policy) self.filters self.keys → ⊥) }
+        ensures cause { IfErr result (IsFilterNotMade (FP.too_large self.policy) (FP.filter_for self.policy) self.filters self.keys) }
     {
         if self.keys.len() > 0 {
             make_filters(&self.policy, &self.keys, &mut self.filters, 1)?;
@@ -141,10 +139,10 @@ fn make_filters<FP: FilterPolicy>(
     requires some { 1 ≤ count }
     requires fits { length (concat filters.old) < 2 ^ 32 }
     ensures ok { OnOk result (filters.new ≡ filters.old ++ filter_of (FP.filter_for policy.now) keys.now ∷ replicate (count - 1) []) }
-    ensures not_too_large { OnOk result (IsTooLarge (FP.too_large policy.now) (FP.filter_for policy.now) filters.old keys.now → ⊥) }
+    ensures not_too_large { OnOk result (IsFilterTooLarge (FP.too_large policy.now) (FP.filter_for policy.now) filters.old keys.now → ⊥) }
     ensures fits { length (concat filters.new) < 2 ^ 32 }
     ensures err { OnErr result (filters.new ≡ filters.old) }
-    ensures cause { IfErr result (IsNotMade (FP.too_large policy.now) (FP.filter_for policy.now) filters.old keys.now) }
+    ensures cause { IfErr result (IsFilterNotMade (FP.too_large policy.now) (FP.filter_for policy.now) filters.old keys.now) }
 {
     if keys.len() == 0 {
         return filters.push(&[], count);
@@ -209,15 +207,15 @@ pub struct FilterBlockReader<FP: FilterPolicy> {
 
     // where the filters end and their offsets begin
     limit: usize,
-    ghost held: { Held contents limit } by { Held-prop contents limit },
+    ghost held: { HasFiltersEndingAt contents limit } by { HasFiltersEndingAt-prop contents limit },
 }
 
 impl<FP: FilterPolicy> Model for FilterBlockReader<FP> {
-    ghost use Rattle.leveldb_env.specs.FilterBlock.{Reading, reading_code};
+    ghost use Rattle.leveldb_env.specs.FilterBlock.{FiltersRead, filters_read_code};
 
-    ghost Value = { Reading FP };
+    ghost Value = { FiltersRead FP };
 
-    ghost coded = { reading_code FP.code };
+    ghost coded = { filters_read_code FP.code };
 
     ghost view = { λ it. record { policy = it.policy; filters = it.held.0 } };
 }
@@ -287,7 +285,7 @@ impl<FP: FilterPolicy> FilterBlockReader<FP> {
 
 // Where the filters of a block end and their offsets begin; `None` where the bytes are no filter block.
 fn filters_end(bytes: &[u8]) -> Option<usize>
-    ensures { Checks bytes.now result }
+    ensures { FindsFiltersEnd bytes.now result }
 {
     let tail = bytes.len().checked_sub(5)?;
     let limit = LittleEndian::read_u32(&bytes[tail..]) as usize;
@@ -326,8 +324,8 @@ fn rise_from_zero(bytes: &[u8]) -> bool
 
 /// Bytes are a filter block in one way, and filters have one block.
 pub fn filter_blocks_have_one_reading()
-    ensures reading { OneReading }
-    ensures spelling { OneSpelling }
+    ensures reading { FilterBlocksAreInjective }
+    ensures spelling { FilterBlocksAreUnique }
 {}
 
 /// A key that was added for a block passes in the finished filter block at the block's offset: its filter is open when the

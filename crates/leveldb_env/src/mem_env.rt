@@ -1,11 +1,11 @@
 //! An environment in memory.
 ghost use Rattle.std.specs.Prelude.{◌≡◌, ◌⊎◌, ◌<◌, ◌+◌, ◌^◌, true, false, refl, ℕ, List, length, map, codes, Ok, IfOk, IfErr, IfSome, IsErrAnd, OnOk, OnErr, Some, None, IsSome, IsSomeAnd, is_some, string_bytes};
 ghost use Rattle.std.specs.BTreeSet.{contains_text};
-ghost use Rattle.leveldb_base.specs.Error.{status_text, annotated};
-ghost use Rattle.leveldb_env.specs.Disk.{bytes_of, emptied, created, deleted, renamed, extended, synced, without_folder, lock_set, LeavesDisk};
-ghost use Rattle.leveldb_env.specs.Calls.{NoMemory, Lists};
-ghost use Rattle.leveldb_env.specs.Picks.{picked, tails_of, IsAllowed, IsRefused, LeavesByTails};
-ghost use Rattle.leveldb_env.specs.Mem.{Changes, CopiesFrom, IsNoSuchFile, IsNoFileOrMemory, IsAlreadyLocked, IsNotLocked, lock_taken, lock_freed, disk_of, time_of, told_of, handle_name, handle_place, fails_below, never_stood, tells_no_moments};
+ghost use Rattle.leveldb_base.specs.Error.{status_text, annotated, IsOutOfMemory};
+ghost use Rattle.leveldb_env.specs.Env.{bytes_of, emptied, created, deleted, renamed, extended, synced, without_folder, lock_set, DiskCrashesTo, ListsChildren};
+ghost use Rattle.leveldb_env.specs.Picks.{picked, tails_of, IsAllowed, IsChoiceError, CrashesByTails};
+ghost use Rattle.leveldb_env.specs.MemEnv.{ChangesOrFails, CopiesFrom, IsNoSuchFile, IsNoFileOrMemory, IsAlreadyLocked, IsNotLocked, lock_taken, lock_freed, disk_of, time_of, mem_observed, handle_name, handle_offset};
+ghost use Rattle.leveldb_env.specs.MemEnvLaws.{mem_failures_below, mem_only_now, mem_counts_now};
 
 pub mod files;
 mod journal;
@@ -67,11 +67,11 @@ impl MemEnv {
     /// appended since. Each disk that a crash may leave is left by some choice.
     pub fn crashed(&self, alloc: Global, pick: &Pick) -> Result<MemEnv>
         ensures left { IfOk result (λ left. (disk_of left).files ≡ picked (tails_of pick.now.tails.items) (disk_of self.now).files) }
-        ensures leaves { IfOk result (λ left. LeavesDisk (disk_of self.now) (disk_of left)) }
+        ensures leaves { IfOk result (λ left. DiskCrashesTo (disk_of self.now) (disk_of left)) }
         ensures time { IfOk result (λ left. time_of left ≡ time_of self.now) }
         ensures allowed { OnOk result (IsAllowed (disk_of self.now).files (tails_of pick.now.tails.items)) }
-        ensures refused { IfErr result (IsRefused (disk_of self.now).files (tails_of pick.now.tails.items)) }
-        ensures every { LeavesByTails (disk_of self.now).files }
+        ensures refused { IfErr result (IsChoiceError (disk_of self.now).files (tails_of pick.now.tails.items)) }
+        ensures every { CrashesByTails (disk_of self.now).files }
     {
         if !picks::is_allowed(&self.files, pick.tails.as_slice()) {
             return err(
@@ -158,29 +158,29 @@ fn take_lock(locks: &mut BTreeSet<String>, name: &str) -> bool
 impl Env for MemEnv {
     type File = MemHandle;
 
-    ghost tells_disk = { true };
+    ghost models_disk = { true };
 
-    ghost tells_moments = { false };
+    ghost models_moments = { false };
 
-    ghost tells = { told_of };
+    ghost observed = { mem_observed };
 
     ghost failures = { λ _. 0 };
 
     ghost name_of = { handle_name };
 
-    ghost place_of = { handle_place };
+    ghost offset_of = { handle_offset };
 
-    ghost counts = { fails_below };
+    ghost counts = { mem_failures_below };
 
-    ghost only_now = { never_stood };
+    ghost only_now = { mem_only_now };
 
-    ghost counts_now = { tells_no_moments };
+    ghost counts_now = { mem_counts_now };
 
     ghost moments_need_disk = { λ told. refl };
 
     fn open_sequential_file(&mut self, name: &str) -> Result<MemHandle>
         ensures still { self.new ≡ self.old }
-        ensures file { IfOk result (λ file. (handle_name file ≡ name.now) × (handle_place file ≡ 0)) }
+        ensures file { IfOk result (λ file. (handle_name file ≡ name.now) × (handle_offset file ≡ 0)) }
         ensures there { OnOk result (IsSome ((disk_of self.old).files name.now)) }
         ensures refused { IfErr result (IsNoFileOrMemory (disk_of self.old).files name.now) }
     {
@@ -192,7 +192,7 @@ impl Env for MemEnv {
 
     fn open_random_access_file(&mut self, name: &str) -> Result<MemHandle>
         ensures still { self.new ≡ self.old }
-        ensures file { IfOk result (λ file. (handle_name file ≡ name.now) × (handle_place file ≡ 0)) }
+        ensures file { IfOk result (λ file. (handle_name file ≡ name.now) × (handle_offset file ≡ 0)) }
         ensures there { OnOk result (IsSome ((disk_of self.old).files name.now)) }
         ensures refused { IfErr result (IsNoFileOrMemory (disk_of self.old).files name.now) }
     {
@@ -200,9 +200,9 @@ impl Env for MemEnv {
     }
 
     fn open_writable_file(&mut self, name: &str) -> Result<MemHandle>
-        ensures changes { Changes (emptied name.now) self.old self.new result }
+        ensures changes { ChangesOrFails (emptied name.now) self.old self.new result }
         ensures file { IfOk result (λ file. handle_name file ≡ name.now) }
-        ensures refused { IfErr result NoMemory }
+        ensures refused { IfErr result IsOutOfMemory }
     {
         let handle = MemHandle::new(self.alloc, name)?;
         files::empty_file(&mut self.files, self.alloc, name)?;
@@ -210,9 +210,9 @@ impl Env for MemEnv {
     }
 
     fn open_appendable_file(&mut self, name: &str) -> Result<MemHandle>
-        ensures changes { Changes (created name.now) self.old self.new result }
+        ensures changes { ChangesOrFails (created name.now) self.old self.new result }
         ensures file { IfOk result (λ file. handle_name file ≡ name.now) }
-        ensures refused { IfErr result NoMemory }
+        ensures refused { IfErr result IsOutOfMemory }
     {
         let handle = MemHandle::new(self.alloc, name)?;
         files::create_file(&mut self.files, self.alloc, name)?;
@@ -221,8 +221,8 @@ impl Env for MemEnv {
 
     fn read(&mut self, file: &mut MemHandle, target: &mut [u8]) -> Result<usize>
         ensures still { self.new ≡ self.old }
-        ensures copied { IfOk result (λ n. CopiesFrom ((disk_of self.old).files (handle_name file.old)) (handle_place file.old) n target.old target.new) }
-        ensures place { IfOk result (λ n. handle_place file.new ≡ handle_place file.old + n) }
+        ensures copied { IfOk result (λ n. CopiesFrom ((disk_of self.old).files (handle_name file.old)) (handle_offset file.old) n target.old target.new) }
+        ensures place { IfOk result (λ n. handle_offset file.new ≡ handle_offset file.old + n) }
         ensures name { handle_name file.new ≡ handle_name file.old }
         ensures refused { IfErr result (IsNoSuchFile (disk_of self.old).files (handle_name file.old)) }
         ensures err { OnErr result ((target.new ≡ target.old) × (file.new ≡ file.old)) }
@@ -242,7 +242,7 @@ impl Env for MemEnv {
     }
 
     fn append(&mut self, file: &mut MemHandle, bytes: &[u8]) -> Result<()>
-        ensures changes { Changes (extended (handle_name file.old) bytes.now) self.old self.new result }
+        ensures changes { ChangesOrFails (extended (handle_name file.old) bytes.now) self.old self.new result }
         ensures file { file.new ≡ file.old }
         ensures there { OnOk result (IsSome ((disk_of self.old).files (handle_name file.old))) }
         ensures refused { IfErr result (IsNoFileOrMemory (disk_of self.old).files (handle_name file.old)) }
@@ -255,7 +255,7 @@ impl Env for MemEnv {
     }
 
     fn sync(&mut self, file: &mut MemHandle) -> Result<()>
-        ensures changes { Changes (synced (handle_name file.old)) self.old self.new result }
+        ensures changes { ChangesOrFails (synced (handle_name file.old)) self.old self.new result }
         ensures file { file.new ≡ file.old }
         ensures there { OnOk result (IsSome ((disk_of self.old).files (handle_name file.old))) }
         ensures refused { IfErr result (IsNoSuchFile (disk_of self.old).files (handle_name file.old)) }
@@ -276,8 +276,8 @@ impl Env for MemEnv {
 
     fn children(&mut self, alloc: Global, folder: &str) -> Result<Vec<String>>
         ensures still { self.new ≡ self.old }
-        ensures answer { IfOk result (λ names. Lists (disk_of self.old).files folder.now (map string_bytes names.items)) }
-        ensures refused { IfErr result NoMemory }
+        ensures answer { IfOk result (λ names. ListsChildren (disk_of self.old).files folder.now (map string_bytes names.items)) }
+        ensures refused { IfErr result IsOutOfMemory }
     {
         Ok(files::list_children(&self.files, alloc, folder)?)
     }
@@ -294,7 +294,7 @@ impl Env for MemEnv {
     }
 
     fn delete(&mut self, name: &str) -> Result<()>
-        ensures changes { Changes (deleted name.now) self.old self.new result }
+        ensures changes { ChangesOrFails (deleted name.now) self.old self.new result }
         ensures there { OnOk result (IsSome ((disk_of self.old).files name.now)) }
         ensures refused { IfErr result (IsNoSuchFile (disk_of self.old).files name.now) }
     {
@@ -312,7 +312,7 @@ impl Env for MemEnv {
     }
 
     fn rmdir(&mut self, folder: &str) -> Result<()>
-        ensures changes { Changes (without_folder folder.now) self.old self.new result }
+        ensures changes { ChangesOrFails (without_folder folder.now) self.old self.new result }
         ensures answer { result ≡ Ok tt }
     {
         files::remove_folder(&mut self.files, folder);
@@ -320,7 +320,7 @@ impl Env for MemEnv {
     }
 
     fn rename(&mut self, from: &str, to: &str) -> Result<()>
-        ensures changes { Changes (renamed from.now to.now) self.old self.new result }
+        ensures changes { ChangesOrFails (renamed from.now to.now) self.old self.new result }
         ensures there { OnOk result (IsSome ((disk_of self.old).files from.now)) }
         ensures refused { IfErr result (IsNoFileOrMemory (disk_of self.old).files from.now) }
     {
@@ -335,7 +335,7 @@ impl Env for MemEnv {
         ensures err { OnErr result (disk_of self.new ≡ disk_of self.old) }
         ensures time { time_of self.new ≡ time_of self.old }
         ensures was_free { OnOk result ((disk_of self.old).locked name.now ≡ false) }
-        ensures refused { IfErr result (λ e. NoMemory e ⊎ IsAlreadyLocked (disk_of self.old).locked name.now e) }
+        ensures refused { IfErr result (λ e. IsOutOfMemory e ⊎ IsAlreadyLocked (disk_of self.old).locked name.now e) }
     {
         if self.locks.contains(name) {
             return refuse(self.alloc, StatusCode::LockError, "already locked", name);

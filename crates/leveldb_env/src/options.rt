@@ -1,12 +1,12 @@
 //! What a store is opened with.
 ghost use Rattle.std.specs.Prelude.{◌≡◌, true};
-ghost use Rattle.leveldb_env.specs.Coders.{plain_codings};
+ghost use Rattle.leveldb_env.specs.Compressor.{plain_codings};
 
-use crate::compressor::{Coders, CompressorId, CompressorList, NoneCompressor};
+use crate::compressor::{CompressorId, CompressorList, Compressors, NoneCompressor};
 use crate::filter::BloomPolicy;
 use leveldb_base::cmp::DefaultCmp;
 
-/// What a store is opened with: its comparator, its filter policy, its coders and its choices.
+/// What a store is opened with: its comparator, its filter policy, its compressors and its choices.
 #[derive(Drop)]
 pub struct Options<C, FP> {
     pub cmp: C,
@@ -19,10 +19,10 @@ pub struct Options<C, FP> {
     /// How many entries of a block lie between the starts of two restart points; 0 is taken as 1.
     pub block_restart_interval: usize,
 
-    /// The id of the coder by which blocks are stored.
+    /// The id of the compressor by which blocks are stored.
     pub compressor: u8,
 
-    /// The coders by which blocks are stored and read, each under its id.
+    /// The compressors by which blocks are stored and read, each under its id.
     pub compressor_list: CompressorList,
 }
 
@@ -35,7 +35,7 @@ impl Options<DefaultCmp, BloomPolicy> {
         ensures size { result.block_size ≡ 4096 }
         ensures interval { result.block_restart_interval ≡ 16 }
         ensures id { result.compressor ≡ 0 }
-        ensures coders { ⟦<CompressorList as Coders>⟧.codings result.compressor_list ≡ plain_codings }
+        ensures compressors { ⟦<CompressorList as Compressors>⟧.codings result.compressor_list ≡ plain_codings }
     {
         Options {
             cmp: DefaultCmp,

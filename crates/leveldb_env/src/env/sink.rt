@@ -1,7 +1,7 @@
 //! Where bytes go: what a log or a table is written to.
 ghost use Rattle.std.specs.Prelude.{ℕ, List, Result};
 ghost use Rattle.leveldb_base.specs.declared.error.Status.{Status};
-ghost use Rattle.leveldb_env.specs.Sinks.{PutsBehind, FlushesNothing, ChangesLent};
+ghost use Rattle.leveldb_env.specs.Sink.{AppendsBytes, FlushesNothing, ChangesBorrowed};
 
 use leveldb_base::error::Result;
 
@@ -24,7 +24,7 @@ pub trait Sink {
 
 /// Bytes in memory. A refused put leaves them as they were.
 impl Sink for Vec<u8> {
-    ghost puts = { λ old bytes result new. PutsBehind old.items bytes result new.items };
+    ghost puts = { λ old bytes result new. AppendsBytes old.items bytes result new.items };
 
     ghost flushes = { λ old result new. FlushesNothing old.items result new.items };
 
@@ -40,9 +40,9 @@ impl Sink for Vec<u8> {
 
 /// A sink that is lent.
 impl<S: Sink> Sink for &mut S {
-    ghost puts = { λ old bytes result new. ChangesLent (λ s t. S.puts s bytes result t) old new };
+    ghost puts = { λ old bytes result new. ChangesBorrowed (λ s t. S.puts s bytes result t) old new };
 
-    ghost flushes = { λ old result new. ChangesLent (λ s t. S.flushes s result t) old new };
+    ghost flushes = { λ old result new. ChangesBorrowed (λ s t. S.flushes s result t) old new };
 
     fn put_all(&mut self, bytes: &[u8]) -> Result<()> {
         (**self).put_all(bytes)

@@ -1,9 +1,8 @@
 //! Where bytes come from: what a log is read from.
 ghost use Rattle.std.specs.Prelude.{ℕ, ◌≤◌, List, Result, IfOk, IfErr, length};
 ghost use Rattle.leveldb_base.specs.declared.error.Status.{Status};
-ghost use Rattle.leveldb_env.specs.Bytes.{given};
-ghost use Rattle.leveldb_env.specs.Sinks.{ChangesLent};
-ghost use Rattle.leveldb_env.specs.Sources.{GivesAll, GivesFirst, GivesUp};
+ghost use Rattle.leveldb_env.specs.Source.{given, GivesAll, GivesFirst, GivesUp};
+ghost use Rattle.leveldb_env.specs.Sink.{ChangesBorrowed};
 
 use leveldb_base::error::Result;
 use std::alloc::Global;
@@ -38,7 +37,7 @@ impl Source for &[u8] {
 
 /// A source that is lent.
 impl<S: Source> Source for &mut S {
-    ghost gives = { λ old room result new. ChangesLent (λ s t. S.gives s room result t) old new };
+    ghost gives = { λ old room result new. ChangesBorrowed (λ s t. S.gives s room result t) old new };
 
     fn read_some(&mut self, target: &mut [u8]) -> Result<usize> {
         (**self).read_some(target)

@@ -5,8 +5,8 @@ ghost use Rattle.std.specs.Prelude.{◌≡◌, ◌==◌, ◌||◌, false, ◌*�
 ghost use Rattle.std.specs.List.{list_all, list_any};
 ghost use Rattle.std.specs.List.Sorted.{IsNonDecreasing};
 ghost use Rattle.byteorder.specs.Endian.{little_number};
-ghost use Rattle.leveldb_env.specs.Filters.{keys_at};
-ghost use Rattle.leveldb_env.specs.Bloom.{mixed, hash_behind, bloom_hash, probe_count, probes, has_bit, bits_len, is_probe, bits_of, count_in, tells_nothing};
+ghost use Rattle.leveldb_env.specs.Filter.{keys_at};
+ghost use Rattle.leveldb_env.specs.Bloom.{mixed, hash_after, bloom_hash, probe_count, probes, has_bit, bits_len, is_probe, bits_of, count_in, matches_all};
 
 use crate::filter::{FilterPolicy, key_at};
 use leveldb_base::error::{Result, StatusCode, err};
@@ -48,14 +48,14 @@ impl BloomPolicy {
 
 impl FilterPolicy for BloomPolicy {
     ghost use Rattle.std.specs.Prelude.{codes};
-    ghost use Rattle.leveldb_env.specs.Bloom.{bloom_filter, bloom_matches, IsTooLarge};
-    ghost use Rattle.leveldb_env.specs.BloomLaws.{bloom_finds};
+    ghost use Rattle.leveldb_env.specs.Bloom.{bloom_filter, bloom_matches, HasTooManyBits};
+    ghost use Rattle.leveldb_env.specs.FilterLaws.{bloom_finds};
 
     ghost name = { λ _. codes "leveldb.BuiltinBloomFilter2" };
 
     ghost filter_for = { bloom_filter };
 
-    ghost too_large = { IsTooLarge };
+    ghost too_large = { HasTooManyBits };
 
     ghost matches = { λ _. bloom_matches };
 
@@ -80,7 +80,7 @@ impl FilterPolicy for BloomPolicy {
     }
 
     fn key_may_match(&self, key: &[u8], filter: &[u8]) -> bool {
-        tells_nothing(filter) || has_probes(filter, key)
+        matches_all(filter) || has_probes(filter, key)
     }
 
     ghost finds = { bloom_finds };
@@ -139,8 +139,8 @@ fn set_bit(bytes: &mut [u8], bit: u32)
 }
 
 // Whether a filter lets every key pass.
-fn tells_nothing(filter: &[u8]) -> bool
-    ensures { result ≡ tells_nothing filter.now }
+fn matches_all(filter: &[u8]) -> bool
+    ensures { result ≡ matches_all filter.now }
 {
     let len = filter.len().saturating_sub(1);
     len == 0 || filter[len] > MAX_PROBES || len >= TOO_LONG
@@ -148,7 +148,7 @@ fn tells_nothing(filter: &[u8]) -> bool
 
 // Whether each bit of the key is set.
 fn has_probes(filter: &[u8], key: &[u8]) -> bool
-    requires { tells_nothing filter.now ≡ false }
+    requires { matches_all filter.now ≡ false }
     ensures { result ≡ list_all (has_bit filter.now) (probes (bits_of filter.now) (count_in filter.now) key.now) }
 {
     let len = filter.len() - 1;

@@ -3,7 +3,7 @@ ghost use Rattle.std.specs.Prelude.{◌≡◌, ◌≤◌, ℕ, List, IfOk, IfErr
 ghost use Rattle.std.specs.List.Sorted.{IsNonDecreasing};
 ghost use Rattle.leveldb_base.specs.KeyTypes.{user_part};
 ghost use Rattle.leveldb_base.specs.Error.{IsOutOfMemory};
-ghost use Rattle.leveldb_env.specs.Filters.{keys_at};
+ghost use Rattle.leveldb_env.specs.Filter.{keys_at};
 
 use crate::filter::{FilterPolicy, key_at};
 use leveldb_base::error::Result;
@@ -36,7 +36,7 @@ impl<FP> InternalFilterPolicy<FP> {
 }
 
 impl<FP: FilterPolicy> FilterPolicy for InternalFilterPolicy<FP> {
-    ghost use Rattle.leveldb_env.specs.InternalFilters.{cut_keys_find};
+    ghost use Rattle.leveldb_env.specs.FilterLaws.{cut_keys_find};
 
     ghost name = { λ inner. FP.name inner };
 

@@ -19,8 +19,8 @@ pub(crate) struct Texts {
 
 impl Model for Texts {
     ghost use Rattle.std.specs.Prelude.{ℕ, List};
-    ghost use Rattle.leveldb_env.specs.Filters.{keys_at};
-    ghost use Rattle.leveldb_env.specs.FilterBlockParts.{AreTexts};
+    ghost use Rattle.leveldb_env.specs.Filter.{keys_at};
+    ghost use Rattle.leveldb_env.specs.FilterBlock.{AreTexts};
 
     ghost Value = { List (List ℕ) };
 

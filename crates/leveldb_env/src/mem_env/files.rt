@@ -1,10 +1,8 @@
 //! Files in memory, and what the calls of an environment make of a map of them by name.
 ghost use Rattle.std.specs.Prelude.{◌≡◌, ◌<◌, ◌+◌, ◌^◌, false, [], ◌++◌, length, min, drop, is_some, map, OnOk, OnErr, IfOk, IsSome, string_bytes};
 ghost use Rattle.std.specs.Option.{option_copied};
-ghost use Rattle.leveldb_env.specs.Disk.{bytes_of, kept_file, longer_file, file_kept, with_file, emptied, created, deleted, renamed, extended, synced, without_folder};
-ghost use Rattle.leveldb_env.specs.Calls.{Lists};
-ghost use Rattle.leveldb_env.specs.Folders.{child_under, child_in};
-ghost use Rattle.leveldb_env.specs.Mem.{files_of, copied_over};
+ghost use Rattle.leveldb_env.specs.Env.{bytes_of, kept_file, longer_file, file_kept, with_file, emptied, created, deleted, renamed, extended, synced, without_folder, ListsChildren};
+ghost use Rattle.leveldb_env.specs.MemEnv.{child_under, child_in, files_of, copied_over};
 
 use std::alloc::{AllocError, Global};
 use std::collections::BTreeMap;
@@ -19,7 +17,7 @@ pub struct MemFile {
 
 impl Model for MemFile {
     ghost use Rattle.std.specs.Prelude.{◌≤◌, length, take, drop};
-    ghost use Rattle.leveldb_env.specs.Disk.{File};
+    ghost use Rattle.leveldb_env.specs.Env.{File};
 
     ghost Value = { File };
 
@@ -258,7 +256,7 @@ pub fn list_children(
     alloc: Global,
     folder: &str,
 ) -> Result<Vec<String>, AllocError>
-    ensures { IfOk result (λ names. Lists (files_of files.now) folder.now (map string_bytes names.items)) }
+    ensures { IfOk result (λ names. ListsChildren (files_of files.now) folder.now (map string_bytes names.items)) }
 {
     let mut children = Vec::new(alloc);
     for name in files.keys() {

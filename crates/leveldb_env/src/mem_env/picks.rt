@@ -3,7 +3,7 @@ ghost use Rattle.std.specs.Prelude.{◌≡◌, ◌↔◌, IfOk, IsTrue};
 ghost use Rattle.std.specs.Map.{lookup};
 ghost use Rattle.std.specs.Option.{option_copied};
 ghost use Rattle.std.specs.Str.{bytes_eq};
-ghost use Rattle.leveldb_env.specs.Mem.{files_of};
+ghost use Rattle.leveldb_env.specs.MemEnv.{files_of};
 ghost use Rattle.leveldb_env.specs.Picks.{IsAllowed, IsTailOf, ListsTails, picked, tail_for, tails_of};
 
 use crate::mem_env::files::{FileMap, put_file};

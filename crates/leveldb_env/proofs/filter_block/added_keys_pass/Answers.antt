@@ -1,4 +1,4 @@
-use Rattle.leveldb_env.specs.FilterBlockLaws.{keeps_keys}
+use Rattle.leveldb_env.proofs.FilterBlockLemmas.{keeps_keys}
 use Rattle.leveldb_env.proofs.filter_block.added_keys_pass.Goals as goal
 
 pub returns : goal.returns

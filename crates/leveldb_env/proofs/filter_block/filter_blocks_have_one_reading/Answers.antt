@@ -1,4 +1,5 @@
-use Rattle.leveldb_env.specs.FilterBlockLaws.{one_reading, one_spelling}
+use Rattle.leveldb_env.specs.FilterBlockLaws.{one_reading}
+use Rattle.leveldb_env.proofs.FilterBlockLemmas.{one_spelling}
 use Rattle.leveldb_env.proofs.filter_block.filter_blocks_have_one_reading.Goals as goal
 
 pub returns : goal.returns
