@@ -1,7 +1,7 @@
 //! Compressors, and lists of them.
 ghost use Rattle.std.specs.Prelude.{◌≡◌, ◌+◌, ◌%◌, ◌⊎◌, Some, false, map, IfOk, IfErr};
 ghost use Rattle.leveldb_base.specs.Error.{IsOutOfMemory};
-ghost use Rattle.leveldb_env.specs.Coders.{RefusesWith};
+ghost use Rattle.leveldb_env.specs.Compressor.{FailsWith};
 
 use leveldb_base::error::{Result, Status, StatusCode};
 use leveldb_env::compressor::{Compressor, CompressorId, CompressorList, NoneCompressor};
@@ -40,7 +40,7 @@ impl Compressor for Shift {
 // A block that is stored and read again, by any compressor. An error is the compressor's, or out of memory.
 fn read_again<C: Compressor>(coder: C, alloc: Global, block: Vec<u8>) -> Result<Vec<u8>>
     ensures same { IfOk result (λ read. read.items ≡ block.items) }
-    ensures cause { IfErr result (λ status. IsOutOfMemory status ⊎ RefusesWith (C.coding coder) status) }
+    ensures cause { IfErr result (λ status. IsOutOfMemory status ⊎ FailsWith (C.coding coder) status) }
 {
     let stored = coder.encode(alloc, block)?;
     coder.decode(alloc, stored)

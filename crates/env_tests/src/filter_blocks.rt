@@ -1,6 +1,6 @@
 //! Filter blocks built and read, under a policy whose filters show the keys that they were made of.
 ghost use Rattle.std.specs.Prelude.{◌≡◌, ◌≤◌, true, IfOk, OnOk};
-ghost use Rattle.leveldb_env.specs.Filters.{first_offset};
+ghost use Rattle.leveldb_env.specs.Filter.{first_offset};
 
 use crate::checks::failed_with;
 use leveldb_base::error::{Result, StatusCode, err};

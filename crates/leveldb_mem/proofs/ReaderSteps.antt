@@ -2,9 +2,9 @@
 use Rattle.std.proofs.Common.{◌≡◌, ℕ, ◌-◌, ◌≤◌, List, ◌++◌, length, take, slice_range, ◌∙◌, ap, arith, [], refl, inr, Result}
 use Rattle.std.proofs.lemmas.List.Edits.{length-between}
 use Rattle.leveldb_base.specs.declared.error.Status.{Status}
-use Rattle.leveldb_env.specs.Calls.{NoMemory}
-use Rattle.leveldb_env.specs.Sources.{GivesUp}
-use Rattle.leveldb_env.specs.SourceLaws.{GivesSome-none}
+use Rattle.leveldb_base.specs.Error.{IsOutOfMemory}
+use Rattle.leveldb_env.specs.Source.{GivesUp}
+use Rattle.leveldb_env.proofs.SourceLemmas.{GivesSome-none}
 use Rattle.leveldb_mem.specs.Reading.{Reading, Comes}
 use Rattle.leveldb_mem.proofs.Ranges.{range-more}
 
@@ -28,5 +28,5 @@ module _ (old held new stored : List ℕ) (used filled count : ℕ) (read : used
   length-came = ap (λ z. length (slice_range z used count)) is_stored ∙ length-between new used count inside
 
 -- memory was wanted before any read
-pub wants_memory : {S : Type 0} (gives : S → ℕ → Result (List ℕ) Status → S → Type 0) (source : S) (status : Status) → NoMemory status → GivesUp gives source status source
+pub wants_memory : {S : Type 0} (gives : S → ℕ → Result (List ℕ) Status → S → Type 0) (source : S) (status : Status) → IsOutOfMemory status → GivesUp gives source status source
 wants_memory gives source status memory = record { mid = source; bytes = []; given_before = GivesSome-none gives source; why = inr (refl, memory) }

@@ -5,7 +5,7 @@ use Rattle.std.proofs.lemmas.List.{drop_all}
 use Rattle.std.proofs.Math.Nat.{mod_self}
 use Rattle.std.specs.Borrow.{Bor}
 use Rattle.leveldb_base.specs.declared.error.Status.{Status}
-use Rattle.leveldb_env.specs.Sources.{GivesSome, GivesAll}
+use Rattle.leveldb_env.specs.Source.{GivesSome, GivesAll}
 use Rattle.leveldb_mem.specs.declared.log.reader.Taken.{Taken}
 use Rattle.leveldb_mem.specs.declared.log.reader.Taken.TheVariants.{End, Part, WrongChecksum, Damage}
 use Rattle.leveldb_mem.specs.Log.{filler}

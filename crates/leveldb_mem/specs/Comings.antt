@@ -3,9 +3,8 @@ use Rattle.std.proofs.Common.{◌≡◌, ℕ, List, [], ◌∷◌, ◌++◌, Res
 use Rattle.std.specs.List.{concat}
 use Rattle.std.proofs.lemmas.List.Folds.{concat-append}
 use Rattle.leveldb_base.specs.declared.error.Status.{Status}
-use Rattle.leveldb_env.specs.Bytes.{Draws}
-use Rattle.leveldb_env.specs.Sources.{GivesSome, GivesAll, GivesUp}
-use Rattle.leveldb_env.specs.SourceLaws.{GivesSome-none}
+use Rattle.leveldb_env.specs.Source.{Draws, GivesSome, GivesAll, GivesUp}
+use Rattle.leveldb_env.proofs.SourceLemmas.{GivesSome-none}
 use Rattle.leveldb_mem.specs.Reading.{Comes, Shows, at_end, whatever_follows}
 
 module _ {S : Type 0} (gives : S → ℕ → Result (List ℕ) Status → S → Type 0) where

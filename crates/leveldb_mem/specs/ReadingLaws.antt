@@ -3,13 +3,13 @@ use Rattle.std.specs.Prelude.{Option, None, Some, IfSome, IsTrue, drop}
 use Rattle.std.proofs.Common.{ℕ, ◌+◌, ◌<◌, Bool, true, false, List, [], ◌∷◌, ◌++◌, length, Result, refl, sym, subst, ◌∙◌, ap, arith, append_assoc, append-nil}
 use Rattle.std.proofs.Math.Nat.{mod-lt}
 use Rattle.leveldb_base.specs.declared.error.Status.{Status}
-use Rattle.leveldb_env.specs.Sources.{GivesSome, GivesAll, GivesUp, GivesFirst}
+use Rattle.leveldb_env.specs.Source.{GivesSome, GivesAll, GivesUp, GivesFirst}
 use Rattle.leveldb_env.specs.declared.env.Env.{Ghosts}
 use Rattle.leveldb_env.specs.declared.env.env_file.EnvFile.{EnvFile}
-use Rattle.leveldb_env.specs.Disk.{bytes_of}
-use Rattle.leveldb_env.specs.SourceLaws.{GivesSome-first, GivesAll-first}
-use Rattle.leveldb_env.specs.OpenFiles.{opened, standing, ChangesOpened, ReadsLent, IsFurther}
-use Rattle.leveldb_env.specs.OpenFileLaws.{IsFurther-lent, IsReadOut-lent}
+use Rattle.leveldb_env.specs.Env.{bytes_of}
+use Rattle.leveldb_env.proofs.SourceLemmas.{GivesSome-first, GivesAll-first}
+use Rattle.leveldb_env.specs.EnvFile.{opened, opened_file, ChangesBorrowedFile, ReadsBorrowed, IsFurther}
+use Rattle.leveldb_env.proofs.EnvFileLemmas.{IsFurther-borrowed, IsReadOut-borrowed}
 use Rattle.leveldb_mem.specs.Log.{IsBlockSize, log_block_size, behind, IsRecord, End, clean, bad, Ends, LogOf, BreaksOff}
 use Rattle.leveldb_mem.specs.LogFiles.{IsReadAsLog}
 use Rattle.leveldb_mem.specs.LogLaws.Framing.{behind_both, behind_none, log_append}
@@ -102,22 +102,22 @@ if_some (Some x) so is = so x is
 
 module _ {E F : Type 0} (env : Ghosts E F) where
   -- of a file that is lent, from its place on
-  pub Shows-lent : {P : List ℕ → Type 0} {from to : EnvFile E F} → Shows (ReadsLent env) P [] from to
-      → (bytes : List ℕ) × ChangesOpened (λ old new. IsFurther env old bytes new) from to
-      × (IsTrue env.tells_disk → IfSome (standing env (opened from.env.now from.file.now)) (λ file. P (drop (env.place_of from.file.now) (bytes_of file))))
+  pub Shows-lent : {P : List ℕ → Type 0} {from to : EnvFile E F} → Shows (ReadsBorrowed env) P [] from to
+      → (bytes : List ℕ) × ChangesBorrowedFile (λ old new. IsFurther env old bytes new) from to
+      × (IsTrue env.models_disk → IfSome (opened_file env (opened from.env.now from.file.now)) (λ file. P (drop (env.offset_of from.file.now) (bytes_of file))))
   Shows-lent {P = P} {from = from} {to = to} (at_end bytes come holds) =
-      let read = IsReadOut-lent env (given_all (GivesAll (ReadsLent env)) from to bytes come) in (
+      let read = IsReadOut-borrowed env (given_all (GivesAll (ReadsBorrowed env)) from to bytes come) in (
         bytes,
         record { changes = read.changes.further; same_env = read.same_env; same_file = read.same_file },
-        λ tells. if_some (standing env (opened from.env.now from.file.now)) (λ file is. subst P is holds) (read.changes.all tells),
+        λ modelled. if_some (opened_file env (opened from.env.now from.file.now)) (λ file is. subst P is holds) (read.changes.all modelled),
       )
   Shows-lent {P = P} {from = from} {to = to} (whatever_follows bytes come holds) =
-      let read = IsFurther-lent env (given_all (GivesSome (ReadsLent env)) from to bytes come) in
-      (bytes, read, λ tells. if_some (standing env (opened from.env.now from.file.now)) (λ file is. subst P (sym is) (holds (drop (env.place_of from.file.now + length bytes) (bytes_of file)))) (read.changes.next tells))
+      let read = IsFurther-borrowed env (given_all (GivesSome (ReadsBorrowed env)) from to bytes come) in
+      (bytes, read, λ modelled. if_some (opened_file env (opened from.env.now from.file.now)) (λ file is. subst P (sym is) (holds (drop (env.offset_of from.file.now + length bytes) (bytes_of file)))) (read.changes.next modelled))
 
   -- which is a log
-  pub IsReadAsLog-lent : {records : List (List ℕ)} {end : End} {from to : EnvFile E F} → Shows (ReadsLent env) (LogOf true log_block_size records end 0) [] from to
-      → ChangesOpened (λ old new. IsReadAsLog env old records end new) from to
+  pub IsReadAsLog-lent : {records : List (List ℕ)} {end : End} {from to : EnvFile E F} → Shows (ReadsBorrowed env) (LogOf true log_block_size records end 0) [] from to
+      → ChangesBorrowedFile (λ old new. IsReadAsLog env old records end new) from to
   IsReadAsLog-lent shows =
       let read = Shows-lent shows in
       record { changes = record { bytes = read.0; further = read.1.changes; log = read.2 }; same_env = read.1.same_env; same_file = read.1.same_file }

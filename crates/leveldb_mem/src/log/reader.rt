@@ -1,9 +1,8 @@
 //! The reader of a log: it joins fragments to records.
 ghost use Rattle.std.specs.Prelude.{◌≡◌, ◌≢◌, ◌↔◌, ℕ, ◌+◌, ◌-◌, ◌*◌, ◌%◌, ◌≤◌, ◌<◌, true, false, [], take, drop, length, slice_index, slice_range, vec_len, IfOk, OnOk, IfErr, IfSome, IsErrAnd, IsTrue, MatchOption, List, All, Ok, string_bytes, map, if◌then◌else◌};
-ghost use Rattle.leveldb_base.specs.Error.{status_text};
+ghost use Rattle.leveldb_base.specs.Error.{status_text, IsOutOfMemory};
 ghost use Rattle.leveldb_base.specs.declared.error.StatusCode.TheVariants.{Corruption};
-ghost use Rattle.leveldb_env.specs.Sources.{GivesSome, GivesAll, GivesUp};
-ghost use Rattle.leveldb_env.specs.Calls.{NoMemory};
+ghost use Rattle.leveldb_env.specs.Source.{GivesSome, GivesAll, GivesUp};
 ghost use Rattle.leveldb_mem.specs.Log.{IsBlockSize, log_block_size, clean, bad, LogOf};
 ghost use Rattle.leveldb_mem.specs.Reading.{Comes, Shows, Finds, FindsRecord, FindsEnd, IsDamage, Refuses};
 ghost use Rattle.leveldb_mem.specs.ReadingSteps.{told_length, HasRightChecksum, Passes, Takes, SkipsFiller};
@@ -301,7 +300,7 @@ impl ReaderCore {
         requires within { self.old.place + (7 + count) ≤ self.old.size }
         requires there { 7 + count ≤ length self.old.unread }
         ensures ok { IfOk result (λ taken. Passes taken self.old target.old.items self.new target.new.items) }
-        ensures memory { IfErr result NoMemory }
+        ensures memory { IfErr result IsOutOfMemory }
     {
         let (fragment, _) = self.unread().split_at(HEADER_SIZE + count);
         if self.check_crcs && !has_right_checksum(fragment) {
@@ -368,7 +367,7 @@ fn make_long(bytes: &mut Vec<u8>, size: usize) -> Result<()>
     ensures long { OnOk result (vec_len bytes.new ≡ size) }
     ensures kept { (n : ℕ) → n ≤ vec_len bytes.old → take n bytes.new.items ≡ take n bytes.old.items }
     ensures most { vec_len bytes.old ≤ vec_len bytes.new × (vec_len bytes.new ≤ size) }
-    ensures memory { IfErr result NoMemory }
+    ensures memory { IfErr result IsOutOfMemory }
 {
     if bytes.len() < size {
         bytes.resize(size, 0)?;

@@ -1,17 +1,17 @@
 use Rattle.std.proofs.Common.{rules, ℕ, List, Vec, Global, Result}
 use Rattle.std.proofs.lemmas.Result.{MatchResult-weaker}
 use Rattle.leveldb_base.specs.declared.error.Status.{Status}
-use Rattle.leveldb_env.specs.SinkLaws.{PutsAll-lent, PutsAll-behind}
-use Rattle.leveldb_env.specs.Sinks.{PutsBehind}
+use Rattle.leveldb_env.proofs.SinkLemmas.{PutsAll-borrowed, PutsAll-bytes}
+use Rattle.leveldb_env.specs.Sink.{AppendsBytes}
 use Rattle.env_tests.proofs.files.put_pair_behind.Goals as goal
 
 abbrev vec_puts : Vec ℕ Global → List ℕ → Result (Unit {0}) Status → Vec ℕ Global → Type 0
-vec_puts old bytes result new = PutsBehind old.items bytes result new.items
+vec_puts old bytes result new = AppendsBytes old.items bytes result new.items
 
 pub returns : goal.returns
 returns c = MatchResult-weaker c.put_pair.result c.put_pair.ensures.ok
     (λ done put.
-    let lent = PutsAll-lent vec_puts put in
-    let behind = PutsAll-behind (λ (all : Vec ℕ Global). all.items) lent.changes in
+    let lent = PutsAll-borrowed vec_puts put in
+    let behind = PutsAll-bytes (λ (all : Vec ℕ Global). all.items) lent.changes in
     search rules)
     (λ status none. tt)
