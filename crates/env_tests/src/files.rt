@@ -1,4 +1,5 @@
-//! Any sink and any source at work: what a caller knows of the vector, slice or file behind them.
+//! Any sink and any source at work: what a caller knows of the vector, slice or file that they
+//! write or read.
 ghost use Rattle.std.specs.Prelude.{◌≡◌, ◌≢◌, ◌⊎◌, ◌++◌, false, ℕ, List, All, IfOk, IfErr, OnOk, IsTrue};
 ghost use Rattle.std.specs.Str.{bytes_eq};
 ghost use Rattle.leveldb_env.specs.Env.{Files, kept_file, Since, Run};
@@ -17,7 +18,8 @@ use std::process::Abort;
 
 fn put_pair<S: Sink>(sink: &mut S, first: &[u8], second: &[u8]) -> Result<()>
     ensures ok { OnOk result (PutsAll S.puts sink.old (first.now ++ second.now) sink.new) }
-    ensures err { IfErr result (λ status. (bytes : List ℕ) × PutsPart S.puts sink.old bytes status sink.new) }
+    ensures err { IfErr result
+        (λ status. (bytes : List ℕ) × PutsPart S.puts sink.old bytes status sink.new) }
 {
     sink.put_all(first)?;
     sink.put_all(second)
@@ -32,11 +34,11 @@ fn pair(alloc: Global, first: &[u8], second: &[u8]) -> Result<Vec<u8>>
     Ok(all)
 }
 
-fn put_pair_behind(all: &mut Vec<u8>, first: &[u8], second: &[u8]) -> Result<()>
+fn put_pair_after(all: &mut Vec<u8>, first: &[u8], second: &[u8]) -> Result<()>
     ensures { OnOk result (all.new.items ≡ all.old.items ++ (first.now ++ second.now)) }
 {
-    let mut lent = all;
-    put_pair(&mut lent, first, second)
+    let mut borrowed = all;
+    put_pair(&mut borrowed, first, second)
 }
 
 fn put_pair_in_file<E: Env>(
@@ -45,8 +47,12 @@ fn put_pair_in_file<E: Env>(
     first: &[u8],
     second: &[u8],
 ) -> Result<()>
-    ensures ok { OnOk result (IsLonger E.Env (opened env.old file.old) (first.now ++ second.now) (opened env.new file.new)) }
-    ensures err { IfErr result (λ status. (bytes : List ℕ) × IsPartlyAppended E.Env (opened env.old file.old) bytes status (opened env.new file.new)) }
+    ensures ok { OnOk result
+        (IsLonger E.Env (opened env.old file.old) (first.now ++ second.now)
+        (opened env.new file.new)) }
+    ensures err { IfErr result
+        (λ status. (bytes : List ℕ)
+        × IsPartlyAppended E.Env (opened env.old file.old) bytes status (opened env.new file.new)) }
 {
     put_pair(&mut EnvFile { env, file }, first, second)
 }
@@ -67,7 +73,8 @@ fn rest_of(alloc: Global, bytes: &[u8]) -> Result<Vec<u8>>
 /// A crash at any moment leaves the old file or the new one, where the old one was kept.
 fn replace_kept<E: Env>(env: &mut E, temp: &str, name: &str, bytes: &[u8]) -> Result<()>
     requires { temp.now ≢ name.now }
-    ensures { IsTrue E.models_disk → (was : List ℕ) → (E.observed env.old).disk.files name.now ≡ Some (kept_file was)
+    ensures { IsTrue E.models_disk → (was : List ℕ)
+        → (E.observed env.old).disk.files name.now ≡ Some (kept_file was)
         → (files left : Files) → Since (E.observed env.new) (E.observed env.old).moment files left
         → (left name.now ≡ Some (kept_file was)) ⊎ (left name.now ≡ Some (kept_file bytes.now)) }
 {
@@ -91,7 +98,7 @@ fn replace_each<E: Env>(env: &mut E, temp: &str, names: &[&str], bytes: &[u8]) -
 #[test]
 fn bytes_are_appended(rt: HostRuntime) -> Result<()> {
     let mut all = pair(rt.alloc(), b"ab", b"c")?;
-    put_pair_behind(&mut all, b"", b"de")?;
+    put_pair_after(&mut all, b"", b"de")?;
     assert!(rt; all.as_slice() == b"abcde".as_slice());
     let mut borrowed = &mut all;
     borrowed.flush()?;

@@ -150,7 +150,7 @@ is_probe-more before bits count keys i bit there =
     or_assoc before (is_probe bits count (take i keys) bit) (list_any (λ probe. probe == bit) (probes bits count (get_or keys i [])))
     ∙ ap (λ b. before || b) (sym (list_any_more (λ key. list_any (λ probe. probe == bit) (probes bits count key)) keys i [] there))
 
--- the hash behind so many words of four bytes
+-- the hash after some words of four bytes
 pub hash_behind-words : (count hash : ℕ) (text : List ℕ) → count * 4 ≤ length text
     → hash_after (fold (λ h word. mixed 16 h (little_number 4 word)) hash (first_chunks 4 count text)) (drop (count * 4) text) ≡ hash_after hash text
 unfolding hash_after
@@ -165,7 +165,7 @@ hash_behind-words (suc count) hash (a ∷ b ∷ c ∷ d ∷ rest) long =
     in ap (λ n. hash_after (fold (λ h word. mixed 16 h (little_number 4 word)) next (first_chunks 4 count rest)) (drop n (a ∷ b ∷ c ∷ d ∷ rest))) place
     ∙ hash_behind-words count next rest (omega arith)
 
--- the hash behind one to three bytes, as a word with zeros behind them
+-- the hash after one to three bytes, as a word with zeros after them
 pub hash_behind-rest : (hash : ℕ) (rest word : List ℕ) → 0 < length rest → length rest < 4 → word ≡ rest ++ drop (length rest) (0 ∷ 0 ∷ 0 ∷ 0 ∷ [])
     → mixed 24 hash (little_number 4 word) ≡ hash_after hash rest
 unfolding hash_after
@@ -175,7 +175,7 @@ hash_behind-rest hash (a ∷ b ∷ []) word some few is = ap (λ w. mixed 24 has
 hash_behind-rest hash (a ∷ b ∷ c ∷ []) word some few is = ap (λ w. mixed 24 hash (little_number 4 w)) is
 hash_behind-rest hash (a ∷ b ∷ c ∷ d ∷ rest) word some few is = absurd (omega arith)
 
--- the hash behind nothing
+-- the hash after nothing
 pub hash_behind-none : (hash : ℕ) (rest : List ℕ) → length rest ≡ 0 → hash ≡ hash_after hash rest
 unfolding hash_after
 hash_behind-none hash [] none = refl
@@ -225,7 +225,7 @@ pub has_bit-zeros : (n bit : ℕ) → has_bit (replicate n 0) bit ≡ false
 has_bit-zeros n bit =
     ap (λ byte. bit_at byte (bit % 8) == 1) (get_or-zeros n (bit / 8)) ∙ ap (λ b. b == 1) (bit_at-zero (bit % 8))
 
--- bytes with the bits of the keys' probes, and the count behind them
+-- bytes with the bits of the keys' probes, and the count after them
 pub bloom_filter-is : (bits_per_key : ℕ) (keys : List (List ℕ)) (bytes : List ℕ) (count : ℕ)
     → length bytes ≡ bits_len bits_per_key (length keys) → count ≡ probe_count bits_per_key → ((k : ℕ) → get_or bytes k 0 < 256)
     → ((bit : ℕ) → has_bit bytes bit ≡ is_probe (8 * length bytes) count keys bit) → bytes ++ count ∷ [] ≡ bloom_filter bits_per_key keys

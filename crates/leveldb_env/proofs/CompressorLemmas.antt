@@ -94,12 +94,12 @@ module _ {A : Type 0} (id_of : A → ℕ) (coding_of : A → Coding) (otherwise 
           let one : suc (first ys) ≡ 1 + first ys = omega arith in
           rest (omega (arith, there)) ∙ ap (λ n. Some (coding_of (get_or (y ∷ ys) n d))) one
 
-  -- what the id stands for where a compressor has it
+  -- the coding of the id where a compressor has it
   pub coding_here : (xs : List A) (at : ℕ) (d : A) → (at < length xs) × (at ≡ first xs) → codings xs id ≡ Some (coding_of (get_or xs at d))
   coding_here xs at d there =
       coding_first xs d (subst (λ n. n < length xs) there.1 there.0) ∙ ap (λ n. Some (coding_of (get_or xs n d))) (sym there.1)
 
-  -- what it stands for where none has it
+  -- its coding where none has it
   pub coding_beyond : (xs : List A) → length xs ≤ first xs → codings xs id ≡ otherwise id
   coding_beyond [] past = refl
   coding_beyond (y ∷ ys) past = by (test y) past (coding_beyond ys)
@@ -119,7 +119,7 @@ module _ {A : Type 0} (id_of : A → ℕ) (coding_of : A → Coding) (otherwise 
     abbrev Changes : List A → List A → Type 0
     Changes from to = codings to other ≡ with_coding (codings from) id (coding_of x) other
 
-    -- a change behind a compressor with another id
+    -- a change after a compressor with another id
     behind : (y : A) (ys zs : List A) → test y ≡ false → Changes ys zs → Changes (y ∷ ys) (y ∷ zs)
     behind y ys zs none rest =
         ap (λ (c : Option Coding). cond (id_of y == other) (Some (coding_of y)) c) rest
@@ -150,7 +150,7 @@ module _ {A : Type 0} (id_of : A → ℕ) (coding_of : A → Coding) (otherwise 
         by true same past rest = absurd (omega (arith, past))
         by false none past rest = behind y ys (ys ++ x ∷ []) none (rest (omega (arith, past)))
 
-  -- a compressor in the place of the first with this id changes what this id stands for
+  -- a compressor in the place of the first with this id changes the coding of this id
   pub replaced : (xs : List A) (at : ℕ) (x y : A) → (at < length xs) × (at ≡ first xs) → get_or xs at y ≡ y → id_of x ≡ id_of y
       → codings (slice_set xs at x) ≡ with_coding (codings xs) id (coding_of x)
   replaced xs at x y there is same = λ i other. by other i
@@ -163,6 +163,6 @@ module _ {A : Type 0} (id_of : A → ℕ) (coding_of : A → Coding) (otherwise 
           ap (λ n. codings (slice_set xs n x) other) there.1
           ∙ first_replaced x (same ∙ found) other xs (subst (λ n. n < length xs) there.1 there.0)
 
-  -- and so does one behind all others, where none had it
+  -- and so does one after all others, where none had it
   pub pushed : (xs : List A) (x : A) → length xs ≤ first xs → id_of x ≡ id → codings (xs ++ x ∷ []) ≡ with_coding (codings xs) id (coding_of x)
   pushed xs x past is = λ i other. last_pushed x is other xs past i

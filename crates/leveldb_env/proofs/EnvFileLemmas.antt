@@ -81,7 +81,7 @@ module _ {E F : Type 0} (env : Ghosts E F) where
   pub IsLonger-put : {from to : Opened E F} {bytes : List ℕ} → Appends env from bytes (Ok tt) to → IsLonger env from bytes to
   IsLonger-put put = record { does = λ modelled. put.does; locks = put.locks; file = put.file; counted = put.cause.ok }
 
-  -- what stands under the file's name then
+  -- the file of its name then
   under_name : {from to : Opened E F} {bytes : List ℕ} → IsLonger env from bytes to → IsTrue env.models_disk
       → opened_file env to ≡ option_map (longer_file bytes) (opened_file env from)
   under_name {from} {to} {bytes} longer modelled =
@@ -103,7 +103,7 @@ module _ {E F : Type 0} (env : Ghosts E F) where
   longer_each from [] to put = subst (IsLonger env from []) (sym put) (IsLonger-none from)
   longer_each from (piece ∷ pieces) to put = IsLonger-trans (IsLonger-put put.1) (longer_each put.0 pieces to put.2)
 
-  -- all that was put stands behind the file's bytes
+  -- all that was put is appended to the file
   pub IsLonger-all : {from to : Opened E F} {bytes : List ℕ} → PutsAll (Appends env) from bytes to → IsLonger env from bytes to
   IsLonger-all {from} {to} all = subst (λ b. IsLonger env from b to) (sym all.joined) (longer_each from all.pieces to all.put)
 
@@ -118,7 +118,7 @@ module _ {E F : Type 0} (env : Ghosts E F) where
   gone_still {from} {to} {bytes} longer e gone = ⊎_elim (λ memory. inl memory)
       (λ none. inr (none.0, none.1, under_name longer none.1 ∙ ap (option_map (longer_file bytes)) none.2)) gone
 
-  -- a refused put after others
+  -- a put that fails after others
   IsPartlyPut-put : {from mid to : Opened E F} {bytes piece : List ℕ} {status : Status} → IsLonger env from bytes mid → Appends env mid piece (Err status) to
       → IsPartlyAppended env from (bytes ++ piece) status to
   IsPartlyPut-put {from} {mid} {to} {bytes} {piece} {status} first put = record {
@@ -157,7 +157,7 @@ module _ {E F : Type 0} (env : Ghosts E F) where
     counted = read.cause.ok;
   }
 
-  -- what stands under the file's name, further on
+  -- the file of its name, further on
   same_file : {from to : Opened E F} {bytes : List ℕ} → IsTrue env.models_disk → IsFurther env from bytes to → opened_file env to ≡ opened_file env from
   same_file {from} {to} modelled further = ap (env.observed to.env).disk.files (further.file modelled) ∙ ap (λ files. files (env.name_of from.file)) ((further.still modelled).has)
 
@@ -200,7 +200,7 @@ module _ {E F : Type 0} (env : Ghosts E F) where
       → IsMissing env.models_disk (env.name_of from.file) (env.observed from.env) e → IsMissing env.models_disk (env.name_of to.file) (env.observed to.env) e
   missing_still further e missing = ⊎_elim (λ memory. inl memory) (λ none. inr (none.0, λ modelled. same_file modelled further ∙ none.1 modelled)) missing
 
-  -- a refused read
+  -- a read that fails
   IsGivenUp-read : {from mid to : Opened E F} {bytes : List ℕ} {room : ℕ} {status : Status} → IsFurther env from bytes mid → Reads env mid room (Err status) to
       → IsGivenUp env from status to
   IsGivenUp-read {from} {mid} {to} {bytes} {room} {status} first read = record {
@@ -210,7 +210,7 @@ module _ {E F : Type 0} (env : Ghosts E F) where
     cause = cause_after first.counted (cause_refused (cause_same (Err status) (same_missing first) (missing_still first) read.cause));
   }
 
-  -- want of memory
+  -- out of memory
   IsGivenUp-memory : {from to : Opened E F} {bytes : List ℕ} {status : Status} → IsFurther env from bytes to → IsOutOfMemory status → IsGivenUp env from status to
   IsGivenUp-memory first wants = record {
     still = first.still;
@@ -219,19 +219,19 @@ module _ {E F : Type 0} (env : Ghosts E F) where
     cause = record { later = omega (arith, first.counted); ok = tt; uncounted = λ excused. first.counted; cause = inl (inl wants) };
   }
 
-  -- a refused read gives the reading up
+  -- a read that fails gives the reading up
   pub IsGivenUp-given : {from to : Opened E F} {status : Status} → GivesUp (Reads env) from status to → IsGivenUp env from status to
   IsGivenUp-given {from} {to} {status} up =
       let first = IsFurther-given up.given_before in
       ⊎_elim (λ (failed : ReadFails (Reads env) up.mid status to). IsGivenUp-read first failed.1)
       (λ (memory : (to ≡ up.mid) × IsOutOfMemory status). IsGivenUp-memory (subst (IsFurther env from up.bytes) (sym memory.0) first) memory.1) up.why
 
-  -- ---- where the file is lent
+  -- ---- where the file is borrowed
 
   abbrev seen : EnvFile E F → Opened E F
   seen lent = opened lent.env.now lent.file.now
 
-  -- all that is put stands behind the file's bytes
+  -- all that is put is appended to the file
   pub IsLonger-borrowed : {from to : EnvFile E F} {bytes : List ℕ} → PutsAll (AppendsBorrowed env) from bytes to
       → ChangesBorrowedFile (λ old new. IsLonger env old bytes new) from to
   IsLonger-borrowed all = record {
@@ -267,7 +267,7 @@ module _ {E F : Type 0} (env : Ghosts E F) where
     same_file = GivesAll-same (ReadsBorrowed env) (λ lent. lent.file.ghost_name) (λ old room result new read. read.same_file) all;
   }
 
-  -- a refused read gives the reading up
+  -- a read that fails gives the reading up
   pub IsGivenUp-borrowed : {from to : EnvFile E F} {status : Status} → GivesUp (ReadsBorrowed env) from status to
       → ChangesBorrowedFile (λ old new. IsGivenUp env old status new) from to
   IsGivenUp-borrowed up = record {
@@ -276,7 +276,8 @@ module _ {E F : Type 0} (env : Ghosts E F) where
     same_file = GivesUp-same (ReadsBorrowed env) (λ lent. lent.file.ghost_name) (λ old room result new read. read.same_file) up;
   }
 
--- What is lent has changed so when the loan has ended. A lender's proof knows its last values by such implications.
+-- What was borrowed has changed so when the borrow has ended. The proof of the function that borrowed it knows its
+-- last values by such implications.
 pub ends_as : {E F : Type 0} {Changes : Opened E F → Opened E F → Type 0} {old new : EnvFile E F} {env : E} {file : F} → ChangesBorrowedFile Changes old new
     → (old.env.ghost_name ≡ new.env.ghost_name → env ≡ new.env.now) → (old.file.ghost_name ≡ new.file.ghost_name → file ≡ new.file.now) → Changes (opened old.env.now old.file.now) (opened env file)
 ends_as {Changes = Changes} {old = old} {new = new} {env = env} {file = file} changes env_ends file_ends =

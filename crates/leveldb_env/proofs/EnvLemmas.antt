@@ -90,7 +90,7 @@ renamed-other from to old files passes other apart apart_to = ⊎_elim
     moved_other None = refl
     moved_other (Some file) = at_other to (Some file) (deleted from old) other apart_to ∙ at_other from None old other apart
 
--- ---- what stands under the name then
+-- ---- the file of the name then
 
 -- a file that is there moves
 pub renamed-there : (from to : List ℕ) (files : Files) (file : File) → files from ≡ Some file → renamed from to files ≡ with_file to (Some file) (deleted from files)
@@ -219,7 +219,7 @@ Run-mono so run = record { has = so _ run.has; time = Within-mono so run.time }
 pub Run-trans : {P Q : Files → Type 0} {first old new : Observed} → Run P first old → ((files : Files) → Q files → P files) → Run Q old new → Run P first new
 Run-trans run keeps others = record { has = keeps _ others.has; time = Within-trans run.time (Within-mono keeps others.time) }
 
--- a refused call, by the run that it made
+-- a call that fails, by the run that it made
 pub ChangesFiles-refused : {T : Type 0} {models_disk : Bool} {change : Files → Files} {Passes : Files → Files → Type 0} {old new : Observed} {result : Result T Status}
     → IsErr result → Run (Passes old.disk.files) old new → ChangesFiles models_disk change Passes old new result
 ChangesFiles-refused {change = change} {old = old} {new = new} {result = result} refused run = record {
@@ -244,7 +244,7 @@ pub cause_after : {T : Type 0} {Excused : Status → Type 0} {before mid now : �
     → HasCause Excused before now result
 cause_after {Excused = Excused} {now = now} {result = result} same_count cause = subst (λ count. HasCause Excused count now result) same_count cause
 
--- a refusal of one type of answer and of another
+-- an error of one type of result and of another
 pub cause_refused : {T U : Type 0} {Excused : Status → Type 0} {before now : ℕ} {status : Status} → HasCause {T = T} Excused before now (Err status)
     → HasCause {T = U} Excused before now (Err status)
 cause_refused cause = record { later = cause.later; ok = tt; uncounted = cause.uncounted; cause = cause.cause }

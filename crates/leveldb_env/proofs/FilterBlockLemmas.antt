@@ -6,16 +6,14 @@ use Rattle.std.proofs.lemmas.List.{take_at, drop_at, append-nil, take_all, take-
 use Rattle.std.proofs.lemmas.List.Elements.{All-nil, All-cons, All-head, All-tail, All-drop, Contains-push, Contains-append_left, All-take}
 use Rattle.std.proofs.lemmas.List.Folds.{concat-append}
 use Rattle.leveldb_env.specs.Filter.{first_offset, keys_at, IsFilterError}
-use Rattle.leveldb_env.specs.FilterBlock.{offsets_from, AreTexts, numbers, numbers_in, filter_block, FilterBlocksAreInjective, FilterBlocksAreUnique, FiltersBuilt, filter_of, with_filters, finished, IsKeyKept, KeepsKeys, places_from, IsBlockEndingAt, HasFiltersEndingAt, IsFilterBlock, FiltersRead, BeginsAt, RiseFrom, IsFilterTooLarge, IsFilterNotMade}
-use Rattle.byteorder.specs.Endian.{little_from, little_number}
+use Rattle.leveldb_env.specs.FilterBlock.{offsets_from, AreTexts, numbers, numbers_in, filter_block, FilterBlocksAreUnique, FiltersBuilt, filter_of, with_filters, finished, IsKeyKept, KeepsKeys, places_from, HasFiltersEndingAt, IsFilterBlock, FiltersRead, BeginsAt, RiseFrom, IsFilterTooLarge, IsFilterNotMade}
+use Rattle.byteorder.specs.Endian.{little_number}
 use Rattle.byteorder.specs.Numbers.{little_from-lt, little_number-reads_back}
 use Rattle.leveldb_base.specs.Varint.{little}
-use Rattle.leveldb_base.proofs.VarintLemmas.{apart, little-little_number, apart_right}
+use Rattle.leveldb_base.proofs.VarintLemmas.{little-little_number}
 use Rattle.std.specs.Prelude.{IsSomeAnd, OnOk, OnErr, IfErr, IsErrAnd}
 use Rattle.std.specs.Option.{option_map_or}
-use Rattle.std.proofs.Props.{props}
-use mathlib.Core.HLevel.{Σ_prop_path}
-use Rattle.leveldb_env.specs.FilterBlockLaws.{one_fixed, one_numbers, length-places, first_place, places_small, by_places}
+use Rattle.leveldb_env.specs.FilterBlockLaws.{length-places, first_place, places_small, by_places}
 use Rattle.leveldb_base.specs.declared.error.Status.{Status}
 use Rattle.leveldb_base.specs.declared.error.StatusCode.TheVariants.{NotSupported}
 
@@ -65,7 +63,7 @@ empty_bytes : (n : ℕ) → concat (replicate n []) ≡ []
 empty_bytes zero = refl
 empty_bytes (suc n) = empty_bytes n
 
--- a text behind the others, and so many empty ones behind it
+-- a text after the others, and `count` empty ones after it
 pub more_texts : {bytes offsets : List ℕ} {texts : List (List ℕ)} → AreTexts bytes offsets texts → (text : List ℕ) (others : ℕ) (after places : List ℕ)
     → after ≡ bytes ++ text → places ≡ (offsets ++ length bytes ∷ []) ++ replicate others (length after) → AreTexts after places (texts ++ text ∷ replicate others [])
 more_texts {bytes} {offsets} {texts} h text others after places e f =
@@ -84,7 +82,7 @@ more_texts {bytes} {offsets} {texts} h text others after places e f =
           ∙ ap (λ z. offsets_from 0 texts ++ ((0 + length (concat texts)) ∷ z)) (empty_offsets ((0 + length (concat texts)) + length text) others));
     }
 
--- so many offsets more, the first of them this one
+-- `count` offsets more, the first of them this one
 pub more_offsets : (offsets : List ℕ) (begin end count : ℕ) (pushed after : List ℕ) (total room : ℕ) → 1 ≤ count → total ≡ length offsets + count → room ≡ length pushed → pushed ≡ offsets ++ begin ∷ []
     → after ≡ take total pushed ++ replicate (total - room) end → after ≡ (offsets ++ begin ∷ []) ++ replicate (count - 1) end
 more_offsets offsets begin end count pushed after total room some t r e f =
@@ -155,7 +153,7 @@ small_at [] h i = omega arith
 small_at (b ∷ bytes) h zero = All-head (λ z. z < 256) b bytes h
 small_at (b ∷ bytes) h (suc i) = small_at bytes (All-tail (λ z. z < 256) b bytes h) i
 
--- what bytes of so many numbers are
+-- what bytes of `count` numbers are
 pub record AreNumbers (bytes : List ℕ) (count : ℕ) : Type 0 where
   pub written : flat_map (little 4) (numbers_in bytes) ≡ bytes
   pub fit : All (λ n. n < 2 ^ 32) (numbers_in bytes)
@@ -194,8 +192,8 @@ number_at (n ∷ ns) last (suc j) h fit =
     ∙ ap (λ z. little_number 4 (drop (4 * j) z)) (drop_at (little 4 n) (flat_map (little 4) ns ++ last) 4 refl)
     ∙ number_at ns last j (omega (arith, h)) (All-tail (λ z. z < 2 ^ 32) n ns fit)
 
-pub one_spelling : FilterBlocksAreUnique
-one_spelling bytes others filters f g = f.spelled ∙ sym g.spelled
+pub one_block : FilterBlocksAreUnique
+one_block bytes others filters f g = f.encoded ∙ sym g.encoded
 
 -- ---- what was added is found
 
@@ -342,7 +340,7 @@ module _ {bytes : List ℕ} {filters : List (List ℕ)} (block : IsFilterBlock b
   ends = flat_map (little 4) (places_from 0 filters)
 
   in_parts : bytes ≡ concat filters ++ (flat_map (little 4) (places_from 0 filters) ++ 11 ∷ [])
-  in_parts = block.spelled ∙ by_places filters
+  in_parts = block.encoded ∙ by_places filters
 
   fitting : All (λ n. n < 2 ^ 32) (places_from 0 filters)
   fitting = places_small 0 (2 ^ 32) filters (omega (arith, block.fits))
@@ -359,7 +357,7 @@ module _ {bytes : List ℕ} {filters : List (List ℕ)} (block : IsFilterBlock b
         length-places 0 filters,
       )
 
-  -- the number that tells where a filter begins, or the last one ends
+  -- the number at which a filter begins, or the last one ends
   pub place_read : (index at : ℕ) → index ≤ length filters → at ≡ length (concat filters) + 4 * index → little_number 4 (drop at bytes) ≡ get_or (places_from 0 filters) index 0
   place_read index at h e =
       ap (λ z. little_number 4 (drop z bytes)) e
@@ -516,7 +514,7 @@ module _ (bytes : List ℕ) (small : All (λ b. b < 256) bytes) (tail limit : �
         texts,
         record {
           block = record {
-            spelled =
+            encoded =
                 three_parts ∙ ap (λ z. z ++ (mid ++ 11 ∷ [])) (sym made.1)
                 ∙ ap (λ z. concat texts ++ (z ++ 11 ∷ [])) (sym there.written ∙ ap (flat_map (little 4)) (first.1 ∙ sym made.0))
                 ∙ sym (by_places texts);
@@ -530,7 +528,7 @@ no_bytes : (n : ℕ) → concat (replicate n []) ≡ []
 no_bytes zero = refl
 no_bytes (suc n) = no_bytes n
 
--- how many bytes filters have with one more, and empty ones behind it
+-- how many bytes filters have with one more, and empty ones after it
 size_with : (filters : List (List ℕ)) (filter : List ℕ) (others : ℕ) → length (concat (filters ++ filter ∷ replicate others [])) ≡ length (concat filters) + length filter
 size_with filters filter others =
     ap length (concat-append filters (filter ∷ replicate others []) ∙ ap (λ z. concat filters ++ (filter ++ z)) (no_bytes others) ∙ ap (λ z. concat filters ++ z) (append-nil filter))
@@ -558,7 +556,7 @@ pub too_many : {T : Type 0} (r : Result T Status) (too_large : List (List ℕ) �
 too_many (Ok v) too_large make filters keys some h wide = absurd h
 too_many (Err status) too_large make filters keys some h wide = inr (h, too_large_some too_large make filters keys some (inr wide))
 
--- a filter that was made, and fits behind the others, isn't too large
+-- a filter that was made, and fits after the others, isn't too large
 pub made_fits : (too_large : List (List ℕ) → Type 0) (make : List (List ℕ) → List ℕ) (filters keys : List (List ℕ)) → (too_large keys → ⊥) → length (concat filters) + length (make keys) < 2 ^ 32 → IsFilterTooLarge too_large make filters keys → ⊥
 made_fits too_large make filters [] small few h = h
 made_fits too_large make filters (key ∷ keys) small few (inl h) = small h
@@ -568,14 +566,14 @@ pub on_ok : {T E A : Type 0} (r : Result T E) → A → OnOk r A
 on_ok (Ok v) a = a
 on_ok (Err e) a = tt
 
--- the bytes of a block, put one behind the other
+-- the bytes of a block, put one after another
 pub put_block : (bytes : List ℕ) (filters : List (List ℕ)) → bytes ≡ ((concat filters ++ flat_map (little 4) (offsets_from 0 filters)) ++ little 4 (length (concat filters))) ++ 11 ∷ [] → length (concat filters) < 2 ^ 32 → IsFilterBlock bytes filters
 unfolding filter_block
 put_block bytes filters e h =
     let begin = flat_map (little 4) (offsets_from 0 filters) in
     let end = little 4 (length (concat filters)) in
     record {
-      spelled =
+      encoded =
           e ∙ append_assoc (concat filters ++ begin) end (11 ∷ [])
           ∙ append_assoc (concat filters) begin (end ++ 11 ∷ []);
       fits = h;

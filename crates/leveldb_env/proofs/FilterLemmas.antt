@@ -19,7 +19,7 @@ starts-more at (first ∷ keys) key =
     let place : at + length first + length (concat keys) ≡ at + length (first ++ concat keys) = omega (arith, length-append first (concat keys))
     in ap (λ offsets. at ∷ offsets) (starts-more (at + length first) keys key ∙ ap (λ n. starts (at + length first) keys ++ n ∷ []) place)
 
--- no start lies before the first, none behind the end, and none before an earlier one
+-- no start is before the first, none after the end, and none before an earlier one
 starts-from : (at : ℕ) (keys : List (List ℕ)) (j d : ℕ) → j < length (starts at keys) → at ≤ get_or (starts at keys) j d
 starts-from at [] j d there = absurd (omega arith)
 starts-from at (key ∷ keys) zero d there = omega arith
@@ -67,7 +67,7 @@ cuts_behind front (key ∷ keys) =
 pub keys_at-starts : (keys : List (List ℕ)) → keys_at (starts 0 keys) (concat keys) ≡ keys
 keys_at-starts keys = cuts_behind [] keys
 
--- one key more behind the others
+-- one key more after the others
 pub concat-more : (keys : List (List ℕ)) (key : List ℕ) → concat (keys ++ key ∷ []) ≡ concat keys ++ key
 concat-more keys key = concat-append keys (key ∷ []) ∙ ap (λ k. concat keys ++ k) (append-nil key)
 
@@ -84,7 +84,7 @@ get_or-keys_at (offset ∷ offsets) keys (suc i) there =
     in get_or-keys_at offsets keys i (omega arith)
     ∙ ap (λ n. slice_range keys (get_or offsets i 0) (first_offset (drop n (offset ∷ offsets)) (length keys))) (sym place)
 
--- the offset behind the first so many, and the end behind all of them
+-- the offset after the first `count` keys, and the end after all of them
 pub first_offset-drop : (offsets : List ℕ) (i end : ℕ) → i < length offsets → first_offset (drop i offsets) end ≡ get_or offsets i 0
 first_offset-drop [] i end there = absurd (omega arith)
 first_offset-drop (offset ∷ offsets) zero end there = refl

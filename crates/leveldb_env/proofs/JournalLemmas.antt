@@ -93,11 +93,11 @@ module _ (first : Files) (calls : List Call) (n : ℕ) (within : are_within n ca
 
 -- ---- the moments
 
--- what is told after n calls
+-- what is observed after n calls
 abbrev pub told : Files → List Call → ℕ → Disk → Observed
 told first calls n disk = record { disk = disk; moment = 2 * n; at_moment = FilesWere first calls }
 
--- of the moments before the n-th call's end the new calls tell what the old ones did
+-- of the moments before the n-th call's end the new calls say what the old ones did
 pub record TellsMore (first : Files) (old new : List Call) (n : ℕ) : Type 0 where
   pub after : (k : ℕ) → k ≤ n → files_after first new k ≡ files_after first old k
   pub inside : (k : ℕ) → k < n → files_inside first new k ≡ files_inside first old k

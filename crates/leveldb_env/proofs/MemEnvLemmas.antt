@@ -1,7 +1,7 @@
 -- Maps of files by name as the files of a disk: changes, copies, names, folders and locks.
 use Rattle.std.proofs.Common.{◌≡◌, ◌⊎◌, inl, inr, ⊎_elim, Bool, false, List, [], ◌∷◌, Option, Some, None, refl, sym, ◌∙◌, ap, subst, arith, ℕ, true, not, cond, IsSome, String, string_bytes, ◌↔◌, ◌||◌, map, is_some, ◌≢◌, ◌+◌, ◌++◌, length, drop, nat_eq, append_assoc, length-append, get_or, MatchOption, ◌<◌, Result, Ok, Err}
-use Rattle.std.specs.List.{Contains, IsDistinct, AllByRecursion, filter_map, cons_option, filter, AllZip, All}
-use Rattle.std.proofs.lemmas.List.Elements.{Contains-append_left, Contains-append_right, Contains-append_cases, Contains-push, Contains-push_cases, All-head, All-tail}
+use Rattle.std.specs.List.{Contains, IsDistinct, AllByRecursion, filter_map, cons_option, filter, AllZip}
+use Rattle.std.proofs.lemmas.List.Elements.{Contains-append_left, Contains-append_right, Contains-append_cases, Contains-push, Contains-push_cases}
 use Rattle.std.specs.BTreeMap as tree
 use Rattle.std.specs.BTreeSet as sorted
 use Rattle.std.specs.BTreeSet.{BTreeSet, contains_text}
@@ -15,7 +15,7 @@ use Rattle.std.specs.Str.{bytes_eq}
 use Rattle.std.proofs.lemmas.Map.Entries.{lookup-filter-keys}
 use Rattle.std.proofs.lemmas.Map.Text.{btree_map_updates_text, btree_set_updates_text, is_eq-slice_cmp}
 use Rattle.std.specs.declared.alloc.Global.{Global}
-use Rattle.leveldb_env.specs.Env.{File, Files, with_file, lock_set, or_empty, created, deleted, moved, renamed, is_under, without_folder, ListsChildren, in_folder, ChangesFiles, BeforeOrAfter, PrefixAppended, extended, Within, kept_file}
+use Rattle.leveldb_env.specs.Env.{File, Files, with_file, lock_set, or_empty, created, deleted, moved, renamed, is_under, without_folder, ListsChildren, in_folder, ChangesFiles, BeforeOrAfter, PrefixAppended, extended, Within}
 use Rattle.leveldb_env.specs.MemEnv.{files_of, child_under, child_in, without_slash, ChangesOrFails, mem_observed}
 use Rattle.std.specs.Set.{is_member, unique_keys}
 use Rattle.std.proofs.lemmas.Bool.{false_from_ne_true}
@@ -28,7 +28,6 @@ use Rattle.std.proofs.lemmas.List.{append_cancel_left, get_or_default, take_all}
 use Rattle.std.proofs.lemmas.List.Prefix.{front_rest}
 use Rattle.leveldb_base.specs.declared.error.Status.{Status}
 use Rattle.leveldb_env.specs.declared.mem_env.MemEnv.{MemEnv}
-use Rattle.leveldb_env.specs.Picks.{Tails, tail_for, picked}
 
 module _ {X : Type 0} where
   pub Contains-nil : (x : X) → Contains [] x → ⊥
@@ -81,7 +80,7 @@ module _ {X Y : Type 0} (f : X → Option Y) where
       (λ rest. given_later y (filter_map f xs) (f z) (Contains-filter_map xs x y rest is))
       (Contains-cons z xs x among)
 
-  -- where f tells elements apart that differ by e, what it gives differs by d
+  -- where f separates elements that differ by e, what it gives differs by d
   module _ (e : X → X → Bool) (d : Y → Y → Bool) (apart : (x x2 : X) (y y2 : Y) → f x ≡ Some y → f x2 ≡ Some y2 → e x x2 ≡ false → d y y2 ≡ false) where
     others_next : (y : Y) (ys : List Y) (o : Option Y) → ((y2 : Y) → o ≡ Some y2 → d y y2 ≡ false) → AllByRecursion (λ y2. d y y2 ≡ false) ys → AllByRecursion (λ y2. d y y2 ≡ false) (cons_option o ys)
     others_next y ys None first later = later
@@ -108,7 +107,7 @@ FileMap = BTreeMap (String Global) File
 abbrev pub Updates : List ℕ → FileMap → FileMap → Option File → Type 0
 Updates name m n w = tree.UpdatesBy string_cmp (λ k. slice_cmp nat_cmp name (string_bytes k)) m n w
 
--- what is set in the map is what stands under the name
+-- what is set in the map is the file of the name
 pub files_updated : (name : List ℕ) (m n : FileMap) (w : Option File) → Updates name m n w → files_of n ≡ with_file name w (files_of m)
 files_updated name m n w updates = λ i q. btree_map_updates_text name m n w updates q i
 
@@ -155,11 +154,11 @@ without_under folder files = λ i name. at (is_under folder name) (files name) i
 
 -- ---- a file moves: the new name is made, the old one taken away, and the file put in place
 module _ (files : Files) (from to : List ℕ) where
-  -- the old name stands until then
+  -- the old name is there until then
   pub source_stays : (x : Option File) → bytes_eq from to ≡ false → with_file to x files from ≡ files from
   source_stays x apart = ap (λ b. cond b x (files from)) (nat_list_eq_equiv.symm to from ∙ apart)
 
-  -- the new name stands without the old one
+  -- the new name is there without the old one
   pub target_stands : bytes_eq from to ≡ false → IsSome (deleted from (created to files) to)
   target_stands apart =
       subst (λ b. IsSome (cond b None (cond (bytes_eq to to) (or_empty (files to)) (files to)))) (sym apart)
@@ -203,7 +202,7 @@ found_next : (name : List ℕ) (b d : Bool) (value : File) (among : Bool) (found
 found_next name true d value among found same later = ap (λ x. is_some (cond x (Some value) found)) same
 found_next name false d value among found same later = later ∙ ap (λ x. is_some (cond x (Some value) found)) same
 
--- a name is in the list just where a look-up finds it
+-- a name is in the list exactly where a look-up finds it
 names_found : (name : List ℕ) (entries : List (String Global × File)) → is_member bytes_eq (map string_bytes (keys_of entries)) name ≡ is_some (lookup (is_at (λ k. slice_cmp nat_cmp name (string_bytes k))) entries)
 names_found name [] = refl
 names_found name (e ∷ entries) = found_next name (bytes_eq name (string_bytes e.0)) _ e.1 _ _ (sym (is_eq-slice_cmp name (string_bytes e.0))) (names_found name entries)
@@ -301,7 +300,7 @@ module _ (folder name : List ℕ) where
       let not_under : is_under folder name ≡ false = false_from_ne_true (is_under folder name) (λ under. apart (drop (length (folder ++ 47 ∷ [])) name) (split under ∙ append_assoc folder (47 ∷ []) (drop (length (folder ++ 47 ∷ [])) name))) in
       ap (λ b. cond b (Some (drop (length folder + 1) name)) None) not_under
 
-  -- what is left of the name behind the folder begins with a `/`, or not
+  -- what is left of the name after the folder begins with a `/`, or not
   pub child_under-stripped : (rest : List ℕ) (r : Option (Bor (List ℕ))) → name ≡ folder ++ rest → MatchOption r ((tail : List ℕ) → rest ≢ 47 ∷ tail) (λ x. rest ≡ 47 ∷ x.now) → option_copied r ≡ child_under folder name
   child_under-stripped rest None is apart = sym (child_under-none (λ child under. apart child (append_cancel_left folder rest (47 ∷ child) (sym is ∙ under))))
   child_under-stripped rest (Some x) is begins = sym (child_under-in_folder x.now (is ∙ ap (λ (t : List ℕ). folder ++ t) begins))
@@ -315,7 +314,7 @@ has_slash text false h = false_from_ne_true (is_member nat_eq text 47) (λ there
     let at : Contains text 47 = (is_member-Decides Decides-eqb text 47).0 there in
     absurd (cc (h.1 at.0 at.1 (get_or_default text at.0 0 47 at.1 ∙ at.2))))
 
--- a name whose part behind the folder is known
+-- a name whose part after the folder is known
 pub name_under : (folder name child : List ℕ) → child_under folder name ≡ Some child → name ≡ in_folder folder child
 name_under folder name child is = by (is_under folder name) refl
   where
@@ -382,7 +381,7 @@ lock_undone name locked free = λ i other. at other (bytes_eq name other) refl i
     at other true e = ap (λ b. cond b false (cond b true (locked other))) e ∙ sym free ∙ ap locked ((bytes_decides name other).0 e)
     at other false e = ap (λ b. cond b false (cond b true (locked other))) e
 
--- all the bytes are a beginning of them
+-- all the bytes are a prefix of them
 pub PrefixAppended-whole : (name bytes : List ℕ) (old new : Files) → new ≡ extended name bytes old → PrefixAppended name bytes old new
 PrefixAppended-whole name bytes old new is =
     inr (length bytes, is ∙ ap (λ (all : List ℕ). extended name all old) (sym (take_all (length bytes) bytes (omega arith))))

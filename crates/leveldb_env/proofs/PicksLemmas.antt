@@ -34,7 +34,7 @@ next_tail name tails i pick b below is same =
 
 -- ---- one tail after another
 
--- a tail is given for a name just where a search finds one
+-- a tail is given for a name exactly where a search finds one
 among_names : (name : List ℕ) (tails : Tails) → list_any (bytes_eq name) (keys_of tails) ≡ is_some (lookup (bytes_eq name) tails)
 among_names name [] = refl
 among_names name (pick ∷ tails) = next (bytes_eq name pick.0) (among_names name tails)
@@ -113,7 +113,7 @@ no_bytes i = lit< tt
 
 -- ---- what is picked
 
--- the tail that stands behind a file, if it is allowed
+-- the tail that follows a file, if it is allowed
 tail_fits : (files : Files) (tails : Tails) (name : List ℕ) (file : File) → IsAllowed files tails → files name ≡ Some file → (o : Option (List ℕ)) → lookup (bytes_eq name) tails ≡ o → AreBytes (unwrap_or o []) × (length (unwrap_or o []) ≤ length file.since)
 tail_fits files tails name file allowed stands None is = (no_bytes, omega arith)
 tail_fits files tails name file allowed stands (Some tail) is =
@@ -194,7 +194,7 @@ module _ (files left : Files) (names : List (List ℕ)) (all : AreNames files na
 pub leaves_by_tails : (map : FileMap) → CrashesByTails (files_of map)
 leaves_by_tails map = λ left leaves. left_by_tails (files_of map) left (unique_keys bytes_eq (names_of map)) (unique_names map) leaves
 
--- each entry stands in the map
+-- each entry is in the map
 abbrev pub AllStand : FileMap → Entries → Type 0
 AllStand files entries = All (λ e. files_of files (string_bytes e.0) ≡ Some e.1) entries
 

@@ -1,5 +1,5 @@
 -- The calls of a recording environment as those of any, and what a crash leaves of its moments.
-use Rattle.std.proofs.Common.{◌≡◌, ◌⊎◌, inl, inr, ⊎_elim, ℕ, Bool, true, false, ◌+◌, ◌-◌, ◌*◌, ◌^◌, ◌<◌, ◌&&◌, nat_lt, List, string_bytes, codes, IfSome, IsErrAnd, IfErr, OnOk, is_some, Option, None, Some, if◌then◌else◌, not, ◌||◌, Result, Ok, Err, refl, sym, ◌∙◌, ap, subst, arith, ◌≢◌, ◌≤◌, ◌/◌, ◌%◌, ◌==◌, cond, [], ◌∷◌, ◌++◌, length, filter, fold, nat_le, IsSome, String, Vec, length-append}
+use Rattle.std.proofs.Common.{◌≡◌, ◌⊎◌, inl, inr, ⊎_elim, ℕ, Bool, true, false, ◌+◌, ◌-◌, ◌*◌, ◌^◌, ◌<◌, ◌&&◌, nat_lt, List, string_bytes, codes, IfSome, IsErrAnd, IfErr, OnOk, is_some, Option, None, Some, if◌then◌else◌, not, ◌||◌, Result, Ok, Err, refl, sym, ◌∙◌, ap, subst, arith, ◌/◌, ◌%◌, ◌==◌, cond, [], ◌∷◌, filter, fold, nat_le, IsSome, String, Vec, length-append}
 use Rattle.std.proofs.lemmas.Bool.Decides.{nat_tests}
 use Rattle.std.proofs.lemmas.Result.{IfErr-weaker}
 use Rattle.leveldb_base.specs.declared.error.Status.{Status}
@@ -12,7 +12,7 @@ use Rattle.leveldb_env.specs.Env.{ChangesFiles, BeforeOrAfter, PrefixAppended, F
 use Rattle.leveldb_env.specs.Journal.{Requested, where_done, name_in, finds_file, IsChangeError, noted, after, files_after, cut_off, cut_off_if, is_append, call_after, side_of, files_at, FilesWere}
 use Rattle.leveldb_env.specs.MemEnv.{files_of, IsNoSuchFile}
 use Rattle.leveldb_env.specs.Record.{record_observed, files_were, Passed, files_in, locked_in, moment_of, is_past, is_chosen, is_chosen_made, one_more_failure, FilesWereInside, CountsCall, ChangesNoFile, RequestsChange, CrashesByChoice}
-use Rattle.leveldb_env.proofs.MemEnvLemmas.{PrefixAppended-from_sides, Contains-head, Contains-tail, FileMap, AreNames-there, names_of, unique_names}
+use Rattle.leveldb_env.proofs.MemEnvLemmas.{PrefixAppended-from_sides, Contains-head, Contains-tail, FileMap, AreNames-there, unique_names}
 use Rattle.std.specs.Cmp.Lexicographic.{bytes_decides}
 use Rattle.std.specs.List.{Contains}
 use Rattle.std.specs.Option.{option_map}
@@ -66,7 +66,7 @@ module _ (old new : RecordEnv) (was now : Journal) (first : was ≡ old.journal)
         let at : RequestsChange {T = T} change may old new (Err e) = record { ok = tt; err = inl (no_memory, ap files_by last ∙ same ∙ ap files_by first); time = passes (BeforeOrAfter change) passed; inside = inl no_memory } in
         subst (λ (r : Result T Status). RequestsChange change may old new r) (sym is) at
 
-    -- one that was refused otherwise
+    -- one that failed otherwise
     pub asks_err : {T : Type 0} (r : Result T Status) (e : Status) → r ≡ Err e → files_by now ≡ where_done (may && is_chosen_made old) change (files_by was) → files_were now (2 * was.count + 1) (where_done may change (files_by was)) → RequestsChange change may old new r
     asks_err {T} r e is made inside =
         let left : files_in new ≡ where_done (may && is_chosen_made old) change (files_in old) = ap files_by last ∙ made ∙ ap (λ (j : Journal). where_done (may && is_chosen_made old) change (files_by j)) first in
@@ -80,7 +80,7 @@ pub turn_taken : (past next chosen : Bool) → Some chosen ≡ (if past then Non
 turn_taken true next chosen is = absurd (cc is)
 turn_taken false next chosen is = (refl, cc is)
 
--- a chosen call's change is made where it's to stand
+-- a chosen call's change is made where it's to be
 pub chosen_made : (past next chosen field may : Bool) → past ≡ false → chosen ≡ next → chosen ≡ true → (not chosen || (may && field)) ≡ (may && ((not past && next) && field))
 chosen_made past next chosen field may counted is_next is_chosen =
     ap (λ b. not b || (may && field)) is_chosen
@@ -101,7 +101,7 @@ none_of : (o : Option File) → is_some o ≡ false → o ≡ None
 none_of None is = refl
 none_of (Some file) is = absurd (cc is)
 
--- the answer for a missing name is one of the call's own
+-- the error for a missing name is one of the call's own
 no_file : (change : Requested) (files : Files) (name : List ℕ) (e : Status) → name ≡ name_in change → finds_file change files ≡ false → e.code ≡ NotFound
     → IfSome e.err (λ text. string_bytes text ≡ status_text NotFound (annotated (codes "no such file") name)) → IsChangeError change files e
 no_file (Emptied name) files n e same missing code text = absurd (cc missing)
@@ -117,7 +117,7 @@ pub no_file_found : {T : Type 0} (change : Requested) (files : Files) (name : Li
 no_file_found change files name (Ok x) same missing code text = tt
 no_file_found change files name (Err e) same missing code text = no_file change files name e same missing code text
 
--- a call that asks for nothing for want of memory, as one that asks for a change
+-- a call that asks for nothing for out of memory, as one that asks for a change
 pub asks_nothing : {T : Type 0} (old new : RecordEnv) (change : Files → Files) (may : Bool) (e : Status) → ChangesNoFile old new → IsOutOfMemory e → RequestsChange {T = T} change may old new (Err e)
 asks_nothing old new change may e looked no_memory = record {
   ok = tt;
@@ -126,7 +126,7 @@ asks_nothing old new change may e looked no_memory = record {
   inside = inl no_memory;
 }
 
--- ---- what it tells as any environment
+-- ---- what it reports as any environment
 
 abbrev env_told : RecordEnv → Observed
 env_told env = record_observed env
@@ -143,7 +143,7 @@ pub ChangesFiles-from_asks : {T : Type 0} (change : Files → Files) (may : Bool
 ChangesFiles-from_asks change may old new (Ok x) asked = record { ok = λ _. asked.ok; now = λ _. inr asked.ok; time = asked.time }
 ChangesFiles-from_asks change may old new (Err e) asked = record { ok = λ _. tt; now = λ _. ⊎_elim (λ none. inl none.1) (either_left change (may && is_chosen_made old) _ _) asked.err; time = asked.time }
 
--- what the answer says of the count of failures
+-- what the result says of the count of failures
 counted_failure : (failures now : ℕ) → failures < 2 ^ 64 → now ≡ one_more_failure failures → (now ≡ failures + 1) ⊎ ((failures ≡ 2 ^ 64 - 1) × (now ≡ failures))
 counted_failure failures now small is = by (nat_lt (failures + 1) (2 ^ 64)) refl
   where
@@ -151,7 +151,7 @@ counted_failure failures now small is = by (nat_lt (failures + 1) (2 ^ 64)) refl
     by true lt = inl (grind (arith, nat_tests))
     by false ge = inr (grind (arith, nat_tests))
 
--- ---- answers of a call that asks for nothing
+-- ---- results of a call that asks for nothing
 
 pub no_such_file : {T : Type 0} (files : Files) (name : List ℕ) (r : Result T Status) → files name ≡ None → IsErrAnd r (λ e. e.code ≡ NotFound)
     → IsErrAnd r (λ e. IfSome e.err (λ text. string_bytes text ≡ status_text NotFound (annotated (codes "no such file") name))) → IfErr r (IsNoSuchFile files name)

@@ -31,7 +31,7 @@ module _ {S : Type 0} (puts : S → List ℕ → Result (Unit {0}) Status → S 
     joined = ap (λ b. b ++ others) first.joined ∙ ap (λ b. concat first.pieces ++ b) second.joined ∙ sym (concat-append first.pieces second.pieces);
   }
 
-  -- the first put is refused
+  -- the first put fails
   pub PutsPart-one : {from to : S} {bytes : List ℕ} {status : Status} → puts from bytes (Err status) to → PutsPart puts from bytes status to
   PutsPart-one {from} {to} {bytes} {status} failed = record { mid = from; done = []; piece = bytes; put_before = PutsAll-none from; failed = failed; joined = refl }
 
@@ -81,7 +81,7 @@ module _ {S N : Type 0} (puts : S → List ℕ → Result (Unit {0}) Status → 
   pub PutsPart-same : {from to : S} {bytes : List ℕ} {status : Status} → PutsPart puts from bytes status to → name to ≡ name from
   PutsPart-same {from} {to} {bytes} {status} broken = so broken.mid broken.piece (Err status) to broken.failed ∙ PutsAll-same broken.put_before
 
--- what is put into a sink that is lent is put into what is lent
+-- what is put into a sink that is borrowed is put into what is borrowed
 pub PutsAll-borrowed : {S : Type 0} (puts : S → List ℕ → Result (Unit {0}) Status → S → Type 0) {from to : MutBor S} {bytes : List ℕ}
     → PutsAll (λ old bytes result new. ChangesBorrowed (λ s t. puts s bytes result t) old new) from bytes to → ChangesBorrowed (λ s t. PutsAll puts s bytes t) from to
 PutsAll-borrowed {S} puts all =
@@ -97,7 +97,7 @@ each_behind : (from : List ℕ) (pieces : List (List ℕ)) (to : List ℕ) → P
 each_behind from [] to put = put ∙ sym (append-nil from)
 each_behind from (piece ∷ pieces) to put = each_behind put.0 pieces to put.2 ∙ ap (λ b. b ++ concat pieces) put.1.ok ∙ append_assoc from piece (concat pieces)
 
--- all that was put stands behind what was there
+-- all that was put is appended to what was there
 pub PutsAll-bytes : {S : Type 0} (items : S → List ℕ) {from to : S} {bytes : List ℕ}
     → PutsAll (λ old put result new. AppendsBytes (items old) put result (items new)) from bytes to → items to ≡ items from ++ bytes
 PutsAll-bytes {S} items {from} {to} all =

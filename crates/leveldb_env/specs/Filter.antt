@@ -12,8 +12,9 @@ first_offset (offset ∷ offsets) end = offset
 -- each key goes from its offset on to the next one, or to the end
 abbrev pub keys_at : List ℕ → List ℕ → List (List ℕ)
 keys_at [] keys = []
-keys_at (offset ∷ offsets) keys = slice_range keys offset (first_offset offsets (length keys)) ∷ keys_at offsets keys
+keys_at (offset ∷ offsets) keys = slice_range keys offset
+    (first_offset offsets (length keys)) ∷ keys_at offsets keys
 
--- want of memory; or the filter would have more bits than one can have
+-- out of memory; or the filter would have more bits than one can have
 abbrev pub IsFilterError : Type 0 → Status → Type 0
 IsFilterError too_large status = IsOutOfMemory status ⊎ ((status.code ≡ NotSupported) × too_large)

@@ -1,4 +1,4 @@
--- The files at each moment of a run of calls, as the calls that asked for a change tell them.
+-- The files at each moment of a run of calls, rebuilt from the calls that asked for a change.
 use Rattle.std.specs.Prelude.{◌≡◌, ◌⊎◌, ◌/◌, ◌%◌, ◌+◌, ◌==◌, ◌||◌, ℕ, List, filter, fold, nat_le, if◌then◌else◌, Option, None, Some, is_some, Bool, true, false, String, string_bytes, Vec}
 use Rattle.std.specs.Borrow.{Bor}
 use Rattle.std.specs.List.{find, list_all}
@@ -12,7 +12,7 @@ use Rattle.leveldb_env.specs.MemEnv.{IsNoFileOrMemory}
 use Rattle.leveldb_env.specs.Env.{Files, emptied, created, extended, synced, deleted, renamed, without_folder}
 
 module _ {N B : Type 0} where
-  -- whether a change may stand though its call is refused or cut off: all but a sync
+  -- whether a change may be made though its call fails or is cut off: all but a sync
   abbrev pub may_be_made : Change N B → Bool
   may_be_made (Emptied name) = true
   may_be_made (Created name) = true
@@ -71,7 +71,7 @@ finds_file (Deleted name) files = is_some (files name.now)
 finds_file (Renamed from to) files = is_some (files from.now)
 finds_file (Cleared folder) files = true
 
--- why a call that asks for a change is refused, if the device does it
+-- why a call that asks for a change fails, if the device makes it
 abbrev pub IsChangeError : Requested → Files → Status → Type 0
 IsChangeError (Emptied name) files = IsOutOfMemory
 IsChangeError (Created name) files = IsOutOfMemory
@@ -85,7 +85,7 @@ IsChangeError (Cleared folder) files = IsOutOfMemory
 abbrev pub noted : Change (String Global) (Vec ℕ Global) → Files → Files
 noted change files = changed string_bytes (λ bytes. bytes.items) change files
 
--- a change that is done, or isn't
+-- a change where it is done
 abbrev pub where_done : Bool → (Files → Files) → Files → Files
 where_done done change files = if done then change files else files
 
@@ -106,7 +106,7 @@ abbrev pub cut_off_if : Option Call → Files → Files
 cut_off_if None files = files
 cut_off_if (Some call) files = cut_off call.change files
 
--- the call behind the first n, if it asked for a change
+-- the call after the first n, if it asked for a change
 abbrev pub call_after : List Call → ℕ → Option Call
 call_after calls n = find (λ call. call.number == n + 1) calls
 
@@ -114,20 +114,24 @@ call_after calls n = find (λ call. call.number == n + 1) calls
 abbrev pub files_inside : Files → List Call → ℕ → Files
 files_inside first calls n = cut_off_if (call_after calls n) (files_after first calls n)
 
--- Moment 2n stands after the first n calls. Inside the next one, at 2n + 1, what it asks for may stand too.
+-- Moment 2n is after the first n calls. Inside the next one, at 2n + 1, what it asks for may be
+-- made too.
 abbrev pub FilesWere : Files → List Call → ℕ → Files → Type 0
-FilesWere first calls moment files = (files ≡ files_after first calls (moment / 2)) ⊎ ((moment % 2 ≡ 1) × (files ≡ files_inside first calls (moment / 2)))
+FilesWere first calls moment files = (files ≡ files_after first calls (moment / 2))
+    ⊎ ((moment % 2 ≡ 1) × (files ≡ files_inside first calls (moment / 2)))
 
 -- ---- one side of a moment
 
--- of a change in flight this side stands, but an append is whole
+-- this side of a change in flight, but an append is whole
 abbrev pub side_of : Bool → Option Call → Files → Files
 side_of side None files = files
-side_of side (Some call) files = where_done (side || is_append call.change) (cut_off call.change) files
+side_of side (Some call) files = where_done (side || is_append call.change)
+    (cut_off call.change) files
 
 -- the files at a moment, on this side of a change in flight
 abbrev pub files_at : Files → List Call → ℕ → Bool → Files
-files_at first calls moment side = where_done (moment % 2 == 1) (side_of side (call_after calls (moment / 2))) (files_after first calls (moment / 2))
+files_at first calls moment side = where_done (moment % 2 == 1)
+    (side_of side (call_after calls (moment / 2))) (files_after first calls (moment / 2))
 
 -- no call is past the first n
 abbrev pub are_within : ℕ → List Call → Bool

@@ -1,10 +1,8 @@
 -- The disk that an environment in memory holds, and what its calls do.
-use Rattle.std.specs.Prelude.{◌≡◌, ◌⊎◌, ◌<◌, ◌^◌, min, Bool, true, false, IsTrue, ℕ, List, ◌++◌, length, take, drop, Option, None, Some, IfSome, String, string_bytes, codes, Result, OnOk, OnErr, ◌+◌, if◌then◌else◌, nat_eq}
+use Rattle.std.specs.Prelude.{◌≡◌, ◌⊎◌, min, Bool, true, false, ℕ, List, ◌++◌, length, take, drop, Option, None, Some, IfSome, String, string_bytes, codes, Result, OnOk, OnErr, ◌+◌, if◌then◌else◌, nat_eq}
 use Rattle.std.specs.BTreeMap.{BTreeMap, get_by_text}
 use Rattle.std.specs.BTreeSet.{contains_text}
 use Rattle.std.specs.declared.alloc.Global.{Global}
-use Rattle.std.proofs.Common.{lit<}
-use Rattle.std.proofs.lemmas.Bool.{false≢true}
 use Rattle.leveldb_base.specs.Error.{status_text, annotated, IsOutOfMemory}
 use Rattle.leveldb_base.specs.declared.error.Status.{Status}
 use Rattle.leveldb_base.specs.declared.error.StatusCode.TheVariants.{NotFound, LockError}
@@ -14,7 +12,7 @@ use Rattle.leveldb_env.specs.Env.{File, Files, Disk, bytes_of, created, lock_set
 use Rattle.std.specs.Set.{is_member}
 use Rattle.std.specs.Option.{option_and_then}
 
--- what stands under each name
+-- which file each name has
 abbrev pub files_of : BTreeMap (String Global) File → Files
 files_of map = λ name. get_by_text map name
 
@@ -22,11 +20,11 @@ files_of map = λ name. get_by_text map name
 abbrev pub disk_of : MemEnv → Disk
 disk_of env = record { files = files_of env.files; locked = contains_text env.locks }
 
--- the time that it answers
+-- the time that it returns
 abbrev pub time_of : MemEnv → ℕ
 time_of env = env.micros
 
--- no past is told
+-- no past is reported
 abbrev pub mem_observed : MemEnv → Observed
 mem_observed env = record { disk = disk_of env; moment = 0; at_moment = λ _ _. ⊥ }
 
@@ -34,14 +32,15 @@ mem_observed env = record { disk = disk_of env; moment = 0; at_moment = λ _ _. 
 abbrev pub handle_name : MemHandle → List ℕ
 handle_name file = string_bytes file.name
 
--- the place at which its next read begins
+-- the offset at which its next read begins
 abbrev pub handle_offset : MemHandle → ℕ
 handle_offset file = file.place
 
 -- ---- what the calls do
 
--- A call makes this change of the files, or is refused and makes none. Locks and time stay.
-pub record ChangesOrFails {T : Type 0} (change : Files → Files) (old new : MemEnv) (result : Result T Status) : Type 0 where
+-- A call makes this change of the files, or fails and makes none. Locks and time stay.
+pub record ChangesOrFails {T : Type 0} (change : Files → Files) (old new : MemEnv)
+    (result : Result T Status) : Type 0 where
   pub ok : OnOk result ((disk_of new).files ≡ change (disk_of old).files)
   pub err : OnErr result ((disk_of new).files ≡ (disk_of old).files)
   pub locks : (disk_of new).locked ≡ (disk_of old).locked
@@ -54,7 +53,8 @@ copied_over bytes target = take (length target) bytes ++ drop (length bytes) tar
 -- a file's bytes from a place on are copied over the front of the target; n of them went
 abbrev pub CopiesFrom : Option File → ℕ → ℕ → List ℕ → List ℕ → Type 0
 CopiesFrom None place n was now = ⊥
-CopiesFrom (Some file) place n was now = let bytes = drop place (bytes_of file) in (n ≡ min (length was) (length bytes)) × (now ≡ copied_over bytes was)
+CopiesFrom (Some file) place n was now = let bytes = drop place (bytes_of file) in
+    (n ≡ min (length was) (length bytes)) × (now ≡ copied_over bytes was)
 
 -- a name that is locked; a missing one is an empty file first
 abbrev pub lock_taken : List ℕ → Disk → Disk
@@ -64,33 +64,36 @@ lock_taken name disk = record { files = created name disk.files; locked = lock_s
 abbrev pub lock_freed : List ℕ → Disk → Disk
 lock_freed name disk = record disk { locked = lock_set name false disk.locked }
 
--- ---- why a call is refused
+-- ---- why a call fails
 
--- the answer for a name that is missing
+-- the error for a name that is missing
 pub record IsNoSuchFile (files : Files) (name : List ℕ) (e : Status) : Type 0 where
   pub code : e.code ≡ NotFound
-  pub text : IfSome e.err (λ text. string_bytes text ≡ status_text NotFound (annotated (codes "no such file") name))
+  pub text : IfSome e.err
+      (λ text. string_bytes text ≡ status_text NotFound (annotated (codes "no such file") name))
   pub gone : files name ≡ None
 
--- that, or want of memory
+-- that, or out of memory
 abbrev pub IsNoFileOrMemory : Files → List ℕ → Status → Type 0
 IsNoFileOrMemory files name e = IsOutOfMemory e ⊎ IsNoSuchFile files name e
 
--- the answer for a name that is locked
+-- the error for a name that is locked
 pub record IsAlreadyLocked (locked : List ℕ → Bool) (name : List ℕ) (e : Status) : Type 0 where
   pub code : e.code ≡ LockError
-  pub text : IfSome e.err (λ text. string_bytes text ≡ status_text LockError (annotated (codes "already locked") name))
+  pub text : IfSome e.err
+      (λ text. string_bytes text ≡ status_text LockError (annotated (codes "already locked") name))
   pub held : locked name ≡ true
 
--- the answer for a name that is free; it has no text, since a call that frees takes no memory
+-- the error for a name that is free; it has no text, since a call that frees takes no memory
 pub record IsNotLocked (locked : List ℕ → Bool) (name : List ℕ) (e : Status) : Type 0 where
   pub code : e.code ≡ LockError
   pub text : e.err ≡ None
   pub free : locked name ≡ false
 
--- what stands behind a folder and its `/`, of a name that is under it
+-- the part after a folder and its `/`, of a name that is under it
 abbrev pub child_under : List ℕ → List ℕ → Option (List ℕ)
-child_under folder name = if is_under folder name then Some (drop (length folder + 1) name) else None
+child_under folder name = if is_under folder name then Some
+    (drop (length folder + 1) name) else None
 
 -- the text, if it has no `/`
 abbrev pub without_slash : List ℕ → Option (List ℕ)

@@ -9,7 +9,8 @@ module _ {S : Type 0} (puts : S → List ℕ → Result (Unit {0}) Status → S 
   -- these pieces were put, one after another
   abbrev pub PutsEach : S → List (List ℕ) → S → Type 0
   PutsEach from [] to = to ≡ from
-  PutsEach from (piece ∷ pieces) to = (mid : S) × puts from piece (Ok tt) mid × PutsEach mid pieces to
+  PutsEach from (piece ∷ pieces) to = (mid : S) × puts from piece (Ok tt) mid
+      × PutsEach mid pieces to
 
   -- these bytes were put, in one piece or more, or none
   pub record PutsAll (from : S) (bytes : List ℕ) (to : S) : Type 0 where
@@ -17,7 +18,7 @@ module _ {S : Type 0} (puts : S → List ℕ → Result (Unit {0}) Status → S 
     pub put : PutsEach from pieces to
     pub joined : bytes ≡ concat pieces
 
-  -- of these bytes some were put, and then the put of a piece was refused
+  -- of these bytes some were put, and then the put of a piece failed
   pub record PutsPart (from : S) (bytes : List ℕ) (status : Status) (to : S) : Type 0 where
     pub mid : S
     pub done : List ℕ
@@ -28,20 +29,23 @@ module _ {S : Type 0} (puts : S → List ℕ → Result (Unit {0}) Status → S 
 
 -- ---- bytes in memory
 
--- The bytes stand behind the old ones. A refusal is want of memory, and changes nothing.
-pub record AppendsBytes (old bytes : List ℕ) (result : Result (Unit {0}) Status) (new : List ℕ) : Type 0 where
+-- The bytes are appended to the old ones. The only error is out of memory, and it changes nothing.
+pub record AppendsBytes (old bytes : List ℕ) (result : Result (Unit {0}) Status) (new : List ℕ)
+    : Type 0 where
   pub ok : OnOk result (new ≡ old ++ bytes)
   pub err : OnErr result (new ≡ old)
   pub memory : IfErr result IsOutOfMemory
 
--- a flush is never refused, and changes nothing
-pub record FlushesNothing (old : List ℕ) (result : Result (Unit {0}) Status) (new : List ℕ) : Type 0 where
+-- a flush never fails, and changes nothing
+pub record FlushesNothing (old : List ℕ) (result : Result (Unit {0}) Status) (new : List ℕ)
+    : Type 0 where
   pub ok : result ≡ Ok tt
   pub same : new ≡ old
 
--- ---- what is lent
+-- ---- what is borrowed
 
--- what is lent changes so, and is still the same
-pub record ChangesBorrowed {S : Type 0} (Changes : S → S → Type 0) (old new : MutBor S) : Type 0 where
+-- what is borrowed changes so, and is still the same
+pub record ChangesBorrowed {S : Type 0} (Changes : S → S → Type 0) (old new : MutBor S)
+    : Type 0 where
   pub changes : Changes old.now new.now
   pub same_reference : new.ghost_name ≡ old.ghost_name

@@ -4,7 +4,7 @@ use Rattle.leveldb_base.specs.declared.error.Status.{Status}
 use Rattle.std.specs.List.{concat}
 use Rattle.leveldb_base.specs.Error.{IsOutOfMemory}
 
--- what a read of so many bytes into a target gave
+-- what a read gave of which `n` bytes went into a target
 abbrev pub given : Result ℕ Status → List ℕ → Result (List ℕ) Status
 given (Ok n) target = Ok (take n target)
 given (Err e) target = Err e
@@ -13,13 +13,14 @@ module _ {S : Type 0} (gives : S → ℕ → Result (List ℕ) Status → S → 
   -- reads of a source that gave these pieces, one after another
   abbrev pub Draws : S → List (List ℕ) → S → Type 0
   Draws from [] to = to ≡ from
-  Draws from (piece ∷ pieces) to = (room : ℕ) × (mid : S) × (0 < length piece) × gives from room (Ok piece) mid × Draws mid pieces to
+  Draws from (piece ∷ pieces) to = (room : ℕ) × (mid : S) × (0 < length piece)
+      × gives from room (Ok piece) mid × Draws mid pieces to
 
   -- a read for which there was room gave nothing, as at a source's end
   abbrev pub AtEnd : S → S → Type 0
   AtEnd from to = (room : ℕ) × (0 < room) × gives from room (Ok []) to
 
-  -- a read was refused
+  -- a read failed
   abbrev pub ReadFails : S → Status → S → Type 0
   ReadFails from status to = (room : ℕ) × gives from room (Err status) to
 
@@ -36,7 +37,7 @@ module _ {S : Type 0} (gives : S → ℕ → Result (List ℕ) Status → S → 
     pub given_before : GivesSome from bytes mid
     pub at_end : AtEnd gives mid to
 
-  -- reads gave some bytes, and then one was refused, or memory was wanted for what had been read
+  -- reads gave some bytes, and then one failed, or there was no memory for what had been read
   pub record GivesUp (from : S) (status : Status) (to : S) : Type 0 where
     pub mid : S
     pub bytes : List ℕ
@@ -44,6 +45,7 @@ module _ {S : Type 0} (gives : S → ℕ → Result (List ℕ) Status → S → 
     pub why : ReadFails gives mid status to ⊎ ((to ≡ mid) × IsOutOfMemory status)
 
 -- bytes in memory give as many as there is room for, and are then what follows
-pub record GivesFirst (old : List ℕ) (room : ℕ) (result : Result (List ℕ) Status) (new : List ℕ) : Type 0 where
+pub record GivesFirst (old : List ℕ) (room : ℕ) (result : Result (List ℕ) Status) (new : List ℕ)
+    : Type 0 where
   pub ok : result ≡ Ok (take room old)
   pub left : new ≡ drop room old

@@ -7,21 +7,29 @@ ghost use Rattle.leveldb_env.specs.Compressor.{plain, Coding, FailsWith, Codings
 use leveldb_base::error::{Result, Status, StatusCode};
 use std::alloc::Global;
 
-/// What is stored for a block, and how the block is read from it. What was encoded decodes to the block.
+/// What is stored for a block, and how the block is read from it. What was encoded decodes to the
+/// block.
 pub trait Compressor: Drop {
-    /// The block that stored bytes are decoded to, where there is one, and the codes with which the compressor may refuse.
+    /// The block that stored bytes are decoded to, where there is one, and the codes with which the
+    /// compressor may fail.
     ghost coding: { Self → Coding };
 
-    /// What is to be stored for a block. A compressor may refuse a block, with a code of its own.
+    /// What is to be stored for a block. A compressor may fail for a block, with a code of its own.
     fn encode(&self, alloc: Global, block: Vec<u8>) -> Result<Vec<u8>>
-        ensures ok { IfOk result (λ stored. (coding self.now).decoded stored.items ≡ Some block.items) }
-        ensures cause { IfErr result (λ status. IsOutOfMemory status ⊎ FailsWith (coding self.now) status) };
+        ensures ok { IfOk result
+            (λ stored. (coding self.now).decoded stored.items ≡ Some block.items) }
+        ensures cause { IfErr result
+            (λ status. IsOutOfMemory status ⊎ FailsWith (coding self.now) status) };
 
-    /// The block that is stored so. It is refused only where there is none, with a code of the coder's own, or for want of
-    /// memory.
+    /// The block that is stored so. An error comes only where there is none, with a code of the
+    /// compressor's own, or out of memory.
     fn decode(&self, alloc: Global, stored: Vec<u8>) -> Result<Vec<u8>>
-        ensures ok { IfOk result (λ block. (coding self.now).decoded stored.items ≡ Some block.items) }
-        ensures cause { IfErr result (λ status. IsOutOfMemory status ⊎ (((coding self.now).decoded stored.items ≡ None) × FailsWith (coding self.now) status)) };
+        ensures ok { IfOk result
+            (λ block. (coding self.now).decoded stored.items ≡ Some block.items) }
+        ensures cause { IfErr result
+            (λ status. IsOutOfMemory status
+            ⊎ (((coding self.now).decoded stored.items ≡ None)
+            × FailsWith (coding self.now) status)) };
 }
 
 /// The id under which a compressor is known.
@@ -32,7 +40,7 @@ pub trait CompressorId {
 }
 
 /// Stores each block as it is.
-#[derive(Clone, Copy, Debug, Default)]
+#[derive(Clone, Copy)]
 pub struct NoneCompressor;
 
 impl CompressorId for NoneCompressor {
@@ -53,7 +61,7 @@ impl Compressor for NoneCompressor {
     }
 }
 
-/// A compressor that a list lends.
+/// A compressor that is borrowed from a list.
 #[derive(Drop)]
 pub enum ListedCompressor<'a> {
     Plain(NoneCompressor),
@@ -63,7 +71,11 @@ pub enum ListedCompressor<'a> {
 impl Compressor for ListedCompressor<'_> {
     ghost use Rattle.leveldb_env.specs.declared.compressor.ListedCompressor.TheVariants.{Plain, Boxed};
 
-    ghost coding = { elim [ Plain _ ↦ plain | Boxed compressor ↦ (Compressor-box compressor.now).coding compressor.now.value ] };
+    ghost coding = { elim [
+      | Plain _ ↦ plain
+      | Boxed compressor ↦
+          (Compressor-box compressor.now).coding compressor.now.value
+    ] };
 
     fn encode(&self, alloc: Global, block: Vec<u8>) -> Result<Vec<u8>> {
         match self {
@@ -87,7 +99,7 @@ struct Listed {
     compressor: Box<dyn Compressor>,
 }
 
-/// Which coding each id stands for.
+/// Which coding each id has.
 pub trait Compressors {
     ghost codings: { Self → Codings };
 }
@@ -102,7 +114,9 @@ pub struct CompressorList {
 }
 
 impl Compressors for CompressorList {
-    ghost codings = { λ list. first_coding (map (λ listed. (listed.id, (Compressor-box listed.compressor).coding listed.compressor.value)) (listed_items list.listed)) (if list.plain then plain_codings else no_codings) };
+    ghost codings = { λ list. first_coding (map
+        (λ listed. (listed.id, (Compressor-box listed.compressor).coding listed.compressor.value))
+        (listed_items list.listed)) (if list.plain then plain_codings else no_codings) };
 }
 
 impl CompressorList {
@@ -126,28 +140,34 @@ impl CompressorList {
         }
     }
 
-    /// Sets the compressor of its id, in place of one that the id had. A refused call changes nothing.
+    /// Sets the compressor of its id, in place of one that the id had. An error changes nothing.
     pub fn set<I: CompressorId>(
         &mut self,
         alloc: Global,
         compressor: Box<dyn Compressor>,
     ) -> Result<()>
-        ensures ok { OnOk result (⟦<CompressorList as Compressors>⟧.codings self.new ≡ with_coding (⟦<CompressorList as Compressors>⟧.codings self.old) I.ID (coding compressor)) }
-        ensures err { OnErr result (⟦<CompressorList as Compressors>⟧.codings self.new ≡ ⟦<CompressorList as Compressors>⟧.codings self.old) }
+        ensures ok { OnOk result
+            (⟦<CompressorList as Compressors>⟧.codings self.new ≡ with_coding
+            (⟦<CompressorList as Compressors>⟧.codings self.old) I.ID (coding compressor)) }
+        ensures err { OnErr result
+            (⟦<CompressorList as Compressors>⟧.codings self.new ≡ ⟦<CompressorList as Compressors>⟧.codings self.old) }
         ensures memory { IfErr result IsOutOfMemory }
     {
         self.set_with_id(alloc, I::ID, compressor)
     }
 
-    /// Sets the compressor of an id, in place of one that the id had. A refused call changes nothing.
+    /// Sets the compressor of an id, in place of one that the id had. An error changes nothing.
     pub fn set_with_id(
         &mut self,
         alloc: Global,
         id: u8,
         compressor: Box<dyn Compressor>,
     ) -> Result<()>
-        ensures ok { OnOk result (⟦<CompressorList as Compressors>⟧.codings self.new ≡ with_coding (⟦<CompressorList as Compressors>⟧.codings self.old) id (coding compressor)) }
-        ensures err { OnErr result (⟦<CompressorList as Compressors>⟧.codings self.new ≡ ⟦<CompressorList as Compressors>⟧.codings self.old) }
+        ensures ok { OnOk result
+            (⟦<CompressorList as Compressors>⟧.codings self.new ≡ with_coding
+            (⟦<CompressorList as Compressors>⟧.codings self.old) id (coding compressor)) }
+        ensures err { OnErr result
+            (⟦<CompressorList as Compressors>⟧.codings self.new ≡ ⟦<CompressorList as Compressors>⟧.codings self.old) }
         ensures memory { IfErr result IsOutOfMemory }
     {
         let Some(listed) = &mut self.listed else {
@@ -168,8 +188,12 @@ impl CompressorList {
 
     /// The compressor of an id; `NotSupported` where it has none.
     pub fn get(&self, alloc: Global, id: u8) -> Result<ListedCompressor<'_>>
-        ensures ok { IfOk result (λ compressor. ⟦<CompressorList as Compressors>⟧.codings self.now id ≡ Some (⟦<ListedCompressor<'static> as Compressor>⟧.coding compressor)) }
-        ensures unset { IfErr result (λ status. (⟦<CompressorList as Compressors>⟧.codings self.now id ≡ None) × IsUnset id status) }
+        ensures ok { IfOk result
+            (λ compressor. ⟦<CompressorList as Compressors>⟧.codings self.now id ≡ Some
+            (⟦<ListedCompressor<'static> as Compressor>⟧.coding compressor)) }
+        ensures unset { IfErr result
+            (λ status. (⟦<CompressorList as Compressors>⟧.codings self.now id ≡ None)
+            × IsUnset id status) }
     {
         self.found(id).ok_or_else(|| Status {
             code: StatusCode::NotSupported,
@@ -201,10 +225,13 @@ impl CompressorList {
     }
 }
 
-// Where the first compressor with this id stands.
+// The index of the first compressor with this id.
 fn index_of(listed: &[Listed], id: u8) -> Option<usize>
-    ensures some { IfSome result (λ at. (at < length listed.now) × (at ≡ position_or_len (λ listed. listed.id == id) listed.now)) }
-    ensures none { IfNone result (length listed.now ≤ position_or_len (λ listed. listed.id == id) listed.now) }
+    ensures some { IfSome result
+        (λ at. (at < length listed.now)
+        × (at ≡ position_or_len (λ listed. listed.id == id) listed.now)) }
+    ensures none { IfNone result (length listed.now ≤ position_or_len
+        (λ listed. listed.id == id) listed.now) }
 {
     for (at, compressor) in listed.iter().enumerate() {
         if compressor.id == id {
@@ -214,9 +241,10 @@ fn index_of(listed: &[Listed], id: u8) -> Option<usize>
     None
 }
 
-// Puts a compressor in the place of the first one with its id, or behind all others.
+// Puts a compressor in the place of the first one with its id, or after all others.
 fn put(listed: &mut Vec<Listed>, id: u8, compressor: Box<dyn Compressor>) -> Result<()>
-    ensures ok { OnOk result ((otherwise : Codings) → first_coding (map (λ l. (l.id, coding l.compressor)) listed.new.items) otherwise
+    ensures ok { OnOk result ((otherwise : Codings)
+        → first_coding (map (λ l. (l.id, coding l.compressor)) listed.new.items) otherwise
         ≡ with_coding (first_coding (map (λ l. (l.id, coding l.compressor)) listed.old.items) otherwise) id (coding compressor)) }
     ensures err { OnErr result (listed.new.items ≡ listed.old.items) }
     ensures memory { IfErr result IsOutOfMemory }

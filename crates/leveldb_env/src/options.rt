@@ -27,8 +27,9 @@ pub struct Options<C, FP> {
 }
 
 impl Options<DefaultCmp, BloomPolicy> {
-    /// LevelDB's order of bytes and its filters, with ten bits a key; a missing store is created, a block is full above
-    /// 4096 bytes, every sixteenth entry of a block is a restart point, and blocks are stored as they are.
+    /// LevelDB's order of bytes and its filters, with ten bits a key; a missing store is created, a
+    /// block is full above 4096 bytes, every sixteenth entry of a block is a restart point, and
+    /// blocks are stored as they are.
     pub fn default() -> Options<DefaultCmp, BloomPolicy>
         ensures filters { result.filter_policy ≡ 10 }
         ensures create { result.create_if_missing ≡ true }

@@ -4,7 +4,8 @@ ghost use Rattle.leveldb_env.specs.EnvFile.{AppendsBorrowed, SyncsBorrowed, Read
 use crate::env::{Env, Sink, Source};
 use leveldb_base::error::Result;
 
-/// A file and its environment, lent. A put is one `append`, a flush one `sync`, a read one `read`.
+/// A file and its environment, borrowed. A put is one `append`, a flush one `sync`, a read one
+/// `read`.
 #[derive(Drop)]
 pub struct EnvFile<'a, E: Env> {
     pub env: &'a mut E,

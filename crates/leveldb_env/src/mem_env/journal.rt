@@ -1,4 +1,4 @@
-//! Files in memory, with a journal that tells what they were at each moment of a run of calls.
+//! Files in memory, with a journal of what they were at each moment of a run of calls.
 ghost use Rattle.std.specs.Prelude.{◌≡◌, ◌+◌, ◌*◌, ◌<◌, ◌^◌, ◌&&◌, ◌||◌, true, false, Bool, ℕ, List, OnOk, OnErr, IfOk, Ok, None, vec_len, vec_capacity, nat_le};
 ghost use Rattle.std.specs.Option.{option_copied};
 ghost use Rattle.leveldb_env.specs.Env.{same, BeforeOrAfter, FilesUnchanged};
@@ -50,15 +50,17 @@ pub fn may_be_made(change: &Requested<'_>) -> bool
     !matches!(change, Change::Synced(_))
 }
 
-// Makes a change of the files where it is done. Whether the name that it needs is there is answered.
+// Makes a change of the files where it is done. Returns whether the name that it needs is there.
 fn make_change(
     files: &mut FileMap,
     alloc: Global,
     change: &Requested<'_>,
     done: bool,
 ) -> Result<bool, AllocError>
-    ensures there { IfOk result (λ there. done ≡ true → there ≡ finds_file change.now (files_of files.old)) }
-    ensures ok { OnOk result (files_of files.new ≡ where_done done (requested change.now) (files_of files.old)) }
+    ensures there { IfOk result
+        (λ there. done ≡ true → there ≡ finds_file change.now (files_of files.old)) }
+    ensures ok { OnOk result
+        (files_of files.new ≡ where_done done (requested change.now) (files_of files.old)) }
     ensures missing { result ≡ Ok false → files_of files.new ≡ files_of files.old }
     ensures err { OnErr result (files_of files.new ≡ files_of files.old) }
 {
@@ -100,7 +102,7 @@ fn note_change(alloc: Global, change: &Requested<'_>) -> Result<Noted, AllocErro
 // The number of the first call that isn't counted.
 const UNCOUNTED: u64 = 1 << 62;
 
-/// The call of this number, counted from 1, asked for a change, which stands where it is done.
+/// The call of this number, counted from 1, asked for a change, which was made where it is done.
 #[derive(Drop)]
 pub struct Call {
     number: u64,
@@ -151,7 +153,9 @@ impl Journal {
 
     /// The files at a moment, on this side of a change in flight; an append in flight is whole.
     pub fn files_at(&self, alloc: Global, moment: u64, side: bool) -> Result<FileMap, AllocError>
-        ensures { IfOk result (λ files. files_of files ≡ files_at (files_of self.now.first) self.now.calls.items moment side) }
+        ensures { IfOk result
+            (λ files. files_of files ≡ files_at
+            (files_of self.now.first) self.now.calls.items moment side) }
     {
         let mut files = self.files_after(alloc, moment / 2)?;
         if moment % 2 == 0 {
@@ -164,7 +168,7 @@ impl Journal {
         Ok(files)
     }
 
-    // The call behind the first n, if it asked for a change.
+    // The call after the first n, if it asked for a change.
     fn call_after(&self, n: u64) -> Option<&Call>
         requires { n + 1 < 2 ^ 64 }
         ensures { option_copied result ≡ call_after self.now.calls.items n }
@@ -174,7 +178,9 @@ impl Journal {
 
     // The files after the first n calls.
     fn files_after(&self, alloc: Global, n: u64) -> Result<FileMap, AllocError>
-        ensures { IfOk result (λ files. files_of files ≡ files_after (files_of self.now.first) self.now.calls.items n) }
+        ensures { IfOk result
+            (λ files. files_of files ≡ files_after
+            (files_of self.now.first) self.now.calls.items n) }
     {
         let mut files = files::copy_files(&self.first)?;
         for call in &self.calls {
@@ -214,8 +220,9 @@ impl Journal {
         self.count += 1;
     }
 
-    /// Counts a call that asks for a change, and makes it where it is done. Whether the name that it
-    /// needs is there is answered. A refusal changes no file and isn't one of the calls that asked.
+    /// Counts a call that asks for a change, and makes it where it is done. Returns whether the
+    /// name that it needs is there. An error changes no file, and the call isn't one of those that
+    /// asked.
     pub fn make(
         &mut self,
         alloc: Global,
@@ -224,12 +231,19 @@ impl Journal {
     ) -> Result<bool, AllocError>
         requires { self.old.count + 1 < 2 ^ 62 }
         ensures counted { self.new.count ≡ self.old.count + 1 }
-        ensures there { IfOk result (λ there. done ≡ true → there ≡ finds_file change.now (files_of self.old.files)) }
-        ensures ok { OnOk result (files_of self.new.files ≡ where_done done (requested change.now) (files_of self.old.files)) }
+        ensures there { IfOk result
+            (λ there. done ≡ true → there ≡ finds_file change.now (files_of self.old.files)) }
+        ensures ok { OnOk result
+            (files_of self.new.files ≡ where_done done (requested change.now)
+            (files_of self.old.files)) }
         ensures missing { result ≡ Ok false → files_of self.new.files ≡ files_of self.old.files }
         ensures err { OnErr result (files_of self.new.files ≡ files_of self.old.files) }
-        ensures time { Passed (BeforeOrAfter (requested change.now) (files_of self.old.files)) self.old self.new }
-        ensures inside { OnOk result (files_were self.new (2 * self.old.count + 1) (where_done (may_be_made change.now) (requested change.now) (files_of self.old.files))) }
+        ensures time { Passed
+            (BeforeOrAfter (requested change.now) (files_of self.old.files)) self.old self.new }
+        ensures inside { OnOk result
+            (files_were self.new (2 * self.old.count + 1)
+            (where_done (may_be_made change.now) (requested change.now)
+            (files_of self.old.files))) }
     {
         self.count += 1;
         let noted_change = take_memory(&mut self.calls, alloc, change)?;
@@ -244,7 +258,7 @@ impl Journal {
     }
 }
 
-// The same change, with its names and bytes lent.
+// The same change, with its names and bytes borrowed.
 fn borrow_change(change: &Noted) -> Requested<'_>
     ensures change { requested result ≡ noted change.now }
     ensures may { may_be_made result ≡ may_be_made change.now }
@@ -263,7 +277,8 @@ fn borrow_change(change: &Noted) -> Requested<'_>
 
 // Makes the change of a call once more, where it was done and is among the first n.
 fn replay_call(files: &mut FileMap, alloc: Global, call: &Call, n: u64) -> Result<(), AllocError>
-    ensures { OnOk result (files_of files.new ≡ where_done (nat_le call.now.number n) (λ files. after files call.now) (files_of files.old)) }
+    ensures { OnOk result (files_of files.new ≡ where_done (nat_le call.now.number n)
+        (λ files. after files call.now) (files_of files.old)) }
 {
     if call.number > n {
         return Ok(());
@@ -272,7 +287,7 @@ fn replay_call(files: &mut FileMap, alloc: Global, call: &Call, n: u64) -> Resul
     Ok(())
 }
 
-// Whether a change in flight stands on this side: an append does, a sync doesn't.
+// Whether a change in flight is made on this side: an append is, a sync isn't.
 fn stands_inside(change: &Requested<'_>, side: bool) -> bool
     ensures { result ≡ ((side || is_append change.now) && may_be_made change.now) }
 {

@@ -15,7 +15,7 @@ use std::collections::BTreeMap;
 pub struct Pick {
     /// For named files the bytes that follow the kept ones. Other files keep none.
     pub tails: Vec<(String, Vec<u8>)>,
-    /// Whether the side after a name change in flight stands. It is ignored where none is in flight.
+    /// Whether a name change in flight is made. It is ignored where none is in flight.
     pub after: bool,
 }
 
@@ -66,7 +66,8 @@ pub fn left_files(
     alloc: Global,
     tails: &[(String, Vec<u8>)],
 ) -> Result<FileMap, AllocError>
-    ensures { IfOk result (λ left. files_of left ≡ picked (tails_of tails.now) (files_of files.now)) }
+    ensures { IfOk result
+        (λ left. files_of left ≡ picked (tails_of tails.now) (files_of files.now)) }
 {
     let mut left = BTreeMap::new(alloc);
     for (name, file) in files.iter() {

@@ -1,4 +1,4 @@
-//! A disk in memory that tells what its files were at each moment.
+//! A disk in memory that records what its files were at each moment.
 ghost use Rattle.std.specs.Prelude.{◌≡◌, ◌<◌, ◌+◌, ◌-◌, ◌^◌, ◌==◌, ◌&&◌, ◌||◌, min, true, false, Bool, ℕ, List, None, Some, if◌then◌else◌, not, IsErr, IsErrAnd, OnOk};
 
 use crate::env::Env;
@@ -9,8 +9,8 @@ use std::alloc::{AllocError, Global};
 use std::collections::BTreeSet;
 
 /// A disk in memory that counts its calls and keeps a journal of those that ask for a change. A
-/// call that is chosen before is refused, with its change made or not. Calls past the first 2^62 - 1
-/// are refused, not counted and change nothing.
+/// call that is chosen before fails, with its change made or not. Calls past the first 2^62 - 1
+/// fail, are not counted and change nothing.
 #[derive(Drop)]
 pub struct RecordEnv {
     alloc: Global,
@@ -57,8 +57,8 @@ impl RecordEnv {
         self.journal.moment()
     }
 
-    /// Chooses the nth call from now, 1 being the next, to answer `IOError`; with `done` its change
-    /// stands all the same, but for a sync. 0 chooses none. A new choice replaces an earlier one.
+    /// Chooses the nth call from now, 1 being the next, to return `IOError`; with `done` its change
+    /// is made all the same, but for a sync. 0 chooses none. A new choice replaces an earlier one.
     pub fn fail(&mut self, nth: u64, done: bool)
         ensures nth { fails_in self.new ≡ nth }
         ensures done { fails_done self.new ≡ done }
@@ -69,13 +69,17 @@ impl RecordEnv {
     }
 
     /// In order of name what the files at a moment have past their kept bytes, where they have any.
-    /// `after` says which side of a name change in flight they are on; an append in flight is whole.
+    /// `after` says which side of a name change in flight they are on; an append in flight is
+    /// whole.
     ///
     /// `InvalidArgument` for a moment that is still to come.
     pub fn tails(&self, alloc: Global, moment: u64, after: bool) -> Result<Vec<(String, Vec<u8>)>>
-        ensures tails { IfOk result (λ tails. ListsTails (files_then self.now moment after) (tails_of tails.items)) }
+        ensures tails { IfOk result
+            (λ tails. ListsTails (files_then self.now moment after) (tails_of tails.items)) }
         ensures come { OnOk result (moment ≤ moment_of self.now) }
-        ensures refused { IfErr result (λ e. IsOutOfMemory e ⊎ ((e.code ≡ StatusCode.InvalidArgument) × (moment_of self.now < moment))) }
+        ensures refused { IfErr result
+            (λ e. IsOutOfMemory e
+            ⊎ ((e.code ≡ StatusCode.InvalidArgument) × (moment_of self.now < moment))) }
     {
         if moment > self.moment() {
             return err(alloc, StatusCode::InvalidArgument, STILL_TO_COME);
@@ -85,17 +89,26 @@ impl RecordEnv {
     }
 
     /// The disk that a crash at a moment leaves by this choice: of each file the kept bytes and the
-    /// tail picked for it, then all kept. It begins at moment 0, with no name locked and no call chosen.
+    /// tail picked for it, then all kept. It begins at moment 0, with no name locked and no call
+    /// chosen.
     ///
-    /// `InvalidArgument` for a moment that is still to come, for a name given twice or not there, and
-    /// for a tail that is too long. Each disk that a crash may leave is left by some choice.
+    /// `InvalidArgument` for a moment that is still to come, for a name given twice or not there,
+    /// and for a tail that is too long. Each disk that a crash may leave is left by some choice.
     pub fn disk_at(&self, alloc: Global, moment: u64, pick: &Pick) -> Result<RecordEnv>
-        ensures left { IfOk result (λ left. files_in left ≡ picked (tails_of pick.now.tails.items) (files_then self.now moment pick.now.after)) }
-        ensures leaves { IfOk result (λ left. FilesCrashTo (files_then self.now moment pick.now.after) (files_in left)) }
+        ensures left { IfOk result
+            (λ left. files_in left ≡ picked (tails_of pick.now.tails.items)
+            (files_then self.now moment pick.now.after)) }
+        ensures leaves { IfOk result
+            (λ left. FilesCrashTo (files_then self.now moment pick.now.after) (files_in left)) }
         ensures fresh { IfOk result IsFresh }
-        ensures stood { (record_observed self.now).at_moment moment (files_then self.now moment pick.now.after) }
-        ensures allowed { OnOk result (CanCrashTo self.now moment pick.now.after (tails_of pick.now.tails.items)) }
-        ensures refused { IfErr result (λ e. IsOutOfMemory e ⊎ ((e.code ≡ StatusCode.InvalidArgument) × (CanCrashTo self.now moment pick.now.after (tails_of pick.now.tails.items) → ⊥))) }
+        ensures stood { (record_observed self.now).at_moment moment
+            (files_then self.now moment pick.now.after) }
+        ensures allowed { OnOk result
+            (CanCrashTo self.now moment pick.now.after (tails_of pick.now.tails.items)) }
+        ensures refused { IfErr result
+            (λ e. IsOutOfMemory e
+            ⊎ ((e.code ≡ StatusCode.InvalidArgument)
+            × (CanCrashTo self.now moment pick.now.after (tails_of pick.now.tails.items) → ⊥))) }
         ensures every { CrashesByChoice self.now moment }
     {
         if moment > self.moment() {
@@ -118,7 +131,8 @@ impl RecordEnv {
 
     // Copies bytes of the name's file from a place on to the front of the target.
     fn copy_at(&self, name: &str, place: usize, target: &mut [u8]) -> Result<usize>
-        ensures copied { IfOk result (λ n. CopiesFrom (files_in self.now name.now) place n target.old target.new) }
+        ensures copied { IfOk result
+            (λ n. CopiesFrom (files_in self.now name.now) place n target.old target.new) }
         ensures end { IfOk result (λ n. place + n < 2 ^ 64) }
         ensures refused { IfErr result (IsNoSuchFile (files_in self.now) name.now) }
         ensures err { OnErr result (target.new ≡ target.old) }
@@ -142,7 +156,7 @@ impl RecordEnv {
         Some(chosen)
     }
 
-    // The refusal of the device, counted.
+    // The failure of the device, counted.
     #[cold]
     fn refuse_call<T>(&mut self) -> Result<T>
         ensures code { IsErrAnd result (λ e. e.code ≡ StatusCode.IOError) }
@@ -170,10 +184,11 @@ impl RecordEnv {
         Ok(())
     }
 
-    // A call that finds no memory for what it is to answer.
+    // A call that finds no memory for what it is to return.
     #[cold]
     fn find_no_memory<T>(&mut self) -> Result<T>
-        ensures asks { (change : Files → Files) (may : Bool) → RequestsChange change may self.old self.new result }
+        ensures asks { (change : Files → Files) (may : Bool)
+            → RequestsChange change may self.old self.new result }
         ensures turns { CountsCall IsOutOfMemory self.old self.new result }
         ensures locks { self.new.locks ≡ self.old.locks }
         ensures err { IsErr result }
@@ -185,7 +200,8 @@ impl RecordEnv {
         Err(Status::from(AllocError))
     }
 
-    // Whether a call's change is made: not where it's the chosen one, but if it's to stand all the same.
+    // Whether a call's change is made: not where it's the chosen one, unless it's to be made all
+    // the same.
     fn is_made(&self, chosen: bool, change: &Requested<'_>) -> bool
         ensures { result ≡ (not chosen || (may_be_made change.now && self.now.fails_done)) }
     {
@@ -194,8 +210,10 @@ impl RecordEnv {
 
     // A call that asks for a change.
     fn ask(&mut self, change: &Requested<'_>) -> Result<()>
-        ensures asks { RequestsChange (requested change.now) (may_be_made change.now) self.old self.new result }
-        ensures turns { CountsCall (IsChangeError change.now (files_in self.old)) self.old self.new result }
+        ensures asks { RequestsChange (requested change.now)
+            (may_be_made change.now) self.old self.new result }
+        ensures turns { CountsCall
+            (IsChangeError change.now (files_in self.old)) self.old self.new result }
         ensures there { OnOk result (finds_file change.now (files_in self.old) ≡ true) }
         ensures locks { self.new.locks ≡ self.old.locks }
     {
@@ -246,9 +264,11 @@ impl Env for RecordEnv {
 
     fn open_sequential_file(&mut self, name: &str) -> Result<MemHandle>
         ensures looks { ChangesNoFile self.old self.new }
-        ensures turns { CountsCall (IsNoFileOrMemory (files_in self.old) name.now) self.old self.new result }
+        ensures turns { CountsCall
+            (IsNoFileOrMemory (files_in self.old) name.now) self.old self.new result }
         ensures locks { locked_in self.new ≡ locked_in self.old }
-        ensures file { IfOk result (λ file. (handle_name file ≡ name.now) × (handle_offset file ≡ 0)) }
+        ensures file { IfOk result
+            (λ file. (handle_name file ≡ name.now) × (handle_offset file ≡ 0)) }
         ensures there { OnOk result (IsSome (files_in self.old name.now)) }
     {
         self.look()?;
@@ -260,9 +280,11 @@ impl Env for RecordEnv {
 
     fn open_random_access_file(&mut self, name: &str) -> Result<MemHandle>
         ensures looks { ChangesNoFile self.old self.new }
-        ensures turns { CountsCall (IsNoFileOrMemory (files_in self.old) name.now) self.old self.new result }
+        ensures turns { CountsCall
+            (IsNoFileOrMemory (files_in self.old) name.now) self.old self.new result }
         ensures locks { locked_in self.new ≡ locked_in self.old }
-        ensures file { IfOk result (λ file. (handle_name file ≡ name.now) × (handle_offset file ≡ 0)) }
+        ensures file { IfOk result
+            (λ file. (handle_name file ≡ name.now) × (handle_offset file ≡ 0)) }
         ensures there { OnOk result (IsSome (files_in self.old name.now)) }
     {
         self.open_sequential_file(name)
@@ -296,9 +318,12 @@ impl Env for RecordEnv {
 
     fn read(&mut self, file: &mut MemHandle, target: &mut [u8]) -> Result<usize>
         ensures looks { ChangesNoFile self.old self.new }
-        ensures turns { CountsCall (IsNoSuchFile (files_in self.old) (handle_name file.old)) self.old self.new result }
+        ensures turns { CountsCall
+            (IsNoSuchFile (files_in self.old) (handle_name file.old)) self.old self.new result }
         ensures locks { locked_in self.new ≡ locked_in self.old }
-        ensures copied { IfOk result (λ n. CopiesFrom (files_in self.old (handle_name file.old)) (handle_offset file.old) n target.old target.new) }
+        ensures copied { IfOk result
+            (λ n. CopiesFrom (files_in self.old (handle_name file.old))
+            (handle_offset file.old) n target.old target.new) }
         ensures place { IfOk result (λ n. handle_offset file.new ≡ handle_offset file.old + n) }
         ensures name { handle_name file.new ≡ handle_name file.old }
         ensures err { OnErr result ((target.new ≡ target.old) × (file.new ≡ file.old)) }
@@ -311,9 +336,12 @@ impl Env for RecordEnv {
 
     fn read_at(&mut self, file: &MemHandle, place: usize, target: &mut [u8]) -> Result<usize>
         ensures looks { ChangesNoFile self.old self.new }
-        ensures turns { CountsCall (IsNoSuchFile (files_in self.old) (handle_name file.now)) self.old self.new result }
+        ensures turns { CountsCall
+            (IsNoSuchFile (files_in self.old) (handle_name file.now)) self.old self.new result }
         ensures locks { locked_in self.new ≡ locked_in self.old }
-        ensures copied { IfOk result (λ n. CopiesFrom (files_in self.old (handle_name file.now)) place n target.old target.new) }
+        ensures copied { IfOk result
+            (λ n. CopiesFrom (files_in self.old
+            (handle_name file.now)) place n target.old target.new) }
         ensures err { OnErr result (target.new ≡ target.old) }
     {
         self.look()?;
@@ -321,8 +349,10 @@ impl Env for RecordEnv {
     }
 
     fn append(&mut self, file: &mut MemHandle, bytes: &[u8]) -> Result<()>
-        ensures asks { RequestsChange (extended (handle_name file.old) bytes.now) true self.old self.new result }
-        ensures turns { CountsCall (IsNoFileOrMemory (files_in self.old) (handle_name file.old)) self.old self.new result }
+        ensures asks { RequestsChange
+            (extended (handle_name file.old) bytes.now) true self.old self.new result }
+        ensures turns { CountsCall
+            (IsNoFileOrMemory (files_in self.old) (handle_name file.old)) self.old self.new result }
         ensures locks { locked_in self.new ≡ locked_in self.old }
         ensures there { OnOk result (IsSome (files_in self.old (handle_name file.old))) }
         ensures file { file.new ≡ file.old }
@@ -331,8 +361,10 @@ impl Env for RecordEnv {
     }
 
     fn sync(&mut self, file: &mut MemHandle) -> Result<()>
-        ensures asks { RequestsChange (synced (handle_name file.old)) false self.old self.new result }
-        ensures turns { CountsCall (IsNoFileOrMemory (files_in self.old) (handle_name file.old)) self.old self.new result }
+        ensures asks { RequestsChange
+            (synced (handle_name file.old)) false self.old self.new result }
+        ensures turns { CountsCall
+            (IsNoFileOrMemory (files_in self.old) (handle_name file.old)) self.old self.new result }
         ensures locks { locked_in self.new ≡ locked_in self.old }
         ensures there { OnOk result (IsSome (files_in self.old (handle_name file.old))) }
         ensures file { file.new ≡ file.old }
@@ -354,7 +386,8 @@ impl Env for RecordEnv {
         ensures looks { ChangesNoFile self.old self.new }
         ensures turns { CountsCall IsOutOfMemory self.old self.new result }
         ensures locks { locked_in self.new ≡ locked_in self.old }
-        ensures answer { IfOk result (λ names. ListsChildren (files_in self.old) folder.now (map string_bytes names.items)) }
+        ensures answer { IfOk result
+            (λ names. ListsChildren (files_in self.old) folder.now (map string_bytes names.items)) }
     {
         self.look()?;
         Ok(files::list_children(self.journal.files(), alloc, folder)?)
@@ -362,9 +395,11 @@ impl Env for RecordEnv {
 
     fn size_of(&mut self, name: &str) -> Result<usize>
         ensures looks { ChangesNoFile self.old self.new }
-        ensures turns { CountsCall (IsNoSuchFile (files_in self.old) name.now) self.old self.new result }
+        ensures turns { CountsCall
+            (IsNoSuchFile (files_in self.old) name.now) self.old self.new result }
         ensures locks { locked_in self.new ≡ locked_in self.old }
-        ensures answer { IfOk result (λ n. IsSomeAnd (files_in self.old name.now) (λ file. n ≡ length (bytes_of file))) }
+        ensures answer { IfOk result
+            (λ n. IsSomeAnd (files_in self.old name.now) (λ file. n ≡ length (bytes_of file))) }
     {
         self.look()?;
         match self.journal.files().get(name) {
@@ -375,7 +410,8 @@ impl Env for RecordEnv {
 
     fn delete(&mut self, name: &str) -> Result<()>
         ensures asks { RequestsChange (deleted name.now) true self.old self.new result }
-        ensures turns { CountsCall (IsNoFileOrMemory (files_in self.old) name.now) self.old self.new result }
+        ensures turns { CountsCall
+            (IsNoFileOrMemory (files_in self.old) name.now) self.old self.new result }
         ensures locks { locked_in self.new ≡ locked_in self.old }
         ensures there { OnOk result (IsSome (files_in self.old name.now)) }
     {
@@ -400,7 +436,8 @@ impl Env for RecordEnv {
 
     fn rename(&mut self, from: &str, to: &str) -> Result<()>
         ensures asks { RequestsChange (renamed from.now to.now) true self.old self.new result }
-        ensures turns { CountsCall (IsNoFileOrMemory (files_in self.old) from.now) self.old self.new result }
+        ensures turns { CountsCall
+            (IsNoFileOrMemory (files_in self.old) from.now) self.old self.new result }
         ensures locks { locked_in self.new ≡ locked_in self.old }
         ensures there { OnOk result (IsSome (files_in self.old from.now)) }
     {
@@ -408,10 +445,15 @@ impl Env for RecordEnv {
     }
 
     fn lock(&mut self, name: &str) -> Result<()>
-        ensures asks { locked_in self.old name.now ≡ false → RequestsChange (created name.now) true self.old self.new result }
+        ensures asks { locked_in self.old name.now ≡ false
+            → RequestsChange (created name.now) true self.old self.new result }
         ensures looks { locked_in self.old name.now ≡ true → ChangesNoFile self.old self.new }
-        ensures turns { CountsCall (λ e. IsOutOfMemory e ⊎ IsAlreadyLocked (locked_in self.old) name.now e) self.old self.new result }
-        ensures locks { locked_in self.new ≡ (if is_ok result then lock_set name.now true (locked_in self.old) else locked_in self.old) }
+        ensures turns { CountsCall
+            (λ e. IsOutOfMemory e
+            ⊎ IsAlreadyLocked (locked_in self.old) name.now e) self.old self.new result }
+        ensures locks { locked_in self.new ≡
+            (if is_ok result then lock_set name.now true
+            (locked_in self.old) else locked_in self.old) }
         ensures was_free { OnOk result (locked_in self.old name.now ≡ false) }
     {
         if self.locks.contains(name) {
@@ -430,8 +472,11 @@ impl Env for RecordEnv {
 
     fn unlock(&mut self, name: &str) -> Result<()>
         ensures looks { ChangesNoFile self.old self.new }
-        ensures turns { CountsCall (IsNotLocked (locked_in self.old) name.now) self.old self.new result }
-        ensures locks { locked_in self.new ≡ (if is_ok result then lock_set name.now false (locked_in self.old) else locked_in self.old) }
+        ensures turns { CountsCall
+            (IsNotLocked (locked_in self.old) name.now) self.old self.new result }
+        ensures locks { locked_in self.new ≡
+            (if is_ok result then lock_set name.now false
+            (locked_in self.old) else locked_in self.old) }
         ensures was_locked { OnOk result (locked_in self.old name.now ≡ true) }
     {
         self.look()?;

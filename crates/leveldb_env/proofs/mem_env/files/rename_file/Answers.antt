@@ -20,7 +20,7 @@ taken c =
     files_updated c.args.from.now c.create_file.new.files c.remove.new.self None c.remove.ensures.updates
     ∙ ap (deleted c.args.from.now) c.in_ok-create_file.ensures.ok
 
--- what was taken away is what stood under the old name
+-- what was removed is the file of the old name
 moved : (c : After-remove) → c.remove.result ≡ files_of c.args.files.now c.args.from.now
 moved c =
     c.remove.ensures.value

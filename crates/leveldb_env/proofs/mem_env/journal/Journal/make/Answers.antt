@@ -61,7 +61,7 @@ invariant_of-self-2 c =
           (c.in_ok-there.ensures.ok ∙ ap (λ (change : Files → Files). where_done c.args.done change (files_of j.files)) (sym c.in_ok-noted_change.ensures.change));
     }
 
--- what was noted may stand as what was asked for
+-- what was noted may be made as what was asked for
 cut_is : (c : In_ok-noted_change) → cut_off c.in_ok-noted_change.noted_change ≡ where_done (may_be_made c.args.change.now) (requested c.args.change.now)
 cut_is c = λ i. where_done (c.in_ok-noted_change.ensures.may i) (c.in_ok-noted_change.ensures.change i)
 

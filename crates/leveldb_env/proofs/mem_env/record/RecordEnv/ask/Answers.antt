@@ -46,7 +46,7 @@ is_other c other = not_chosen (is_past c.args.self.now) (c.args.self.now.fails_i
 is_made : (c : In_ok-there) → c.in-Some.chosen ≡ false → c.is_made-done.result ≡ true
 is_made c other = done_is c ∙ ap (λ b. not b || (may_be_made c.args.change.now && c.args.self.now.fails_done)) other
 
--- the name was there where that is answered
+-- the name was there where that is returned
 found : (c : In_ok-there) → c.in-Some.chosen ≡ false → c.in_ok-there.there ≡ finds_file c.args.change.now (files_in c.args.self.now)
 found c other = c.in_ok-there.ensures.there (is_made c other) ∙ ap (λ (env : RecordEnv). finds_file c.args.change.now (files_in env)) c.turn.ensures.next
 
