@@ -7,7 +7,7 @@ use Rattle.std.proofs.lemmas.Bool.{le-leb}
 use Rattle.std.proofs.lemmas.List.{drop_all}
 use Rattle.std.proofs.lemmas.List.Elements.{All-head, All-tail}
 use Rattle.std.proofs.lemmas.List.Folds.{drop_split}
-use Rattle.leveldb_env.specs.Filters.{first_offset, keys_at}
+use Rattle.leveldb_env.specs.Filter.{first_offset, keys_at}
 
 within : (keys : List (List ℕ)) (key : List ℕ) (k : ℕ) → k < length keys → get_or keys k key ≡ key → length key ≤ length (concat keys)
 within [] key k h e = absurd (omega (arith, h))

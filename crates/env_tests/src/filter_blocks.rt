@@ -1,17 +1,17 @@
 //! Filter blocks built and read, under a policy whose filters show the keys that they were made of.
 ghost use Rattle.std.specs.Prelude.{◌≡◌, ◌≤◌, true, IfOk, OnOk};
-ghost use Rattle.leveldb_env.specs.Filters.{first_offset};
+ghost use Rattle.leveldb_env.specs.Filter.{first_offset};
 
 use crate::checks::failed_with;
 use leveldb_base::error::{Result, StatusCode, err};
 use leveldb_env::filter::{BloomPolicy, FilterPolicy};
-use leveldb_env::filter_block::{
-    FilterBlockBuilder, FilterBlockReader, added_keys_pass, filter_blocks_have_one_reading,
-};
+use leveldb_env::filter_block::{FilterBlockBuilder, FilterBlockReader};
+use leveldb_env::laws::{added_keys_pass, filter_blocks_have_one_reading};
 use std::alloc::Global;
 use std::process::Abort;
 
-/// A filter is the keys, one after the other, which are at most `limit` bytes. A longer key is none of them.
+/// A filter is the keys, one after the other, which are at most `limit` bytes. A longer key is none
+/// of them.
 #[derive(Clone, Copy)]
 struct JoinedKeys {
     limit: usize,
@@ -62,7 +62,8 @@ const POLICY: JoinedKeys = JoinedKeys { limit: 100 };
 
 const LETTERS: &[u8] = b"abcdefghijklmnopqrstuvwxyz";
 
-/// Two blocks of the same four keys, at 0 and at 5000, so that the second of three filters is empty.
+/// Two blocks of the same four keys, at 0 and at 5000, so that the second of three filters is
+/// empty.
 const BLOCK: &[u8] =
     b"abcdefghijklmnopqrstuvwxyzabcdefghijklmnopqrstuvwxyz\0\0\0\0\x1a\0\0\0\x1a\0\0\0\x34\0\0\0\x0b";
 
@@ -204,7 +205,8 @@ fn filters_of(alloc: Global, bytes: &[u8]) -> Result<(usize, bool)> {
     Ok((reader.num(), reader.key_may_match(2048, b"a")))
 }
 
-/// A raised byte of a filter, and of the offset between the last two filters, makes another block. Any other makes none.
+/// A raised byte of a filter, and of the offset between the last two filters, makes another block.
+/// Any other makes none.
 #[test]
 fn each_byte_raised(rt: HostRuntime) -> Result<()> {
     for offset in 0..BLOCK.len() {
@@ -266,7 +268,8 @@ fn found(rt: HostRuntime) -> Result<()> {
     Ok(())
 }
 
-/// The block that LevelDB makes of two blocks with these four keys, at 0 and at 5000, under 32 bits a key.
+/// The block that LevelDB makes of two blocks with these four keys, at 0 and at 5000, under 32 bits
+/// a key.
 const BLOOM_BLOCK: [u8; 51] = [
     234, 195, 25, 155, 61, 141, 173, 140, 221, 28, 222, 92, 220, 112, 234, 227, 22, 234, 195, 25,
     155, 61, 141, 173, 140, 221, 28, 222, 92, 220, 112, 234, 227, 22, 0, 0, 0, 0, 17, 0, 0, 0, 17,

@@ -1,7 +1,7 @@
 //! Filters under any policy, and the policy that makes none.
 ghost use Rattle.std.specs.Prelude.{◌≡◌, ◌≤◌, true, length, All, Contains, IfOk};
 ghost use Rattle.std.specs.List.Sorted.{IsNonDecreasing};
-ghost use Rattle.leveldb_env.specs.Filters.{keys_at};
+ghost use Rattle.leveldb_env.specs.Filter.{keys_at};
 
 use leveldb_base::error::Result;
 use leveldb_env::filter::{FilterPolicy, NoFilterPolicy};

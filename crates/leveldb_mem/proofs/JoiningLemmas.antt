@@ -2,7 +2,7 @@
 use Rattle.std.proofs.Common.{◌≡◌, ◌≢◌, ℕ, ◌+◌, ◌<◌, Bool, true, false, List, [], ◌∷◌, ◌++◌, length, Result, refl, sym, subst, ◌∙◌, ap, arith, append_assoc, append-nil, length-append}
 use Rattle.std.proofs.Math.Nat.{mod-lt}
 use Rattle.leveldb_base.specs.declared.error.Status.{Status}
-use Rattle.leveldb_env.specs.Sources.{GivesSome, GivesAll}
+use Rattle.leveldb_env.specs.Source.{GivesSome, GivesAll}
 use Rattle.leveldb_mem.specs.Log.{IsBlockSize, offset_after, IsFragment, record_type, IsRemainder, IsDamaged, fragment_of, NoFragment}
 use Rattle.leveldb_mem.proofs.FragmentLemmas.{length-fragment, none_short}
 use Rattle.leveldb_mem.proofs.LogLemmas.{last_fragment, offset_after_both, offset_after_none}

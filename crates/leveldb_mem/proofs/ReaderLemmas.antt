@@ -9,15 +9,14 @@ use Rattle.std.proofs.lemmas.Slice.{between_is}
 use Rattle.std.proofs.lemmas.List.Edits.{length-between}
 use Rattle.leveldb_base.specs.declared.error.Status.{Status}
 use Rattle.leveldb_base.specs.declared.error.StatusCode.TheVariants.{Corruption}
-use Rattle.leveldb_env.specs.Bytes.{Draws}
-use Rattle.leveldb_env.specs.Sources.{GivesSome, GivesAll, GivesUp, GivesFirst}
-use Rattle.leveldb_env.specs.SourceLaws.{GivesSome-none, GivesSome-first, GivesAll-first}
+use Rattle.leveldb_env.specs.Source.{Draws, GivesSome, GivesAll, GivesUp, GivesFirst}
+use Rattle.leveldb_env.proofs.SourceLemmas.{GivesSome-none, GivesSome-first, GivesAll-first}
 use Rattle.leveldb_env.specs.declared.env.Env.{Ghosts}
 use Rattle.leveldb_env.specs.declared.env.env_file.EnvFile.{EnvFile}
-use Rattle.leveldb_env.specs.Disk.{bytes_of}
-use Rattle.leveldb_env.specs.OpenFiles.{opened, standing, ChangesOpened, ReadsLent, IsFurther}
-use Rattle.leveldb_env.specs.OpenFileLaws.{IsFurther-lent, IsReadOut-lent}
-use Rattle.leveldb_env.specs.Calls.{NoMemory}
+use Rattle.leveldb_env.specs.Env.{bytes_of}
+use Rattle.leveldb_env.specs.EnvFile.{opened, opened_file, ChangesBorrowedFile, ReadsBorrowed, IsFurther}
+use Rattle.leveldb_env.proofs.EnvFileLemmas.{IsFurther-borrowed, IsReadOut-borrowed}
+use Rattle.leveldb_base.specs.Error.{IsOutOfMemory}
 use Rattle.leveldb_mem.specs.Log.Reader.{IsUnreadThenGiven, HoldsOfRest, at_end, whatever_follows, ReaderState, IsTorn, FindsRecord, FindsEnd, FindsWrongChecksum, ReadSoFar, FailsToRead, ReadResult}
 use Rattle.leveldb_mem.specs.Log.{IsBlockSize, log_block_size, offset_after, IsRecord, End, clean, bad, Ends, LogOf, BreaksOff}
 use Rattle.leveldb_mem.specs.Log.Files.{IsReadAsLog}
@@ -165,22 +164,22 @@ if_some (Some x) so is = so x is
 
 module _ {E F : Type 0} (env : Ghosts E F) where
   -- of a file that is borrowed, from its offset on
-  pub HoldsOfRest-borrowed : {P : List ℕ → Type 0} {from to : EnvFile E F} → HoldsOfRest (ReadsLent env) P [] from to
-      → (bytes : List ℕ) × ChangesOpened (λ old new. IsFurther env old bytes new) from to
-      × (IsTrue env.tells_disk → IfSome (standing env (opened from.env.now from.file.now)) (λ file. P (drop (env.place_of from.file.now) (bytes_of file))))
+  pub HoldsOfRest-borrowed : {P : List ℕ → Type 0} {from to : EnvFile E F} → HoldsOfRest (ReadsBorrowed env) P [] from to
+      → (bytes : List ℕ) × ChangesBorrowedFile (λ old new. IsFurther env old bytes new) from to
+      × (IsTrue env.models_disk → IfSome (opened_file env (opened from.env.now from.file.now)) (λ file. P (drop (env.offset_of from.file.now) (bytes_of file))))
   HoldsOfRest-borrowed {P = P} {from = from} {to = to} (at_end bytes come holds) =
-      let read = IsReadOut-lent env (given_all (GivesAll (ReadsLent env)) from to bytes come) in (
+      let read = IsReadOut-borrowed env (given_all (GivesAll (ReadsBorrowed env)) from to bytes come) in (
         bytes,
         record { changes = read.changes.further; same_env = read.same_env; same_file = read.same_file },
-        λ tells. if_some (standing env (opened from.env.now from.file.now)) (λ file is. subst P is holds) (read.changes.all tells),
+        λ modelled. if_some (opened_file env (opened from.env.now from.file.now)) (λ file is. subst P is holds) (read.changes.all modelled),
       )
   HoldsOfRest-borrowed {P = P} {from = from} {to = to} (whatever_follows bytes come holds) =
-      let read = IsFurther-lent env (given_all (GivesSome (ReadsLent env)) from to bytes come) in
-      (bytes, read, λ tells. if_some (standing env (opened from.env.now from.file.now)) (λ file is. subst P (sym is) (holds (drop (env.place_of from.file.now + length bytes) (bytes_of file)))) (read.changes.next tells))
+      let read = IsFurther-borrowed env (given_all (GivesSome (ReadsBorrowed env)) from to bytes come) in
+      (bytes, read, λ modelled. if_some (opened_file env (opened from.env.now from.file.now)) (λ file is. subst P (sym is) (holds (drop (env.offset_of from.file.now + length bytes) (bytes_of file)))) (read.changes.next modelled))
 
   -- which is a log
-  pub IsReadAsLog-borrowed : {records : List (List ℕ)} {end : End} {from to : EnvFile E F} → HoldsOfRest (ReadsLent env) (LogOf true log_block_size records end 0) [] from to
-      → ChangesOpened (λ old new. IsReadAsLog env old records end new) from to
+  pub IsReadAsLog-borrowed : {records : List (List ℕ)} {end : End} {from to : EnvFile E F} → HoldsOfRest (ReadsBorrowed env) (LogOf true log_block_size records end 0) [] from to
+      → ChangesBorrowedFile (λ old new. IsReadAsLog env old records end new) from to
   IsReadAsLog-borrowed shows =
       let read = HoldsOfRest-borrowed shows in
       record { changes = record { bytes = read.0; further = read.1.changes; log = read.2 }; same_env = read.1.same_env; same_file = read.1.same_file }
@@ -254,7 +253,7 @@ module _ (old held new stored : List ℕ) (used filled count : ℕ) (read : used
   length-came = ap (λ z. length (slice_range z used count)) is_stored ∙ length-between new used count inside
 
 -- memory was wanted before any read
-pub wants_memory : {S : Type 0} (gives : S → ℕ → Result (List ℕ) Status → S → Type 0) (source : S) (status : Status) → NoMemory status → GivesUp gives source status source
+pub wants_memory : {S : Type 0} (gives : S → ℕ → Result (List ℕ) Status → S → Type 0) (source : S) (status : Status) → IsOutOfMemory status → GivesUp gives source status source
 wants_memory gives source status memory = record { mid = source; bytes = []; given_before = GivesSome-none gives source; why = inr (refl, memory) }
 
 -- ---- a read that fails

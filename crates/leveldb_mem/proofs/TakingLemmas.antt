@@ -8,7 +8,7 @@ use Rattle.std.specs.Borrow.{Bor}
 use Rattle.leveldb_base.specs.Crc.{crc_of, masked}
 use Rattle.leveldb_base.specs.Varint.{little}
 use Rattle.leveldb_base.specs.declared.error.Status.{Status}
-use Rattle.leveldb_env.specs.Sources.{GivesSome, GivesAll}
+use Rattle.leveldb_env.specs.Source.{GivesSome, GivesAll}
 use Rattle.leveldb_mem.specs.Log.{room, checksum, IsChecksum, IsFragment, IsDamaged, fragment_of, filler, NoFragment, offset_after, Fragment, fragment_bytes}
 use Rattle.leveldb_mem.proofs.FragmentLemmas.{filler-fits, room-fits, headed, headed_fragment, headed_damaged, filler-ends, none_short, none_unfilled, none_past_block, none_cut_short, room-ends}
 use Rattle.leveldb_mem.specs.Log.Reader.{ReaderState, after_front, IsUnreadThenGiven, at_end, HoldsOfRest, FindsEnd}

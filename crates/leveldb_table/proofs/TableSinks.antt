@@ -4,7 +4,7 @@ use Rattle.std.specs.Prelude.{IfErr, IsErr, IsErrAnd, IsSomeAnd}
 use Rattle.std.specs.declared.cmp.Ordering.{Ordering}
 use Rattle.leveldb_base.specs.BlockHandle.{Handle}
 use Rattle.leveldb_base.specs.declared.error.Status.{Status}
-use Rattle.leveldb_env.specs.Coders.{Coding, Codings, RefusesWith, IsUnset, decoded_under}
+use Rattle.leveldb_env.specs.Compressor.{Coding, Codings, FailsWith, IsUnset, decoded_under}
 use Rattle.leveldb_table.specs.TableBuilding.{IsPlaced}
 use Rattle.leveldb_table.specs.TablePuts.{PutsBlock, IsNoMetaindex, StopsFrom}
 use Rattle.leveldb_table.specs.TableStages.{Stage}
@@ -18,7 +18,7 @@ pub refused_so : {T E : Type 0} (result : Result T E) (P Q : E → Type 0) → (
 refused_so (Ok value) P Q f h = absurd h
 refused_so (Err error) P Q f h = f error h
 
-no_coder : (coding : Option Coding) (status : Status) → coding ≡ None → IsSomeAnd coding (λ coding. RefusesWith coding status) → ⊥
+no_coder : (coding : Option Coding) (status : Status) → coding ≡ None → IsSomeAnd coding (λ coding. FailsWith coding status) → ⊥
 no_coder None status unset h = h
 no_coder (Some coding) status unset h = let clash = unset in cc
 

@@ -4,7 +4,7 @@ use Rattle.leveldb_base.specs.BlockHandle.{Handle, HandleFits, handle_bytes}
 use Rattle.leveldb_base.specs.Error.{IsOutOfMemory}
 use Rattle.leveldb_base.specs.declared.error.Status.{Status}
 use Rattle.leveldb_base.specs.declared.error.StatusCode.TheVariants.{NotSupported}
-use Rattle.leveldb_env.specs.Coders.{Codings, Decodes, IsUnset, RefusesWith}
+use Rattle.leveldb_env.specs.Compressor.{Codings, Decodes, IsUnset, FailsWith}
 use Rattle.leveldb_table.specs.Built.{IsTooLarge}
 use Rattle.leveldb_table.specs.Table.{with_trailer, filter_key}
 
@@ -14,7 +14,7 @@ IsTooLong count status = (status.code ≡ NotSupported) × (2 ^ 64 ≤ count)
 
 -- the coder that is set under the id may refuse with this status's code
 abbrev pub IsCoders : Codings → ℕ → Status → Type 0
-IsCoders codings id status = IsSomeAnd (codings id) (λ coding. RefusesWith coding status)
+IsCoders codings id status = IsSomeAnd (codings id) (λ coding. FailsWith coding status)
 
 -- why there is no metaindex that says where the filters of a name stand: want of memory, or its one line is too large
 abbrev pub IsNoMetaindex : List ℕ → Handle → Status → Type 0

@@ -2,7 +2,7 @@
 use Rattle.std.proofs.Common.{◌≡◌, ◌<◌, ◌≤◌, ℕ, false, List, [], ◌∷◌, ◌++◌, refl, sym, ◌∙◌, ap, arith, append-nil, append_assoc}
 use Rattle.std.specs.Prelude.{Result}
 use Rattle.leveldb_base.specs.declared.error.Status.{Status}
-use Rattle.leveldb_env.specs.Sinks.{PutsBehind}
+use Rattle.leveldb_env.specs.Sink.{AppendsBytes}
 use Rattle.leveldb_mem.specs.Log.{log_block_size, offset_after, framed_record, framed}
 use Rattle.leveldb_mem.proofs.LawsLemmas.{usual_size}
 use Rattle.leveldb_mem.proofs.LogLemmas.{offset_after_both, offset_after_none, offset_after-lt}
@@ -32,7 +32,7 @@ writing_behind bytes = record { size = log_block_size; offset = offset_after log
 module _ {S : Type 0} (items : S → List ℕ) where
   -- puts behind what is there
   abbrev pub puts : S → List ℕ → Result (Unit {0}) Status → S → Type 0
-  puts old bytes result new = PutsBehind (items old) bytes result (items new)
+  puts old bytes result new = AppendsBytes (items old) bytes result (items new)
 
   -- what a sink has when a record was added
   added : (sink after : S) (text : List ℕ) (old new : WriterState) (count : ℕ) → old ≡ writing_behind (items sink) → AddsRecord puts old sink text count new after

@@ -1,6 +1,6 @@
 -- A log of a store has one reading.
 use Rattle.std.proofs.Common.{◌≡◌, ℕ, zero, suc, List, [], ◌∷◌, ◌++◌, take, refl, sym, ◌∙◌, ap, subst, Option, Some, None}
-use Rattle.leveldb_env.specs.Disk.{File, bytes_of}
+use Rattle.leveldb_env.specs.Env.{File, bytes_of}
 use Rattle.leveldb_mem.specs.WriteBatch.{Batch}
 use Rattle.leveldb_mem.specs.WriteBatchLaws.{BatchOf-one}
 use Rattle.leveldb_mem.proofs.LawsLemmas.{log_laws}

@@ -1,7 +1,7 @@
 -- A store that is one log.
 use Rattle.std.specs.Prelude.{◌≡◌, ◌<◌, ◌≤◌, ◌-◌, ◌^◌, ℕ, List, [], ◌∷◌, Option, Some, None, flat_map, max, codes}
 use Rattle.leveldb_base.specs.History.{Entry, placed, greatest}
-use Rattle.leveldb_env.specs.Disk.{File, Files, bytes_of, in_folder}
+use Rattle.leveldb_env.specs.Env.{File, Files, bytes_of, in_folder}
 use Rattle.leveldb_mem.specs.Log.{End, IsLogFile}
 use Rattle.leveldb_mem.specs.WriteBatch.{Batch, BatchOf}
 use Rattle.rusty_leveldb.specs.Contents.{Contents, nothing_there, made}

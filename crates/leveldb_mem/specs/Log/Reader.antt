@@ -2,7 +2,7 @@
 use Rattle.std.specs.Prelude.{◌≡◌, Ok, length, IfOk, IfErr, IsErrAnd, OnErr, ℕ, Bool, true, false, List, [], ◌++◌, Result, codes, string_bytes, IfSome, ◌<◌, ◌≤◌}
 use Rattle.leveldb_base.specs.declared.error.Status.{Status}
 use Rattle.leveldb_base.specs.declared.error.StatusCode.TheVariants.{Corruption}
-use Rattle.leveldb_env.specs.Sources.{GivesSome, GivesAll, GivesUp}
+use Rattle.leveldb_env.specs.Source.{GivesSome, GivesAll, GivesUp}
 use Rattle.leveldb_mem.specs.declared.log.reader.Found.{Found}
 use Rattle.leveldb_mem.specs.declared.log.reader.Found.TheVariants.{Record, End, WrongChecksum, Damage}
 use Rattle.leveldb_mem.specs.Log.{offset_after, IsRecord, clean, bad, Ends, LogOf, BreaksOff, IsBlockSize}

@@ -3,7 +3,7 @@ use Rattle.std.specs.Prelude.{◌≡◌, ◌≢◌, ◌+◌, ◌*◌, ℕ, true,
 use Rattle.leveldb_base.specs.declared.error.Status.{Status}
 use Rattle.leveldb_base.specs.Crc.{crc_of, masked}
 use Rattle.leveldb_base.specs.Varint.{little}
-use Rattle.leveldb_env.specs.Sources.{GivesSome}
+use Rattle.leveldb_env.specs.Source.{GivesSome}
 use Rattle.leveldb_mem.specs.declared.log.reader.Taken.{Taken}
 use Rattle.leveldb_mem.specs.declared.log.reader.Taken.TheVariants.{End, Part, WrongChecksum, Damage}
 use Rattle.leveldb_mem.specs.Log.{filler, IsFragment, IsDamaged, Fragment, fragment_of, NoFragment}

@@ -1,17 +1,11 @@
 //! The reader of a log: it joins fragments to records.
-ghost use Rattle.std.specs.Prelude.{◌≡◌, ◌≢◌, ◌↔◌, ℕ, ◌+◌, ◌-◌, ◌*◌, ◌%◌, ◌≤◌, ◌<◌, true, false};
-ghost use Rattle.std.specs.Prelude.{[], take, drop, length, slice_index, slice_range, vec_len, List};
-ghost use Rattle.std.specs.Prelude.{IfOk, OnOk, IfErr, IfSome, IsErrAnd, IsTrue, MatchOption, All};
-ghost use Rattle.std.specs.Prelude.{string_bytes, map, if◌then◌else◌};
-ghost use Rattle.leveldb_base.specs.Error.{status_text};
+ghost use Rattle.std.specs.Prelude.{◌≡◌, ◌≢◌, ◌↔◌, ℕ, ◌+◌, ◌-◌, ◌*◌, ◌%◌, ◌≤◌, ◌<◌, true, false, [], take, drop, length, slice_index, slice_range, vec_len, List, IfOk, OnOk, IfErr, IfSome, IsErrAnd, IsTrue, MatchOption, All, string_bytes, map, if◌then◌else◌};
+ghost use Rattle.leveldb_base.specs.Error.{status_text, IsOutOfMemory};
 ghost use Rattle.leveldb_base.specs.declared.error.StatusCode.TheVariants.{Corruption};
-ghost use Rattle.leveldb_env.specs.Sources.{GivesSome, GivesAll, GivesUp};
-ghost use Rattle.leveldb_env.specs.Calls.{NoMemory};
+ghost use Rattle.leveldb_env.specs.Source.{GivesSome, GivesAll, GivesUp};
 ghost use Rattle.leveldb_mem.specs.Log.{IsBlockSize, log_block_size, clean, bad, LogOf};
-ghost use Rattle.leveldb_mem.specs.Log.Reader.{IsUnreadThenGiven, HoldsOfRest, FindsNext};
-ghost use Rattle.leveldb_mem.specs.Log.Reader.{IsDamage, ReadResult, new_reader};
-ghost use Rattle.leveldb_mem.specs.Log.Taking.{declared_length, HasRightChecksum};
-ghost use Rattle.leveldb_mem.specs.Log.Taking.{PassesFragment, TakesNext, SkipsFiller};
+ghost use Rattle.leveldb_mem.specs.Log.Reader.{IsUnreadThenGiven, HoldsOfRest, FindsNext, IsDamage, ReadResult, new_reader};
+ghost use Rattle.leveldb_mem.specs.Log.Taking.{declared_length, HasRightChecksum, PassesFragment, TakesNext, SkipsFiller};
 
 use super::{BLOCK_SIZE, HEADER_SIZE, type_of};
 use leveldb_base::crc::{crc32, mask_crc};
@@ -322,7 +316,7 @@ impl ReaderCore {
         requires there { 7 + count ≤ length self.old.unread }
         ensures ok { IfOk result (λ taken.
             PassesFragment taken self.old target.old.items self.new target.new.items) }
-        ensures memory { IfErr result NoMemory }
+        ensures memory { IfErr result IsOutOfMemory }
     {
         let (fragment, _) = self.unread().split_at(HEADER_SIZE + count);
         if self.check_crcs && !has_right_checksum(fragment) {
@@ -393,7 +387,7 @@ fn make_long(bytes: &mut Vec<u8>, size: usize) -> Result<()>
     ensures kept { (n : ℕ) → n ≤ vec_len bytes.old
         → take n bytes.new.items ≡ take n bytes.old.items }
     ensures most { vec_len bytes.old ≤ vec_len bytes.new × (vec_len bytes.new ≤ size) }
-    ensures memory { IfErr result NoMemory }
+    ensures memory { IfErr result IsOutOfMemory }
 {
     if bytes.len() < size {
         bytes.resize(size, 0)?;

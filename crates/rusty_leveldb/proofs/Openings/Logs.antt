@@ -2,7 +2,7 @@
 use Rattle.std.proofs.Common.{◌≡◌, ◌⊎◌, ◌%◌, inl, inr, ⊎_elim, ℕ, Bool, true, false, List, [], length, refl, sym, ◌∙◌, ap, subst, Option, Some, None, append-nil}
 use Rattle.std.specs.Prelude.{if◌then◌else◌}
 use Rattle.leveldb_base.specs.History.{History}
-use Rattle.leveldb_env.specs.Disk.{File, bytes_of, kept_file, file_kept}
+use Rattle.leveldb_env.specs.Env.{File, bytes_of, kept_file, file_kept}
 use Rattle.leveldb_mem.specs.Log.{log_block_size, End, clean, bad, IsLogFile, framed}
 use Rattle.leveldb_mem.proofs.LawsLemmas.{log_laws}
 use Rattle.leveldb_mem.specs.Log.Writer.{WriterState}

@@ -4,11 +4,9 @@ use Rattle.std.specs.Option.{option_map}
 use Rattle.leveldb_base.specs.declared.error.Status.{Status}
 use Rattle.leveldb_base.specs.History.{Item}
 use Rattle.leveldb_env.specs.declared.env.Env.{Ghosts}
-use Rattle.leveldb_env.specs.Disk.{File, Files, longer_file}
-use Rattle.leveldb_env.specs.Calls.{HasCause, IsGone}
-use Rattle.leveldb_env.specs.FileLaws.{at_same}
-use Rattle.leveldb_env.specs.OpenFiles.{opened, Appends, Syncs}
-use Rattle.leveldb_env.specs.Runs.{cause_after, cause_same}
+use Rattle.leveldb_env.specs.Env.{File, Files, longer_file, HasCause, IsGone}
+use Rattle.leveldb_env.proofs.EnvLemmas.{at_same, cause_after, cause_same}
+use Rattle.leveldb_env.specs.EnvFile.{opened, Appends, Syncs}
 use Rattle.leveldb_mem.specs.Log.Writer.{AddsRecord, FailsToAdd, Flushes}
 use Rattle.leveldb_mem.specs.Log.Writer as writing
 use Rattle.rusty_leveldb.specs.declared.db_impl.engine.Mode.TheVariants.{Open, Broken, Closed}
@@ -71,15 +69,15 @@ module _ {E C FP F I : Type 0} {D : I → Type 0} (env : Ghosts E F) (engine : E
     still_sound = ap (λ w. w.broken) adds.writer ∙ sound
 
     -- the log's name is gone as it was before
-    under_name : IsTrue env.tells_disk → (env.tells mid).disk.files (env.name_of log) ≡ option_map (longer_file (writing.frame engine.writer bytes)) ((env.tells from).disk.files (env.name_of engine.log))
-    under_name tells = ap (env.tells mid).disk.files (put.file tells) ∙ ap (λ (f : Files). f (env.name_of engine.log)) (put.does.ok tells)
-        ∙ at_same (env.name_of engine.log) (option_map (longer_file (writing.frame engine.writer bytes)) ((env.tells from).disk.files (env.name_of engine.log))) (env.tells from).disk.files
+    under_name : IsTrue env.models_disk → (env.observed mid).disk.files (env.name_of log) ≡ option_map (longer_file (writing.frame engine.writer bytes)) ((env.observed from).disk.files (env.name_of engine.log))
+    under_name modelled = ap (env.observed mid).disk.files (put.file modelled) ∙ ap (λ (f : Files). f (env.name_of engine.log)) (put.does.ok modelled)
+        ∙ at_same (env.name_of engine.log) (option_map (longer_file (writing.frame engine.writer bytes)) ((env.observed from).disk.files (env.name_of engine.log))) (env.observed from).disk.files
 
-    gone_before : (e : Status) → IsGone env.tells_disk (env.name_of log) (env.tells mid) e → LogExcused env engine from e
+    gone_before : (e : Status) → IsGone env.models_disk (env.name_of log) (env.observed mid) e → LogExcused env engine from e
     gone_before e (inl memory) = inl memory
-    gone_before e (inr none) = inr (none.0, none.1, none_before ((env.tells from).disk.files (env.name_of engine.log)) (writing.frame engine.writer bytes) (sym (under_name none.1) ∙ none.2))
+    gone_before e (inr none) = inr (none.0, none.1, none_before ((env.observed from).disk.files (env.name_of engine.log)) (writing.frame engine.writer bytes) (sym (under_name none.1) ∙ none.2))
 
-    gone_still : (e : Status) → LogExcused env engine from e → IsGone env.tells_disk (env.name_of log) (env.tells mid) e
+    gone_still : (e : Status) → LogExcused env engine from e → IsGone env.models_disk (env.name_of log) (env.observed mid) e
     gone_still e (inl memory) = inl memory
     gone_still e (inr none) = inr (none.0, none.1, under_name none.1 ∙ ap (option_map (longer_file (writing.frame engine.writer bytes))) none.2)
 

@@ -58,9 +58,9 @@ module _ {E C FP F I : Type 0} {D : I → Type 0} (env : Ghosts E F) (cmp : List
     new = old;
     represents = was;
     step = record { later = omega arith; step = step };
-    moments = moments_none store request old (env.tells at) was.disk_is;
-    files = spared_still request (refused (refusal_of status)) old old (env.tells at).disk.files;
-    others = others_still store (env.tells at).disk;
+    moments = moments_none store request old (env.observed at) was.disk_is;
+    files = spared_still request (refused (refusal_of status)) old old (env.observed at).disk.files;
+    others = others_still store (env.observed at).disk;
     beside = λ opens_not path differs. refl;
   }
 

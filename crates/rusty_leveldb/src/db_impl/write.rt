@@ -1,8 +1,7 @@
 //! Writing to a store: batches, and syncs of its log.
 ghost use Rattle.std.specs.Prelude.{◌≡◌, ◌<◌, ◌∷◌, [], ℕ, if◌then◌else◌, Some, None, false, IfOk, IfErr, OnOk, OnErr, IsErrAnd, ◌⊎◌, IsTrue};
-ghost use Rattle.leveldb_env.specs.Calls.{HasCause};
-ghost use Rattle.leveldb_env.specs.Disk.{AreBytes};
-ghost use Rattle.leveldb_env.specs.OpenFiles.{opened, Appends, Syncs};
+ghost use Rattle.leveldb_env.specs.Env.{HasCause, AreBytes};
+ghost use Rattle.leveldb_env.specs.EnvFile.{opened, Appends, Syncs};
 ghost use Rattle.leveldb_mem.specs.WriteBatch.{item_of};
 ghost use Rattle.leveldb_mem.specs.Log.Writer.{AddsRecord, FailsToAdd, Flushes};
 ghost use Rattle.rusty_leveldb.specs.State.{write, flush};

@@ -1,6 +1,6 @@
 use Rattle.std.proofs.Common.{◌≡◌, ap, sym, ◌∙◌, take, drop, get_or, length, ◌-◌, ◌+◌, arith}
-use Rattle.leveldb_env.specs.Filters.{first_offset}
-use Rattle.leveldb_env.proofs.KeyCuts.{get_or-keys_at, first_offset-drop, first_offset-end}
+use Rattle.leveldb_env.specs.Filter.{first_offset}
+use Rattle.leveldb_env.proofs.FilterLemmas.{get_or-keys_at, first_offset-drop, first_offset-end}
 use Rattle.leveldb_env.proofs.filter.key_at.Goals as goal
 use Rattle.leveldb_env.proofs.filter.key_at.Goals.{then-index-key_offsets, else-index-key_offsets}
 

@@ -2,9 +2,8 @@ use Rattle.std.proofs.Common.{◌≡◌, ◌-◌, ◌^◌, [], ◌∷◌, ◌++�
 use Rattle.std.specs.Prelude.{OnOk}
 use Rattle.std.proofs.lemmas.Result.{err_from_is_err_and}
 use Rattle.std.specs.List.{concat}
-use Rattle.leveldb_env.specs.Filters.{keys_at}
-use Rattle.leveldb_env.proofs.JoinedTexts.{cut_texts, offsets_rise, offsets_within}
-use Rattle.leveldb_env.proofs.FilterBuilds.{pushed_size, some_made, not_made, too_many, made_fits, on_ok}
+use Rattle.leveldb_env.specs.Filter.{keys_at}
+use Rattle.leveldb_env.proofs.FilterBlockLemmas.{cut_texts, offsets_rise, offsets_within, pushed_size, some_made, not_made, too_many, made_fits, on_ok}
 use Rattle.leveldb_env.proofs.filter_block.make_filters.Goals as goal
 
 pub returns-then-len-eq0-clause-fits : goal.returns-then-len-eq0-clause-fits

@@ -4,11 +4,11 @@ use Rattle.std.specs.List.{concat}
 use Rattle.std.proofs.lemmas.List.{take_rest}
 use Rattle.leveldb_base.specs.declared.error.Status.{Status}
 use Rattle.leveldb_base.specs.declared.error.StatusCode.TheVariants.{NotSupported}
-use Rattle.leveldb_env.specs.Filters.{keys_at, IsNoFilter}
+use Rattle.leveldb_env.specs.Filter.{keys_at, IsFilterError}
 use Rattle.env_tests.specs.JoinedKeys.{joined_keys}
 use Rattle.env_tests.proofs.filter_blocks.JoinedKeysFilterPolicy.create_filter.Goals as goal
 
-no_filter : {T : Type 0} (r : Result T Status) (too_large : Type 0) → IsErrAnd r (λ status. status.code ≡ NotSupported) → too_large → IfErr r (IsNoFilter too_large)
+no_filter : {T : Type 0} (r : Result T Status) (too_large : Type 0) → IsErrAnd r (λ status. status.code ≡ NotSupported) → too_large → IfErr r (IsFilterError too_large)
 no_filter (Ok v) too_large h large = absurd h
 no_filter (Err status) too_large h large = inr (h, large)
 

@@ -3,9 +3,8 @@ use Rattle.std.specs.List.{concat, All}
 use Rattle.std.specs.List.Sorted.{IsNonDecreasing}
 use Rattle.std.proofs.lemmas.List.{map_more, take_all}
 use Rattle.leveldb_base.specs.KeyTypes.{user_part}
-use Rattle.leveldb_env.specs.Filters.{keys_at}
-use Rattle.leveldb_env.proofs.KeyCuts.{length-keys_at}
-use Rattle.leveldb_env.proofs.KeyStarts.{starts, starts-more, concat-more, starts-within, starts-rising, keys_at-starts}
+use Rattle.leveldb_env.specs.Filter.{keys_at}
+use Rattle.leveldb_env.proofs.FilterLemmas.{length-keys_at, starts, starts-more, concat-more, starts-within, starts-rising, keys_at-starts}
 use Rattle.leveldb_env.proofs.filter.internal.user_keys.Goals as goal
 
 pub loop-i-preserved : goal.loop-i-preserved

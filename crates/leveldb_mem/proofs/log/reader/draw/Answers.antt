@@ -1,6 +1,6 @@
 use Rattle.std.proofs.Common.{◌-◌, ◌<◌, ◌≤◌, take, drop, length, subst, sym, ◌∙◌, length-take, length-drop, arith, Ok}
-use Rattle.leveldb_env.specs.Sources.{GivesSome}
-use Rattle.leveldb_env.specs.SourceLaws.{GivesSome-more}
+use Rattle.leveldb_env.specs.Source.{GivesSome}
+use Rattle.leveldb_env.proofs.SourceLemmas.{GivesSome-more}
 use Rattle.leveldb_mem.proofs.ReaderLemmas.{take-appended, range-appended, range-appended_all}
 use Rattle.leveldb_mem.proofs.log.reader.draw.Goals as goal
 

@@ -2,7 +2,7 @@ use Rattle.std.proofs.Common.{◌≤◌, ◌+◌, length, take, arith, ap, ◌�
 use Rattle.std.proofs.lemmas.Bool.{leb-true, leb-false}
 use Rattle.std.proofs.lemmas.List.{with_items_is}
 use Rattle.std.proofs.lemmas.Result.{err_from_is_err_and}
-use Rattle.leveldb_env.specs.Sources.{GivesSome, GivesAll}
+use Rattle.leveldb_env.specs.Source.{GivesSome, GivesAll}
 use Rattle.leveldb_mem.proofs.ReaderLemmas.{came, length-came, wants_memory}
 use Rattle.leveldb_mem.proofs.log.reader.ReaderCore.fill.Goals as goal
 

@@ -1,7 +1,7 @@
 use Rattle.std.proofs.Common.{◌<◌, ◌≤◌, ◌-◌, [], ap, ◌∙◌, arith}
 use Rattle.std.proofs.lemmas.Result.{err_from_is_err_and, IfOk-weaker, IfErr-weaker}
-use Rattle.leveldb_env.specs.Calls.{NoMemory}
-use Rattle.leveldb_env.specs.Sources.{GivesUp}
+use Rattle.leveldb_base.specs.Error.{IsOutOfMemory}
+use Rattle.leveldb_env.specs.Source.{GivesUp}
 use Rattle.leveldb_mem.specs.Log.Reader.{at_end, whatever_follows}
 use Rattle.leveldb_mem.specs.Log.Taking.{declared_length, with_unread, PassesFragment, TakesNext}
 use Rattle.leveldb_mem.proofs.ReaderLemmas.{UnreadThenGiven-after, UnreadThenGivenAll-after, GivesUp-after, wants_memory}
@@ -60,5 +60,5 @@ pub returns-clause-err : goal.returns-clause-err
 returns-clause-err g c =
     let there = c.in_ok-fill.ensures.there c.if-not-branch.false in
     let more = c.in_ok-fill-2.ensures.there c.if-not-branch-2.false in
-    IfErr-weaker c.pass_fragment.result NoMemory (λ status. GivesUp g.S.Source.gives c.args.source.now status c.fill-2.new.source)
+    IfErr-weaker c.pass_fragment.result IsOutOfMemory (λ status. GivesUp g.S.Source.gives c.args.source.now status c.fill-2.new.source)
     (λ status memory. GivesUp-after g.S.Source.gives there.0.reads (GivesUp-after g.S.Source.gives more.0.reads (wants_memory g.S.Source.gives c.fill-2.new.source status memory))) c.pass_fragment.ensures.memory
