@@ -1,5 +1,4 @@
-pub mod CurrentReads
-pub mod FieldReads
-pub mod Decoding
-pub mod Encoding
-mod EditRows
+pub mod VersionEditLemmas
+pub mod FieldsLemmas
+pub mod CurrentLemmas
+pub mod VersionSetLemmas

@@ -1,8 +1,4 @@
-pub mod Edit
-pub mod EditReading
-pub mod EditView
-pub mod FileSet
-pub mod FileSetLaws
+pub mod VersionEdit
+pub mod Fields
 pub mod Current
-pub mod CurrentLaws
-pub mod EditLaws
+pub mod VersionSet

@@ -1,5 +1,6 @@
 //! Versions: which files make up a store at a moment, and the edits and names that keep them.
 #![tactic(auto)]
 
+pub mod laws;
 pub mod version_edit;
 pub mod version_set;

@@ -1,14 +1,13 @@
 //! Version edits: what a record of the manifest changes in a store's files.
-//! An edit is fields in any order, each a tag and its value: 1 the comparator's name, 2 the log's number, 3 the next
-//! file's, 4 the last sequence number, 5 a compaction pointer, 6 a deleted file, 7 a new file, 9 the previous log's
-//! number. Of several values of 1 to 4 and 9 the last counts.
+//! An edit is fields in any order, each a tag and its value: 1 the comparator's name, 2 the log's
+//! number, 3 the next file's, 4 the last sequence number, 5 a compaction pointer, 6 a deleted file,
+//! 7 a new file, 9 the previous log's number. Of several values of 1 to 4 and 9 the last counts.
 ghost use Rattle.std.specs.Prelude.{◌≡◌, ◌⊎◌, [], ◌∷◌, ◌++◌, Some, IfOk, IfErr, OnOk, OnErr, IsSomeAnd, string_bytes};
 ghost use Rattle.std.specs.BTreeSet.{insert_key};
 ghost use Rattle.leveldb_base.specs.Error.{IsOutOfMemory};
 ghost use Rattle.leveldb_base.specs.declared.error.StatusCode.TheVariants.{Corruption};
-ghost use Rattle.leveldb_version.specs.Edit.{Edit, IsEdit, empty_edit, file_order, edit_bytes, HasLevels, OneEdit, WrittenIsRead};
-ghost use Rattle.leveldb_version.specs.EditReading.{field_of, files_in, with_field};
-ghost use Rattle.leveldb_version.specs.EditView.{edit_of, HasNoSeeks};
+ghost use Rattle.leveldb_version.specs.VersionEdit.{Edit, IsEdit, LevelsFit, HasNoSeeks, empty_edit, file_order, edit_bytes, edit_of, with_field};
+ghost use Rattle.leveldb_version.specs.Fields.{field_of, files_in};
 
 use bytes::Bytes;
 use leveldb_base::error::{Result, StatusCode, err};
@@ -20,18 +19,19 @@ use std::collections::BTreeSet;
 mod fields;
 
 use fields::{
-    LAST_SEQUENCE, LOG_NUMBER, LentField, NEXT_FILE_NUMBER, PREV_LOG_NUMBER, put_comparator,
-    put_deleted, put_new_files, put_number, put_pointers, take_field,
+    BorrowedField, LAST_SEQUENCE, LOG_NUMBER, NEXT_FILE_NUMBER, PREV_LOG_NUMBER, damage,
+    put_comparator, put_deleted, put_new_files, put_number, put_pointers, take_field,
 };
 
-/// The internal key behind which a level's next compaction begins.
+/// The internal key after which a level's next compaction begins.
 #[derive(Clone, Debug, Drop, PartialEq)]
 pub struct CompactionPointer {
     pub level: usize,
     pub key: Bytes,
 }
 
-/// What a record of the manifest changes: the single values that it sets, where it sets them, and what it does to levels.
+/// What a record of the manifest changes: the single values that it sets, if it sets them, and what
+/// it changes in levels.
 #[derive(Debug, Drop)]
 pub struct VersionEdit {
     pub comparator: Option<String>,
@@ -81,7 +81,8 @@ impl VersionEdit {
 
     /// Adds a file that `level` gains.
     pub fn add_file(&mut self, level: usize, file: FileMetaData) -> Result<()>
-        ensures ok { OnOk result (self.new.new_files.items ≡ self.old.new_files.items ++ (level, file) ∷ []) }
+        ensures ok { OnOk result (self.new.new_files.items
+            ≡ self.old.new_files.items ++ (level, file) ∷ []) }
         ensures err { OnErr result (self.new.new_files.items ≡ self.old.new_files.items) }
         ensures others { self.new ≡ record self.old { new_files = self.new.new_files } }
         ensures memory { IfErr result IsOutOfMemory }
@@ -92,7 +93,8 @@ impl VersionEdit {
 
     /// Adds a file that `level` loses.
     pub fn delete_file(&mut self, level: usize, file_num: FileNum) -> Result<()>
-        ensures ok { OnOk result (self.new.deleted.keys ≡ insert_key file_order self.old.deleted.keys (level, file_num)) }
+        ensures ok { OnOk result (self.new.deleted.keys
+            ≡ insert_key file_order self.old.deleted.keys (level, file_num)) }
         ensures err { OnErr result (self.new.deleted.keys ≡ self.old.deleted.keys) }
         ensures others { self.new ≡ record self.old { deleted = self.new.deleted } }
         ensures memory { IfErr result IsOutOfMemory }
@@ -103,7 +105,8 @@ impl VersionEdit {
 
     /// Sets the comparator's name.
     pub fn set_comparator_name(&mut self, name: &str) -> Result<()>
-        ensures ok { OnOk result (IsSomeAnd self.new.comparator (λ text. string_bytes text ≡ name.now)) }
+        ensures ok { OnOk result
+            (IsSomeAnd self.new.comparator (λ text. string_bytes text ≡ name.now)) }
         ensures err { OnErr result (self.new ≡ self.old) }
         ensures others { self.new ≡ record self.old { comparator = self.new.comparator } }
         ensures memory { IfErr result IsOutOfMemory }
@@ -113,7 +116,7 @@ impl VersionEdit {
         Ok(())
     }
 
-    /// Sets the number of the log whose changes are in no table.
+    /// Sets the number of the log whose changes are in no table yet.
     pub fn set_log_num(&mut self, num: u64)
         ensures { self.new ≡ record self.old { log_number = Some num } }
     {
@@ -127,7 +130,7 @@ impl VersionEdit {
         self.prev_log_number = Some(num);
     }
 
-    /// Sets the greatest sequence number that was given.
+    /// Sets the greatest sequence number that an entry has.
     pub fn set_last_seq(&mut self, num: u64)
         ensures { self.new ≡ record self.old { last_seq = Some num } }
     {
@@ -141,10 +144,12 @@ impl VersionEdit {
         self.next_file_number = Some(num);
     }
 
-    /// Adds a key behind which the next compaction of `level` begins.
+    /// Adds the key after which the next compaction of `level` begins.
     pub fn set_compact_pointer(&mut self, level: usize, key: InternalKey<'_>) -> Result<()>
-        ensures ok { OnOk result (self.new.compaction_ptrs.items ≡ self.old.compaction_ptrs.items ++ record { level = level; key = key.now } ∷ []) }
-        ensures err { OnErr result (self.new.compaction_ptrs.items ≡ self.old.compaction_ptrs.items) }
+        ensures ok { OnOk result (self.new.compaction_ptrs.items
+            ≡ self.old.compaction_ptrs.items ++ record { level = level; key = key.now } ∷ []) }
+        ensures err { OnErr result
+            (self.new.compaction_ptrs.items ≡ self.old.compaction_ptrs.items) }
         ensures others { self.new ≡ record self.old { compaction_ptrs = self.new.compaction_ptrs } }
         ensures memory { IfErr result IsOutOfMemory }
     {
@@ -154,10 +159,12 @@ impl VersionEdit {
         Ok(())
     }
 
-    /// The edit as bytes: single values first, then compaction pointers, deleted files by level and number, new files.
+    /// The edit as bytes: single values first, then compaction pointers, deleted files by level and
+    /// number, new files.
     pub fn encode(&self, alloc: Global) -> Result<Vec<u8>>
         ensures ok { IfOk result (λ bytes. bytes.items ≡ edit_bytes (edit_of self.now)) }
-        ensures read { IfOk result (λ bytes. HasLevels (edit_of self.now) → IsEdit bytes.items (edit_of self.now)) }
+        ensures read { IfOk result (λ bytes. LevelsFit (edit_of self.now)
+            → IsEdit bytes.items (edit_of self.now)) }
         ensures memory { IfErr result IsOutOfMemory }
     {
         let mut bytes = Vec::with_capacity(alloc, 256)?;
@@ -172,19 +179,21 @@ impl VersionEdit {
         Ok(bytes)
     }
 
-    /// The edit that these bytes are; its new files may take no seeks.
-    /// `Corruption` where they are none.
+    /// The edit that these bytes encode; its new files may take no seeks.
+    /// Returns `Corruption` if they encode none; the text names the field that can't be read.
     pub fn decode_from(alloc: Global, src: &[u8]) -> Result<VersionEdit>
         ensures ok { IfOk result (λ edit. IsEdit src.now (edit_of edit)) }
         ensures seeks { IfOk result HasNoSeeks }
-        ensures malformed { IfErr result (λ status. status.code ≡ Corruption → (edit : Edit) → ¬ IsEdit src.now edit) }
-        ensures cause { IfErr result (λ status. (status.code ≡ Corruption) ⊎ IsOutOfMemory status) }
+        ensures malformed { IfErr result (λ status. status.code ≡ Corruption
+            → (edit : Edit) → ¬ IsEdit src.now edit) }
+        ensures cause { IfErr result (λ status.
+            (status.code ≡ Corruption) ⊎ IsOutOfMemory status) }
     {
         let mut edit = VersionEdit::new(alloc);
         let mut rest = src;
         while !rest.is_empty() {
             let Some((field, others)) = take_field(rest) else {
-                return err(alloc, StatusCode::Corruption, "not a version edit");
+                return err(alloc, StatusCode::Corruption, damage(rest));
             };
             edit.apply(alloc, field)?;
             rest = others;
@@ -192,21 +201,23 @@ impl VersionEdit {
         Ok(edit)
     }
 
-    // Adds what the field says.
-    fn apply(&mut self, alloc: Global, field: LentField<'_>) -> Result<()>
-        ensures ok { OnOk result (edit_of self.new ≡ with_field (edit_of self.old) (field_of field.entry)) }
-        ensures files { OnOk result (self.new.new_files.items ≡ self.old.new_files.items ++ files_in field.entry) }
+    // Adds the field's value.
+    fn apply(&mut self, alloc: Global, field: BorrowedField<'_>) -> Result<()>
+        ensures ok { OnOk result
+            (edit_of self.new ≡ with_field (edit_of self.old) (field_of field.entry)) }
+        ensures files { OnOk result
+            (self.new.new_files.items ≡ self.old.new_files.items ++ files_in field.entry) }
         ensures memory { IfErr result IsOutOfMemory }
     {
         match field {
-            LentField::Comparator(name) => self.set_comparator_name(name)?,
-            LentField::LogNumber(num) => self.set_log_num(num),
-            LentField::PrevLogNumber(num) => self.set_prev_log_num(num),
-            LentField::NextFileNumber(num) => self.set_next_file(num),
-            LentField::LastSequence(num) => self.set_last_seq(num),
-            LentField::CompactPointer(level, key) => self.set_compact_pointer(level, key)?,
-            LentField::DeletedFile(level, num) => self.delete_file(level, num)?,
-            LentField::NewFile(level, num, size, smallest, largest) => {
+            BorrowedField::Comparator(name) => self.set_comparator_name(name)?,
+            BorrowedField::LogNumber(num) => self.set_log_num(num),
+            BorrowedField::PrevLogNumber(num) => self.set_prev_log_num(num),
+            BorrowedField::NextFileNumber(num) => self.set_next_file(num),
+            BorrowedField::LastSequence(num) => self.set_last_seq(num),
+            BorrowedField::CompactPointer(level, key) => self.set_compact_pointer(level, key)?,
+            BorrowedField::DeletedFile(level, num) => self.delete_file(level, num)?,
+            BorrowedField::NewFile(level, num, size, smallest, largest) => {
                 let file = FileMetaData {
                     allowed_seeks: 0,
                     num,
@@ -220,10 +231,3 @@ impl VersionEdit {
         Ok(())
     }
 }
-
-/// The same bytes are one edit only, and what is written for an edit whose levels a store has is that edit. So decoding
-/// what was encoded gives the edit back, but for the seeks that its new files may take.
-pub fn edits_are_their_bytes()
-    ensures one { OneEdit }
-    ensures written { WrittenIsRead }
-{}

@@ -1,94 +1,56 @@
-//! The names of a store's manifests and of what stands beside them, and the text of `CURRENT`.
-ghost use Rattle.std.specs.Prelude.{◌≡◌, ◌<◌, ◌^◌, ℕ, List, MatchOption, IfOk, IfErr, string_bytes};
-ghost use Rattle.leveldb_base.specs.Error.{IsOutOfMemory};
-ghost use Rattle.leveldb_base.specs.Names.{IsFileName, file_name, file_path};
-ghost use Rattle.leveldb_version.specs.FileSet.{AppliesInOrder, LiveIsAddedLast};
-ghost use Rattle.leveldb_version.specs.Current.{IsCurrentText, current_text as text_of_current};
+//! The set of a store's files: what it asks of a file's keys, and how a store finds the manifest
+//! that keeps it.
+ghost use Rattle.std.specs.Prelude.{◌≡◌, ◌↔◌, IsTrue, OnOk, IfErr, map};
+ghost use Rattle.leveldb_version.specs.VersionEdit.{new_file_of};
+ghost use Rattle.leveldb_version.specs.VersionSet.{IsKeyRange, HaveKeyRanges};
 
-use leveldb_base::error::{Result, StatusCode, err};
-use leveldb_base::types::{FileNum, FileType, parse_file_name};
+use leveldb_base::cmp::Cmp;
+use leveldb_base::error::{Result, Status, StatusCode};
+use leveldb_base::key_types::{TAG_LEN, cmp_internal_key};
+use leveldb_base::types::{FileMetaData, FileNum};
 use std::alloc::Global;
 
-/// The path of a manifest.
-pub fn manifest_file_name(alloc: Global, store: &str, number: FileNum) -> Result<String>
-    ensures ok { IfOk result (λ name. string_bytes name ≡ file_path store.now FileType.Descriptor number) }
-    ensures cause { IfErr result IsOutOfMemory }
+mod current;
+
+pub use current::{
+    current_file_name, current_text, manifest_file_name, parse_current_text, temp_file_name,
+};
+
+/// Whether the file's keys are internal keys, of eight bytes at least, and the smallest is not
+/// after the largest.
+pub fn has_key_range<C: Cmp>(ucmp: &C, file: &FileMetaData) -> bool
+    ensures { IsTrue result ↔ IsKeyRange (C.cmp ucmp.now) file.now.smallest file.now.largest }
 {
-    Ok(format!(in alloc; "{store}/MANIFEST-{number:06}")?)
+    file.smallest.len() >= TAG_LEN
+        && file.largest.len() >= TAG_LEN
+        && cmp_internal_key(ucmp, &file.smallest, &file.largest).is_le()
 }
 
-/// The path of the file that becomes `CURRENT`; its number is the manifest's.
-pub fn temp_file_name(alloc: Global, store: &str, number: FileNum) -> Result<String>
-    ensures ok { IfOk result (λ name. string_bytes name ≡ file_path store.now FileType.Temp number) }
-    ensures cause { IfErr result IsOutOfMemory }
+/// Checks the keys of files that an edit adds, or that are live.
+/// Returns `Corruption` if those of one are no range of internal keys; the text has its number.
+pub fn check_key_ranges<C: Cmp>(
+    alloc: Global,
+    ucmp: &C,
+    files: &[(usize, FileMetaData)],
+) -> Result<()>
+    ensures ok { OnOk result (HaveKeyRanges (C.cmp ucmp.now) (map new_file_of files.now)) }
+    ensures malformed { IfErr result (λ status. (status.code ≡ StatusCode.Corruption)
+        × ¬ HaveKeyRanges (C.cmp ucmp.now) (map new_file_of files.now)) }
 {
-    Ok(format!(in alloc; "{store}/{number:06}.dbtmp")?)
+    for (_, file) in files {
+        if !has_key_range(ucmp, file) {
+            return Err(no_key_range(alloc, file.num));
+        }
+    }
+    Ok(())
 }
 
-/// The path of the file that names the manifest.
-pub fn current_file_name(alloc: Global, store: &str) -> Result<String>
-    ensures ok { IfOk result (λ name. string_bytes name ≡ file_path store.now FileType.Current 0) }
-    ensures cause { IfErr result IsOutOfMemory }
+// The error for a table of this number.
+fn no_key_range(alloc: Global, number: FileNum) -> Status
+    ensures { result.code ≡ StatusCode.Corruption }
 {
-    Ok(format!(in alloc; "{store}/CURRENT")?)
-}
-
-/// What `CURRENT` holds where this manifest counts: its name, without a folder, and a newline.
-pub fn current_text(alloc: Global, manifest: FileNum) -> Result<String>
-    ensures ok { IfOk result (λ text. string_bytes text ≡ text_of_current manifest) }
-    ensures cause { IfErr result IsOutOfMemory }
-{
-    Ok(format!(in alloc; "MANIFEST-{manifest:06}\n")?)
-}
-
-/// The manifest that `CURRENT` names by what it holds: the name, without a folder, and its number.
-pub fn parse_current_text(alloc: Global, text: &[u8]) -> Result<(&str, FileNum)>
-    ensures ok { IfOk result (λ found. IsCurrentText text.now found.0.now found.1) }
-    ensures refused { IfErr result (λ status. (status.code ≡ StatusCode.Corruption) × ((name : List ℕ) (n : ℕ) → IsCurrentText text.now name n → ⊥)) }
-{
-    match read_current_text(alloc, text) {
-        Some(found) => Ok(found),
-        None => err(alloc, StatusCode::Corruption, "CURRENT names no manifest"),
+    match format!(in alloc; "table {number:06}: smallest and largest key are no range") {
+        Ok(text) => Status::new(alloc, StatusCode::Corruption, text.as_str()),
+        Err(_) => Status::new(alloc, StatusCode::Corruption, ""),
     }
 }
-
-// The same, or nothing.
-fn read_current_text(alloc: Global, text: &[u8]) -> Option<(&str, FileNum)>
-    ensures { MatchOption result ((name : List ℕ) (n : ℕ) → IsCurrentText text.now name n → ⊥) (λ found. IsCurrentText text.now found.0.now found.1) }
-{
-    let [line @ .., b'\n'] = text else {
-        return None;
-    };
-    let name = std::str::from_utf8(line).ok()?;
-    Some((name, manifest_number(alloc, name)?))
-}
-
-// The number of a manifest, by its name.
-fn manifest_number(alloc: Global, name: &str) -> Option<FileNum>
-    ensures { MatchOption result ((n : ℕ) → IsFileName name.now n FileType.Descriptor → ⊥) (λ n. IsFileName name.now n FileType.Descriptor) }
-{
-    let (number, kind) = parse_file_name(alloc, name).ok()?;
-    match kind {
-        FileType::Descriptor => Some(number),
-        _ => None,
-    }
-}
-
-/// What `CURRENT` holds names one manifest, and what is written for a manifest names that.
-#[tactic(auto, using(crate::specs::CurrentLaws::one_current, crate::specs::CurrentLaws::written_current))]
-pub fn current_text_has_one_reading()
-    ensures one { (text x y : List ℕ) (m n : ℕ) → IsCurrentText text x m → IsCurrentText text y n → (x ≡ y) × (m ≡ n) }
-    ensures written { (n : ℕ) → n < 2 ^ 64 → IsCurrentText (text_of_current n) (file_name FileType.Descriptor n) n }
-{}
-
-/// What edits leave: each applies to what those before it left.
-#[tactic(auto, using(crate::specs::FileSetLaws::applies_in_order))]
-pub fn edits_apply_in_order()
-    ensures { AppliesInOrder }
-{}
-
-/// The files that edits leave are those that were added and changed no more.
-#[tactic(auto, using(crate::specs::FileSetLaws::live_is_added_last))]
-pub fn live_files_were_added_last()
-    ensures { LiveIsAddedLast }
-{}

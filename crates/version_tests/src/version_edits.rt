@@ -1,8 +1,9 @@
 //! Edits of known bytes, in other orders of fields, cut and changed.
 use crate::checks::failed_with;
 use bytes::Bytes;
-use leveldb_base::error::{Result, StatusCode};
+use leveldb_base::error::{Result, Status, StatusCode};
 use leveldb_base::types::{FileMetaData, FileNum};
+use leveldb_mem::log::LogWriter;
 use leveldb_version::version_edit::{CompactionPointer, VersionEdit};
 use std::alloc::Global;
 use std::process::Abort;
@@ -80,6 +81,49 @@ fn first_edit(rt: HostRuntime) -> Result<()> {
     Ok(())
 }
 
+/// An internal key: the user key `a` at 1, a value.
+const KEY: &[u8; 9] = b"a\x01\x01\0\0\0\0\0\0";
+
+/// The edit that writes a memtable out: the log is 4, the previous one 0, the next file 6, the last
+/// sequence 1, and level 2 gains the table 5 of 177 bytes, which has `KEY` alone.
+const ONE_TABLE: &[u8; 33] =
+    b"\x02\x04\x09\0\x03\x06\x04\x01\x07\x02\x05\xb1\x01\x09a\x01\x01\0\0\0\0\0\0\
+    \x09a\x01\x01\0\0\0\0\0\0";
+
+fn table() -> FileMetaData {
+    FileMetaData {
+        allowed_seeks: 0,
+        num: 5,
+        size: 177,
+        smallest: Bytes::from_static(KEY),
+        largest: Bytes::from_static(KEY),
+    }
+}
+
+#[test]
+fn edit_of_one_table(rt: HostRuntime) -> Result<()> {
+    let mut edit = VersionEdit::new(rt.alloc());
+    edit.set_log_num(4);
+    edit.set_prev_log_num(0);
+    edit.set_next_file(6);
+    edit.set_last_seq(1);
+    edit.add_file(2, table())?;
+    assert!(rt; edit.encode(rt.alloc())?.as_slice() == ONE_TABLE.as_slice());
+    let read = VersionEdit::decode_from(rt.alloc(), ONE_TABLE)?;
+    assert!(rt; adds(&read, 2, table()));
+    Ok(())
+}
+
+/// A manifest is a log: each edit is a record after a header of seven bytes.
+#[test]
+fn manifest_of_two_edits(rt: HostRuntime) -> Result<()> {
+    let mut manifest = LogWriter::new(rt.alloc(), Vec::new(rt.alloc()));
+    assert!(rt; manifest.add_record(FIRST)? == 41);
+    assert!(rt; manifest.add_record(ONE_TABLE)? == 7 + 33);
+    assert!(rt; manifest.sink.len() == 81);
+    Ok(())
+}
+
 /// Asserts that the single values are those of the full edit.
 fn assert_values(rt: &impl Abort, edit: &VersionEdit) {
     assert!(rt; edit.comparator.as_ref().map(|name| name.as_str()) == Some(NAME));
@@ -129,7 +173,8 @@ fn full_edit(rt: HostRuntime) -> Result<()> {
     Ok(())
 }
 
-/// Fields in another order and a single value given twice, of which the last counts, and how each edit is written.
+/// Fields in another order and a single value given twice, of which the last counts, and how each
+/// edit is written.
 const ORDERS: [(&[u8], &[u8]); 4] = [
     (b"\x04\x07\x02\x05\x03\x01", b"\x02\x05\x03\x01\x04\x07"),
     (b"\x02\x05\x02\x06\x01\x01a\x01\x01b", b"\x01\x01b\x02\x06"),
@@ -148,29 +193,50 @@ fn other_orders(rt: HostRuntime) -> Result<()> {
     Ok(())
 }
 
-/// A level past the last, tags that aren't there, a name that is no text, a second encoding of a number, a cut text.
-const MALFORMED: [&[u8]; 9] = [
-    b"\x07\x07\x05\x01",
-    b"\x07\x07\x05\x01\x01a\x01b",
-    b"\x06\x07\x01",
-    b"\x05\x07\x01a",
-    b"\x08\x01",
-    b"\0",
-    b"\x01\x01\xff",
-    b"\x02\x81\0",
-    b"\x05\x01\x02a",
+/// A level past the last, tags that aren't there, a name that is no text, a second encoding of a
+/// number, a cut text, a cut number; and the field that the error names.
+const MALFORMED: [(&[u8], &str); 12] = [
+    (b"\x07\x07\x05\x01", "new file"),
+    (b"\x07\x07\x05\x01\x01a\x01b", "new file"),
+    (b"\x06\x07\x01", "deleted file"),
+    (b"\x05\x07\x01a", "compaction pointer"),
+    (b"\x08\x01", "unknown tag"),
+    (b"\x02\x05\0", "unknown tag"),
+    (b"\x01\x01\xff", "comparator's name"),
+    (b"\x02\x81\0", "log number"),
+    (b"\x05\x01\x02a", "compaction pointer"),
+    (b"\x03\x80", "next file number"),
+    (b"\x04", "last sequence number"),
+    (b"\x09", "previous log number"),
 ];
+
+/// Asserts that these bytes are no edit, and that the error names the field.
+fn assert_malformed(rt: &(impl Abort + AllocGlobal), bytes: &[u8], field: &str) -> Result<()> {
+    let answer = VersionEdit::decode_from(rt.alloc(), bytes);
+    let wanted = format!(in rt.alloc(); "Corruption: version edit: {field}")?;
+    if let Err(
+        Status {
+            err: Some(text),
+            ..
+        },
+    ) = &answer
+    {
+        assert!(rt; text.as_str() == wanted.as_str(), "{bytes:?}");
+    }
+    assert!(rt; failed_with(answer, StatusCode::Corruption)?, "{bytes:?}");
+    Ok(())
+}
 
 #[test]
 fn malformed(rt: HostRuntime) -> Result<()> {
-    for bytes in &MALFORMED {
-        let answer = VersionEdit::decode_from(rt.alloc(), bytes);
-        assert!(rt; failed_with(answer, StatusCode::Corruption)?, "{bytes:?}");
+    for (bytes, field) in &MALFORMED {
+        assert_malformed(&rt, bytes, field)?;
     }
     Ok(())
 }
 
-/// Whether bytes are an edit. It is then written and read again, and otherwise the bytes are corrupt.
+/// Whether bytes are an edit. It is then written and read again, and otherwise the bytes are
+/// corrupt.
 fn is_edit(rt: &(impl Abort + AllocGlobal), bytes: &[u8]) -> Result<bool> {
     match VersionEdit::decode_from(rt.alloc(), bytes) {
         Ok(edit) => {
@@ -204,7 +270,8 @@ fn change_byte(bytes: &mut [u8], offset: usize, amount: u8) {
     }
 }
 
-/// With a byte raised by one an edit is another at least where that byte is of the name or of a key.
+/// With a byte raised by one an edit is another at least where that byte is of the name or of a
+/// key.
 #[test]
 fn each_byte_raised(rt: HostRuntime) -> Result<()> {
     let mut bytes = full(rt.alloc())?.encode(rt.alloc())?;

@@ -1,10 +1,14 @@
-//! The names that a store gives to its manifests, texts of `CURRENT`, and the files that edits leave.
+//! The names that a store gives to its manifests, texts of `CURRENT`, the keys of a table's file, and
+//! the files that edits leave.
 use crate::checks::failed_with;
+use bytes::Bytes;
+use leveldb_base::cmp::DefaultCmp;
 use leveldb_base::error::{Result, StatusCode};
 use leveldb_base::types::{FileMetaData, FileNum};
 use leveldb_version::version_edit::VersionEdit;
 use leveldb_version::version_set::{
-    current_file_name, current_text, manifest_file_name, parse_current_text, temp_file_name,
+    check_key_ranges, current_file_name, current_text, manifest_file_name, parse_current_text,
+    temp_file_name,
 };
 use std::alloc::Global;
 use std::process::Abort;
@@ -82,7 +86,73 @@ fn malformed_texts(rt: HostRuntime) -> Result<()> {
     Ok(())
 }
 
-/// The size of the file that is live under a level and a number, by a look at each change in turn.
+/// A tag: the sequence number in seven bytes, after the type of a value.
+fn tag(sequence: u8) -> [u8; 8] {
+    [1, sequence, 0, 0, 0, 0, 0, 0]
+}
+
+/// A table's file with these keys: user keys, each before the tag of its sequence number.
+fn file_of(alloc: Global, smallest: (&[u8], u8), largest: (&[u8], u8)) -> Result<FileMetaData> {
+    let mut file = file(5, 177);
+    file.smallest = key_of(alloc, smallest)?;
+    file.largest = key_of(alloc, largest)?;
+    Ok(file)
+}
+
+fn key_of(alloc: Global, parts: (&[u8], u8)) -> Result<Bytes> {
+    let mut key = Vec::from_slice(alloc, parts.0)?;
+    key.extend_from_slice(&tag(parts.1))?;
+    Ok(Bytes::copy_from_slice(alloc, key.as_slice())?)
+}
+
+/// Smallest and largest keys, and whether they are a range: of one user key the greater sequence
+/// number is the smaller internal key.
+const RANGES: [((&[u8], u8), (&[u8], u8), bool); 6] = [
+    ((b"a", 1), (b"b", 1), true),
+    ((b"a", 1), (b"a", 1), true),
+    ((b"a", 2), (b"a", 1), true),
+    ((b"", 1), (b"", 1), true),
+    ((b"a", 1), (b"a", 2), false),
+    ((b"b", 1), (b"a", 1), false),
+];
+
+/// Asserts whether files are taken, a good one before the one that is looked at.
+fn assert_taken(rt: &(impl Abort + AllocGlobal), file: FileMetaData, wanted: bool) -> Result<()> {
+    let mut files = Vec::new(rt.alloc());
+    files.push((0, file_of(rt.alloc(), (b"a", 1), (b"b", 1))?))?;
+    files.push((1, file))?;
+    let answer = check_key_ranges(rt.alloc(), &DefaultCmp, files.as_slice());
+    if wanted {
+        assert!(rt; answer.is_ok());
+    } else {
+        assert!(rt; failed_with(answer, StatusCode::Corruption)?);
+    }
+    Ok(())
+}
+
+#[test]
+fn key_ranges(rt: HostRuntime) -> Result<()> {
+    assert!(rt; check_key_ranges(rt.alloc(), &DefaultCmp, &[]).is_ok());
+    for (smallest, largest, wanted) in &RANGES {
+        let file = file_of(rt.alloc(), *smallest, *largest)?;
+        assert_taken(&rt, file, *wanted)?;
+    }
+    Ok(())
+}
+
+/// A key of fewer than eight bytes has no tag. A file of the default keys has two of them.
+#[test]
+fn short_keys(rt: HostRuntime) -> Result<()> {
+    assert_taken(&rt, file(5, 177), false)?;
+    let mut cut = file_of(rt.alloc(), (b"a", 1), (b"b", 1))?;
+    cut.smallest = Bytes::from_static(b"a\x01\x01\0\0\0\0");
+    assert_taken(&rt, cut, false)?;
+    let mut cut = file_of(rt.alloc(), (b"a", 1), (b"b", 1))?;
+    cut.largest = Bytes::from_static(b"b\x01\x01\0\0\0\0");
+    assert_taken(&rt, cut, false)
+}
+
+/// The size of the file that is live at a level and a number, by a look at each change in turn.
 fn slow_live(edits: &[VersionEdit], level: usize, number: FileNum) -> Option<usize> {
     let mut live = None;
     for edit in edits {
@@ -105,8 +175,8 @@ fn file(number: FileNum, size: usize) -> FileMetaData {
     file
 }
 
-/// What an edit does: the level, the number and the size of each file that it adds, and then the level and the number of
-/// each that it deletes.
+/// An edit's changes: the level, the number and the size of each file that it adds, and then the
+/// level and the number of each that it deletes.
 type Changes = (
     &'static [(usize, FileNum, usize)],
     &'static [(usize, FileNum)],
@@ -148,9 +218,9 @@ fn three_edits(alloc: Global) -> Result<Vec<VersionEdit>> {
     Ok(edits)
 }
 
-/// Levels and numbers, and the size of the live file after each of the three edits: of a file that is added, deleted and
-/// added again, one that is deleted and added by the same edit, one that moves to the next level, one that is deleted
-/// before it is there, and one that is added twice.
+/// Levels and numbers, and the size of the live file after each of the three edits: of a file that
+/// is added, deleted and added again, one that the same edit deletes and adds, one that moves to the
+/// next level, one that is deleted before it is there, and one that is added twice.
 const LIVE: [(usize, FileNum, [Option<usize>; 3]); 6] = [
     (0, 4, [Some(40), None, Some(41)]),
     (0, 5, [Some(50), Some(51), Some(51)]),

@@ -1,8 +1,8 @@
 use Rattle.std.proofs.Common.{◌≡◌, ◌<◌, length, arith}
 use Rattle.std.proofs.lemmas.Bool.Decides.{nat_tests}
 use Rattle.leveldb_base.specs.declared.error.StatusCode.TheVariants.{Corruption}
-use Rattle.leveldb_version.specs.Edit.{Edit, IsEdit}
-use Rattle.leveldb_version.proofs.Decoding.{nothing_read, no_seeks_first, of_refusal, reads_none, read_more, no_more_seeks}
+use Rattle.leveldb_version.specs.VersionEdit.{Edit, IsEdit}
+use Rattle.leveldb_version.proofs.VersionEditLemmas.{nothing_read, no_seeks_first, of_error, reads_none, read_more, no_more_seeks}
 use Rattle.leveldb_version.proofs.version_edit.VersionEdit.decode_from.Goals as goal
 
 pub loop-rest-init : goal.loop-rest-init
@@ -11,7 +11,7 @@ loop-rest-init c = record { read = nothing_read _ _ c.new-edit.ensures; seeks = 
 pub returns-in_default-clause-malformed : goal.returns-in_default-clause-malformed
 returns-in_default-clause-malformed c =
     let some : 0 < length c.loop-rest.rest.now = grind (arith, nat_tests) in
-    of_refusal (λ status. status.code ≡ Corruption → (edit : Edit) → IsEdit c.args.src.now edit → ⊥) c.err.result (λ _ _. reads_none c.loop-rest.invariant.read some c.in_default.ensures)
+    of_error (λ status. status.code ≡ Corruption → (edit : Edit) → IsEdit c.args.src.now edit → ⊥) c.err.result (λ _ _. reads_none c.loop-rest.invariant.read some c.in_default.ensures)
 
 pub loop-rest-preserved : goal.loop-rest-preserved
 loop-rest-preserved c = record {

@@ -1,9 +1,8 @@
 use Rattle.std.proofs.Common.{ℕ, ◌<◌, ◌^◌, subst}
 use Rattle.std.proofs.lemmas.List.Elements.{All-more}
 use Rattle.leveldb_base.specs.declared.types.FileMetaData.{FileMetaData}
-use Rattle.leveldb_version.specs.Edit.{adds}
-use Rattle.leveldb_version.specs.EditView.{new_file_of}
-use Rattle.leveldb_version.proofs.Encoding.{put_more}
+use Rattle.leveldb_version.specs.VersionEdit.{adds, new_file_of}
+use Rattle.leveldb_version.proofs.VersionEditLemmas.{put_more}
 use Rattle.leveldb_version.proofs.version_edit.fields.put_new_files.Goals as goal
 
 pub loop-file-preserved : goal.loop-file-preserved

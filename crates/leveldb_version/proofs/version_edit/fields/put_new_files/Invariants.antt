@@ -1,7 +1,6 @@
 use Rattle.std.proofs.Common.{◌≡◌, ◌<◌, ◌^◌, ◌++◌, flat_map, map, take}
 use Rattle.std.specs.List.{All}
-use Rattle.leveldb_version.specs.Edit.{adds, field_bytes}
-use Rattle.leveldb_version.specs.EditView.{new_file_of}
+use Rattle.leveldb_version.specs.VersionEdit.{adds, field_bytes, new_file_of}
 use Rattle.leveldb_version.proofs.version_edit.fields.put_new_files.Given as goal
 
 abbrev pub invariant-loop-file : goal.invariant-loop-file

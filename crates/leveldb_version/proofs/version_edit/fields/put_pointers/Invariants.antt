@@ -1,6 +1,5 @@
 use Rattle.std.proofs.Common.{◌≡◌, ◌++◌, flat_map, map, take}
-use Rattle.leveldb_version.specs.Edit.{points, field_bytes}
-use Rattle.leveldb_version.specs.EditView.{pointer_of}
+use Rattle.leveldb_version.specs.VersionEdit.{points, field_bytes, pointer_of}
 use Rattle.leveldb_version.proofs.version_edit.fields.put_pointers.Given as goal
 
 abbrev pub invariant-loop-pointer : goal.invariant-loop-pointer
