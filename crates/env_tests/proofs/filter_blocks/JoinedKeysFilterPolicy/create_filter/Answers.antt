@@ -10,8 +10,8 @@ no_filter : {T : Type 0} (r : Result T Status) (too_large : Type 0) → IsErrAnd
 no_filter (Ok v) too_large h large = absurd h
 no_filter (Err status) too_large h large = inr (h, large)
 
-pub returns-then-joined-self-clause-cause : goal.returns-then-joined-self-clause-cause
-returns-then-joined-self-clause-cause c = no_filter c.err.result _ c.err.ensures.code (omega (arith, ap length c.in_ok-joined.ensures.ok))
+pub returns-then-len-self-clause-cause : goal.returns-then-len-self-clause-cause
+returns-then-len-self-clause-cause c = no_filter c.err.result _ c.err.ensures.code (omega (arith, ap length c.in_ok-joined.ensures.ok))
 
 pub returns-clause-fits : goal.returns-clause-fits
 returns-clause-fits c too_large =
