@@ -175,6 +175,19 @@ fn filter_of_no_keys(rt: HostRuntime) -> Result<()> {
     Ok(())
 }
 
+// Offsets that are past the end, or that fall, cut what there is: here the keys `abc`, the empty key
+// and `bc`.
+#[test]
+fn filter_by_offsets_that_fall(rt: HostRuntime) -> Result<()> {
+    let policy = BloomPolicy::new(12);
+    let filter = policy.create_filter(rt.alloc(), b"abc", &[0, 9, 1])?;
+    let same = policy.create_filter(rt.alloc(), b"abcbc", &[0, 3, 3])?;
+    assert!(rt; filter.as_slice() == same.as_slice());
+    assert!(rt; policy.key_may_match(b"abc", &filter));
+    assert!(rt; policy.key_may_match(b"bc", &filter));
+    Ok(())
+}
+
 #[test]
 fn filters_of_more_than_32_bits(rt: HostRuntime) -> Result<()> {
     for (bits_per_key, offsets) in [(u32::MAX, &[0][..]), (u32::MAX / 3, &[0, 0, 0, 0][..])] {

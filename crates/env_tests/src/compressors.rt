@@ -1,7 +1,7 @@
 //! Compressors, and lists of them.
 ghost use Rattle.std.specs.Prelude.{◌≡◌, ◌+◌, ◌%◌, ◌⊎◌, Some, false, map, IfOk, IfErr};
 ghost use Rattle.leveldb_base.specs.Error.{IsOutOfMemory};
-ghost use Rattle.leveldb_env.specs.Compressor.{FailsWith};
+ghost use Rattle.leveldb_env.specs.Compressor.{IsEncodeError};
 
 use leveldb_base::error::{Result, Status, StatusCode};
 use leveldb_env::compressor::{Compressor, CompressorId, CompressorList, NoneCompressor};
@@ -21,7 +21,8 @@ impl Compressor for Shift {
     ghost coding = { λ _. record {
       decoded = λ stored. Some (map
           (λ byte. (byte + 255) % 256) stored);
-      refuses = λ code. false;
+      encode_fails = λ block code. false;
+      decode_fails = λ stored code. false;
     } };
 
     fn encode(&self, alloc: Global, block: Vec<u8>) -> Result<Vec<u8>> {
@@ -41,12 +42,13 @@ impl Compressor for Shift {
     }
 }
 
-// A block that is stored and read again, by any compressor. An error is the compressor's, or out of
-// memory.
+// A block that is stored and read again, by any compressor. An error is that of encoding this very
+// block, or out of memory.
 fn read_again<C: Compressor>(compressor: C, alloc: Global, block: Vec<u8>) -> Result<Vec<u8>>
     ensures same { IfOk result (λ read. read.items ≡ block.items) }
     ensures cause { IfErr result
-        (λ status. IsOutOfMemory status ⊎ FailsWith (C.coding compressor) status) }
+        (λ status. IsOutOfMemory status
+        ⊎ IsEncodeError (C.coding compressor) block.items status) }
 {
     let stored = compressor.encode(alloc, block)?;
     compressor.decode(alloc, stored)

@@ -1,6 +1,8 @@
 //! Filter blocks built and read, under a policy whose filters show the keys that they were made of.
-ghost use Rattle.std.specs.Prelude.{◌≡◌, ◌≤◌, true, IfOk, OnOk};
-ghost use Rattle.leveldb_env.specs.Filter.{first_offset};
+ghost use Rattle.std.specs.Prelude.{◌≡◌, ◌<◌, ◌≤◌, true, [], length, IfOk, IfErr, OnOk, slice_index_or};
+ghost use Rattle.std.specs.List.{concat};
+ghost use Rattle.leveldb_base.specs.Error.{IsOutOfMemory};
+ghost use Rattle.leveldb_env.specs.Filter.{keys_at};
 
 use crate::checks::failed_with;
 use leveldb_base::error::{Result, StatusCode, err};
@@ -35,11 +37,11 @@ impl FilterPolicy for JoinedKeys {
     }
 
     fn create_filter(&self, alloc: Global, keys: &[u8], key_offsets: &[usize]) -> Result<Vec<u8>> {
-        let joined = &keys[first_of(key_offsets, keys.len())..];
+        let joined = joined_keys(alloc, keys, key_offsets)?;
         if joined.len() > self.limit {
             return err(alloc, StatusCode::NotSupported, "too many keys");
         }
-        Ok(Vec::from_slice(alloc, joined)?)
+        Ok(joined)
     }
 
     fn key_may_match(&self, key: &[u8], filter: &[u8]) -> bool {
@@ -49,13 +51,31 @@ impl FilterPolicy for JoinedKeys {
     ghost finds = { λ _. joined_finds };
 }
 
-fn first_of(offsets: &[usize], end: usize) -> usize
-    ensures { result ≡ first_offset offsets.now end }
+// The bytes from each offset on to the next one, or to the end.
+fn joined_keys(alloc: Global, keys: &[u8], key_offsets: &[usize]) -> Result<Vec<u8>>
+    ensures ok { IfOk result
+        (λ joined. joined.items ≡ concat (keys_at key_offsets.now keys.now)) }
+    ensures cause { IfErr result IsOutOfMemory }
 {
-    match offsets {
-        [first, ..] => *first,
-        [] => end,
+    let mut joined = Vec::new(alloc);
+    for i in 0..key_offsets.len() {
+        joined.extend_from_slice(key_of(keys, key_offsets, i))?;
     }
+    Ok(joined)
+}
+
+// The key of this index.
+fn key_of<'a>(keys: &'a [u8], key_offsets: &[usize], index: usize) -> &'a [u8]
+    requires { index < length key_offsets.now }
+    ensures { result.now ≡ slice_index_or (keys_at key_offsets.now keys.now) index [] }
+{
+    let begin = key_offsets[index].min(keys.len());
+    let end = if index + 1 < key_offsets.len() {
+        key_offsets[index + 1]
+    } else {
+        keys.len()
+    };
+    &keys[begin..end.min(keys.len()).max(begin)]
 }
 
 const POLICY: JoinedKeys = JoinedKeys { limit: 100 };

@@ -34,32 +34,32 @@ gone_before : (file : Option File) (bytes : List ℕ) → option_map (longer_fil
 gone_before None bytes gone = refl
 gone_before (Some file) bytes gone = cc
 
--- from a place on there are these bytes
+-- from an offset on there are these bytes
 abbrev Next : Option File → ℕ → List ℕ → Type 0
-Next at place bytes = IfSome at (λ file. drop place (bytes_of file) ≡ bytes ++ drop (place + length bytes) (bytes_of file))
+Next at offset bytes = IfSome at (λ file. drop offset (bytes_of file) ≡ bytes ++ drop (offset + length bytes) (bytes_of file))
 
-next_none : (at : Option File) (place : ℕ) → Next at place []
-next_none None place = tt
-next_none (Some file) place = ap (λ n. drop n (bytes_of file)) (sym (add-zero place))
+next_none : (at : Option File) (offset : ℕ) → Next at offset []
+next_none None offset = tt
+next_none (Some file) offset = ap (λ n. drop n (bytes_of file)) (sym (add-zero offset))
 
-next_read : (at : Option File) (place room : ℕ) (piece : List ℕ) → IsNextPieceOf at place room piece → Next at place piece
-next_read None place room piece read = tt
-next_read (Some file) place room piece read =
-    let left = drop place (bytes_of file) in
-    sym (take-append-drop (length piece) left) ∙ ap (λ p. p ++ drop (length piece) left) (sym read.bytes_are) ∙ ap (λ b. piece ++ b) (drop-drop (length piece) place (bytes_of file))
+next_read : (at : Option File) (offset room : ℕ) (piece : List ℕ) → IsNextPieceOf at offset room piece → Next at offset piece
+next_read None offset room piece read = tt
+next_read (Some file) offset room piece read =
+    let left = drop offset (bytes_of file) in
+    sym (take-append-drop (length piece) left) ∙ ap (λ p. p ++ drop (length piece) left) (sym read.bytes_are) ∙ ap (λ b. piece ++ b) (drop-drop (length piece) offset (bytes_of file))
 
-next_append : (at : Option File) (place : ℕ) (bytes others : List ℕ) → Next at place bytes → Next at (place + length bytes) others → Next at place (bytes ++ others)
-next_append None place bytes others first second = tt
-next_append (Some file) place bytes others first second =
+next_append : (at : Option File) (offset : ℕ) (bytes others : List ℕ) → Next at offset bytes → Next at (offset + length bytes) others → Next at offset (bytes ++ others)
+next_append None offset bytes others first second = tt
+next_append (Some file) offset bytes others first second =
     let all = bytes_of file in
-    let further : place + length bytes + length others ≡ place + length (bytes ++ others) = omega (arith, length-append bytes others) in
-    first ∙ ap (λ b. bytes ++ b) (second ∙ ap (λ n. others ++ drop n all) further) ∙ sym (append_assoc bytes others (drop (place + length (bytes ++ others)) all))
+    let further : offset + length bytes + length others ≡ offset + length (bytes ++ others) = omega (arith, length-append bytes others) in
+    first ∙ ap (λ b. bytes ++ b) (second ∙ ap (λ n. others ++ drop n all) further) ∙ sym (append_assoc bytes others (drop (offset + length (bytes ++ others)) all))
 
-next_all : (at : Option File) (place room : ℕ) (bytes : List ℕ) → 0 < room → Next at place bytes → IsNextPieceOf at (place + length bytes) room []
-    → IfSome at (λ file. bytes ≡ drop place (bytes_of file))
-next_all None place room bytes some next read = tt
-next_all (Some file) place room bytes some next read =
-    let ended : drop (place + length bytes) (bytes_of file) ≡ [] = ⊎_elim (λ none. absurd (omega arith)) (λ none. none) (read.none refl) in
+next_all : (at : Option File) (offset room : ℕ) (bytes : List ℕ) → 0 < room → Next at offset bytes → IsNextPieceOf at (offset + length bytes) room []
+    → IfSome at (λ file. bytes ≡ drop offset (bytes_of file))
+next_all None offset room bytes some next read = tt
+next_all (Some file) offset room bytes some next read =
+    let ended : drop (offset + length bytes) (bytes_of file) ≡ [] = ⊎_elim (λ none. absurd (omega arith)) (λ none. none) (read.none refl) in
     sym (next ∙ ap (λ b. bytes ++ b) ended ∙ append-nil bytes)
 
 -- ---- appending
@@ -141,7 +141,7 @@ module _ {E F : Type 0} (env : Ghosts E F) where
     still = λ modelled. begun (env.observed from.env) refl;
     locks = λ modelled. refl;
     next = λ modelled. next_none (opened_file env from) (env.offset_of from.file);
-    place = λ modelled. omega arith;
+    offset = λ modelled. omega arith;
     file = λ modelled. refl;
     counted = refl;
   }
@@ -152,7 +152,7 @@ module _ {E F : Type 0} (env : Ghosts E F) where
     still = λ modelled. call modelled (begun (env.observed from.env) refl) (λ files still. still) read.does;
     locks = read.locks;
     next = λ modelled. next_read (opened_file env from) (env.offset_of from.file) room piece (read.bytes modelled);
-    place = read.place;
+    offset = read.offset;
     file = read.file;
     counted = read.cause.ok;
   }
@@ -167,8 +167,8 @@ module _ {E F : Type 0} (env : Ghosts E F) where
   IsFurther-trans {from} {mid} {to} {bytes} {others} first second = record {
     still = λ modelled. Run-trans (first.still modelled) (λ files still. still ∙ (first.still modelled).has) (second.still modelled);
     locks = λ modelled. second.locks modelled ∙ first.locks modelled;
-    next = λ modelled. next_append (opened_file env from) (env.offset_of from.file) bytes others (first.next modelled) (rw (same_file modelled first, first.place modelled) at (second.next modelled));
-    place = λ modelled. omega (arith, first.place modelled, second.place modelled, length-append bytes others);
+    next = λ modelled. next_append (opened_file env from) (env.offset_of from.file) bytes others (first.next modelled) (rw (same_file modelled first, first.offset modelled) at (second.next modelled));
+    offset = λ modelled. omega (arith, first.offset modelled, second.offset modelled, length-append bytes others);
     file = λ modelled. second.file modelled ∙ first.file modelled;
     counted = second.counted ∙ first.counted;
   }
@@ -188,7 +188,7 @@ module _ {E F : Type 0} (env : Ghosts E F) where
       let last = all.at_end.2 in
       record {
         further = subst (λ b. IsFurther env from b to) (append-nil bytes) (IsFurther-trans first (IsFurther-read last));
-        all = λ modelled. next_all (opened_file env from) (env.offset_of from.file) all.at_end.0 bytes all.at_end.1 (first.next modelled) (rw (same_file modelled first, first.place modelled) at (last.bytes modelled));
+        all = λ modelled. next_all (opened_file env from) (env.offset_of from.file) all.at_end.0 bytes all.at_end.1 (first.next modelled) (rw (same_file modelled first, first.offset modelled) at (last.bytes modelled));
       }
 
   -- the name is missing as it was before

@@ -1,7 +1,6 @@
 -- The texts of a filter block's builder, the block that is made of them, and how it is read.
 use Rattle.std.proofs.Common.{◌≡◌, ℕ, zero, suc, ◌+◌, ◌-◌, ◌<◌, ◌≤◌, List, [], ◌∷◌, ◌++◌, length, take, drop, get_or, replicate, slice_range, refl, sym, ◌∙◌, ap, subst, arith, append_assoc, length-append, ◌*◌, ◌/◌, ◌^◌, flat_map, length-drop, inl, inr, Bool, true, slice_get, Option, None, Some, Contains, ◌≢◌, ◌%◌, ◌⊎◌, Result, Ok, Err}
 use Rattle.std.specs.List.{All, concat}
-use Rattle.std.specs.List.Sorted.{IsNonDecreasing}
 use Rattle.std.proofs.lemmas.List.{take_at, drop_at, append-nil, take_all, take-append-drop, drop-drop, nil_from_length, length-replicate, length-take-le, get_or-append-add}
 use Rattle.std.proofs.lemmas.List.Elements.{All-nil, All-cons, All-head, All-tail, All-drop, Contains-push, Contains-append_left, All-take}
 use Rattle.std.proofs.lemmas.List.Folds.{concat-append}
@@ -91,31 +90,13 @@ more_offsets offsets begin end count pushed after total room some t r e f =
     let left : total - room ≡ count - 1 = omega (arith, some, t, r, ap length e, size) in
     f ∙ ap (λ z. z ++ replicate (total - room) end) (whole ∙ e) ∙ ap (λ z. (offsets ++ begin ∷ []) ++ replicate z end) left
 
--- ---- offsets rise, and lie in the bytes
+-- ---- offsets lie in the bytes
 
 pub offsets_small : (at limit : ℕ) (texts : List (List ℕ)) → at + length (concat texts) < limit → All (λ offset. offset < limit) (offsets_from at texts)
 offsets_small at limit [] h = All-nil (λ offset. offset < limit)
 offsets_small at limit (text ∷ texts) h =
     let size = length-append text (concat texts) in
     All-cons (λ offset. offset < limit) at (offsets_from (at + length text) texts) (omega (arith, h)) (offsets_small (at + length text) limit texts (omega (arith, h, size)))
-
-pub offsets_within : (at limit : ℕ) (texts : List (List ℕ)) → at + length (concat texts) ≤ limit → All (λ offset. offset ≤ limit) (offsets_from at texts)
-offsets_within at limit [] h = All-nil (λ offset. offset ≤ limit)
-offsets_within at limit (text ∷ texts) h =
-    let size = length-append text (concat texts) in
-    All-cons (λ offset. offset ≤ limit) at (offsets_from (at + length text) texts) (omega (arith, h)) (offsets_within (at + length text) limit texts (omega (arith, h, size)))
-
-above : (at : ℕ) (texts : List (List ℕ)) (j d : ℕ) → j < length (offsets_from at texts) → at ≤ get_or (offsets_from at texts) j d
-above at [] j d h = absurd (omega (arith, h))
-above at (text ∷ texts) zero d h = omega arith
-above at (text ∷ texts) (suc j) d h = let rest = above (at + length text) texts j d (omega (arith, h)) in omega (arith, rest)
-
-pub offsets_rise : (at : ℕ) (texts : List (List ℕ)) → IsNonDecreasing (offsets_from at texts)
-offsets_rise at [] i j d h l = absurd (omega (arith, l))
-offsets_rise at (text ∷ texts) zero zero d h l = omega arith
-offsets_rise at (text ∷ texts) zero (suc j) d h l = let rest = above (at + length text) texts j d (omega (arith, l)) in omega (arith, rest)
-offsets_rise at (text ∷ texts) (suc i) zero d h l = absurd (omega (arith, h))
-offsets_rise at (text ∷ texts) (suc i) (suc j) d h l = offsets_rise (at + length text) texts i j d (omega (arith, h)) (omega (arith, l))
 
 -- ---- numbers of four bytes each
 

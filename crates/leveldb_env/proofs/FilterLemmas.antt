@@ -1,8 +1,7 @@
 -- Keys that are stored one after another: where each begins and ends.
-use Rattle.std.proofs.Common.{◌≡◌, ℕ, zero, suc, ◌+◌, ◌-◌, ◌<◌, ◌≤◌, refl, sym, ap, ap₂, ◌∙◌, arith, List, [], ◌∷◌, ◌++◌, append_assoc, append-nil, length, take, drop, get_or}
-use Rattle.std.specs.List.{concat, All, slice_range}
-use Rattle.std.specs.List.Sorted.{IsNonDecreasing}
-use Rattle.std.proofs.lemmas.List.{length-append}
+use Rattle.std.proofs.Common.{◌≡◌, ℕ, zero, suc, ◌+◌, ◌-◌, ◌<◌, ◌≤◌, min, max, refl, sym, ap, ap₂, ◌∙◌, arith, List, [], ◌∷◌, ◌++◌, append_assoc, append-nil, length, take, drop, get_or}
+use Rattle.std.specs.List.{concat, slice_range}
+use Rattle.std.proofs.lemmas.List.{length-append, length-drop, drop_min, take_min}
 use Rattle.std.proofs.lemmas.List.Folds.{concat-append}
 use Rattle.std.proofs.Math.Seq.{take-append_seam, drop-append_seam}
 use Rattle.leveldb_env.specs.Filter.{first_offset, keys_at}
@@ -18,30 +17,6 @@ starts-more at [] key = let same : at ≡ at + 0 = omega arith in ap (λ n. n �
 starts-more at (first ∷ keys) key =
     let place : at + length first + length (concat keys) ≡ at + length (first ++ concat keys) = omega (arith, length-append first (concat keys))
     in ap (λ offsets. at ∷ offsets) (starts-more (at + length first) keys key ∙ ap (λ n. starts (at + length first) keys ++ n ∷ []) place)
-
--- no start is before the first, none after the end, and none before an earlier one
-starts-from : (at : ℕ) (keys : List (List ℕ)) (j d : ℕ) → j < length (starts at keys) → at ≤ get_or (starts at keys) j d
-starts-from at [] j d there = absurd (omega arith)
-starts-from at (key ∷ keys) zero d there = omega arith
-starts-from at (key ∷ keys) (suc j) d there = let later = starts-from (at + length key) keys j d (omega arith) in omega (arith, later)
-
-starts-to : (at : ℕ) (keys : List (List ℕ)) (j d : ℕ) → j < length (starts at keys) → get_or (starts at keys) j d ≤ at + length (concat keys)
-starts-to at [] j d there = absurd (omega arith)
-starts-to at (key ∷ keys) zero d there = omega arith
-starts-to at (key ∷ keys) (suc j) d there =
-    let later = starts-to (at + length key) keys j d (omega arith) in omega (arith, later, length-append key (concat keys))
-
-pub starts-within : (keys : List (List ℕ)) → All (λ offset. offset ≤ length (concat keys)) (starts 0 keys)
-starts-within keys = λ k d there. let to = starts-to 0 keys k d there in omega (arith, to)
-
-starts_rise : (at : ℕ) (keys : List (List ℕ)) (i j d : ℕ) → i ≤ j → j < length (starts at keys) → get_or (starts at keys) i d ≤ get_or (starts at keys) j d
-starts_rise at [] i j d before there = absurd (omega arith)
-starts_rise at (key ∷ keys) zero j d before there = starts-from at (key ∷ keys) j d there
-starts_rise at (key ∷ keys) (suc i) zero d before there = absurd (omega arith)
-starts_rise at (key ∷ keys) (suc i) (suc j) d before there = starts_rise (at + length key) keys i j d (omega arith) (omega arith)
-
-pub starts-rising : (keys : List (List ℕ)) → IsNonDecreasing (starts 0 keys)
-starts-rising keys = λ i j d before there. starts_rise 0 keys i j d before there
 
 -- where the first key of some ends
 first_end : (at : ℕ) (keys : List (List ℕ)) (end : ℕ) → end ≡ at + length (concat keys) → first_offset (starts at keys) end ≡ at
@@ -95,3 +70,14 @@ first_offset-end [] zero end behind = refl
 first_offset-end [] (suc i) end behind = refl
 first_offset-end (offset ∷ offsets) zero end behind = absurd (omega arith)
 first_offset-end (offset ∷ offsets) (suc i) end behind = first_offset-end offsets i end (omega arith)
+
+-- bytes cut between an offset and the next, each of which may be past the end, and the next before
+-- the first
+pub slice_range-clamped : (keys : List ℕ) (offset next begin end : ℕ) → begin ≡ min offset (length keys)
+    → end ≡ max (min next (length keys)) begin → slice_range keys begin end ≡ slice_range keys offset next
+slice_range-clamped keys offset next begin end begins ends =
+    let rest = drop offset keys
+    in let size : length rest ≡ length keys - offset = length-drop offset keys
+    in let counts : min (end - begin) (length rest) ≡ min (next - offset) (length rest) = omega (arith, begins, ends, size)
+    in ap (λ z. take (end - begin) z) (ap (λ n. drop n keys) begins ∙ drop_min offset keys)
+    ∙ sym (take_min (end - begin) rest) ∙ ap (λ n. take n rest) counts ∙ take_min (next - offset) rest

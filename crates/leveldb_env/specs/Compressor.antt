@@ -7,19 +7,29 @@ use Rattle.leveldb_base.specs.declared.error.Status.{Status}
 use Rattle.leveldb_base.specs.declared.error.StatusCode.{StatusCode}
 use Rattle.leveldb_base.specs.declared.error.StatusCode.TheVariants.{NotSupported}
 
--- The block that stored bytes are decoded to, where there is one, and the codes with which the
--- compressor may fail.
+-- The block that stored bytes are decoded to, where there is one; the codes with which encoding this
+-- very block may fail; and those with which decoding these very bytes may.
 pub record Coding : Type 0 where
   pub decoded : List ℕ → Option (List ℕ)
-  pub refuses : StatusCode → Bool
+  pub encode_fails : List ℕ → StatusCode → Bool
+  pub decode_fails : List ℕ → StatusCode → Bool
 
 -- a block is stored as it is, and none fails
 abbrev pub plain : Coding
-plain = record { decoded = λ stored. Some stored; refuses = λ code. false }
+plain = record {
+  decoded = λ stored. Some stored;
+  encode_fails = λ block code. false;
+  decode_fails = λ stored code. false;
+}
 
--- the status has a code with which this compressor fails
-abbrev pub FailsWith : Coding → Status → Type 0
-FailsWith coding status = IsTrue (coding.refuses status.code)
+-- this block isn't encoded, for a reason of the compressor's own
+abbrev pub IsEncodeError : Coding → List ℕ → Status → Type 0
+IsEncodeError coding block status = IsTrue (coding.encode_fails block status.code)
+
+-- these bytes are decoded to no block, and the code is one of the compressor's own for them
+abbrev pub IsDecodeError : Coding → List ℕ → Status → Type 0
+IsDecodeError coding stored status = (coding.decoded stored ≡ None)
+    × IsTrue (coding.decode_fails stored status.code)
 
 -- the coding of each id that is set
 abbrev pub Codings : Type 0

@@ -113,7 +113,7 @@ module _ {E F : Type 0} (env : Ghosts E F) where
     pub bytes : IfOk result
         (λ piece. IsTrue env.models_disk
         → IsNextPieceOf (opened_file old) (env.offset_of old.file) room piece)
-    pub place : IfOk result
+    pub offset : IfOk result
         (λ piece. IsTrue env.models_disk
         → env.offset_of new.file ≡ env.offset_of old.file + length piece)
     pub file : IsTrue env.models_disk → env.name_of new.file ≡ env.name_of old.file
@@ -136,7 +136,7 @@ module _ {E F : Type 0} (env : Ghosts E F) where
         → IfSome (opened_file old)
         (λ file. drop (env.offset_of old.file) (bytes_of file) ≡ bytes ++ drop
         (env.offset_of old.file + length bytes) (bytes_of file))
-    pub place : IsTrue env.models_disk
+    pub offset : IsTrue env.models_disk
         → env.offset_of new.file ≡ env.offset_of old.file + length bytes
     pub file : IsTrue env.models_disk → env.name_of new.file ≡ env.name_of old.file
     pub counted : env.failures new.env ≡ env.failures old.env

@@ -34,7 +34,7 @@ handle_name file = string_bytes file.name
 
 -- the offset at which its next read begins
 abbrev pub handle_offset : MemHandle → ℕ
-handle_offset file = file.place
+handle_offset file = file.offset
 
 -- ---- what the calls do
 
@@ -50,10 +50,10 @@ pub record ChangesOrFails {T : Type 0} (change : Files → Files) (old new : Mem
 abbrev pub copied_over : List ℕ → List ℕ → List ℕ
 copied_over bytes target = take (length target) bytes ++ drop (length bytes) target
 
--- a file's bytes from a place on are copied over the front of the target; n of them went
+-- a file's bytes from an offset on are copied over the front of the target; n of them went
 abbrev pub CopiesFrom : Option File → ℕ → ℕ → List ℕ → List ℕ → Type 0
-CopiesFrom None place n was now = ⊥
-CopiesFrom (Some file) place n was now = let bytes = drop place (bytes_of file) in
+CopiesFrom None offset n was now = ⊥
+CopiesFrom (Some file) offset n was now = let bytes = drop offset (bytes_of file) in
     (n ≡ min (length was) (length bytes)) × (now ≡ copied_over bytes was)
 
 -- a name that is locked; a missing one is an empty file first

@@ -18,11 +18,11 @@ mem_failures_below env = lit< tt
 pub mem_only_now : (env : MemEnv) (files : Files)
     → (mem_observed env).at_moment (mem_observed env).moment files
     → files ≡ (mem_observed env).disk.files
-mem_only_now env files stood = absurd stood
+mem_only_now env files were = absurd were
 
 pub mem_counts_now : (env : MemEnv) → IsTrue false
     → (mem_observed env).at_moment (mem_observed env).moment (mem_observed env).disk.files
-mem_counts_now env told = absurd (false≢true told)
+mem_counts_now env modelled = absurd (false≢true modelled)
 
 halved : (n : ℕ) → (2 * n) / 2 ≡ n
 halved n = omega arith
@@ -44,11 +44,11 @@ only_last journal files (inr inside) = absurd (even journal.count inside.0)
 pub record_only_now : (env : RecordEnv) (files : Files)
     → (record_observed env).at_moment (record_observed env).moment files
     → files ≡ (record_observed env).disk.files
-record_only_now env files stood = only_last env.journal files stood
+record_only_now env files were = only_last env.journal files were
 
 pub record_counts_now : (env : RecordEnv) → IsTrue true
     → (record_observed env).at_moment (record_observed env).moment (record_observed env).disk.files
-record_counts_now env told = inl (replayed_now env.journal)
+record_counts_now env modelled = inl (replayed_now env.journal)
 
 pub record_failures_below : (env : RecordEnv) → env.failures < 2 ^ 64
 record_failures_below env = env.counted

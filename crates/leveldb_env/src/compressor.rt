@@ -2,7 +2,7 @@
 ghost use Rattle.std.specs.Prelude.{◌≡◌, ◌⊎◌, ℕ, Bool, true, false, if◌then◌else◌, List, [], ◌∷◌, Option, None, Some, map, length, ◌<◌, ◌≤◌, is_some, option_map, ◌==◌, IfOk, IfErr, IfSome, IfNone, OnOk, OnErr};
 ghost use Rattle.std.specs.List.{position_or_len};
 ghost use Rattle.leveldb_base.specs.Error.{IsOutOfMemory};
-ghost use Rattle.leveldb_env.specs.Compressor.{plain, Coding, FailsWith, Codings, no_codings, plain_codings, with_coding, first_coding, listed_items, IsUnset};
+ghost use Rattle.leveldb_env.specs.Compressor.{plain, Coding, IsEncodeError, IsDecodeError, Codings, no_codings, plain_codings, with_coding, first_coding, listed_items, IsUnset};
 
 use leveldb_base::error::{Result, Status, StatusCode};
 use std::alloc::Global;
@@ -10,26 +10,27 @@ use std::alloc::Global;
 /// What is stored for a block, and how the block is read from it. What was encoded decodes to the
 /// block.
 pub trait Compressor: Drop {
-    /// The block that stored bytes are decoded to, where there is one, and the codes with which the
-    /// compressor may fail.
+    /// The block that stored bytes are decoded to, where there is one, and the codes with which a
+    /// block or stored bytes may fail.
     ghost coding: { Self → Coding };
 
-    /// What is to be stored for a block. A compressor may fail for a block, with a code of its own.
+    /// What is to be stored for a block. A compressor may fail for this very block, with a code of
+    /// its own.
     fn encode(&self, alloc: Global, block: Vec<u8>) -> Result<Vec<u8>>
         ensures ok { IfOk result
             (λ stored. (coding self.now).decoded stored.items ≡ Some block.items) }
         ensures cause { IfErr result
-            (λ status. IsOutOfMemory status ⊎ FailsWith (coding self.now) status) };
+            (λ status. IsOutOfMemory status
+            ⊎ IsEncodeError (coding self.now) block.items status) };
 
-    /// The block that is stored so. An error comes only where there is none, with a code of the
-    /// compressor's own, or out of memory.
+    /// The block that is stored so. An error comes only where there is none, with a code that the
+    /// compressor has for these very bytes, or out of memory.
     fn decode(&self, alloc: Global, stored: Vec<u8>) -> Result<Vec<u8>>
         ensures ok { IfOk result
             (λ block. (coding self.now).decoded stored.items ≡ Some block.items) }
         ensures cause { IfErr result
             (λ status. IsOutOfMemory status
-            ⊎ (((coding self.now).decoded stored.items ≡ None)
-            × FailsWith (coding self.now) status)) };
+            ⊎ IsDecodeError (coding self.now) stored.items status) };
 }
 
 /// The id under which a compressor is known.
@@ -140,7 +141,7 @@ impl CompressorList {
         }
     }
 
-    /// Sets the compressor of its id, in place of one that the id had. An error changes nothing.
+    /// Sets the compressor of its id, which replaces one that the id had. An error changes nothing.
     pub fn set<I: CompressorId>(
         &mut self,
         alloc: Global,
@@ -156,7 +157,7 @@ impl CompressorList {
         self.set_with_id(alloc, I::ID, compressor)
     }
 
-    /// Sets the compressor of an id, in place of one that the id had. An error changes nothing.
+    /// Sets the compressor of an id, which replaces one that the id had. An error changes nothing.
     pub fn set_with_id(
         &mut self,
         alloc: Global,
@@ -241,7 +242,7 @@ fn index_of(listed: &[Listed], id: u8) -> Option<usize>
     None
 }
 
-// Puts a compressor in the place of the first one with its id, or after all others.
+// Replaces the first compressor with this id, or appends this one to the others.
 fn put(listed: &mut Vec<Listed>, id: u8, compressor: Box<dyn Compressor>) -> Result<()>
     ensures ok { OnOk result ((otherwise : Codings)
         → first_coding (map (λ l. (l.id, coding l.compressor)) listed.new.items) otherwise

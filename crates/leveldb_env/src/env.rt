@@ -57,7 +57,7 @@ pub trait Env {
         ensures cause { HasCause (IsMissing models_disk name.now (observed self.old))
             (failures self.old) (failures self.new) result };
 
-    /// Opens a file that is there, to be read at any place.
+    /// Opens a file that is there, to be read at any offset.
     fn open_random_access_file(&mut self, name: &str) -> Result<Self::File>
         ensures does { ChangesFiles models_disk same FilesUnchanged (observed self.old)
             (observed self.new) result }
@@ -95,7 +95,7 @@ pub trait Env {
             (λ n. IsTrue models_disk
             → ReadsAt ((observed self.old).disk.files (name_of file.old))
             (offset_of file.old) n target.new) }
-        ensures place { IfOk result
+        ensures offset { IfOk result
             (λ n. IsTrue models_disk → offset_of file.new ≡ offset_of file.old + n) }
         ensures file { IsTrue models_disk → name_of file.new ≡ name_of file.old }
         ensures cause { HasCause (IsMissing models_disk (name_of file.old) (observed self.old))
@@ -103,14 +103,14 @@ pub trait Env {
 
     /// Reads some of the bytes from an offset on. Returns how many came: 0 only at or past the
     /// end or for an empty target.
-    fn read_at(&mut self, file: &Self::File, place: usize, target: &mut [u8]) -> Result<usize>
+    fn read_at(&mut self, file: &Self::File, offset: usize, target: &mut [u8]) -> Result<usize>
         ensures does { ChangesFiles models_disk same FilesUnchanged (observed self.old)
             (observed self.new) result }
         ensures locks { SameLocks models_disk (observed self.old) (observed self.new) }
         ensures fits { IfOk result (λ n. n ≤ length target.new) }
         ensures bytes { IfOk result
             (λ n. IsTrue models_disk
-            → ReadsAt ((observed self.old).disk.files (name_of file.now)) place n target.new) }
+            → ReadsAt ((observed self.old).disk.files (name_of file.now)) offset n target.new) }
         ensures cause { HasCause (IsMissing models_disk (name_of file.now) (observed self.old))
             (failures self.old) (failures self.new) result };
 
@@ -197,7 +197,7 @@ pub trait Env {
         ensures locks { SameLocks models_disk (observed self.old) (observed self.new) }
         ensures cause { HasCause IsOutOfMemory (failures self.old) (failures self.new) result };
 
-    /// Renames a file, in place of what has the new name.
+    /// Renames a file, which replaces what has the new name.
     fn rename(&mut self, from: &str, to: &str) -> Result<()>
         ensures does { ChangesFiles models_disk (renamed from.now to.now)
             (BeforeOrAfter (renamed from.now to.now)) (observed self.old)

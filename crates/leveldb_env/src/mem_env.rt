@@ -33,7 +33,7 @@ pub struct MemEnv {
 #[derive(Drop)]
 pub struct MemHandle {
     name: String,
-    place: usize,
+    offset: usize,
 }
 
 impl MemEnv {
@@ -92,16 +92,16 @@ impl MemEnv {
         })
     }
 
-    // Copies bytes of the name's file from a place on to the front of the target.
-    fn copy_at(&self, name: &str, place: usize, target: &mut [u8]) -> Result<usize>
+    // Copies bytes of the name's file from an offset on to the front of the target.
+    fn copy_at(&self, name: &str, offset: usize, target: &mut [u8]) -> Result<usize>
         ensures copied { IfOk result
-            (λ n. CopiesFrom ((disk_of self.now).files name.now) place n target.old target.new) }
-        ensures end { IfOk result (λ n. place + n < 2 ^ 64) }
+            (λ n. CopiesFrom ((disk_of self.now).files name.now) offset n target.old target.new) }
+        ensures end { IfOk result (λ n. offset + n < 2 ^ 64) }
         ensures refused { IfErr result (IsNoSuchFile (disk_of self.now).files name.now) }
         ensures err { OnErr result (target.new ≡ target.old) }
     {
         match self.files.get(name) {
-            Some(file) => Ok(file.read_at(place, target)),
+            Some(file) => Ok(file.read_at(offset, target)),
             None => missing(self.alloc, name),
         }
     }
@@ -111,11 +111,11 @@ impl MemHandle {
     // A handle that begins to read at the file's first byte.
     fn new(alloc: Global, name: &str) -> std::result::Result<MemHandle, AllocError>
         ensures name { IfOk result (λ handle. string_bytes handle.name ≡ name.now) }
-        ensures place { IfOk result (λ handle. handle.place ≡ 0) }
+        ensures offset { IfOk result (λ handle. handle.offset ≡ 0) }
     {
         Ok(MemHandle {
             name: String::from_str(alloc, name)?,
-            place: 0,
+            offset: 0,
         })
     }
 }
@@ -187,7 +187,7 @@ impl Env for MemEnv {
 
     ghost counts_now = { mem_counts_now };
 
-    ghost moments_need_disk = { λ told. refl };
+    ghost moments_need_disk = { λ modelled. refl };
 
     fn open_sequential_file(&mut self, name: &str) -> Result<MemHandle>
         ensures still { self.new ≡ self.old }
@@ -237,27 +237,27 @@ impl Env for MemEnv {
         ensures copied { IfOk result
             (λ n. CopiesFrom ((disk_of self.old).files (handle_name file.old))
             (handle_offset file.old) n target.old target.new) }
-        ensures place { IfOk result (λ n. handle_offset file.new ≡ handle_offset file.old + n) }
+        ensures offset { IfOk result (λ n. handle_offset file.new ≡ handle_offset file.old + n) }
         ensures name { handle_name file.new ≡ handle_name file.old }
         ensures refused { IfErr result
             (IsNoSuchFile (disk_of self.old).files (handle_name file.old)) }
         ensures err { OnErr result ((target.new ≡ target.old) × (file.new ≡ file.old)) }
     {
-        let n = self.copy_at(file.name.as_str(), file.place, target)?;
-        file.place += n;
+        let n = self.copy_at(file.name.as_str(), file.offset, target)?;
+        file.offset += n;
         Ok(n)
     }
 
-    fn read_at(&mut self, file: &MemHandle, place: usize, target: &mut [u8]) -> Result<usize>
+    fn read_at(&mut self, file: &MemHandle, offset: usize, target: &mut [u8]) -> Result<usize>
         ensures still { self.new ≡ self.old }
         ensures copied { IfOk result
             (λ n. CopiesFrom ((disk_of self.old).files
-            (handle_name file.now)) place n target.old target.new) }
+            (handle_name file.now)) offset n target.old target.new) }
         ensures refused { IfErr result
             (IsNoSuchFile (disk_of self.old).files (handle_name file.now)) }
         ensures err { OnErr result (target.new ≡ target.old) }
     {
-        self.copy_at(file.name.as_str(), place, target)
+        self.copy_at(file.name.as_str(), offset, target)
     }
 
     fn append(&mut self, file: &mut MemHandle, bytes: &[u8]) -> Result<()>

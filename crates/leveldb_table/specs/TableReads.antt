@@ -7,7 +7,7 @@ use Rattle.leveldb_base.specs.declared.error.Status.{Status}
 use Rattle.leveldb_base.specs.declared.error.StatusCode.TheVariants.{Corruption}
 use Rattle.leveldb_env.specs.Env.{FilesUnchanged, SameLocks, HasCause, IsMissing, bytes_of, Run}
 use Rattle.leveldb_env.specs.declared.env.Env.{Ghosts}
-use Rattle.leveldb_env.specs.Compressor.{Coding, Codings, Decodes, IsUnset, FailsWith}
+use Rattle.leveldb_env.specs.Compressor.{Coding, Codings, Decodes, IsUnset, IsDecodeError}
 use Rattle.leveldb_env.specs.FilterBlock.{IsFilterBlock}
 use Rattle.leveldb_table.specs.Block.{IsNoBlock}
 use Rattle.leveldb_table.specs.Table.{StoresAt, HasBlockAt}
@@ -26,10 +26,10 @@ StoresNothing bytes handle = (id : ℕ) (stored : List ℕ) → StoresAt bytes h
 abbrev pub HasNoFilters : List ℕ → Handle → Type 0
 HasNoFilters bytes handle = (text : List ℕ) (filters : List (List ℕ)) → StoresAt bytes handle 0 text → IsFilterBlock text filters → ⊥
 
--- these bytes aren't decoded: their id has no coder, or its coder refuses them with a code of its own
+-- these bytes aren't decoded: their id has no coder, or its coder fails for these very bytes, with a code of its own
 abbrev pub IsUndecodedBy : Option Coding → ℕ → List ℕ → Status → Type 0
 IsUndecodedBy None id stored status = IsUnset id status
-IsUndecodedBy (Some coding) id stored status = (coding.decoded stored ≡ None) × FailsWith coding status
+IsUndecodedBy (Some coding) id stored status = IsDecodeError coding stored status
 
 -- what is stored under this id isn't decoded, and the status says why
 abbrev pub IsUndecoded : Codings → ℕ → List ℕ → Status → Type 0

@@ -26,7 +26,7 @@ pub fn read_file<E: Env>(alloc: Global, env: &mut E, name: &str) -> Result<Vec<u
     read_rest(alloc, env, &mut file)
 }
 
-// All bytes of an open file from its place on.
+// All bytes of an open file from its offset on.
 fn read_rest<E: Env>(alloc: Global, env: &mut E, file: &mut E::File) -> Result<Vec<u8>>
     ensures ok { IfOk result
         (λ all. IsReadOut E.Env (opened env.old file.old) all.items (opened env.new file.new)) }
@@ -36,8 +36,8 @@ fn read_rest<E: Env>(alloc: Global, env: &mut E, file: &mut E::File) -> Result<V
     read_to_end(alloc, &mut EnvFile { env, file })
 }
 
-/// Puts these bytes under a name, in place of what is there, by way of a temporary file: it is
-/// made, synced and then renamed. After an Err the temporary file may be there.
+/// Puts these bytes under a name, where they replace what is there, by way of a temporary file: it
+/// is made, synced and then renamed. After an Err the temporary file may be there.
 pub fn replace_file<E: Env>(env: &mut E, temp: &str, name: &str, bytes: &[u8]) -> Result<()>
     requires { temp.now ≢ name.now }
     ensures does { IsTrue E.models_disk

@@ -2,9 +2,8 @@
 //!
 //! A filter is its bits, eight a byte from the lowest on, and in one more byte how many of them a
 //! key has.
-ghost use Rattle.std.specs.Prelude.{◌≡◌, ◌==◌, ◌||◌, false, ◌*◌, ◌^◌, ◌<◌, ◌≤◌, ℕ, List, IfOk, IfErr, All, MatchOption, length, fold, slice_index};
+ghost use Rattle.std.specs.Prelude.{◌≡◌, ◌==◌, ◌||◌, false, ◌*◌, ◌^◌, ◌<◌, ◌≤◌, ℕ, List, IfOk, IfErr, MatchOption, length, fold, slice_index};
 ghost use Rattle.std.specs.List.{list_all, list_any};
-ghost use Rattle.std.specs.List.Sorted.{IsNonDecreasing};
 ghost use Rattle.byteorder.specs.Endian.{little_number};
 ghost use Rattle.leveldb_env.specs.Filter.{keys_at};
 ghost use Rattle.leveldb_env.specs.Bloom.{mixed, hash_after, bloom_hash, probe_count, probes, has_bit, bits_len, is_probe, bits_of, count_in, matches_all};
@@ -108,8 +107,6 @@ fn probe_count(bits_per_key: u32) -> u8
 fn set_keys(bytes: &mut [u8], count: u8, keys: &[u8], key_offsets: &[usize])
     requires some { 0 < length bytes.old }
     requires fits { 8 * length bytes.old < 2 ^ 32 }
-    requires rising { IsNonDecreasing key_offsets.now }
-    requires within { All (λ offset. offset ≤ length keys.now) key_offsets.now }
     ensures bits { (bit : ℕ)
         → has_bit bytes.new bit ≡
         (has_bit bytes.old bit || is_probe (8 * length bytes.old) count

@@ -1,6 +1,5 @@
 //! Filters of internal keys, into which the users' keys alone go.
-ghost use Rattle.std.specs.Prelude.{◌≡◌, ◌≤◌, ℕ, List, IfOk, IfErr, All, length, map};
-ghost use Rattle.std.specs.List.Sorted.{IsNonDecreasing};
+ghost use Rattle.std.specs.Prelude.{◌≡◌, IfOk, IfErr, map};
 ghost use Rattle.leveldb_base.specs.KeyTypes.{user_part};
 ghost use Rattle.leveldb_base.specs.Error.{IsOutOfMemory};
 ghost use Rattle.leveldb_env.specs.Filter.{keys_at};
@@ -76,14 +75,9 @@ fn user_key(key: InternalKey<'_>) -> UserKey<'_>
 
 // The users' keys, one after another, and where each begins.
 fn user_keys(alloc: Global, keys: &[u8], key_offsets: &[usize]) -> Result<(Vec<u8>, Vec<usize>)>
-    requires rising { IsNonDecreasing key_offsets.now }
-    requires within { All (λ offset. offset ≤ length keys.now) key_offsets.now }
     ensures keys { IfOk result
         (λ made. keys_at made.1.items made.0.items ≡ map user_part
         (keys_at key_offsets.now keys.now)) }
-    ensures rising { IfOk result (λ made. IsNonDecreasing made.1.items) }
-    ensures within { IfOk result
-        (λ made. All (λ offset. offset ≤ length made.0.items) made.1.items) }
     ensures cause { IfErr result IsOutOfMemory }
 {
     let mut users = Vec::with_capacity(alloc, keys.len())?;

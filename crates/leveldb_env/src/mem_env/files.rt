@@ -51,17 +51,17 @@ impl MemFile {
         self.bytes.len() - self.kept
     }
 
-    /// Copies its bytes from a place on over the front of the target, as far as both go. Returns
+    /// Copies its bytes from an offset on over the front of the target, as far as both go. Returns
     /// how many came.
-    pub fn read_at(&self, place: usize, target: &mut [u8]) -> usize
-        ensures count { result ≡ min (length target.old) (length (drop place (bytes_of self.now))) }
-        ensures copied { target.new ≡ copied_over (drop place (bytes_of self.now)) target.old }
-        ensures end { place + result < 2 ^ 64 }
+    pub fn read_at(&self, offset: usize, target: &mut [u8]) -> usize
+        ensures count { result ≡ min (length target.old) (length (drop offset (bytes_of self.now))) }
+        ensures copied { target.new ≡ copied_over (drop offset (bytes_of self.now)) target.old }
+        ensures end { offset + result < 2 ^ 64 }
     {
-        if place >= self.bytes.len() {
+        if offset >= self.bytes.len() {
             return 0;
         }
-        let rest = &self.bytes[place..];
+        let rest = &self.bytes[offset..];
         let n = target.len().min(rest.len());
         target[..n].copy_from_slice(&rest[..n]);
         n
@@ -122,7 +122,7 @@ pub fn copy_files(files: &FileMap) -> Result<FileMap, AllocError>
     files.clone()
 }
 
-/// Puts a file under the name, in place of what was there.
+/// Puts a file under the name, where it replaces what was there.
 pub fn put_file(
     files: &mut FileMap,
     alloc: Global,
@@ -157,7 +157,7 @@ pub fn create_file(files: &mut FileMap, alloc: Global, name: &str) -> Result<(),
     empty_file(files, alloc, name)
 }
 
-/// Puts bytes appended to the name's file. Whether the name is there is answered.
+/// Appends bytes to the name's file. Returns whether the name is there.
 pub fn extend_file(files: &mut FileMap, name: &str, bytes: &[u8]) -> Result<bool, AllocError>
     ensures there { IfOk result (λ there. there ≡ is_some (files_of files.old name.now)) }
     ensures ok { OnOk result
@@ -194,7 +194,7 @@ pub fn delete_file(files: &mut FileMap, name: &str) -> bool
     files.remove(name).is_some()
 }
 
-/// Gives a file another name, in place of what was there. Returns whether the old name was there.
+/// Gives a file another name, where it replaces what was there. Returns whether the old name was there.
 pub fn rename_file(
     files: &mut FileMap,
     alloc: Global,
@@ -219,7 +219,7 @@ pub fn rename_file(
     Ok(true)
 }
 
-// Puts a file in place of the one that the name has.
+// Replaces the file that the name has.
 fn replace_file(files: &mut FileMap, name: &str, file: MemFile)
     requires { IsSome (files_of files.old name.now) }
     ensures { files_of files.new ≡ with_file name.now (Some file) (files_of files.old) }

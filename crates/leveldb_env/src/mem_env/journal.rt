@@ -43,7 +43,7 @@ pub fn name_in<'a>(change: &Requested<'a>) -> &'a str
     }
 }
 
-/// Whether a change may stand though its call is refused or cut off: all but a sync.
+/// Whether a change may be made though its call fails or is cut off: all but a sync.
 pub fn may_be_made(change: &Requested<'_>) -> bool
     ensures { result ≡ may_be_made change.now }
 {

@@ -129,16 +129,16 @@ impl RecordEnv {
         })
     }
 
-    // Copies bytes of the name's file from a place on to the front of the target.
-    fn copy_at(&self, name: &str, place: usize, target: &mut [u8]) -> Result<usize>
+    // Copies bytes of the name's file from an offset on to the front of the target.
+    fn copy_at(&self, name: &str, offset: usize, target: &mut [u8]) -> Result<usize>
         ensures copied { IfOk result
-            (λ n. CopiesFrom (files_in self.now name.now) place n target.old target.new) }
-        ensures end { IfOk result (λ n. place + n < 2 ^ 64) }
+            (λ n. CopiesFrom (files_in self.now name.now) offset n target.old target.new) }
+        ensures end { IfOk result (λ n. offset + n < 2 ^ 64) }
         ensures refused { IfErr result (IsNoSuchFile (files_in self.now) name.now) }
         ensures err { OnErr result (target.new ≡ target.old) }
     {
         match self.journal.files().get(name) {
-            Some(file) => Ok(file.read_at(place, target)),
+            Some(file) => Ok(file.read_at(offset, target)),
             None => missing(self.alloc, name),
         }
     }
@@ -260,7 +260,7 @@ impl Env for RecordEnv {
 
     ghost counts_now = { record_counts_now };
 
-    ghost moments_need_disk = { λ told. refl };
+    ghost moments_need_disk = { λ modelled. refl };
 
     fn open_sequential_file(&mut self, name: &str) -> Result<MemHandle>
         ensures looks { ChangesNoFile self.old self.new }
@@ -324,28 +324,28 @@ impl Env for RecordEnv {
         ensures copied { IfOk result
             (λ n. CopiesFrom (files_in self.old (handle_name file.old))
             (handle_offset file.old) n target.old target.new) }
-        ensures place { IfOk result (λ n. handle_offset file.new ≡ handle_offset file.old + n) }
+        ensures offset { IfOk result (λ n. handle_offset file.new ≡ handle_offset file.old + n) }
         ensures name { handle_name file.new ≡ handle_name file.old }
         ensures err { OnErr result ((target.new ≡ target.old) × (file.new ≡ file.old)) }
     {
         self.look()?;
-        let n = self.copy_at(file.name.as_str(), file.place, target)?;
-        file.place += n;
+        let n = self.copy_at(file.name.as_str(), file.offset, target)?;
+        file.offset += n;
         Ok(n)
     }
 
-    fn read_at(&mut self, file: &MemHandle, place: usize, target: &mut [u8]) -> Result<usize>
+    fn read_at(&mut self, file: &MemHandle, offset: usize, target: &mut [u8]) -> Result<usize>
         ensures looks { ChangesNoFile self.old self.new }
         ensures turns { CountsCall
             (IsNoSuchFile (files_in self.old) (handle_name file.now)) self.old self.new result }
         ensures locks { locked_in self.new ≡ locked_in self.old }
         ensures copied { IfOk result
             (λ n. CopiesFrom (files_in self.old
-            (handle_name file.now)) place n target.old target.new) }
+            (handle_name file.now)) offset n target.old target.new) }
         ensures err { OnErr result (target.new ≡ target.old) }
     {
         self.look()?;
-        self.copy_at(file.name.as_str(), place, target)
+        self.copy_at(file.name.as_str(), offset, target)
     }
 
     fn append(&mut self, file: &mut MemHandle, bytes: &[u8]) -> Result<()>
