@@ -11,10 +11,10 @@ ghost use Rattle.leveldb_base.specs.Varint.{varint, sized};
 ghost use Rattle.leveldb_base.specs.KeyTypes.{inner_key, internal_cmp, user_part, sequence_part};
 ghost use Rattle.leveldb_base.specs.Types.{count_before};
 ghost use Rattle.leveldb_mem.specs.WriteBatch.{item_of};
-ghost use Rattle.leveldb_mem.specs.MemTable.{Gains, IsNewTo, AreNewTo, FindsNewest, HasRoom, KeepsRoom};
+ghost use Rattle.leveldb_mem.specs.MemTable.{IsUnion, IsNewTo, AreNewTo, FindsNewest, HasRoom, KeepsRoom};
 ghost use Rattle.leveldb_mem.specs.MemTable.{AddsEntry, entry_of, type_of, bytes_of_value, value_of};
 ghost use Rattle.leveldb_mem.specs.MemTable.{entry_key, entry_from, inner_value, internal_pair};
-ghost use Rattle.leveldb_mem.specs.MemTable.{memory_of_entries, Grows, GrowsByAll, GivesAt};
+ghost use Rattle.leveldb_mem.specs.MemTable.{memory_of_entries, Grows, GrowsByAll, IsValueAt};
 
 use crate::memtable::as_of::AsOf;
 use crate::memtable::iterator::AtInternalKey;
@@ -125,7 +125,7 @@ impl<C: UserCmp> MemTable<C> {
         requires room { HasRoom self.old.kept batch.now.items }
         requires new { AreNewTo self.old.kept.entries (placed first batch.now.items) }
         ensures cmp { self.new.cmp ≡ self.old.cmp }
-        ensures entries { Gains self.old.kept.entries (placed first batch.now.items)
+        ensures entries { IsUnion self.old.kept.entries (placed first batch.now.items)
             self.new.kept.entries }
         ensures grows { GrowsByAll self.old.kept.entries (placed first batch.now.items)
             self.new.kept.entries }
@@ -149,7 +149,7 @@ impl<C: UserCmp> MemTable<C> {
         requires numbered { sequence < 2 ^ 56 }
         ensures cmp { self.new.cmp ≡ self.old.cmp }
         ensures new { OnOk result (IsNewTo self.old.kept.entries sequence key.now) }
-        ensures ok { OnOk result (Gains self.old.kept.entries
+        ensures ok { OnOk result (IsUnion self.old.kept.entries
             (entry_of sequence key.now (value_of kind value.now) ∷ []) self.new.kept.entries) }
         ensures grows { OnOk result (Grows self.old.kept.entries
             (entry_of sequence key.now (value_of kind value.now)) self.new.kept.entries) }
@@ -217,7 +217,7 @@ impl<C: UserCmp> MemTable<C> {
     // What the entry at an index gives the key, if it is the key's.
     #[inline]
     fn given_at(&self, at: usize, key: &[u8]) -> Option<Option<&[u8]>>
-        ensures { GivesAt self.now.kept.entries at key.now (option_map option_copied result) }
+        ensures { IsValueAt self.now.kept.entries at key.now (option_map option_copied result) }
     {
         let end = self.map.len();
         if at >= end {

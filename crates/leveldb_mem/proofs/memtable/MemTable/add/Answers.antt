@@ -4,7 +4,7 @@ use Rattle.leveldb_base.specs.Error.{IsOutOfMemory}
 use Rattle.leveldb_base.specs.declared.error.Status.{Status}
 use Rattle.leveldb_base.specs.declared.error.StatusCode.TheVariants.{AlreadyExists}
 use Rattle.leveldb_base.specs.History.{Entry}
-use Rattle.leveldb_mem.specs.MemTable.{Gains, IsNewTo, entry_of, Grows}
+use Rattle.leveldb_mem.specs.MemTable.{IsUnion, IsNewTo, entry_of, Grows}
 use Rattle.leveldb_mem.proofs.EntryLemmas.{caused}
 use Rattle.leveldb_mem.proofs.memtable.MemTable.add.Goals as goal
 
@@ -16,8 +16,8 @@ pub returns-then-put-clause-ok : goal.returns-then-put-clause-ok
 returns-then-put-clause-ok g c =
     let adds = OnTrue_at c.if-put.true c.put.ensures.put in
     let new = c.put.new.self.kept.entries in
-    subst (λ (v : Option (List ℕ)). Gains c.args.self.now.kept.entries (entry_of c.args.sequence c.args.key.now v ∷ []) new) c.given-value.ensures
-    (subst (λ (es : List Entry). Gains es (entry_of c.args.sequence c.args.key.now (option_copied c.given-value.result) ∷ []) new) c.in_ok-prepare_entry.ensures.entries adds.gains)
+    subst (λ (v : Option (List ℕ)). IsUnion c.args.self.now.kept.entries (entry_of c.args.sequence c.args.key.now v ∷ []) new) c.given-value.ensures
+    (subst (λ (es : List Entry). IsUnion es (entry_of c.args.sequence c.args.key.now (option_copied c.given-value.result) ∷ []) new) c.in_ok-prepare_entry.ensures.entries adds.gains)
 
 pub returns-then-put-clause-grows : goal.returns-then-put-clause-grows
 returns-then-put-clause-grows g c =
