@@ -1,6 +1,9 @@
 -- A memtable: its entries, the room for more, and the memtable keys that encode entries.
-use Rattle.std.specs.Prelude.{◌≡◌, ◌≤◌, ◌+◌, ◌↔◌, ℕ, List, [], ◌∷◌, ◌++◌, length, Option, Some, None, Contains, ◌*◌, drop, map, sum_by, slice_get, refl}
+use Rattle.std.specs.Prelude.{◌≡◌, ◌⊎◌, ◌<◌, ◌^◌, ◌≤◌, ◌+◌, ◌↔◌, ℕ, List, [], ◌∷◌, ◌++◌, length, Option, Some, None, Contains, ◌*◌, drop, map, sum_by, slice_get, refl}
 use Rattle.std.specs.Coded.{Coded, code_by, coded×, coded_list, coded_option, coded_ℕ}
+use Rattle.leveldb_base.specs.Error.{IsOutOfMemory}
+use Rattle.leveldb_base.specs.declared.error.Status.{Status}
+use Rattle.leveldb_base.specs.declared.error.StatusCode.TheVariants.{NotSupported}
 use Rattle.leveldb_base.specs.History.{Item, Entry, IsNewest}
 use Rattle.leveldb_base.specs.KeyTypes.{internal_key, user_part, sequence_part, type_part, memtable_key, inner_key}
 use Rattle.leveldb_base.specs.Varint.{sized}
@@ -63,6 +66,11 @@ pub record HasRoom (kept : Kept) (items : List Item) : Type 0 where
 -- what there was room for has room still
 abbrev pub KeepsRoom : Kept → Kept → Type 0
 KeepsRoom old new = (items : List Item) → HasRoom old items → HasRoom new items
+
+-- why no memory was taken for an entry: its key and value have more than 2^63 bytes, or memory is out
+abbrev pub FailsToPrepare : Item → Status → Type 0
+FailsToPrepare item status =
+    ((status.code ≡ NotSupported) × (2 ^ 63 < length item.key + value_length item.value)) ⊎ IsOutOfMemory status
 
 -- an entry has come, and took no more than its room
 pub record AddsEntry (old : Kept) (entry : Entry) (new : Kept) : Type 0 where
