@@ -18,7 +18,7 @@ use Rattle.leveldb_base.specs.Types.{Pair}
 use Rattle.leveldb_base.specs.Error.{IsOutOfMemory}
 use Rattle.leveldb_base.specs.declared.error.Status.{Status}
 use Rattle.leveldb_base.specs.declared.error.StatusCode.TheVariants.{NotSupported}
-use Rattle.leveldb_mem.specs.MemTable.{Gains, AreNewTo, entry_of, IsNewTo, entry_key, entry_from, entries_in, IsEntryPair, Kept, HasRoom, AddsEntry, Grows, GrowsByAll}
+use Rattle.leveldb_mem.specs.MemTable.{IsUnion, AreNewTo, entry_of, IsNewTo, entry_key, entry_from, entries_in, IsEntryPair, Kept, HasRoom, AddsEntry, Grows, GrowsByAll}
 use Rattle.leveldb_mem.specs.Searching.{key_at}
 use Rattle.leveldb_mem.specs.SkipMap.{Inserts, HasKey}
 use Rattle.leveldb_mem.proofs.MemTableLemmas.{entry_again, entry_order, entry_place, entry_there}
@@ -38,7 +38,7 @@ placed_from first (item ∷ items) entry there =
 pub none_up_to : (n : ℕ) (entries : List Entry) → entries ≡ [] → AreUpTo n entries
 none_up_to n entries none entry there = absurd (in_none entry (subst (λ (es : List Entry). Contains es entry) none there))
 
-pub one_up_to : (n : ℕ) (old new : List Entry) (one : Entry) → AreUpTo n old → Gains old (one ∷ []) new → one.sequence ≤ n → AreUpTo n new
+pub one_up_to : (n : ℕ) (old new : List Entry) (one : Entry) → AreUpTo n old → IsUnion old (one ∷ []) new → one.sequence ≤ n → AreUpTo n new
 one_up_to n old new one low gains le entry there =
     ⊎_elim
     (λ (was : Contains old entry). low entry was)
@@ -79,7 +79,7 @@ module _ {old new : List Pair} {key : List ℕ} (put : Inserts old (key, []) new
   from_pair pair = entry_from pair.0
 
   -- its entry has come to the others
-  pub gains_entry : entry_from key ≡ entry → Gains (entries_in old) (entry ∷ []) (entries_in new)
+  pub gains_entry : entry_from key ≡ entry → IsUnion (entries_in old) (entry ∷ []) (entries_in new)
   gains_entry e x =
       let was : entries_in old ≡ entries_in put.front ++ entries_in put.back = ap entries_in put.before ∙ map-append from_pair put.front put.back in
       let is : entries_in new ≡ entries_in put.front ++ entry ∷ entries_in put.back =
@@ -148,13 +148,13 @@ caused P R Q (Err e) h q = inl (h, q)
 
 -- ---- sets that grow
 
-same_gained : (entries : List Entry) → Gains entries [] entries
+same_gained : (entries : List Entry) → IsUnion entries [] entries
 same_gained entries = λ x. (
   (λ there. Contains-append_left entries [] x there),
   (λ there. subst (λ (all : List Entry). Contains all x) (append-nil entries) there),
 )
 
-gained_before : (these those final more : List Entry) (entry : Entry) → Gains these (entry ∷ []) those → Gains those more final → Gains these (entry ∷ more) final
+gained_before : (these those final more : List Entry) (entry : Entry) → IsUnion these (entry ∷ []) those → IsUnion those more final → IsUnion these (entry ∷ more) final
 gained_before these those final more entry one others = λ x. (there x, back x)
   where
     whole : (these ++ entry ∷ []) ++ more ≡ these ++ (entry ∷ more)
@@ -211,7 +211,7 @@ pub record Inserting (old all : List Entry) (kept : Kept) (sequence : ℕ) (rest
   pub room : HasRoom kept rest
   pub fit : greatest (placed sequence rest) < 2 ^ 56
   pub new : AreNewTo kept.entries (placed sequence rest)
-  pub gains : (final : List Entry) → Gains kept.entries (placed sequence rest) final → Gains old all final
+  pub gains : (final : List Entry) → IsUnion kept.entries (placed sequence rest) final → IsUnion old all final
   pub grows : (final : List Entry) → GrowsByAll kept.entries (placed sequence rest) final → GrowsByAll old all final
 
 pub inserting_from : (kept : Kept) (first : ℕ) (items rest : List Item) → rest ≡ items → HasRoom kept items → greatest (placed first items) < 2 ^ 56
@@ -221,7 +221,7 @@ inserting_from kept first items rest all room fit new =
     (record { room = room; fit = fit; new = new; gains = λ final gains. gains; grows = λ final grows. grows })
 
 -- no item is left
-pub inserted_all : (old all : List Entry) (kept : Kept) (sequence : ℕ) (rest : List Item) → rest ≡ [] → Inserting old all kept sequence rest → Gains old all kept.entries
+pub inserted_all : (old all : List Entry) (kept : Kept) (sequence : ℕ) (rest : List Item) → rest ≡ [] → Inserting old all kept sequence rest → IsUnion old all kept.entries
 inserted_all old all kept sequence rest none inserting =
     (subst (λ (items : List Item). Inserting old all kept sequence items) none inserting).gains kept.entries (same_gained kept.entries)
 

@@ -21,7 +21,7 @@ use Rattle.leveldb_base.proofs.KeyTypesLemmas.{type_part-internal_key, inner_key
 use Rattle.leveldb_base.specs.declared.key_types.ValueType.{ValueType}
 use Rattle.leveldb_base.specs.Types.{Pair, count_before}
 use Rattle.leveldb_base.specs.declared.key_types.ValueType.TheVariants.{TypeValue}
-use Rattle.leveldb_mem.specs.MemTable.{value_length, entry_of, type_of, bytes_of_value, value_of, entry_key, entry_from, inner_value, entries_in, IsEntryPair, internal_pair, bytes_in, Kept, KeepsRoom, memory_of_entries, Grows, HasNewest, FindsNewest, GivesAt}
+use Rattle.leveldb_mem.specs.MemTable.{value_length, entry_of, type_of, bytes_of_value, value_of, entry_key, entry_from, inner_value, entries_in, IsEntryPair, internal_pair, bytes_in, Kept, KeepsRoom, memory_of_entries, Grows, HasNewest, FindsNewest, IsValueAt}
 use Rattle.leveldb_mem.specs.WriteBatch.{change_encoding, entry_bytes, BatchOf}
 use Rattle.leveldb_mem.specs.Searching.{key_at, count_while, IsParted}
 use Rattle.leveldb_mem.specs.SkipMap.{IsSorted, memory_of, Inserts}
@@ -63,9 +63,9 @@ entry_again entry h =
     let number : sequence_part (inner_key key) ≡ entry.sequence = ap sequence_part inner ∙ sequence_part-internal_key entry.key entry.sequence kind h in
     let user : user_part (inner_key key) ≡ entry.key = ap user_part inner ∙ user_part-internal_key entry.key entry.sequence kind in
     let kind_is : type_part (inner_key key) ≡ kind = ap type_part inner ∙ type_part-internal_key entry.key entry.sequence kind h in
-    let behind : drop (length (sized internal)) key ≡ sized bytes = drop_at (sized internal) (sized bytes) (length (sized internal)) refl in
+    let following : drop (length (sized internal)) key ≡ sized bytes = drop_at (sized internal) (sized bytes) (length (sized internal)) refl in
     let text : inner_value key ≡ bytes =
-    ap (λ z. inner_key (drop (length (sized z)) key)) inner ∙ ap inner_key behind ∙ ap inner_key (sym (append-nil (sized bytes))) ∙ inner_key-sized bytes [] in
+    ap (λ z. inner_key (drop (length (sized z)) key)) inner ∙ ap inner_key following ∙ ap inner_key (sym (append-nil (sized bytes))) ∙ inner_key-sized bytes [] in
     let value : value_of (type_part (inner_key key)) (inner_value key) ≡ entry.value =
     ap (λ t. value_of t (inner_value key)) kind_is ∙ ap (value_of kind) text ∙ value_again entry.value in
     λ i. entry_of (number i) (user i) (value i)
@@ -151,8 +151,8 @@ inner_value-entry_key entry =
     let key = memtable_key entry.key entry.sequence kind bytes in
     let internal = internal_key entry.key entry.sequence kind in
     let inner : inner_key key ≡ internal = inner_key-memtable_key entry.key entry.sequence kind bytes in
-    let behind : drop (length (sized internal)) key ≡ sized bytes = drop_at (sized internal) (sized bytes) (length (sized internal)) refl in
-    ap (λ z. inner_key (drop (length (sized z)) key)) inner ∙ ap inner_key behind ∙ ap inner_key (sym (append-nil (sized bytes))) ∙ inner_key-sized bytes []
+    let following : drop (length (sized internal)) key ≡ sized bytes = drop_at (sized internal) (sized bytes) (length (sized internal)) refl in
+    ap (λ z. inner_key (drop (length (sized z)) key)) inner ∙ ap inner_key following ∙ ap inner_key (sym (append-nil (sized bytes))) ∙ inner_key-sized bytes []
 
 -- ---- a map of memtable keys as a list of internal keys with values
 
@@ -350,20 +350,20 @@ abbrev pub as_of : (List ℕ → List ℕ → Ordering) → List ℕ → List �
 as_of cmp k user number = is_lt (ordering_then (cmp (user_part (inner_key k)) user) (nat_cmp number (sequence_part (inner_key k))))
 
 -- there is no entry after the last
-pub gives_nothing : (pairs : List Pair) (i : ℕ) (user : List ℕ) → length pairs ≤ i → GivesAt (entries_in pairs) i user None
+pub gives_nothing : (pairs : List Pair) (i : ℕ) (user : List ℕ) → length pairs ≤ i → IsValueAt (entries_in pairs) i user None
 gives_nothing pairs i user h entry got same = let within = got_within pairs i entry got in omega (arith, within)
 
 module _ (pairs : List Pair) (i : ℕ) (within : i < length pairs) (key : List ℕ) (key_is : key ≡ key_at pairs i) (internal : List ℕ) (internal_is : internal ≡ inner_key key)
     (user : List ℕ) (user_is : user ≡ user_part internal) where
   -- the entry is another key's
-  pub gives_other : (other : List ℕ) → (user ≡ other → ⊥) → GivesAt (entries_in pairs) i other None
+  pub gives_other : (other : List ℕ) → (user ≡ other → ⊥) → IsValueAt (entries_in pairs) i other None
   unfolding entry_from
   gives_other other differs entry got same =
       let is : entry_from (key_at pairs i) ≡ entry = same_some (sym (entry_got pairs i within) ∙ got) in
       differs (user_is ∙ ap user_part internal_is ∙ ap (λ k. user_part (inner_key k)) key_is ∙ ap (λ (x : Entry). x.key) is ∙ same)
 
   -- the entry is the key's
-  pub gives_read : (value : List ℕ) (kind : ValueType) → kind ≡ type_part internal → value ≡ inner_value key → GivesAt (entries_in pairs) i user (Some (value_of kind value))
+  pub gives_read : (value : List ℕ) (kind : ValueType) → kind ≡ type_part internal → value ≡ inner_value key → IsValueAt (entries_in pairs) i user (Some (value_of kind value))
   unfolding entry_from
   gives_read value kind kind_is value_is =
       let number = sequence_part (inner_key key) in (
@@ -432,12 +432,12 @@ module _ {accepts : List ℕ → Bool} {cmp : List ℕ → List ℕ → Ordering
             let i = found.0 in
             let key_is : (entry i).key ≡ user = ap (λ (x : Entry). x.key) found.2 ∙ key ∙ same in
             let number = ap (λ (x : Entry). x.sequence) found.2 in
-            let behind = seen i key_is (omega (arith, number, low)) in
+            let following = seen i key_is (omega (arith, number, low)) in
             ⊎_elim
             (λ (e : i ≡ place). let number' = ap (λ n. (entry n).sequence) e in omega (arith, number, number'))
             (λ (w : (i < place) ⊎ (place < i)).
             ⊎_elim
-            (λ (lt : i < place). absurd (omega (arith, lt, behind)))
+            (λ (lt : i < place). absurd (omega (arith, lt, following)))
             (λ (gt : place < i). let late = older place i gt found.1 (same ∙ sym key_is) in omega (arith, number, late)) w)
             (cases_order i place);
       }
@@ -454,13 +454,13 @@ module _ {accepts : List ℕ → Bool} {cmp : List ℕ → List ℕ → Ordering
             let i = found.0 in
             let key_is : (entry i).key ≡ user = ap (λ (x : Entry). x.key) found.2 ∙ key in
             let number = ap (λ (x : Entry). x.sequence) found.2 in
-            let behind = seen i key_is (omega (arith, number, newest.seen)) in
+            let following = seen i key_is (omega (arith, number, newest.seen)) in
             let most = newest.newest (entry place) (entry_there pairs place within) (same ∙ sym key) low_enough in
             ⊎_elim
             (λ (e : i ≡ place). sym found.2 ∙ ap (λ n. entry n) e)
             (λ (w : (i < place) ⊎ (place < i)).
             ⊎_elim
-            (λ (lt : i < place). absurd (omega (arith, lt, behind)))
+            (λ (lt : i < place). absurd (omega (arith, lt, following)))
             (λ (gt : place < i). let late = older place i gt found.1 (same ∙ sym key_is) in absurd (omega (arith, number, late, most))) w)
             (cases_order i place);
       }
@@ -472,13 +472,13 @@ module _ {accepts : List ℕ → Bool} {cmp : List ℕ → List ℕ → Ordering
         let i = found.0 in
         let key_is : (entry i).key ≡ user = ap (λ (x : Entry). x.key) found.2 ∙ key in
         let number = ap (λ (x : Entry). x.sequence) found.2 in
-        let behind = seen i key_is (omega (arith, number, low)) in
-        let within : place < length pairs = omega (arith, behind, found.1) in
+        let following = seen i key_is (omega (arith, number, low)) in
+        let within : place < length pairs = omega (arith, following, found.1) in
         ⊎_elim
         (λ (e' : i ≡ place). other within (ap (λ n. (entry n).key) (sym e') ∙ key_is))
         (λ (w : (i < place) ⊎ (place < i)).
         ⊎_elim
-        (λ (lt : i < place). omega (arith, lt, behind))
+        (λ (lt : i < place). omega (arith, lt, following))
         (λ (gt : place < i).
         ⊎_elim
         (λ (less : cmp (entry place).key (entry i).key ≡ Less).
@@ -489,7 +489,7 @@ module _ {accepts : List ℕ → Bool} {cmp : List ℕ → List ℕ → Ordering
         (cases_order i place)
 
     -- what the entry there gives, or that it gives nothing
-    pub finds_given : (n : ℕ) → n ≡ place → (found : Option (Option (List ℕ))) → GivesAt (entries_in pairs) n user found → FindsNewest (entries_in pairs) limit user found
+    pub finds_given : (n : ℕ) → n ≡ place → (found : Option (Option (List ℕ))) → IsValueAt (entries_in pairs) n user found → FindsNewest (entries_in pairs) limit user found
     finds_given n n_is None given = finds_none (λ within same. given (entry place) (ap (λ i. slice_get (entries_in pairs) i) n_is ∙ entry_got pairs place within) same)
     finds_given n n_is (Some value) given =
         let within = got_within pairs n (entry_of given.0 user value) given.1 in
@@ -512,7 +512,7 @@ module _ {accepts : List ℕ → Bool} {cmp : List ℕ → List ℕ → Ordering
         subst (λ number. IsParted (λ k. as_of cmp k key number) pairs) (sequence_part-internal_key key sequence TypeValue fits)
         (subst (λ user. IsParted (λ k. as_of cmp k user (sequence_part looked_up)) pairs) (user_part-internal_key key sequence TypeValue) (parted_walked o all sorted looked_up))
 
-    pub finds_as_of : (n : ℕ) → n ≡ count_while (λ k. as_of cmp k key sequence) pairs → (found : Option (Option (List ℕ))) → GivesAt (entries_in pairs) n key found
+    pub finds_as_of : (n : ℕ) → n ≡ count_while (λ k. as_of cmp k key sequence) pairs → (found : Option (Option (List ℕ))) → IsValueAt (entries_in pairs) n key found
         → FindsNewest (entries_in pairs) sequence key found
     finds_as_of n n_is found given =
         let number_is = sequence_part-internal_key key sequence TypeValue fits in
@@ -522,4 +522,4 @@ module _ {accepts : List ℕ → Bool} {cmp : List ℕ → List ℕ → Ordering
         ∙ ap (λ user. count_while (λ k. as_of cmp k user (sequence_part looked_up)) pairs) (sym user_is) ∙ counted_inner looked_up in
         subst (λ number. FindsNewest (entries_in pairs) number key found) number_is
         (subst (λ user. FindsNewest (entries_in pairs) (sequence_part looked_up) user found) user_is
-        (finds_given looked_up n there found (subst (λ user. GivesAt (entries_in pairs) n user found) (sym user_is) given)))
+        (finds_given looked_up n there found (subst (λ user. IsValueAt (entries_in pairs) n user found) (sym user_is) given)))

@@ -157,8 +157,8 @@ module _ (size offset : ℕ) where
     length-filler = ap length (filler-ends size offset narrow) ∙ length-replicate (size - offset) 0
 
     -- filler that isn't zero
-    pub none_behind_others : (bytes : List ℕ) → length bytes ≡ size - offset → (All (λ byte. byte ≡ 0) bytes → ⊥) → (more : List ℕ) → IsNoFragment size offset (bytes ++ more)
-    none_behind_others bytes count other more = record {
+    pub none_unless_filler : (bytes : List ℕ) → length bytes ≡ size - offset → (All (λ byte. byte ≡ 0) bytes → ⊥) → (more : List ℕ) → IsNoFragment size offset (bytes ++ more)
+    none_unless_filler bytes count other more = record {
       some = some_from_length (bytes ++ more) (omega (arith, length-append bytes more));
       none = none_unfilled false size offset bytes more (count ∙ sym length-filler)
           (λ e. other (All-same (λ z. z ≡ 0) bytes (replicate (size - offset) 0) (e ∙ filler-ends size offset narrow) (All-replicate (λ z. z ≡ 0) (size - offset) 0 refl)));

@@ -224,8 +224,8 @@ no_value : (key rest after : List ℕ) → length rest < 2 ^ 64 → rest ≡ siz
 no_value key rest after fits front none j (Some value) more e =
     let tail : rest ≡ (sized j ++ sized value) ++ more = cc in
     let whole = tail ∙ append_assoc (sized j) (sized value) more in
-    let behind = (one_sized key j after (sized value ++ more) (sym front ∙ whole)).1 in
-    none value more (omega (arith, fits, ap length front, length-append (sized key) after, length-sized-le value more after behind)) behind
+    let following = (one_sized key j after (sized value ++ more) (sym front ∙ whole)).1 in
+    none value more (omega (arith, fits, ap length front, length-append (sized key) after, length-sized-le value more after following)) following
 no_value key rest after fits front none j None more e = cc
 
 -- there are no other kinds
@@ -253,9 +253,9 @@ pub reads_deletion : {bytes : List ℕ} (kind : ℕ) (rest key after : List ℕ)
 unfolding entry_bytes
 reads_deletion kind rest key after e front zero = e ∙ ap (λ z. z ∷ rest) zero ∙ ap (λ z. 0 ∷ z) front
 
-pub reads_value : {bytes : List ℕ} (kind : ℕ) (rest key behind value after : List ℕ) → bytes ≡ kind ∷ rest → rest ≡ sized key ++ behind → kind ≡ 1 → behind ≡ sized value ++ after → ReadsEntry bytes (Some (item_of key (Some value), after))
+pub reads_value : {bytes : List ℕ} (kind : ℕ) (rest key following value after : List ℕ) → bytes ≡ kind ∷ rest → rest ≡ sized key ++ following → kind ≡ 1 → following ≡ sized value ++ after → ReadsEntry bytes (Some (item_of key (Some value), after))
 unfolding entry_bytes
-reads_value kind rest key behind value after e front one back =
+reads_value kind rest key following value after e front one back =
     e ∙ ap (λ z. z ∷ rest) one ∙ ap (λ z. 1 ∷ z) (front ∙ ap (λ z. sized key ++ z) back ∙ sym (append_assoc (sized key) (sized value) after))
 
 -- entries that begin with these go on with others

@@ -80,7 +80,7 @@ FramingsAppend = (size offset : ℕ) (records others : List (List ℕ)) (front r
 abbrev pub CutIsHonest : Type 0
 CutIsHonest = (size : ℕ) (front rest : List ℕ) → HonestTail size (front ++ rest) front
 
--- Of a log whose last bytes may be missing, as a refused append leaves it, an honest crash leaves the first of the records that were there:
+-- Of a log whose last bytes may be missing, as an append that failed leaves it, an honest crash leaves the first of the records that were there:
 -- at least those that the kept bytes read as.
 abbrev pub CrashLeaves : Type 0
 CrashLeaves = (size : ℕ) (kept since missing tail : List ℕ) (first stood records found : List (List ℕ)) (first_end stood_end found_end : End) → IsBlockSize size

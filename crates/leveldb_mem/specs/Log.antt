@@ -151,7 +151,7 @@ IsFramed size (text ∷ texts) offset bytes = IsFrontAndRest size (IsFramedRecor
 unfoldable pub fragment_at : ℕ → Fragment → ℕ → List ℕ
 fragment_at size fragment offset = filler size offset ++ fragment_bytes (checksum fragment) fragment
 
--- the framing of what is left of a record, in so many fragments at most
+-- the framing of what is left of a record, in `fragments` fragments at most
 abbrev pub framed_within : ℕ → ℕ → Bool → List ℕ → ℕ → List ℕ
 framed_within zero size first text offset = []
 framed_within (suc fragments) size first text offset =
@@ -215,7 +215,7 @@ pub record FragmentBegins (size : ℕ) (bytes : List ℕ) (offset : ℕ) : Type 
   pub agree : Agree rest written
   pub begun : length (filler size (offset_after size 0 before)) < length rest
 
--- At this offset are so many bytes that are filler and a fragment with a right checksum.
+-- At this offset are `n` bytes that are filler and a fragment with a right checksum.
 pub record FragmentAt (size : ℕ) (bytes : List ℕ) (offset n : ℕ) : Type 0 where
   pub before : List ℕ
   pub found : List ℕ

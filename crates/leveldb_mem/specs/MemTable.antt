@@ -1,6 +1,9 @@
 -- A memtable: its entries, the room for more, and the memtable keys that encode entries.
-use Rattle.std.specs.Prelude.{◌≡◌, ◌≤◌, ◌+◌, ◌↔◌, ℕ, List, [], ◌∷◌, ◌++◌, length, Option, Some, None, Contains, ◌*◌, drop, map, sum_by, slice_get, refl}
+use Rattle.std.specs.Prelude.{◌≡◌, ◌⊎◌, ◌<◌, ◌^◌, ◌≤◌, ◌+◌, ◌↔◌, ℕ, List, [], ◌∷◌, ◌++◌, length, Option, Some, None, Contains, ◌*◌, drop, map, sum_by, slice_get, refl}
 use Rattle.std.specs.Coded.{Coded, code_by, coded×, coded_list, coded_option, coded_ℕ}
+use Rattle.leveldb_base.specs.Error.{IsOutOfMemory}
+use Rattle.leveldb_base.specs.declared.error.Status.{Status}
+use Rattle.leveldb_base.specs.declared.error.StatusCode.TheVariants.{NotSupported}
 use Rattle.leveldb_base.specs.History.{Item, Entry, IsNewest}
 use Rattle.leveldb_base.specs.KeyTypes.{internal_key, user_part, sequence_part, type_part, memtable_key, inner_key}
 use Rattle.leveldb_base.specs.Varint.{sized}
@@ -12,9 +15,9 @@ use Rattle.leveldb_base.specs.declared.key_types.ValueType.TheVariants.{TypeDele
 
 -- In this section a list encodes the set of its elements.
 
--- one set has what the other has, and these
-abbrev pub Gains : List Entry → List Entry → List Entry → Type 0
-Gains old more new = (entry : Entry) → Contains new entry ↔ Contains (old ++ more) entry
+-- the last set is the union of the others
+abbrev pub IsUnion : List Entry → List Entry → List Entry → Type 0
+IsUnion old more new = (entry : Entry) → Contains new entry ↔ Contains (old ++ more) entry
 
 -- no entry has this key at this sequence
 abbrev pub IsNewTo : List Entry → ℕ → List ℕ → Type 0
@@ -49,7 +52,7 @@ abbrev pub bytes_in : List Item → ℕ
 bytes_in [] = 0
 bytes_in (item ∷ items) = length item.key + value_length item.value + bytes_in items
 
--- entries, and room for some more: so many of them, with so many bytes of keys and values
+-- entries, and room for more: for `places` of them, whose keys and values have `bytes` bytes
 pub record Kept : Type 0 where
   pub entries : List Entry
   pub places : ℕ
@@ -64,9 +67,14 @@ pub record HasRoom (kept : Kept) (items : List Item) : Type 0 where
 abbrev pub KeepsRoom : Kept → Kept → Type 0
 KeepsRoom old new = (items : List Item) → HasRoom old items → HasRoom new items
 
+-- why no memory was taken for an entry: its key and value have more than 2^63 bytes, or memory is out
+abbrev pub FailsToPrepare : Item → Status → Type 0
+FailsToPrepare item status =
+    ((status.code ≡ NotSupported) × (2 ^ 63 < length item.key + value_length item.value)) ⊎ IsOutOfMemory status
+
 -- an entry has come, and took no more than its room
 pub record AddsEntry (old : Kept) (entry : Entry) (new : Kept) : Type 0 where
-  pub gains : Gains old.entries (entry ∷ []) new.entries
+  pub gains : IsUnion old.entries (entry ∷ []) new.entries
   pub places : old.places ≤ new.places + 1
   pub bytes : old.bytes ≤ new.bytes + length entry.key + value_length entry.value
 
@@ -131,10 +139,10 @@ IsEntryPair pair = (pair.0 ≡ entry_key (entry_from pair.0)) × (pair.1 ≡ [])
 abbrev pub entries_in : List Pair → List Entry
 entries_in pairs = map (λ pair. entry_from pair.0) pairs
 
--- what the entry at an index gives a key, or none where it is another key's or there is none
-abbrev pub GivesAt : List Entry → ℕ → List ℕ → Option (Option (List ℕ)) → Type 0
-GivesAt entries at key (Some value) = (sequence : ℕ) × (slice_get entries at ≡ Some (entry_of sequence key value))
-GivesAt entries at key None = (entry : Entry) → slice_get entries at ≡ Some entry → entry.key ≡ key → ⊥
+-- the value or deletion of a key that the entry at an index has, or none where that is another key's or there is no entry
+abbrev pub IsValueAt : List Entry → ℕ → List ℕ → Option (Option (List ℕ)) → Type 0
+IsValueAt entries at key (Some value) = (sequence : ℕ) × (slice_get entries at ≡ Some (entry_of sequence key value))
+IsValueAt entries at key None = (entry : Entry) → slice_get entries at ≡ Some entry → entry.key ≡ key → ⊥
 
 -- the most that an entry's memtable key has beside key and value: two lengths and a tag
 abbrev pub most_beside : ℕ

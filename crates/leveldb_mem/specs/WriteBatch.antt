@@ -91,7 +91,7 @@ ReadsEntry bytes None = (item : Item) (rest : List ℕ) → bytes ≡ entry_byte
 
 -- the item that a borrowed key and a borrowed value are
 abbrev pub borrowed_item : Bor (List ℕ) × Option (Bor (List ℕ)) → Item
-borrowed_item lent = item_of lent.0.now (option_copied lent.1)
+borrowed_item pair = item_of pair.0.now (option_copied pair.1)
 
 -- the item, and the bytes after it
 abbrev pub borrowed_entry : Option ((Bor (List ℕ) × Option (Bor (List ℕ))) × Bor (List ℕ)) → Option (Item × List ℕ)

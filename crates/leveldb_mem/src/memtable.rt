@@ -11,23 +11,24 @@ ghost use Rattle.leveldb_base.specs.Varint.{varint, sized};
 ghost use Rattle.leveldb_base.specs.KeyTypes.{inner_key, internal_cmp, user_part, sequence_part};
 ghost use Rattle.leveldb_base.specs.Types.{count_before};
 ghost use Rattle.leveldb_mem.specs.WriteBatch.{item_of};
-ghost use Rattle.leveldb_mem.specs.MemTable.{Gains, IsNewTo, AreNewTo, FindsNewest, HasRoom, KeepsRoom};
+ghost use Rattle.leveldb_mem.specs.MemTable.{IsUnion, IsNewTo, AreNewTo, FindsNewest, HasRoom, KeepsRoom};
 ghost use Rattle.leveldb_mem.specs.MemTable.{AddsEntry, entry_of, type_of, bytes_of_value, value_of};
 ghost use Rattle.leveldb_mem.specs.MemTable.{entry_key, entry_from, inner_value, internal_pair};
-ghost use Rattle.leveldb_mem.specs.MemTable.{memory_of_entries, Grows, GrowsByAll, GivesAt};
+ghost use Rattle.leveldb_mem.specs.MemTable.{memory_of_entries, Grows, GrowsByAll, IsValueAt};
+ghost use Rattle.leveldb_mem.specs.MemTable.{FailsToPrepare, value_length};
 
 use crate::memtable::as_of::AsOf;
 use crate::memtable::iterator::AtInternalKey;
 use crate::skipmap::SkipMap;
 use crate::write_batch::WriteBatch;
 use leveldb_base::cmp::{Cmp, MemtableKeyCmp, UserCmp};
-use leveldb_base::error::{Result, Status, StatusCode, err};
+use leveldb_base::error::{Result, StatusCode, err};
 use leveldb_base::key_types::{
     LookupKey, TAG_LEN, UserKey, ValueType, parse_internal_key, split_sequence, tag_bytes,
 };
-use leveldb_base::types::SequenceNumber;
+use leveldb_base::types::{LdbIterator, SequenceNumber};
 use leveldb_base::varint::{encode_varint64, get_length_prefixed_slice};
-use std::alloc::{AllocError, Global};
+use std::alloc::Global;
 use std::marker::Model;
 
 mod as_of;
@@ -37,6 +38,9 @@ pub use iterator::MemtableIterator;
 
 // The most bytes that a memtable key has beside key and value: two lengths of 10 and a tag of 8.
 const MOST_BESIDE: usize = 28;
+
+// The most bytes that the keys and values have for which memory is taken at once.
+const MAX_BYTES: usize = 1 << 63;
 
 /// Entries, each with a key and a sequence number that no other has, and room for those of a batch.
 #[derive(Drop)]
@@ -125,7 +129,7 @@ impl<C: UserCmp> MemTable<C> {
         requires room { HasRoom self.old.kept batch.now.items }
         requires new { AreNewTo self.old.kept.entries (placed first batch.now.items) }
         ensures cmp { self.new.cmp ≡ self.old.cmp }
-        ensures entries { Gains self.old.kept.entries (placed first batch.now.items)
+        ensures entries { IsUnion self.old.kept.entries (placed first batch.now.items)
             self.new.kept.entries }
         ensures grows { GrowsByAll self.old.kept.entries (placed first batch.now.items)
             self.new.kept.entries }
@@ -138,7 +142,8 @@ impl<C: UserCmp> MemTable<C> {
     }
 
     /// Inserts an entry, and takes the memory for it. A deletion has no value, whatever `value` is.
-    /// Returns `AlreadyExists` if the key has an entry at this sequence.
+    /// Returns `AlreadyExists` if the key has an entry at this sequence, and `NotSupported` if key
+    /// and value have more than 2^63 bytes.
     pub fn add(
         &mut self,
         sequence: SequenceNumber,
@@ -149,7 +154,7 @@ impl<C: UserCmp> MemTable<C> {
         requires numbered { sequence < 2 ^ 56 }
         ensures cmp { self.new.cmp ≡ self.old.cmp }
         ensures new { OnOk result (IsNewTo self.old.kept.entries sequence key.now) }
-        ensures ok { OnOk result (Gains self.old.kept.entries
+        ensures ok { OnOk result (IsUnion self.old.kept.entries
             (entry_of sequence key.now (value_of kind value.now) ∷ []) self.new.kept.entries) }
         ensures grows { OnOk result (Grows self.old.kept.entries
             (entry_of sequence key.now (value_of kind value.now)) self.new.kept.entries) }
@@ -157,7 +162,7 @@ impl<C: UserCmp> MemTable<C> {
         ensures room { OnErr result (KeepsRoom self.old.kept self.new.kept) }
         ensures cause { IfErr result (λ status. ((status.code ≡ AlreadyExists)
             × (IsNewTo self.old.kept.entries sequence key.now → ⊥))
-            ⊎ IsOutOfMemory status) }
+            ⊎ FailsToPrepare (item_of key.now (value_of kind value.now)) status) }
     {
         let value = given(kind, value);
         self.prepare_entry(key, value)?;
@@ -200,9 +205,12 @@ impl<C: UserCmp> MemTable<C> {
     }
 
     /// A walk over the internal keys of the entries with their values, which has no position yet.
-    pub fn iter(&self) -> MemtableIterator<'_, C>
-        ensures table { result.table.now ≡ self.now }
-        ensures position { result.position ≡ None }
+    pub fn iter<'a>(&'a self) -> MemtableIterator<'a, C>
+        ensures pairs { ⟦<MemtableIterator<'a, C> as LdbIterator>⟧.pairs result
+            ≡ map internal_pair self.now.kept.entries }
+        ensures position { ⟦<MemtableIterator<'a, C> as LdbIterator>⟧.position result ≡ None }
+        ensures order { ⟦<MemtableIterator<'a, C> as LdbIterator>⟧.order result
+            ≡ internal_cmp (C.cmp self.now.cmp) }
         ensures sorted { AreRising (internal_cmp (C.cmp self.now.cmp))
             (map internal_pair self.now.kept.entries) }
     {
@@ -217,7 +225,7 @@ impl<C: UserCmp> MemTable<C> {
     // What the entry at an index gives the key, if it is the key's.
     #[inline]
     fn given_at(&self, at: usize, key: &[u8]) -> Option<Option<&[u8]>>
-        ensures { GivesAt self.now.kept.entries at key.now (option_map option_copied result) }
+        ensures { IsValueAt self.now.kept.entries at key.now (option_map option_copied result) }
     {
         let end = self.map.len();
         if at >= end {
@@ -265,18 +273,25 @@ impl<C: UserCmp> MemTable<C> {
         ensures ok { OnOk result
             (HasRoom self.new.kept (item_of key.now (option_copied value.entry) ∷ [])) }
         ensures room { KeepsRoom self.old.kept self.new.kept }
-        ensures cause { IfErr result IsOutOfMemory }
+        ensures cause { IfErr result
+            (FailsToPrepare (item_of key.now (option_copied value.entry))) }
     {
-        let bytes = match value {
-            None => key.len(),
-            Some(value) => key.len() + value.len(),
-        };
+        let bytes = byte_count(key, value);
+        if bytes > MAX_BYTES {
+            let alloc = self.map.allocator();
+            return err(
+                alloc,
+                StatusCode::NotSupported,
+                "key and value have at most 2^63 bytes",
+            );
+        }
         self.reserve(1, bytes)
     }
 
     // Makes room for `count` entries, whose keys and values have `bytes` bytes. Room for as many is
     // only added to.
     fn reserve(&mut self, count: u32, bytes: usize) -> Result<()>
+        requires { bytes ≤ 2 ^ 63 }
         ensures cmp { self.new.cmp ≡ self.old.cmp }
         ensures entries { self.new.kept.entries ≡ self.old.kept.entries }
         ensures ok { OnOk result ((count ≤ self.new.kept.places) × (bytes ≤ self.new.kept.bytes)) }
@@ -288,10 +303,7 @@ impl<C: UserCmp> MemTable<C> {
         ensures cause { IfErr result IsOutOfMemory }
     {
         let places = self.map.places().max(count as usize);
-        let Some(bytes) = bytes.checked_add(MOST_BESIDE * places) else {
-            return Err(Status::from(AllocError));
-        };
-        self.map.reserve(places, bytes)
+        self.map.reserve(places, bytes + MOST_BESIDE * places)
     }
 
     // Inserts an entry for which there is room. Returns whether it did: an entry of this key and
@@ -329,6 +341,16 @@ fn encode_length(bytes: &mut [u8], number: usize) -> &[u8]
 {
     let used = encode_varint64(bytes, number as u64);
     &bytes[..used]
+}
+
+// The number of bytes of key and value.
+fn byte_count(key: &[u8], value: Option<&[u8]>) -> usize
+    ensures { result ≡ length key.now + value_length (option_copied value.entry) }
+{
+    match value {
+        None => key.len(),
+        Some(value) => key.len() + value.len(),
+    }
 }
 
 // The type of what an entry gives its key, and the bytes of its value; a deletion has none.

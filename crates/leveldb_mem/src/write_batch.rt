@@ -17,7 +17,7 @@ ghost use Rattle.leveldb_mem.specs.WriteBatch.{IsBatch, IsTooLong, AreEntries, C
 ghost use Rattle.leveldb_mem.specs.WriteBatch.{change_encoding, ReadsEntry, borrowed_item};
 ghost use Rattle.leveldb_mem.specs.WriteBatch.{borrowed_entry};
 ghost use Rattle.leveldb_mem.specs.WriteBatchLaws.{IsBatch-prop, AreEntries-prop};
-ghost use Rattle.leveldb_mem.specs.MemTable.{Gains, AreNewTo, GrowsByAll};
+ghost use Rattle.leveldb_mem.specs.MemTable.{IsUnion, AreNewTo, GrowsByAll};
 
 use crate::memtable::MemTable;
 use byteorder::{ByteOrder, LittleEndian};
@@ -184,7 +184,7 @@ impl WriteBatch {
     ) -> Result<()>
         requires { AreNewTo memtable.old.kept.entries (placed seq self.now.items) }
         ensures cmp { memtable.new.cmp ≡ memtable.old.cmp }
-        ensures ok { OnOk result (Gains memtable.old.kept.entries (placed seq self.now.items)
+        ensures ok { OnOk result (IsUnion memtable.old.kept.entries (placed seq self.now.items)
             memtable.new.kept.entries) }
         ensures grows { OnOk result (GrowsByAll memtable.old.kept.entries
             (placed seq self.now.items) memtable.new.kept.entries) }

@@ -46,7 +46,7 @@ PassesFragment (Part type) old text new text_after = PassesPart old text type ne
 PassesFragment WrongChecksum old text new text_after = PassesDamaged old new
 PassesFragment taken old text new text_after = ⊥
 
--- a reader to which so much has come
+-- a reader with these bytes to be read
 abbrev pub with_unread : ReaderState → List ℕ → ReaderState
 with_unread reader bytes = record reader { unread = bytes }
 

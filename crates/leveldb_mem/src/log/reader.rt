@@ -14,6 +14,9 @@ use leveldb_env::env::Source;
 use std::alloc::Global;
 use std::marker::Model;
 
+// The most bytes that are asked of a source at a time.
+const PIECE_SIZE: usize = 4096;
+
 /// What a reader finds in its log.
 #[derive(Clone, Copy, Debug, PartialEq, Eq)]
 pub enum Found {
@@ -113,8 +116,8 @@ impl ReaderCore {
         self.block_size - self.used
     }
 
-    // Reads on until `count` bytes are unread or the source is at its end. Returns whether they
-    // are.
+    // Reads on, if fewer than `count` bytes are unread, until as many are or the source is at its
+    // end. Returns whether they are.
     fn fill<S: Source>(&mut self, source: &mut S, count: usize) -> Result<bool>
         requires { self.old.offset + count ≤ self.old.size }
         ensures reader { IfOk result (λ there.
@@ -129,6 +132,9 @@ impl ReaderCore {
             × (length self.new.unread < count)) }
         ensures err { IfErr result (λ status. GivesUp S.gives source.old status source.new) }
     {
+        if count <= self.filled - self.used {
+            return Ok(true);
+        }
         make_long(&mut self.block, self.block_size)?;
         let needed = self.used + count;
         self.filled = draw(source, &mut self.block, self.filled, needed)?;
@@ -410,7 +416,8 @@ fn draw<S: Source>(source: &mut S, target: &mut [u8], there: usize, needed: usiz
 {
     let mut count = there;
     while count < needed {
-        let more = source.read_some(&mut target[count..])?;
+        let size = PIECE_SIZE.min(target.len() - count);
+        let more = source.read_some(&mut target[count..count + size])?;
         if more == 0 {
             return Ok(count);
         }

@@ -9,3 +9,6 @@ returns-clause-ok g c =
       places = omega (arith, p.0, c.count.ensures);
       bytes = omega (arith, p.1, bytes_in-batch c.contents.ensures);
     }) c.reserve.ensures.ok
+
+pub reserve-requires : goal.reserve-requires
+reserve-requires g c = omega (arith, c.contents.ensures.limited)

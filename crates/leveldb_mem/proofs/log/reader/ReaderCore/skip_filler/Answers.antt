@@ -1,7 +1,7 @@
 use Rattle.std.proofs.Common.{◌≡◌, ◌<◌, ◌-◌, true, false, length, refl, sym, ap, arith}
 use Rattle.std.specs.List.{All}
 use Rattle.std.proofs.lemmas.List.Elements.{All-same}
-use Rattle.leveldb_mem.proofs.TakingLemmas.{takes_end, skips_filler, none_behind_others}
+use Rattle.leveldb_mem.proofs.TakingLemmas.{takes_end, skips_filler, none_unless_filler}
 use Rattle.leveldb_mem.specs.Log.Reader.{whatever_follows}
 use Rattle.leveldb_mem.proofs.log.reader.ReaderCore.skip_filler.Goals as goal
 
@@ -20,7 +20,7 @@ returns-then-not-is_zeros-clause-ok g c = λ text.
     let all = ap length c.unread.ensures.value in
     let count : length bytes ≡ old.size - old.offset = omega (arith, there.1) in
     let other : All (λ byte. byte ≡ 0) bytes → ⊥ = λ zeros. (let no : false ≡ true = c.if-not-is_zeros.ensures.1 (All-same (λ byte. byte ≡ 0) c.unread.result.now bytes c.unread.ensures.value zeros) in cc) in
-    whatever_follows bytes there.0 (none_behind_others old.size old.offset c.requires c.space-space.ensures.inside bytes count other)
+    whatever_follows bytes there.0 (none_unless_filler old.size old.offset c.requires c.space-space.ensures.inside bytes count other)
 
 pub returns-clause-ok : goal.returns-clause-ok
 returns-clause-ok g c =
