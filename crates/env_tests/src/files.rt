@@ -1,11 +1,10 @@
-//! Any sink and any source at work: what a caller knows of the vector, slice or file behind them.
+//! Any sink and any source at work: what a caller knows of the vector, slice or file that they
+//! write or read.
 ghost use Rattle.std.specs.Prelude.{◌≡◌, ◌≢◌, ◌⊎◌, ◌++◌, false, ℕ, List, All, IfOk, IfErr, OnOk, IsTrue};
 ghost use Rattle.std.specs.Str.{bytes_eq};
-ghost use Rattle.leveldb_env.specs.Disk.{Files, kept_file};
-ghost use Rattle.leveldb_env.specs.Times.{Since};
-ghost use Rattle.leveldb_env.specs.Runs.{Run};
-ghost use Rattle.leveldb_env.specs.Sinks.{PutsAll, PutsPart};
-ghost use Rattle.leveldb_env.specs.OpenFiles.{opened, Syncs, IsLonger, IsPartlyPut};
+ghost use Rattle.leveldb_env.specs.Env.{Files, kept_file, Since, Run};
+ghost use Rattle.leveldb_env.specs.Sink.{PutsAll, PutsPart};
+ghost use Rattle.leveldb_env.specs.EnvFile.{opened, Syncs, IsLonger, IsPartlyAppended};
 
 use crate::checks::failed_with;
 use crate::disks::no_tails;
@@ -19,7 +18,8 @@ use std::process::Abort;
 
 fn put_pair<S: Sink>(sink: &mut S, first: &[u8], second: &[u8]) -> Result<()>
     ensures ok { OnOk result (PutsAll S.puts sink.old (first.now ++ second.now) sink.new) }
-    ensures err { IfErr result (λ status. (bytes : List ℕ) × PutsPart S.puts sink.old bytes status sink.new) }
+    ensures err { IfErr result
+        (λ status. (bytes : List ℕ) × PutsPart S.puts sink.old bytes status sink.new) }
 {
     sink.put_all(first)?;
     sink.put_all(second)
@@ -34,11 +34,11 @@ fn pair(alloc: Global, first: &[u8], second: &[u8]) -> Result<Vec<u8>>
     Ok(all)
 }
 
-fn put_pair_behind(all: &mut Vec<u8>, first: &[u8], second: &[u8]) -> Result<()>
+fn put_pair_after(all: &mut Vec<u8>, first: &[u8], second: &[u8]) -> Result<()>
     ensures { OnOk result (all.new.items ≡ all.old.items ++ (first.now ++ second.now)) }
 {
-    let mut lent = all;
-    put_pair(&mut lent, first, second)
+    let mut borrowed = all;
+    put_pair(&mut borrowed, first, second)
 }
 
 fn put_pair_in_file<E: Env>(
@@ -47,8 +47,12 @@ fn put_pair_in_file<E: Env>(
     first: &[u8],
     second: &[u8],
 ) -> Result<()>
-    ensures ok { OnOk result (IsLonger E.Env (opened env.old file.old) (first.now ++ second.now) (opened env.new file.new)) }
-    ensures err { IfErr result (λ status. (bytes : List ℕ) × IsPartlyPut E.Env (opened env.old file.old) bytes status (opened env.new file.new)) }
+    ensures ok { OnOk result
+        (IsLonger E.Env (opened env.old file.old) (first.now ++ second.now)
+        (opened env.new file.new)) }
+    ensures err { IfErr result
+        (λ status. (bytes : List ℕ)
+        × IsPartlyAppended E.Env (opened env.old file.old) bytes status (opened env.new file.new)) }
 {
     put_pair(&mut EnvFile { env, file }, first, second)
 }
@@ -69,8 +73,9 @@ fn rest_of(alloc: Global, bytes: &[u8]) -> Result<Vec<u8>>
 /// A crash at any moment leaves the old file or the new one, where the old one was kept.
 fn replace_kept<E: Env>(env: &mut E, temp: &str, name: &str, bytes: &[u8]) -> Result<()>
     requires { temp.now ≢ name.now }
-    ensures { IsTrue E.tells_disk → (was : List ℕ) → (E.tells env.old).disk.files name.now ≡ Some (kept_file was)
-        → (files left : Files) → Since (E.tells env.new) (E.tells env.old).moment files left
+    ensures { IsTrue E.models_disk → (was : List ℕ)
+        → (E.observed env.old).disk.files name.now ≡ Some (kept_file was)
+        → (files left : Files) → Since (E.observed env.new) (E.observed env.old).moment files left
         → (left name.now ≡ Some (kept_file was)) ⊎ (left name.now ≡ Some (kept_file bytes.now)) }
 {
     replace_file(env, temp, name, bytes)
@@ -79,9 +84,9 @@ fn replace_kept<E: Env>(env: &mut E, temp: &str, name: &str, bytes: &[u8]) -> Re
 /// One file after another gets these bytes, each by way of the same temporary file.
 fn replace_each<E: Env>(env: &mut E, temp: &str, names: &[&str], bytes: &[u8]) -> Result<()>
     requires { All (λ name. temp.now ≢ name.now) names.now }
-    ensures passes { IsTrue E.tells_disk → let first = (E.tells env.old).disk.files in
+    ensures passes { IsTrue E.models_disk → let first = (E.observed env.old).disk.files in
         Run (λ files. (other : List ℕ) → bytes_eq temp.now other ≡ false → (files other ≡ first other) ⊎ (files other ≡ Some (kept_file bytes.now)))
-        (E.tells env.old) (E.tells env.new) }
+        (E.observed env.old) (E.observed env.new) }
     ensures counted { OnOk result (E.failures env.new ≡ E.failures env.old) }
 {
     for name in names {
@@ -93,7 +98,7 @@ fn replace_each<E: Env>(env: &mut E, temp: &str, names: &[&str], bytes: &[u8]) -
 #[test]
 fn bytes_are_appended(rt: HostRuntime) -> Result<()> {
     let mut all = pair(rt.alloc(), b"ab", b"c")?;
-    put_pair_behind(&mut all, b"", b"de")?;
+    put_pair_after(&mut all, b"", b"de")?;
     assert!(rt; all.as_slice() == b"abcde".as_slice());
     let mut borrowed = &mut all;
     borrowed.flush()?;

@@ -1,4 +1,4 @@
-//! The tests of environments, filters and coders.
+//! The tests of environments, filters and compressors.
 #![tactic(auto)]
 
 #[cfg(test)]

@@ -9,7 +9,8 @@ use leveldb_env::mem_env::{MemEnv, MemHandle};
 use std::alloc::{AllocError, Global};
 use std::process::Abort;
 
-/// Appends a name with what `left`, the disk that a crash leaves, keeps of its file, and what was appended since.
+/// Appends a name with what `left`, the disk that a crash leaves, keeps of its file, and what was
+/// appended since.
 fn show(
     text: &mut Vec<u8>,
     env: &mut MemEnv,
@@ -93,7 +94,8 @@ fn run_twice(
     Ok([first, code_of(&run(env, rt.alloc(), call))])
 }
 
-/// A call that is out of memory leaves the files as they were, and is made again; the test then ends with that error.
+/// A call that is out of memory leaves the files as they were, and is made again; the test then
+/// ends with that error.
 #[test]
 fn calls_are_done_at_once_or_not_at_all(rt: HostRuntime) -> Result<()> {
     let mut env = MemEnv::new(rt.alloc());

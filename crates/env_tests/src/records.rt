@@ -53,8 +53,8 @@ fn shown(env: &RecordEnv, alloc: Global, moment: u64, after: bool) -> Result<Vec
     Ok(text)
 }
 
-/// Each row is a call, with how it's chosen to fail, its answer's code, the files inside it on either
-/// side, and the files after it.
+/// Each row is a call, with how it's chosen to fail, the code that it returns, the files inside it
+/// on either side, and the files after it.
 type Row = (
     Call,
     Option<bool>,
@@ -129,7 +129,8 @@ fn assert_shown(
     Ok(())
 }
 
-/// Asserts a row's files before its call at `moment`, which are those inside the call on either side, and after it.
+/// Asserts a row's files before its call at `moment`, which are those inside the call on either
+/// side, and after it.
 fn assert_moments(
     rt: &(impl Abort + AllocGlobal),
     env: &RecordEnv,
@@ -176,7 +177,8 @@ const EACH_CALL: [Call; 18] = [
     Call::Micros,
 ];
 
-/// Asserts of a run of all calls that the chosen one and no other returns `IOError`, and that each call is counted.
+/// Asserts of a run of all calls that the chosen one and no other returns `IOError`, and that each
+/// call is counted.
 fn assert_fails(rt: &(impl Abort + AllocGlobal), chosen: usize, done: bool) -> Result<()> {
     let mut env = RecordEnv::new(rt.alloc());
     env.fail(u64::try_from(chosen).unwrap_or(0).saturating_add(1), done);

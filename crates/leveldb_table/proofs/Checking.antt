@@ -5,8 +5,8 @@ use Rattle.std.proofs.lemmas.Bool.{eqb-true}
 use Rattle.std.proofs.lemmas.List.{append-nil, append_cancel_left, nil_from_length}
 use Rattle.std.proofs.lemmas.List.Elements.{All-nil, All-push}
 use Rattle.std.specs.declared.cmp.Ordering.{Ordering}
-use Rattle.leveldb_env.specs.Numbers.{numbers_in}
-use Rattle.leveldb_env.specs.NumberLaws.{numbers_more, numbers_none}
+use Rattle.leveldb_env.specs.FilterBlock.{numbers_in}
+use Rattle.leveldb_env.proofs.FilterBlockLemmas.{numbers_more, numbers_none}
 use Rattle.leveldb_table.specs.Block.{Entry, spelling, entry_bytes, key_of, pairs_of, IsShort, SharesFrom, AreEntries, RiseBehind, points_from, restart_points}
 use Rattle.leveldb_table.specs.BlockLaws.{entry_of, same_parts, one_entry, length-entry_bytes-ge, begins, points_after, restart_told, points_left}
 use Rattle.leveldb_table.specs.Reading.{ReadsEntry, key_before, CanFollow, AreParts, Checks}

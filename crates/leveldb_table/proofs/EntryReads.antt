@@ -1,14 +1,13 @@
 -- What reading the parts of an entry, one behind the other, finds.
-use Rattle.std.proofs.Common.{◌≡◌, ℕ, ◌+◌, ◌^◌, ◌<◌, ◌≤◌, true, false, nat_eq, List, [], ◌∷◌, ◌++◌, length, drop, None, sym, ◌∙◌, ap, arith, length-append, length-drop}
-use Rattle.std.proofs.Common.{inl, inr, leb}
+use Rattle.std.proofs.Common.{◌≡◌, ℕ, ◌+◌, ◌^◌, ◌<◌, ◌≤◌, true, false, nat_eq, List, [], ◌∷◌, ◌++◌, length, drop, None, sym, ◌∙◌, ap, arith, length-append, length-drop, inl, inr, leb}
 use Rattle.std.proofs.lemmas.Bool.{cases_lt, lt-leb, eqb-true}
 use Rattle.std.proofs.lemmas.List.{take-append-drop}
 use Rattle.std.specs.List.{IsSplitAt}
 use Rattle.byteorder.specs.Endian.{little_number}
 use Rattle.leveldb_base.specs.Varint.{varint}
 use Rattle.leveldb_base.proofs.VarintLemmas.{one_number}
-use Rattle.leveldb_env.specs.Numbers.{numbers_in}
-use Rattle.leveldb_env.specs.NumberLaws.{numbers_more, numbers_none}
+use Rattle.leveldb_env.specs.FilterBlock.{numbers_in}
+use Rattle.leveldb_env.proofs.FilterBlockLemmas.{numbers_more, numbers_none}
 use Rattle.leveldb_table.specs.Block.{Entry, spelling, entry_bytes, IsShort}
 use Rattle.leveldb_table.specs.BlockLaws.{spread, begins, points_after, entry_of}
 use Rattle.leveldb_table.specs.Reading.{ReadsNumber, ReadsEntry}

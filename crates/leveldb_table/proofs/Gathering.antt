@@ -4,8 +4,7 @@ use Rattle.std.proofs.Math.Seq.{take-add, take-append-add}
 use Rattle.std.proofs.lemmas.List.{drop-drop, length-take-le, take_all, take_at, take-append-le}
 use Rattle.std.specs.Prelude.{IsTrue, IsSomeAnd}
 use borrow.Rule.Slice.PartMut.{put_mid, post_of}
-use Rattle.leveldb_env.specs.Calls.{Does, Still, SameLocks, HasCause, IsMissing, ReadsFrom, ReadsAt}
-use Rattle.leveldb_env.specs.Disk.{File, Files, bytes_of}
+use Rattle.leveldb_env.specs.Env.{ChangesFiles, FilesUnchanged, SameLocks, HasCause, IsMissing, ReadsFrom, ReadsAt, File, Files, bytes_of}
 use Rattle.leveldb_env.specs.declared.env.Env.{Ghosts}
 use Rattle.leveldb_table.specs.TableReads.{EndsBefore, Looks, Whatever}
 use Rattle.leveldb_table.proofs.TableCalls.{Looks-refl, Looks-trans, Looks-call, Has-after}
@@ -53,20 +52,20 @@ module _ {E F : Type 0} (env : Ghosts E F) where
 
   module _ (old mid : E) (file : F) (place : ℕ) (read : List ℕ) (gathers : Gathers old file place read mid) where
     -- what a read behind them gives of the file's bytes
-    next_is : (next count : ℕ) (target : List ℕ) → (IsTrue env.tells_disk → ReadsAt ((env.tells mid).disk.files (env.name_of file)) next count target)
+    next_is : (next count : ℕ) (target : List ℕ) → (IsTrue env.models_disk → ReadsAt ((env.observed mid).disk.files (env.name_of file)) next count target)
         → Whatever env old file (ReadsFrom next count target)
     next_is next count target reads bytes has =
         let there = Has-after env gathers.looks has in
-        reads_of ((env.tells mid).disk.files (env.name_of file)) there.there (reads has.told)
+        reads_of ((env.observed mid).disk.files (env.name_of file)) there.there (reads has.told)
 
     behind_is : (next : ℕ) (bytes : List ℕ) → next ≡ place + length read → drop (length read) (drop place bytes) ≡ drop next bytes
     behind_is next bytes at = drop-drop (length read) place bytes ∙ ap (λ n. drop n bytes) (sym at)
 
     -- one read more
     pub gathers_more : {new : E} {change : Files → Files} (next count : ℕ) (target more : List ℕ) → next ≡ place + length read → count ≤ length target → more ≡ read ++ take count target
-        → Does {T = ℕ} env.tells_disk change Still (env.tells mid) (env.tells new) (Ok count) → SameLocks env.tells_disk (env.tells mid) (env.tells new)
-        → HasCause {T = ℕ} (IsMissing env.tells_disk (env.name_of file) (env.tells mid)) (env.failures mid) (env.failures new) (Ok count)
-        → (IsTrue env.tells_disk → ReadsAt ((env.tells mid).disk.files (env.name_of file)) next count target) → Gathers old file place more new
+        → ChangesFiles {T = ℕ} env.models_disk change FilesUnchanged (env.observed mid) (env.observed new) (Ok count) → SameLocks env.models_disk (env.observed mid) (env.observed new)
+        → HasCause {T = ℕ} (IsMissing env.models_disk (env.name_of file) (env.observed mid)) (env.failures mid) (env.failures new) (Ok count)
+        → (IsTrue env.models_disk → ReadsAt ((env.observed mid).disk.files (env.name_of file)) next count target) → Gathers old file place more new
     gathers_more next count target more at fits is does locks cause reads = record {
       looks = Looks-trans env gathers.looks (Looks-call env does locks);
       counted = cause.ok ∙ gathers.counted;
@@ -80,7 +79,7 @@ module _ {E F : Type 0} (env : Ghosts E F) where
 
     -- no bytes come where some are wanted: the file ends before
     pub ends_here : (size next : ℕ) (target : List ℕ) → length read < size → next ≡ place + length read → 0 < length target
-        → (IsTrue env.tells_disk → ReadsAt ((env.tells mid).disk.files (env.name_of file)) next 0 target) → Whatever env old file (λ bytes. EndsBefore bytes place size)
+        → (IsTrue env.models_disk → ReadsAt ((env.observed mid).disk.files (env.name_of file)) next 0 target) → Whatever env old file (λ bytes. EndsBefore bytes place size)
     ends_here size next target wanted at room reads bytes has =
         let from = next_is next 0 target reads bytes has in
         ⊎_elim (λ (none : target ≡ []). absurd (omega (arith, room, ap length none)))

@@ -11,7 +11,7 @@ use Rattle.byteorder.specs.Endian.{little_number}
 use Rattle.leveldb_base.specs.Cmp.{IsPreorderOn}
 use Rattle.leveldb_base.specs.Types.{Pair, count_before}
 use Rattle.leveldb_base.specs.Varint.{little}
-use Rattle.leveldb_env.specs.NumberLaws.{length-fours, number_at}
+use Rattle.leveldb_env.proofs.FilterBlockLemmas.{length-fours, number_at}
 use Rattle.leveldb_table.specs.Block.{Entry, entry_bytes, pairs_of, RiseBehind, KeysRise, restart_points, block_bytes, IsHeld}
 use Rattle.leveldb_table.specs.Reading.{ReadsEntry}
 use Rattle.leveldb_table.specs.Walk.{begun, HasKeyAt, StartsBy, Loads}

@@ -9,12 +9,11 @@ use Rattle.std.proofs.lemmas.Bool.{and_parts}
 use Rattle.leveldb_base.specs.Cmp.{internal_accepts, IsPreorderOn}
 use Rattle.leveldb_base.specs.KeyTypes.{internal_cmp, sequence_part, user_part}
 use Rattle.leveldb_base.specs.Types.{Pair}
-use Rattle.leveldb_env.specs.Coders.{Codings}
+use Rattle.leveldb_env.specs.Compressor.{Codings}
 use Rattle.leveldb_env.specs.FilterBlock.{passes}
 use Rattle.leveldb_table.specs.Block.{RiseBehind, KeysRise}
-use Rattle.leveldb_table.specs.Table.{Part, UpTo, After, AreParted, PartPasses, AllPass, named_part}
+use Rattle.leveldb_table.specs.Table.{Part, UpTo, After, AreParted, PartPasses, AllPass, named_part, AreAccepted}
 use Rattle.leveldb_table.specs.TableBuilding.{GoesByUsers}
-use Rattle.leveldb_table.specs.Table.{AreAccepted}
 use Rattle.leveldb_table.specs.TableReading.{HasParts, KeepsTogether, HasNoneFrom, pairs_in}
 use Rattle.leveldb_table.proofs.TableOrders.{all_append, all_left, all_right, all_with, rise_right, then_less, turned_from}
 

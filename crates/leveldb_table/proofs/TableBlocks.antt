@@ -5,9 +5,9 @@ use Rattle.leveldb_base.specs.BlockHandle.{Handle}
 use Rattle.leveldb_base.specs.Types.{Pair}
 use Rattle.leveldb_base.specs.declared.error.Status.{Status}
 use Rattle.leveldb_base.specs.declared.error.StatusCode.TheVariants.{Corruption}
-use Rattle.leveldb_env.specs.Calls.{NoMemory}
+use Rattle.leveldb_base.specs.Error.{IsOutOfMemory}
 use Rattle.leveldb_env.specs.declared.env.Env.{Ghosts}
-use Rattle.leveldb_env.specs.Coders.{Coding, Codings, Decodes, IsUnset, RefusesWith, decoded_by, decoded_under}
+use Rattle.leveldb_env.specs.Compressor.{Coding, Codings, Decodes, IsUnset, IsDecodeError, decoded_by, decoded_under}
 use Rattle.leveldb_table.specs.Block.{IsNoBlock, IsBlock}
 use Rattle.leveldb_table.specs.Table.{StoresAt, HasBlockAt}
 use Rattle.leveldb_table.specs.TableReads.{Whatever, StoresNothing, LacksBlock, unstored, undecoded, no_block, IsDamaged, IsLacking, IsUndecodedBy, IsUndecoded}
@@ -56,12 +56,12 @@ module _ {E F : Type 0} (env : Ghosts E F) (codings : Codings) (cmp : List ℕ �
 
     module _ {coding : Coding} (coder : codings id ≡ Some coding) where
       -- their coder refuses them
-      pub lacks_text : {status : Status} → NoMemory status ⊎ ((coding.decoded stored ≡ None) × RefusesWith coding status) → NoMemory status ⊎ Lacks status
+      pub lacks_text : {status : Status} → IsOutOfMemory status ⊎ IsDecodeError coding stored status → IsOutOfMemory status ⊎ Lacks status
       lacks_text {status} why = ⊎_elim (λ memory. inl memory)
-          (λ (none : (coding.decoded stored ≡ None) × RefusesWith coding status). inr (lacks_decoded status (subst (λ o. IsUndecodedBy o id stored status) (sym coder) none))) why
+          (λ (none : IsDecodeError coding stored status). inr (lacks_decoded status (subst (λ o. IsUndecodedBy o id stored status) (sym coder) none))) why
 
       -- they are decoded to what is no block
-      pub lacks_block : {text : List ℕ} → coding.decoded stored ≡ Some text → (status : Status) → NoMemory status ⊎ ((status.code ≡ Corruption) × IsNoBlock cmp text) → NoMemory status ⊎ Lacks status
+      pub lacks_block : {text : List ℕ} → coding.decoded stored ≡ Some text → (status : Status) → IsOutOfMemory status ⊎ ((status.code ≡ Corruption) × IsNoBlock cmp text) → IsOutOfMemory status ⊎ Lacks status
       lacks_block {text} coded status why = ⊎_elim (λ memory. inl memory) (λ (damaged : (status.code ≡ Corruption) × IsNoBlock cmp text). inr (
         inl damaged.0,
         λ bytes has. no_block text (record { id = id; stored = stored; stands = stands bytes has; coded = ap (λ o. decoded_under o stored) coder ∙ coded }) damaged.1 damaged.0,

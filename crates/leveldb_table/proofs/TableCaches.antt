@@ -9,7 +9,7 @@ use Rattle.leveldb_base.specs.BlockHandle.{Handle}
 use Rattle.leveldb_base.specs.Varint.{little}
 use Rattle.leveldb_base.proofs.VarintLemmas.{apart}
 use Rattle.leveldb_base.specs.declared.cmp.Cmp.{Ghosts as CmpGhosts}
-use Rattle.leveldb_env.specs.Coders.{Codings, Decodes}
+use Rattle.leveldb_env.specs.Compressor.{Codings, Decodes}
 use Rattle.leveldb_table.specs.Cache.{Cached, value_of, others, looked_for, put_first}
 use Rattle.leveldb_table.specs.Table.{HasBlockAt}
 use Rattle.leveldb_table.specs.TableCached.{cache_key, IsOf, HoldsOf, Gathers, IsHeldAt, IsNumbered}

@@ -3,15 +3,15 @@ use Rattle.std.proofs.Common.{◌≡◌, ◌⊎◌, ℕ, List, Result, Ok, Err, 
 use Rattle.std.specs.Prelude.{IfErr, IsTrue, IsSomeAnd, IsErrAnd, ◌+◌}
 use Rattle.leveldb_base.specs.declared.error.Status.{Status}
 use Rattle.leveldb_base.specs.declared.error.StatusCode.TheVariants.{Corruption}
-use Rattle.leveldb_env.specs.Calls.{Does, Still, SameLocks, HasCause, NoMemory, IsMissing}
-use Rattle.leveldb_env.specs.Disk.{Files, bytes_of, same}
-use Rattle.leveldb_env.specs.Runs.{Run-call, Run-trans, begun, cause_refused}
+use Rattle.leveldb_env.specs.Env.{ChangesFiles, FilesUnchanged, SameLocks, HasCause, IsMissing, Files, bytes_of, same}
+use Rattle.leveldb_base.specs.Error.{IsOutOfMemory}
+use Rattle.leveldb_env.proofs.EnvLemmas.{Run-call, Run-trans, begun, cause_refused}
 use Rattle.leveldb_env.specs.declared.env.Env.{Ghosts}
 use Rattle.leveldb_table.specs.TableReads.{Looks, Has, FailsFor, Reads, Whatever}
 
 -- what is refused with Corruption only where something is missing, and else for want of memory
 pub damaged_or_memory : {T Missing : Type 0} (result : Result T Status) → (IsErrAnd result (λ status. status.code ≡ Corruption) → Missing)
-    → IfErr result (λ status. (status.code ≡ Corruption) ⊎ NoMemory status) → IfErr result (λ status. NoMemory status ⊎ ((status.code ≡ Corruption) × Missing))
+    → IfErr result (λ status. (status.code ≡ Corruption) ⊎ IsOutOfMemory status) → IfErr result (λ status. IsOutOfMemory status ⊎ ((status.code ≡ Corruption) × Missing))
 damaged_or_memory (Ok answer) missing cause = tt
 damaged_or_memory (Err status) missing cause = ⊎_elim (λ code. inr (code, missing code)) (λ memory. inl memory) cause
 
@@ -19,24 +19,24 @@ module _ {E F : Type 0} (env : Ghosts E F) where
   -- ---- looking
 
   -- the disk's files, where it is told
-  pub same_files : {old new : E} → Looks env old new → IsTrue env.tells_disk → (env.tells new).disk.files ≡ (env.tells old).disk.files
-  same_files looks tells = (looks.disk tells).has
+  pub same_files : {old new : E} → Looks env old new → IsTrue env.models_disk → (env.observed new).disk.files ≡ (env.observed old).disk.files
+  same_files looks modelled = (looks.disk modelled).has
 
   -- no call
   pub Looks-refl : (state : E) → Looks env state state
-  Looks-refl state = record { disk = λ tells. begun (env.tells state) refl; locks = λ tells. refl }
+  Looks-refl state = record { disk = λ modelled. begun (env.observed state) refl; locks = λ modelled. refl }
 
   -- one after another
   pub Looks-trans : {old mid new : E} → Looks env old mid → Looks env mid new → Looks env old new
   Looks-trans {old} {mid} {new} first second = record {
-    disk = λ tells. Run-trans (first.disk tells) (λ files e. e ∙ same_files first tells) (second.disk tells);
-    locks = λ tells. second.locks tells ∙ first.locks tells;
+    disk = λ modelled. Run-trans (first.disk modelled) (λ files e. e ∙ same_files first modelled) (second.disk modelled);
+    locks = λ modelled. second.locks modelled ∙ first.locks modelled;
   }
 
   -- one call that leaves the files as they are
-  pub Looks-call : {T : Type 0} {old new : E} {change : Files → Files} {result : Result T Status} → Does env.tells_disk change Still (env.tells old) (env.tells new) result
-      → SameLocks env.tells_disk (env.tells old) (env.tells new) → Looks env old new
-  Looks-call does locks = record { disk = λ tells. Run-call tells does; locks = locks }
+  pub Looks-call : {T : Type 0} {old new : E} {change : Files → Files} {result : Result T Status} → ChangesFiles env.models_disk change FilesUnchanged (env.observed old) (env.observed new) result
+      → SameLocks env.models_disk (env.observed old) (env.observed new) → Looks env old new
+  Looks-call does locks = record { disk = λ modelled. Run-call modelled does; locks = locks }
 
   -- ---- what a file has
 
@@ -54,14 +54,14 @@ module _ {E F : Type 0} (env : Ghosts E F) where
   -- ---- why a call fails
 
   -- a name that is missing after a look was missing before it
-  missing_before : {old mid : E} {name : List ℕ} {status : Status} → Looks env old mid → IsMissing env.tells_disk name (env.tells mid) status → IsMissing env.tells_disk name (env.tells old) status
+  missing_before : {old mid : E} {name : List ℕ} {status : Status} → Looks env old mid → IsMissing env.models_disk name (env.observed mid) status → IsMissing env.models_disk name (env.observed old) status
   missing_before {name = name} looks missing = ⊎_elim (λ memory. inl memory)
-      (λ none. inr (none.0, λ tells. sym (ap (λ files. files name) (same_files looks tells)) ∙ none.1 tells)) missing
+      (λ none. inr (none.0, λ modelled. sym (ap (λ files. files name) (same_files looks modelled)) ∙ none.1 modelled)) missing
 
   -- and one that was missing before it is missing after it
-  missing_after : {old mid : E} {name : List ℕ} {status : Status} → Looks env old mid → IsMissing env.tells_disk name (env.tells old) status → IsMissing env.tells_disk name (env.tells mid) status
+  missing_after : {old mid : E} {name : List ℕ} {status : Status} → Looks env old mid → IsMissing env.models_disk name (env.observed old) status → IsMissing env.models_disk name (env.observed mid) status
   missing_after {name = name} looks missing = ⊎_elim (λ memory. inl memory)
-      (λ none. inr (none.0, λ tells. ap (λ files. files name) (same_files looks tells) ∙ none.1 tells)) missing
+      (λ none. inr (none.0, λ modelled. ap (λ files. files name) (same_files looks modelled) ∙ none.1 modelled)) missing
 
   -- an Ok call
   pub fails_ok : {T : Type 0} {Why : Status → Type 0} {old new : E} {file : F} {answer : T} → env.failures new ≡ env.failures old → FailsFor env Why old file new (Ok answer)
@@ -69,7 +69,7 @@ module _ {E F : Type 0} (env : Ghosts E F) where
 
   -- a refusal of the code's own, behind Ok calls, or for want of memory
   pub fails_own : {T : Type 0} {Why P : Status → Type 0} {old new : E} {file : F} (result : Result T Status) → env.failures new ≡ env.failures old → IsErrAnd result P
-      → ((status : Status) → P status → NoMemory status ⊎ Why status) → FailsFor env Why old file new result
+      → ((status : Status) → P status → IsOutOfMemory status ⊎ Why status) → FailsFor env Why old file new result
   fails_own (Ok answer) counted refused why = absurd refused
   fails_own (Err status) counted refused why = record {
     later = omega (arith, counted);
@@ -80,7 +80,7 @@ module _ {E F : Type 0} (env : Ghosts E F) where
 
   -- one call of the environment
   pub fails_call : {T : Type 0} {Why : Status → Type 0} {old new : E} {file : F} (result : Result T Status)
-      → HasCause (IsMissing env.tells_disk (env.name_of file) (env.tells old)) (env.failures old) (env.failures new) result → FailsFor env Why old file new result
+      → HasCause (IsMissing env.models_disk (env.name_of file) (env.observed old)) (env.failures old) (env.failures new) result → FailsFor env Why old file new result
   fails_call (Ok answer) cause = record { later = cause.later; ok = cause.ok; uncounted = tt; cause = tt }
   fails_call (Err status) cause = record {
     later = cause.later;
@@ -121,25 +121,25 @@ module _ {E F : Type 0} (env : Ghosts E F) where
 
   -- Ok calls, and then a refusal of the code's own or for want of memory
   pub reads_own : {T : Type 0} {Why P : Status → Type 0} {old new : E} {file : F} (result : Result T Status) → Looks env old new → env.failures new ≡ env.failures old → IsErrAnd result P
-      → ((status : Status) → P status → NoMemory status ⊎ Why status) → Reads env Why old file new result
+      → ((status : Status) → P status → IsOutOfMemory status ⊎ Why status) → Reads env Why old file new result
   reads_own result looks counted refused why = record { looks = looks; cause = fails_own result counted refused why }
 
   -- Ok calls, and then another's refusal that is passed on
   pub reads_passed : {T : Type 0} {Why : Status → Type 0} {old new : E} {file : F} {status : Status} (result : Result T Status) → Looks env old new → env.failures new ≡ env.failures old
-      → IsErrAnd result (λ other. other ≡ status) → NoMemory status ⊎ Why status → Reads env Why old file new result
+      → IsErrAnd result (λ other. other ≡ status) → IsOutOfMemory status ⊎ Why status → Reads env Why old file new result
   reads_passed {Why = Why} {status = status} result looks counted refused why =
-      reads_own {P = λ other. other ≡ status} result looks counted refused (λ other is. subst (λ z. NoMemory z ⊎ Why z) (sym is) why)
+      reads_own {P = λ other. other ≡ status} result looks counted refused (λ other is. subst (λ z. IsOutOfMemory z ⊎ Why z) (sym is) why)
 
   -- Ok calls, and then an answer of the code's own, which may be a refusal
   pub reads_ends : {T : Type 0} {Why : Status → Type 0} {old new : E} {file : F} (result : Result T Status) → Looks env old new → env.failures new ≡ env.failures old
-      → IfErr result (λ status. NoMemory status ⊎ Why status) → Reads env Why old file new result
+      → IfErr result (λ status. IsOutOfMemory status ⊎ Why status) → Reads env Why old file new result
   reads_ends (Ok answer) looks counted why = reads_ok looks counted
   reads_ends {Why = Why} (Err status) looks counted why = reads_passed {Why = Why} (Err status) looks counted refl why
 
   -- one call of the environment
   pub reads_call : {T : Type 0} {Why : Status → Type 0} {old new : E} {file : F} {change : Files → Files} (result : Result T Status)
-      → Does env.tells_disk change Still (env.tells old) (env.tells new) result → SameLocks env.tells_disk (env.tells old) (env.tells new)
-      → HasCause (IsMissing env.tells_disk (env.name_of file) (env.tells old)) (env.failures old) (env.failures new) result → Reads env Why old file new result
+      → ChangesFiles env.models_disk change FilesUnchanged (env.observed old) (env.observed new) result → SameLocks env.models_disk (env.observed old) (env.observed new)
+      → HasCause (IsMissing env.models_disk (env.name_of file) (env.observed old)) (env.failures old) (env.failures new) result → Reads env Why old file new result
   reads_call result does locks cause = record { looks = Looks-call does locks; cause = fails_call result cause }
 
   -- a call behind Ok ones, whose reason is one of the whole's

@@ -8,7 +8,7 @@ use Rattle.std.specs.declared.cmp.Ordering.TheVariants.{Less, Equal, Greater}
 use Rattle.leveldb_base.specs.Cmp.{IsPreorderOn, IsSeparator}
 use Rattle.leveldb_base.specs.CmpLaws.{itself_equal}
 use Rattle.leveldb_base.specs.Types.{Pair}
-use Rattle.leveldb_env.specs.FilterBlock.{Building, IsKept, KeepsKeys, finished, passes}
+use Rattle.leveldb_env.specs.FilterBlock.{FiltersBuilt, IsKeyKept, KeepsKeys, finished, passes}
 use Rattle.leveldb_table.specs.Block.{RiseBehind, KeysRise}
 use Rattle.leveldb_table.specs.Built.{last_added}
 use Rattle.leveldb_table.specs.Table.{Part, IsPart, UpTo, After, AreParted, PartPasses, AllPass, filter_key}
@@ -209,11 +209,11 @@ separated_last sep (part ∷ parts) next other e h = subst (AreSeparated sep (pa
 -- ---- filters
 
 -- what is kept for an offset passes there at the end
-module _ {FP : Type 0} (make : FP → List (List ℕ) → List ℕ) (matches : FP → List ℕ → List ℕ → Bool) (keeps : KeepsKeys FP make matches) (building : Building FP) where
+module _ {FP : Type 0} (make : FP → List (List ℕ) → List ℕ) (matches : FP → List ℕ → List ℕ → Bool) (keeps : KeepsKeys FP make matches) (building : FiltersBuilt FP) where
   pub part_passes : (offset : ℕ) (pairs : List Pair) → KeepsAll (matches building.policy) building offset pairs
       → PartPasses (matches building.policy) (finished (make building.policy) building.filters building.keys) offset pairs
   part_passes offset pairs =
-      all_with (λ pair. IsKept (matches building.policy) building.filters building.keys offset pair.0)
+      all_with (λ pair. IsKeyKept (matches building.policy) building.filters building.keys offset pair.0)
       (λ pair. passes (matches building.policy) (finished (make building.policy) building.filters building.keys) offset pair.0 ≡ true) (λ pair. keeps.finishes building offset pair.0) pairs
 
   pub parts_pass : (parts : List Part) → AllByRecursion (λ part. KeepsAll (matches building.policy) building part.handle.offset part.pairs) parts

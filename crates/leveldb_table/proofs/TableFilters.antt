@@ -7,7 +7,7 @@ use Rattle.std.proofs.lemmas.List.{append-nil}
 use Rattle.std.proofs.lemmas.List.Concat.{flat_map-append}
 use Rattle.std.specs.List.{AllByRecursion}
 use Rattle.leveldb_base.specs.Types.{Pair}
-use Rattle.leveldb_env.specs.FilterBlock.{Building, filter_of, with_filters, started}
+use Rattle.leveldb_env.specs.FilterBlock.{FiltersBuilt, filter_of, with_filters, started}
 use Rattle.leveldb_table.specs.Table.{Part, AreLinked, blocks_len, keys_for, filters_before}
 use Rattle.leveldb_table.proofs.TableOrders.{all_append, all_with}
 
@@ -70,7 +70,7 @@ module _ (make : List (List ℕ) → List ℕ) where
       ∙ append_assoc (filters_before make parts n) (filter_of make (keys_for n parts) ∷ replicate others []) ([] ∷ [])
       ∙ ap (λ z. filters_before make parts n ++ filter_of make (keys_for n parts) ∷ z) (replicate_push others)
 
-  module _ {FP : Type 0} (old : Building FP) (parts : List Part) (part : Part) (end : ℕ) (filters : old.filters ≡ filters_before make parts (part.handle.offset / 2048))
+  module _ {FP : Type 0} (old : FiltersBuilt FP) (parts : List Part) (part : Part) (end : ℕ) (filters : old.filters ≡ filters_before make parts (part.handle.offset / 2048))
       (keys : old.keys ≡ keys_for (part.handle.offset / 2048) parts ++ keys_of part.pairs) (reaches : part.handle.offset ≤ end) (before : AllByRecursion (λ p. p.handle.offset ≤ part.handle.offset) parts) where
     abbrev all_parts : List Part
     all_parts = parts ++ part ∷ []

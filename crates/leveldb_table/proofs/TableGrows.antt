@@ -8,7 +8,7 @@ use Rattle.std.specs.declared.cmp.Ordering.{Ordering}
 use Rattle.std.specs.declared.cmp.Ordering.TheVariants.{Less}
 use Rattle.leveldb_base.specs.BlockHandle.{Handle, handle_bytes}
 use Rattle.leveldb_base.specs.Types.{Pair}
-use Rattle.leveldb_env.specs.FilterBlock.{Building, with_key, started, IsKept, KeepsKeys}
+use Rattle.leveldb_env.specs.FilterBlock.{FiltersBuilt, with_key, started, IsKeyKept, KeepsKeys}
 use Rattle.leveldb_table.specs.Block.{Entry, pairs_of, KeysRise}
 use Rattle.leveldb_table.specs.Built.{last_added, block_made}
 use Rattle.leveldb_table.specs.Table.{Part, IsPart, keys_for, filters_before, HasBlockAt, StoresAt, StandsUnder, with_trailer, index_pair, AreLinked, blocks_len}
@@ -99,11 +99,11 @@ sound_added {accepts = accepts} {cmp = cmp} stage key value ready follows =
 
 module _ {FP : Type 0} (Decodes : ℕ → List ℕ → List ℕ → Type 0) (accepts : List ℕ → Bool) (cmp : List ℕ → List ℕ → Ordering) (sep : List ℕ → List ℕ → List ℕ) (make : FP → List (List ℕ) → List ℕ) (matches : FP → List ℕ → List ℕ → Bool)
     (keeps : KeepsKeys FP make matches) where
-  kept_started : (filter new : Building FP) (next offset : ℕ) (pairs : List Pair) → new ≡ started (make filter.policy) next filter → new.policy ≡ filter.policy → KeepsAll (matches filter.policy) filter offset pairs → KeepsAll (matches filter.policy) new offset pairs
+  kept_started : (filter new : FiltersBuilt FP) (next offset : ℕ) (pairs : List Pair) → new ≡ started (make filter.policy) next filter → new.policy ≡ filter.policy → KeepsAll (matches filter.policy) filter offset pairs → KeepsAll (matches filter.policy) new offset pairs
   kept_started filter new next offset pairs e same kept =
-      all_with (λ pair. IsKept (matches filter.policy) filter.filters filter.keys offset pair.0) (λ pair. IsKept (matches filter.policy) new.filters new.keys offset pair.0)
-      (λ pair h. subst (λ policy. IsKept (matches policy) new.filters new.keys offset pair.0) same
-      (subst (λ (more : Building FP). IsKept (matches more.policy) more.filters more.keys offset pair.0) (sym e) (keeps.starts filter offset next pair.0 h))) pairs kept
+      all_with (λ pair. IsKeyKept (matches filter.policy) filter.filters filter.keys offset pair.0) (λ pair. IsKeyKept (matches filter.policy) new.filters new.keys offset pair.0)
+      (λ pair h. subst (λ policy. IsKeyKept (matches policy) new.filters new.keys offset pair.0) same
+      (subst (λ (more : FiltersBuilt FP). IsKeyKept (matches more.policy) more.filters more.keys offset pair.0) (sym e) (keeps.starts filter offset next pair.0 h))) pairs kept
 
   -- the open block is put behind the file
   pub laid_closed : (old new : Stage FP) (id : ℕ) (next bytes written : List ℕ) (pairs : List Pair) → old.open_pairs ≢ [] → new.filter.policy ≡ old.filter.policy
@@ -162,8 +162,8 @@ module _ {FP : Type 0} (Decodes : ℕ → List ℕ → List ℕ → Type 0) (acc
               tt,
             );
         open_kept = subst (KeepsAll (matches old.filter.policy) new.filter new.offset) (sym closes.none_open) tt;
-        made = ap (λ (more : Building FP). more.filters) closes.started ∙ filters.0;
-        open_keys = ap (λ (more : Building FP). more.keys) closes.started ∙ filters.1
+        made = ap (λ (more : FiltersBuilt FP). more.filters) closes.started ∙ filters.0;
+        open_keys = ap (λ (more : FiltersBuilt FP). more.keys) closes.started ∙ filters.1
             ∙ sym (ap (λ z. keys_for (new.offset / 2048) (laid.parts ++ part ∷ []) ++ map (λ (pair : Pair). pair.0) z) closes.none_open ∙ append-nil (keys_for (new.offset / 2048) (laid.parts ++ part ∷ [])));
         counted = closes.count ∙ laid.counted;
       }
@@ -198,7 +198,7 @@ module _ {FP : Type 0} (Decodes : ℕ → List ℕ → List ℕ → Type 0) (acc
       let Kept : ℕ → List Pair → Type 0 = KeepsAll (matches mid.filter.policy) mid.filter in
       let More : ℕ → List Pair → Type 0 = KeepsAll (matches mid.filter.policy) (with_key key mid.filter) in
       let more : (offset : ℕ) (others : List Pair) → Kept offset others → More offset others =
-      λ offset others. all_with (λ pair. IsKept (matches mid.filter.policy) mid.filter.filters mid.filter.keys offset pair.0) (λ pair. IsKept (matches mid.filter.policy) mid.filter.filters (with_key key mid.filter).keys offset pair.0)
+      λ offset others. all_with (λ pair. IsKeyKept (matches mid.filter.policy) mid.filter.filters mid.filter.keys offset pair.0) (λ pair. IsKeyKept (matches mid.filter.policy) mid.filter.filters (with_key key mid.filter).keys offset pair.0)
       (λ pair h. keeps.goes_on mid.filter offset pair.0 key h) others in
       record {
         parts = laid.parts;
@@ -214,7 +214,7 @@ module _ {FP : Type 0} (Decodes : ℕ → List ℕ → List ℕ → Type 0) (acc
         sorted = rise_push cmp pairs (key, value) laid.sorted behind;
         accepted = all_append (λ (pair : Pair). accepts pair.0 ≡ true) pairs ((key, value) ∷ []) laid.accepted (accepted, tt);
         kept = all_with (λ (part : Part). Kept part.handle.offset part.pairs) (λ (part : Part). More part.handle.offset part.pairs) (λ part h. more part.handle.offset part.pairs h) laid.parts laid.kept;
-        open_kept = all_append (λ (pair : Pair). IsKept (matches mid.filter.policy) mid.filter.filters (with_key key mid.filter).keys mid.offset pair.0) mid.open_pairs ((key, value) ∷ []) (more mid.offset mid.open_pairs laid.open_kept)
+        open_kept = all_append (λ (pair : Pair). IsKeyKept (matches mid.filter.policy) mid.filter.filters (with_key key mid.filter).keys mid.offset pair.0) mid.open_pairs ((key, value) ∷ []) (more mid.offset mid.open_pairs laid.open_kept)
             (keeps.adds mid.filter mid.offset key opened, tt);
         made = laid.made;
         open_keys = ap (λ z. z ++ key ∷ []) laid.open_keys ∙ append_assoc (keys_for (mid.offset / 2048) laid.parts) (map (λ (pair : Pair). pair.0) mid.open_pairs) (key ∷ [])

@@ -8,7 +8,7 @@ use Rattle.std.specs.declared.cmp.Ordering.TheVariants.{Greater}
 use Rattle.leveldb_base.specs.BlockHandle.{Handle, handle_bytes}
 use Rattle.leveldb_base.specs.Cmp.{IsPreorderOn, IsSeparator, IsSuccessor}
 use Rattle.leveldb_base.specs.Types.{Pair}
-use Rattle.leveldb_env.specs.Coders.{Codings, Decodes}
+use Rattle.leveldb_env.specs.Compressor.{Codings, Decodes}
 use Rattle.leveldb_env.specs.FilterBlock.{finished, KeepsKeys}
 use Rattle.leveldb_table.specs.Block.{IsBlock}
 use Rattle.leveldb_table.specs.Built.{last_added, block_made}

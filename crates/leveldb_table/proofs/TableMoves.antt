@@ -9,7 +9,7 @@ use Rattle.leveldb_base.specs.Types.{Pair, IsPosition, position_within, next_pos
 use Rattle.leveldb_base.specs.declared.cmp.Cmp.{Ghosts as CmpGhosts}
 use Rattle.leveldb_base.specs.declared.error.Status.{Status}
 use Rattle.leveldb_env.specs.declared.env.Env.{Ghosts as EnvGhosts}
-use Rattle.leveldb_env.specs.Coders.{Codings, Decodes}
+use Rattle.leveldb_env.specs.Compressor.{Codings, Decodes}
 use Rattle.leveldb_table.specs.Cache.{Cached}
 use Rattle.leveldb_table.specs.Block.{IsSpelled, pairs_of}
 use Rattle.leveldb_table.specs.BlockLaws.{one_block}

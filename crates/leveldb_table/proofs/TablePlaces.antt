@@ -4,7 +4,7 @@ use Rattle.std.proofs.lemmas.List.{length-drop, length-take, length-take-le, tak
 use Rattle.leveldb_base.specs.Crc.{crc_of, masked}
 use Rattle.leveldb_base.specs.BlockHandle.{Handle, HandleFits}
 use Rattle.leveldb_base.specs.Varint.{little}
-use Rattle.leveldb_env.specs.Coders.{Codings, Decodes, decoded_by}
+use Rattle.leveldb_env.specs.Compressor.{Codings, Decodes, decoded_by}
 use Rattle.leveldb_table.specs.Table.{StoresAt, HasBlockAt, with_trailer}
 
 -- ---- a block and its trailer

@@ -11,9 +11,8 @@ use Rattle.std.specs.declared.cmp.Ordering.{Ordering}
 use Rattle.std.specs.declared.cmp.Ordering.TheVariants.{Less, Equal, Greater}
 use Rattle.leveldb_base.specs.Cmp.{IsPreorderOn}
 use Rattle.leveldb_base.specs.Types.{Pair, position_within, next_position, previous_position, count_before, seek_position, pair_at}
-use Rattle.leveldb_env.specs.Coders.{Codings, Decodes}
-use Rattle.leveldb_table.specs.Table.{Part, IsPart, AreParted, UpTo, After, index_pair, first_from, named_part}
-use Rattle.leveldb_table.specs.Table.{AreAccepted}
+use Rattle.leveldb_env.specs.Compressor.{Codings, Decodes}
+use Rattle.leveldb_table.specs.Table.{Part, IsPart, AreParted, UpTo, After, index_pair, first_from, named_part, AreAccepted}
 use Rattle.leveldb_table.specs.TableEnters.{IsBehind}
 use Rattle.leveldb_table.specs.TableReading.{pairs_in, HasParts}
 use Rattle.leveldb_table.specs.TableWalk.{StandsIn, StandsAt}

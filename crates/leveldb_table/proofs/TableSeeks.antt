@@ -10,9 +10,9 @@ use Rattle.leveldb_base.specs.Types.{Pair, IsPosition, position_within, next_pos
 use Rattle.leveldb_base.specs.declared.cmp.Cmp.{Ghosts as CmpGhosts}
 use Rattle.leveldb_base.specs.declared.error.Status.{Status}
 use Rattle.leveldb_base.specs.declared.error.StatusCode.TheVariants.{Corruption}
-use Rattle.leveldb_env.specs.Calls.{NoMemory}
+use Rattle.leveldb_base.specs.Error.{IsOutOfMemory}
 use Rattle.leveldb_env.specs.declared.env.Env.{Ghosts as EnvGhosts}
-use Rattle.leveldb_env.specs.Coders.{Codings}
+use Rattle.leveldb_env.specs.Compressor.{Codings}
 use Rattle.leveldb_table.specs.Cache.{Cached}
 use Rattle.leveldb_table.specs.Table.{Part, index_pair, named_part, AreAccepted}
 use Rattle.leveldb_table.specs.TableCached.{HoldsOf, IsOf, Gathers}
@@ -190,7 +190,7 @@ module _ {C : Type 0} {order : CmpGhosts C} where
     -- no call, and a refusal
     pub enters_own : {T : Type 0} {P : Status → Type 0} {Fit : List Part → Option ℕ → Type 0} {Step : Codings → (List ℕ → List ℕ → Ordering) → List ℕ → TableCore C order → Outcome → Type 0} {state : E} {cache : Cached (CachedBlock C order)} (old new : TableCore C order) (result : Result T Status) → pairs_over new.index ≡ pairs_over old.index → new.index.block.cmp ≡ old.index.block.cmp
         → inner_place new.inner ≡ None → IsErrAnd result P
-        → ((status : Status) → P status → NoMemory status ⊎ ((status.code ≡ Corruption) × ((bytes : List ℕ) → ((parts : List Part) (place : Option ℕ) → HasParts codings cmp bytes parts → Fit parts place → IsIndexed cmp parts old → ⊥) × Step codings cmp bytes old (Err status))))
+        → ((status : Status) → P status → IsOutOfMemory status ⊎ ((status.code ≡ Corruption) × ((bytes : List ℕ) → ((parts : List Part) (place : Option ℕ) → HasParts codings cmp bytes parts → Fit parts place → IsIndexed cmp parts old → ⊥) × Step codings cmp bytes old (Err status))))
         → Enters env codings cmp id file Fit Step state cache old result state cache new
     enters_own {state = state} {cache = cache} old new result lines same none refused why = record {
       reads = reads_own env result (Looks-refl env state) refl refused (λ status is. ⊎_elim inl (λ lacks. inr (inl lacks.0, λ bytes has. (λ parts place right fit holds indexed. (lacks.1 bytes).0 parts place right fit indexed, λ holds. (lacks.1 bytes).1))) (why status is));

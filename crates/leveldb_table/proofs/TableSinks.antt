@@ -4,7 +4,7 @@ use Rattle.std.specs.Prelude.{IfErr, IsErr, IsErrAnd, IsSomeAnd}
 use Rattle.std.specs.declared.cmp.Ordering.{Ordering}
 use Rattle.leveldb_base.specs.BlockHandle.{Handle}
 use Rattle.leveldb_base.specs.declared.error.Status.{Status}
-use Rattle.leveldb_env.specs.Coders.{Coding, Codings, RefusesWith, IsUnset, decoded_under}
+use Rattle.leveldb_env.specs.Compressor.{Coding, Codings, IsEncodeError, IsUnset, decoded_under}
 use Rattle.leveldb_table.specs.TableBuilding.{IsPlaced}
 use Rattle.leveldb_table.specs.TablePuts.{PutsBlock, IsNoMetaindex, StopsFrom}
 use Rattle.leveldb_table.specs.TableStages.{Stage}
@@ -18,9 +18,9 @@ pub refused_so : {T E : Type 0} (result : Result T E) (P Q : E → Type 0) → (
 refused_so (Ok value) P Q f h = absurd h
 refused_so (Err error) P Q f h = f error h
 
-no_coder : (coding : Option Coding) (status : Status) → coding ≡ None → IsSomeAnd coding (λ coding. RefusesWith coding status) → ⊥
-no_coder None status unset h = h
-no_coder (Some coding) status unset h = let clash = unset in cc
+no_coder : (coding : Option Coding) (text : List ℕ) (status : Status) → coding ≡ None → IsSomeAnd coding (λ coding. IsEncodeError coding text status) → ⊥
+no_coder None text status unset h = h
+no_coder (Some coding) text status unset h = let clash = unset in cc
 
 no_text : (coding : Option Coding) (stored text : List ℕ) → coding ≡ None → decoded_under coding stored ≡ Some text → ⊥
 no_text None stored text unset h = cc
@@ -32,7 +32,7 @@ module _ {FP : Type 0} (codings : Codings) (cmp : List ℕ → List ℕ → Orde
       → (to ≡ from) × (IsNoMetaindex name filters status ⊎ IsUnset id status)
   unset_block text offset Behind filters from status to (inl (inl (same, none, is))) = (same, inr is)
   unset_block text offset Behind filters from status to (inl (inr (inl (same, inl memory)))) = (same, inl (inl memory))
-  unset_block text offset Behind filters from status to (inl (inr (inl (same, inr coder)))) = absurd (no_coder (codings id) status unset coder)
+  unset_block text offset Behind filters from status to (inl (inr (inl (same, inr coder)))) = absurd (no_coder (codings id) text status unset coder)
   unset_block text offset Behind filters from status to (inl (inr (inr (stored, coded, refused)))) = absurd (no_text (codings id) stored text unset coded)
   unset_block text offset Behind filters from status to (inr (stored, coded, handle, end, mid, put, behind)) = absurd (no_text (codings id) stored text unset coded)
 

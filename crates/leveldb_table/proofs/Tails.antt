@@ -8,8 +8,8 @@ use Rattle.byteorder.specs.Endian.{little_number}
 use Rattle.byteorder.specs.Numbers.{little_from-lt, little_number-reads_back}
 use Rattle.leveldb_base.specs.Varint.{little}
 use Rattle.leveldb_base.proofs.VarintLemmas.{little-little_number}
-use Rattle.leveldb_env.specs.Numbers.{numbers_in}
-use Rattle.leveldb_env.specs.NumberLaws.{length-fours, numbers_written, small_at, AreNumbers, are_numbers}
+use Rattle.leveldb_env.specs.FilterBlock.{numbers_in}
+use Rattle.leveldb_env.proofs.FilterBlockLemmas.{length-fours, numbers_written, small_at, AreNumbers, are_numbers}
 use Rattle.leveldb_table.specs.Block.{Entry, entry_bytes, pairs_of, restart_points, block_bytes, IsSpelled, IsNoBlock, Held}
 use Rattle.leveldb_table.specs.Reading.{count_at_end, AreParts}
 

@@ -1,6 +1,5 @@
 -- A block has one reading, and what is known of entries that stand one behind the other.
-use Rattle.std.proofs.Common.{◌≡◌, ℕ, ◌+◌, ◌*◌, ◌^◌, ◌<◌, ◌≤◌, Bool, true, false, nat_eq, if◌then◌else◌, List, [], ◌∷◌, ◌++◌, length, flat_map}
-use Rattle.std.proofs.Common.{Option, None, Some, refl, sym, ◌∙◌, ap, arith, append_assoc, length-append}
+use Rattle.std.proofs.Common.{◌≡◌, ℕ, ◌+◌, ◌*◌, ◌^◌, ◌<◌, ◌≤◌, Bool, true, false, nat_eq, if◌then◌else◌, List, [], ◌∷◌, ◌++◌, length, flat_map, Option, None, Some, refl, sym, ◌∙◌, ap, arith, append_assoc, length-append}
 use Rattle.std.proofs.Props.{props}
 use Rattle.std.proofs.lemmas.Bool.Decides.{nat_tests}
 use Rattle.std.specs.declared.cmp.Ordering.{Ordering}
@@ -8,7 +7,8 @@ use mathlib.Core.HLevel.{Σ_prop_path}
 use Rattle.leveldb_base.specs.Types.{Pair}
 use Rattle.leveldb_base.specs.Varint.{little, varint}
 use Rattle.leveldb_base.proofs.VarintLemmas.{apart, apart_right, one_number, length-varint-pos}
-use Rattle.leveldb_env.specs.NumberLaws.{length-fours, one_fixed, one_numbers}
+use Rattle.leveldb_env.proofs.FilterBlockLemmas.{length-fours}
+use Rattle.leveldb_env.specs.FilterBlockLaws.{one_fixed, one_numbers}
 use Rattle.leveldb_table.specs.Block.{Entry, spelling, entry_bytes, key_of, pairs_of, SharesFrom, AreEntries, RiseBehind, points_from, restart_points, block_bytes, IsSpelled, IsHeld, Held}
 
 -- ---- one entry

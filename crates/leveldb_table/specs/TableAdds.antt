@@ -7,8 +7,8 @@ use Rattle.leveldb_base.specs.Error.{IsOutOfMemory}
 use Rattle.leveldb_base.specs.declared.cmp.Cmp.{Ghosts as CmpGhosts}
 use Rattle.leveldb_base.specs.declared.error.Status.{Status}
 use Rattle.leveldb_base.specs.declared.error.StatusCode.TheVariants.{NotSupported}
-use Rattle.leveldb_env.specs.Coders.{Codings, Decodes}
-use Rattle.leveldb_env.specs.FilterBlock.{IsNotMade}
+use Rattle.leveldb_env.specs.Compressor.{Codings, Decodes}
+use Rattle.leveldb_env.specs.FilterBlock.{IsFilterNotMade}
 use Rattle.leveldb_env.specs.declared.filter.FilterPolicy.{Ghosts as PolicyGhosts}
 use Rattle.leveldb_table.specs.Block.{Entry}
 use Rattle.leveldb_table.specs.Built.{IsMade, IsTooLarge}
@@ -41,7 +41,7 @@ module _ {C FP : Type 0} {order : CmpGhosts C} {policy : PolicyGhosts FP} (codin
       IsOutOfMemory status
       ⊎ ((status.code ≡ NotSupported) × IsTooLarge core.index.built.0 (order.shortest_sep core.block.cmp (last_of core) next) (handle_bytes handle))
       ⊎ ((length core.filter.filters < (handle.offset + handle.size + 5) / 2048)
-      × IsNotMade (policy.too_large core.filter.policy) (policy.filter_for core.filter.policy) core.filter.filters core.filter.keys status)
+      × IsFilterNotMade (policy.too_large core.filter.policy) (policy.filter_for core.filter.policy) core.filter.filters core.filter.keys status)
 
   module _ {S : Type 0} (puts : S → List ℕ → Result (Unit {0}) Status → S → Type 0) where
     -- the open block was put in one put and got its line, and the pair is the first of the next block

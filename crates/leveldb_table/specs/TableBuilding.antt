@@ -8,8 +8,8 @@ use Rattle.leveldb_base.specs.declared.error.StatusCode.TheVariants.{IOError}
 use Rattle.leveldb_base.specs.Cmp.{bytewise}
 use Rattle.leveldb_base.specs.BlockHandle.{Handle, handle_bytes, HandleFits}
 use Rattle.leveldb_base.specs.Types.{Pair}
-use Rattle.leveldb_env.specs.Sinks.{PutsAll}
-use Rattle.leveldb_env.specs.Coders.{Codings, Decodes}
+use Rattle.leveldb_env.specs.Sink.{PutsAll}
+use Rattle.leveldb_env.specs.Compressor.{Codings, Decodes}
 use Rattle.leveldb_env.specs.FilterBlock.{IsFilterBlock, finished}
 use Rattle.leveldb_table.specs.Block.{pairs_of}
 use Rattle.leveldb_table.specs.Built.{last_added, block_made, IsMade, estimate}

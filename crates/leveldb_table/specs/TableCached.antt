@@ -4,7 +4,7 @@ use Rattle.std.specs.declared.cmp.Ordering.{Ordering}
 use Rattle.leveldb_base.specs.BlockHandle.{Handle}
 use Rattle.leveldb_base.specs.Varint.{little}
 use Rattle.leveldb_base.specs.declared.cmp.Cmp.{Ghosts as CmpGhosts}
-use Rattle.leveldb_env.specs.Coders.{Codings, Decodes}
+use Rattle.leveldb_env.specs.Compressor.{Codings, Decodes}
 use Rattle.leveldb_table.specs.Cache.{Cached, value_of}
 use Rattle.leveldb_table.specs.Table.{HasBlockAt}
 use Rattle.leveldb_table.specs.declared.block.Block.{Block}

@@ -6,8 +6,8 @@ use Rattle.leveldb_base.specs.BlockHandle.{Handle, handle_bytes}
 use Rattle.leveldb_base.specs.Error.{IsOutOfMemory}
 use Rattle.leveldb_base.specs.declared.cmp.Cmp.{Ghosts as CmpGhosts}
 use Rattle.leveldb_base.specs.declared.error.Status.{Status}
-use Rattle.leveldb_env.specs.Coders.{Codings, IsUnset}
-use Rattle.leveldb_env.specs.FilterBlock.{IsFilterBlock, IsNotMade, finished}
+use Rattle.leveldb_env.specs.Compressor.{Codings, IsUnset}
+use Rattle.leveldb_env.specs.FilterBlock.{IsFilterBlock, IsFilterNotMade, finished}
 use Rattle.leveldb_env.specs.declared.filter.FilterPolicy.{Ghosts as PolicyGhosts}
 use Rattle.leveldb_table.specs.Built.{IsMade}
 use Rattle.leveldb_table.specs.Footer.{footer_bytes}
@@ -23,7 +23,7 @@ use Rattle.leveldb_table.specs.declared.table_builder.builder_core.BuilderCore.{
 abbrev pub StopsAtFilters : {FP : Type 0} → (List (List ℕ) → Type 0) → (List (List ℕ) → List ℕ) → Stage FP
     → {S : Type 0} → (S → List ℕ → Result (Unit {0}) Status → S → Type 0) → (Handle → ℕ → S → Status → S → Type 0) → S → Status → S → Type 0
 StopsAtFilters too_large make last {S} puts Behind from status to =
-    ((to ≡ from) × IsNotMade too_large make last.filter.filters last.filter.keys status)
+    ((to ≡ from) × IsFilterNotMade too_large make last.filter.filters last.filter.keys status)
     ⊎ ((filters : List ℕ) × IsFilterBlock filters (finished make last.filter.filters last.filter.keys)
     × (IsRefused puts (with_trailer 0 filters) (last.offset + length filters + 5) from status to
     ⊎ ((handle : Handle) × (end : ℕ) × (mid : S) × PutsBlock puts 0 filters from last.offset handle end mid × Behind handle end mid status to)))

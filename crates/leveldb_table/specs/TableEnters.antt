@@ -7,7 +7,7 @@ use Rattle.leveldb_base.specs.Types.{Pair, next_position, previous_position, see
 use Rattle.leveldb_base.specs.declared.cmp.Cmp.{Ghosts as CmpGhosts}
 use Rattle.leveldb_base.specs.declared.error.Status.{Status}
 use Rattle.leveldb_env.specs.declared.env.Env.{Ghosts as EnvGhosts}
-use Rattle.leveldb_env.specs.Coders.{Codings, Decodes}
+use Rattle.leveldb_env.specs.Compressor.{Codings, Decodes}
 use Rattle.leveldb_table.specs.Cache.{Cached}
 use Rattle.leveldb_table.specs.Table.{Part, AreAccepted, HasBlockAt, index_pair, named_part}
 use Rattle.leveldb_table.specs.TableCached.{HoldsOf, IsOf, Gathers}

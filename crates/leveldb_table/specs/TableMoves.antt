@@ -8,7 +8,7 @@ use Rattle.leveldb_base.specs.Types.{Pair, position_within, next_position, previ
 use Rattle.leveldb_base.specs.declared.cmp.Cmp.{Ghosts as CmpGhosts}
 use Rattle.leveldb_base.specs.declared.error.Status.{Status}
 use Rattle.leveldb_base.specs.declared.error.StatusCode.TheVariants.{Corruption}
-use Rattle.leveldb_env.specs.Coders.{Codings}
+use Rattle.leveldb_env.specs.Compressor.{Codings}
 use Rattle.leveldb_table.specs.Block.{IsBlock}
 use Rattle.leveldb_table.specs.TableReading.{lines_of, lets}
 use Rattle.leveldb_table.specs.TableReads.{IsNamedBy, NamesNone, LacksLine}

@@ -4,7 +4,7 @@ use Rattle.leveldb_base.specs.BlockHandle.{Handle, HandleFits, handle_bytes}
 use Rattle.leveldb_base.specs.Error.{IsOutOfMemory}
 use Rattle.leveldb_base.specs.declared.error.Status.{Status}
 use Rattle.leveldb_base.specs.declared.error.StatusCode.TheVariants.{NotSupported}
-use Rattle.leveldb_env.specs.Coders.{Codings, Decodes, IsUnset, RefusesWith}
+use Rattle.leveldb_env.specs.Compressor.{Codings, Decodes, IsUnset, IsEncodeError}
 use Rattle.leveldb_table.specs.Built.{IsTooLarge}
 use Rattle.leveldb_table.specs.Table.{with_trailer, filter_key}
 
@@ -12,9 +12,9 @@ use Rattle.leveldb_table.specs.Table.{with_trailer, filter_key}
 abbrev pub IsTooLong : ℕ → Status → Type 0
 IsTooLong count status = (status.code ≡ NotSupported) × (2 ^ 64 ≤ count)
 
--- the coder that is set under the id may refuse with this status's code
-abbrev pub IsCoders : Codings → ℕ → Status → Type 0
-IsCoders codings id status = IsSomeAnd (codings id) (λ coding. RefusesWith coding status)
+-- the coder that is set under the id fails for this very text, with a code of its own
+abbrev pub IsCoders : Codings → ℕ → List ℕ → Status → Type 0
+IsCoders codings id text status = IsSomeAnd (codings id) (λ coding. IsEncodeError coding text status)
 
 -- why there is no metaindex that says where the filters of a name stand: want of memory, or its one line is too large
 abbrev pub IsNoMetaindex : List ℕ → Handle → Status → Type 0
@@ -38,7 +38,7 @@ module _ {S : Type 0} (puts : S → List ℕ → Result (Unit {0}) Status → S 
   abbrev pub IsNotPut : Codings → ℕ → List ℕ → ℕ → S → Status → S → Type 0
   IsNotPut codings id text offset from status to =
       ((to ≡ from) × (codings id ≡ None) × IsUnset id status)
-      ⊎ ((to ≡ from) × (IsOutOfMemory status ⊎ IsCoders codings id status))
+      ⊎ ((to ≡ from) × (IsOutOfMemory status ⊎ IsCoders codings id text status))
       ⊎ ((stored : List ℕ) × Decodes codings id stored text × IsRefused (with_trailer id stored) (offset + length stored + 5) from status to)
 
   -- A block of this text wasn't put at this offset; or it was, and then came what is said of its handle, its end and the sink.

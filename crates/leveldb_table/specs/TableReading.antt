@@ -1,6 +1,5 @@
 -- What an open table is, and what is found in it.
-use Rattle.std.specs.Prelude.{◌≡◌, ◌≢◌, ◌≤◌, ℕ, Bool, true, if◌then◌else◌, List, ◌++◌, length, take, flat_map}
-use Rattle.std.specs.Prelude.{Option, None, Some, IfSome, IsSomeAnd}
+use Rattle.std.specs.Prelude.{◌≡◌, ◌≢◌, ◌≤◌, ℕ, Bool, true, if◌then◌else◌, List, ◌++◌, length, take, flat_map, Option, None, Some, IfSome, IsSomeAnd}
 use Rattle.std.specs.List.{AllByRecursion}
 use Rattle.std.specs.Map.{lookup}
 use Rattle.std.specs.Str.{bytes_eq}
@@ -12,8 +11,8 @@ use Rattle.leveldb_base.specs.Types.{Pair, seek_position, pair_at}
 use Rattle.leveldb_base.specs.declared.cmp.Cmp.{Ghosts as CmpGhosts}
 use Rattle.leveldb_base.specs.declared.error.Status.{Status}
 use Rattle.leveldb_base.specs.declared.error.StatusCode.TheVariants.{Corruption}
-use Rattle.leveldb_env.specs.Coders.{Codings, Decodes}
-use Rattle.leveldb_env.specs.FilterBlock.{IsFilterBlock, Reading, passes}
+use Rattle.leveldb_env.specs.Compressor.{Codings, Decodes}
+use Rattle.leveldb_env.specs.FilterBlock.{IsFilterBlock, FiltersRead, passes}
 use Rattle.leveldb_table.specs.Block.{IsBlock, KeysRise, pairs_of}
 use Rattle.leveldb_table.specs.Footer.{footer_bytes}
 use Rattle.leveldb_table.specs.Table.{Part, IsPart, HasBlockAt, StoresAt, AreParted, AreAccepted, AllPass, filter_key, first_from, named_part}
@@ -139,7 +138,7 @@ abbrev pub value_under : {C : Type 0} {order : CmpGhosts C} → List ℕ → Blo
 value_under key block = lookup (bytes_eq key) (pairs_of None block.held.0)
 
 -- the filters, where they were read
-abbrev pub filters_in : {FP : Type 0} → Option (Reading FP) → Option (List (List ℕ))
+abbrev pub filters_in : {FP : Type 0} → Option (FiltersRead FP) → Option (List (List ℕ))
 filters_in None = None
 filters_in (Some reader) = Some reader.filters
 

@@ -5,11 +5,9 @@ use Rattle.leveldb_base.specs.BlockHandle.{Handle, handle_bytes, HandleFits}
 use Rattle.leveldb_base.specs.Types.{Pair}
 use Rattle.leveldb_base.specs.declared.error.Status.{Status}
 use Rattle.leveldb_base.specs.declared.error.StatusCode.TheVariants.{Corruption}
-use Rattle.leveldb_env.specs.Calls.{Still, SameLocks, HasCause, IsMissing}
-use Rattle.leveldb_env.specs.Disk.{bytes_of}
-use Rattle.leveldb_env.specs.Runs.{Run}
+use Rattle.leveldb_env.specs.Env.{FilesUnchanged, SameLocks, HasCause, IsMissing, bytes_of, Run}
 use Rattle.leveldb_env.specs.declared.env.Env.{Ghosts}
-use Rattle.leveldb_env.specs.Coders.{Coding, Codings, Decodes, IsUnset, RefusesWith}
+use Rattle.leveldb_env.specs.Compressor.{Coding, Codings, Decodes, IsUnset, IsDecodeError}
 use Rattle.leveldb_env.specs.FilterBlock.{IsFilterBlock}
 use Rattle.leveldb_table.specs.Block.{IsNoBlock}
 use Rattle.leveldb_table.specs.Table.{StoresAt, HasBlockAt}
@@ -28,10 +26,10 @@ StoresNothing bytes handle = (id : ℕ) (stored : List ℕ) → StoresAt bytes h
 abbrev pub HasNoFilters : List ℕ → Handle → Type 0
 HasNoFilters bytes handle = (text : List ℕ) (filters : List (List ℕ)) → StoresAt bytes handle 0 text → IsFilterBlock text filters → ⊥
 
--- these bytes aren't decoded: their id has no coder, or its coder refuses them with a code of its own
+-- these bytes aren't decoded: their id has no coder, or its coder fails for these very bytes, with a code of its own
 abbrev pub IsUndecodedBy : Option Coding → ℕ → List ℕ → Status → Type 0
 IsUndecodedBy None id stored status = IsUnset id status
-IsUndecodedBy (Some coding) id stored status = (coding.decoded stored ≡ None) × RefusesWith coding status
+IsUndecodedBy (Some coding) id stored status = IsDecodeError coding stored status
 
 -- what is stored under this id isn't decoded, and the status says why
 abbrev pub IsUndecoded : Codings → ℕ → List ℕ → Status → Type 0
@@ -63,20 +61,20 @@ pub data LacksLine (codings : Codings) (cmp : List ℕ → List ℕ → Ordering
 module _ {E F : Type 0} (env : Ghosts E F) where
   -- The disk stays as it is, at each moment too, and no lock changes.
   pub record Looks (old new : E) : Type 0 where
-    pub disk : IsTrue env.tells_disk → Run (Still (env.tells old).disk.files) (env.tells old) (env.tells new)
-    pub locks : SameLocks env.tells_disk (env.tells old) (env.tells new)
+    pub disk : IsTrue env.models_disk → Run (FilesUnchanged (env.observed old).disk.files) (env.observed old) (env.observed new)
+    pub locks : SameLocks env.models_disk (env.observed old) (env.observed new)
 
   -- an open file has these bytes, of a disk that is told
   pub record Has (state : E) (file : F) (bytes : List ℕ) : Type 0 where
-    pub told : IsTrue env.tells_disk
-    pub there : IsSomeAnd ((env.tells state).disk.files (env.name_of file)) (λ standing. bytes_of standing ≡ bytes)
+    pub told : IsTrue env.models_disk
+    pub there : IsSomeAnd ((env.observed state).disk.files (env.name_of file)) (λ standing. bytes_of standing ≡ bytes)
     pub fits : length bytes < 2 ^ 64
 
   -- a call that reads a file fails for want of memory, since the file is missing, for another cause with no failure counted, or at a failure
   -- that is counted
   abbrev pub FailsFor : {T : Type 0} → (Status → Type 0) → E → F → E → Result T Status → Type 0
   FailsFor Why old file new result =
-      HasCause (λ status. IsMissing env.tells_disk (env.name_of file) (env.tells old) status ⊎ ((env.failures new ≡ env.failures old) × Why status))
+      HasCause (λ status. IsMissing env.models_disk (env.name_of file) (env.observed old) status ⊎ ((env.failures new ≡ env.failures old) × Why status))
       (env.failures old) (env.failures new) result
 
   -- it reads so, and leaves the disk as it is

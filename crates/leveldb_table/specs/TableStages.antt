@@ -5,7 +5,7 @@ use Rattle.std.specs.declared.cmp.Ordering.{Ordering}
 use Rattle.std.specs.declared.cmp.Ordering.TheVariants.{Less}
 use Rattle.leveldb_base.specs.BlockHandle.{Handle, handle_bytes, HandleFits}
 use Rattle.leveldb_base.specs.Types.{Pair}
-use Rattle.leveldb_env.specs.FilterBlock.{Building, started, with_key, IsKept}
+use Rattle.leveldb_env.specs.FilterBlock.{FiltersBuilt, started, with_key, IsKeyKept}
 use Rattle.leveldb_table.specs.Block.{KeysRise}
 use Rattle.leveldb_table.specs.Built.{last_added, block_made, IsMade}
 use Rattle.leveldb_table.specs.Table.{Part, IsPart, HasBlockAt, StandsUnder, index_pair, keys_for, filters_before, with_trailer, AreLinked, blocks_len}
@@ -13,7 +13,7 @@ use Rattle.leveldb_table.specs.Table.{Part, IsPart, HasBlockAt, StandsUnder, ind
 -- What a builder keeps: its filters, how many bytes it has put, the index's pairs, those of the open block, and the count of all pairs; and
 -- after how many pairs restart points come in the data blocks and in the index.
 pub record Stage (FP : Type 0) : Type 0 where
-  pub filter : Building FP
+  pub filter : FiltersBuilt FP
   pub offset : ℕ
   pub lines : List Pair
   pub open_pairs : List Pair
@@ -22,7 +22,7 @@ pub record Stage (FP : Type 0) : Type 0 where
   pub index_interval : ℕ
 
 -- a table that is built, from its parts
-abbrev pub stage_of : {FP : Type 0} → Building FP → ℕ → List Pair → List Pair → ℕ → ℕ → ℕ → Stage FP
+abbrev pub stage_of : {FP : Type 0} → FiltersBuilt FP → ℕ → List Pair → List Pair → ℕ → ℕ → ℕ → Stage FP
 stage_of filter offset lines open_pairs count interval index_interval =
     record { filter = filter; offset = offset; lines = lines; open_pairs = open_pairs; count = count; interval = interval; index_interval = index_interval }
 
@@ -43,8 +43,8 @@ AreSeparated sep (part ∷ []) next = part.index_key ≡ sep (last_added part.pa
 AreSeparated sep (part ∷ other ∷ parts) next = (part.index_key ≡ sep (last_added part.pairs) (first_key other.pairs)) × AreSeparated sep (other ∷ parts) next
 
 -- the filters that are made or open keep each key for this offset
-abbrev pub KeepsAll : {FP : Type 0} → (List ℕ → List ℕ → Bool) → Building FP → ℕ → List Pair → Type 0
-KeepsAll matches building offset pairs = AllByRecursion (λ pair. IsKept matches building.filters building.keys offset pair.0) pairs
+abbrev pub KeepsAll : {FP : Type 0} → (List ℕ → List ℕ → Bool) → FiltersBuilt FP → ℕ → List Pair → Type 0
+KeepsAll matches building offset pairs = AllByRecursion (λ pair. IsKeyKept matches building.filters building.keys offset pair.0) pairs
 
 -- The file so far has these data blocks one behind the other, as they are made at the interval and stored under the id, and they and the
 -- open block have these pairs. The next key, which stands behind the blocks, is the open block's first where it has one. The filters that

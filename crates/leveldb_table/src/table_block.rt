@@ -1,7 +1,7 @@
 //! Blocks read from a table's file, each with its trailer.
 ghost use Rattle.std.specs.Prelude.{◌≡◌, ◌⊎◌, ◌≤◌, ◌<◌, ◌+◌, ◌^◌, ℕ, length, take, drop, List, None, IfOk, IfSome, IfNone, IsErrAnd};
 ghost use Rattle.leveldb_base.specs.declared.error.StatusCode.TheVariants.{InvalidArgument};
-ghost use Rattle.leveldb_env.specs.Coders.{Decodes};
+ghost use Rattle.leveldb_env.specs.Compressor.{Decodes};
 ghost use Rattle.leveldb_env.specs.FilterBlock.{IsFilterBlock};
 ghost use Rattle.leveldb_table.specs.Table.{StoresAt, HasBlockAt, with_trailer};
 ghost use Rattle.leveldb_table.specs.TableReads.{EndsBefore, StoresNothing, HasNoFilters, LacksBlock, Reads, Whatever, IsDamaged, IsLacking};
@@ -13,7 +13,7 @@ use leveldb_base::blockhandle::BlockHandle;
 use leveldb_base::cmp::Cmp;
 use leveldb_base::crc::{crc32, mask_crc};
 use leveldb_base::error::{Result, StatusCode, err};
-use leveldb_env::compressor::{Coders, Compressor, CompressorList};
+use leveldb_env::compressor::{Compressor, CompressorList, Compressors};
 use leveldb_env::env::Env;
 use leveldb_env::filter::FilterPolicy;
 use leveldb_env::filter_block::FilterBlockReader;
@@ -33,8 +33,8 @@ pub fn read_table_block<E: Env, C: Cmp + Drop>(
     coders: &CompressorList,
     location: BlockHandle,
 ) -> Result<Block<C>>
-    ensures reads { Reads E.Env (IsLacking E.Env (⟦<CompressorList as Coders>⟧.codings coders.now) (λ bytes. LacksBlock (⟦<CompressorList as Coders>⟧.codings coders.now) (C.cmp cmp) bytes location) env.old file.now) env.old file.now env.new result }
-    ensures ok { IfOk result (λ block. Whatever E.Env env.old file.now (λ bytes. HasBlockAt (Decodes (⟦<CompressorList as Coders>⟧.codings coders.now)) bytes location block.contents)) }
+    ensures reads { Reads E.Env (IsLacking E.Env (⟦<CompressorList as Compressors>⟧.codings coders.now) (λ bytes. LacksBlock (⟦<CompressorList as Compressors>⟧.codings coders.now) (C.cmp cmp) bytes location) env.old file.now) env.old file.now env.new result }
+    ensures ok { IfOk result (λ block. Whatever E.Env env.old file.now (λ bytes. HasBlockAt (Decodes (⟦<CompressorList as Compressors>⟧.codings coders.now)) bytes location block.contents)) }
     ensures order { IfOk result (λ block. block.cmp ≡ cmp) }
 {
     let (id, stored) = read_stored(alloc, env, file, location)?;

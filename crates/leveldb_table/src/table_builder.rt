@@ -1,7 +1,7 @@
 //! Table builders, and the parts of a table's file that they share with its readers.
 ghost use Rattle.std.specs.Prelude.{◌≡◌, ◌+◌, ◌-◌, ◌^◌, ◌<◌, ◌++◌, ◌∷◌, ◌⊎◌, ◌≢◌, [], List, None, max, true, false, min, IfOk, IfErr, OnOk, OnErr, IsErrAnd};
 ghost use Rattle.std.specs.declared.cmp.Ordering.TheVariants.{Less};
-ghost use Rattle.leveldb_env.specs.Coders.{Codings, IsUnset};
+ghost use Rattle.leveldb_env.specs.Compressor.{Codings, IsUnset};
 ghost use Rattle.leveldb_table.specs.TableEnds.{IsRefusedFinish, StopsUnset};
 ghost use Rattle.leveldb_base.specs.Error.{IsOutOfMemory};
 ghost use Rattle.leveldb_table.specs.TableStages.{with_pair};
@@ -11,7 +11,7 @@ ghost use Rattle.leveldb_table.specs.TableBuilding.{stage, last_of, order_of, po
 use crate::table_builder::builder_core::BuilderCore;
 use leveldb_base::cmp::{Cmp, InternalKeyCmp, UserCmp};
 use leveldb_base::error::Result;
-use leveldb_env::compressor::{Coders, CompressorList};
+use leveldb_env::compressor::{CompressorList, Compressors};
 use leveldb_env::env::Sink;
 use leveldb_env::filter::{FilterPolicy, InternalFilterPolicy, NoFilterPolicy};
 use leveldb_env::options::Options;
@@ -141,11 +141,11 @@ impl<Dst: Sink, C: Cmp + Copy, FP: FilterPolicy + Copy> TableBuilder<Dst, C, FP>
         requires accepted { self.old.core.broken ≡ false → C.accepts (order_of self.old.core) key.now ≡ true }
         requires rising { self.old.core.broken ≡ false → 0 < self.old.core.count → C.cmp (order_of self.old.core) (last_of self.old.core) key.now ≡ Less }
         ensures ok { OnOk result (Adds Dst.puts
-            (IsBegun (⟦<CompressorList as Coders>⟧.codings coders.now) C.accepts C.cmp C.shortest_sep FP.matches self.old.core)
-            (IsBegun (⟦<CompressorList as Coders>⟧.codings coders.now) C.accepts C.cmp C.shortest_sep FP.matches self.new.core)
+            (IsBegun (⟦<CompressorList as Compressors>⟧.codings coders.now) C.accepts C.cmp C.shortest_sep FP.matches self.old.core)
+            (IsBegun (⟦<CompressorList as Compressors>⟧.codings coders.now) C.accepts C.cmp C.shortest_sep FP.matches self.new.core)
             self.old.dst (key.now, value.now) self.new.dst) }
         ensures full { OnOk result (IsFull self.old.core → (stage self.new.core).open_pairs ≡ (key.now, value.now) ∷ []) }
-        ensures closed { OnOk result (IsFull self.old.core → ClosesBlock (⟦<CompressorList as Coders>⟧.codings coders.now) self.old.core Dst.puts (key.now, value.now) self.new.core self.old.dst self.new.dst) }
+        ensures closed { OnOk result (IsFull self.old.core → ClosesBlock (⟦<CompressorList as Compressors>⟧.codings coders.now) self.old.core Dst.puts (key.now, value.now) self.new.core self.old.dst self.new.dst) }
         ensures room { OnOk result ((IsFull self.old.core → ⊥) → (stage self.new.core ≡ with_pair (key.now, value.now) (stage self.old.core)) × (self.new.dst ≡ self.old.dst)) }
         ensures last { OnOk result (last_of self.new.core ≡ key.now) }
         ensures count { OnOk result (self.new.core.count ≡ self.old.core.count + 1) }
@@ -153,10 +153,10 @@ impl<Dst: Sink, C: Cmp + Copy, FP: FilterPolicy + Copy> TableBuilder<Dst, C, FP>
         ensures choices { KeepsChoices self.old.core self.new.core }
         ensures refused { OnErr result (self.new.core.broken ≡ true) }
         ensures still { OnErr result (self.new.core.count ≡ self.old.core.count) }
-        ensures cause { IfErr result (λ status. IsRefusedAdd (⟦<CompressorList as Coders>⟧.codings coders.now) self.old.core Dst.puts (key.now, value.now) self.old.dst status self.new.dst) }
-        ensures unset { self.old.core.broken ≡ false → IsFull self.old.core → ⟦<CompressorList as Coders>⟧.codings coders.now self.old.core.compressor ≡ None
+        ensures cause { IfErr result (λ status. IsRefusedAdd (⟦<CompressorList as Compressors>⟧.codings coders.now) self.old.core Dst.puts (key.now, value.now) self.old.dst status self.new.dst) }
+        ensures unset { self.old.core.broken ≡ false → IsFull self.old.core → ⟦<CompressorList as Compressors>⟧.codings coders.now self.old.core.compressor ≡ None
             → IsErrAnd result (λ status. IsUnset self.old.core.compressor status ⊎ IsOutOfMemory status) × (self.new.dst ≡ self.old.dst) }
-        ensures sink { OnErr result (TriesOpen (⟦<CompressorList as Coders>⟧.codings coders.now) self.old.core Dst.puts self.old.dst self.new.dst) }
+        ensures sink { OnErr result (TriesOpen (⟦<CompressorList as Compressors>⟧.codings coders.now) self.old.core Dst.puts self.old.dst self.new.dst) }
         ensures broken { self.old.core.broken ≡ true → IsErrAnd result IsBroken × (self.new.dst ≡ self.old.dst) }
         ensures unchanged { self.old.core.broken ≡ true → self.new.core ≡ self.old.core }
     {
@@ -171,15 +171,15 @@ impl<Dst: Sink, C: Cmp + Copy, FP: FilterPolicy + Copy> TableBuilder<Dst, C, FP>
     pub fn finish(self, coders: &CompressorList) -> Result<usize>
     where
         Dst: Drop,
-        ensures ok { IfOk result (λ size. (after : Dst) × Finishes Dst.puts Dst.flushes (IsBegun (⟦<CompressorList as Coders>⟧.codings coders.now) C.accepts C.cmp C.shortest_sep FP.matches self.core)
-            (IsBuilt (⟦<CompressorList as Coders>⟧.codings coders.now) (C.accepts (order_of self.core)) (C.cmp (order_of self.core)) (C.shortest_sep (order_of self.core)) (C.short_succ (order_of self.core))
+        ensures ok { IfOk result (λ size. (after : Dst) × Finishes Dst.puts Dst.flushes (IsBegun (⟦<CompressorList as Compressors>⟧.codings coders.now) C.accepts C.cmp C.shortest_sep FP.matches self.core)
+            (IsBuilt (⟦<CompressorList as Compressors>⟧.codings coders.now) (C.accepts (order_of self.core)) (C.cmp (order_of self.core)) (C.shortest_sep (order_of self.core)) (C.short_succ (order_of self.core))
             (FP.matches (policy_of self.core)) (FP.filter_for (policy_of self.core)) self.core.compressor (FP.name (policy_of self.core)) self.core.block.interval self.core.index.interval)
             self.dst size after) }
         ensures unbroken { OnOk result (self.core.broken ≡ false) }
-        ensures cause { IfErr result (λ status. (after : Dst) × IsRefusedFinish (⟦<CompressorList as Coders>⟧.codings coders.now) self.core Dst.puts Dst.flushes self.dst status after) }
-        ensures unset_rest { self.core.broken ≡ false → (stage self.core).open_pairs ≡ [] → ⟦<CompressorList as Coders>⟧.codings coders.now self.core.compressor ≡ None
+        ensures cause { IfErr result (λ status. (after : Dst) × IsRefusedFinish (⟦<CompressorList as Compressors>⟧.codings coders.now) self.core Dst.puts Dst.flushes self.dst status after) }
+        ensures unset_rest { self.core.broken ≡ false → (stage self.core).open_pairs ≡ [] → ⟦<CompressorList as Compressors>⟧.codings coders.now self.core.compressor ≡ None
             → IsErrAnd result (λ status. (after : Dst) × StopsUnset (FP.too_large (policy_of self.core)) (FP.filter_for (policy_of self.core)) self.core.compressor (FP.name (policy_of self.core)) (stage self.core) Dst.puts self.dst status after) }
-        ensures unset { self.core.broken ≡ false → (stage self.core).open_pairs ≢ [] → ⟦<CompressorList as Coders>⟧.codings coders.now self.core.compressor ≡ None
+        ensures unset { self.core.broken ≡ false → (stage self.core).open_pairs ≢ [] → ⟦<CompressorList as Compressors>⟧.codings coders.now self.core.compressor ≡ None
             → IsErrAnd result (λ status. IsUnset self.core.compressor status ⊎ IsOutOfMemory status) }
         ensures broken { self.core.broken ≡ true → IsErrAnd result IsBroken }
     {

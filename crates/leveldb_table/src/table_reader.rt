@@ -5,7 +5,7 @@ ghost use Rattle.leveldb_base.specs.BlockHandle.{Handle, handle_bytes, HandleFit
 ghost use Rattle.leveldb_base.specs.Types.{Pair};
 ghost use Rattle.leveldb_base.specs.Error.{IsOutOfMemory};
 ghost use Rattle.leveldb_base.specs.declared.error.StatusCode.TheVariants.{Corruption, NotSupported};
-ghost use Rattle.leveldb_env.specs.Coders.{Codings, Decodes};
+ghost use Rattle.leveldb_env.specs.Compressor.{Codings, Decodes};
 ghost use Rattle.leveldb_table.specs.Block.{IsBlock, pairs_of};
 ghost use Rattle.leveldb_table.specs.Table.{Part, HasBlockAt, index_pair, filter_key, offset_for};
 ghost use Rattle.leveldb_table.specs.Cache.{looked_for};
@@ -22,7 +22,7 @@ use leveldb_base::blockhandle::BlockHandle;
 use leveldb_base::cmp::{Cmp, DefaultCmp, InternalKeyCmp, UserCmp};
 use leveldb_base::error::{Result, StatusCode, err};
 use leveldb_base::types::LdbIterator;
-use leveldb_env::compressor::{Coders, CompressorList};
+use leveldb_env::compressor::{CompressorList, Compressors};
 use leveldb_env::env::Env;
 use leveldb_env::filter::{FilterPolicy, InternalFilterPolicy};
 use leveldb_env::filter_block::FilterBlockReader;
@@ -76,9 +76,9 @@ impl<E: Env, C: UserCmp + Copy + Drop, FP: FilterPolicy + Copy + Drop> Table<
         size: usize,
     ) -> Result<Table<E, InternalKeyCmp<C>, InternalFilterPolicy<FP>>>
         ensures reads { Reads E.Env (λ status. ((status.code ≡ NotSupported) × (cache.old.given + 1 ≡ 2 ^ 64)) ⊎
-            IsLacking E.Env (⟦<CompressorList as Coders>⟧.codings options.now.compressor_list) (λ bytes status. OpensNot (⟦<CompressorList as Coders>⟧.codings options.now.compressor_list) (internal_cmp (C.cmp options.now.cmp)) (filter_key (FP.name options.now.filter_policy)) bytes size × LacksPart (⟦<CompressorList as Coders>⟧.codings options.now.compressor_list) (internal_cmp (C.cmp options.now.cmp)) (filter_key (FP.name options.now.filter_policy)) bytes size status) env.old file status) env.old file env.new result }
+            IsLacking E.Env (⟦<CompressorList as Compressors>⟧.codings options.now.compressor_list) (λ bytes status. OpensNot (⟦<CompressorList as Compressors>⟧.codings options.now.compressor_list) (internal_cmp (C.cmp options.now.cmp)) (filter_key (FP.name options.now.filter_policy)) bytes size × LacksPart (⟦<CompressorList as Compressors>⟧.codings options.now.compressor_list) (internal_cmp (C.cmp options.now.cmp)) (filter_key (FP.name options.now.filter_policy)) bytes size status) env.old file status) env.old file env.new result }
         ensures ok { IfOk result (λ table. Whatever E.Env env.old file (λ bytes.
-            Opens (⟦<CompressorList as Coders>⟧.codings options.now.compressor_list) (internal_cmp (C.cmp options.now.cmp)) (filter_key (FP.name options.now.filter_policy)) bytes size (lines_of table) table.footer.meta_index table.footer.index (filters_of table))) }
+            Opens (⟦<CompressorList as Compressors>⟧.codings options.now.compressor_list) (internal_cmp (C.cmp options.now.cmp)) (filter_key (FP.name options.now.filter_policy)) bytes size (lines_of table) table.footer.meta_index table.footer.index (filters_of table))) }
         ensures file { IfOk result (λ table. table.file ≡ file) }
         ensures order { IfOk result (λ table. (table.cmp ≡ record { 0 = options.now.cmp }) × (table.index.cmp ≡ record { 0 = options.now.cmp })) }
         ensures policy { IfOk result (λ table. IfSome table.filters (λ reader. reader.policy ≡ options.now.filter_policy)) }
@@ -113,9 +113,9 @@ impl<E: Env, C: Cmp + Copy + Drop, FP: FilterPolicy + Drop> Table<E, C, FP> {
         size: usize,
     ) -> Result<Table<E, C, FP>>
         ensures reads { Reads E.Env (λ status. ((status.code ≡ NotSupported) × (cache.old.given + 1 ≡ 2 ^ 64)) ⊎
-            IsLacking E.Env (⟦<CompressorList as Coders>⟧.codings coders.now) (λ bytes status. OpensNot (⟦<CompressorList as Coders>⟧.codings coders.now) (C.cmp cmp) (filter_key (FP.name policy)) bytes size × LacksPart (⟦<CompressorList as Coders>⟧.codings coders.now) (C.cmp cmp) (filter_key (FP.name policy)) bytes size status) env.old file status) env.old file env.new result }
+            IsLacking E.Env (⟦<CompressorList as Compressors>⟧.codings coders.now) (λ bytes status. OpensNot (⟦<CompressorList as Compressors>⟧.codings coders.now) (C.cmp cmp) (filter_key (FP.name policy)) bytes size × LacksPart (⟦<CompressorList as Compressors>⟧.codings coders.now) (C.cmp cmp) (filter_key (FP.name policy)) bytes size status) env.old file status) env.old file env.new result }
         ensures ok { IfOk result (λ table. Whatever E.Env env.old file (λ bytes.
-            Opens (⟦<CompressorList as Coders>⟧.codings coders.now) (C.cmp cmp) (filter_key (FP.name policy)) bytes size (lines_of table) table.footer.meta_index table.footer.index (filters_of table))) }
+            Opens (⟦<CompressorList as Compressors>⟧.codings coders.now) (C.cmp cmp) (filter_key (FP.name policy)) bytes size (lines_of table) table.footer.meta_index table.footer.index (filters_of table))) }
         ensures file { IfOk result (λ table. table.file ≡ file) }
         ensures order { IfOk result (λ table. (table.cmp ≡ cmp) × (table.index.cmp ≡ cmp)) }
         ensures policy { IfOk result (λ table. IfSome table.filters (λ reader. reader.policy ≡ policy)) }
@@ -168,18 +168,18 @@ impl<E: Env, C: Cmp + Copy + Drop, FP: FilterPolicy> Table<E, C, FP> {
         coders: &CompressorList,
         key: &[u8],
     ) -> Result<Option<(Bytes, Bytes)>>
-        ensures reads { Reads E.Env (IsLacking E.Env (⟦<CompressorList as Coders>⟧.codings coders.now) (λ bytes status. ((parts : List Part) → lines_of self.now ≡ map index_pair parts → C.cmp self.now.index.cmp ≡ C.cmp self.now.cmp
-            → HasParts (⟦<CompressorList as Coders>⟧.codings coders.now) (C.cmp self.now.cmp) bytes parts → AreAccepted (C.accepts self.now.cmp) parts → C.accepts self.now.cmp key.now ≡ true
-            → HoldsOf (⟦<CompressorList as Coders>⟧.codings coders.now) (C.cmp self.now.cmp) self.now.id bytes cache.old → ⊥)
-            × (HoldsOf (⟦<CompressorList as Coders>⟧.codings coders.now) (C.cmp self.now.cmp) self.now.id bytes cache.old → LooksUpIn (⟦<CompressorList as Coders>⟧.codings coders.now) FP.matches self.now key.now bytes (Err status))) env.old self.now.file) env.old self.now.file env.new result }
+        ensures reads { Reads E.Env (IsLacking E.Env (⟦<CompressorList as Compressors>⟧.codings coders.now) (λ bytes status. ((parts : List Part) → lines_of self.now ≡ map index_pair parts → C.cmp self.now.index.cmp ≡ C.cmp self.now.cmp
+            → HasParts (⟦<CompressorList as Compressors>⟧.codings coders.now) (C.cmp self.now.cmp) bytes parts → AreAccepted (C.accepts self.now.cmp) parts → C.accepts self.now.cmp key.now ≡ true
+            → HoldsOf (⟦<CompressorList as Compressors>⟧.codings coders.now) (C.cmp self.now.cmp) self.now.id bytes cache.old → ⊥)
+            × (HoldsOf (⟦<CompressorList as Compressors>⟧.codings coders.now) (C.cmp self.now.cmp) self.now.id bytes cache.old → LooksUpIn (⟦<CompressorList as Compressors>⟧.codings coders.now) FP.matches self.now key.now bytes (Err status))) env.old self.now.file) env.old self.now.file env.new result }
         ensures ok { Whatever E.Env env.old self.now.file (λ bytes. (parts : List Part) → lines_of self.now ≡ map index_pair parts → C.cmp self.now.index.cmp ≡ C.cmp self.now.cmp
-            → HasParts (⟦<CompressorList as Coders>⟧.codings coders.now) (C.cmp self.now.cmp) bytes parts → AreAccepted (C.accepts self.now.cmp) parts → C.accepts self.now.cmp key.now ≡ true
-            → HoldsOf (⟦<CompressorList as Coders>⟧.codings coders.now) (C.cmp self.now.cmp) self.now.id bytes cache.old
+            → HasParts (⟦<CompressorList as Compressors>⟧.codings coders.now) (C.cmp self.now.cmp) bytes parts → AreAccepted (C.accepts self.now.cmp) parts → C.accepts self.now.cmp key.now ≡ true
+            → HoldsOf (⟦<CompressorList as Compressors>⟧.codings coders.now) (C.cmp self.now.cmp) self.now.id bytes cache.old
             → IfOk result (λ found. found ≡ found_in (C.cmp self.now.cmp) (lets FP.matches self.now) key.now parts)) }
         ensures finds { Whatever E.Env env.old self.now.file (λ bytes.
-            HoldsOf (⟦<CompressorList as Coders>⟧.codings coders.now) (C.cmp self.now.cmp) self.now.id bytes cache.old
-            → IfOk result (Finds (⟦<CompressorList as Coders>⟧.codings coders.now) FP.matches self.now key.now bytes)) }
-        ensures gathers { Gathers self.now.id (λ offset held. Whatever E.Env env.old self.now.file (λ bytes. IsOf (⟦<CompressorList as Coders>⟧.codings coders.now) (C.cmp self.now.cmp) bytes offset held)) cache.old cache.new }
+            HoldsOf (⟦<CompressorList as Compressors>⟧.codings coders.now) (C.cmp self.now.cmp) self.now.id bytes cache.old
+            → IfOk result (Finds (⟦<CompressorList as Compressors>⟧.codings coders.now) FP.matches self.now key.now bytes)) }
+        ensures gathers { Gathers self.now.id (λ offset held. Whatever E.Env env.old self.now.file (λ bytes. IsOf (⟦<CompressorList as Compressors>⟧.codings coders.now) (C.cmp self.now.cmp) bytes offset held)) cache.old cache.new }
     {
         let mut core = TableCore::new(alloc, self)?;
         if core.seek_let(self, env, cache, coders, key)? {
@@ -207,10 +207,10 @@ impl<E: Env, C: Cmp + Copy + Drop, FP: FilterPolicy> Table<E, C, FP> {
         coders: &CompressorList,
         handle: BlockHandle,
     ) -> Result<Block<C>>
-        ensures reads { Reads E.Env (IsLacking E.Env (⟦<CompressorList as Coders>⟧.codings coders.now) (λ bytes. LacksBlock (⟦<CompressorList as Coders>⟧.codings coders.now) (C.cmp self.now.cmp) bytes handle) env.old self.now.file) env.old self.now.file env.new result }
-        ensures ok { IfOk result (λ block. Whatever E.Env env.old self.now.file (λ bytes. HoldsOf (⟦<CompressorList as Coders>⟧.codings coders.now) (C.cmp self.now.cmp) self.now.id bytes cache.old
-            → HasBlockAt (Decodes (⟦<CompressorList as Coders>⟧.codings coders.now)) bytes handle block.contents × (C.cmp block.cmp ≡ C.cmp self.now.cmp))) }
-        ensures gathers { Gathers self.now.id (λ offset held. Whatever E.Env env.old self.now.file (λ bytes. IsOf (⟦<CompressorList as Coders>⟧.codings coders.now) (C.cmp self.now.cmp) bytes offset held)) cache.old cache.new }
+        ensures reads { Reads E.Env (IsLacking E.Env (⟦<CompressorList as Compressors>⟧.codings coders.now) (λ bytes. LacksBlock (⟦<CompressorList as Compressors>⟧.codings coders.now) (C.cmp self.now.cmp) bytes handle) env.old self.now.file) env.old self.now.file env.new result }
+        ensures ok { IfOk result (λ block. Whatever E.Env env.old self.now.file (λ bytes. HoldsOf (⟦<CompressorList as Compressors>⟧.codings coders.now) (C.cmp self.now.cmp) self.now.id bytes cache.old
+            → HasBlockAt (Decodes (⟦<CompressorList as Compressors>⟧.codings coders.now)) bytes handle block.contents × (C.cmp block.cmp ≡ C.cmp self.now.cmp))) }
+        ensures gathers { Gathers self.now.id (λ offset held. Whatever E.Env env.old self.now.file (λ bytes. IsOf (⟦<CompressorList as Compressors>⟧.codings coders.now) (C.cmp self.now.cmp) bytes offset held)) cache.old cache.new }
     {
         if let Some(found) = self.cached_block(cache, handle)? {
             return Ok(found);

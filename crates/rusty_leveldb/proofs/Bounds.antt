@@ -2,7 +2,7 @@
 use Rattle.std.proofs.Common.{◌≡◌, ◌≤◌, ◌+◌, inl, inr, ⊎_elim, ℕ, List, [], refl, sym, ap, subst, arith, Option, None}
 use Rattle.leveldb_base.specs.History.{Entry, History, with_batch, count_of}
 use Rattle.leveldb_base.proofs.HistoryLemmas.{in_none}
-use Rattle.leveldb_env.specs.Disk.{Files, LeavesFile}
+use Rattle.leveldb_env.specs.Env.{Files, FileCrashesTo}
 use Rattle.rusty_leveldb.specs.Contents.{Contents, nothing_there}
 use Rattle.rusty_leveldb.specs.OneLog.{IsRead, log_path}
 use Rattle.rusty_leveldb.specs.Holds.{Carries, IsSafe, Holds}
@@ -12,8 +12,8 @@ use Rattle.rusty_leveldb.specs.Laws.{NothingStands}
 module _ (store : List ℕ) (reads : Files → Contents → Type 0) where
   pub carries_more : (bound more : ℕ) → bound ≤ more → (history : History) (files : Files) → Carries store reads bound history files → Carries store reads more history files
   carries_more bound more le history files c =
-      let low = c.tells.bounded in
-      record { contents = c.contents; read = c.read; tells = record { same = c.tells.same; up_to = c.tells.up_to; reached = c.tells.reached; bounded = omega arith } }
+      let low = c.observed.bounded in
+      record { contents = c.contents; read = c.read; tells = record { same = c.observed.same; up_to = c.observed.up_to; reached = c.observed.reached; bounded = omega arith } }
 
   pub safe_more : (bound more covered : ℕ) → bound ≤ more → (history : History) (files : Files) → IsSafe store reads bound covered history files → IsSafe store reads more covered history files
   safe_more bound more covered le history files safe left leaves honest =
@@ -56,7 +56,7 @@ nothing_stands store disk none free = record {
     crash = λ left leaves honest. record {
       part = [];
       beginning = record { count = 0; enough = omega arith; there = omega arith; first = refl };
-      carries = carries_nothing store left (subst (λ file. LeavesFile file (left (log_path store))) none (leaves (log_path store)));
+      carries = carries_nothing store left (subst (λ file. FileCrashesTo file (left (log_path store))) none (leaves (log_path store)));
     };
   };
   has_store = λ contents read. ap (λ (c : Contents). c.store) (subst (λ file. IsRead file contents) none read);

@@ -3,7 +3,7 @@ use Rattle.std.proofs.Common.{◌≡◌, ◌≤◌, ◌+◌, inl, ℕ, List, [],
 use Rattle.std.proofs.lemmas.List.{take_all}
 use Rattle.leveldb_base.specs.History.{History, IsHistory, entries_of, greatest}
 use Rattle.leveldb_base.proofs.HistoryLemmas.{in_none}
-use Rattle.leveldb_env.specs.Disk.{File, Files, Disk, LeavesFile, Leaves, kept_file}
+use Rattle.leveldb_env.specs.Env.{File, Files, Disk, FileCrashesTo, FilesCrashTo, kept_file}
 use Rattle.rusty_leveldb.specs.Names.{lock_path}
 use Rattle.rusty_leveldb.specs.Contents.{Store, missing, made, Contents, Stays}
 use Rattle.rusty_leveldb.specs.Holds.{Carries, CarriesBeginning, IsSafe, Holds, IsHonest, KeepsStore}
@@ -18,14 +18,14 @@ no_bytes [] le = refl
 no_bytes (b ∷ tail) le = absurd (let never : ⊥ = omega arith in never)
 
 -- what a crash left, a second crash leaves as it is
-left_again : (f g h : Option File) → LeavesFile f g → LeavesFile g h → g ≡ h
-left_again None g h first second = first ∙ sym (subst (λ x. LeavesFile x h) first second)
+left_again : (f g h : Option File) → FileCrashesTo f g → FileCrashesTo g h → g ≡ h
+left_again None g h first second = first ∙ sym (subst (λ x. FileCrashesTo x h) first second)
 left_again (Some f) g h first second =
-    let again : LeavesFile (Some (kept_file (f.kept ++ first.0))) h = subst (λ x. LeavesFile x h) first.3 second in
+    let again : FileCrashesTo (Some (kept_file (f.kept ++ first.0))) h = subst (λ x. FileCrashesTo x h) first.3 second in
     let same : f.kept ++ first.0 ≡ (f.kept ++ first.0) ++ again.0 = sym (append-nil (f.kept ++ first.0)) ∙ ap (λ t. (f.kept ++ first.0) ++ t) (sym (no_bytes again.0 again.2)) in
     first.3 ∙ ap (λ bytes. Some (kept_file bytes)) same ∙ sym again.3
 
-pub files_again : (files left again : Files) → Leaves files left → Leaves left again → left ≡ again
+pub files_again : (files left again : Files) → FilesCrashTo files left → FilesCrashTo left again → left ≡ again
 files_again files left again first second = λ i name. left_again (files name) (left name) (again name) (first name) (second name) i
 
 stays_same : (there now : Store) → now ≡ there → Stays there now
@@ -34,7 +34,7 @@ stays_same (made name) now e = e
 
 module _ (store : List ℕ) (reads : Files → Contents → Type 0) where
   -- the disk that is left holds what it carries
-  pub crash_holds : (files left : Files) (bound covered : ℕ) (history : History) → IsSafe store reads bound covered history files → Leaves files left → IsHonest store files left
+  pub crash_holds : (files left : Files) (bound covered : ℕ) (history : History) → IsSafe store reads bound covered history files → FilesCrashTo files left → IsHonest store files left
       → (c : CarriesBeginning store reads bound covered history left) × Holds store reads left c.part bound (length c.part) None
   crash_holds files left bound covered history safe leaves honest =
       let c = safe left leaves honest in
@@ -54,7 +54,7 @@ module _ (store : List ℕ) (reads : Files → Contents → Type 0) where
     -- the crash row
     pub crash_row : (old : State) (risk : Risk) (files : Files) (left : Disk) → IsHistory risk.history → greatest (entries_of risk.history) ≤ risk.bound
         → IsSafe store reads risk.bound old.covered risk.history files → KeepsStore store reads old.store files
-        → Leaves files left.files → IsHonest store files left.files → ((name : List ℕ) → left.locked name ≡ false)
+        → FilesCrashTo files left.files → IsHonest store files left.files → ((name : List ℕ) → left.locked name ≡ false)
         → (then : State) × Crashes old risk then × StandsFor store reads left then
     crash_row old risk files left is reached safe keeps leaves honest free =
         let found = crash_holds files left.files risk.bound old.covered risk.history safe leaves honest in

@@ -2,8 +2,8 @@
 use Rattle.std.proofs.Common.{◌≡◌, ◌≤◌, ◌+◌, ⊎_elim, ℕ, Bool, List, length, refl, sym, ◌∙◌, ap, subst, arith, Some, None}
 use Rattle.leveldb_base.specs.History.{Entry, IsHistory, with_batch, greatest, entries_of, count_of}
 use Rattle.leveldb_base.proofs.HistoryLemmas.{in_none}
-use Rattle.leveldb_env.specs.Disk.{File, Files, Disk, synced, file_kept}
-use Rattle.leveldb_env.specs.FileLaws.{synced-same}
+use Rattle.leveldb_env.specs.Env.{File, Files, Disk, synced, file_kept}
+use Rattle.leveldb_env.proofs.EnvLemmas.{synced-same}
 use Rattle.rusty_leveldb.specs.Contents.{made}
 use Rattle.rusty_leveldb.specs.Names.{lock_path}
 use Rattle.rusty_leveldb.specs.OneLog.{log_path}

@@ -11,10 +11,10 @@ use Rattle.leveldb_base.specs.declared.error.StatusCode.TheVariants.{InvalidArgu
 use Rattle.leveldb_env.specs.declared.mem_env.record.RecordEnv.{RecordEnv}
 use Rattle.leveldb_env.specs.declared.mem_env.picks.Pick.{Pick}
 use Rattle.leveldb_env.specs.contracts.mem_env.record.RecordEnvEnv.TheImpl.{ghosts}
-use Rattle.leveldb_env.specs.Calls.{NoMemory}
-use Rattle.leveldb_env.specs.Disk.{Files, kept_file}
+use Rattle.leveldb_base.specs.Error.{IsOutOfMemory}
+use Rattle.leveldb_env.specs.Env.{Files, kept_file}
 use Rattle.leveldb_env.specs.Picks.{picked, tails_of}
-use Rattle.leveldb_env.specs.Record.{told_of, moment_of, failures_of, files_in, files_then, TellsTheSame}
+use Rattle.leveldb_env.specs.Record.{record_observed, moment_of, failures_of, files_in, files_then, SameObserved}
 use Rattle.rusty_leveldb.specs.declared.shell.crash_runs.Report.{Report}
 use Rattle.rusty_leveldb.specs.declared.shell.crash_runs.Life.{Life}
 use Rattle.rusty_leveldb.specs.State.{State, Opening, Request, Answer, closed}
@@ -91,12 +91,12 @@ closed_then : (cmp : List ℕ → List ℕ → Ordering) (failures : ℕ) (state
 closed_then cmp failures state [] end last new crash = ap (λ (s : State). s.mode) crash.2.state
 closed_then cmp failures state (next ∷ later) end last new crash = ap (λ (s : State). s.mode) crash.3.state
 
-same_disk : (device from : RecordEnv) → TellsTheSame device from → (told_of from).disk ≡ (told_of device).disk
+same_disk : (device from : RecordEnv) → SameObserved device from → (record_observed from).disk ≡ (record_observed device).disk
 same_disk device from same = λ i. record { files = same.files i; locked = same.locks i }
 
 -- the disk represents a state
 abbrev pub Stands : Type 0 → Type 0 → List ℕ → RecordEnv → State → Type 0
-Stands C FP store device old = Represents store (Reads store) (Recalls {C = C} {FP = FP} {I = Unit {0}} {D = NoCoder} ghosts store) None (told_of device).disk old
+Stands C FP store device old = Represents store (Reads store) (Recalls {C = C} {FP = FP} {I = Unit {0}} {D = NoCoder} ghosts store) None (record_observed device).disk old
 
 opens_so : (store : List ℕ) (fits create : Bool) → (IsTrue fits ↔ IsStoreName store) → IsOpening store create (opening_of fits create)
 opens_so store fits create name_fits = record { create = refl; exists = refl; fits = name_fits; compresses = refl }
@@ -146,7 +146,7 @@ module _ {C FP I : Type 0} {D : I → Type 0} (order : C → List ℕ → List �
     by_end (Some moment) ends follows =
         let crash = follows.crash in
         let at = start + moment in
-        let stops = lived.run.stops at (files_then to at life.pick.after) (told_of next).disk (omega (arith, is.same.moment))
+        let stops = lived.run.stops at (files_then to at life.pick.after) (record_observed next).disk (omega (arith, is.same.moment))
         (record { come = crash.come; stood = crash.stood; leaves = crash.leaves; honest = follows.honest; free = crash.fresh.free }) in
         let stopped = subst (λ n. StopsAt cmp n old lived.run.answered at (failures_of to) lived.run.new stops.0) is.same.failures stops.1 in
         join stops.0
@@ -184,7 +184,7 @@ module _ {C FP I : Type 0} {D : I → Type 0} (order : C → List ℕ → List �
   one_run lives reports are cmp fits name_fits orders =
       let first = are.1.first in
       let fresh = are.1.fresh in
-      let stands : StandsFor store (Reads store) (told_of first).disk new_state = nothing_stands store (told_of first).disk (are.1.empty _) (fresh.free _) in
+      let stands : StandsFor store (Reads store) (record_observed first).disk new_state = nothing_stands store (record_observed first).disk (are.1.empty _) (fresh.free _) in
       let all = lives_run order store cmp fits name_fits first lives reports are.0 new_state (record { disk_is = stands; memory_is = refl }) orders are.1.reports_are in
       (all.0, all.1, all.2, all.3, subst (λ n. Lives cmp n new_state all.0 all.2 all.3) fresh.failures all.4)
 
@@ -212,7 +212,7 @@ module _ {C FP I : Type 0} {D : I → Type 0} (order : C → List ℕ → List �
     error = tt;
   }
 
-  pub fails_for : (lives : List (Life C FP I D)) (e : Status) → NoMemory e ⊎ ((e.code ≡ InvalidArgument) × HasNoCrash ghosts order store lives) → ReportsLives ghosts order store lives (Err e)
+  pub fails_for : (lives : List (Life C FP I D)) (e : Status) → IsOutOfMemory e ⊎ ((e.code ≡ InvalidArgument) × HasNoCrash ghosts order store lives) → ReportsLives ghosts order store lives (Err e)
   fails_for lives e cause = record { reports = tt; run = tt; kept = tt; error = cause }
 
 -- the device that comes next, by whether the life has a crash

@@ -5,9 +5,8 @@
 use Rattle.std.proofs.Common.{◌≡◌, ◌≤◌, ℕ, zero, suc, List, [], ◌∷◌, ◌++◌, length, take, refl, sym, ◌∙◌, ap, subst, arith}
 use Rattle.std.proofs.lemmas.List.{length-take}
 use Rattle.leveldb_base.specs.History.{Entry, History, IsPrefixAtLeast}
-use Rattle.leveldb_env.specs.Disk.{Files, Disk}
-use Rattle.leveldb_env.specs.Times.{Told, Since}
-use Rattle.leveldb_env.specs.Runs.{Run, Run-mono, Run-trans, since_start}
+use Rattle.leveldb_env.specs.Env.{Files, Disk, Observed, Since, Run}
+use Rattle.leveldb_env.proofs.EnvLemmas.{Run-mono, Run-trans, since_start}
 use Rattle.rusty_leveldb.specs.Contents.{Store, missing, made, Contents, Stays}
 use Rattle.rusty_leveldb.specs.Holds.{IsHonest, CarriesBeginning}
 use Rattle.rusty_leveldb.specs.State.{State}
@@ -87,7 +86,7 @@ module _ (store : List ℕ) (reads : Files → Contents → Type 0) where
   }
 
   -- One step after another: the first is spared with the state in which the call began, the second with the one between them.
-  pub steps_join : {first mid now : Told} (old middle : State) (risk more : Risk) → old.covered ≤ middle.covered → Stays old.store middle.store → Grows risk more
+  pub steps_join : {first mid now : Observed} (old middle : State) (risk more : Risk) → old.covered ≤ middle.covered → Stays old.store middle.store → Grows risk more
       → Run (IsSpared store reads old risk) first mid → Run (IsSpared store reads middle more) mid now → Run (IsSpared store reads old more) first now
   steps_join old middle risk more few stays grows before after = Run-trans
       (Run-mono (spared_more old old risk more (omega arith) (stays_as old.store) grows) before)
@@ -98,6 +97,6 @@ module _ (store : List ℕ) (reads : Files → Contents → Type 0) where
   spared_now disk state stands = record { carries = stands.holds.crash; stays = stands.keeps }
 
   -- Each honest disk that a crash leaves since the call began carries a beginning of what is at risk, with all that was covered then.
-  pub spared_since : {first now : Told} (old : State) (risk : Risk) → Run (IsSpared store reads old risk) first now → ((files : Files) → now.stood now.moment files → files ≡ now.disk.files)
+  pub spared_since : {first now : Observed} (old : State) (risk : Risk) → Run (IsSpared store reads old risk) first now → ((files : Files) → now.at_moment now.moment files → files ≡ now.disk.files)
       → (files left : Files) → Since now first.moment files left → IsHonest store files left → CarriesBeginning store reads risk.bound old.covered risk.history left
   spared_since old risk run only files left since honest = (since_start run only since.0 files since.1 since.2 since.3).carries left since.4 honest

@@ -2,9 +2,8 @@
 -- `store` is the store's path, and `reads files contents` says that the files are a whole store with these contents.
 use Rattle.std.specs.Prelude.{◌≡◌, ◌≤◌, ◌+◌, ◌⊎◌, ℕ, List, Option, Some, Contains}
 use Rattle.leveldb_base.specs.History.{Entry, History, IsPrefixAtLeast, entries_of, greatest, with_batch, count_of, SameView}
-use Rattle.leveldb_env.specs.Disk.{File, Files, Leaves, bytes_of}
-use Rattle.leveldb_mem.specs.Log.{log_block_size}
-use Rattle.leveldb_mem.specs.Honest.{HonestTail}
+use Rattle.leveldb_env.specs.Env.{File, Files, FilesCrashTo, bytes_of}
+use Rattle.leveldb_mem.specs.Log.{log_block_size, HonestTail}
 use Rattle.rusty_leveldb.specs.Names.{IsJournal}
 use Rattle.rusty_leveldb.specs.Contents.{Store, Contents, Stays}
 
@@ -36,7 +35,7 @@ module _ (store : List ℕ) (reads : Files → Contents → Type 0) where
 
   -- whatever honest files a crash leaves now carry such a beginning
   abbrev pub IsSafe : ℕ → ℕ → History → Files → Type 0
-  IsSafe bound covered history files = (left : Files) → Leaves files left → IsHonest store files left → CarriesBeginning bound covered history left
+  IsSafe bound covered history files = (left : Files) → FilesCrashTo files left → IsHonest store files left → CarriesBeginning bound covered history left
 
   -- the files hold the history, up to this last number, with so many batches covered and, perhaps, one batch pending
   pub record Holds (files : Files) (history : History) (last covered : ℕ) (pending : Option (List Entry)) : Type 0 where
@@ -49,4 +48,4 @@ module _ (store : List ℕ) (reads : Files → Contents → Type 0) where
 
   -- whatever honest files a crash leaves now have the store, if it was there
   abbrev pub KeepsStore : Store → Files → Type 0
-  KeepsStore there files = (left : Files) (contents : Contents) → Leaves files left → IsHonest store files left → reads left contents → Stays there contents.store
+  KeepsStore there files = (left : Files) (contents : Contents) → FilesCrashTo files left → IsHonest store files left → reads left contents → Stays there contents.store

@@ -2,8 +2,7 @@
 use Rattle.std.specs.Prelude.{◌≡◌, ◌⊎◌, ℕ, List, [], ◌∷◌, Some, None, true, false, IsTrue}
 use Rattle.std.specs.declared.cmp.Ordering.{Ordering}
 use Rattle.leveldb_env.specs.declared.env.Env.{Ghosts}
-use Rattle.leveldb_env.specs.Disk.{Files, Disk, Leaves, LeavesDisk}
-use Rattle.leveldb_env.specs.Times.{Since}
+use Rattle.leveldb_env.specs.Env.{Files, Disk, FilesCrashTo, DiskCrashesTo, Since}
 use Rattle.rusty_leveldb.specs.Names.{lock_path}
 use Rattle.rusty_leveldb.specs.Contents.{Contents}
 use Rattle.rusty_leveldb.specs.OneLog.{log_path}
@@ -24,20 +23,20 @@ NothingStands = (store : List ℕ) (disk : Disk) → disk.files (log_path store)
 
 -- an honest crash between two requests leaves a state of the crash row, for which the disk that is left stands
 abbrev pub CrashBetween : Type 0
-CrashBetween = (store : List ℕ) (old : State) (disk left : Disk) → StandsFor store (Reads store) disk old → LeavesDisk disk left → IsHonest store disk.files left.files
+CrashBetween = (store : List ℕ) (old : State) (disk left : Disk) → StandsFor store (Reads store) disk old → DiskCrashesTo disk left → IsHonest store disk.files left.files
     → (then : State) × Crashes old (risk_between old) then × StandsFor store (Reads store) left then
 
 -- and so does one at a moment inside a request that led from the old state to the new one
 abbrev pub CrashInside : Type 0
 CrashInside = (store : List ℕ) (old new : State) (request : Request) (files : Files) (left : Disk) → IsState old → IsState new → IsSpared store (Reads store) old (risk_of request old new) files
-    → Leaves files left.files → IsHonest store files left.files → ((name : List ℕ) → left.locked name ≡ false)
+    → FilesCrashTo files left.files → IsHonest store files left.files → ((name : List ℕ) → left.locked name ≡ false)
     → (then : State) × Crashes old (risk_of request old new) then × StandsFor store (Reads store) left then
 
 -- From a call's moments: wherever an honest crash comes since the call began, what is left carries a prefix of what was at risk, the pending
 -- batch included, with all that was covered as the call began.
 abbrev pub CrashSince : {E F : Type 0} → Ghosts E F → Type 0
-CrashSince {E = E} env = (store : List ℕ) (old new : State) (request : Request) (from to : E) → AtEachMoment store (Reads store) request old new (env.tells from) (env.tells to)
-    → (files left : Files) → Since (env.tells to) (env.tells from).moment files left → IsHonest store files left
+CrashSince {E = E} env = (store : List ℕ) (old new : State) (request : Request) (from to : E) → AtEachMoment store (Reads store) request old new (env.observed from) (env.observed to)
+    → (files left : Files) → Since (env.observed to) (env.observed from).moment files left → IsHonest store files left
     → let risk = risk_of request old new in CarriesBeginning store (Reads store) risk.bound old.covered risk.history left
 
 -- a refusal has one of the causes, or the store was closed, or it broke earlier

@@ -3,7 +3,7 @@ use Rattle.std.specs.Prelude.{◌≡◌, ◌⊎◌, ℕ, List}
 use Rattle.leveldb_base.specs.declared.types.FileType.{FileType}
 use Rattle.leveldb_base.specs.declared.types.FileType.TheVariants.{Log, DBLock, Descriptor}
 use Rattle.leveldb_base.specs.Names.{IsFileName, file_path}
-use Rattle.leveldb_env.specs.Disk.{in_folder}
+use Rattle.leveldb_env.specs.Env.{in_folder}
 
 -- what is locked while a store is open
 abbrev pub lock_path : List ℕ → List ℕ

@@ -1,9 +1,9 @@
 -- A store that is one log.
 use Rattle.std.specs.Prelude.{◌≡◌, ◌<◌, ◌≤◌, ◌-◌, ◌^◌, ℕ, List, [], ◌∷◌, Option, Some, None, flat_map, max, codes}
 use Rattle.leveldb_base.specs.History.{Entry, placed, greatest}
-use Rattle.leveldb_env.specs.Disk.{File, Files, bytes_of, in_folder}
+use Rattle.leveldb_env.specs.Env.{File, Files, bytes_of, in_folder}
 use Rattle.leveldb_mem.specs.Log.{End, IsLogFile}
-use Rattle.leveldb_mem.specs.Batch.{Batch, BatchOf}
+use Rattle.leveldb_mem.specs.WriteBatch.{Batch, BatchOf}
 use Rattle.rusty_leveldb.specs.Contents.{Contents, nothing_there, made}
 
 -- the greatest sequence that an entry can have

@@ -24,7 +24,11 @@ impl Compressor for Refusing {
     ghost use Rattle.std.specs.Prelude.{None, true, false};
     ghost use Rattle.leveldb_base.specs.declared.error.StatusCode.TheVariants.{CompressionError};
 
-    ghost coding = { λ _. record { decoded = λ stored. None; refuses = elim [ CompressionError ↦ true | _ ↦ false ] } };
+    ghost coding = { λ _. record {
+      decoded = λ stored. None;
+      encode_fails = λ block. elim [ CompressionError ↦ true | _ ↦ false ];
+      decode_fails = λ stored. elim [ CompressionError ↦ true | _ ↦ false ];
+    } };
 
     fn encode(&self, alloc: Global, _block: Vec<u8>) -> Result<Vec<u8>> {
         err(alloc, StatusCode::CompressionError, "too dense")

@@ -1,7 +1,7 @@
 //! The check of a block's bytes, in one pass.
 ghost use Rattle.std.specs.Prelude.{◌≡◌, ◌↔◌, All, ◌+◌, ◌*◌, ◌<◌, ◌≤◌, true, length, MatchOption, IsSome, List, [], ◌∷◌, ◌++◌, take, IfOk, OnOk, IfErr, IsTrue};
 ghost use Rattle.leveldb_base.specs.Error.{IsOutOfMemory};
-ghost use Rattle.leveldb_env.specs.Numbers.{numbers_in};
+ghost use Rattle.leveldb_env.specs.FilterBlock.{numbers_in};
 ghost use Rattle.leveldb_table.specs.Block.{key_of, SharesFrom, RiseBehind};
 ghost use Rattle.leveldb_table.specs.BlockLaws.{begins, points_after};
 ghost use Rattle.leveldb_table.specs.Reading.{entry_in, key_before, CanFollow, count_at_end, Checks};

@@ -1,6 +1,6 @@
 //! Entries and restart points of a block, as they are read.
 ghost use Rattle.std.specs.Prelude.{◌≡◌};
-ghost use Rattle.leveldb_env.specs.Numbers.{numbers_in};
+ghost use Rattle.leveldb_env.specs.FilterBlock.{numbers_in};
 ghost use Rattle.leveldb_table.specs.BlockLaws.{begins};
 ghost use Rattle.leveldb_table.specs.Reading.{lent_number, ReadsNumber, ReadsEntry};
 

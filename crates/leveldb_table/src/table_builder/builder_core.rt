@@ -6,7 +6,7 @@ ghost use Rattle.leveldb_base.specs.BlockHandle.{Handle, handle_bytes, HandleFit
 ghost use Rattle.leveldb_base.specs.Types.{Pair};
 ghost use Rattle.leveldb_base.specs.Error.{IsOutOfMemory};
 ghost use Rattle.leveldb_base.specs.declared.error.StatusCode.TheVariants.{NotSupported};
-ghost use Rattle.leveldb_env.specs.Coders.{Codings, Decodes, IsUnset};
+ghost use Rattle.leveldb_env.specs.Compressor.{Codings, Decodes, IsUnset};
 ghost use Rattle.leveldb_table.specs.Block.{KeysRise, pairs_of};
 ghost use Rattle.leveldb_table.specs.Built.{IsMade, IsTooLarge, last_added};
 ghost use Rattle.leveldb_table.specs.Footer.{footer_bytes};
@@ -21,7 +21,7 @@ use crate::block_builder::BlockBuilder;
 use leveldb_base::blockhandle::BlockHandle;
 use leveldb_base::cmp::{Cmp, DefaultCmp};
 use leveldb_base::error::{Result, StatusCode, err};
-use leveldb_env::compressor::{Coders, CompressorId, CompressorList, NoneCompressor};
+use leveldb_env::compressor::{CompressorId, CompressorList, Compressors, NoneCompressor};
 use leveldb_env::env::Sink;
 use leveldb_env::filter::FilterPolicy;
 use leveldb_env::filter_block::FilterBlockBuilder;
@@ -141,11 +141,11 @@ impl<C: Cmp + Copy, FP: FilterPolicy> BuilderCore<C, FP> {
         requires accepted { self.old.broken ≡ false → C.accepts (order_of self.old) key.now ≡ true }
         requires rising { self.old.broken ≡ false → 0 < self.old.count → C.cmp (order_of self.old) (last_of self.old) key.now ≡ Less }
         ensures ok { OnOk result (Adds S.puts
-            (IsBegun (⟦<CompressorList as Coders>⟧.codings coders.now) C.accepts C.cmp C.shortest_sep FP.matches self.old)
-            (IsBegun (⟦<CompressorList as Coders>⟧.codings coders.now) C.accepts C.cmp C.shortest_sep FP.matches self.new)
+            (IsBegun (⟦<CompressorList as Compressors>⟧.codings coders.now) C.accepts C.cmp C.shortest_sep FP.matches self.old)
+            (IsBegun (⟦<CompressorList as Compressors>⟧.codings coders.now) C.accepts C.cmp C.shortest_sep FP.matches self.new)
             sink.old (key.now, value.now) sink.new) }
         ensures full { OnOk result (IsFull self.old → (stage self.new).open_pairs ≡ (key.now, value.now) ∷ []) }
-        ensures closed { OnOk result (IsFull self.old → ClosesBlock (⟦<CompressorList as Coders>⟧.codings coders.now) self.old S.puts (key.now, value.now) self.new sink.old sink.new) }
+        ensures closed { OnOk result (IsFull self.old → ClosesBlock (⟦<CompressorList as Compressors>⟧.codings coders.now) self.old S.puts (key.now, value.now) self.new sink.old sink.new) }
         ensures room { OnOk result ((IsFull self.old → ⊥) → (stage self.new ≡ with_pair (key.now, value.now) (stage self.old)) × (sink.new ≡ sink.old)) }
         ensures last { OnOk result (last_of self.new ≡ key.now) }
         ensures count { OnOk result (self.new.count ≡ self.old.count + 1) }
@@ -153,10 +153,10 @@ impl<C: Cmp + Copy, FP: FilterPolicy> BuilderCore<C, FP> {
         ensures choices { KeepsChoices self.old self.new }
         ensures refused { OnErr result (self.new.broken ≡ true) }
         ensures still { OnErr result (self.new.count ≡ self.old.count) }
-        ensures cause { IfErr result (λ status. IsRefusedAdd (⟦<CompressorList as Coders>⟧.codings coders.now) self.old S.puts (key.now, value.now) sink.old status sink.new) }
-        ensures unset { self.old.broken ≡ false → IsFull self.old → ⟦<CompressorList as Coders>⟧.codings coders.now self.old.compressor ≡ None
+        ensures cause { IfErr result (λ status. IsRefusedAdd (⟦<CompressorList as Compressors>⟧.codings coders.now) self.old S.puts (key.now, value.now) sink.old status sink.new) }
+        ensures unset { self.old.broken ≡ false → IsFull self.old → ⟦<CompressorList as Compressors>⟧.codings coders.now self.old.compressor ≡ None
             → IsErrAnd result (λ status. IsUnset self.old.compressor status ⊎ IsOutOfMemory status) × (sink.new ≡ sink.old) }
-        ensures sink { OnErr result (TriesOpen (⟦<CompressorList as Coders>⟧.codings coders.now) self.old S.puts sink.old sink.new) }
+        ensures sink { OnErr result (TriesOpen (⟦<CompressorList as Compressors>⟧.codings coders.now) self.old S.puts sink.old sink.new) }
         ensures broken { self.old.broken ≡ true → IsErrAnd result IsBroken × (sink.new ≡ sink.old) }
         ensures unchanged { self.old.broken ≡ true → self.new ≡ self.old }
     {
@@ -176,15 +176,15 @@ impl<C: Cmp + Copy, FP: FilterPolicy> BuilderCore<C, FP> {
     where
         C: Drop,
         FP: Drop,
-        ensures ok { IfOk result (λ size. Finishes S.puts S.flushes (IsBegun (⟦<CompressorList as Coders>⟧.codings coders.now) C.accepts C.cmp C.shortest_sep FP.matches self)
-            (IsBuilt (⟦<CompressorList as Coders>⟧.codings coders.now) (C.accepts (order_of self)) (C.cmp (order_of self)) (C.shortest_sep (order_of self)) (C.short_succ (order_of self))
+        ensures ok { IfOk result (λ size. Finishes S.puts S.flushes (IsBegun (⟦<CompressorList as Compressors>⟧.codings coders.now) C.accepts C.cmp C.shortest_sep FP.matches self)
+            (IsBuilt (⟦<CompressorList as Compressors>⟧.codings coders.now) (C.accepts (order_of self)) (C.cmp (order_of self)) (C.shortest_sep (order_of self)) (C.short_succ (order_of self))
             (FP.matches (policy_of self)) (FP.filter_for (policy_of self)) self.compressor (FP.name (policy_of self)) self.block.interval self.index.interval)
             sink.old size sink.new) }
         ensures unbroken { OnOk result (self.broken ≡ false) }
-        ensures cause { IfErr result (λ status. IsRefusedFinish (⟦<CompressorList as Coders>⟧.codings coders.now) self S.puts S.flushes sink.old status sink.new) }
-        ensures unset_rest { self.broken ≡ false → (stage self).open_pairs ≡ [] → ⟦<CompressorList as Coders>⟧.codings coders.now self.compressor ≡ None
+        ensures cause { IfErr result (λ status. IsRefusedFinish (⟦<CompressorList as Compressors>⟧.codings coders.now) self S.puts S.flushes sink.old status sink.new) }
+        ensures unset_rest { self.broken ≡ false → (stage self).open_pairs ≡ [] → ⟦<CompressorList as Compressors>⟧.codings coders.now self.compressor ≡ None
             → IsErrAnd result (λ status. StopsUnset (FP.too_large (policy_of self)) (FP.filter_for (policy_of self)) self.compressor (FP.name (policy_of self)) (stage self) S.puts sink.old status sink.new) }
-        ensures unset { self.broken ≡ false → (stage self).open_pairs ≢ [] → ⟦<CompressorList as Coders>⟧.codings coders.now self.compressor ≡ None
+        ensures unset { self.broken ≡ false → (stage self).open_pairs ≢ [] → ⟦<CompressorList as Compressors>⟧.codings coders.now self.compressor ≡ None
             → IsErrAnd result (λ status. IsUnset self.compressor status ⊎ IsOutOfMemory status) × (sink.new ≡ sink.old) }
         ensures broken { self.broken ≡ true → IsErrAnd result IsBroken × (sink.new ≡ sink.old) }
     {
@@ -215,17 +215,17 @@ impl<C: Cmp + Copy, FP: FilterPolicy> BuilderCore<C, FP> {
         requires sound { Ready C.accepts C.cmp self.old next.now }
         requires some { (stage self.old).open_pairs ≡ [] → (stage self.old).lines ≡ [] }
         ensures ok { OnOk result (MakesRoom S.puts
-            (IsBegun (⟦<CompressorList as Coders>⟧.codings coders.now) C.accepts C.cmp C.shortest_sep FP.matches self.old)
-            (Decodes (⟦<CompressorList as Coders>⟧.codings coders.now)) (C.accepts (order_of self.old)) (C.cmp (order_of self.old)) (C.shortest_sep (order_of self.old)) (FP.matches (policy_of self.old))
+            (IsBegun (⟦<CompressorList as Compressors>⟧.codings coders.now) C.accepts C.cmp C.shortest_sep FP.matches self.old)
+            (Decodes (⟦<CompressorList as Compressors>⟧.codings coders.now)) (C.accepts (order_of self.old)) (C.cmp (order_of self.old)) (C.shortest_sep (order_of self.old)) (FP.matches (policy_of self.old))
             (FP.filter_for (policy_of self.old)) self.old.compressor (stage self.new) next.now sink.old sink.new) }
         ensures full { OnOk result (IsFull self.old → (stage self.new).open_pairs ≡ []) }
-        ensures has_room { OnOk result (HasRoom (⟦<CompressorList as Coders>⟧.codings coders.now) self.old S.puts next.now self.new sink.old sink.new) }
+        ensures has_room { OnOk result (HasRoom (⟦<CompressorList as Compressors>⟧.codings coders.now) self.old S.puts next.now self.new sink.old sink.new) }
         ensures ready { OnOk result (Ready C.accepts C.cmp self.new next.now) }
         ensures choices { KeepsChoices self.old self.new }
         ensures count { self.new.count ≡ self.old.count }
         ensures broken { self.new.broken ≡ true }
-        ensures cause { IfErr result (λ status. IsFull self.old × IsNotClosed (⟦<CompressorList as Coders>⟧.codings coders.now) self.old S.puts next.now sink.old status sink.new) }
-        ensures unset { IsFull self.old → ⟦<CompressorList as Coders>⟧.codings coders.now self.old.compressor ≡ None
+        ensures cause { IfErr result (λ status. IsFull self.old × IsNotClosed (⟦<CompressorList as Compressors>⟧.codings coders.now) self.old S.puts next.now sink.old status sink.new) }
+        ensures unset { IsFull self.old → ⟦<CompressorList as Compressors>⟧.codings coders.now self.old.compressor ≡ None
             → IsErrAnd result (λ status. IsUnset self.old.compressor status ⊎ IsOutOfMemory status) × (sink.new ≡ sink.old) }
     {
         if self.block.entries() > 0 && self.block.size_estimate() > self.block_size {
@@ -240,16 +240,16 @@ impl<C: Cmp + Copy, FP: FilterPolicy> BuilderCore<C, FP> {
         requires sound { IsReady C.accepts C.cmp self.old }
         requires some { (stage self.old).open_pairs ≡ [] → (stage self.old).lines ≡ [] }
         ensures ok { OnOk result (ClosesLast S.puts
-            (IsBegun (⟦<CompressorList as Coders>⟧.codings coders.now) C.accepts C.cmp C.shortest_sep FP.matches self.old)
-            (Decodes (⟦<CompressorList as Coders>⟧.codings coders.now)) (C.accepts (order_of self.old)) (C.cmp (order_of self.old)) (C.shortest_sep (order_of self.old)) (C.short_succ (order_of self.old))
+            (IsBegun (⟦<CompressorList as Compressors>⟧.codings coders.now) C.accepts C.cmp C.shortest_sep FP.matches self.old)
+            (Decodes (⟦<CompressorList as Compressors>⟧.codings coders.now)) (C.accepts (order_of self.old)) (C.cmp (order_of self.old)) (C.shortest_sep (order_of self.old)) (C.short_succ (order_of self.old))
             (FP.matches (policy_of self.old)) (FP.filter_for (policy_of self.old)) self.old.compressor (stage self.new) sink.old sink.new) }
         ensures order { OnOk result (C.cmp self.new.index.cmp ≡ C.cmp (order_of self.old)) }
         ensures policy { policy_of self.new ≡ policy_of self.old }
         ensures coder { self.new.compressor ≡ self.old.compressor }
         ensures intervals { (self.new.block.interval ≡ self.old.block.interval) × (self.new.index.interval ≡ self.old.index.interval) }
-        ensures rest { OnOk result (ClosesRest (⟦<CompressorList as Coders>⟧.codings coders.now) self.old S.puts (stage self.new) sink.old sink.new) }
-        ensures cause { IfErr result (λ status. IsLeftOpen (⟦<CompressorList as Coders>⟧.codings coders.now) self.old S.puts sink.old status sink.new) }
-        ensures unset { (stage self.old).open_pairs ≢ [] → ⟦<CompressorList as Coders>⟧.codings coders.now self.old.compressor ≡ None
+        ensures rest { OnOk result (ClosesRest (⟦<CompressorList as Compressors>⟧.codings coders.now) self.old S.puts (stage self.new) sink.old sink.new) }
+        ensures cause { IfErr result (λ status. IsLeftOpen (⟦<CompressorList as Compressors>⟧.codings coders.now) self.old S.puts sink.old status sink.new) }
+        ensures unset { (stage self.old).open_pairs ≢ [] → ⟦<CompressorList as Compressors>⟧.codings coders.now self.old.compressor ≡ None
             → IsErrAnd result (λ status. IsUnset self.old.compressor status ⊎ IsOutOfMemory status) × (sink.new ≡ sink.old) }
     {
         if self.block.entries() == 0 {
@@ -270,15 +270,15 @@ impl<C: Cmp + Copy, FP: FilterPolicy> BuilderCore<C, FP> {
         requires broken { self.old.broken ≡ true }
         requires closable { IsClosable C.accepts C.cmp self.old next.now }
         ensures ok { OnOk result ((bytes : List ℕ) × S.puts sink.old bytes (Ok tt) sink.new
-            × Closes (Decodes (⟦<CompressorList as Coders>⟧.codings coders.now)) (C.cmp (order_of self.old)) (C.shortest_sep (order_of self.old)) (FP.filter_for (policy_of self.old))
+            × Closes (Decodes (⟦<CompressorList as Compressors>⟧.codings coders.now)) (C.cmp (order_of self.old)) (C.shortest_sep (order_of self.old)) (FP.filter_for (policy_of self.old))
             self.old.compressor next.now (stage self.old) bytes (stage self.new)) }
         ensures open_filter { OnOk result (IsReady C.accepts C.cmp self.new) }
         ensures fresh { OnOk result (self.new.block.built.0 ≡ []) }
         ensures choices { KeepsChoices self.old self.new }
         ensures broken { self.new.broken ≡ true }
         ensures count { self.new.count ≡ self.old.count }
-        ensures cause { IfErr result (λ status. IsNotClosed (⟦<CompressorList as Coders>⟧.codings coders.now) self.old S.puts next.now sink.old status sink.new) }
-        ensures unset { ⟦<CompressorList as Coders>⟧.codings coders.now self.old.compressor ≡ None
+        ensures cause { IfErr result (λ status. IsNotClosed (⟦<CompressorList as Compressors>⟧.codings coders.now) self.old S.puts next.now sink.old status sink.new) }
+        ensures unset { ⟦<CompressorList as Compressors>⟧.codings coders.now self.old.compressor ≡ None
             → IsErrAnd result (λ status. IsUnset self.old.compressor status ⊎ IsOutOfMemory status) × (sink.new ≡ sink.old) }
     {
         let last = self.block.last_key();
@@ -316,9 +316,9 @@ impl<C: Cmp + Copy, FP: FilterPolicy> BuilderCore<C, FP> {
     where
         C: Drop,
         FP: Drop,
-        ensures ok { IfOk result (λ size. PutsEnd S.puts S.flushes (Decodes (⟦<CompressorList as Coders>⟧.codings coders.now)) (C.cmp self.index.cmp) (FP.filter_for (policy_of self)) self.compressor (FP.name (policy_of self)) (stage self) sink.old size sink.new) }
-        ensures cause { IfErr result (λ status. StopsFromFilters (⟦<CompressorList as Coders>⟧.codings coders.now) (C.cmp self.index.cmp) (FP.too_large (policy_of self)) (FP.filter_for (policy_of self)) self.compressor (FP.name (policy_of self)) (stage self) S.puts S.flushes sink.old status sink.new) }
-        ensures unset { ⟦<CompressorList as Coders>⟧.codings coders.now self.compressor ≡ None → IsErr result }
+        ensures ok { IfOk result (λ size. PutsEnd S.puts S.flushes (Decodes (⟦<CompressorList as Compressors>⟧.codings coders.now)) (C.cmp self.index.cmp) (FP.filter_for (policy_of self)) self.compressor (FP.name (policy_of self)) (stage self) sink.old size sink.new) }
+        ensures cause { IfErr result (λ status. StopsFromFilters (⟦<CompressorList as Compressors>⟧.codings coders.now) (C.cmp self.index.cmp) (FP.too_large (policy_of self)) (FP.filter_for (policy_of self)) self.compressor (FP.name (policy_of self)) (stage self) S.puts S.flushes sink.old status sink.new) }
+        ensures unset { ⟦<CompressorList as Compressors>⟧.codings coders.now self.compressor ≡ None → IsErr result }
     {
         let BuilderCore {
             alloc,

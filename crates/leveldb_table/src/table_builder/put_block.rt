@@ -1,7 +1,7 @@
 //! Blocks put into a table's file, each with its trailer.
 ghost use Rattle.std.specs.Prelude.{◌≡◌, ◌+◌, ◌^◌, ◌<◌, ◌≤◌, ◌++◌, ◌∷◌, [], ℕ, List, None, IfOk, IfErr, IfSome, IfNone, OnOk, IsErrAnd, length};
 ghost use Rattle.leveldb_base.specs.Error.{IsOutOfMemory};
-ghost use Rattle.leveldb_env.specs.Coders.{Decodes, IsUnset};
+ghost use Rattle.leveldb_env.specs.Compressor.{Decodes, IsUnset};
 ghost use Rattle.leveldb_table.specs.Table.{with_trailer};
 ghost use Rattle.leveldb_table.specs.TablePuts.{PutsBlock, IsNotPut, IsRefused, PutsNone};
 
@@ -9,7 +9,7 @@ use super::TRAILER;
 use leveldb_base::blockhandle::BlockHandle;
 use leveldb_base::crc::{crc32, mask_crc};
 use leveldb_base::error::{Result, StatusCode, err};
-use leveldb_env::compressor::{Coders, Compressor, CompressorList};
+use leveldb_env::compressor::{Compressor, CompressorList, Compressors};
 use leveldb_env::env::Sink;
 use std::alloc::Global;
 
@@ -29,11 +29,11 @@ pub fn put_coded<S: Sink>(
     offset: usize,
     block: Vec<u8>,
 ) -> Result<Placed>
-    ensures ok { IfOk result (λ placed. (stored : List ℕ) × Decodes (⟦<CompressorList as Coders>⟧.codings coders.now) id stored block.items
+    ensures ok { IfOk result (λ placed. (stored : List ℕ) × Decodes (⟦<CompressorList as Compressors>⟧.codings coders.now) id stored block.items
         × PutsBlock S.puts id stored sink.old offset placed.handle placed.end sink.new) }
     ensures err { IfErr result (λ status. PutsNone S.puts sink.old status sink.new) }
-    ensures cause { IfErr result (λ status. IsNotPut S.puts (⟦<CompressorList as Coders>⟧.codings coders.now) id block.items offset sink.old status sink.new) }
-    ensures unset { ⟦<CompressorList as Coders>⟧.codings coders.now id ≡ None → IsErrAnd result (IsUnset id) × (sink.new ≡ sink.old) }
+    ensures cause { IfErr result (λ status. IsNotPut S.puts (⟦<CompressorList as Compressors>⟧.codings coders.now) id block.items offset sink.old status sink.new) }
+    ensures unset { ⟦<CompressorList as Compressors>⟧.codings coders.now id ≡ None → IsErrAnd result (IsUnset id) × (sink.new ≡ sink.old) }
 {
     let coder = coders.get(alloc, id)?;
     put_stored(alloc, sink, id, offset, coder.encode(alloc, block)?)

@@ -9,7 +9,7 @@ use crate::block_cache::BlockCache;
 use crate::table_reader::{Table, TableCore};
 use leveldb_base::cmp::Cmp;
 use leveldb_base::error::Result;
-use leveldb_env::compressor::{Coders, CompressorList};
+use leveldb_env::compressor::{CompressorList, Compressors};
 use leveldb_env::env::Env;
 use leveldb_env::filter::FilterPolicy;
 use std::alloc::Global;
@@ -62,7 +62,7 @@ impl<'a, E: Env, C: Cmp + Copy + Drop, FP: FilterPolicy> TableIterator<'a, E, C,
     /// Goes to the next pair, from no place to the first, and from the last to no place.
     /// Answers whether it stands on a pair.
     pub fn advance(&mut self, coders: &CompressorList) -> Result<bool>
-        ensures moves { Moves E.Env (⟦<CompressorList as Coders>⟧.codings coders.now) (C.cmp self.old.table.now.cmp) self.old.table.now.id self.old.table.now.file
+        ensures moves { Moves E.Env (⟦<CompressorList as Compressors>⟧.codings coders.now) (C.cmp self.old.table.now.cmp) self.old.table.now.id self.old.table.now.file
             (λ _. Unit {0}) next_position Forward
             self.old.env.now self.old.cache.now self.old.core result self.new.env.now self.new.cache.now self.new.core }
         ensures env_reference { self.new.env.ghost_name ≡ self.old.env.ghost_name }
@@ -76,7 +76,7 @@ impl<'a, E: Env, C: Cmp + Copy + Drop, FP: FilterPolicy> TableIterator<'a, E, C,
     /// Goes to the pair before, and from the first or from no place to no place.
     /// Answers whether it stands on a pair.
     pub fn prev(&mut self, coders: &CompressorList) -> Result<bool>
-        ensures moves { Moves E.Env (⟦<CompressorList as Coders>⟧.codings coders.now) (C.cmp self.old.table.now.cmp) self.old.table.now.id self.old.table.now.file
+        ensures moves { Moves E.Env (⟦<CompressorList as Compressors>⟧.codings coders.now) (C.cmp self.old.table.now.cmp) self.old.table.now.id self.old.table.now.file
             (λ _. Unit {0}) (λ _. previous_position) Backward
             self.old.env.now self.old.cache.now self.old.core result self.new.env.now self.new.cache.now self.new.core }
         ensures env_reference { self.new.env.ghost_name ≡ self.old.env.ghost_name }
@@ -89,7 +89,7 @@ impl<'a, E: Env, C: Cmp + Copy + Drop, FP: FilterPolicy> TableIterator<'a, E, C,
 
     /// Goes to the first pair whose key is at or after `key`, or to no place where all keys are before it.
     pub fn seek(&mut self, coders: &CompressorList, key: &[u8]) -> Result<()>
-        ensures moves { Moves E.Env (⟦<CompressorList as Coders>⟧.codings coders.now) (C.cmp self.old.table.now.cmp) self.old.table.now.id self.old.table.now.file
+        ensures moves { Moves E.Env (⟦<CompressorList as Compressors>⟧.codings coders.now) (C.cmp self.old.table.now.cmp) self.old.table.now.id self.old.table.now.file
             (CanSeek (C.accepts self.old.table.now.cmp) key.now) (λ pairs _. seek_position (C.cmp self.old.table.now.cmp) pairs key.now) (Sought key.now)
             self.old.env.now self.old.cache.now self.old.core result self.new.env.now self.new.cache.now self.new.core }
         ensures env_reference { self.new.env.ghost_name ≡ self.old.env.ghost_name }
@@ -102,7 +102,7 @@ impl<'a, E: Env, C: Cmp + Copy + Drop, FP: FilterPolicy> TableIterator<'a, E, C,
 
     /// Goes to the first pair, or to no place in an empty table.
     pub fn seek_to_first(&mut self, coders: &CompressorList) -> Result<()>
-        ensures moves { Moves E.Env (⟦<CompressorList as Coders>⟧.codings coders.now) (C.cmp self.old.table.now.cmp) self.old.table.now.id self.old.table.now.file
+        ensures moves { Moves E.Env (⟦<CompressorList as Compressors>⟧.codings coders.now) (C.cmp self.old.table.now.cmp) self.old.table.now.id self.old.table.now.file
             (λ _. Unit {0}) (λ pairs _. position_within pairs 0) ToFirst
             self.old.env.now self.old.cache.now self.old.core result self.new.env.now self.new.cache.now self.new.core }
         ensures env_reference { self.new.env.ghost_name ≡ self.old.env.ghost_name }

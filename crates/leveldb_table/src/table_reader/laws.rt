@@ -5,11 +5,10 @@ ghost use Rattle.leveldb_base.specs.BlockHandle.{Handle};
 ghost use Rattle.leveldb_base.specs.KeyTypes.{user_part};
 ghost use Rattle.leveldb_base.specs.Types.{Pair};
 ghost use Rattle.leveldb_base.specs.declared.cmp.internal.InternalKeyCmp.{InternalKeyCmp};
-ghost use Rattle.leveldb_env.specs.Coders.{Codings, Decodes};
+ghost use Rattle.leveldb_env.specs.Compressor.{Codings, Decodes};
 ghost use Rattle.leveldb_env.specs.FilterBlock.{passes};
-ghost use Rattle.leveldb_table.specs.Table.{Part, IsTabled, IsTable, AllPass, DecodesOne, OneTable, index_pair, filter_key, named_part};
+ghost use Rattle.leveldb_table.specs.Table.{Part, IsTabled, IsTable, AllPass, DecodesOne, OneTable, index_pair, filter_key, named_part, AreAccepted};
 ghost use Rattle.leveldb_table.specs.TableBuilding.{GoesByUsers};
-ghost use Rattle.leveldb_table.specs.Table.{AreAccepted};
 ghost use Rattle.leveldb_table.specs.TableReading.{Opens, OpensWell, HasParts, AllFit, KeepsTogether, HasNoneFrom, pairs_in};
 
 use leveldb_base::cmp::{Cmp, InternalKeyCmp, UserCmp};

@@ -20,7 +20,7 @@ use leveldb_base::blockhandle::BlockHandle;
 use leveldb_base::cmp::Cmp;
 use leveldb_base::error::{Result, StatusCode, err};
 use leveldb_base::types::LdbIterator;
-use leveldb_env::compressor::{Coders, CompressorList};
+use leveldb_env::compressor::{CompressorList, Compressors};
 use leveldb_env::env::Env;
 use leveldb_env::filter::FilterPolicy;
 use std::alloc::Global;
@@ -68,7 +68,7 @@ impl<C: Cmp + Copy + Drop> TableCore<C> {
         cache: &mut BlockCache<C>,
         coders: &CompressorList,
     ) -> Result<bool>
-        ensures moves { Moves E.Env (⟦<CompressorList as Coders>⟧.codings coders.now) (C.cmp table.now.cmp) table.now.id table.now.file
+        ensures moves { Moves E.Env (⟦<CompressorList as Compressors>⟧.codings coders.now) (C.cmp table.now.cmp) table.now.id table.now.file
             (λ _. Unit {0}) next_position Forward env.old cache.old self.old result env.new cache.new self.new }
         ensures answer { IfOk result (λ there. there ≡ is_some (inner_place self.new.inner)) }
     {
@@ -89,7 +89,7 @@ impl<C: Cmp + Copy + Drop> TableCore<C> {
         cache: &mut BlockCache<C>,
         coders: &CompressorList,
     ) -> Result<bool>
-        ensures moves { Moves E.Env (⟦<CompressorList as Coders>⟧.codings coders.now) (C.cmp table.now.cmp) table.now.id table.now.file
+        ensures moves { Moves E.Env (⟦<CompressorList as Compressors>⟧.codings coders.now) (C.cmp table.now.cmp) table.now.id table.now.file
             (λ _. Unit {0}) (λ _. previous_position) Backward env.old cache.old self.old result env.new cache.new self.new }
         ensures answer { IfOk result (λ there. there ≡ is_some (inner_place self.new.inner)) }
     {
@@ -111,7 +111,7 @@ impl<C: Cmp + Copy + Drop> TableCore<C> {
         coders: &CompressorList,
         key: &[u8],
     ) -> Result<()>
-        ensures moves { Moves E.Env (⟦<CompressorList as Coders>⟧.codings coders.now) (C.cmp table.now.cmp) table.now.id table.now.file
+        ensures moves { Moves E.Env (⟦<CompressorList as Compressors>⟧.codings coders.now) (C.cmp table.now.cmp) table.now.id table.now.file
             (CanSeek (C.accepts table.now.cmp) key.now) (λ pairs _. seek_position (C.cmp table.now.cmp) pairs key.now) (Sought key.now)
             env.old cache.old self.old result env.new cache.new self.new }
     {
@@ -132,7 +132,7 @@ impl<C: Cmp + Copy + Drop> TableCore<C> {
         cache: &mut BlockCache<C>,
         coders: &CompressorList,
     ) -> Result<()>
-        ensures moves { Moves E.Env (⟦<CompressorList as Coders>⟧.codings coders.now) (C.cmp table.now.cmp) table.now.id table.now.file
+        ensures moves { Moves E.Env (⟦<CompressorList as Compressors>⟧.codings coders.now) (C.cmp table.now.cmp) table.now.id table.now.file
             (λ _. Unit {0}) (λ pairs _. position_within pairs 0) ToFirst env.old cache.old self.old result env.new cache.new self.new }
     {
         self.reset();
@@ -176,7 +176,7 @@ impl<C: Cmp + Copy + Drop> TableCore<C> {
         coders: &CompressorList,
         key: &[u8],
     ) -> Result<bool>
-        ensures enters { Enters E.Env (⟦<CompressorList as Coders>⟧.codings coders.now) (C.cmp table.now.cmp) table.now.id table.now.file
+        ensures enters { Enters E.Env (⟦<CompressorList as Compressors>⟧.codings coders.now) (C.cmp table.now.cmp) table.now.id table.now.file
             (LetTo (C.accepts table.now.cmp) (C.cmp table.now.cmp) (lets FP.matches table.now) key.now) (LookedUp (lets FP.matches table.now) key.now)
             env.old cache.old self.old result env.new cache.new self.new }
         ensures answer { IfOk result (λ there. there ≡ is_some (inner_place self.new.inner)) }
@@ -221,7 +221,7 @@ impl<C: Cmp + Copy + Drop> TableCore<C> {
         requires line { place_over self.old.index ≡ seek_position (C.cmp self.old.index.block.cmp) (pairs_over self.old.index) key.now }
         requires names { IsNamedBy (line_of self.old) handle }
         requires fits { HandleFits handle }
-        ensures enters { Enters E.Env (⟦<CompressorList as Coders>⟧.codings coders.now) (C.cmp table.now.cmp) table.now.id table.now.file
+        ensures enters { Enters E.Env (⟦<CompressorList as Compressors>⟧.codings coders.now) (C.cmp table.now.cmp) table.now.id table.now.file
             (SeeksTo (C.accepts table.now.cmp) (C.cmp table.now.cmp) key.now) (Sought key.now) env.old cache.old self.old result env.new cache.new self.new }
     {
         self.load(table, env, cache, coders, handle)?;
@@ -240,7 +240,7 @@ impl<C: Cmp + Copy + Drop> TableCore<C> {
         cache: &mut BlockCache<C>,
         coders: &CompressorList,
     ) -> Result<bool>
-        ensures enters { Enters E.Env (⟦<CompressorList as Coders>⟧.codings coders.now) (C.cmp table.now.cmp) table.now.id table.now.file
+        ensures enters { Enters E.Env (⟦<CompressorList as Compressors>⟧.codings coders.now) (C.cmp table.now.cmp) table.now.id table.now.file
             (λ parts place. IsBehind parts (place_over self.old.index) place) ToNext env.old cache.old self.old result env.new cache.new self.new }
         ensures answer { IfOk result (λ there. there ≡ is_some (inner_place self.new.inner)) }
     {
@@ -263,7 +263,7 @@ impl<C: Cmp + Copy + Drop> TableCore<C> {
         cache: &mut BlockCache<C>,
         coders: &CompressorList,
     ) -> Result<bool>
-        ensures enters { Enters E.Env (⟦<CompressorList as Coders>⟧.codings coders.now) (C.cmp table.now.cmp) table.now.id table.now.file
+        ensures enters { Enters E.Env (⟦<CompressorList as Compressors>⟧.codings coders.now) (C.cmp table.now.cmp) table.now.id table.now.file
             (λ parts place. IsBefore parts (place_over self.old.index) place) ToPrevious env.old cache.old self.old result env.new cache.new self.new }
         ensures answer { IfOk result (λ there. there ≡ is_some (inner_place self.new.inner)) }
     {
@@ -287,12 +287,12 @@ impl<C: Cmp + Copy + Drop> TableCore<C> {
         coders: &CompressorList,
     ) -> Result<()>
         requires { is_some (line_of self.old) ≡ true }
-        ensures reads { Reads E.Env (IsLacking E.Env (⟦<CompressorList as Coders>⟧.codings coders.now) (λ bytes. LacksLine (⟦<CompressorList as Coders>⟧.codings coders.now) (C.cmp table.now.cmp) bytes (line_of self.old)) env.old table.now.file) env.old table.now.file env.new result }
-        ensures block { OnOk result (Whatever E.Env env.old table.now.file (λ bytes. HoldsOf (⟦<CompressorList as Coders>⟧.codings coders.now) (C.cmp table.now.cmp) table.now.id bytes cache.old → IsBlockOf (⟦<CompressorList as Coders>⟧.codings coders.now) (C.cmp table.now.cmp) bytes (line_of self.old) (inner_block self.new.inner))) }
+        ensures reads { Reads E.Env (IsLacking E.Env (⟦<CompressorList as Compressors>⟧.codings coders.now) (λ bytes. LacksLine (⟦<CompressorList as Compressors>⟧.codings coders.now) (C.cmp table.now.cmp) bytes (line_of self.old)) env.old table.now.file) env.old table.now.file env.new result }
+        ensures block { OnOk result (Whatever E.Env env.old table.now.file (λ bytes. HoldsOf (⟦<CompressorList as Compressors>⟧.codings coders.now) (C.cmp table.now.cmp) table.now.id bytes cache.old → IsBlockOf (⟦<CompressorList as Compressors>⟧.codings coders.now) (C.cmp table.now.cmp) bytes (line_of self.old) (inner_block self.new.inner))) }
         ensures place { OnOk result (inner_place self.new.inner ≡ None) }
         ensures err { OnErr result (self.new.inner ≡ self.old.inner) }
         ensures index { self.new.index ≡ self.old.index }
-        ensures gathers { Gathers table.now.id (λ offset held. Whatever E.Env env.old table.now.file (λ bytes. IsOf (⟦<CompressorList as Coders>⟧.codings coders.now) (C.cmp table.now.cmp) bytes offset held)) cache.old cache.new }
+        ensures gathers { Gathers table.now.id (λ offset held. Whatever E.Env env.old table.now.file (λ bytes. IsOf (⟦<CompressorList as Compressors>⟧.codings coders.now) (C.cmp table.now.cmp) bytes offset held)) cache.old cache.new }
     {
         let Some((_, value)) = self.index.current() else {
             return Ok(());
@@ -310,12 +310,12 @@ impl<C: Cmp + Copy + Drop> TableCore<C> {
         coders: &CompressorList,
         handle: BlockHandle,
     ) -> Result<()>
-        ensures reads { Reads E.Env (IsLacking E.Env (⟦<CompressorList as Coders>⟧.codings coders.now) (λ bytes. LacksBlock (⟦<CompressorList as Coders>⟧.codings coders.now) (C.cmp table.now.cmp) bytes handle) env.old table.now.file) env.old table.now.file env.new result }
-        ensures block { OnOk result (Whatever E.Env env.old table.now.file (λ bytes. HoldsOf (⟦<CompressorList as Coders>⟧.codings coders.now) (C.cmp table.now.cmp) table.now.id bytes cache.old → IsBlockAt (⟦<CompressorList as Coders>⟧.codings coders.now) (C.cmp table.now.cmp) bytes handle (inner_block self.new.inner))) }
+        ensures reads { Reads E.Env (IsLacking E.Env (⟦<CompressorList as Compressors>⟧.codings coders.now) (λ bytes. LacksBlock (⟦<CompressorList as Compressors>⟧.codings coders.now) (C.cmp table.now.cmp) bytes handle) env.old table.now.file) env.old table.now.file env.new result }
+        ensures block { OnOk result (Whatever E.Env env.old table.now.file (λ bytes. HoldsOf (⟦<CompressorList as Compressors>⟧.codings coders.now) (C.cmp table.now.cmp) table.now.id bytes cache.old → IsBlockAt (⟦<CompressorList as Compressors>⟧.codings coders.now) (C.cmp table.now.cmp) bytes handle (inner_block self.new.inner))) }
         ensures place { OnOk result (inner_place self.new.inner ≡ None) }
         ensures err { OnErr result (self.new.inner ≡ self.old.inner) }
         ensures index { self.new.index ≡ self.old.index }
-        ensures gathers { Gathers table.now.id (λ offset held. Whatever E.Env env.old table.now.file (λ bytes. IsOf (⟦<CompressorList as Coders>⟧.codings coders.now) (C.cmp table.now.cmp) bytes offset held)) cache.old cache.new }
+        ensures gathers { Gathers table.now.id (λ offset held. Whatever E.Env env.old table.now.file (λ bytes. IsOf (⟦<CompressorList as Compressors>⟧.codings coders.now) (C.cmp table.now.cmp) bytes offset held)) cache.old cache.new }
     {
         let block = table.read_block(self.alloc, env, cache, coders, handle)?;
         self.inner = Some(BlockWalk::new(self.alloc, block));

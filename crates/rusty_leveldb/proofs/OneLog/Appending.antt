@@ -3,11 +3,11 @@ use Rattle.std.proofs.Common.{◌≡◌, ◌≢◌, ◌≤◌, ◌<◌, ◌+◌,
 use Rattle.std.proofs.lemmas.List.{get_or-take, get_or_past, take_all, take-append-drop, take-append-le, length-take}
 use Rattle.std.proofs.lemmas.Bool.{cases_lt}
 use Rattle.leveldb_base.specs.History.{Item, Entry, History, IsPrefixAtLeast, placed, entries_of, greatest}
-use Rattle.leveldb_env.specs.Disk.{File, bytes_of, kept_file, longer_file, AreBytes}
-use Rattle.leveldb_mem.specs.Log.{log_block_size, End, clean, IsLogFile, frame_at}
-use Rattle.leveldb_mem.specs.Honest.{HonestTail}
-use Rattle.leveldb_mem.specs.LogLaws.{log_laws, AreFirst}
-use Rattle.leveldb_mem.specs.Batch.{Batch, BatchOf, batch_bytes}
+use Rattle.leveldb_env.specs.Env.{File, bytes_of, kept_file, longer_file, AreBytes}
+use Rattle.leveldb_mem.specs.Log.{log_block_size, End, clean, IsLogFile, frame_at, HonestTail}
+use Rattle.leveldb_mem.proofs.LawsLemmas.{log_laws}
+use Rattle.leveldb_mem.specs.Laws.{AreFirst}
+use Rattle.leveldb_mem.specs.WriteBatch.{Batch, BatchOf, batch_bytes}
 use Rattle.rusty_leveldb.specs.OneLog.{Each, IsRecordOf, AreInOrder, contents_of, max_sequence}
 use Rattle.rusty_leveldb.specs.Holds.{Tells}
 use Rattle.rusty_leveldb.proofs.Histories.{placed_length}
@@ -19,7 +19,7 @@ use Rattle.rusty_leveldb.proofs.OneLog.LogFile.{Carried, CarriedBeginning, Safe,
 pub batch_some : (bytes : List ℕ) (first : ℕ) (items : List Item) → BatchOf bytes first items → bytes ≢ []
 unfolding batch_bytes
 batch_some bytes first items is e =
-    let whole : batch_bytes first items ≡ [] = sym is.spelled ∙ e in cc
+    let whole : batch_bytes first items ≡ [] = sym is.encoded ∙ e in cc
 
 -- what is read of some bytes, and what it tells
 pub record Reading (bytes : List ℕ) (bound : ℕ) (history : History) : Type 0 where
@@ -39,7 +39,7 @@ reading bound history file c = record {
   batches = c.read.0;
   each = c.read.1.each;
   order = c.read.1.order;
-  tells = subst (λ x. Tells bound x history) c.read.2 c.tells;
+  tells = subst (λ x. Tells bound x history) c.read.2 c.observed;
 }
 
 pub carrying : (bound : ℕ) (history : History) (file : File) (records : List (List ℕ)) (end : End) (batches : List Batch) → IsLogFile (bytes_of file) records end → Each IsRecordOf records batches
@@ -100,7 +100,7 @@ module _ (file : File) (history : History) (bound covered : ℕ) (safe : Safe bo
           let read_too : IsLogFile bytes (take n now.records) e = subst (λ b. IsLogFile b (take n now.records) e) (sym (append-nil (file.kept ++ take k file.since))) read in
           let same : r.records ≡ take n now.records = (log_laws.one bytes r.records (take n now.records) r.end e r.read read_too).0 in
           let same_batches : r.batches ≡ take n now.batches = one_batches (take n now.records) r.batches (take n now.batches) (subst (λ rs. Each IsRecordOf rs r.batches) same r.each) (each_take IsRecordOf n now.records now.batches now.each) in
-          record { part = (left_at k).part; beginning = (left_at k).beginning; tells = subst (λ bs. Tells bound (contents_of bs) (left_at k).part) same_batches r.tells }
+          record { part = (left_at k).part; beginning = (left_at k).beginning; tells = subst (λ bs. Tells bound (contents_of bs) (left_at k).part) same_batches r.observed }
 
   -- and so do the first of the records that are found behind a crash
   pub some_carried : (left : File) (n : ℕ) (e : End) → length first ≤ n → n ≤ length now.records → IsLogFile (bytes_of left) (take n now.records) e → CarriedBeginning bound covered history (Some left)
@@ -109,7 +109,7 @@ module _ (file : File) (history : History) (bound covered : ℕ) (safe : Safe bo
       record {
         part = p.part;
         beginning = p.beginning;
-        carried = carrying bound p.part left (take n now.records) e (take n now.batches) read (each_take IsRecordOf n now.records now.batches now.each) (order_take n 0 now.batches now.order) p.tells;
+        carried = carrying bound p.part left (take n now.records) e (take n now.batches) read (each_take IsRecordOf n now.records now.batches now.each) (order_take n 0 now.batches now.order) p.observed;
       }
 
 -- ---- one batch more
@@ -174,12 +174,12 @@ module _ (file : File) (history : History) (last covered : ℕ) (has : Carried l
   with_batch : (left : File) (e : End) → IsLogFile (bytes_of left) (now.records ++ record' ∷ []) e → Carried bound longer (Some left)
   with_batch left e read = carrying bound longer left (now.records ++ record' ∷ []) e one_more read
       (each_more IsRecordOf now.records now.batches record' (batch_at (last + 1) items) now.each is_batch)
-      (order_one_more last items now.batches history now.tells reached now.order first_fits all_fit)
-      (subst (λ n. Tells n (contents_of one_more) longer) (ap (λ n. last + n) (sym (placed_length (last + 1) items))) (tells_more last items now.batches history now.tells reached))
+      (order_one_more last items now.batches history now.observed reached now.order first_fits all_fit)
+      (subst (λ n. Tells n (contents_of one_more) longer) (ap (λ n. last + n) (sym (placed_length (last + 1) items))) (tells_more last items now.batches history now.observed reached))
 
   -- a file without it carries what it did
   without_batch : (left : File) (e : End) → IsLogFile (bytes_of left) now.records e → Carried bound history (Some left)
-  without_batch left e read = carried_more last bound history (Some left) (omega arith) (carrying last history left now.records e now.batches read now.each now.order now.tells)
+  without_batch left e read = carried_more last bound history (Some left) (omega arith) (carrying last history left now.records e now.batches read now.each now.order now.observed)
 
   -- what stands with so much of the frame: the records from before, or those and the new one
   pub record Stands (n : ℕ) : Type 0 where

@@ -5,7 +5,7 @@ use Rattle.std.proofs.lemmas.List.Concat.{flat_map-append}
 use Rattle.std.proofs.lemmas.List.Elements.{Contains-append_cases}
 use Rattle.leveldb_base.specs.History.{Item, Entry, History, placed, entries_of, greatest, SameView}
 use Rattle.leveldb_base.proofs.HistoryLemmas.{same_with_more}
-use Rattle.leveldb_mem.specs.Batch.{Batch}
+use Rattle.leveldb_mem.specs.WriteBatch.{Batch}
 use Rattle.rusty_leveldb.specs.OneLog.{AreInOrder, entries_in, all_entries, contents_of, max_sequence}
 use Rattle.rusty_leveldb.specs.Holds.{Tells}
 use Rattle.rusty_leveldb.proofs.Histories.{greatest_append, up_to_greatest, up_to, placed_above, placed_greatest, entries_more}

@@ -1,7 +1,7 @@
 -- A disk whose store is one log: what is read of it, and what is safe on it, is so by the log's file alone.
 use Rattle.std.proofs.Common.{◌≡◌, ◌≤◌, ◌+◌, inl, inr, ⊎_elim, ℕ, List, ◌++◌, length, sym, ap, subst, arith, Option, Some, None}
 use Rattle.leveldb_base.specs.History.{Entry, History, with_batch, count_of}
-use Rattle.leveldb_env.specs.Disk.{File, Files, kept_file, LeavesFile}
+use Rattle.leveldb_env.specs.Env.{File, Files, kept_file, FileCrashesTo}
 use Rattle.rusty_leveldb.specs.Contents.{Store, missing, made, Contents, Stays}
 use Rattle.rusty_leveldb.specs.OneLog.{log_path, IsRead, IsOneLog}
 use Rattle.rusty_leveldb.specs.Holds.{Carries, IsSafe, Holds, HasStore, KeepsStore}
@@ -65,7 +65,7 @@ module _ (store : List ℕ) where
   pub store_stays : (there : Store) (files : Files) (contents : Contents) → reads files contents → contents.store ≡ there → KeepsStore store reads there files
   store_stays there files contents read is left found leaves honest found_read = subst (λ s. Stays s found.store) is (by_file (files name) (left name) (leaves name) read found_read)
     where
-      by_file : (file crashed : Option File) → LeavesFile file crashed → IsRead file contents → IsRead crashed found → Stays contents.store found.store
+      by_file : (file crashed : Option File) → FileCrashesTo file crashed → IsRead file contents → IsRead crashed found → Stays contents.store found.store
       by_file None crashed leaves_it here after = subst (λ s. Stays s found.store) (ap (λ c. c.store) (sym here)) tt
       by_file (Some file) crashed leaves_it here after =
           let named : IsRead (Some (kept_file (file.kept ++ leaves_it.0))) found = subst (λ f. IsRead f found) leaves_it.3 after in
@@ -74,7 +74,7 @@ module _ (store : List ℕ) where
   -- so a log that is there is a store behind each crash
   pub log_keeps : (there : Store) (file : File) (files : Files) → there ≡ made None → files name ≡ Some file → KeepsStore store reads there files
   log_keeps there file files is at left contents leaves honest read =
-      let leaves_log = subst (λ f. LeavesFile f (left name)) at (leaves name) in
+      let leaves_log = subst (λ f. FileCrashesTo f (left name)) at (leaves name) in
       subst (λ s. Stays s contents.store) (sym is) (log_is_store (kept_file (file.kept ++ leaves_log.0)) left leaves_log.3 contents read)
 
   -- ---- a log that is kept
@@ -90,4 +90,4 @@ module _ (store : List ℕ) where
 
   -- the greatest number that is read is a bound
   pub carries_last : (files : Files) (history : History) (bound : ℕ) (c : Carries store reads bound history files) → Carries store reads c.contents.last history files
-  carries_last files history bound c = record { contents = c.contents; read = c.read; tells = record { same = c.tells.same; up_to = c.tells.up_to; reached = c.tells.reached; bounded = omega arith } }
+  carries_last files history bound c = record { contents = c.contents; read = c.read; tells = record { same = c.observed.same; up_to = c.observed.up_to; reached = c.observed.reached; bounded = omega arith } }

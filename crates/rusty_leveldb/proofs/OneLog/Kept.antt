@@ -5,10 +5,10 @@ use Rattle.std.specs.Option.{option_map}
 use Rattle.std.proofs.lemmas.List.{nil_from_length}
 use Rattle.std.proofs.lemmas.List.Elements.{All-nil, All-cons}
 use Rattle.leveldb_base.specs.History.{History, IsPrefixAtLeast}
-use Rattle.leveldb_env.specs.Disk.{File, bytes_of, kept_file, file_kept, LeavesFile}
+use Rattle.leveldb_env.specs.Env.{File, bytes_of, kept_file, file_kept, FileCrashesTo}
 use Rattle.leveldb_mem.specs.Log.{log_block_size, End, clean, IsLogFile, framed}
-use Rattle.leveldb_mem.specs.LogLaws.{log_laws, framing_reads, records_framed, usual_size}
-use Rattle.leveldb_mem.specs.Batch.{Batch}
+use Rattle.leveldb_mem.proofs.LawsLemmas.{log_laws, framing_reads, records_framed, usual_size}
+use Rattle.leveldb_mem.specs.WriteBatch.{Batch}
 use Rattle.rusty_leveldb.specs.OneLog.{Each, IsRecordOf, contents_of}
 use Rattle.rusty_leveldb.specs.Contents.{nothing_there}
 use Rattle.rusty_leveldb.specs.Holds.{Tells}
@@ -21,7 +21,7 @@ use Rattle.rusty_leveldb.proofs.OneLog.Appending.{reading, carrying, batch_some}
 pub same_bytes : (bound : ℕ) (history : History) (file other : File) → bytes_of file ≡ bytes_of other → Carried bound history (Some file) → Carried bound history (Some other)
 same_bytes bound history file other same c =
     let r = reading bound history file c in
-    carrying bound history other r.records r.end r.batches (subst (λ b. IsLogFile b r.records r.end) same r.read) r.each r.order r.tells
+    carrying bound history other r.records r.end r.batches (subst (λ b. IsLogFile b r.records r.end) same r.read) r.each r.order r.observed
 
 -- a sync changes nothing that is read
 pub kept_carries : (bound : ℕ) (history : History) (file : Option File) → Carried bound history file → Carried bound history (option_map file_kept file)
@@ -34,7 +34,7 @@ pub same_records : (bound : ℕ) (history : History) (file other : File) (record
 same_records bound history file other records end other_end is is_other c =
     let r = reading bound history file c in
     let same = (log_laws.one (bytes_of file) records r.records end r.end is r.read).0 in
-    carrying bound history other r.records other_end r.batches (subst (λ rs. IsLogFile (bytes_of other) rs other_end) same is_other) r.each r.order r.tells
+    carrying bound history other r.records other_end r.batches (subst (λ rs. IsLogFile (bytes_of other) rs other_end) same is_other) r.each r.order r.observed
 
 -- ---- nothing to lose
 
@@ -48,7 +48,7 @@ kept_is None = tt
 kept_is (Some file) = refl
 
 -- a crash leaves all of such a file
-pub left_of_kept : (bound : ℕ) (history : History) (file left : Option File) → IsKept file → LeavesFile file left → Carried bound history file → Carried bound history left
+pub left_of_kept : (bound : ℕ) (history : History) (file left : Option File) → IsKept file → FileCrashesTo file left → Carried bound history file → Carried bound history left
 left_of_kept bound history None left is leaves c = subst (Carried bound history) (sym leaves) c
 left_of_kept bound history (Some file) left is leaves c =
     let few = ap length is in
@@ -75,7 +75,7 @@ created_carries bound history c = record {
 }
   where
     tells : Tells bound nothing_there history
-    tells = subst (λ x. Tells bound x history) c.read c.tells
+    tells = subst (λ x. Tells bound x history) c.read c.observed
 
 -- ---- a log that is written anew
 

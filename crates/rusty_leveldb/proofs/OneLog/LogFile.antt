@@ -5,12 +5,11 @@ use Rattle.std.specs.Str.{bytes_eq}
 use Rattle.std.specs.Cmp.Lexicographic.{bytes_decides}
 use Rattle.leveldb_base.specs.History.{History, IsPrefixAtLeast}
 use Rattle.leveldb_base.specs.Names.{IsNumber}
-use Rattle.leveldb_env.specs.Disk.{File, Files, bytes_of, kept_file, with_file, AreBytes, LeavesFile, Leaves}
-use Rattle.leveldb_env.specs.FileLaws.{at_same, at_other}
-use Rattle.leveldb_mem.specs.Log.{log_block_size, End, IsLogFile}
-use Rattle.leveldb_mem.specs.Honest.{HonestTail}
-use Rattle.leveldb_mem.specs.LogLaws.{cut_is_honest}
-use Rattle.leveldb_mem.specs.Batch.{Batch}
+use Rattle.leveldb_env.specs.Env.{File, Files, bytes_of, kept_file, with_file, AreBytes, FileCrashesTo, FilesCrashTo}
+use Rattle.leveldb_env.proofs.EnvLemmas.{at_same, at_other}
+use Rattle.leveldb_mem.specs.Log.{log_block_size, End, IsLogFile, HonestTail}
+use Rattle.leveldb_mem.proofs.LawsLemmas.{cut_is_honest}
+use Rattle.leveldb_mem.specs.WriteBatch.{Batch}
 use Rattle.rusty_leveldb.specs.Contents.{Contents}
 use Rattle.rusty_leveldb.specs.OneLog.{log_path, Each, IsRecordOf, AreInOrder, contents_of, IsRead, IsOneLog}
 use Rattle.rusty_leveldb.specs.Names.{IsJournal}
@@ -45,14 +44,14 @@ Honest file left = (was is : File) → file ≡ Some was → left ≡ Some is �
 
 -- whatever an honest crash leaves of the file carries such a beginning
 abbrev pub Safe : ℕ → ℕ → History → Option File → Type 0
-Safe bound covered history file = (left : Option File) → LeavesFile file left → Honest file left → CarriedBeginning bound covered history left
+Safe bound covered history file = (left : Option File) → FileCrashesTo file left → Honest file left → CarriedBeginning bound covered history left
 
 -- a bound that is greater
 pub carried_more : (bound more : ℕ) (history : History) (file : Option File) → bound ≤ more → Carried bound history file → Carried more history file
 carried_more bound more history file most c = record {
   contents = c.contents;
   read = c.read;
-  tells = record { same = c.tells.same; up_to = c.tells.up_to; reached = c.tells.reached; bounded = omega (arith, c.tells.bounded, most) };
+  tells = record { same = c.observed.same; up_to = c.observed.up_to; reached = c.observed.reached; bounded = omega (arith, c.observed.bounded, most) };
 }
 
 pub some_is : {A : Type 0} (a b : A) → Some a ≡ Some b → a ≡ b
@@ -68,7 +67,7 @@ cut (Some file) = Some (kept_file (file.kept ++ []))
 no_bytes : AreBytes []
 no_bytes i = omega arith
 
-pub cut_leaves : (file : Option File) → LeavesFile file (cut file)
+pub cut_leaves : (file : Option File) → FileCrashesTo file (cut file)
 cut_leaves None = refl
 cut_leaves (Some file) = ([], no_bytes, omega arith, refl)
 
@@ -96,10 +95,10 @@ module _ (store : List ℕ) where
   reads = IsOneLog (log_path store)
 
   pub carried : (bound : ℕ) (history : History) (files : Files) → Carries store reads bound history files → Carried bound history (files name)
-  carried bound history files c = record { contents = c.contents; read = c.read; tells = c.tells }
+  carried bound history files c = record { contents = c.contents; read = c.read; tells = c.observed }
 
   pub carries : (bound : ℕ) (history : History) (files : Files) → Carried bound history (files name) → Carries store reads bound history files
-  carries bound history files c = record { contents = c.contents; read = c.read; tells = c.tells }
+  carries bound history files c = record { contents = c.contents; read = c.read; tells = c.observed }
 
   -- the log's name is a journal's
   pub is_journal : IsJournal store name
@@ -126,12 +125,12 @@ module _ (store : List ℕ) where
       elsewhere : (other : List ℕ) → bytes_eq name other ≡ false → others other ≡ cut (files other)
       elsewhere other apart = at_other name left (λ q. cut (files q)) other apart
 
-      all_leaves : Leaves files others
+      all_leaves : FilesCrashTo files others
       all_leaves other = by_name (bytes_eq name other) refl
         where
-          by_name : (b : Bool) → bytes_eq name other ≡ b → LeavesFile (files other) (others other)
-          by_name true e = subst (λ q. LeavesFile (files q) (others q)) ((bytes_decides name other).0 e) (subst (LeavesFile (files name)) (sym here) leaves)
-          by_name false e = subst (LeavesFile (files other)) (sym (elsewhere other e)) (cut_leaves (files other))
+          by_name : (b : Bool) → bytes_eq name other ≡ b → FileCrashesTo (files other) (others other)
+          by_name true e = subst (λ q. FileCrashesTo (files q) (others q)) ((bytes_decides name other).0 e) (subst (FileCrashesTo (files name)) (sym here) leaves)
+          by_name false e = subst (FileCrashesTo (files other)) (sym (elsewhere other e)) (cut_leaves (files other))
 
       all_honest : IsHonest store files others
       all_honest other was is journal same_was same_is = by_name (bytes_eq name other) refl

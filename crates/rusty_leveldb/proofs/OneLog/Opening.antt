@@ -2,9 +2,8 @@
 use Rattle.std.proofs.Common.{◌≡◌, ◌≤◌, ◌+◌, ◌⊎◌, inl, inr, ⊎_elim, ℕ, List, [], ◌∷◌, ◌++◌, length, refl, sym, ◌∙◌, ap, subst, arith, Option, Some, None, length-append}
 use Rattle.leveldb_base.specs.History.{Entry, History, IsPrefixAtLeast, with_batch, count_of}
 use Rattle.leveldb_base.proofs.HistoryLemmas.{in_none}
-use Rattle.leveldb_env.specs.Disk.{File, Files, bytes_of, kept_file, created, renamed, deleted, or_empty}
-use Rattle.leveldb_env.specs.Calls.{EitherSide}
-use Rattle.leveldb_env.specs.FileLaws.{at_same, renamed-there}
+use Rattle.leveldb_env.specs.Env.{File, Files, bytes_of, kept_file, created, renamed, deleted, or_empty, BeforeOrAfter}
+use Rattle.leveldb_env.proofs.EnvLemmas.{at_same, renamed-there}
 use Rattle.leveldb_mem.specs.Log.{End, IsLogFile}
 use Rattle.rusty_leveldb.specs.Contents.{Contents, nothing_there}
 use Rattle.rusty_leveldb.specs.OneLog.{log_path, IsOneLog}
@@ -71,7 +70,7 @@ module _ (store : List ℕ) where
         carries store bound history m (subst (Carried bound history) (sym (created_there m e)) (created_carries bound history (subst (Carried bound history) gone (carried store bound history files c))))
 
     -- either side is safe
-    pub creating_safe : (bound covered : ℕ) (history part : History) (m : Files) → EitherSide (created name) files m → IsPrefixAtLeast covered history part → Carries store reads bound part files
+    pub creating_safe : (bound covered : ℕ) (history part : History) (m : Files) → BeforeOrAfter (created name) files m → IsPrefixAtLeast covered history part → Carries store reads bound part files
         → IsSafe store reads bound covered history files → IsSafe store reads bound covered history m
     creating_safe bound covered history part m (inl same) beginning c safe = safe_on store bound covered history files m (ap (λ (f : Files). f name) same) safe
     creating_safe bound covered history part m (inr e) beginning c safe =
@@ -99,7 +98,7 @@ module _ (store : List ℕ) where
         (same_records bound history file other records end other_end read read_too (subst (Carried bound history) there (carried store bound history files c))))
 
     -- either side is safe
-    pub replacing_safe : (bound covered : ℕ) (history part : History) (m : Files) → EitherSide (renamed from name) files m → IsPrefixAtLeast covered history part → Carries store reads bound part files
+    pub replacing_safe : (bound covered : ℕ) (history part : History) (m : Files) → BeforeOrAfter (renamed from name) files m → IsPrefixAtLeast covered history part → Carries store reads bound part files
         → IsSafe store reads bound covered history files → IsSafe store reads bound covered history m
     replacing_safe bound covered history part m (inl same) beginning c safe = safe_on store bound covered history files m (ap (λ (f : Files). f name) same) safe
     replacing_safe bound covered history part m (inr e) beginning c safe =

@@ -2,12 +2,11 @@
 use Rattle.std.proofs.Common.{◌≡◌, ◌≤◌, ◌+◌, ◌⊎◌, inl, inr, ⊎_elim, ℕ, List, [], ◌∷◌, ◌++◌, length, take, append_assoc, sym, ◌∙◌, ap, subst, arith, Some, None}
 use Rattle.std.specs.Option.{option_map}
 use Rattle.leveldb_base.specs.History.{Item, Entry, History, placed, entries_of, greatest}
-use Rattle.leveldb_env.specs.Disk.{File, Files, bytes_of, file_kept, longer_file, extended, synced, AreBytes}
-use Rattle.leveldb_env.specs.Calls.{EitherSide, Appending}
-use Rattle.leveldb_env.specs.FileLaws.{at_same, extended-same, appended}
+use Rattle.leveldb_env.specs.Env.{File, Files, bytes_of, file_kept, longer_file, extended, synced, AreBytes, BeforeOrAfter, PrefixAppended}
+use Rattle.leveldb_env.proofs.EnvLemmas.{at_same, extended-same, appended}
 use Rattle.leveldb_mem.specs.Log.{clean, IsLogFile, frame_at}
-use Rattle.leveldb_mem.specs.LogLaws.{log_laws}
-use Rattle.leveldb_mem.specs.Batch.{BatchOf}
+use Rattle.leveldb_mem.proofs.LawsLemmas.{log_laws}
+use Rattle.leveldb_mem.specs.WriteBatch.{BatchOf}
 use Rattle.rusty_leveldb.specs.Contents.{Contents}
 use Rattle.rusty_leveldb.specs.OneLog.{log_path, IsOneLog, max_sequence}
 use Rattle.rusty_leveldb.specs.Holds.{Carries, IsSafe, Holds}
@@ -50,7 +49,7 @@ module _ (store : List ℕ) where
         bound = omega arith
 
     -- each disk that the append passes is safe, with the batch in hand
-    pub appending_safe : (m : Files) → Appending name frame files m → IsSafe store reads (last + length batch) covered longer m
+    pub appending_safe : (m : Files) → PrefixAppended name frame files m → IsSafe store reads (last + length batch) covered longer m
     appending_safe m (inl same) = safe_on store (last + length batch) covered longer files m (ap (λ (f : Files). f name) same)
         (is_safe store (last + length batch) covered longer files (subst (Safe (last + length batch) covered longer) (sym there) (safe_longer last (last + length batch) covered history batch (Some file) (omega arith) safe)))
     appending_safe m (inr part) = is_safe store (last + length batch) covered longer m (subst (Safe (last + length batch) covered longer) (sym (grown_there m part.0 part.1))
@@ -60,10 +59,10 @@ module _ (store : List ℕ) where
         grown_there m n e = ap (λ (f : Files). f name) e ∙ extended-same name (take n frame) files file there
 
     -- a refused append leaves the batch pending
-    pub appending_holds : (m : Files) → Appending name frame files m → Holds store reads m history last covered (Some batch)
+    pub appending_holds : (m : Files) → PrefixAppended name frame files m → Holds store reads m history last covered (Some batch)
     appending_holds m passes = record { now = now_of passes; crash = appending_safe m passes }
       where
-        now_of : Appending name frame files m → Carries store reads (last + length batch) history m ⊎ Carries store reads (last + length batch) longer m
+        now_of : PrefixAppended name frame files m → Carries store reads (last + length batch) history m ⊎ Carries store reads (last + length batch) longer m
         now_of (inl same) = inl (carries store (last + length batch) history m (subst (Carried (last + length batch) history) (sym (ap (λ (f : Files). f name) same ∙ there)) (carried_more last (last + length batch) history (Some file) (omega arith) has)))
         now_of (inr part) =
             let there_now : m name ≡ Some (longer_file (take part.0 frame) file) = ap (λ (f : Files). f name) part.1 ∙ extended-same name (take part.0 frame) files file there in
@@ -84,7 +83,7 @@ module _ (store : List ℕ) where
       now = inl (carries store (last + length items + 0) longer m (subst (Carried (last + length items + 0) longer) (sym (ap (λ (f : Files). f name) e ∙ appended_there))
           (carried_more (last + length batch) (last + length items + 0) longer (Some (longer_file frame file)) same_bound
           (appending.whole_carries file history last covered has safe since covered_there reached old_records is_clean items record' is_batch first_fits all_fit))));
-      crash = safe_more store (last + length batch) (last + length items + 0) covered longer m same_bound (appending_safe m (subst (Appending name frame files) (sym e) (appended name frame files)));
+      crash = safe_more store (last + length batch) (last + length items + 0) covered longer m same_bound (appending_safe m (subst (PrefixAppended name frame files) (sym e) (appended name frame files)));
     }
       where
         same_bound : last + length batch ≤ last + length items + 0
@@ -114,14 +113,14 @@ module _ (store : List ℕ) where
     }
 
     -- either side of the sync is safe
-    pub syncing_safe : (m : Files) → EitherSide (synced name) files m → IsSafe store reads (last + 0) covered history m
+    pub syncing_safe : (m : Files) → BeforeOrAfter (synced name) files m → IsSafe store reads (last + 0) covered history m
     syncing_safe m (inl same) = safe_on store (last + 0) covered history files m (ap (λ (f : Files). f name) same) holds.crash
     syncing_safe m (inr e) = is_safe store (last + 0) covered history m (kept_safe (last + 0) covered history history (m name) (synced_kept m e) (beginning_whole covered history covered_there) (carried store (last + 0) history m (synced_carries m e)))
 
     -- a refused sync leaves what was held, as far as it was covered
-    pub syncing_holds : (m : Files) → EitherSide (synced name) files m → Holds store reads m history last covered None
+    pub syncing_holds : (m : Files) → BeforeOrAfter (synced name) files m → Holds store reads m history last covered None
     syncing_holds m passes = record { now = inl (now_of passes); crash = syncing_safe m passes }
       where
-        now_of : EitherSide (synced name) files m → Carries store reads (last + 0) history m
+        now_of : BeforeOrAfter (synced name) files m → Carries store reads (last + 0) history m
         now_of (inl same) = carries_on store (last + 0) history files m (ap (λ (f : Files). f name) same) has_all
         now_of (inr e) = synced_carries m e

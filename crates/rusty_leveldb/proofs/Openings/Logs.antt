@@ -2,10 +2,10 @@
 use Rattle.std.proofs.Common.{◌≡◌, ◌⊎◌, ◌%◌, inl, inr, ⊎_elim, ℕ, Bool, true, false, List, [], length, refl, sym, ◌∙◌, ap, subst, Option, Some, None, append-nil}
 use Rattle.std.specs.Prelude.{if◌then◌else◌}
 use Rattle.leveldb_base.specs.History.{History}
-use Rattle.leveldb_env.specs.Disk.{File, bytes_of, kept_file, file_kept}
+use Rattle.leveldb_env.specs.Env.{File, bytes_of, kept_file, file_kept}
 use Rattle.leveldb_mem.specs.Log.{log_block_size, End, clean, bad, IsLogFile, framed}
-use Rattle.leveldb_mem.specs.LogLaws.{log_laws}
-use Rattle.leveldb_mem.specs.Writing.{Writing}
+use Rattle.leveldb_mem.proofs.LawsLemmas.{log_laws}
+use Rattle.leveldb_mem.specs.Log.Writer.{WriterState}
 use Rattle.rusty_leveldb.specs.Contents.{Contents, nothing_there}
 use Rattle.rusty_leveldb.specs.OneLog.{IsRead, contents_of}
 use Rattle.rusty_leveldb.specs.Recent.{Numbered}
@@ -96,8 +96,8 @@ module _ (create : Bool) (was : Option File) (records : List (List ℕ)) (is_cle
       )) either
 
   -- an opened log is recovered
-  pub opened_recovers : (mid now : Option File) (size : ℕ) (writer : Writing) (recent : Numbered) → mid ≡ (if is_clean then was else Some (framed_file records)) → now ≡ Some (kept_log mid)
-      → size ≡ length (bytes_of (kept_log mid)) → writer ≡ record { size = log_block_size; place = size % log_block_size; broken = false } → IsReplayed records recent → IsRecovered create was now writer recent
+  pub opened_recovers : (mid now : Option File) (size : ℕ) (writer : WriterState) (recent : Numbered) → mid ≡ (if is_clean then was else Some (framed_file records)) → now ≡ Some (kept_log mid)
+      → size ≡ length (bytes_of (kept_log mid)) → writer ≡ record { size = log_block_size; offset = size % log_block_size; broken = false } → IsReplayed records recent → IsRecovered create was now writer recent
   opened_recovers mid now size writer recent is there sized stands replayed = record {
     records = records;
     end = if is_clean then clean else bad;
@@ -107,7 +107,7 @@ module _ (create : Bool) (was : Option File) (records : List (List ℕ)) (is_cle
     there = there;
     since = kept_since mid;
     read = mended_reads mid is;
-    stands = stands ∙ ap (λ n. record { size = log_block_size; place = n % log_block_size; broken = false }) sized;
+    stands = stands ∙ ap (λ n. record { size = log_block_size; offset = n % log_block_size; broken = false }) sized;
   }
 
 -- a log of batches isn't unusable

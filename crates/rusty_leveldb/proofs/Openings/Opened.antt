@@ -5,9 +5,7 @@ use Rattle.std.specs.declared.cmp.Ordering.{Ordering}
 use Rattle.leveldb_base.specs.History.{Entry, entries_of, greatest, with_batch, count_of, HasValueAt}
 use Rattle.leveldb_base.proofs.HistoryLemmas.{in_none}
 use Rattle.leveldb_env.specs.declared.env.Env.{Ghosts}
-use Rattle.leveldb_env.specs.Disk.{File, AreBytes}
-use Rattle.leveldb_env.specs.Times.{Told}
-use Rattle.leveldb_env.specs.Runs.{Run}
+use Rattle.leveldb_env.specs.Env.{File, AreBytes, Observed, Run}
 use Rattle.leveldb_mem.specs.Log.{clean}
 use Rattle.rusty_leveldb.specs.Contents.{Store, missing, made, Contents}
 use Rattle.rusty_leveldb.specs.OneLog.{log_path, IsRead, all_entries, contents_of}
@@ -53,7 +51,7 @@ no_bytes : AreBytes []
 no_bytes i = omega arith
 
 module _ {E C FP F I : Type 0} {D : I → Type 0} (env : Ghosts E F) (name : List ℕ) (cmp : List ℕ → List ℕ → Ordering) (opening_is : Opening) (create : Bool) (is : IsOpening name create opening_is) (is_name : IsStoreName name)
-    (from to : Told) (before after : ℕ) (engine : Engine E C FP F I D) (got : IsRecovered create (from.disk.files (log_path name)) (to.disk.files (log_path name)) engine.writer engine.recent)
+    (from to : Observed) (before after : ℕ) (engine : Engine E C FP F I D) (got : IsRecovered create (from.disk.files (log_path name)) (to.disk.files (log_path name)) engine.writer engine.recent)
     (mode : mode_of engine.mode ≡ open_mode) (lock : string_bytes engine.lock ≡ lock_path name) (log : env.name_of engine.log ≡ log_path name)
     (was_free : from.disk.locked (lock_path name) ≡ false) (held : to.disk.locked (lock_path name) ≡ true) (others : SparesOthers name from.disk to.disk)
     (counted : after ≡ before) (passed : Run (Sparing create (from.disk.files (log_path name)) (log_path name)) from to) (old : State) (represents : Represents name (Reads name) (Recalls {E = E} {C = C} {FP = FP} {F = F} {I = I} {D = D} env name) None from.disk old) where
@@ -72,7 +70,7 @@ module _ {E C FP F I : Type 0} {D : I → Type 0} (env : Ghosts E F) (name : Lis
   tells =
       let c = carried_over create (from.disk.files (log_path name)) (to.disk.files (log_path name)) got.records got.end (old.last + count_of old.pending) found.part got.was_found kept
       (carried name (old.last + count_of old.pending) found.part from.disk.files found.carries) in
-      subst (λ x. Tells (old.last + count_of old.pending) x found.part) (one_read (to.disk.files (log_path name)) c.contents (contents_of got.replayed.read.batches) c.read read_now) c.tells
+      subst (λ x. Tells (old.last + count_of old.pending) x found.part) (one_read (to.disk.files (log_path name)) c.contents (contents_of got.replayed.read.batches) c.read read_now) c.observed
 
   reached : greatest (entries_of found.part) ≤ engine.recent.last
   reached = omega (arith, tells.reached, got.replayed.last)

@@ -4,12 +4,9 @@ use Rattle.std.specs.Prelude.{◌-◌, ◌^◌, IsTrue}
 use Rattle.std.specs.declared.cmp.Ordering.{Ordering}
 use Rattle.leveldb_base.specs.declared.error.Status.{Status}
 use Rattle.leveldb_base.specs.declared.error.StatusCode.TheVariants.{InvalidArgument, Corruption, LockError}
-use Rattle.leveldb_base.specs.Error.{text_of}
+use Rattle.leveldb_base.specs.Error.{text_of, IsOutOfMemory}
 use Rattle.leveldb_env.specs.declared.env.Env.{Ghosts}
-use Rattle.leveldb_env.specs.Disk.{File, Disk, created}
-use Rattle.leveldb_env.specs.Times.{Told}
-use Rattle.leveldb_env.specs.Runs.{Run}
-use Rattle.leveldb_env.specs.Calls.{EitherSide, NoMemory}
+use Rattle.leveldb_env.specs.Env.{File, Disk, created, Observed, Run, BeforeOrAfter}
 use Rattle.rusty_leveldb.specs.Contents.{Store, made, Contents, nothing_there}
 use Rattle.rusty_leveldb.specs.OneLog.{log_path, IsRead}
 use Rattle.rusty_leveldb.specs.Names.{lock_path}
@@ -32,21 +29,21 @@ IsEarlyWhy name create disk e = ((e.code ≡ InvalidArgument) × (IsStoreName na
 pub record IsGivenUp (name : List ℕ) (create : Bool) (from to : Disk) (before mid after : ℕ) (e : Status) : Type 0 where
   pub log : SparesLog create (from.files (log_path name)) (to.files (log_path name))
   pub lock : (to.locked (lock_path name) ≡ from.locked (lock_path name)) ⊎ ((to.locked (lock_path name) ≡ true) × ((mid < after) ⊎ (after ≡ 2 ^ 64 - 1)))
-  pub untouched : NeverOpens name create from → EitherSide (created (lock_path name)) from.files to.files
+  pub untouched : NeverOpens name create from → BeforeOrAfter (created (lock_path name)) from.files to.files
   pub others : SparesOthers name from to
   pub later : before ≤ mid
   pub ends : mid ≤ after
   pub counts : after < 2 ^ 64
-  pub why : NoMemory e ⊎ (IsEarlyWhy name create from e × (to.files (log_path name) ≡ from.files (log_path name))) ⊎ ((e.code ≡ Corruption) × IsUnreadable (Reads name) from.files)
+  pub why : IsOutOfMemory e ⊎ (IsEarlyWhy name create from e × (to.files (log_path name) ≡ from.files (log_path name))) ⊎ ((e.code ≡ Corruption) × IsUnreadable (Reads name) from.files)
       ⊎ (before < mid) ⊎ (before ≡ 2 ^ 64 - 1)
 
 -- why it was refused, where the device has no part in it
-early_excused : (name : List ℕ) (create : Bool) (from : Told) (e : Status) → IsEarlyWhy name create from.disk e → OpenExcused true name create from e
+early_excused : (name : List ℕ) (create : Bool) (from : Observed) (e : Status) → IsEarlyWhy name create from.disk e → OpenExcused true name create from e
 early_excused name create from e why = ⊎_elim (λ badly. inr (inl badly))
     (λ others. ⊎_elim (λ unmade. inr (inr (inl (unmade.0, unmade.1, λ told. unmade.2)))) (λ held. inr (inr (inr (inl (held.0, λ told. held.1))))) others) why
 
 -- the lock wasn't given back: a failure of its own
-failed_beside : (name : List ℕ) (create : Bool) (from to : Told) (before mid after : ℕ) (e : Status) → IsGivenUp name create from.disk to.disk before mid after e → (mid < after) ⊎ (after ≡ 2 ^ 64 - 1)
+failed_beside : (name : List ℕ) (create : Bool) (from to : Observed) (before mid after : ℕ) (e : Status) → IsGivenUp name create from.disk to.disk before mid after e → (mid < after) ⊎ (after ≡ 2 ^ 64 - 1)
     → FailedBeside (OpenExcused true name create from e) before after
 failed_beside name create from to before mid after e up failed = ⊎_elim (λ (more : mid < after). ⊎_elim (λ memory. excused more (inl memory))
     (λ others. ⊎_elim (λ early. excused more (early_excused name create from e early.0))
@@ -60,7 +57,7 @@ failed_beside name create from to before mid after e up failed = ⊎_elim (λ (m
     device more counted = ⊎_elim (λ (less : before < mid). inr (inl (omega (arith, less, more)))) (λ (full : before ≡ 2 ^ 64 - 1). inr (inr (omega (arith, full, up.later, up.ends, up.counts)))) counted
 
 -- what it leaves
-pub unopened : {name : List ℕ} {create : Bool} {from to : Told} {before mid after : ℕ} {e : Status} → IsGivenUp name create from.disk to.disk before mid after e → StaysUnopened name create from to before after e
+pub unopened : {name : List ℕ} {create : Bool} {from to : Observed} {before mid after : ℕ} {e : Status} → IsGivenUp name create from.disk to.disk before mid after e → StaysUnopened name create from to before after e
 unopened {name} {create} {from} {to} {before} {mid} {after} {e} up = record {
   log = up.log;
   untouched = up.untouched;
@@ -85,7 +82,7 @@ unlock_failed before mid after device_failed later ended counts device failed = 
 unlock_failed before mid after other later ended counts device failed = ⊎_elim (λ (more : mid < after). inl (omega (arith, later, more))) (λ full. inr full) failed
 
 module _ {E C FP F I : Type 0} {D : I → Type 0} (env : Ghosts E F) (name : List ℕ) (cmp : List ℕ → List ℕ → Ordering) (opening : Opening) (create : Bool) (is : IsOpening name create opening)
-    (from to : Told) (before mid after : ℕ) (e : Status) (up : IsGivenUp name create from.disk to.disk before mid after e)
+    (from to : Observed) (before mid after : ℕ) (e : Status) (up : IsGivenUp name create from.disk to.disk before mid after e)
     (passed : Run (Sparing create (from.disk.files (log_path name)) (log_path name)) from to) (old : State) (represents : Represents name (Reads name) (Recalls {E = E} {C = C} {FP = FP} {F = F} {I = I} {D = D} env name) None from.disk old) where
   -- the store is closed, and this store is there
   abbrev left : Store → State

@@ -1,7 +1,7 @@
 -- What a store's state keeps of its disk while the store is opened: the log may be made or written anew meanwhile.
 use Rattle.std.proofs.Common.{◌≡◌, ◌≤◌, ◌+◌, inl, inr, ⊎_elim, ℕ, Bool, List, length, refl, sym, ◌∙◌, ap, subst, Option, Some, None}
 use Rattle.leveldb_base.specs.History.{Entry, History, with_batch, count_of}
-use Rattle.leveldb_env.specs.Disk.{File, Files, Disk}
+use Rattle.leveldb_env.specs.Env.{File, Files, Disk}
 use Rattle.leveldb_mem.specs.Log.{End}
 use Rattle.rusty_leveldb.specs.Contents.{Store, missing, made, Contents, Stays}
 use Rattle.rusty_leveldb.specs.OneLog.{log_path, IsRead}

@@ -4,13 +4,11 @@ use Rattle.std.specs.Option.{option_map}
 use Rattle.leveldb_base.specs.declared.error.Status.{Status}
 use Rattle.leveldb_base.specs.History.{Item}
 use Rattle.leveldb_env.specs.declared.env.Env.{Ghosts}
-use Rattle.leveldb_env.specs.Disk.{File, Files, longer_file}
-use Rattle.leveldb_env.specs.Calls.{HasCause, IsGone}
-use Rattle.leveldb_env.specs.FileLaws.{at_same}
-use Rattle.leveldb_env.specs.OpenFiles.{opened, Appends, Syncs}
-use Rattle.leveldb_env.specs.Runs.{cause_after, cause_same}
-use Rattle.leveldb_mem.specs.Writing.{Adds, Refuses, Flushes}
-use Rattle.leveldb_mem.specs.Writing as writing
+use Rattle.leveldb_env.specs.Env.{File, Files, longer_file, HasCause, IsGone}
+use Rattle.leveldb_env.proofs.EnvLemmas.{at_same, cause_after, cause_same}
+use Rattle.leveldb_env.specs.EnvFile.{opened, Appends, Syncs}
+use Rattle.leveldb_mem.specs.Log.Writer.{AddsRecord, FailsToAdd, Flushes}
+use Rattle.leveldb_mem.specs.Log.Writer as writing
 use Rattle.rusty_leveldb.specs.declared.db_impl.engine.Mode.TheVariants.{Open, Broken, Closed}
 use Rattle.rusty_leveldb.specs.declared.db_impl.engine.Engine.{Engine}
 use Rattle.rusty_leveldb.specs.Engine.{WriteExcused, LogExcused}
@@ -41,7 +39,7 @@ module _ {E C FP F I : Type 0} {D : I → Type 0} (env : Ghosts E F) (engine : E
   write_cause before after status cause = cause_same (Err status) to_write to_log cause
 
   -- a refused append
-  pub append_cause : (status : Status) (writer : writing.Writing) (log : F) (to : E) → Refuses (Appends env) engine.writer (opened from engine.log) bytes status writer (opened to log)
+  pub append_cause : (status : Status) (writer : writing.WriterState) (log : F) (to : E) → FailsToAdd (Appends env) engine.writer (opened from engine.log) bytes status writer (opened to log)
       → HasCause {T = Unit {0}} (WriteExcused env engine from items) (env.failures from) (env.failures to) (Err status)
   append_cause status writer log to refusal = ⊎_elim
       (λ kept.
@@ -50,7 +48,7 @@ module _ {E C FP F I : Type 0} {D : I → Type 0} (env : Ghosts E F) (engine : E
       (λ put. write_cause (env.failures from) (env.failures to) status put.0.cause) refusal.why
 
   -- where the device refused it, the writer is broken
-  pub append_breaks : (status : Status) (writer : writing.Writing) (log : F) (to : E) → Refuses (Appends env) engine.writer (opened from engine.log) bytes status writer (opened to log)
+  pub append_breaks : (status : Status) (writer : writing.WriterState) (log : F) (to : E) → FailsToAdd (Appends env) engine.writer (opened from engine.log) bytes status writer (opened to log)
       → env.failures from < env.failures to → IsTrue writer.broken
   append_breaks status writer log to refusal more = ⊎_elim
       (λ kept.
@@ -60,7 +58,7 @@ module _ {E C FP F I : Type 0} {D : I → Type 0} (env : Ghosts E F) (engine : E
 
   -- ---- behind an append that was done
 
-  module _ (writer : writing.Writing) (log : F) (mid : E) (count : ℕ) (adds : Adds (Appends env) engine.writer (opened from engine.log) bytes count writer (opened mid log)) where
+  module _ (writer : writing.WriterState) (log : F) (mid : E) (count : ℕ) (adds : AddsRecord (Appends env) engine.writer (opened from engine.log) bytes count writer (opened mid log)) where
     put : Appends env (opened from engine.log) (writing.frame engine.writer bytes) (Ok tt) (opened mid log)
     put = adds.put (batch_some bytes (engine.recent.last + 1) items next.is_batch)
 
@@ -71,26 +69,26 @@ module _ {E C FP F I : Type 0} {D : I → Type 0} (env : Ghosts E F) (engine : E
     still_sound = ap (λ w. w.broken) adds.writer ∙ sound
 
     -- the log's name is gone as it was before
-    under_name : IsTrue env.tells_disk → (env.tells mid).disk.files (env.name_of log) ≡ option_map (longer_file (writing.frame engine.writer bytes)) ((env.tells from).disk.files (env.name_of engine.log))
-    under_name tells = ap (env.tells mid).disk.files (put.file tells) ∙ ap (λ (f : Files). f (env.name_of engine.log)) (put.does.ok tells)
-        ∙ at_same (env.name_of engine.log) (option_map (longer_file (writing.frame engine.writer bytes)) ((env.tells from).disk.files (env.name_of engine.log))) (env.tells from).disk.files
+    under_name : IsTrue env.models_disk → (env.observed mid).disk.files (env.name_of log) ≡ option_map (longer_file (writing.frame engine.writer bytes)) ((env.observed from).disk.files (env.name_of engine.log))
+    under_name modelled = ap (env.observed mid).disk.files (put.file modelled) ∙ ap (λ (f : Files). f (env.name_of engine.log)) (put.does.ok modelled)
+        ∙ at_same (env.name_of engine.log) (option_map (longer_file (writing.frame engine.writer bytes)) ((env.observed from).disk.files (env.name_of engine.log))) (env.observed from).disk.files
 
-    gone_before : (e : Status) → IsGone env.tells_disk (env.name_of log) (env.tells mid) e → LogExcused env engine from e
+    gone_before : (e : Status) → IsGone env.models_disk (env.name_of log) (env.observed mid) e → LogExcused env engine from e
     gone_before e (inl memory) = inl memory
-    gone_before e (inr none) = inr (none.0, none.1, none_before ((env.tells from).disk.files (env.name_of engine.log)) (writing.frame engine.writer bytes) (sym (under_name none.1) ∙ none.2))
+    gone_before e (inr none) = inr (none.0, none.1, none_before ((env.observed from).disk.files (env.name_of engine.log)) (writing.frame engine.writer bytes) (sym (under_name none.1) ∙ none.2))
 
-    gone_still : (e : Status) → LogExcused env engine from e → IsGone env.tells_disk (env.name_of log) (env.tells mid) e
+    gone_still : (e : Status) → LogExcused env engine from e → IsGone env.models_disk (env.name_of log) (env.observed mid) e
     gone_still e (inl memory) = inl memory
     gone_still e (inr none) = inr (none.0, none.1, under_name none.1 ∙ ap (option_map (longer_file (writing.frame engine.writer bytes))) none.2)
 
     -- a refused sync
-    pub sync_cause : (status : Status) (then : writing.Writing) (log_then : F) (to : E) → Flushes (Syncs env) writer (opened mid log) (Err status) then (opened to log_then)
+    pub sync_cause : (status : Status) (then : writing.WriterState) (log_then : F) (to : E) → Flushes (Syncs env) writer (opened mid log) (Err status) then (opened to log_then)
         → HasCause {T = Unit {0}} (WriteExcused env engine from items) (env.failures from) (env.failures to) (Err status)
     sync_cause status then log_then to flushed = write_cause (env.failures from) (env.failures to) status
         (cause_after append_counted (cause_same (Err status) gone_before gone_still flushed.flushed.cause))
 
     -- a sync that was done
-    pub sync_counted : (then : writing.Writing) (log_then : F) (to : E) → Flushes (Syncs env) writer (opened mid log) (Ok tt) then (opened to log_then) → env.failures to ≡ env.failures from
+    pub sync_counted : (then : writing.WriterState) (log_then : F) (to : E) → Flushes (Syncs env) writer (opened mid log) (Ok tt) then (opened to log_then) → env.failures to ≡ env.failures from
     sync_counted then log_then to flushed = flushed.flushed.cause.ok ∙ append_counted
 
   -- a write that was done

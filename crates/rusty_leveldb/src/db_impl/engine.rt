@@ -1,7 +1,7 @@
 //! What a store has in memory while it is open. Each call is given the environment.
 ghost use Rattle.std.specs.Prelude.{◌≡◌, ◌⊎◌, ℕ, Bool, List, false, OnOk, IfErr};
 ghost use Rattle.leveldb_base.specs.History.{Item};
-ghost use Rattle.leveldb_env.specs.Disk.{Disk};
+ghost use Rattle.leveldb_env.specs.Env.{Disk};
 ghost use Rattle.rusty_leveldb.specs.State.{State, open_mode, write, refused};
 ghost use Rattle.rusty_leveldb.specs.Serves.{refusal_of};
 ghost use Rattle.rusty_leveldb.specs.Engine.{IsShut, ShutOut, ShutDown, Recalls, AnswersStill};

@@ -1,10 +1,9 @@
 //! Writing to a store: batches, and syncs of its log.
 ghost use Rattle.std.specs.Prelude.{◌≡◌, ◌<◌, ◌∷◌, [], ℕ, if◌then◌else◌, Some, None, false, IfOk, IfErr, OnOk, OnErr, IsErrAnd, ◌⊎◌, IsTrue};
-ghost use Rattle.leveldb_env.specs.Calls.{HasCause};
-ghost use Rattle.leveldb_env.specs.Disk.{AreBytes};
-ghost use Rattle.leveldb_env.specs.OpenFiles.{opened, Appends, Syncs};
-ghost use Rattle.leveldb_mem.specs.Batch.{item_of};
-ghost use Rattle.leveldb_mem.specs.Writing.{Adds, Refuses, Flushes};
+ghost use Rattle.leveldb_env.specs.Env.{HasCause, AreBytes};
+ghost use Rattle.leveldb_env.specs.EnvFile.{opened, Appends, Syncs};
+ghost use Rattle.leveldb_mem.specs.WriteBatch.{item_of};
+ghost use Rattle.leveldb_mem.specs.Log.Writer.{AddsRecord, FailsToAdd, Flushes};
 ghost use Rattle.rusty_leveldb.specs.State.{write, flush};
 ghost use Rattle.rusty_leveldb.specs.Serves.{done_or};
 ghost use Rattle.rusty_leveldb.specs.Engine.{IsHalted, HaltedBy, TimeGoesOn, Answers, WriteExcused, SyncExcused};
@@ -98,9 +97,9 @@ impl<E: Env, C: UserCmp + Copy, FP: FilterPolicy + Copy> Engine<E, C, FP> {
         ensures rest { self.new ≡ record self.old { log = self.new.log; writer = self.new.writer; mode = self.new.mode } }
         ensures bytes { AreBytes text.now }
         ensures mode { self.new.mode ≡ (if self.new.writer.broken then Mode.Broken else self.old.mode) }
-        ensures ok { OnOk result ((count : ℕ) × Adds (Appends E.Env) self.old.writer (opened env.old self.old.log) text.now count self.new.writer (opened env.new self.new.log)) }
+        ensures ok { OnOk result ((count : ℕ) × AddsRecord (Appends E.Env) self.old.writer (opened env.old self.old.log) text.now count self.new.writer (opened env.new self.new.log)) }
         ensures err { self.old.writer.broken ≡ false
-            → IfErr result (λ status. Refuses (Appends E.Env) self.old.writer (opened env.old self.old.log) text.now status self.new.writer (opened env.new self.new.log)) }
+            → IfErr result (λ status. FailsToAdd (Appends E.Env) self.old.writer (opened env.old self.old.log) text.now status self.new.writer (opened env.new self.new.log)) }
     {
         let appended = append_record(&mut self.writer, env, &mut self.log, text);
         if self.writer.is_broken() {
@@ -133,9 +132,9 @@ fn append_record<E: Env>(
     log: &mut E::File,
     text: &[u8],
 ) -> Result<usize>
-    ensures ok { IfOk result (λ count. Adds (Appends E.Env) writer.old (opened env.old log.old) text.now count writer.new (opened env.new log.new)) }
+    ensures ok { IfOk result (λ count. AddsRecord (Appends E.Env) writer.old (opened env.old log.old) text.now count writer.new (opened env.new log.new)) }
     ensures err { writer.old.broken ≡ false
-        → IfErr result (λ status. Refuses (Appends E.Env) writer.old (opened env.old log.old) text.now status writer.new (opened env.new log.new)) }
+        → IfErr result (λ status. FailsToAdd (Appends E.Env) writer.old (opened env.old log.old) text.now status writer.new (opened env.new log.new)) }
 {
     writer.add_record(&mut EnvFile { env, file: log }, text)
 }

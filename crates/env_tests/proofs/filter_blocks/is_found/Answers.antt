@@ -1,6 +1,7 @@
 use Rattle.std.proofs.Common.{sym, ap, subst, ◌∙◌}
-use Rattle.leveldb_env.specs.FilterBlock.{Building, IsKept, passes, finished}
-use Rattle.leveldb_env.specs.FilterBlockLaws.{keeps_keys, one_reading}
+use Rattle.leveldb_env.specs.FilterBlock.{FiltersBuilt, IsKeyKept, passes, finished}
+use Rattle.leveldb_env.proofs.FilterBlockLemmas.{keeps_keys}
+use Rattle.leveldb_env.specs.FilterBlockLaws.{one_reading}
 use Rattle.env_tests.proofs.filter_blocks.is_found.Goals as goal
 
 pub returns : goal.returns
@@ -11,7 +12,7 @@ returns g c =
     let offset = c.args.offset in
     let key = c.args.key.now in
     let last = c.add_key-3.new.self in
-    let kept = λ (b : Building _). IsKept (matches b.policy) b.filters b.keys offset key in
+    let kept = λ (b : FiltersBuilt _). IsKeyKept (matches b.policy) b.filters b.keys offset key in
     let first = subst kept (sym c.in_ok-add_key.ensures.ok) (laws.adds c.start_block.new.self offset key (sym c.in_ok-start_block.ensures.open)) in
     let second = subst kept (sym c.in_ok-add_key-2.ensures.ok) (laws.goes_on c.add_key.new.self offset key _ first) in
     let third = subst kept (sym c.in_ok-start_block-2.ensures.ok) (laws.starts c.add_key-2.new.self offset c.args.next key second) in

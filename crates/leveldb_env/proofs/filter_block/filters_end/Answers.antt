@@ -3,9 +3,8 @@ use Rattle.std.specs.List.{All, concat}
 use Rattle.std.proofs.lemmas.List.{take_rest}
 use Rattle.std.proofs.lemmas.Grind.{get_or_default_zero}
 use Rattle.byteorder.specs.Endian.{little_number}
-use Rattle.leveldb_env.specs.FilterBlockParts.{BeginsAt, RiseFrom}
-use Rattle.leveldb_env.specs.Numbers.{numbers_in}
-use Rattle.leveldb_env.proofs.FilterBlocks.{whole_size, end_read, last_read, places_read, places_rise_from, is_held}
+use Rattle.leveldb_env.specs.FilterBlock.{BeginsAt, RiseFrom, numbers_in}
+use Rattle.leveldb_env.proofs.FilterBlockLemmas.{whole_size, end_read, last_read, places_read, places_rise_from, is_held}
 use Rattle.leveldb_env.proofs.filter_block.filters_end.Goals as goal
 use Rattle.leveldb_env.proofs.filter_block.filters_end.Goals.{then-limit-tail-via-then-limit-tail, then-limit-tail-via-else-limit-tail+then-tail-limit-ne0}
 

@@ -2,7 +2,7 @@ use Rattle.std.proofs.Common.{◌≡◌, ◌+◌, ◌-◌, ◌<◌, ◌≤◌, �
 use Rattle.std.proofs.lemmas.List.{length-take-le, with_items_is}
 use Rattle.std.specs.Prelude.{IsTrue}
 use borrow.Rule.Slice.PartMut.{put_mid}
-use Rattle.leveldb_env.specs.Calls.{ReadsAt}
+use Rattle.leveldb_env.specs.Env.{ReadsAt}
 use Rattle.leveldb_table.proofs.Gathering.{length-put_behind, take-put_behind, front_kept, gathers_none, gathers_more, ends_here, ends_within}
 use Rattle.leveldb_table.proofs.TableCalls.{Looks-trans, Looks-call, reads_ok, reads_own, reads_call, reads_then, reads_refused}
 use Rattle.leveldb_table.proofs.table_block.read_bytes.Goals as goal
@@ -48,7 +48,7 @@ returns-then-came-eq0-clause-reads g c =
     let inside : known ≤ length grown = omega (arith, all) in
     let room : length target ≡ length grown - known = room_is ∙ length-take-le (length grown - known) (drop known grown) (omega (arith, length-drop known grown)) in
     let some : 0 < length target = omega (arith, c.loop-alloc-test.true) in
-    let none = subst (λ n. IsTrue g.E.Env.tells_disk → ReadsAt ((g.E.Env.tells c.loop-alloc.env).disk.files (g.E.Env.name_of c.args.file.now)) c.in-Some.next n target) c.if-came-eq0.true call.bytes in
+    let none = subst (λ n. IsTrue g.E.Env.models_disk → ReadsAt ((g.E.Env.observed c.loop-alloc.env).disk.files (g.E.Env.name_of c.args.file.now)) c.in-Some.next n target) c.if-came-eq0.true call.bytes in
     let counted = call.cause.ok ∙ so_far.counted in
     let looks = Looks-trans g.E.Env so_far.looks (Looks-call g.E.Env call.does call.locks) in
     let ends = ends_here g.E.Env c.args.env.now c.loop-alloc.env c.args.file.now c.args.place read so_far c.args.size c.in-Some.next target (omega arith) (omega arith) some none in

@@ -1,6 +1,6 @@
 use Rattle.std.proofs.Common.{sym, ap, ◌∙◌, Some, inr}
 use Rattle.std.proofs.lemmas.Result.{IfErr-weaker}
-use Rattle.leveldb_env.specs.contracts.compressor.CompressorListCoders.TheImpl
+use Rattle.leveldb_env.specs.contracts.compressor.CompressorListCompressors.TheImpl
 use Rattle.leveldb_table.proofs.TableBlocks.{lacks_stored, lacks_coder, lacks_text, lacks_block}
 use Rattle.leveldb_table.proofs.TableCalls.{damaged_or_memory, reads_ends, reads_passed, reads_weaker, reads_refused}
 use Rattle.leveldb_table.proofs.table_block.read_table_block.Goals as goal

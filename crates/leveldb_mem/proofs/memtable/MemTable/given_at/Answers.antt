@@ -1,7 +1,7 @@
 use Rattle.std.proofs.Common.{◌≡◌, [], List, Option, Some, ℕ, sym, subst, arith}
 use Rattle.std.proofs.lemmas.Bool.{iff_false}
-use Rattle.leveldb_mem.specs.MemTable.{entries_in, value_of, GivesAt}
-use Rattle.leveldb_mem.proofs.Newest.{gives_nothing, gives_other, gives_read}
+use Rattle.leveldb_mem.specs.MemTable.{entries_in, value_of, IsValueAt}
+use Rattle.leveldb_mem.proofs.MemTableLemmas.{gives_nothing, gives_other, gives_read}
 use Rattle.leveldb_mem.proofs.memtable.MemTable.given_at.Goals as goal
 
 pub split_entry-parts-requires : goal.split_entry-parts-requires
@@ -22,8 +22,8 @@ returns-then-is_same g c =
     let there = gives_read it.pairs c.args.at (omega (arith, c.len-end.ensures)) c.key.result.now c.key.ensures parts.result.0.now parts.ensures.internal parsed.result.2.now parsed.ensures.user
     parts.result.1.now parsed.result.0 parsed.ensures.kind parts.ensures.value in
     rw (← c.self.view_is)
-    (subst (λ (v : Option (List ℕ)). GivesAt (entries_in it.pairs) c.args.at c.args.key.now (Some v)) (sym c.given.ensures)
-    (subst (λ (k : List ℕ). GivesAt (entries_in it.pairs) c.args.at k (Some (value_of parsed.result.0 parts.result.1.now))) same there))
+    (subst (λ (v : Option (List ℕ)). IsValueAt (entries_in it.pairs) c.args.at c.args.key.now (Some v)) (sym c.given.ensures)
+    (subst (λ (k : List ℕ). IsValueAt (entries_in it.pairs) c.args.at k (Some (value_of parsed.result.0 parts.result.1.now))) same there))
 
 pub returns : goal.returns
 returns g c =

@@ -1,6 +1,6 @@
 use Rattle.std.proofs.Common.{sym, ap, subst, ◌∙◌}
 use Rattle.leveldb_mem.specs.Searching.{count_while, IsParted}
-use Rattle.leveldb_mem.proofs.Newest.{as_of, parted_as_of, finds_as_of}
+use Rattle.leveldb_mem.proofs.MemTableLemmas.{as_of, parted_as_of, finds_as_of}
 use Rattle.leveldb_mem.proofs.memtable.MemTable.newest.Goals as goal
 
 pub returns : goal.returns

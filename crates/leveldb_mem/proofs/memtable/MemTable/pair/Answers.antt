@@ -1,7 +1,7 @@
 use Rattle.std.proofs.Common.{◌<◌, [], Some, length, sym, ◌∙◌, ap, arith}
 use Rattle.leveldb_base.specs.KeyTypes.{inner_key}
 use Rattle.leveldb_mem.specs.MemTable.{inner_value}
-use Rattle.leveldb_mem.proofs.Walking.{length-walked, walked_at}
+use Rattle.leveldb_mem.proofs.MemTableLemmas.{length-walked, walked_at}
 use Rattle.leveldb_mem.proofs.memtable.MemTable.pair.Goals as goal
 
 pub key-key-requires : goal.key-key-requires

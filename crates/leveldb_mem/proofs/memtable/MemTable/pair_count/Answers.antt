@@ -1,5 +1,5 @@
 use Rattle.std.proofs.Common.{sym, ◌∙◌}
-use Rattle.leveldb_mem.proofs.Walking.{length-walked}
+use Rattle.leveldb_mem.proofs.MemTableLemmas.{length-walked}
 use Rattle.leveldb_mem.proofs.memtable.MemTable.pair_count.Goals as goal
 
 pub returns : goal.returns

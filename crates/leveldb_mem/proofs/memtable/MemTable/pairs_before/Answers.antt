@@ -2,7 +2,7 @@ use Rattle.std.proofs.Common.{sym, ◌∙◌, ap, subst}
 use Rattle.std.specs.Ordering.{is_lt}
 use Rattle.leveldb_base.specs.KeyTypes.{inner_key, internal_cmp}
 use Rattle.leveldb_mem.specs.Searching.{count_while, IsParted}
-use Rattle.leveldb_mem.proofs.Walking.{parted_walked, count_walked}
+use Rattle.leveldb_mem.proofs.MemTableLemmas.{parted_walked, count_walked}
 use Rattle.leveldb_mem.proofs.memtable.MemTable.pairs_before.Goals as goal
 
 pub returns : goal.returns

@@ -1,7 +1,7 @@
 use Rattle.std.proofs.Common.{sym, ap, ◌∙◌}
 use Rattle.std.proofs.lemmas.List.{take_rest}
 use Rattle.leveldb_table.specs.BlockLaws.{points_after}
-use Rattle.leveldb_env.specs.Numbers.{numbers_in}
+use Rattle.leveldb_env.specs.FilterBlock.{numbers_in}
 use Rattle.leveldb_table.proofs.EntryReads.{numbers_behind}
 use Rattle.leveldb_table.proofs.block.check.points_behind.Goals as goal
 

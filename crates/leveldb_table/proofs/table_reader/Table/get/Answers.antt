@@ -1,5 +1,5 @@
 use Rattle.std.proofs.Common.{Ok, Err, refl, sym, ◌∙◌, ap}
-use Rattle.leveldb_env.specs.contracts.compressor.CompressorListCoders.TheImpl
+use Rattle.leveldb_env.specs.contracts.compressor.CompressorListCompressors.TheImpl
 use Rattle.leveldb_table.specs.TableEnters.{let_place}
 use Rattle.leveldb_table.specs.TableReading.{lets}
 use Rattle.leveldb_table.specs.TableWalk.{inner_place, inner_pairs, table_place}

@@ -1,8 +1,8 @@
 use Rattle.std.proofs.Common.{◌≢◌, sym, ap, subst, arith, refl, None, inl, inr}
 use Rattle.std.specs.declared.cmp.Ordering.TheVariants.{Greater}
 use Rattle.std.proofs.lemmas.Result.{err_from_is_err_and}
-use Rattle.leveldb_env.specs.SinkLaws.{PutsAll-one}
-use Rattle.leveldb_env.specs.FilterBlockLaws.{keeps_keys}
+use Rattle.leveldb_env.proofs.SinkLemmas.{PutsAll-one}
+use Rattle.leveldb_env.proofs.FilterBlockLemmas.{keeps_keys}
 use Rattle.leveldb_table.specs.Block.{pairs_of}
 use Rattle.leveldb_table.specs.TableBuilding.{stage, last_of}
 use Rattle.leveldb_table.proofs.TableSteps.{OnOk-with, IfErr-with}

@@ -1,8 +1,8 @@
 use Rattle.std.proofs.Common.{◌++◌, sym, refl, append_assoc, inl, inr}
 use Rattle.std.proofs.lemmas.Result.{err_from_is_err_and, IfOk-weaker}
-use Rattle.leveldb_env.specs.SinkLaws.{PutsAll-trans}
-use Rattle.leveldb_env.specs.contracts.compressor.CompressorListCoders.TheImpl.{ghosts as coders}
-use Rattle.leveldb_env.specs.FilterBlockLaws.{keeps_keys}
+use Rattle.leveldb_env.proofs.SinkLemmas.{PutsAll-trans}
+use Rattle.leveldb_env.specs.contracts.compressor.CompressorListCompressors.TheImpl.{ghosts as coders}
+use Rattle.leveldb_env.proofs.FilterBlockLemmas.{keeps_keys}
 use Rattle.leveldb_table.specs.TableBuilding.{stage}
 use Rattle.leveldb_table.proofs.TableSteps.{IfErr-with}
 use Rattle.leveldb_table.proofs.TableSinks.{refused_with, stops_unset_at}

@@ -1,7 +1,7 @@
 use Rattle.std.proofs.Common.{◌≡◌, [], ◌∙◌, sym, subst, arith, refl, inl, inr, None}
 use Rattle.std.specs.declared.cmp.Ordering.TheVariants.{Less, Greater}
-use Rattle.leveldb_env.specs.SinkLaws.{PutsAll-one, PutsAll-none}
-use Rattle.leveldb_env.specs.FilterBlockLaws.{keeps_keys}
+use Rattle.leveldb_env.proofs.SinkLemmas.{PutsAll-one, PutsAll-none}
+use Rattle.leveldb_env.proofs.FilterBlockLemmas.{keeps_keys}
 use Rattle.leveldb_table.specs.Block.{pairs_of}
 use Rattle.leveldb_table.specs.TableStages.{Follows, first_key}
 use Rattle.leveldb_table.specs.TableBuilding.{stage, IsFull}

@@ -1,6 +1,6 @@
 use Rattle.std.proofs.Common.{sym, ap, refl, ◌∙◌, subst, ◌+◌, inl, inr}
 use Rattle.std.proofs.lemmas.Result.{err_from_is_err_and, IfOk-weaker}
-use Rattle.leveldb_env.specs.SinkLaws.{PutsAll-one, PutsAll-trans}
+use Rattle.leveldb_env.proofs.SinkLemmas.{PutsAll-one, PutsAll-trans}
 use Rattle.leveldb_table.specs.TableBuilding.{IsPlaced}
 use Rattle.leveldb_table.proofs.TableSteps.{IfErr-with}
 use Rattle.leveldb_table.proofs.TableSinks.{block_placed, block_ends}

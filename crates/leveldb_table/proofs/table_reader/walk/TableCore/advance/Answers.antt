@@ -1,5 +1,5 @@
 use Rattle.std.proofs.Common.{true, sym, ◌∙◌, ap, subst}
-use Rattle.leveldb_env.specs.contracts.compressor.CompressorListCoders.TheImpl
+use Rattle.leveldb_env.specs.contracts.compressor.CompressorListCompressors.TheImpl
 use Rattle.leveldb_table.specs.TableWalk.{StandsAt, inner_place, inner_pairs, pairs_over, place_over}
 use Rattle.leveldb_table.proofs.TableMoves.{behind_none, behind_last, none_there, not_none, block_lines, moves_enters}
 use Rattle.leveldb_table.proofs.TablePaces.{moves_inside, forward_first, forward_inside, forward_next}

@@ -1,5 +1,5 @@
 use Rattle.std.proofs.Common.{sym, ◌∙◌, ap, subst}
-use Rattle.leveldb_env.specs.contracts.compressor.CompressorListCoders.TheImpl
+use Rattle.leveldb_env.specs.contracts.compressor.CompressorListCompressors.TheImpl
 use Rattle.leveldb_table.specs.TableWalk.{StandsAt, inner_place, inner_pairs, pairs_over, place_over}
 use Rattle.leveldb_table.proofs.TableMoves.{none_there, not_none, moves_enters}
 use Rattle.leveldb_table.proofs.TableSeeks.{before_first}

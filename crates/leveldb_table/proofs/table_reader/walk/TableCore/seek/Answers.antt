@@ -1,6 +1,6 @@
 use Rattle.std.proofs.Common.{◌≡◌, None, Some, refl, sym, ◌∙◌, ap, inr}
 use Rattle.leveldb_base.specs.Types.{seek_position, pair_at, pair_of}
-use Rattle.leveldb_env.specs.contracts.compressor.CompressorListCoders.TheImpl
+use Rattle.leveldb_env.specs.contracts.compressor.CompressorListCompressors.TheImpl
 use Rattle.leveldb_table.specs.TableEnters.{SeeksTo}
 use Rattle.leveldb_table.specs.TableMoves.{line_for, Sought}
 use Rattle.leveldb_table.specs.TableReads.{unnamed}

@@ -1,5 +1,5 @@
 use Rattle.leveldb_table.proofs.TableSeeks.{moves_first, moves_ok, moves_refused}
-use Rattle.leveldb_env.specs.contracts.compressor.CompressorListCoders.TheImpl
+use Rattle.leveldb_env.specs.contracts.compressor.CompressorListCompressors.TheImpl
 use Rattle.leveldb_table.proofs.TablePaces.{forward_to_first}
 use Rattle.leveldb_table.proofs.table_reader.walk.TableCore.seek_to_first.Goals as goal
 

@@ -1,6 +1,6 @@
 use Rattle.std.proofs.Common.{◌≡◌, List, ℕ, None, sym, ◌∙◌, ap, inl, inr}
 use Rattle.leveldb_base.specs.Types.{previous_position}
-use Rattle.leveldb_env.specs.contracts.compressor.CompressorListCoders.TheImpl
+use Rattle.leveldb_env.specs.contracts.compressor.CompressorListCompressors.TheImpl
 use Rattle.leveldb_table.specs.TableCached.{HoldsOf}
 use Rattle.leveldb_table.specs.TableReads.{Has}
 use Rattle.leveldb_table.specs.TableWalk.{inner_place, inner_pairs, pairs_over, place_over}

@@ -1,7 +1,7 @@
 -- Refused for want of memory or a batch that is too long, or what the write of the one change answered.
 use Rattle.std.proofs.Common.{◌∷◌, [], Some, false, refl, subst}
 use Rattle.std.proofs.lemmas.Result.{err_from_is_err_and}
-use Rattle.leveldb_mem.specs.Batch.{item_of}
+use Rattle.leveldb_mem.specs.WriteBatch.{item_of}
 use Rattle.rusty_leveldb.specs.State.{write}
 use Rattle.rusty_leveldb.specs.Serves.{done_or}
 use Rattle.rusty_leveldb.specs.Engine.{Answers}

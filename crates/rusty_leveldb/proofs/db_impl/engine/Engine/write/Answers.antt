@@ -1,7 +1,7 @@
 -- A write at each of its exits: no number is left, no memory, a refused append, a refused sync, and done with a sync or without.
 use Rattle.std.proofs.Common.{◌≡◌, ◌+◌, ◌∙◌, ap, inl, inr, arith}
 use Rattle.std.proofs.lemmas.Result.{err_from_is_err_and}
-use Rattle.leveldb_mem.specs.Batch.{batch_of}
+use Rattle.leveldb_mem.specs.WriteBatch.{batch_of}
 use Rattle.rusty_leveldb.specs.State.{write}
 use Rattle.rusty_leveldb.proofs.Writes.Kept.{prepared_was, used_up_goes, memory_goes}
 use Rattle.rusty_leveldb.proofs.Writes.Append.{IsNext}
