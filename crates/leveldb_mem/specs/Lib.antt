@@ -14,5 +14,6 @@ pub mod Entries
 pub mod EntryLaws
 pub mod Searching
 pub mod Placed
+pub mod Towers
 pub mod SkipMap
 pub mod MemTable

@@ -1,15 +1,17 @@
 //! The newest entries of a store, in memory.
 ghost use Rattle.std.specs.Prelude.{◌≡◌, ◌⊎◌, ◌+◌, ◌*◌, ◌<◌, ◌≤◌, ◌^◌, ℕ, List, [], ◌∷◌, ◌++◌, length, OnOk, OnErr, IfErr, IsTrue, ◌↔◌, Some, None, map, slice_get, option_copied};
 ghost use Rattle.std.specs.Bool.{OnTrue, OnFalse};
-ghost use Rattle.std.specs.Option.{option_map};
+ghost use Rattle.std.specs.Option.{option_map, ForSome};
 ghost use Rattle.leveldb_base.specs.Error.{IsOutOfMemory};
 ghost use Rattle.leveldb_base.specs.declared.error.StatusCode.TheVariants.{AlreadyExists};
 ghost use Rattle.leveldb_base.specs.History.{placed, greatest, AreRising};
 ghost use Rattle.leveldb_base.specs.Varint.{little, varint, sized};
 ghost use Rattle.leveldb_base.specs.KeyTypes.{tag, inner_key, internal_cmp, user_part, sequence_part};
-ghost use Rattle.leveldb_base.specs.Types.{count_before};
+ghost use Rattle.leveldb_base.specs.Types.{position_within, previous_position, seek_position};
 ghost use Rattle.leveldb_mem.specs.Batch.{item_of};
 ghost use Rattle.leveldb_mem.specs.Entries.{Gains, IsNewTo, AreNewTo, FindsNewest, HasRoom, KeepsRoom, Adds, value_length};
+ghost use Rattle.leveldb_mem.specs.Placed.{rank};
+ghost use Rattle.leveldb_mem.specs.SkipMap.{HasNode, position_of};
 ghost use Rattle.leveldb_mem.specs.MemTable.{entry_of, type_of, bytes_of_value, value_of, entry_key, entry_from, inner_value, internal_pair, memory_of_entries, Grows, GivesAt};
 
 use crate::memtable::as_of::{AsOf, user_and_sequence};
@@ -51,7 +53,7 @@ impl<C: Cmp> Model for MemTable<C> {
     ghost use Rattle.std.specs.Prelude.{◌-◌, ◌*◌, ◌≤◌, All};
     ghost use Rattle.leveldb_mem.specs.MemTable.{entries_in, IsEntryPair, most_beside};
 
-    ghost view = { λ it. record { cmp = it.map.cmp.0; kept = record { entries = entries_in it.map.pairs; places = it.map.places; bytes = it.map.bytes - most_beside * it.map.places } } };
+    ghost view = { λ it. record { cmp = it.map.cmp.0; kept = record { entries = entries_in it.map.pairs; places = it.map.places; bytes = it.map.bytes - most_beside * it.map.places }; nodes = it.map.nodes } };
 
     ghost invariant = { λ it. All IsEntryPair it.map.pairs × (most_beside * it.map.places ≤ it.map.bytes) };
 }
@@ -170,8 +172,10 @@ impl<C: UserCmp> MemTable<C> {
             key,
             sequence,
         };
-        let at = self.map.count_by(&probe);
-        self.given_at(at, key)
+        match self.map.first_by(&probe) {
+            None => None,
+            Some(node) => self.given_at(node, key),
+        }
     }
 
     /// A walk over the internal keys of the entries with their values, which stands at no place.
@@ -188,16 +192,13 @@ impl<C: UserCmp> MemTable<C> {
         }
     }
 
-    // What the entry at a place gives the key, if it is the key's.
+    // What the entry of a node gives the key, if it is the key's.
     #[inline]
-    fn given_at(&self, at: usize, key: &[u8]) -> Option<Option<&[u8]>>
-        ensures { GivesAt self.now.kept.entries at key.now (option_map option_copied result) }
+    fn given_at(&self, node: usize, key: &[u8]) -> Option<Option<&[u8]>>
+        requires { HasNode self.now.nodes node }
+        ensures { GivesAt self.now.kept.entries (rank self.now.nodes node) key.now (option_map option_copied result) }
     {
-        let end = self.map.len();
-        if at >= end {
-            return None;
-        }
-        let parts = split_entry(self.map.key(at));
+        let parts = split_entry(self.map.key(node));
         let parsed = parse_internal_key(parts.0);
         if is_same(parsed.2, key) {
             return Some(given(parsed.0, parts.1));
@@ -205,29 +206,50 @@ impl<C: UserCmp> MemTable<C> {
         None
     }
 
-    // How many pairs a walk passes.
-    fn pair_count(&self) -> usize
-        ensures { result ≡ length (map internal_pair self.now.kept.entries) }
+    // The node of the first entry.
+    fn first(&self) -> Option<usize>
+        ensures position { position_of self.now.nodes result ≡ position_within (map internal_pair self.now.kept.entries) 0 }
+        ensures within { ForSome result (HasNode self.now.nodes) }
     {
-        self.map.len()
+        self.map.first()
     }
 
-    // How many internal keys are before this one.
-    fn pairs_before(&self, key: &[u8]) -> usize
-        ensures { result ≡ count_before (internal_cmp (C.cmp self.now.cmp)) key.now (map internal_pair self.now.kept.entries) }
+    // The node after another.
+    fn after(&self, node: usize) -> Option<usize>
+        requires { HasNode self.now.nodes node }
+        ensures position { position_of self.now.nodes result
+            ≡ position_within (map internal_pair self.now.kept.entries) (rank self.now.nodes node + 1) }
+        ensures within { ForSome result (HasNode self.now.nodes) }
+    {
+        self.map.after(node)
+    }
+
+    // The node before another.
+    fn before(&self, node: usize) -> Option<usize>
+        requires { HasNode self.now.nodes node }
+        ensures position { position_of self.now.nodes result ≡ previous_position (Some (rank self.now.nodes node)) }
+        ensures within { ForSome result (HasNode self.now.nodes) }
+    {
+        self.map.before(node)
+    }
+
+    // The node of the first internal key at or after this one.
+    fn first_at(&self, key: &[u8]) -> Option<usize>
+        ensures position { position_of self.now.nodes result
+            ≡ seek_position (internal_cmp (C.cmp self.now.cmp)) (map internal_pair self.now.kept.entries) key.now }
+        ensures within { ForSome result (HasNode self.now.nodes) }
     {
         let cmp = self.map.comparator();
         let probe = AtInternalKey { cmp: &cmp.0, key };
-        self.map.count_by(&probe)
+        self.map.first_by(&probe)
     }
 
-    // The internal key and the value at a place.
-    fn pair(&self, at: usize) -> (&[u8], &[u8])
-        requires { at < length (map internal_pair self.now.kept.entries) }
-        ensures { slice_get (map internal_pair self.now.kept.entries) at ≡ Some (result.0.now, result.1.now) }
+    // The internal key and the value of a node.
+    fn pair(&self, node: usize) -> (&[u8], &[u8])
+        requires { HasNode self.now.nodes node }
+        ensures { slice_get (map internal_pair self.now.kept.entries) (rank self.now.nodes node) ≡ Some (result.0.now, result.1.now) }
     {
-        let key = self.map.key(at);
-        split_entry(key)
+        split_entry(self.map.key(node))
     }
 
     // Takes memory for one entry.

@@ -3,6 +3,8 @@ ghost use Rattle.std.specs.Prelude.{◌≡◌, ◌<◌, length, map};
 ghost use Rattle.std.specs.Ordering.{is_lt};
 ghost use Rattle.std.specs.Option.{ForSome};
 ghost use Rattle.leveldb_base.specs.KeyTypes.{inner_key, internal_cmp};
+ghost use Rattle.leveldb_mem.specs.Placed.{rank};
+ghost use Rattle.leveldb_mem.specs.SkipMap.{position_of};
 ghost use Rattle.leveldb_mem.specs.MemTable.{internal_pair};
 
 use crate::memtable::MemTable;
@@ -35,7 +37,7 @@ impl<'a, C: Cmp> Probe for AtInternalKey<'a, C> {
 pub struct MemtableIterator<'a, C: Cmp> {
     pub(crate) table: &'a MemTable<C>,
     pub(crate) place: Option<usize>,
-    ghost within: { ForSome place (λ i. i < length (map internal_pair table.now.kept.entries)) },
+    ghost within: { ForSome place (λ node. rank table.now.nodes node < length table.now.nodes) },
 }
 
 impl<'a, C: UserCmp> LdbIterator for MemtableIterator<'a, C> {
@@ -43,42 +45,37 @@ impl<'a, C: UserCmp> LdbIterator for MemtableIterator<'a, C> {
 
     ghost pairs = { λ it. map internal_pair it.table.now.kept.entries };
 
-    ghost position = { λ it. it.place };
+    ghost position = { λ it. position_of it.table.now.nodes it.place };
 
     ghost order = { λ it. internal_cmp (C.cmp it.table.now.cmp) };
 
     ghost fails = { λ _ _ _. ⊥ };
 
     fn advance(&mut self) -> Result<bool> {
-        let end = self.table.pair_count();
-        let next = match self.place {
-            None => 0,
-            Some(i) => i + 1,
+        self.place = match self.place {
+            None => self.table.first(),
+            Some(node) => self.table.after(node),
         };
-        let there = next < end;
-        self.place = if there { Some(next) } else { None };
-        Ok(there)
+        Ok(self.place.is_some())
     }
 
     fn prev(&mut self) -> Result<bool> {
         self.place = match self.place {
-            Some(i) if i > 0 => Some(i - 1),
-            _ => None,
+            None => None,
+            Some(node) => self.table.before(node),
         };
         Ok(self.place.is_some())
     }
 
     fn seek(&mut self, key: &[u8]) -> Result<()> {
-        let at = self.table.pairs_before(key);
-        let end = self.table.pair_count();
-        self.place = if at < end { Some(at) } else { None };
+        self.place = self.table.first_at(key);
         Ok(())
     }
 
     fn current(&self) -> Option<(&[u8], &[u8])> {
         match self.place {
             None => None,
-            Some(i) => Some(self.table.pair(i)),
+            Some(node) => Some(self.table.pair(node)),
         }
     }
 
