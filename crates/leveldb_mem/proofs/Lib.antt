@@ -10,7 +10,8 @@ pub mod Leads
 pub mod Joinings
 mod Batches
 mod Entries
-mod Laying
+pub mod TowersLemmas
+pub mod PlacedLemmas
 mod Halving
 mod Rising
 mod EntryKeys
