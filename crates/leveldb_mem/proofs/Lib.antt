@@ -12,6 +12,7 @@ mod Batches
 mod Entries
 pub mod TowersLemmas
 pub mod PlacedLemmas
+pub mod PathLemmas
 mod Halving
 mod Rising
 mod EntryKeys

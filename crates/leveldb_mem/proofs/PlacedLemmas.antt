@@ -1,9 +1,10 @@
 -- Lists of nodes: indexes, links at a height, and a walk along them.
-use Rattle.std.proofs.Common.{◌≡◌, ◌≢◌, ℕ, zero, suc, ◌+◌, ◌-◌, ◌<◌, ◌≤◌, Bool, true, false, cond, List, [], ◌∷◌, ◌++◌, length, get_or, take, drop, map, slice_index, refl, sym, ◌∙◌, ap, subst, arith, ◌⊎◌, ⊎_elim, append_assoc, length-append}
+use Rattle.std.proofs.Common.{◌≡◌, ◌≢◌, ℕ, zero, suc, ◌+◌, ◌-◌, ◌<◌, ◌≤◌, Bool, true, false, cond, List, [], ◌∷◌, ◌++◌, length, get_or, take, drop, map, slice_index, refl, sym, ◌∙◌, ap, subst, arith, ◌⊎◌, inl, inr, ⊎_elim, append_assoc, length-append}
 use Rattle.std.specs.Prelude.{All, filter, nat_eq, nat_lt}
-use Rattle.std.proofs.lemmas.Bool.{cond_both, cond-true, cond-false, eqb-true, eqb-false, eq-eqb, ne_eqb, lt-ltb, ltb-true, ltb-false, cases_Bool, false≢true}
+use Rattle.std.proofs.lemmas.Bool.{cond_both, cond-true, cond-false, eqb-true, eqb-false, eq-eqb, ne_eqb, lt-ltb, ltb-true, ltb-false, cases_Bool, cases_lt, false≢true}
 use Rattle.std.proofs.lemmas.List.Elements.{All-head, All-tail, All-cons, All-append, All-filter, filter-append}
-use Rattle.leveldb_mem.specs.Placed.{head, most_height, tower, link, level, first_of_nodes, last_after, AreLinked, IsApart, AreApart, IsNode, IsSkipList, IsPathTo, rank, IsAt}
+use Rattle.std.proofs.lemmas.List.{get_or-map, get_or_past, length-map}
+use Rattle.leveldb_mem.specs.Placed.{head, nodes_after, pair_in, pairs_in, IsLaid, most_height, tower, link, level, first_of_nodes, last_after, AreLinked, IsApart, AreApart, IsNode, IsSkipList, IsPathTo, rank, IsAt}
 
 -- ---- indexes
 
@@ -135,3 +136,75 @@ last_after-is before nodes front last e = same_last before nodes (front ++ last 
   where
     same_last : (before : ℕ) (nodes all : List ℕ) → before ∷ nodes ≡ all → last_after before all ≡ last → last_after before nodes ≡ last
     same_last before nodes all e h = ap (λ l. last_after before l) e ∙ h
+
+-- ---- what the words of a map say
+
+-- along linked nodes each link is the next
+pub linked_at : (words : List ℕ) (height : ℕ) (nodes : List ℕ) (i : ℕ) → i < length nodes → AreLinked words height nodes
+    → link words height (get_or nodes i 0) ≡ get_or nodes (suc i) 0
+linked_at words height [] i h linked = absurd (omega (arith, h))
+linked_at words height (node ∷ []) zero h linked = linked.0
+linked_at words height (node ∷ next ∷ nodes) zero h linked = linked.0
+linked_at words height (node ∷ nodes) (suc i) h linked = linked_at words height nodes i (omega (arith, h)) linked.1
+
+pub rank-get_or : (words nodes : List ℕ) (i d : ℕ) → i < length nodes → AreApart words nodes → rank nodes (get_or nodes i d) ≡ i
+rank-get_or words [] i d h apart = absurd (omega (arith, h))
+rank-get_or words (node ∷ nodes) zero d h apart = rank-same node node nodes refl
+rank-get_or words (node ∷ nodes) (suc i) d h apart =
+    let far : IsApart words node (get_or nodes i d) = apart.0 i d (omega (arith, h)) in
+    rank-other node (get_or nodes i d) nodes far.other ∙ ap suc (rank-get_or words nodes i d (omega (arith, h)) apart.1)
+
+pub length-nodes_after : (words : List ℕ) (node count : ℕ) → length (nodes_after words node count) ≡ count
+length-nodes_after words node zero = refl
+length-nodes_after words node (suc count) = ap suc (length-nodes_after words (link words 0 node) count)
+
+module _ {words : List ℕ} {end : ℕ} {nodes : List ℕ} (skip : IsSkipList words end nodes) where
+  pub all_nodes : All (IsNode words end) nodes
+  all_nodes = All-tail (IsNode words end) head nodes skip.valid
+
+  pub level_zero : level words 0 (head ∷ nodes) ≡ head ∷ nodes
+  level_zero = level-zero words end (head ∷ nodes) skip.valid
+
+  -- a node that is there
+  pub node_at : (node : ℕ) → rank nodes node < length nodes → IsNode words end node
+  node_at node h = subst (λ n. IsNode words end n) (get_or-rank nodes node 0 h) (all_nodes (rank nodes node) 0 h)
+
+  -- a node that is there, or the head
+  pub node_or_head : (node : ℕ) → rank (head ∷ nodes) node ≤ length nodes → IsNode words end node
+  node_or_head node h =
+      subst (λ n. IsNode words end n) (get_or-rank (head ∷ nodes) node 0 (omega (arith, h))) (skip.valid (rank (head ∷ nodes) node) 0 (omega (arith, h)))
+
+  -- the node at an index, or 0 beyond the last
+  pub is_at : (i : ℕ) → IsAt nodes i (get_or nodes i 0)
+  is_at i = record {
+    there = λ h. (rank-get_or words nodes i 0 h skip.apart.1, let low = (all_nodes i 0 h).low in omega (arith, low));
+    none = λ h. get_or_past nodes i 0 h;
+  }
+
+  pub after_is : (node : ℕ) → rank (head ∷ nodes) node ≤ length nodes → IsAt nodes (rank (head ∷ nodes) node) (slice_index words node)
+  after_is node h =
+      let i = rank (head ∷ nodes) node in
+      let linked = subst (λ l. AreLinked words 0 l) level_zero (skip.levels 0 (omega arith)) in
+      let there = linked_at words 0 (head ∷ nodes) i (omega (arith, h)) linked in
+      let zero_is : node + 0 ≡ node = omega arith in
+      let same : slice_index words node ≡ get_or nodes i 0 =
+      ap (λ n. slice_index words n) (sym zero_is) ∙ ap (λ n. link words 0 n) (sym (get_or-rank (head ∷ nodes) node 0 (omega (arith, h)))) ∙ there in
+      subst (λ n. IsAt nodes i n) (sym same) (is_at i)
+
+-- the pair of a node that is there
+pub pair_at_rank : (text words nodes : List ℕ) (node : ℕ) → rank nodes node < length nodes → get_or (pairs_in text words nodes) (rank nodes node) ([], []) ≡ pair_in text words node
+pair_at_rank text words nodes node h =
+    get_or-map (pair_in text words) nodes (rank nodes node) 0 ([], []) h ∙ ap (pair_in text words) (get_or-rank nodes node 0 h)
+
+pub length-pairs_in : (text words nodes : List ℕ) → length (pairs_in text words nodes) ≡ length nodes
+length-pairs_in text words nodes = length-map nodes (pair_in text words)
+
+module _ {text words last : List ℕ} {count end : ℕ} (laid : IsLaid text words last count end) where
+  pub opened : 0 < length (nodes_after words head count) → 0 < length words
+  opened h =
+      ⊎_elim
+      (λ (e : length words < 1). absurd (omega (arith, laid.none (omega (arith, e)), length-nodes_after words head count, h)))
+      (λ (e : 1 ≤ length words). omega (arith, e)) (cases_lt (length words) 1)
+
+  pub skip_list : 0 < length (nodes_after words head count) → IsSkipList words end (nodes_after words head count)
+  skip_list h = laid.linked (opened h)

@@ -96,7 +96,7 @@ pub record IsNode (words : List ℕ) (end node : ℕ) : Type 0 where
 -- A skip list with these nodes, in order: at each height those whose towers are high enough are linked.
 pub record IsSkipList (words : List ℕ) (end : ℕ) (nodes : List ℕ) : Type 0 where
   pub high : tower words head ≡ most_height
-  pub nodes : All (IsNode words end) (head ∷ nodes)
+  pub valid : All (IsNode words end) (head ∷ nodes)
   pub apart : AreApart words (head ∷ nodes)
   pub levels : (height : ℕ) → height < most_height → AreLinked words height (level words height (head ∷ nodes))
 
