@@ -13,6 +13,7 @@ mod Entries
 pub mod TowersLemmas
 pub mod PlacedLemmas
 pub mod PathLemmas
+pub mod InsertionLemmas
 mod Halving
 mod Rising
 mod EntryKeys

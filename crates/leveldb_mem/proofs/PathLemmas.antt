@@ -307,3 +307,37 @@ module _ (test : List ℕ → Bool) (text : List ℕ) {words : List ℕ} {end : 
       → place_of nodes path ≡ at
   found from some most which path to =
       place_is skip (parts_of from which) most path some to ∙ length-take-le at nodes at_within
+
+-- a search for the place after the pairs that pass
+abbrev pub Searches : (List ℕ → Bool) → List ℕ → List ℕ → List ℕ → ℕ → ℕ → ℕ → List ℕ → Type 0
+Searches test text words nodes from node height path =
+    Descends words (take (count_while test (pairs_in text words nodes)) nodes) (λ n. let pair = pair_in text words n in test pair.0) from node height path
+
+module _ (test : List ℕ → Bool) (text : List ℕ) {words : List ℕ} {end : ℕ} {nodes : List ℕ} (skip : IsSkipList words end nodes) {from : ℕ} (most : from ≤ 12)
+    (which : (from ≡ 1) ⊎ IsParted test (pairs_in text words nodes)) where
+  pub searches_from : (path : List ℕ) → length path ≡ 12 → Searches test text words nodes from head from path
+  searches_from path long = descends_from skip (parts_of test text skip from which) most path long
+
+  module _ {node height : ℕ} {path : List ℕ} (searches : Searches test text words nodes from node height path) (more : 0 < height) where
+    pub searched_within : node + (height - 1) < length words
+    searched_within = node_within skip (parts_of test text skip from which) most searches more
+
+    pub searched_there : rank (head ∷ nodes) node ≤ length nodes
+    searched_there = node_there skip (parts_of test text skip from which) most searches more
+
+    pub searched_next : (next : ℕ) → next ≡ link words (height - 1) node → next ≢ 0
+        → (rank (head ∷ nodes) node < rank (head ∷ nodes) next) × (rank nodes next < length nodes)
+    searched_next next e other =
+        let later = later_next skip (parts_of test text skip from which) most searches more next e other in (later.later, later.there)
+
+    pub searched_along : (next : ℕ) → next ≡ link words (height - 1) node → next ≢ 0 → (let pair = pair_in text words next in test pair.0) ≡ true
+        → Searches test text words nodes from next height path
+    searched_along = moved skip (parts_of test text skip from which) most searches more
+
+    pub searched_down : (next : ℕ) → next ≡ link words (height - 1) node → (next ≢ 0 → (let pair = pair_in text words next in test pair.0) ≡ false)
+        → Searches test text words nodes from node (height - 1) (set path (height - 1) node)
+    searched_down = down skip (parts_of test text skip from which) most searches more
+
+  pub searched : {node height : ℕ} {path : List ℕ} → Searches test text words nodes from node height path → height ≡ 0
+      → IsPathTo words path from (take (count_while test (pairs_in text words nodes)) nodes)
+  searched s done height h = s.done height (omega (arith, done)) h

@@ -4,6 +4,7 @@ use Rattle.std.specs.Prelude.{All, filter, nat_eq, nat_lt}
 use Rattle.std.proofs.lemmas.Bool.{cond_both, cond-true, cond-false, eqb-true, eqb-false, eq-eqb, ne_eqb, lt-ltb, ltb-true, ltb-false, cases_Bool, cases_lt, false≢true}
 use Rattle.std.proofs.lemmas.List.Elements.{All-head, All-tail, All-cons, All-append, All-filter, filter-append}
 use Rattle.std.proofs.lemmas.List.{get_or-map, get_or_past, length-map}
+use Rattle.leveldb_base.specs.Types.{Pair}
 use Rattle.leveldb_mem.specs.Placed.{head, nodes_after, pair_in, pairs_in, IsLaid, most_height, tower, link, level, first_of_nodes, last_after, AreLinked, IsApart, AreApart, IsNode, IsSkipList, IsPathTo, rank, IsAt}
 
 -- ---- indexes
@@ -208,3 +209,22 @@ module _ {text words last : List ℕ} {count end : ℕ} (laid : IsLaid text word
 
   pub skip_list : 0 < length (nodes_after words head count) → IsSkipList words end (nodes_after words head count)
   skip_list h = laid.linked (opened h)
+
+  -- of the nodes and pairs as they are seen from outside
+  module _ {nodes : List ℕ} (same : nodes_after words head count ≡ nodes) where
+    pub skip_list_of : 0 < length nodes → IsSkipList words end nodes
+    skip_list_of h = subst (λ ns. IsSkipList words end ns) same (skip_list (subst (λ ns. 0 < length ns) (sym same) h))
+
+    pub some_node : (node : ℕ) → rank nodes node < length nodes → 0 < length nodes
+    some_node node h = omega (arith, h)
+
+    pub node_is : (node : ℕ) → rank nodes node < length nodes → IsNode words end node
+    node_is node h = node_at (skip_list_of (omega (arith, h))) node h
+
+    pub pair_is : {pairs : List Pair} → pairs_in text words (nodes_after words head count) ≡ pairs → (node : ℕ) → rank nodes node < length nodes
+        → get_or pairs (rank nodes node) ([], []) ≡ pair_in text words node
+    pair_is {pairs} e node h =
+        ap (λ ps. get_or ps (rank nodes node) ([], [])) (sym e ∙ ap (pairs_in text words) same) ∙ pair_at_rank text words nodes node h
+
+    pub length_is : {pairs : List Pair} → pairs_in text words (nodes_after words head count) ≡ pairs → length nodes ≡ length pairs
+    length_is {pairs} e = sym (length-pairs_in text words nodes) ∙ ap (λ ns. length (pairs_in text words ns)) (sym same) ∙ ap length e
