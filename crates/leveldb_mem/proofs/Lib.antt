@@ -14,8 +14,10 @@ pub mod TowersLemmas
 pub mod PlacedLemmas
 pub mod PathLemmas
 pub mod InsertionLemmas
+pub mod LaidLemmas
 mod Halving
 mod Rising
+pub mod SkipMapLemmas
 mod EntryKeys
 mod Newest
 mod Gaining

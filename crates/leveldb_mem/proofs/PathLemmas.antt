@@ -1,5 +1,5 @@
 -- A search from the head of a skip list along each height, down to the lowest.
-use Rattle.std.proofs.Common.{◌≡◌, ◌≢◌, ℕ, zero, suc, ◌+◌, ◌-◌, ◌<◌, ◌≤◌, Bool, true, false, cond, List, [], ◌∷◌, ◌++◌, length, get_or, take, drop, set, map, slice_index, refl, sym, ◌∙◌, ap, subst, arith, ◌⊎◌, inl, inr, ⊎_elim, append_assoc, length-append, take-append-drop, length-drop}
+use Rattle.std.proofs.Common.{◌≡◌, ◌≢◌, ℕ, zero, suc, ◌+◌, ◌-◌, ◌<◌, ◌≤◌, Bool, true, false, cond, List, [], ◌∷◌, ◌++◌, length, get_or, take, drop, set, map, slice_index, refl, sym, ◌∙◌, ap, subst, arith, ◌⊎◌, inl, inr, ⊎_elim, append_assoc, length-append, take-append-drop, length-drop, append-nil}
 use Rattle.std.specs.Prelude.{All, nat_lt}
 use Rattle.std.proofs.lemmas.Bool.{cases_order, cases_Bool, false≢true}
 use Rattle.std.proofs.lemmas.List.{get_or-set_same, get_or-set_other, get_or-take, get_or-drop, length-take-le, length-set, get_or-map, length-map}
@@ -10,11 +10,11 @@ use Rattle.leveldb_mem.specs.Placed.{head, most_height, tower, link, level, firs
 use Rattle.leveldb_mem.proofs.Halving.{before_count, at_count, count-le}
 use Rattle.leveldb_mem.proofs.PlacedLemmas.{rank-append, rank-later, rank-le, level-append, level-keep, level-zero, Splits, split_level, link_at, last_after-is, EndsIn, ends_in, all_nodes, node_or_head, pair_at_rank, length-pairs_in, get_or-rank}
 
-All-middle : {X : Type 0} (P : X → Type 0) (front : List X) (x : X) (back : List X) → All P (front ++ x ∷ back) → P x
+pub All-middle : {X : Type 0} (P : X → Type 0) (front : List X) (x : X) (back : List X) → All P (front ++ x ∷ back) → P x
 All-middle P [] x back all = All-head P x back all
 All-middle P (y ∷ front) x back all = All-middle P front x back (All-tail P y (front ++ x ∷ back) all)
 
-All-behind : {X : Type 0} (P : X → Type 0) (front : List X) (x : X) (back : List X) → All P (front ++ x ∷ back) → All P back
+pub All-behind : {X : Type 0} (P : X → Type 0) (front : List X) (x : X) (back : List X) → All P (front ++ x ∷ back) → All P back
 All-behind P [] x back all = All-tail P x back all
 All-behind P (y ∷ front) x back all = All-behind P front x back (All-tail P y (front ++ x ∷ back) all)
 
@@ -341,3 +341,13 @@ module _ (test : List ℕ → Bool) (text : List ℕ) {words : List ℕ} {end : 
   pub searched : {node height : ℕ} {path : List ℕ} → Searches test text words nodes from node height path → height ≡ 0
       → IsPathTo words path from (take (count_while test (pairs_in text words nodes)) nodes)
   searched s done height h = s.done height (omega (arith, done)) h
+
+-- the last nodes are a path to the place after all
+pub last_place : {words : List ℕ} {end : ℕ} {nodes : List ℕ} → IsSkipList words end nodes → (last : List ℕ) → IsPathTo words last 12 nodes → place_of nodes last ≡ length nodes
+last_place {words} {end} {nodes} skip last to =
+    let parts : Parts words nodes (λ n. true) 12 nodes [] = record {
+      whole = sym (append-nil nodes);
+      all_pass = λ k d h. refl;
+      stops = λ height h node more e. absurd (omega (arith, ap length e));
+    } in
+    place_is skip parts (omega arith) last (omega arith) to

@@ -192,6 +192,12 @@ module _ {words : List ℕ} {end : ℕ} {nodes : List ℕ} (skip : IsSkipList wo
       ap (λ n. slice_index words n) (sym zero_is) ∙ ap (λ n. link words 0 n) (sym (get_or-rank (head ∷ nodes) node 0 (omega (arith, h)))) ∙ there in
       subst (λ n. IsAt nodes i n) (sym same) (is_at i)
 
+-- a node that is there isn't the head
+pub rank-after_head : {words : List ℕ} {end : ℕ} {nodes : List ℕ} → IsSkipList words end nodes → (node : ℕ) → rank nodes node < length nodes → rank (head ∷ nodes) node ≡ rank nodes node + 1
+rank-after_head {words} {end} {nodes} skip node h =
+    let far = skip.apart.0 (rank nodes node) 0 h in
+    rank-other head node nodes (λ e. far.other (e ∙ sym (get_or-rank nodes node 0 h))) ∙ omega arith
+
 -- the pair of a node that is there
 pub pair_at_rank : (text words nodes : List ℕ) (node : ℕ) → rank nodes node < length nodes → get_or (pairs_in text words nodes) (rank nodes node) ([], []) ≡ pair_in text words node
 pair_at_rank text words nodes node h =

@@ -195,7 +195,8 @@ impl<C: Cmp> SkipMap<C> {
     /// The comparator.
     #[inline]
     pub(crate) fn comparator(&self) -> &C
-        ensures { result.now ≡ self.now.cmp }
+        ensures value { result.now ≡ self.now.cmp }
+        ensures sorted { IsSorted (C.accepts self.now.cmp) (C.cmp self.now.cmp) self.now.pairs }
     {
         &self.cmp
     }
@@ -219,7 +220,8 @@ impl<C: Cmp> SkipMap<C> {
     #[inline]
     pub(crate) fn key(&self, node: usize) -> &[u8]
         requires { HasNode self.now.nodes node }
-        ensures { result.now ≡ key_at self.now.pairs (rank self.now.nodes node) }
+        ensures value { result.now ≡ key_at self.now.pairs (rank self.now.nodes node) }
+        ensures nodes { length self.now.nodes ≡ length self.now.pairs }
     {
         self.pairs.key(node)
     }

@@ -86,7 +86,8 @@ impl PlacedPairs {
 
     #[inline]
     pub(crate) fn len(&self) -> usize
-        ensures { result ≡ length self.now.pairs }
+        ensures value { result ≡ length self.now.pairs }
+        ensures nodes { length self.now.order ≡ length self.now.pairs }
     {
         self.count
     }
@@ -95,7 +96,8 @@ impl PlacedPairs {
     #[inline]
     pub(crate) fn key(&self, node: usize) -> &[u8]
         requires { rank self.now.order node < length self.now.order }
-        ensures { result.now ≡ key_at self.now.pairs (rank self.now.order node) }
+        ensures value { result.now ≡ key_at self.now.pairs (rank self.now.order node) }
+        ensures nodes { length self.now.order ≡ length self.now.pairs }
     {
         let start = self.words[node - 4] as usize;
         let length = self.words[node - 3] as usize;
@@ -106,8 +108,9 @@ impl PlacedPairs {
     #[inline]
     pub(crate) fn pair(&self, node: usize) -> (&[u8], &[u8])
         requires { rank self.now.order node < length self.now.order }
-        ensures { (result.0.now, result.1.now)
+        ensures value { (result.0.now, result.1.now)
             ≡ slice_index_or self.now.pairs (rank self.now.order node) ([], []) }
+        ensures nodes { length self.now.order ≡ length self.now.pairs }
     {
         let start = self.words[node - 4] as usize;
         let middle = start + self.words[node - 3] as usize;
@@ -118,9 +121,12 @@ impl PlacedPairs {
     /// The node after the head or another node, or 0.
     #[inline]
     pub(crate) fn after(&self, node: usize) -> usize
-        requires some { 0 < length self.now.pairs }
+        requires some { 0 < length self.now.order }
         requires node { rank (head ∷ self.now.order) node ≤ length self.now.order }
-        ensures { IsAt self.now.order (rank (head ∷ self.now.order) node) result }
+        ensures at { IsAt self.now.order (rank (head ∷ self.now.order) node) result }
+        ensures later { rank self.now.order node < length self.now.order
+            → rank (head ∷ self.now.order) node ≡ rank self.now.order node + 1 }
+        ensures nodes { length self.now.order ≡ length self.now.pairs }
     {
         self.words[node] as usize
     }
@@ -129,12 +135,13 @@ impl PlacedPairs {
     /// each height, from the highest of these down.
     #[inline]
     pub(crate) fn path_to<P: Probe>(&self, probe: &P, from: usize) -> Path
-        requires some { 0 < length self.now.pairs }
+        requires some { 0 < length self.now.order }
         requires from { (0 < from) × (from ≤ 12) }
         requires parted { (from ≡ 1) ⊎ IsParted (P.passes probe.now) self.now.pairs }
         ensures path { IsPathTo self.now.words result from
             (take (count_while (P.passes probe.now) self.now.pairs) self.now.order) }
         ensures place { place_of self.now.order result ≡ count_while (P.passes probe.now) self.now.pairs }
+        ensures nodes { length self.now.order ≡ length self.now.pairs }
     {
         let mut path = [HEAD as u32; MAX_HEIGHT];
         let mut node = HEAD;
@@ -154,8 +161,8 @@ impl PlacedPairs {
     /// The path to the place after all pairs.
     #[inline]
     pub(crate) fn path_to_end(&self) -> Path
-        ensures path { IsPathTo self.now.words result 12 self.now.order }
-        ensures place { place_of self.now.order result ≡ length self.now.order }
+        ensures path { IsPathTo self.now.words result 12 (take (length self.now.pairs) self.now.order) }
+        ensures place { place_of self.now.order result ≡ length self.now.pairs }
     {
         self.last
     }
@@ -233,7 +240,7 @@ impl PlacedPairs {
     /// a tower of this height.
     #[inline]
     pub(crate) fn place(&mut self, path: &Path, key_length: usize, height: usize)
-        requires at { place_of self.old.order path.now ≤ length self.old.order }
+        requires at { place_of self.old.order path.now ≤ length self.old.pairs }
         requires path { IsPathTo self.old.words path.now 12
             (take (place_of self.old.order path.now) self.old.order) }
         requires height { (0 < height) × (height ≤ 12) }

@@ -40,9 +40,10 @@ impl<'a, C: Cmp> Probe for AtKey<'a, C> {
 /// A key that isn't accepted may have no one place in the order, so it is looked for from the front on.
 #[inline]
 pub(crate) fn path_before<C: Cmp>(cmp: &C, pairs: &PlacedPairs, key: &[u8]) -> Path
-    requires some { 0 < length pairs.now.pairs }
+    requires some { 0 < length pairs.now.order }
     requires sorted { IsSorted (C.accepts cmp.now) (C.cmp cmp.now) pairs.now.pairs }
     ensures place { place_of pairs.now.order result ≡ count_before (C.cmp cmp.now) key.now pairs.now.pairs }
+    ensures nodes { length pairs.now.order ≡ length pairs.now.pairs }
     ensures path { C.accepts cmp.now key.now ≡ true → IsPathTo pairs.now.words result 12
         (take (count_before (C.cmp cmp.now) key.now pairs.now.pairs) pairs.now.order) }
 {
@@ -57,7 +58,7 @@ pub(crate) fn path_before<C: Cmp>(cmp: &C, pairs: &PlacedPairs, key: &[u8]) -> P
 // Whether the key after a path is Equal to this one.
 #[inline]
 fn is_equal_after<C: Cmp>(cmp: &C, pairs: &PlacedPairs, path: &Path, key: &[u8]) -> bool
-    requires some { 0 < length pairs.now.pairs }
+    requires some { 0 < length pairs.now.order }
     requires within { place_of pairs.now.order path.now ≤ length pairs.now.order }
     ensures { IsTrue result ↔ ((place_of pairs.now.order path.now < length pairs.now.pairs)
         × (C.cmp cmp.now (key_at pairs.now.pairs (place_of pairs.now.order path.now)) key.now ≡ Equal)) }
@@ -69,7 +70,7 @@ fn is_equal_after<C: Cmp>(cmp: &C, pairs: &PlacedPairs, path: &Path, key: &[u8])
 // Whether all keys are before this one.
 #[inline]
 fn is_last_before<C: Cmp>(cmp: &C, pairs: &PlacedPairs, path: &Path, key: &[u8]) -> bool
-    requires last { place_of pairs.now.order path.now ≡ length pairs.now.order }
+    requires last { place_of pairs.now.order path.now ≡ length pairs.now.pairs }
     ensures { IsTrue result ↔ ((length pairs.now.pairs ≡ 0)
         ⊎ (C.cmp cmp.now (key_at pairs.now.pairs (length pairs.now.pairs - 1)) key.now ≡ Less)) }
 {
