@@ -6,7 +6,7 @@ use Rattle.std.proofs.lemmas.Bool.{cases_lt}
 use Rattle.std.proofs.lemmas.List.{get_or_append_left, get_or-append-add, get_or-replicate, get_or-take, length-take-le, take-map, drop-map, take_rest, drop-drop, take-append-le, drop-append-le, take_all, nil_from_length}
 use Rattle.std.proofs.lemmas.List.Sums.{sum_by-append, sum_by-cons, sum_by-take-drop}
 use Rattle.leveldb_base.specs.Types.{Pair}
-use Rattle.leveldb_mem.specs.Placed.{head, most_height, tower, link, level, last_after, AreLinked, IsNode, IsSkipList, IsPathTo, IsLaid, place_of, pair_in, pairs_in, nodes_after, bytes_of, key_start, key_end, value_end}
+use Rattle.leveldb_mem.specs.Placed.{head, head_words, most_height, tower, link, level, last_after, AreLinked, IsNode, IsSkipList, IsPathTo, IsLaid, place_of, pair_in, pairs_in, nodes_after, bytes_of, key_start, key_end, value_end}
 use Rattle.leveldb_mem.proofs.PathLemmas.{last_place}
 use Rattle.leveldb_mem.proofs.PlacedLemmas.{rank-same, level-keep, all_nodes, skip_list, length-nodes_after, length-pairs_in}
 use Rattle.leveldb_mem.proofs.InsertionLemmas.{Links, before_within, same_map, new_skip, new_order, new_lasts, new_pairs}
@@ -63,10 +63,6 @@ module _ {text words last : List ℕ} {count end : ℕ} (laid : IsLaid text word
     filled = ap bytes_of pairs-take ∙ laid.filled;
   }
 
--- the words of a head
-abbrev pub head_words : List ℕ
-head_words = (0 ∷ 0 ∷ 0 ∷ 12 ∷ []) ++ replicate 12 0
-
 head_alone : (end : ℕ) → IsSkipList head_words end []
 head_alone end = record {
   high = refl;
@@ -107,12 +103,52 @@ laid-head {text} {words} {last} {count} {end} laid empty words' is =
 
 -- a path among no nodes is the head's, whatever the words are
 pub path_nowhere : (words words' path : List ℕ) (at : ℕ) (nodes nodes' : List ℕ) → nodes ≡ [] → nodes' ≡ [] → IsPathTo words path 12 (take at nodes) → IsPathTo words' path 12 (take at nodes')
-path_nowhere words words' path at nodes nodes' none none' to k h =
+path_nowhere words words' path at these those none none' to k h =
     to k h ∙ ap (λ ns. last_after head (level words k (take at ns))) none ∙ nothing at ∙ ap (λ ns. last_after head (level words' k (take at ns))) (sym none')
   where
     nothing : (n : ℕ) → last_after head (level words k (take n [])) ≡ last_after head (level words' k (take n []))
     nothing zero = refl
     nothing (suc n) = refl
+
+-- what is laid where a head comes if there was none
+pub record Opens (text words last : List ℕ) (count end : ℕ) (text' words' : List ℕ) : Type 0 where
+  pub laid' : IsLaid text' words' last count end
+  pub pairs' : pairs_in text' words' (nodes_after words' head count) ≡ pairs_in text words (nodes_after words head count)
+  pub order' : nodes_after words' head count ≡ nodes_after words head count
+  pub some : 0 < length words'
+  pub most : length words' ≤ length words + 16
+  pub paths : (path : List ℕ) (at : ℕ) → IsPathTo words path 12 (take at (nodes_after words head count)) → IsPathTo words' path 12 (take at (nodes_after words' head count))
+
+pub opens : {text words last : List ℕ} {count end : ℕ} → IsLaid text words last count end → (text' words' : List ℕ) → text' ≡ text
+    → (length words ≡ 0 → words' ≡ head_words) → (0 < length words → words' ≡ words) → Opens text words last count end text' words'
+opens {text} {words} {last} {count} {end} laid text' words' same none some =
+    subst (λ t. Opens text words last count end t words') (sym same)
+    (⊎_elim
+    (λ (lt : length words < 1).
+    let empty : length words ≡ 0 = omega (arith, lt) in
+    let is = none empty in
+    let all = laid-head laid empty words' is in
+    let size = ap length is in
+    let none_before : nodes_after words head count ≡ [] = ap (nodes_after words head) (laid.none empty) in
+    record {
+      laid' = all.0;
+      pairs' = all.1;
+      order' = all.2;
+      some = omega (arith, size);
+      most = omega (arith, size);
+      paths = λ path at to. path_nowhere words words' path at (nodes_after words head count) (nodes_after words' head count) none_before (all.2 ∙ none_before) to;
+    })
+    (λ (ge : 1 ≤ length words).
+    let is = some (omega (arith, ge)) in
+    subst (λ w. Opens text words last count end text w) (sym is) (record {
+      laid' = laid;
+      pairs' = refl;
+      order' = refl;
+      some = omega (arith, ge);
+      most = omega arith;
+      paths = λ path at to. to;
+    }))
+    (cases_lt (length words) 1))
 
 -- ---- a new pair
 
@@ -131,7 +167,7 @@ module _ {text words last : List ℕ} {count end : ℕ} (laid : IsLaid text word
   abbrev grown : List ℕ
   grown = words ++ take (4 + height) added
 
-  grown_size : length grown ≡ length words + 4 + height
+  pub grown_size : length grown ≡ length words + 4 + height
   grown_size = length-append words (take (4 + height) added) ∙ (let size = length-take-le (4 + height) added (omega (arith, high, node.size)) in omega (arith, size))
 
   added_at : (k : ℕ) → k < 4 + height → slice_index grown (length words + k) ≡ slice_index added k

@@ -47,7 +47,7 @@ beyond pairs i e =
     (cases_lt i (length pairs))
 
 -- the place that a node is, where the node is at an index
-module _ {nodes : List ℕ} {pairs : List Pair} (size : length nodes ≡ length pairs) {i node : ℕ} (at : IsAt nodes i node) (place : Option ℕ)
+module _ {nodes : List ℕ} (pairs : List Pair) (size : length nodes ≡ length pairs) {i node : ℕ} (at : IsAt nodes i node) (place : Option ℕ)
     (none : node ≡ 0 → place ≡ None) (some : 0 < node → place ≡ Some node) where
   pub place_at : position_of nodes place ≡ position_within pairs i
   place_at =
@@ -58,11 +58,11 @@ module _ {nodes : List ℕ} {pairs : List Pair} (size : length nodes ≡ length 
       (λ (ge : length nodes ≤ i). ap (position_of nodes) (none (at.none ge)) ∙ none_within pairs i (omega (arith, ge, size)))
       (cases_lt i (length nodes))
 
-  pub place_has : ForSome place (HasNode nodes)
+  pub place_has : ForSome place (HasNode nodes pairs)
   place_has =
       ⊎_elim
-      (λ (lt : i < length nodes). let there = at.there lt in for_some (HasNode nodes) place node (some there.1) (omega (arith, there.0, lt)))
-      (λ (ge : length nodes ≤ i). for_none (HasNode nodes) place (none (at.none ge)))
+      (λ (lt : i < length nodes). let there = at.there lt in for_some (HasNode nodes pairs) place node (some there.1) (omega (arith, there.0, lt, size)))
+      (λ (ge : length nodes ≤ i). for_none (HasNode nodes pairs) place (none (at.none ge)))
       (cases_lt i (length nodes))
 
 module _ {accepts : List ℕ → Bool} {cmp : List ℕ → List ℕ → Ordering} (o : IsPreorderOn accepts cmp) {pairs : List Pair} (sorted : IsSorted accepts cmp pairs) where

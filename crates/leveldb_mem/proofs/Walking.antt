@@ -1,6 +1,6 @@
 -- A map of memtable keys as a list of internal keys with values.
-use Rattle.std.proofs.Common.{◌≡◌, ℕ, ◌+◌, ◌<◌, Bool, true, cond, List, [], ◌∷◌, length, get_or, map, Some, refl, sym, ◌∙◌, ap, subst, arith, ◌⊎◌, ⊎_elim}
-use Rattle.std.specs.Prelude.{All, slice_get}
+use Rattle.std.proofs.Common.{◌≡◌, ℕ, ◌+◌, ◌<◌, Bool, true, cond, List, [], ◌∷◌, length, get_or, map, Some, None, refl, sym, ◌∙◌, ap, subst, arith, ◌⊎◌, ⊎_elim}
+use Rattle.std.specs.Prelude.{All, nat_lt, slice_get}
 use Rattle.std.proofs.lemmas.Bool.{cases_order, lt-ltb}
 use Rattle.std.proofs.lemmas.Cmp.{ranked}
 use Rattle.std.proofs.lemmas.Option.{slice_get-get_or}
@@ -14,7 +14,7 @@ use Rattle.leveldb_base.specs.Cmp.{IsPreorderOn, memtable_accepts}
 use Rattle.leveldb_base.specs.CmpLaws.{alike_right}
 use Rattle.leveldb_base.specs.KeyTypes.{user_part, sequence_part, inner_key, internal_cmp, memtable_cmp}
 use Rattle.leveldb_base.proofs.KeyTypesLemmas.{inner_key-memtable_key}
-use Rattle.leveldb_base.specs.Types.{Pair, count_before}
+use Rattle.leveldb_base.specs.Types.{Pair, count_before, position_within}
 use Rattle.leveldb_base.specs.History.{IsBeforeAll, AreRising}
 use Rattle.leveldb_mem.specs.Searching.{key_at, count_while, IsParted}
 use Rattle.leveldb_mem.specs.SkipMap.{IsSorted}
@@ -38,6 +38,9 @@ walked pairs = map internal_pair (entries_in pairs)
 
 pub length-walked : (pairs : List Pair) → length (walked pairs) ≡ length pairs
 length-walked pairs = length-map (entries_in pairs) internal_pair ∙ length-map pairs (λ (pair : Pair). entry_from pair.0)
+
+pub within_walked : (pairs : List Pair) (i : ℕ) → position_within pairs i ≡ position_within (walked pairs) i
+within_walked pairs i = ap (λ n. cond (nat_lt i n) (Some i) None) (sym (length-walked pairs))
 
 pub walked_at : (pairs : List Pair) (i : ℕ) → i < length pairs → All IsEntryPair pairs → slice_get (walked pairs) i ≡ Some (inner_key (key_at pairs i), inner_value (key_at pairs i))
 walked_at pairs i h each =

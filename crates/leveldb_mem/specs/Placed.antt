@@ -2,7 +2,7 @@
 -- A node is the offset of its links, one for each height of its tower. In the four words before them are where its key
 -- begins in the text, the lengths of its key and of its value, and the height of its tower. The first node is a head with
 -- all twelve links, which has no pair. A link is the next node of its height, or 0 at the end.
-use Rattle.std.specs.Prelude.{◌≡◌, ◌≢◌, ℕ, zero, suc, ◌+◌, ◌-◌, ◌<◌, ◌≤◌, Bool, true, List, [], ◌∷◌, length, map, filter, nat_eq, nat_lt, sum_by, slice_range, slice_index, slice_index_or, All, if◌then◌else◌}
+use Rattle.std.specs.Prelude.{◌≡◌, ◌≢◌, ℕ, zero, suc, ◌+◌, ◌-◌, ◌<◌, ◌≤◌, Bool, true, List, [], ◌∷◌, length, map, filter, nat_eq, nat_lt, sum_by, slice_range, slice_index, slice_index_or, replicate, All, if◌then◌else◌}
 use Rattle.leveldb_base.specs.Types.{Pair}
 
 -- pairs, what comes after them of a pair that is to come, room for so many pairs and so many bytes, and the nodes of the
@@ -18,6 +18,10 @@ pub record Placed : Type 0 where
 -- the first node, which has no pair
 abbrev pub head : ℕ
 head = 4
+
+-- the words of the first node, without links
+abbrev pub head_words : List ℕ
+head_words = 0 ∷ 0 ∷ 0 ∷ 12 ∷ replicate 12 0
 
 -- the most links of a node
 abbrev pub most_height : ℕ

@@ -31,8 +31,8 @@ pub record IsSorted (accepts : List ℕ → Bool) (cmp : List ℕ → List ℕ �
   pub accepted : All (λ pair. accepts pair.0 ≡ true) pairs
 
 -- the node of one of the pairs
-abbrev pub HasNode : List ℕ → ℕ → Type 0
-HasNode nodes node = rank nodes node < length nodes
+abbrev pub HasNode : List ℕ → List Pair → ℕ → Type 0
+HasNode nodes pairs node = rank nodes node < length pairs
 
 -- the index of the pair of a node
 abbrev pub position_of : List ℕ → Option ℕ → Option ℕ

@@ -195,7 +195,7 @@ impl<C: UserCmp> MemTable<C> {
     // What the entry of a node gives the key, if it is the key's.
     #[inline]
     fn given_at(&self, node: usize, key: &[u8]) -> Option<Option<&[u8]>>
-        requires { HasNode self.now.nodes node }
+        requires { HasNode self.now.nodes (map internal_pair self.now.kept.entries) node }
         ensures { GivesAt self.now.kept.entries (rank self.now.nodes node) key.now (option_map option_copied result) }
     {
         let parts = split_entry(self.map.key(node));
@@ -209,26 +209,26 @@ impl<C: UserCmp> MemTable<C> {
     // The node of the first entry.
     fn first(&self) -> Option<usize>
         ensures position { position_of self.now.nodes result ≡ position_within (map internal_pair self.now.kept.entries) 0 }
-        ensures within { ForSome result (HasNode self.now.nodes) }
+        ensures within { ForSome result (HasNode self.now.nodes (map internal_pair self.now.kept.entries)) }
     {
         self.map.first()
     }
 
     // The node after another.
     fn after(&self, node: usize) -> Option<usize>
-        requires { HasNode self.now.nodes node }
+        requires { HasNode self.now.nodes (map internal_pair self.now.kept.entries) node }
         ensures position { position_of self.now.nodes result
             ≡ position_within (map internal_pair self.now.kept.entries) (rank self.now.nodes node + 1) }
-        ensures within { ForSome result (HasNode self.now.nodes) }
+        ensures within { ForSome result (HasNode self.now.nodes (map internal_pair self.now.kept.entries)) }
     {
         self.map.after(node)
     }
 
     // The node before another.
     fn before(&self, node: usize) -> Option<usize>
-        requires { HasNode self.now.nodes node }
+        requires { HasNode self.now.nodes (map internal_pair self.now.kept.entries) node }
         ensures position { position_of self.now.nodes result ≡ previous_position (Some (rank self.now.nodes node)) }
-        ensures within { ForSome result (HasNode self.now.nodes) }
+        ensures within { ForSome result (HasNode self.now.nodes (map internal_pair self.now.kept.entries)) }
     {
         self.map.before(node)
     }
@@ -237,7 +237,7 @@ impl<C: UserCmp> MemTable<C> {
     fn first_at(&self, key: &[u8]) -> Option<usize>
         ensures position { position_of self.now.nodes result
             ≡ seek_position (internal_cmp (C.cmp self.now.cmp)) (map internal_pair self.now.kept.entries) key.now }
-        ensures within { ForSome result (HasNode self.now.nodes) }
+        ensures within { ForSome result (HasNode self.now.nodes (map internal_pair self.now.kept.entries)) }
     {
         let cmp = self.map.comparator();
         let probe = AtInternalKey { cmp: &cmp.0, key };
@@ -246,7 +246,7 @@ impl<C: UserCmp> MemTable<C> {
 
     // The internal key and the value of a node.
     fn pair(&self, node: usize) -> (&[u8], &[u8])
-        requires { HasNode self.now.nodes node }
+        requires { HasNode self.now.nodes (map internal_pair self.now.kept.entries) node }
         ensures { slice_get (map internal_pair self.now.kept.entries) (rank self.now.nodes node) ≡ Some (result.0.now, result.1.now) }
     {
         split_entry(self.map.key(node))

@@ -45,12 +45,13 @@ impl<C: Cmp> Model for SkipMap<C> {
 
     ghost coded = { held_code C.code };
 
-    ghost use Rattle.std.specs.Prelude.{◌≡◌, []};
+    ghost use Rattle.std.specs.Prelude.{◌≡◌, [], length};
     ghost use Rattle.leveldb_mem.specs.SkipMap.{IsSorted};
 
     ghost view = { λ it. record { cmp = it.cmp; pairs = it.pairs.pairs; nodes = it.pairs.order; places = it.pairs.places; bytes = it.pairs.bytes } };
 
-    ghost invariant = { λ it. IsSorted (C.accepts it.cmp) (C.cmp it.cmp) it.pairs.pairs × (it.pairs.tail ≡ []) };
+    ghost invariant = { λ it. IsSorted (C.accepts it.cmp) (C.cmp it.cmp) it.pairs.pairs × (it.pairs.tail ≡ [])
+        × (length it.pairs.order ≡ length it.pairs.pairs) };
 }
 
 impl<C: Cmp> SkipMap<C> {
@@ -146,7 +147,7 @@ impl<C: Cmp> SkipMap<C> {
     #[inline]
     pub(crate) fn first_at(&self, key: &[u8]) -> Option<usize>
         ensures position { position_of self.now.nodes result ≡ seek_position (C.cmp self.now.cmp) self.now.pairs key.now }
-        ensures within { ForSome result (HasNode self.now.nodes) }
+        ensures within { ForSome result (HasNode self.now.nodes self.now.pairs) }
     {
         if self.pairs.len() == 0 {
             return None;
@@ -159,7 +160,7 @@ impl<C: Cmp> SkipMap<C> {
     #[inline]
     pub(crate) fn first(&self) -> Option<usize>
         ensures position { position_of self.now.nodes result ≡ position_within self.now.pairs 0 }
-        ensures within { ForSome result (HasNode self.now.nodes) }
+        ensures within { ForSome result (HasNode self.now.nodes self.now.pairs) }
     {
         if self.pairs.len() == 0 {
             return None;
@@ -170,9 +171,9 @@ impl<C: Cmp> SkipMap<C> {
     /// The node after another.
     #[inline]
     pub(crate) fn after(&self, node: usize) -> Option<usize>
-        requires { HasNode self.now.nodes node }
+        requires { HasNode self.now.nodes self.now.pairs node }
         ensures position { position_of self.now.nodes result ≡ position_within self.now.pairs (rank self.now.nodes node + 1) }
-        ensures within { ForSome result (HasNode self.now.nodes) }
+        ensures within { ForSome result (HasNode self.now.nodes self.now.pairs) }
     {
         as_place(self.pairs.after(node))
     }
@@ -180,9 +181,9 @@ impl<C: Cmp> SkipMap<C> {
     /// The node before another.
     #[inline]
     pub(crate) fn before(&self, node: usize) -> Option<usize>
-        requires { HasNode self.now.nodes node }
+        requires { HasNode self.now.nodes self.now.pairs node }
         ensures position { position_of self.now.nodes result ≡ previous_position (Some (rank self.now.nodes node)) }
-        ensures within { ForSome result (HasNode self.now.nodes) }
+        ensures within { ForSome result (HasNode self.now.nodes self.now.pairs) }
     {
         let probe = AtKey {
             cmp: &self.cmp,
@@ -207,7 +208,7 @@ impl<C: Cmp> SkipMap<C> {
         requires { IsParted (P.passes probe.now) self.now.pairs }
         ensures position { position_of self.now.nodes result
             ≡ position_within self.now.pairs (count_while (P.passes probe.now) self.now.pairs) }
-        ensures within { ForSome result (HasNode self.now.nodes) }
+        ensures within { ForSome result (HasNode self.now.nodes self.now.pairs) }
     {
         if self.pairs.len() == 0 {
             return None;
@@ -219,9 +220,8 @@ impl<C: Cmp> SkipMap<C> {
     /// The key of a node.
     #[inline]
     pub(crate) fn key(&self, node: usize) -> &[u8]
-        requires { HasNode self.now.nodes node }
-        ensures value { result.now ≡ key_at self.now.pairs (rank self.now.nodes node) }
-        ensures nodes { length self.now.nodes ≡ length self.now.pairs }
+        requires { HasNode self.now.nodes self.now.pairs node }
+        ensures { result.now ≡ key_at self.now.pairs (rank self.now.nodes node) }
     {
         self.pairs.key(node)
     }
@@ -230,7 +230,7 @@ impl<C: Cmp> SkipMap<C> {
     #[inline]
     #[tactic(auto, using(std::proofs::lemmas::Option::gets))]
     fn pair(&self, node: usize) -> (&[u8], &[u8])
-        requires { HasNode self.now.nodes node }
+        requires { HasNode self.now.nodes self.now.pairs node }
         ensures { slice_get self.now.pairs (rank self.now.nodes node) ≡ Some (result.0.now, result.1.now) }
     {
         self.pairs.pair(node)
@@ -321,7 +321,7 @@ fn as_place(node: usize) -> Option<usize>
 pub struct SkipMapIter<'a, C: Cmp> {
     map: &'a SkipMap<C>,
     place: Option<usize>,
-    ghost within: { ForSome place (λ node. rank map.now.nodes node < length map.now.nodes) },
+    ghost within: { ForSome place (λ node. rank map.now.nodes node < length map.now.pairs) },
 }
 
 impl<'a, C: Cmp> LdbIterator for SkipMapIter<'a, C> {

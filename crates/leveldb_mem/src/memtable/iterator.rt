@@ -37,7 +37,7 @@ impl<'a, C: Cmp> Probe for AtInternalKey<'a, C> {
 pub struct MemtableIterator<'a, C: Cmp> {
     pub(crate) table: &'a MemTable<C>,
     pub(crate) place: Option<usize>,
-    ghost within: { ForSome place (λ node. rank table.now.nodes node < length table.now.nodes) },
+    ghost within: { ForSome place (λ node. rank table.now.nodes node < length (map internal_pair table.now.kept.entries)) },
 }
 
 impl<'a, C: UserCmp> LdbIterator for MemtableIterator<'a, C> {

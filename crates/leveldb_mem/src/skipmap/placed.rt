@@ -1,8 +1,8 @@
 //! Pairs of a key and a value in a skip list, each at a place that is chosen at its insertion.
-ghost use Rattle.std.specs.Prelude.{◌≡◌, ◌+◌, ◌*◌, ◌^◌, ◌<◌, ◌≤◌, ◌⊎◌, ℕ, List, [], ◌∷◌, ◌++◌, length, take, drop, slice_index, slice_index_or, OnOk, OnErr, IfErr};
+ghost use Rattle.std.specs.Prelude.{◌≡◌, ◌+◌, ◌*◌, ◌^◌, ◌<◌, ◌≤◌, ◌⊎◌, ℕ, List, [], ◌∷◌, ◌++◌, length, take, drop, slice_index, slice_index_or, vec_len, vec_capacity, OnOk, OnErr, IfErr};
 ghost use Rattle.std.specs.List.{insert};
 ghost use Rattle.leveldb_base.specs.Error.{IsOutOfMemory};
-ghost use Rattle.leveldb_mem.specs.Placed.{head, rank, place_of, IsAt, IsPathTo, bytes_of};
+ghost use Rattle.leveldb_mem.specs.Placed.{head, head_words, rank, place_of, IsAt, IsPathTo, bytes_of};
 ghost use Rattle.leveldb_mem.specs.Searching.{key_at, count_while, IsParted};
 
 use crate::skipmap::search::Probe;
@@ -193,9 +193,7 @@ impl PlacedPairs {
         }
         self.words.reserve(MAX_WORDS * (places + 1))?;
         self.text.reserve(bytes)?;
-        if self.words.is_empty() {
-            self.words.extend_from_slice(&HEAD_WORDS).unwrap();
-        }
+        place_head(&mut self.words);
         self.places = places;
         self.room = self.room.max(bytes);
         Ok(())
@@ -248,6 +246,7 @@ impl PlacedPairs {
         requires room { 0 < self.old.places }
         ensures pairs { self.new.pairs ≡ insert self.old.pairs (place_of self.old.order path.now)
             (take key_length self.old.tail, drop key_length self.old.tail) }
+        ensures nodes { length self.new.order ≡ length self.new.pairs }
         ensures tail { self.new.tail ≡ [] }
         ensures places { self.new.places + 1 ≡ self.old.places }
         ensures bytes { self.new.bytes ≡ self.old.bytes }
@@ -279,5 +278,17 @@ impl PlacedPairs {
         ensures bound { result + 128 < 2 ^ 64 }
     {
         64 * self.count + self.end
+    }
+}
+
+// Puts the words of a head where there are none.
+fn place_head(words: &mut Vec<u32>)
+    requires { vec_len words.old + 16 ≤ vec_capacity words.old }
+    ensures first { vec_len words.old ≡ 0 → words.new.items ≡ head_words }
+    ensures others { 0 < vec_len words.old → words.new.items ≡ words.old.items }
+    ensures capacity { vec_capacity words.old ≤ vec_capacity words.new }
+{
+    if words.is_empty() {
+        words.extend_from_slice(&HEAD_WORDS).unwrap();
     }
 }

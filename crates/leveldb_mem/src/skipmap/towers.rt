@@ -40,6 +40,7 @@ pub(crate) fn node_words(
     requires height { height ≤ 12 }
     requires path { length path.now ≡ 12 }
     requires within { (k : ℕ) → k < height → slice_index path.now k + k < length words.now }
+    ensures size { length result ≡ 16 }
     ensures start { slice_index result 0 ≡ start }
     ensures key { slice_index result 1 ≡ key_length }
     ensures value { slice_index result 2 ≡ value_length }

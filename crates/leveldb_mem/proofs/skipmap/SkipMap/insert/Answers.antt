@@ -27,7 +27,7 @@ pub place-requires-clause-path : goal.place-requires-clause-path
 place-requires-clause-path g c =
     let it = c.self.inside in
     let path = c.in-Some.path in
-    same_path c.in_ok-reserve.new.self.words c.append-2.new.self.words c.in_ok-reserve.new.self.order c.append-2.new.self.order path (place_of it.pairs.order path)
+    same_path c.reserve.new.self.words c.append-2.new.self.words c.reserve.new.self.order c.append-2.new.self.order path (place_of it.pairs.order path)
     (c.append-2.ensures.words ∙ c.append.ensures.words) (c.append-2.ensures.order ∙ c.append.ensures.order) (ap (λ o. place_of o path) c.in_ok-reserve.ensures.order)
     (c.in_ok-reserve.ensures.paths path (place_of it.pairs.order path) c.in-Some.ensures.1)
 
@@ -44,7 +44,7 @@ invariant_of-self-2 g c =
     let new : c.place.new.self.pairs ≡ insert it.pairs.pairs (place_of it.pairs.order path) (key, value) =
     placed_at it.pairs.pairs c.append-2.new.self.pairs c.place.new.self.pairs c.append-2.new.self.tail key value (place_of c.append-2.new.self.order path) (length key) same tail refl c.place.ensures.pairs
     ∙ ap (λ o. insert it.pairs.pairs (place_of o path) (key, value)) order_is in
-    (subst (λ (ps : List Pair). IsSorted (g.C.Cmp.accepts it.cmp) (g.C.Cmp.cmp it.cmp) ps) (sym new) (c.in-Some.ensures.0.sorted value), c.place.ensures.tail)
+    (subst (λ (ps : List Pair). IsSorted (g.C.Cmp.accepts it.cmp) (g.C.Cmp.cmp it.cmp) ps) (sym new) (c.in-Some.ensures.0.sorted value), c.place.ensures.tail, c.place.ensures.nodes)
 
 pub returns-clause-ok : goal.returns-clause-ok
 returns-clause-ok g c =

@@ -8,4 +8,4 @@ returns g c =
     let it = c.self.inside in
     let there = rw (← c.self.view_is) at c.requires in
     rw (← c.self.view_is)
-    (slice_get-get_or it.pairs.pairs (rank it.pairs.order c.args.node) ([], []) (omega (arith, there, c.pair.ensures.nodes)) ∙ ap (λ p. Some p) (sym c.pair.ensures.value))
+    (slice_get-get_or it.pairs.pairs (rank it.pairs.order c.args.node) ([], []) there ∙ ap (λ p. Some p) (sym c.pair.ensures.value))

@@ -12,7 +12,7 @@ invariant_of-self-in-Some g c =
     let pairs = c.append-5.new.self.pairs in
     let whole = sym c.tail-key.ensures ∙ sym (append-nil key) in
     let new = placed_at pairs pairs c.place.new.self.pairs c.append-5.new.self.tail key [] (place_of c.append-5.new.self.order c.in-Some.path) (length key) refl whole refl c.place.ensures.pairs in
-    (subst (λ (ps : List Pair). IsSorted (g.C.Cmp.accepts it.cmp) (g.C.Cmp.cmp it.cmp) ps) (sym new) (c.in-Some.ensures.0.sorted []), c.place.ensures.tail)
+    (subst (λ (ps : List Pair). IsSorted (g.C.Cmp.accepts it.cmp) (g.C.Cmp.cmp it.cmp) ps) (sym new) (c.in-Some.ensures.0.sorted []), c.place.ensures.tail, c.place.ensures.nodes)
 
 pub returns-in-Some-clause-put : goal.returns-in-Some-clause-put
 returns-in-Some-clause-put g c =

@@ -8,8 +8,7 @@ use Rattle.leveldb_mem.proofs.skipmap.search.find_gap.Goals as goal
 pub returns-then-is_last_before : goal.returns-then-is_last_before
 returns-then-is_last_before g c =
     let o = g.met.C.Cmp.preorder c.args.cmp.now in
-    let end = c.path_to_end-end in
-    (
+    let end = c.path_to_end-end in (
       gap_last o c.requires.sorted c.args.key.now c.requires.accepted (place_of c.args.pairs.now.order end.result) end.ensures.place (c.is_last_before.ensures.0 c.if-is_last_before.true),
       subst (λ n. IsPathTo c.args.pairs.now.words end.result 12 (take n c.args.pairs.now.order)) (sym end.ensures.place) end.ensures.path,
     )
@@ -22,8 +21,7 @@ returns-then-is_equal_after g c =
 pub returns : goal.returns
 returns g c =
     let path = c.path_before-path in
-    let not_there = iff_false c.is_equal_after.ensures c.if-is_equal_after.false in
-    (
+    let not_there = iff_false c.is_equal_after.ensures c.if-is_equal_after.false in (
       gap_at (g.met.C.Cmp.preorder c.args.cmp.now) c.requires.sorted c.args.key.now c.requires.accepted (place_of c.args.pairs.now.order path.result) path.ensures.place (λ h e. not_there (h, e)),
       subst (λ n. IsPathTo c.args.pairs.now.words path.result 12 (take n c.args.pairs.now.order)) (sym path.ensures.place) (path.ensures.path c.requires.accepted),
     )

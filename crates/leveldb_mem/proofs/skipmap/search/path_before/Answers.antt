@@ -16,4 +16,4 @@ returns-then-accepts-clause-path g c = λ _.
     (count_before-is (g.C.Cmp.cmp c.args.cmp.now) c.args.key.now c.args.pairs.now.pairs) c.path_to.ensures.path
 
 pub returns-else-accepts-clause-place : goal.returns-else-accepts-clause-place
-returns-else-accepts-clause-place g c = c.path_to.ensures.place ∙ count_before-is (g.C.Cmp.cmp c.args.cmp.now) c.args.key.now c.args.pairs.now.pairs
+returns-else-accepts-clause-place g c = c.path_to-else-accepts.ensures.place ∙ count_before-is (g.C.Cmp.cmp c.args.cmp.now) c.args.key.now c.args.pairs.now.pairs

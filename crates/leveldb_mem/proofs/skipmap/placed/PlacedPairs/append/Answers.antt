@@ -12,8 +12,7 @@ invariant_of-self c =
     let room = ap (λ (z : Placed). z.bytes) c.self.view_is in
     let there : is_ok c.extend_from_slice.result ≡ true = c.extend_from_slice.ensures.succeeds (omega (arith, room, c.requires, laid.4, text.ok.1)) in
     let more = c.extend_from_slice.ensures.items ∙ cond-true _ (text.items ++ c.args.part.now) text.items there in
-    let size = ap length more in
-    (
+    let size = ap length more in (
       rw more (laid-append laid.0 c.args.part.now),
       laid.1,
       laid.2,
