@@ -225,12 +225,12 @@ impl<C: UserCmp> MemTable<C> {
     }
 
     // The node before another.
-    fn before(&self, node: usize) -> Option<usize>
+    fn previous(&self, node: usize) -> Option<usize>
         requires { HasNode self.now.nodes (map internal_pair self.now.kept.entries) node }
         ensures position { position_of self.now.nodes result ≡ previous_position (Some (rank self.now.nodes node)) }
         ensures within { ForSome result (HasNode self.now.nodes (map internal_pair self.now.kept.entries)) }
     {
-        self.map.before(node)
+        self.map.previous(node)
     }
 
     // The node of the first internal key at or after this one.

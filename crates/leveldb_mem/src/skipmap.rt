@@ -180,7 +180,7 @@ impl<C: Cmp> SkipMap<C> {
 
     /// The node before another.
     #[inline]
-    pub(crate) fn before(&self, node: usize) -> Option<usize>
+    pub(crate) fn previous(&self, node: usize) -> Option<usize>
         requires { HasNode self.now.nodes self.now.pairs node }
         ensures position { position_of self.now.nodes result ≡ previous_position (Some (rank self.now.nodes node)) }
         ensures within { ForSome result (HasNode self.now.nodes self.now.pairs) }
@@ -346,7 +346,7 @@ impl<'a, C: Cmp> LdbIterator for SkipMapIter<'a, C> {
     fn prev(&mut self) -> Result<bool> {
         self.place = match self.place {
             None => None,
-            Some(node) => self.map.before(node),
+            Some(node) => self.map.previous(node),
         };
         Ok(self.place.is_some())
     }

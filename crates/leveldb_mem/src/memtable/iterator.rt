@@ -62,7 +62,7 @@ impl<'a, C: UserCmp> LdbIterator for MemtableIterator<'a, C> {
     fn prev(&mut self) -> Result<bool> {
         self.place = match self.place {
             None => None,
-            Some(node) => self.table.before(node),
+            Some(node) => self.table.previous(node),
         };
         Ok(self.place.is_some())
     }

@@ -14,8 +14,8 @@ invariant_of-self-2 c =
       λ _. omega (arith, opens_now.some, c.place_head.new.words.ok.0),
       omega (arith, c.in_ok-reserve.ensures.ok, c.in_ok-reserve.ensures.len, c.place_head.ensures.capacity, opens_now.most, it.words.ok.0, c.place_head.new.words.ok.0),
       omega (arith, c.if-places-len.false, c.len.ensures, opens_now.most, it.words.ok.0, c.place_head.new.words.ok.0),
-      omega (arith, c.in_ok-reserve-2.ensures.ok, c.in_ok-reserve-2.ensures.len, c.in_ok-reserve-2.ensures.capacity, c.max.ensures, c.self.invariant.4),
-      omega (arith, c.if-bytes-len.false, c.len-else-places-len.ensures, c.in_ok-reserve-2.ensures.len, c.max.ensures, c.self.invariant.5),
+      omega (arith, c.in_ok-reserve-2.ensures.ok, c.in_ok-reserve-2.ensures.len, c.in_ok-reserve-2.ensures.capacity, c.max-self-inside.ensures, c.self.invariant.4),
+      omega (arith, c.if-bytes-len.false, c.len-else-places-len.ensures, c.in_ok-reserve-2.ensures.len, c.max-self-inside.ensures, c.self.invariant.5),
     )
 
 pub returns-clause-pairs : goal.returns-clause-pairs

@@ -5,7 +5,7 @@ use Rattle.leveldb_mem.specs.Searching.{key_at, count_while, IsParted}
 use Rattle.leveldb_mem.specs.SkipMap.{HasNode}
 use Rattle.leveldb_mem.proofs.Rising.{parted_by_order}
 use Rattle.leveldb_mem.proofs.SkipMapLemmas.{accepted_key, count_of_key, before_head, before_node, before_has, for_some}
-use Rattle.leveldb_mem.proofs.skipmap.SkipMap.before.Goals as goal
+use Rattle.leveldb_mem.proofs.skipmap.SkipMap.previous.Goals as goal
 
 pub path_to-requires-clause-parted : goal.path_to-requires-clause-parted
 path_to-requires-clause-parted g c =
@@ -27,7 +27,7 @@ returns-then-before-eq-HEAD-clause-position g c =
     let before = slice_index c.path_to.result 0 in
     let count = ap (λ k. count_while (λ z. is_lt (g.C.Cmp.cmp it.cmp z k)) it.pairs.pairs) c.key.ensures.value ∙ count_of_key o c.self.invariant.0 i there in
     let is : rank (head ∷ it.pairs.order) before ≡ i = c.path_to.ensures.place ∙ count in
-    rw (← c.self.view_is) (before_head it.pairs.order c.args.node before there is c.if-before-eq-HEAD.true)
+    rw (← c.self.view_is) (before_head it.pairs.order c.args.node before has is c.if-before-eq-HEAD.true)
 
 pub returns-else-before-eq-HEAD-clause-position : goal.returns-else-before-eq-HEAD-clause-position
 returns-else-before-eq-HEAD-clause-position g c =
@@ -39,7 +39,7 @@ returns-else-before-eq-HEAD-clause-position g c =
     let before = slice_index c.path_to.result 0 in
     let count = ap (λ k. count_while (λ z. is_lt (g.C.Cmp.cmp it.cmp z k)) it.pairs.pairs) c.key.ensures.value ∙ count_of_key o c.self.invariant.0 i there in
     let is : rank (head ∷ it.pairs.order) before ≡ i = c.path_to.ensures.place ∙ count in
-    rw (← c.self.view_is) (before_node it.pairs.order c.args.node before there is c.if-before-eq-HEAD.false)
+    rw (← c.self.view_is) (before_node it.pairs.order c.args.node before has is c.if-before-eq-HEAD.false)
 
 pub returns-else-before-eq-HEAD-clause-within : goal.returns-else-before-eq-HEAD-clause-within
 returns-else-before-eq-HEAD-clause-within g c =
@@ -51,4 +51,5 @@ returns-else-before-eq-HEAD-clause-within g c =
     let before = slice_index c.path_to.result 0 in
     let count = ap (λ k. count_while (λ z. is_lt (g.C.Cmp.cmp it.cmp z k)) it.pairs.pairs) c.key.ensures.value ∙ count_of_key o c.self.invariant.0 i there in
     let is : rank (head ∷ it.pairs.order) before ≡ i = c.path_to.ensures.place ∙ count in
-    rw (← c.self.view_is) (for_some (HasNode it.pairs.order) (Some before) before refl (before_has it.pairs.order c.args.node before there is c.if-before-eq-HEAD.false))
+    let there_before = before_has it.pairs.order c.args.node before has is c.if-before-eq-HEAD.false in
+    rw (← c.self.view_is) (for_some (HasNode it.pairs.order it.pairs.pairs) (Some before) before refl (omega (arith, there_before, c.self.invariant.2)))
