@@ -35,13 +35,15 @@ tower words node = slice_index words (node - 1)
 abbrev pub link : List ℕ → ℕ → ℕ → ℕ
 link words height node = slice_index words (node + height)
 
--- where the key of a node begins, where it ends and the value begins, and where that ends
+-- where the key of a node begins in the text
 abbrev pub key_start : List ℕ → ℕ → ℕ
 key_start words node = slice_index words (node - 4)
 
+-- where it ends and the value begins
 abbrev pub key_end : List ℕ → ℕ → ℕ
 key_end words node = key_start words node + slice_index words (node - 3)
 
+-- where the value ends
 abbrev pub value_end : List ℕ → ℕ → ℕ
 value_end words node = key_end words node + slice_index words (node - 2)
 
