@@ -29,8 +29,8 @@ pub(crate) mod towers;
 const SEED: u64 = 0xdeadbeef;
 
 /// Pairs whose keys rise strictly. Each of them is accepted by the comparator, and none is empty.
-/// It is a skip list, so a search, an insertion and a step back take a number of comparisons that grows with the number's
-/// logarithm.
+/// It is a skip list, so a search, an insertion and a step back take a number of comparisons that
+/// grows with the logarithm of the number of pairs.
 #[derive(Drop)]
 pub struct SkipMap<C: Cmp> {
     cmp: C,
@@ -48,9 +48,16 @@ impl<C: Cmp> Model for SkipMap<C> {
     ghost use Rattle.std.specs.Prelude.{◌≡◌, [], length};
     ghost use Rattle.leveldb_mem.specs.SkipMap.{IsSorted};
 
-    ghost view = { λ it. record { cmp = it.cmp; pairs = it.pairs.pairs; nodes = it.pairs.order; places = it.pairs.places; bytes = it.pairs.bytes } };
+    ghost view = { λ it. record {
+      cmp = it.cmp;
+      pairs = it.pairs.pairs;
+      nodes = it.pairs.order;
+      places = it.pairs.places;
+      bytes = it.pairs.bytes;
+    } };
 
-    ghost invariant = { λ it. IsSorted (C.accepts it.cmp) (C.cmp it.cmp) it.pairs.pairs × (it.pairs.tail ≡ [])
+    ghost invariant = { λ it. IsSorted (C.accepts it.cmp) (C.cmp it.cmp) it.pairs.pairs
+        × (it.pairs.tail ≡ [])
         × (length it.pairs.order ≡ length it.pairs.pairs) };
 }
 
@@ -100,7 +107,8 @@ impl<C: Cmp> SkipMap<C> {
     }
 
     /// Puts a copy of the pair at its place.
-    /// `InvalidArgument` for an empty key, `AlreadyExists` for one that is Equal to a key that is there.
+    /// `InvalidArgument` for an empty key, `AlreadyExists` for one that is Equal to a key that is
+    /// there.
     pub fn insert(&mut self, key: &[u8], value: &[u8]) -> Result<()>
         requires { (key.now ≡ []) ⊎ (C.accepts self.old.cmp key.now ≡ true) }
         ensures cmp { self.new.cmp ≡ self.old.cmp }
@@ -146,7 +154,8 @@ impl<C: Cmp> SkipMap<C> {
     /// The node of the first key at or after this one.
     #[inline]
     pub(crate) fn first_at(&self, key: &[u8]) -> Option<usize>
-        ensures position { position_of self.now.nodes result ≡ seek_position (C.cmp self.now.cmp) self.now.pairs key.now }
+        ensures position { position_of self.now.nodes result
+            ≡ seek_position (C.cmp self.now.cmp) self.now.pairs key.now }
         ensures within { ForSome result (HasNode self.now.nodes self.now.pairs) }
     {
         if self.pairs.len() == 0 {
@@ -172,7 +181,8 @@ impl<C: Cmp> SkipMap<C> {
     #[inline]
     pub(crate) fn after(&self, node: usize) -> Option<usize>
         requires { HasNode self.now.nodes self.now.pairs node }
-        ensures position { position_of self.now.nodes result ≡ position_within self.now.pairs (rank self.now.nodes node + 1) }
+        ensures position { position_of self.now.nodes result
+            ≡ position_within self.now.pairs (rank self.now.nodes node + 1) }
         ensures within { ForSome result (HasNode self.now.nodes self.now.pairs) }
     {
         as_place(self.pairs.after(node))
@@ -182,7 +192,8 @@ impl<C: Cmp> SkipMap<C> {
     #[inline]
     pub(crate) fn previous(&self, node: usize) -> Option<usize>
         requires { HasNode self.now.nodes self.now.pairs node }
-        ensures position { position_of self.now.nodes result ≡ previous_position (Some (rank self.now.nodes node)) }
+        ensures position { position_of self.now.nodes result
+            ≡ previous_position (Some (rank self.now.nodes node)) }
         ensures within { ForSome result (HasNode self.now.nodes self.now.pairs) }
     {
         let probe = AtKey {
@@ -202,7 +213,8 @@ impl<C: Cmp> SkipMap<C> {
         &self.cmp
     }
 
-    /// The node of the first key that doesn't come before something, where all that do are at the front.
+    /// The node of the first key that doesn't come before something, where all that do are at the
+    /// front.
     #[inline]
     pub(crate) fn first_by<P: Probe>(&self, probe: &P) -> Option<usize>
         requires { IsParted (P.passes probe.now) self.now.pairs }
@@ -231,7 +243,8 @@ impl<C: Cmp> SkipMap<C> {
     #[tactic(auto, using(std::proofs::lemmas::Option::gets))]
     fn pair(&self, node: usize) -> (&[u8], &[u8])
         requires { HasNode self.now.nodes self.now.pairs node }
-        ensures { slice_get self.now.pairs (rank self.now.nodes node) ≡ Some (result.0.now, result.1.now) }
+        ensures { slice_get self.now.pairs (rank self.now.nodes node)
+            ≡ Some (result.0.now, result.1.now) }
     {
         self.pairs.pair(node)
     }

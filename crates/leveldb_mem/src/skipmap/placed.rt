@@ -131,8 +131,8 @@ impl PlacedPairs {
         self.words[node] as usize
     }
 
-    /// The path to the place after the pairs that come before something. It goes from the head along
-    /// each height, from the highest of these down.
+    /// The path to the place after the pairs that come before something. It goes from the head
+    /// along each height, from the highest of these down.
     #[inline]
     pub(crate) fn path_to<P: Probe>(&self, probe: &P, from: usize) -> Path
         requires some { 0 < length self.now.order }
@@ -140,7 +140,8 @@ impl PlacedPairs {
         requires parted { (from ≡ 1) ⊎ IsParted (P.passes probe.now) self.now.pairs }
         ensures path { IsPathTo self.now.words result from
             (take (count_while (P.passes probe.now) self.now.pairs) self.now.order) }
-        ensures place { place_of self.now.order result ≡ count_while (P.passes probe.now) self.now.pairs }
+        ensures place { place_of self.now.order result
+            ≡ count_while (P.passes probe.now) self.now.pairs }
         ensures nodes { length self.now.order ≡ length self.now.pairs }
     {
         let mut path = [HEAD as u32; MAX_HEIGHT];
@@ -161,7 +162,8 @@ impl PlacedPairs {
     /// The path to the place after all pairs.
     #[inline]
     pub(crate) fn path_to_end(&self) -> Path
-        ensures path { IsPathTo self.now.words result 12 (take (length self.now.pairs) self.now.order) }
+        ensures path { IsPathTo self.now.words result 12
+            (take (length self.now.pairs) self.now.order) }
         ensures place { place_of self.now.order result ≡ length self.now.pairs }
     {
         self.last
@@ -175,12 +177,13 @@ impl PlacedPairs {
         self.places
     }
 
-    /// Makes room for so many pairs and so many bytes. What 32 bits can't number is refused as want
-    /// of memory.
+    /// Makes room for `places` pairs and `bytes` bytes. It fails as out of memory where 32 bits can't
+    /// number them.
     pub(crate) fn reserve(&mut self, places: usize, bytes: usize) -> Result<()>
         ensures pairs { self.new.pairs ≡ self.old.pairs }
         ensures order { self.new.order ≡ self.old.order }
-        ensures paths { (path : List ℕ) (at : ℕ) → IsPathTo self.old.words path 12 (take at self.old.order)
+        ensures paths { (path : List ℕ) (at : ℕ)
+            → IsPathTo self.old.words path 12 (take at self.old.order)
             → IsPathTo self.new.words path 12 (take at self.new.order) }
         ensures tail { self.new.tail ≡ self.old.tail }
         ensures ok { OnOk result ((self.new.places ≡ places) × (bytes ≤ self.new.bytes)) }
@@ -234,8 +237,8 @@ impl PlacedPairs {
         self.text.truncate(self.end);
     }
 
-    /// Makes what comes after the pairs a pair at the end of a path, with a key of so many bytes and
-    /// a tower of this height.
+    /// Makes what comes after the pairs a pair at the end of a path, with a key of so many bytes
+    /// and a tower of this height.
     #[inline]
     pub(crate) fn place(&mut self, path: &Path, key_length: usize, height: usize)
         requires at { place_of self.old.order path.now ≤ length self.old.pairs }

@@ -37,12 +37,14 @@ impl<'a, C: Cmp> Probe for AtKey<'a, C> {
 }
 
 /// The path to the place after the keys before this one.
-/// A key that isn't accepted may have no one place in the order, so it is looked for from the front on.
+/// A key that isn't accepted may have no one place in the order, so it is looked for from the front
+/// on.
 #[inline]
 pub(crate) fn path_before<C: Cmp>(cmp: &C, pairs: &PlacedPairs, key: &[u8]) -> Path
     requires some { 0 < length pairs.now.order }
     requires sorted { IsSorted (C.accepts cmp.now) (C.cmp cmp.now) pairs.now.pairs }
-    ensures place { place_of pairs.now.order result ≡ count_before (C.cmp cmp.now) key.now pairs.now.pairs }
+    ensures place { place_of pairs.now.order result
+        ≡ count_before (C.cmp cmp.now) key.now pairs.now.pairs }
     ensures nodes { length pairs.now.order ≡ length pairs.now.pairs }
     ensures path { C.accepts cmp.now key.now ≡ true → IsPathTo pairs.now.words result 12
         (take (count_before (C.cmp cmp.now) key.now pairs.now.pairs) pairs.now.order) }
@@ -61,7 +63,8 @@ fn is_equal_after<C: Cmp>(cmp: &C, pairs: &PlacedPairs, path: &Path, key: &[u8])
     requires some { 0 < length pairs.now.order }
     requires within { place_of pairs.now.order path.now ≤ length pairs.now.order }
     ensures { IsTrue result ↔ ((place_of pairs.now.order path.now < length pairs.now.pairs)
-        × (C.cmp cmp.now (key_at pairs.now.pairs (place_of pairs.now.order path.now)) key.now ≡ Equal)) }
+        × (C.cmp cmp.now (key_at pairs.now.pairs (place_of pairs.now.order path.now)) key.now
+        ≡ Equal)) }
 {
     let next = pairs.after(path[0] as usize);
     next != 0 && cmp.cmp(pairs.key(next), key).is_eq()
@@ -77,13 +80,15 @@ fn is_last_before<C: Cmp>(cmp: &C, pairs: &PlacedPairs, path: &Path, key: &[u8])
     pairs.len() == 0 || cmp.cmp(pairs.key(path[0] as usize), key).is_lt()
 }
 
-/// The path to where the key comes between the others, or none where a key that is there is Equal to it.
+/// The path to where the key comes between the others, or none where a key that is there is Equal
+/// to it.
 #[inline]
 pub(crate) fn find_gap<C: Cmp>(cmp: &C, pairs: &PlacedPairs, key: &[u8]) -> Option<Path>
     requires sorted { IsSorted (C.accepts cmp.now) (C.cmp cmp.now) pairs.now.pairs }
     requires accepted { C.accepts cmp.now key.now ≡ true }
     ensures { MatchOption result (HasKey (C.cmp cmp.now) pairs.now.pairs key.now)
-        (λ path. IsGap (C.accepts cmp.now) (C.cmp cmp.now) pairs.now.pairs key.now (place_of pairs.now.order path)
+        (λ path. IsGap (C.accepts cmp.now) (C.cmp cmp.now) pairs.now.pairs key.now
+        (place_of pairs.now.order path)
         × IsPathTo pairs.now.words path 12 (take (place_of pairs.now.order path) pairs.now.order)) }
 {
     // A key after all others, as each is where they come in order, costs one comparison.

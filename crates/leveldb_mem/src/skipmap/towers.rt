@@ -65,7 +65,8 @@ pub(crate) fn link_node(words: &mut [u32], path: &[u32], node: u32, height: usiz
     requires path { length path.now ≡ 12 }
     requires within { (k : ℕ) → k < height → slice_index path.now k + k < length words.old }
     ensures length { length words.new ≡ length words.old }
-    ensures linked { (k : ℕ) → k < height → slice_index words.new (slice_index path.now k + k) ≡ node }
+    ensures linked { (k : ℕ) → k < height →
+        slice_index words.new (slice_index path.now k + k) ≡ node }
     ensures others { (i : ℕ) → ((k : ℕ) → k < height → i ≢ slice_index path.now k + k) →
         slice_index words.new i ≡ slice_index words.old i }
 {
@@ -80,7 +81,8 @@ pub(crate) fn keep_last(last: &mut [u32], words: &[u32], node: u32, height: usiz
     requires last { length last.old ≡ 12 }
     requires within { node + height ≤ length words.now }
     ensures length { length last.new ≡ length last.old }
-    ensures last { (k : ℕ) → k < height → slice_index words.now (node + k) ≡ 0 → slice_index last.new k ≡ node }
+    ensures last { (k : ℕ) → k < height → slice_index words.now (node + k) ≡ 0 →
+        slice_index last.new k ≡ node }
     ensures followed { (k : ℕ) → k < height → slice_index words.now (node + k) ≢ 0 →
         slice_index last.new k ≡ slice_index last.old k }
     ensures higher { (k : ℕ) → height ≤ k → slice_index last.new k ≡ slice_index last.old k }
