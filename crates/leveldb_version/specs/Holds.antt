@@ -33,7 +33,7 @@ module _ (store : List ℕ) (reads : Files → Contents → Type 0) where
       : Type 0 where
     pub contents : Contents
     pub read : reads files contents
-    pub match : MatchesHistory allowed bound contents history
+    pub matches : MatchesHistory allowed bound contents history
 
   -- they carry a prefix of the history that has at least `durable` batches
   pub record CarriesPrefix (allowed : Store → Type 0) (bound durable : ℕ) (history : History)
