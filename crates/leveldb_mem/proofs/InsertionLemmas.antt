@@ -9,7 +9,7 @@ use Rattle.std.proofs.lemmas.List.Sums.{sum_by-append, sum_by-cons, sum_by-take-
 use Rattle.leveldb_base.specs.Types.{Pair}
 use Rattle.leveldb_mem.specs.Placed.{head, most_height, tower, link, level, first_of_nodes, last_after, AreLinked, IsApart, AreApart, IsNode, IsSkipList, IsPathTo, IsLaid, rank, pair_in, pairs_in, nodes_after, bytes_of, key_start, key_end, value_end}
 use Rattle.leveldb_mem.proofs.PlacedLemmas.{rank-same, rank-other, rank-get_or, get_or-rank, rank-append, level-append, level-keep, level-skip, level-zero, link_at, last_after-append, node_or_head, length-nodes_after}
-use Rattle.leveldb_mem.proofs.PathLemmas.{All-middle, All-behind}
+use Rattle.leveldb_mem.proofs.PathLemmas.{All-middle, All-after}
 
 -- ---- all of a list
 
@@ -199,7 +199,7 @@ apart_insert words words' new (node ∷ front) back all apart =
 
 -- ---- the new node
 
--- how the words change: a new node with these links comes behind them, and the nodes of its path link to it
+-- how the words change: a new node with these links comes after them, and the nodes of its path link to it
 pub record Links (words path words' : List ℕ) (new height : ℕ) : Type 0 where
   pub low : 0 < height
   pub high : height ≤ 12

@@ -14,9 +14,9 @@ pub All-middle : {X : Type 0} (P : X → Type 0) (front : List X) (x : X) (back 
 All-middle P [] x back all = All-head P x back all
 All-middle P (y ∷ front) x back all = All-middle P front x back (All-tail P y (front ++ x ∷ back) all)
 
-pub All-behind : {X : Type 0} (P : X → Type 0) (front : List X) (x : X) (back : List X) → All P (front ++ x ∷ back) → All P back
-All-behind P [] x back all = All-tail P x back all
-All-behind P (y ∷ front) x back all = All-behind P front x back (All-tail P y (front ++ x ∷ back) all)
+pub All-after : {X : Type 0} (P : X → Type 0) (front : List X) (x : X) (back : List X) → All P (front ++ x ∷ back) → All P back
+All-after P [] x back all = All-tail P x back all
+All-after P (y ∷ front) x back all = All-after P front x back (All-tail P y (front ++ x ∷ back) all)
 
 -- the nodes of a skip list, parted into those that pass and those that don't
 pub record Parts (words nodes : List ℕ) (passes : ℕ → Bool) (from : ℕ) (front back : List ℕ) : Type 0 where
@@ -26,9 +26,9 @@ pub record Parts (words nodes : List ℕ) (passes : ℕ → Bool) (from : ℕ) (
 
 -- a search is at a node that comes before the place, and has a path for the heights from this one on
 pub record Descends (words front : List ℕ) (passes : ℕ → Bool) (from node height : ℕ) (path : List ℕ) : Type 0 where
-  pub behind : List ℕ
+  pub before : List ℕ
   pub ahead : List ℕ
-  pub parts : head ∷ front ≡ behind ++ node ∷ ahead
+  pub parts : head ∷ front ≡ before ++ node ∷ ahead
   pub low : height ≤ from
   pub high : height ≤ tower words node
   pub all_pass : All (λ node. passes node ≡ true) ahead
@@ -55,7 +55,7 @@ module _ {words : List ℕ} {end : ℕ} {nodes : List ℕ} (skip : IsSkipList wo
   -- at the head, with no path
   pub descends_from : (path : List ℕ) → length path ≡ 12 → Descends words front passes from head from path
   descends_from path long = record {
-    behind = [];
+    before = [];
     ahead = front;
     parts = refl;
     low = omega arith;
@@ -70,9 +70,9 @@ module _ {words : List ℕ} {end : ℕ} {nodes : List ℕ} (skip : IsSkipList wo
     abbrev k : ℕ
     k = height - 1
 
-    all_parts : head ∷ nodes ≡ descends.behind ++ node ∷ (descends.ahead ++ back)
+    all_parts : head ∷ nodes ≡ descends.before ++ node ∷ (descends.ahead ++ back)
     all_parts =
-        ap (λ l. head ∷ l) parts.whole ∙ ap (λ l. l ++ back) descends.parts ∙ append_assoc descends.behind (node ∷ descends.ahead) back
+        ap (λ l. head ∷ l) parts.whole ∙ ap (λ l. l ++ back) descends.parts ∙ append_assoc descends.before (node ∷ descends.ahead) back
 
     below : k < most_height
     below = omega (arith, most, descends.low, more)
@@ -80,15 +80,15 @@ module _ {words : List ℕ} {end : ℕ} {nodes : List ℕ} (skip : IsSkipList wo
     has_link : k < tower words node
     has_link = omega (arith, descends.high, more)
 
-    apart : AreApart words (descends.behind ++ node ∷ (descends.ahead ++ back))
+    apart : AreApart words (descends.before ++ node ∷ (descends.ahead ++ back))
     apart = subst (λ l. AreApart words l) all_parts skip.apart
 
-    node_rank : rank (head ∷ nodes) node ≡ length descends.behind
-    node_rank = ap (λ l. rank l node) all_parts ∙ rank-append words descends.behind node (descends.ahead ++ back) apart
+    node_rank : rank (head ∷ nodes) node ≡ length descends.before
+    node_rank = ap (λ l. rank l node) all_parts ∙ rank-append words descends.before node (descends.ahead ++ back) apart
 
-    all_length : suc (length nodes) ≡ length descends.behind + suc (length descends.ahead + length back)
+    all_length : suc (length nodes) ≡ length descends.before + suc (length descends.ahead + length back)
     all_length =
-        ap length all_parts ∙ length-append descends.behind (node ∷ (descends.ahead ++ back)) ∙ ap (λ n. length descends.behind + suc n) (length-append descends.ahead back)
+        ap length all_parts ∙ length-append descends.before (node ∷ (descends.ahead ++ back)) ∙ ap (λ n. length descends.before + suc n) (length-append descends.ahead back)
 
     -- the node is there, or is the head
     pub node_there : rank (head ∷ nodes) node ≤ length nodes
@@ -99,7 +99,7 @@ module _ {words : List ℕ} {end : ℕ} {nodes : List ℕ} (skip : IsSkipList wo
 
     next_is : (next : ℕ) → next ≡ link words k node → next ≡ first_of_nodes (level words k descends.ahead ++ level words k back)
     next_is next e =
-        e ∙ link_at words k descends.behind node (descends.ahead ++ back) (subst (λ l. AreLinked words k (level words k l)) all_parts (skip.levels k below)) has_link
+        e ∙ link_at words k descends.before node (descends.ahead ++ back) (subst (λ l. AreLinked words k (level words k l)) all_parts (skip.levels k below)) has_link
         ∙ ap first_of_nodes (level-append words k descends.ahead back)
 
     -- the next node comes later among those that are there
@@ -109,12 +109,12 @@ module _ {words : List ℕ} {end : ℕ} {nodes : List ℕ} (skip : IsSkipList wo
 
     split_is : (s : Splits words k (descends.ahead ++ back)) → Later s.node
     split_is s =
-        let whole : head ∷ nodes ≡ (descends.behind ++ node ∷ s.front) ++ s.node ∷ s.back =
-        all_parts ∙ ap (λ l. descends.behind ++ node ∷ l) s.whole ∙ sym (append_assoc descends.behind (node ∷ s.front) (s.node ∷ s.back)) in
-        let rank_is : rank (head ∷ nodes) s.node ≡ length (descends.behind ++ node ∷ s.front) =
-        ap (λ l. rank l s.node) whole ∙ rank-append words (descends.behind ++ node ∷ s.front) s.node s.back (subst (λ l. AreApart words l) whole skip.apart) in
-        let size = length-append descends.behind (node ∷ s.front) in
-        let whole_size = ap length whole ∙ length-append (descends.behind ++ node ∷ s.front) (s.node ∷ s.back) in
+        let whole : head ∷ nodes ≡ (descends.before ++ node ∷ s.front) ++ s.node ∷ s.back =
+        all_parts ∙ ap (λ l. descends.before ++ node ∷ l) s.whole ∙ sym (append_assoc descends.before (node ∷ s.front) (s.node ∷ s.back)) in
+        let rank_is : rank (head ∷ nodes) s.node ≡ length (descends.before ++ node ∷ s.front) =
+        ap (λ l. rank l s.node) whole ∙ rank-append words (descends.before ++ node ∷ s.front) s.node s.back (subst (λ l. AreApart words l) whole skip.apart) in
+        let size = length-append descends.before (node ∷ s.front) in
+        let whole_size = ap length whole ∙ length-append (descends.before ++ node ∷ s.front) (s.node ∷ s.back) in
         let one = rank-later head s.node nodes (omega (arith, rank_is, size)) in
         record { later = omega (arith, rank_is, size, node_rank); there = omega (arith, one, rank_is, whole_size) }
 
@@ -148,13 +148,13 @@ module _ {words : List ℕ} {end : ℕ} {nodes : List ℕ} (skip : IsSkipList wo
         (λ (s : Splits words k descends.ahead).
         let same = next_split next e s in
         subst (λ n. Descends words front passes from n height path) (sym same) (record {
-          behind = descends.behind ++ node ∷ s.front;
+          before = descends.before ++ node ∷ s.front;
           ahead = s.back;
-          parts = descends.parts ∙ ap (λ l. descends.behind ++ node ∷ l) s.whole ∙ sym (append_assoc descends.behind (node ∷ s.front) (s.node ∷ s.back));
+          parts = descends.parts ∙ ap (λ l. descends.before ++ node ∷ l) s.whole ∙ sym (append_assoc descends.before (node ∷ s.front) (s.node ∷ s.back));
           low = descends.low;
           high = let high = s.high in omega (arith, high, more);
-          all_pass = All-behind (λ n. passes n ≡ true) s.front s.node s.back (subst (λ l. All (λ n. passes n ≡ true) l) s.whole descends.all_pass);
-          real = All-behind (λ n. 0 < n) s.front s.node s.back (subst (λ l. All (λ n. 0 < n) l) s.whole descends.real);
+          all_pass = All-after (λ n. passes n ≡ true) s.front s.node s.back (subst (λ l. All (λ n. passes n ≡ true) l) s.whole descends.all_pass);
+          real = All-after (λ n. 0 < n) s.front s.node s.back (subst (λ l. All (λ n. 0 < n) l) s.whole descends.real);
           done = descends.done;
           long = descends.long;
         }))
@@ -169,7 +169,7 @@ module _ {words : List ℕ} {end : ℕ} {nodes : List ℕ} (skip : IsSkipList wo
     -- down by one, where the next doesn't
     pub down : (next : ℕ) → next ≡ link words k node → (next ≢ 0 → passes next ≡ false) → Descends words front passes from node k (set path k node)
     down next e fails = record {
-      behind = descends.behind;
+      before = descends.before;
       ahead = descends.ahead;
       parts = descends.parts;
       low = omega (arith, descends.low);
@@ -195,10 +195,10 @@ module _ {words : List ℕ} {end : ℕ} {nodes : List ℕ} (skip : IsSkipList wo
         last : last_after head (level words k front) ≡ node
         last =
             let top : level words k (head ∷ front) ≡ head ∷ level words k front = level-keep words k head front (omega (arith, skip.high, below)) in
-            let split = level-append words k descends.behind (node ∷ descends.ahead) in
+            let split = level-append words k descends.before (node ∷ descends.ahead) in
             let keep = level-keep words k node descends.ahead has_link in
-            last_after-is head (level words k front) (level words k descends.behind) node
-            (sym top ∙ ap (level words k) descends.parts ∙ split ∙ ap (λ l. level words k descends.behind ++ l) (keep ∙ ap (λ l. node ∷ l) none))
+            last_after-is head (level words k front) (level words k descends.before) node
+            (sym top ∙ ap (level words k) descends.parts ∙ split ∙ ap (λ l. level words k descends.before ++ l) (keep ∙ ap (λ l. node ∷ l) none))
 
         done : (at : ℕ) → k ≤ at → at < from → slice_index (set path k node) at ≡ last_after head (level words at front)
         done at h j =

@@ -15,7 +15,7 @@ use Rattle.leveldb_mem.specs.SkipMap.{IsSorted, HasKey, HasNode, IsGap, position
 use Rattle.leveldb_mem.specs.Placed.{head, rank, place_of, IsAt, IsPathTo}
 use Rattle.leveldb_mem.proofs.Halving.{count_at, count-le, count_before-is}
 use Rattle.leveldb_mem.proofs.PlacedLemmas.{rank-zero, rank-later, rank-same}
-use Rattle.leveldb_mem.proofs.Rising.{rising_at, is_less, gap_at, gap_behind}
+use Rattle.leveldb_mem.proofs.Rising.{rising_at, is_less, gap_at, gap_after}
 
 -- no position in a list of no pairs
 pub none_within : (pairs : List Pair) (i : ℕ) → length pairs ≤ i → None ≡ position_within pairs i
@@ -95,7 +95,7 @@ module _ {accepts : List ℕ → Bool} {cmp : List ℕ → List ℕ → Ordering
       (λ (ge : 1 ≤ length pairs).
       ⊎_elim
       (λ (e : length pairs ≡ 0). absurd (omega (arith, e, ge)))
-      (λ (less : cmp (key_at pairs (length pairs - 1)) key ≡ Less). gap_behind o sorted key ok at end (omega (arith, ge)) less) which)
+      (λ (less : cmp (key_at pairs (length pairs - 1)) key ≡ Less). gap_after o sorted key ok at end (omega (arith, ge)) less) which)
       (cases_lt (length pairs) 1)
 
 -- the place before a node, where a search found what comes before it

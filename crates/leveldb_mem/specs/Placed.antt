@@ -5,7 +5,7 @@
 use Rattle.std.specs.Prelude.{◌≡◌, ◌≢◌, ℕ, zero, suc, ◌+◌, ◌-◌, ◌<◌, ◌≤◌, Bool, true, List, [], ◌∷◌, length, map, filter, nat_eq, nat_lt, sum_by, slice_range, slice_index, slice_index_or, replicate, All, if◌then◌else◌}
 use Rattle.leveldb_base.specs.Types.{Pair}
 
--- pairs, what comes after them of a pair that is to come, room for so many pairs and so many bytes, and the nodes of the
+-- pairs, what comes after them of a pair that is to come, room for `places` pairs and `bytes` bytes, and the nodes of the
 -- pairs, in their order, among the words
 pub record Placed : Type 0 where
   pub pairs : List Pair
@@ -56,7 +56,7 @@ pair_in text words node =
 abbrev pub pairs_in : List ℕ → List ℕ → List ℕ → List Pair
 pairs_in text words nodes = map (pair_in text words) nodes
 
--- so many nodes that follow a node at the lowest height
+-- `count` nodes that follow a node at the lowest height
 abbrev pub nodes_after : List ℕ → ℕ → ℕ → List ℕ
 nodes_after words node zero = []
 nodes_after words node (suc count) = link words 0 node ∷ nodes_after words (link words 0 node) count

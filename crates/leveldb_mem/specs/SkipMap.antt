@@ -9,7 +9,7 @@ use Rattle.leveldb_base.specs.Types.{Pair}
 use Rattle.leveldb_base.specs.History.{AreRising}
 use Rattle.leveldb_mem.specs.Placed.{bytes_of, rank}
 
--- a comparator, the pairs with their nodes, and room for so many more with so many bytes
+-- a comparator, the pairs with their nodes, and room for `places` more with `bytes` bytes
 pub record Held (C : Type 0) : Type 0 where
   pub cmp : C
   pub pairs : List Pair
@@ -49,7 +49,7 @@ pub record Inserts (old : List Pair) (pair : Pair) (new : List Pair) : Type 0 wh
 abbrev pub HasKey : (List ℕ → List ℕ → Ordering) → List Pair → List ℕ → Type 0
 HasKey cmp pairs key = (pair : Pair) × Contains pairs pair × (cmp pair.0 key ≡ Equal)
 
--- a place where the key, with any value, comes between the others, and no key is Equal to it
+-- an index at which the key, with any value, comes between the others, and no key is Equal to it
 pub record IsGap (accepts : List ℕ → Bool) (cmp : List ℕ → List ℕ → Ordering) (pairs : List Pair) (key : List ℕ) (at : ℕ) : Type 0 where
   pub within : at ≤ length pairs
   pub sorted : (value : List ℕ) → IsSorted accepts cmp (insert pairs at (key, value))

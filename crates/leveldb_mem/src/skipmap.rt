@@ -1,13 +1,16 @@
 //! A map from keys to values in the order of a comparator.
-ghost use Rattle.std.specs.Prelude.{◌≡◌, ◌≢◌, ◌↔◌, ◌⊎◌, ◌+◌, ◌^◌, ◌<◌, ◌≤◌, ◌==◌, true, [], ◌++◌, length, OnOk, OnErr, IfErr, IsErrAnd, Some, None, slice_get};
+ghost use Rattle.std.specs.Prelude.{◌≡◌, ◌≢◌, ◌↔◌, ◌⊎◌, ◌+◌, ◌^◌, ◌<◌, ◌≤◌, ◌==◌, true, [], ◌++◌};
+ghost use Rattle.std.specs.Prelude.{length, OnOk, OnErr, IfErr, IsErrAnd, Some, None, slice_get};
 ghost use Rattle.std.specs.Bool.{OnTrue, OnFalse};
 ghost use Rattle.std.specs.Option.{ForSome};
 ghost use Rattle.leveldb_base.specs.Error.{IsOutOfMemory};
-ghost use Rattle.leveldb_base.specs.declared.error.StatusCode.TheVariants.{InvalidArgument, AlreadyExists};
+ghost use Rattle.leveldb_base.specs.declared.error.StatusCode.TheVariants.{InvalidArgument};
+ghost use Rattle.leveldb_base.specs.declared.error.StatusCode.TheVariants.{AlreadyExists};
 ghost use Rattle.leveldb_base.specs.Types.{seek_position, position_within, previous_position, pair_at};
 ghost use Rattle.leveldb_mem.specs.Placed.{rank};
 ghost use Rattle.leveldb_mem.specs.Searching.{key_at, count_while, IsParted};
-ghost use Rattle.leveldb_mem.specs.SkipMap.{IsSorted, Inserts, HasKey, HasNode, position_of, key_begins, memory_of};
+ghost use Rattle.leveldb_mem.specs.SkipMap.{IsSorted, Inserts, HasKey, HasNode, position_of};
+ghost use Rattle.leveldb_mem.specs.SkipMap.{key_begins, memory_of};
 
 use crate::skipmap::placed::{HEAD, PlacedPairs};
 use crate::skipmap::search::{AtKey, Probe, find_gap, path_before};
@@ -75,23 +78,24 @@ impl<C: Cmp> SkipMap<C> {
         }
     }
 
-    /// How many pairs there are.
+    /// Returns the number of pairs.
     pub fn len(&self) -> usize
         ensures { result ≡ length self.now.pairs }
     {
         self.pairs.len()
     }
 
-    /// Whether there are no pairs.
+    /// Returns whether there are no pairs.
     pub fn is_empty(&self) -> bool
         ensures { result ≡ (length self.now.pairs == 0) }
     {
         self.pairs.len() == 0
     }
 
-    /// Whether the first key at or after `key` begins with it.
+    /// Returns whether the first key at or after `key` begins with it.
     pub fn contains(&self, key: &[u8]) -> bool
-        ensures { result ≡ key_begins (pair_at self.now.pairs (seek_position (C.cmp self.now.cmp) self.now.pairs key.now)) key.now }
+        ensures { result ≡ key_begins (pair_at self.now.pairs
+            (seek_position (C.cmp self.now.cmp) self.now.pairs key.now)) key.now }
     {
         match self.first_at(key) {
             None => false,
@@ -99,16 +103,16 @@ impl<C: Cmp> SkipMap<C> {
         }
     }
 
-    /// What counts as the map's memory: 128, and for each pair 64 and the lengths of key and value.
+    /// Returns what counts as the map's memory: 128, and for each pair 64 and the lengths of key and
+    /// value.
     pub fn approx_memory(&self) -> usize
         ensures { result ≡ memory_of self.now.pairs }
     {
         128 + self.pairs.memory()
     }
 
-    /// Puts a copy of the pair at its place.
-    /// `InvalidArgument` for an empty key, `AlreadyExists` for one that is Equal to a key that is
-    /// there.
+    /// Inserts a copy of the pair. Returns `InvalidArgument` if the key is empty, and
+    /// `AlreadyExists` if it is Equal to a key that is there.
     pub fn insert(&mut self, key: &[u8], value: &[u8]) -> Result<()>
         requires { (key.now ≡ []) ⊎ (C.accepts self.old.cmp key.now ≡ true) }
         ensures cmp { self.new.cmp ≡ self.old.cmp }
@@ -117,10 +121,12 @@ impl<C: Cmp> SkipMap<C> {
         ensures err { OnErr result (self.new.pairs ≡ self.old.pairs) }
         ensures places { OnErr result (self.new.places ≡ self.old.places) }
         ensures bytes { OnErr result (self.old.bytes ≤ self.new.bytes) }
-        ensures empty { IsErrAnd result (λ status. status.code ≡ InvalidArgument) ↔ (key.now ≡ []) }
+        ensures empty { IsErrAnd result (λ status. status.code ≡ InvalidArgument)
+            ↔ (key.now ≡ []) }
         ensures present { IsErrAnd result (λ status. status.code ≡ AlreadyExists)
             ↔ ((key.now ≢ []) × HasKey (C.cmp self.old.cmp) self.old.pairs key.now) }
-        ensures cause { IfErr result (λ status. (status.code ≡ InvalidArgument) ⊎ (status.code ≡ AlreadyExists) ⊎ IsOutOfMemory status) }
+        ensures cause { IfErr result (λ status. (status.code ≡ InvalidArgument)
+            ⊎ (status.code ≡ AlreadyExists) ⊎ IsOutOfMemory status) }
     {
         let alloc = self.pairs.allocator();
         if key.is_empty() {
@@ -137,17 +143,18 @@ impl<C: Cmp> SkipMap<C> {
         Ok(())
     }
 
-    /// A walk over the pairs, which stands at no place.
-    pub fn iter(&self) -> SkipMapIter<'_, C>
-        ensures map { result.map.now ≡ self.now }
-        ensures place { result.place ≡ None }
+    /// A walk over the pairs, which has no position yet.
+    pub fn iter<'a>(&'a self) -> SkipMapIter<'a, C>
+        ensures pairs { ⟦<SkipMapIter<'a, C> as LdbIterator>⟧.pairs result ≡ self.now.pairs }
+        ensures position { ⟦<SkipMapIter<'a, C> as LdbIterator>⟧.position result ≡ None }
+        ensures order { ⟦<SkipMapIter<'a, C> as LdbIterator>⟧.order result ≡ C.cmp self.now.cmp }
         ensures sorted { IsSorted (C.accepts self.now.cmp) (C.cmp self.now.cmp) self.now.pairs }
     {
         // This opens the value's invariant for the clause `sorted`.
         let _ = &self.pairs;
         SkipMapIter {
             map: self,
-            place: None,
+            node: None,
         }
     }
 
@@ -162,7 +169,7 @@ impl<C: Cmp> SkipMap<C> {
             return None;
         }
         let path = path_before(&self.cmp, &self.pairs, key);
-        as_place(self.pairs.after(path[0] as usize))
+        as_node(self.pairs.after(path[0] as usize))
     }
 
     /// The first node.
@@ -174,7 +181,7 @@ impl<C: Cmp> SkipMap<C> {
         if self.pairs.len() == 0 {
             return None;
         }
-        as_place(self.pairs.after(HEAD))
+        as_node(self.pairs.after(HEAD))
     }
 
     /// The node after another.
@@ -185,7 +192,7 @@ impl<C: Cmp> SkipMap<C> {
             ≡ position_within self.now.pairs (rank self.now.nodes node + 1) }
         ensures within { ForSome result (HasNode self.now.nodes self.now.pairs) }
     {
-        as_place(self.pairs.after(node))
+        as_node(self.pairs.after(node))
     }
 
     /// The node before another.
@@ -226,7 +233,7 @@ impl<C: Cmp> SkipMap<C> {
             return None;
         }
         let path = self.pairs.path_to(probe, MAX_HEIGHT);
-        as_place(self.pairs.after(path[0] as usize))
+        as_node(self.pairs.after(path[0] as usize))
     }
 
     /// The key of a node.
@@ -261,7 +268,7 @@ impl<C: Cmp> SkipMap<C> {
         self.pairs.places()
     }
 
-    /// Makes room for so many pairs with so many bytes.
+    /// Makes room for `places` pairs with `bytes` bytes.
     pub(crate) fn reserve(&mut self, places: usize, bytes: usize) -> Result<()>
         ensures cmp { self.new.cmp ≡ self.old.cmp }
         ensures pairs { self.new.pairs ≡ self.old.pairs }
@@ -273,7 +280,8 @@ impl<C: Cmp> SkipMap<C> {
         self.pairs.reserve(places, bytes)
     }
 
-    /// Puts a key, which comes in five parts, at its place, with no value. It answers whether it did: an Equal key is left.
+    /// Inserts a key, which comes in five parts, with no value. Returns whether it did: an Equal key
+    /// is left.
     pub(crate) fn put_parts(&mut self, a: &[u8], b: &[u8], c: &[u8], d: &[u8], e: &[u8]) -> bool
         requires accepted { C.accepts self.old.cmp (a.now ++ b.now ++ c.now ++ d.now ++ e.now) ≡ true }
         requires place { 0 < self.old.places }
@@ -322,19 +330,19 @@ impl<C: Cmp> SkipMap<MemtableKeyCmp<C>> {
 
 // The node, or none for 0.
 #[inline]
-fn as_place(node: usize) -> Option<usize>
+fn as_node(node: usize) -> Option<usize>
     ensures none { node ≡ 0 → result ≡ None }
     ensures there { 0 < node → result ≡ Some node }
 {
     if node == 0 { None } else { Some(node) }
 }
 
-/// A walk over a map's pairs, which takes no memory and is never refused.
+/// A walk over a map's pairs, which takes no memory and never fails.
 #[derive(Drop)]
 pub struct SkipMapIter<'a, C: Cmp> {
     map: &'a SkipMap<C>,
-    place: Option<usize>,
-    ghost within: { ForSome place (λ node. rank map.now.nodes node < length map.now.pairs) },
+    node: Option<usize>,
+    ghost within: { ForSome node (HasNode map.now.nodes map.now.pairs) },
 }
 
 impl<'a, C: Cmp> LdbIterator for SkipMapIter<'a, C> {
@@ -342,46 +350,46 @@ impl<'a, C: Cmp> LdbIterator for SkipMapIter<'a, C> {
 
     ghost pairs = { λ it. it.map.now.pairs };
 
-    ghost position = { λ it. position_of it.map.now.nodes it.place };
+    ghost position = { λ it. position_of it.map.now.nodes it.node };
 
     ghost order = { λ it. C.cmp it.map.now.cmp };
 
     ghost fails = { λ _ _ _. ⊥ };
 
     fn advance(&mut self) -> Result<bool> {
-        self.place = match self.place {
+        self.node = match self.node {
             None => self.map.first(),
             Some(node) => self.map.after(node),
         };
-        Ok(self.place.is_some())
+        Ok(self.node.is_some())
     }
 
     fn prev(&mut self) -> Result<bool> {
-        self.place = match self.place {
+        self.node = match self.node {
             None => None,
             Some(node) => self.map.previous(node),
         };
-        Ok(self.place.is_some())
+        Ok(self.node.is_some())
     }
 
     fn seek(&mut self, key: &[u8]) -> Result<()> {
-        self.place = self.map.first_at(key);
+        self.node = self.map.first_at(key);
         Ok(())
     }
 
     fn current(&self) -> Option<(&[u8], &[u8])> {
-        match self.place {
+        match self.node {
             None => None,
             Some(node) => Some(self.map.pair(node)),
         }
     }
 
     fn reset(&mut self) {
-        self.place = None;
+        self.node = None;
     }
 
     fn valid(&self) -> bool {
-        self.place.is_some()
+        self.node.is_some()
     }
 
     ghost in_range = { λ it. Prim.search rules };

@@ -10,7 +10,7 @@ const COUNT: u32 = 1000;
 /// The first number and the step to the next, modulo the count: rising, falling and mixed.
 const ORDERS: [(u32, u32); 3] = [(0, 1), (999, 999), (500, 387)];
 
-// Puts a number's key into the map, and the number into the vector at its place.
+// Inserts a number's key into the map, and the number into the vector before the first greater one.
 fn put(map: &mut SkipMap<DefaultCmp>, sorted: &mut Vec<u32>, number: u32) -> Result<()> {
     map.insert(&number.to_be_bytes(), b"value")?;
     let at = sorted.iter().position(|x| *x > number);

@@ -25,7 +25,7 @@ impl<'a, C: Cmp> Probe for AtInternalKey<'a, C> {
         is_lt (internal_cmp (C.cmp it.cmp.now) (inner_key key) it.key.now) };
 
     #[inline]
-    fn is_behind(&self, key: &[u8]) -> bool {
+    fn is_after(&self, key: &[u8]) -> bool {
         cmp_internal_key(self.cmp, front_key(key), self.key).is_lt()
     }
 }

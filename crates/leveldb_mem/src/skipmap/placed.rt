@@ -1,5 +1,7 @@
-//! Pairs of a key and a value in a skip list, each at a place that is chosen at its insertion.
-ghost use Rattle.std.specs.Prelude.{◌≡◌, ◌+◌, ◌*◌, ◌^◌, ◌<◌, ◌≤◌, ◌⊎◌, ℕ, List, [], ◌∷◌, ◌++◌, length, take, drop, slice_index, slice_index_or, vec_len, vec_capacity, OnOk, OnErr, IfErr};
+//! Pairs of a key and a value in a skip list, each after a path that is chosen at its insertion.
+ghost use Rattle.std.specs.Prelude.{◌≡◌, ◌+◌, ◌*◌, ◌^◌, ◌<◌, ◌≤◌, ◌⊎◌, ℕ, List, [], ◌∷◌, ◌++◌, length};
+ghost use Rattle.std.specs.Prelude.{take, drop, slice_index, slice_index_or, vec_len, vec_capacity};
+ghost use Rattle.std.specs.Prelude.{OnOk, OnErr, IfErr};
 ghost use Rattle.std.specs.List.{insert};
 ghost use Rattle.leveldb_base.specs.Error.{IsOutOfMemory};
 ghost use Rattle.leveldb_mem.specs.Placed.{head, head_words, rank, place_of, IsAt, IsPathTo, bytes_of};
@@ -20,7 +22,7 @@ const HEAD_WORDS: [u32; MAX_WORDS] = [0, 0, 0, 12, 0, 0, 0, 0, 0, 0, 0, 0, 0, 0,
 /// There are no more words, and no more bytes, than numbers of 32 bits.
 const LIMIT: usize = u32::MAX as usize;
 
-/// At each height the last node before a place.
+/// At each height the last node before some position.
 pub(crate) type Path = [u32; MAX_HEIGHT];
 
 /// Pairs in order. `text` up to `end` is their keys and values, and after that comes what there is
@@ -131,7 +133,7 @@ impl PlacedPairs {
         self.words[node] as usize
     }
 
-    /// The path to the place after the pairs that come before something. It goes from the head
+    /// The path to the position after the pairs that come before something. It goes from the head
     /// along each height, from the highest of these down.
     #[inline]
     pub(crate) fn path_to<P: Probe>(&self, probe: &P, from: usize) -> Path
@@ -149,7 +151,7 @@ impl PlacedPairs {
         let mut height = from;
         'descent: while height > 0 {
             let next = self.words[node + (height - 1)] as usize;
-            if next != 0 && probe.is_behind(self.key(next)) {
+            if next != 0 && probe.is_after(self.key(next)) {
                 node = next;
             } else {
                 height -= 1;
@@ -159,7 +161,7 @@ impl PlacedPairs {
         path
     }
 
-    /// The path to the place after all pairs.
+    /// The path to the position after all pairs.
     #[inline]
     pub(crate) fn path_to_end(&self) -> Path
         ensures path { IsPathTo self.now.words result 12
@@ -237,8 +239,8 @@ impl PlacedPairs {
         self.text.truncate(self.end);
     }
 
-    /// Makes what comes after the pairs a pair at the end of a path, with a key of so many bytes
-    /// and a tower of this height.
+    /// Makes what comes after the pairs a pair at the end of a path, with a key of `key_length`
+    /// bytes and a tower of this height.
     #[inline]
     pub(crate) fn place(&mut self, path: &Path, key_length: usize, height: usize)
         requires at { place_of self.old.order path.now ≤ length self.old.pairs }

@@ -1,5 +1,6 @@
-//! Paths to places among a map's keys.
-ghost use Rattle.std.specs.Prelude.{◌≡◌, ◌+◌, ◌-◌, ◌⊎◌, ◌↔◌, ◌<◌, ◌≤◌, IsTrue, ℕ, Bool, true, List, [], ◌∷◌, length, take, MatchOption};
+//! Paths to positions among a map's keys.
+ghost use Rattle.std.specs.Prelude.{◌≡◌, ◌+◌, ◌-◌, ◌⊎◌, ◌↔◌, ◌<◌, ◌≤◌, IsTrue, ℕ, Bool, true, List, []};
+ghost use Rattle.std.specs.Prelude.{◌∷◌, length, take, MatchOption};
 ghost use Rattle.std.specs.Ordering.{is_lt};
 ghost use Rattle.std.specs.declared.cmp.Ordering.TheVariants.{Less, Equal};
 ghost use Rattle.leveldb_base.specs.Types.{count_before};
@@ -16,7 +17,7 @@ pub(crate) trait Probe {
     // whether a key comes before it
     ghost passes: { Self → List ℕ → Bool };
 
-    fn is_behind(&self, key: &[u8]) -> bool
+    fn is_after(&self, key: &[u8]) -> bool
         ensures { result ≡ passes self.now key.now };
 }
 
@@ -31,14 +32,13 @@ impl<'a, C: Cmp> Probe for AtKey<'a, C> {
     ghost passes = { λ it key. is_lt (C.cmp it.cmp.now key it.key.now) };
 
     #[inline]
-    fn is_behind(&self, key: &[u8]) -> bool {
+    fn is_after(&self, key: &[u8]) -> bool {
         self.cmp.cmp(key, self.key).is_lt()
     }
 }
 
-/// The path to the place after the keys before this one.
-/// A key that isn't accepted may have no one place in the order, so it is looked for from the front
-/// on.
+/// The path to the position after the keys before this one. A key that isn't accepted may have no
+/// one position in the order, so it is looked for from the front on.
 #[inline]
 pub(crate) fn path_before<C: Cmp>(cmp: &C, pairs: &PlacedPairs, key: &[u8]) -> Path
     requires some { 0 < length pairs.now.order }

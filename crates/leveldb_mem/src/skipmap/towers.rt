@@ -7,10 +7,10 @@ use rand_core::Rng;
 /// The most links that a node has.
 pub(crate) const MAX_HEIGHT: usize = 12;
 
-/// How many words of a node come before its links.
+/// The number of words of a node before its links.
 pub(crate) const LINKS_AT: usize = 4;
 
-/// How many words a node has at most.
+/// The most words of a node.
 pub(crate) const MAX_WORDS: usize = LINKS_AT + MAX_HEIGHT;
 
 /// Draws the height of a node's tower: 1, and one more for each number that is a multiple of 4, up

@@ -8,5 +8,5 @@ pub returns-clause-position : goal.returns-clause-position
 returns-clause-position g c =
     let it = c.self.inside in
     let there = rw (← c.self.view_is) at c.requires in
-    rw (← c.self.view_is) (place_at it.pairs.pairs c.after.ensures.nodes c.after.ensures.at c.as_place.result c.as_place.ensures.none c.as_place.ensures.there
+    rw (← c.self.view_is) (place_at it.pairs.pairs c.after.ensures.nodes c.after.ensures.at c.as_node.result c.as_node.ensures.none c.as_node.ensures.there
     ∙ ap (position_within it.pairs.pairs) (c.after.ensures.later (omega (arith, there, c.self.invariant.2))))

@@ -5,7 +5,7 @@ use Rattle.leveldb_mem.specs.Searching.{count_while, IsParted}
 use Rattle.leveldb_mem.specs.Placed.{Placed, head, rank, pair_in, pairs_in, nodes_after, place_of, IsPathTo}
 use Rattle.leveldb_mem.proofs.PlacedLemmas.{skip_list, length_is, pair_is}
 use Rattle.leveldb_mem.proofs.PathLemmas.{searches_from, searched_within, searched_there, searched_next, searched_along, searched_down, searched, found}
-use Rattle.leveldb_mem.proofs.skipmap.placed.PlacedPairs.path_to.Goals.{else-next-ne0-via-then-next-ne0+else-is_behind, else-next-ne0-via-else-next-ne0}
+use Rattle.leveldb_mem.proofs.skipmap.placed.PlacedPairs.path_to.Goals.{else-next-ne0-via-then-next-ne0+else-is_after, else-next-ne0-via-else-next-ne0}
 use Rattle.leveldb_mem.proofs.skipmap.placed.PlacedPairs.path_to.Goals as goal
 
 pub descent-init : goal.descent-init
@@ -49,8 +49,8 @@ key-requires g c =
     subst (λ ns. rank ns c.index.result.now < length ns) (ap (λ (z : Placed). z.order) c.self.view_is)
     (searched_next test text skip c.requires.from.1 which c.descent.invariant c.descent-test.true c.index.result.now next c.if-next-ne0.true).1
 
-pub descent-smaller-then-is_behind : goal.descent-smaller-then-is_behind
-descent-smaller-then-is_behind g c =
+pub descent-smaller-then-is_after : goal.descent-smaller-then-is_after
+descent-smaller-then-is_after g c =
     let it = c.self.inside in
     let words = it.words.items in
     let text = it.text.items in
@@ -66,8 +66,8 @@ descent-smaller-then-is_behind g c =
     let there = searched_there test text skip c.requires.from.1 which c.descent.invariant c.descent-test.true in
     omega (arith, later.0, there)
 
-pub descent-preserved-then-is_behind : goal.descent-preserved-then-is_behind
-descent-preserved-then-is_behind g c =
+pub descent-preserved-then-is_after : goal.descent-preserved-then-is_after
+descent-preserved-then-is_after g c =
     let it = c.self.inside in
     let words = it.words.items in
     let text = it.text.items in
@@ -83,7 +83,7 @@ descent-preserved-then-is_behind g c =
     let key_is = c.key.ensures.value ∙ ap (λ (p : Pair). p.0) (pair_is c.self.invariant.0 order_are pairs_are c.index.result.now
     (subst (λ ns. rank ns c.index.result.now < length ns) order_are (searched_next test text skip c.requires.from.1 which c.descent.invariant c.descent-test.true c.index.result.now next c.if-next-ne0.true).1)) in
     searched_along test text skip c.requires.from.1 which c.descent.invariant c.descent-test.true c.index.result.now next c.if-next-ne0.true
-    (ap (g.P.Probe.passes c.args.probe.now) (sym key_is) ∙ sym c.is_behind.ensures ∙ c.if-is_behind.true)
+    (ap (g.P.Probe.passes c.args.probe.now) (sym key_is) ∙ sym c.is_after.ensures ∙ c.if-is_after.true)
 
 pub descent-preserved : goal.descent-preserved
 descent-preserved g c =
@@ -101,10 +101,10 @@ descent-preserved g c =
     let order_are = ap (λ (z : Placed). z.order) c.self.view_is in
     searched_down test text skip c.requires.from.1 which c.descent.invariant c.descent-test.true c.index.result.now next
     (λ other. elim c.else-next-ne0.branch [
-      | else-next-ne0-via-then-next-ne0+else-is_behind w ↦
+      | else-next-ne0-via-then-next-ne0+else-is_after w ↦
           let key_is = w.key.ensures.value ∙ ap (λ (p : Pair). p.0) (pair_is c.self.invariant.0 order_are pairs_are c.index.result.now
           (subst (λ ns. rank ns c.index.result.now < length ns) order_are (searched_next test text skip c.requires.from.1 which c.descent.invariant c.descent-test.true c.index.result.now next other).1)) in
-          ap test (sym key_is) ∙ sym w.is_behind.ensures ∙ w.if-is_behind.false
+          ap test (sym key_is) ∙ sym w.is_after.ensures ∙ w.if-is_after.false
       | else-next-ne0-via-else-next-ne0 w ↦ absurd (other w.if-next-ne0.false)
     ])
 
