@@ -1,5 +1,5 @@
 -- Scans backward of sorted entries.
-use Rattle.std.proofs.Common.{◌≡◌, ◌≢◌, ◌⊎◌, ⊎_elim, ℕ, suc, ◌+◌, ◌<◌, ◌≤◌, Bool, true, false, List, [], ◌∷◌, ◌++◌, length, refl, sym, ◌∙◌, ap, subst, arith, add-one, Option, Some, None, append_assoc, length-append}
+use Rattle.std.proofs.Common.{◌≡◌, ◌≢◌, ⊎_elim, ℕ, suc, ◌<◌, ◌≤◌, true, false, List, [], ◌∷◌, ◌++◌, length, refl, sym, ◌∙◌, ap, subst, arith, add-one, Option, Some, None, append_assoc, length-append}
 use Rattle.std.specs.Prelude.{Contains, nat_le, slice_get}
 use Rattle.std.specs.Option.{option_to_list, option_map}
 use Rattle.std.specs.Str.{bytes_eq}
@@ -11,7 +11,7 @@ use Rattle.leveldb_base.specs.Types.{Pair, previous_position}
 use Rattle.leveldb_base.specs.History.{Entry}
 use Rattle.leveldb_base.specs.Entries.{AreSorted}
 use Rattle.leveldb_base.specs.View.{pair_for, is_skipped, is_newest, shown_in, view_of}
-use Rattle.leveldb_base.specs.Scan.{count_shown, shown_pair, EachScanStepsBack, EachHasPrevious}
+use Rattle.leveldb_base.specs.Scan.{count_shown, shown_pair, EachScanStepsBack, EachPreviousIsLast}
 use Rattle.leveldb_base.proofs.OrderLemmas.{both, is_false, exact_total, same_bytes, bytes_same}
 use Rattle.leveldb_base.proofs.HistoryLemmas.{in_none, in_front, in_cases, one_list}
 use Rattle.leveldb_base.proofs.PositionLemmas.{previous_of_suc, at_seam}
@@ -110,8 +110,8 @@ each_scan_steps_back cmp exact s front entry over found sorted e = record {
 
 -- ---- the position before
 
-pub each_has_previous : EachHasPrevious
-each_has_previous s front back = record {
+pub each_previous_is_last : EachPreviousIsLast
+each_previous_is_last s front back = record {
   pair = λ before pair e.
       let size : count_shown s front ≡ suc (length before) = ap length e ∙ length-append before (pair ∷ []) ∙ add-one (length before) in
       let whole : view_of s (front ++ back) ≡ before ++ pair ∷ shown_in s (skip_after s front) back =

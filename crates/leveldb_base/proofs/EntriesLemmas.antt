@@ -5,19 +5,19 @@ use Rattle.std.specs.Str.{bytes_eq}
 use Rattle.std.specs.declared.cmp.Ordering.{Ordering}
 use Rattle.std.specs.declared.cmp.Ordering.TheVariants.{Less, Equal, Greater}
 use Rattle.std.specs.Ordering.{is_lt, nat_cmp, ordering_then}
-use Rattle.std.specs.Cmp.{IsTotalOrder, nat_cmp_total, nat_cmp_is, tied_itself}
+use Rattle.std.specs.Cmp.{nat_cmp_total, nat_cmp_is, tied_itself}
 use Rattle.std.proofs.lemmas.Bool.{cases_lt}
 use Rattle.std.proofs.lemmas.Cmp.{ranked, then_total, on_total, back_total}
 use Rattle.std.proofs.lemmas.List.{map-append}
-use Rattle.std.proofs.lemmas.List.Elements.{Contains-append_left, Contains-append_right, Contains-append_cases}
+use Rattle.std.proofs.lemmas.List.Elements.{Contains-append_right, Contains-append_cases}
 use Rattle.leveldb_base.specs.declared.key_types.ValueType.{ValueType}
 use Rattle.leveldb_base.specs.KeyTypes.{internal_key, internal_cmp, user_part, sequence_part, type_part}
 use Rattle.leveldb_base.specs.Cmp.{IsExactOrder}
 use Rattle.leveldb_base.specs.CmpLaws.{user_part-internal_key, sequence_part-internal_key}
 use Rattle.leveldb_base.specs.Types.{Pair, count_before, pair_at, seek_position}
-use Rattle.leveldb_base.specs.History.{Entry, IsNewest, IsBeforeAll, AreRising}
-use Rattle.leveldb_base.specs.Entries.{type_of, bytes_of_value, value_of, internal_pair, entry_of_pair, entries_of_pairs, IsBeforeEntry, AreSorted, IsBeforeKeyAt, HasNewest, FindsNewest, found_at, PairIsRead, RisingIsSorted, InternalIsTotal, FirstIsNewest, FirstOfKeyIsNewest}
-use Rattle.leveldb_base.proofs.OrderLemmas.{lt_less, not_lt, both, lt_turn, lt_itself, same_bytes, bytes_same, exact_total}
+use Rattle.leveldb_base.specs.History.{Entry, IsBeforeAll, AreRising}
+use Rattle.leveldb_base.specs.Entries.{type_of, bytes_of_value, value_of, entry_of_pair, entries_of_pairs, IsBeforeEntry, AreSorted, IsBeforeKeyAt, FindsNewest, found_at, PairIsRead, RisingIsSorted, InternalIsTotal, FirstIsNewest, FirstOfKeyIsNewest}
+use Rattle.leveldb_base.proofs.OrderLemmas.{lt_less, both, lt_turn, lt_itself, same_bytes, bytes_same, exact_total}
 use Rattle.leveldb_base.proofs.HistoryLemmas.{in_none, in_front, in_rest, in_cases}
 use Rattle.leveldb_base.proofs.KeyTypesLemmas.{type_part-internal_key}
 use Rattle.leveldb_base.proofs.PositionLemmas.{at_within, count_while, count_in, count_out, front_passes, back_fails}

@@ -10,5 +10,5 @@ pub mod EntriesLemmas
 pub mod ViewLemmas
 pub mod ScanLemmas
 pub mod BackwardLemmas
-pub mod SourcesLemmas
+pub mod LayersLemmas
 pub mod NamesLemmas

@@ -74,8 +74,8 @@ pub record HasNewest (entries : List Entry) (s : ℕ) (key : List ℕ)
   pub value_is : entry.value ≡ value
   pub only : (other : Entry) → IsNewest entries s other → other.key ≡ key → other ≡ entry
 
--- What is found of a key at s: the value or the deletion of its newest entry at or below s, or that
--- it has no entry there.
+-- What is found of a key at s: the value or the deletion of its newest entry at or below s, or
+-- nothing where it has no such entry.
 abbrev pub FindsNewest : List Entry → ℕ → List ℕ → Option (Option (List ℕ)) → Type 0
 FindsNewest entries s key (Some value) = HasNewest entries s key value
 FindsNewest entries s key None =
@@ -91,7 +91,8 @@ found_at key (Some pair) =
 
 -- the pair of an entry represents that entry
 abbrev pub PairIsRead : Type 0
-PairIsRead = (entry : Entry) → entry.sequence < 2 ^ 56 → entry_of_pair (internal_pair entry) ≡ entry
+PairIsRead = (entry : Entry) → entry.sequence < 2 ^ 56
+    → entry_of_pair (internal_pair entry) ≡ entry
 
 -- pairs whose internal keys rise represent sorted entries
 abbrev pub RisingIsSorted : Type 0
@@ -109,14 +110,15 @@ InternalIsTotal = (cmp : List ℕ → List ℕ → Ordering) → IsExactOrder cm
 abbrev pub FirstIsNewest : Type 0
 FirstIsNewest = (cmp : List ℕ → List ℕ → Ordering) → IsExactOrder cmp
     → (pairs : List Pair) → AreRising (internal_cmp cmp) pairs → (sought : List ℕ)
-    → FindsNewest (entries_of_pairs pairs) (sequence_part sought) (user_part sought)
-    (found_at (user_part sought) (pair_at pairs (seek_position (internal_cmp cmp) pairs sought)))
+    → let first = pair_at pairs (seek_position (internal_cmp cmp) pairs sought) in
+    let key = user_part sought in
+    FindsNewest (entries_of_pairs pairs) (sequence_part sought) key (found_at key first)
 
 -- the same for the internal key that is made to look a key up at s
 abbrev pub FirstOfKeyIsNewest : Type 0
 FirstOfKeyIsNewest = (cmp : List ℕ → List ℕ → Ordering) → IsExactOrder cmp
     → (pairs : List Pair) → AreRising (internal_cmp cmp) pairs
     → (key : List ℕ) (s : ℕ) (kind : ValueType) → s < 2 ^ 56
-    → FindsNewest (entries_of_pairs pairs) s key
-    (found_at key
-    (pair_at pairs (seek_position (internal_cmp cmp) pairs (internal_key key s kind))))
+    → let sought = internal_key key s kind in
+    let first = pair_at pairs (seek_position (internal_cmp cmp) pairs sought) in
+    FindsNewest (entries_of_pairs pairs) s key (found_at key first)

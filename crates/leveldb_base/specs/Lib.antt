@@ -10,5 +10,5 @@ pub mod History
 pub mod Entries
 pub mod View
 pub mod Scan
-pub mod Sources
+pub mod Layers
 pub mod Names

@@ -1,6 +1,6 @@
 -- Scans of sorted entries, forward and backward, for the pairs of their view. `front` are the
 -- entries before the position of an iterator over entries, and `back` those from there on.
-use Rattle.std.specs.Prelude.{◌≡◌, ◌≢◌, ◌≤◌, ◌<◌, ◌⊎◌, ◌+◌, ◌^◌, ℕ, true, false, List, [], ◌∷◌, ◌++◌, length, take, drop, slice_get, Option, Some, None, Contains}
+use Rattle.std.specs.Prelude.{◌≡◌, ◌≢◌, ◌≤◌, ◌<◌, ◌+◌, ◌^◌, ℕ, true, false, List, [], ◌∷◌, ◌++◌, length, drop, slice_get, Option, Some, None, Contains}
 use Rattle.std.specs.Option.{option_to_list, option_map}
 use Rattle.std.specs.declared.cmp.Ordering.{Ordering}
 use Rattle.std.specs.declared.cmp.Ordering.TheVariants.{Less}
@@ -14,8 +14,8 @@ use Rattle.leveldb_base.specs.View.{is_newest, shown_in, view_of}
 
 -- ---- forward
 
--- So many pairs of the view were shown, and the rest of it is what the entries that follow show
--- after the key `skip`.
+-- As many pairs of the view as the position says were shown, and the rest of it is what the entries
+-- that follow show, where `skip` is the key to skip.
 pub record IsScanning (s : ℕ) (view : List Pair) (position : ℕ) (skip : Option (List ℕ))
     (rest : List Entry) : Type 0 where
   pub shown : List Pair
@@ -59,8 +59,8 @@ pub record ScanStepsBack (s : ℕ) (front : List Entry) (entry : Entry) (over : 
   pub stops : (pair : Pair) → entry.sequence ≤ s → found ≡ Some pair → pair.0 ≢ entry.key
       → view_of s (front ++ entry ∷ over) ≡ view_of s (front ++ entry ∷ []) ++ pair ∷ []
 
--- the position before the current one, if the last pair before is known or there is none
-pub record HasPrevious (s : ℕ) (front back : List Entry) : Type 0 where
+-- the position before the current one is that of the last pair that the entries before it show
+pub record PreviousIsLast (s : ℕ) (front back : List Entry) : Type 0 where
   pub pair : (before : List Pair) (last : Pair) → view_of s front ≡ before ++ last ∷ []
       → (previous_position (Some (count_shown s front)) ≡ Some (length before))
       × (slice_get (view_of s (front ++ back)) (length before) ≡ Some last)
@@ -89,21 +89,20 @@ EachScanSeeks = (cmp : List ℕ → List ℕ → Ordering) → IsExactOrder cmp
     → (key : List ℕ) (s : ℕ) (front back : List Entry) → AreSorted cmp (front ++ back)
     → ((entry : Entry) → Contains front entry → IsBeforeKeyAt cmp key s entry)
     → ((entry : Entry) → Contains back entry → cmp entry.key key ≢ Less)
-    → IsScanning s (view_of s (front ++ back))
-    (count_before cmp key (view_of s (front ++ back))) None back
+    → let view = view_of s (front ++ back) in
+    IsScanning s view (count_before cmp key view) None back
 
 -- and that is where a seek to the key's internal key at s leads among pairs
 abbrev pub EachSeekOfPairs : Type 0
 EachSeekOfPairs = (cmp : List ℕ → List ℕ → Ordering) → IsExactOrder cmp
     → (pairs : List Pair) → AreRising (internal_cmp cmp) pairs
     → (key : List ℕ) (s : ℕ) (kind : ValueType) → s < 2 ^ 56
-    → IsScanning s (view_of s (entries_of_pairs pairs))
-    (count_before cmp key (view_of s (entries_of_pairs pairs))) None
-    (entries_of_pairs
-    (drop (count_before (internal_cmp cmp) (internal_key key s kind) pairs) pairs))
+    → let before = count_before (internal_cmp cmp) (internal_key key s kind) pairs in
+    let view = view_of s (entries_of_pairs pairs) in
+    IsScanning s view (count_before cmp key view) None (entries_of_pairs (drop before pairs))
 
--- It may follow a scan backward, which left the iterator before `back` with the pair that is next
--- in the view, if no entry at or below s of a key before the pair's is in `back`.
+-- It may go on from the pair of a scan backward that went to the entries before `back`, if no entry
+-- of `back` at or below s is of a key before the pair's.
 abbrev pub EachScanResumes : Type 0
 EachScanResumes = (cmp : List ℕ → List ℕ → Ordering) → IsExactOrder cmp
     → (s : ℕ) (front back : List Entry) (pair : Pair) (more : List Pair)
@@ -121,6 +120,6 @@ EachScanStepsBack = (cmp : List ℕ → List ℕ → Ordering) → IsExactOrder 
     → AreSorted cmp (front ++ entry ∷ over) → view_of s over ≡ option_to_list found
     → ScanStepsBack s front entry over found
 
--- and what it found is at the position before, or there is none
-abbrev pub EachHasPrevious : Type 0
-EachHasPrevious = (s : ℕ) (front back : List Entry) → HasPrevious s front back
+-- and the position before is that of the pair that it found, or there is none
+abbrev pub EachPreviousIsLast : Type 0
+EachPreviousIsLast = (s : ℕ) (front back : List Entry) → PreviousIsLast s front back

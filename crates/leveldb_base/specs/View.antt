@@ -1,5 +1,5 @@
 -- The view of sorted entries, as it is read from the first to the last.
-use Rattle.std.specs.Prelude.{◌≡◌, ◌&&◌, ℕ, Bool, false, not, if◌then◌else◌, nat_le, List, [], ◌∷◌, ◌++◌, Option, Some, None}
+use Rattle.std.specs.Prelude.{◌&&◌, ℕ, Bool, false, not, if◌then◌else◌, nat_le, List, [], ◌∷◌, ◌++◌, Option, Some, None}
 use Rattle.std.specs.Str.{bytes_eq}
 use Rattle.std.specs.declared.cmp.Ordering.{Ordering}
 use Rattle.leveldb_base.specs.Cmp.{IsExactOrder}
@@ -17,7 +17,7 @@ abbrev pub is_skipped : Option (List ℕ) → List ℕ → Bool
 is_skipped None key = false
 is_skipped (Some skip) key = bytes_eq skip key
 
--- whether an entry is the newest of its key at or below s, where the last key that had one is `skip`
+-- whether an entry is at or below s and not of the key to skip: then it is the newest of its key
 abbrev pub is_newest : ℕ → Option (List ℕ) → Entry → Bool
 is_newest s skip entry = nat_le entry.sequence s && not (is_skipped skip entry.key)
 

@@ -1,5 +1,5 @@
-use Rattle.leveldb_base.proofs.SourcesLemmas.{layers_are_searched, found_is_value, found_by_key}
-use Rattle.leveldb_base.proofs.laws.entries.sources_are_searched.Goals as goal
+use Rattle.leveldb_base.proofs.LayersLemmas.{layers_are_searched, found_is_value, found_by_key}
+use Rattle.leveldb_base.proofs.laws.entries.layers_are_searched.Goals as goal
 
 pub returns-clause-layers : goal.returns-clause-layers
 returns-clause-layers c = layers_are_searched
