@@ -22,8 +22,10 @@ fn put(map: &mut SkipMap<DefaultCmp>, sorted: &mut Vec<u32>, number: u32) -> Res
 fn both_of(alloc: Global, order: (u32, u32)) -> Result<(SkipMap<DefaultCmp>, Vec<u32>)> {
     let mut map = SkipMap::new(alloc, DefaultCmp);
     let mut sorted = Vec::new(alloc);
-    for i in 0..COUNT {
-        put(&mut map, &mut sorted, (order.0 + i * order.1) % COUNT)?;
+    let (mut number, step) = order;
+    for _ in 0..COUNT {
+        put(&mut map, &mut sorted, number % COUNT)?;
+        number = number.wrapping_add(step);
     }
     Ok((map, sorted))
 }
