@@ -53,7 +53,7 @@ module _ (store : List ℕ) (reads : Files → Contents → Type 0) (beside : Li
             carries = record {
               contents = c.carries.contents;
               read = is.unread b b left c.carries.contents (base_leaves old files same left leaves) (λ path apart. refl) (left_same old files same left leaves) c.carries.read;
-              tells = c.carries.observed;
+              tells = c.carries.tells;
             };
           };
       stays = λ left contents leaves honest read.

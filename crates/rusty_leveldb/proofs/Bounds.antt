@@ -12,8 +12,8 @@ use Rattle.rusty_leveldb.specs.Laws.{NothingStands}
 module _ (store : List ℕ) (reads : Files → Contents → Type 0) where
   pub carries_more : (bound more : ℕ) → bound ≤ more → (history : History) (files : Files) → Carries store reads bound history files → Carries store reads more history files
   carries_more bound more le history files c =
-      let low = c.observed.bounded in
-      record { contents = c.contents; read = c.read; tells = record { same = c.observed.same; up_to = c.observed.up_to; reached = c.observed.reached; bounded = omega arith } }
+      let low = c.tells.bounded in
+      record { contents = c.contents; read = c.read; tells = record { same = c.tells.same; up_to = c.tells.up_to; reached = c.tells.reached; bounded = omega arith } }
 
   pub safe_more : (bound more covered : ℕ) → bound ≤ more → (history : History) (files : Files) → IsSafe store reads bound covered history files → IsSafe store reads more covered history files
   safe_more bound more covered le history files safe left leaves honest =

@@ -39,7 +39,7 @@ reading bound history file c = record {
   batches = c.read.0;
   each = c.read.1.each;
   order = c.read.1.order;
-  tells = subst (λ x. Tells bound x history) c.read.2 c.observed;
+  tells = subst (λ x. Tells bound x history) c.read.2 c.tells;
 }
 
 pub carrying : (bound : ℕ) (history : History) (file : File) (records : List (List ℕ)) (end : End) (batches : List Batch) → IsLogFile (bytes_of file) records end → Each IsRecordOf records batches
@@ -100,7 +100,7 @@ module _ (file : File) (history : History) (bound covered : ℕ) (safe : Safe bo
           let read_too : IsLogFile bytes (take n now.records) e = subst (λ b. IsLogFile b (take n now.records) e) (sym (append-nil (file.kept ++ take k file.since))) read in
           let same : r.records ≡ take n now.records = (log_laws.one bytes r.records (take n now.records) r.end e r.read read_too).0 in
           let same_batches : r.batches ≡ take n now.batches = one_batches (take n now.records) r.batches (take n now.batches) (subst (λ rs. Each IsRecordOf rs r.batches) same r.each) (each_take IsRecordOf n now.records now.batches now.each) in
-          record { part = (left_at k).part; beginning = (left_at k).beginning; tells = subst (λ bs. Tells bound (contents_of bs) (left_at k).part) same_batches r.observed }
+          record { part = (left_at k).part; beginning = (left_at k).beginning; tells = subst (λ bs. Tells bound (contents_of bs) (left_at k).part) same_batches r.tells }
 
   -- and so do the first of the records that are found behind a crash
   pub some_carried : (left : File) (n : ℕ) (e : End) → length first ≤ n → n ≤ length now.records → IsLogFile (bytes_of left) (take n now.records) e → CarriedBeginning bound covered history (Some left)
@@ -109,7 +109,7 @@ module _ (file : File) (history : History) (bound covered : ℕ) (safe : Safe bo
       record {
         part = p.part;
         beginning = p.beginning;
-        carried = carrying bound p.part left (take n now.records) e (take n now.batches) read (each_take IsRecordOf n now.records now.batches now.each) (order_take n 0 now.batches now.order) p.observed;
+        carried = carrying bound p.part left (take n now.records) e (take n now.batches) read (each_take IsRecordOf n now.records now.batches now.each) (order_take n 0 now.batches now.order) p.tells;
       }
 
 -- ---- one batch more
@@ -174,12 +174,12 @@ module _ (file : File) (history : History) (last covered : ℕ) (has : Carried l
   with_batch : (left : File) (e : End) → IsLogFile (bytes_of left) (now.records ++ record' ∷ []) e → Carried bound longer (Some left)
   with_batch left e read = carrying bound longer left (now.records ++ record' ∷ []) e one_more read
       (each_more IsRecordOf now.records now.batches record' (batch_at (last + 1) items) now.each is_batch)
-      (order_one_more last items now.batches history now.observed reached now.order first_fits all_fit)
-      (subst (λ n. Tells n (contents_of one_more) longer) (ap (λ n. last + n) (sym (placed_length (last + 1) items))) (tells_more last items now.batches history now.observed reached))
+      (order_one_more last items now.batches history now.tells reached now.order first_fits all_fit)
+      (subst (λ n. Tells n (contents_of one_more) longer) (ap (λ n. last + n) (sym (placed_length (last + 1) items))) (tells_more last items now.batches history now.tells reached))
 
   -- a file without it carries what it did
   without_batch : (left : File) (e : End) → IsLogFile (bytes_of left) now.records e → Carried bound history (Some left)
-  without_batch left e read = carried_more last bound history (Some left) (omega arith) (carrying last history left now.records e now.batches read now.each now.order now.observed)
+  without_batch left e read = carried_more last bound history (Some left) (omega arith) (carrying last history left now.records e now.batches read now.each now.order now.tells)
 
   -- what stands with so much of the frame: the records from before, or those and the new one
   pub record Stands (n : ℕ) : Type 0 where

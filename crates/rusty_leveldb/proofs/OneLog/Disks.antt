@@ -90,4 +90,4 @@ module _ (store : List ℕ) where
 
   -- the greatest number that is read is a bound
   pub carries_last : (files : Files) (history : History) (bound : ℕ) (c : Carries store reads bound history files) → Carries store reads c.contents.last history files
-  carries_last files history bound c = record { contents = c.contents; read = c.read; tells = record { same = c.observed.same; up_to = c.observed.up_to; reached = c.observed.reached; bounded = omega arith } }
+  carries_last files history bound c = record { contents = c.contents; read = c.read; tells = record { same = c.tells.same; up_to = c.tells.up_to; reached = c.tells.reached; bounded = omega arith } }

@@ -21,7 +21,7 @@ use Rattle.rusty_leveldb.proofs.OneLog.Appending.{reading, carrying, batch_some}
 pub same_bytes : (bound : ℕ) (history : History) (file other : File) → bytes_of file ≡ bytes_of other → Carried bound history (Some file) → Carried bound history (Some other)
 same_bytes bound history file other same c =
     let r = reading bound history file c in
-    carrying bound history other r.records r.end r.batches (subst (λ b. IsLogFile b r.records r.end) same r.read) r.each r.order r.observed
+    carrying bound history other r.records r.end r.batches (subst (λ b. IsLogFile b r.records r.end) same r.read) r.each r.order r.tells
 
 -- a sync changes nothing that is read
 pub kept_carries : (bound : ℕ) (history : History) (file : Option File) → Carried bound history file → Carried bound history (option_map file_kept file)
@@ -34,7 +34,7 @@ pub same_records : (bound : ℕ) (history : History) (file other : File) (record
 same_records bound history file other records end other_end is is_other c =
     let r = reading bound history file c in
     let same = (log_laws.one (bytes_of file) records r.records end r.end is r.read).0 in
-    carrying bound history other r.records other_end r.batches (subst (λ rs. IsLogFile (bytes_of other) rs other_end) same is_other) r.each r.order r.observed
+    carrying bound history other r.records other_end r.batches (subst (λ rs. IsLogFile (bytes_of other) rs other_end) same is_other) r.each r.order r.tells
 
 -- ---- nothing to lose
 
@@ -75,7 +75,7 @@ created_carries bound history c = record {
 }
   where
     tells : Tells bound nothing_there history
-    tells = subst (λ x. Tells bound x history) c.read c.observed
+    tells = subst (λ x. Tells bound x history) c.read c.tells
 
 -- ---- a log that is written anew
 

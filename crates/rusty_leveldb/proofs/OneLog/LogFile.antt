@@ -51,7 +51,7 @@ pub carried_more : (bound more : ℕ) (history : History) (file : Option File) �
 carried_more bound more history file most c = record {
   contents = c.contents;
   read = c.read;
-  tells = record { same = c.observed.same; up_to = c.observed.up_to; reached = c.observed.reached; bounded = omega (arith, c.observed.bounded, most) };
+  tells = record { same = c.tells.same; up_to = c.tells.up_to; reached = c.tells.reached; bounded = omega (arith, c.tells.bounded, most) };
 }
 
 pub some_is : {A : Type 0} (a b : A) → Some a ≡ Some b → a ≡ b
@@ -95,10 +95,10 @@ module _ (store : List ℕ) where
   reads = IsOneLog (log_path store)
 
   pub carried : (bound : ℕ) (history : History) (files : Files) → Carries store reads bound history files → Carried bound history (files name)
-  carried bound history files c = record { contents = c.contents; read = c.read; tells = c.observed }
+  carried bound history files c = record { contents = c.contents; read = c.read; tells = c.tells }
 
   pub carries : (bound : ℕ) (history : History) (files : Files) → Carried bound history (files name) → Carries store reads bound history files
-  carries bound history files c = record { contents = c.contents; read = c.read; tells = c.observed }
+  carries bound history files c = record { contents = c.contents; read = c.read; tells = c.tells }
 
   -- the log's name is a journal's
   pub is_journal : IsJournal store name

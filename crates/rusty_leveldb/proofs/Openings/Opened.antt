@@ -70,7 +70,7 @@ module _ {E C FP F I : Type 0} {D : I → Type 0} (env : Ghosts E F) (name : Lis
   tells =
       let c = carried_over create (from.disk.files (log_path name)) (to.disk.files (log_path name)) got.records got.end (old.last + count_of old.pending) found.part got.was_found kept
       (carried name (old.last + count_of old.pending) found.part from.disk.files found.carries) in
-      subst (λ x. Tells (old.last + count_of old.pending) x found.part) (one_read (to.disk.files (log_path name)) c.contents (contents_of got.replayed.read.batches) c.read read_now) c.observed
+      subst (λ x. Tells (old.last + count_of old.pending) x found.part) (one_read (to.disk.files (log_path name)) c.contents (contents_of got.replayed.read.batches) c.read read_now) c.tells
 
   reached : greatest (entries_of found.part) ≤ engine.recent.last
   reached = omega (arith, tells.reached, got.replayed.last)
