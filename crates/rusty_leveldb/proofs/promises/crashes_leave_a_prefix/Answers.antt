@@ -1,5 +1,5 @@
 use Rattle.rusty_leveldb.proofs.Crashes.{crash_between, crash_inside}
-use Rattle.rusty_leveldb.proofs.promises.crashes_leave_a_beginning.Goals as goal
+use Rattle.rusty_leveldb.proofs.promises.crashes_leave_a_prefix.Goals as goal
 
 pub returns-clause-between : goal.returns-clause-between
 returns-clause-between c = crash_between
