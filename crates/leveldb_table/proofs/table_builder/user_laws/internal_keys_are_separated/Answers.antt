@@ -1,4 +1,4 @@
-use Rattle.leveldb_table.proofs.UserLaws.{internal_separated}
+use Rattle.leveldb_table.proofs.TableBuilderLemmas.{internal_separated}
 use Rattle.leveldb_table.proofs.table_builder.user_laws.internal_keys_are_separated.Goals as goal
 
 pub returns : goal.returns

@@ -1,4 +1,4 @@
-use Rattle.leveldb_table.proofs.UserLaws.{raw_separated}
+use Rattle.leveldb_table.proofs.TableBuilderLemmas.{raw_separated}
 use Rattle.leveldb_table.proofs.table_builder.user_laws.raw_keys_are_separated.Goals as goal
 
 pub returns : goal.returns

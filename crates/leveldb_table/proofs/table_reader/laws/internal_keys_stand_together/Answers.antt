@@ -1,4 +1,4 @@
-use Rattle.leveldb_table.proofs.Refusals.{internal_together}
+use Rattle.leveldb_table.proofs.TableReaderLemmas.{internal_together}
 use Rattle.leveldb_table.proofs.table_reader.laws.internal_keys_stand_together.Goals as goal
 
 pub returns : goal.returns

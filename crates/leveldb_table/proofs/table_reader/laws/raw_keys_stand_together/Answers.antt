@@ -1,4 +1,4 @@
-use Rattle.leveldb_table.proofs.Refusals.{raw_together}
+use Rattle.leveldb_table.proofs.TableReaderLemmas.{raw_together}
 use Rattle.leveldb_table.proofs.table_reader.laws.raw_keys_stand_together.Goals as goal
 
 pub returns : goal.returns

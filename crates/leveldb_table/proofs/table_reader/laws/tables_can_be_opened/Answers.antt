@@ -1,4 +1,4 @@
-use Rattle.leveldb_table.proofs.TableOpens.{opens_well}
+use Rattle.leveldb_table.proofs.TableReaderLemmas.{opens_well}
 use Rattle.leveldb_table.proofs.table_reader.laws.tables_can_be_opened.Goals as goal
 
 pub returns : goal.returns

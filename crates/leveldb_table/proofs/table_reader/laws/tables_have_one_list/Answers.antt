@@ -1,5 +1,5 @@
 use Rattle.leveldb_env.specs.Compressor.{Decodes}
-use Rattle.leveldb_table.proofs.TableOpens.{one_table, decodes_one}
+use Rattle.leveldb_table.proofs.TableReaderLemmas.{one_table, decodes_one}
 use Rattle.leveldb_table.proofs.table_reader.laws.tables_have_one_list.Goals as goal
 
 pub returns : goal.returns
