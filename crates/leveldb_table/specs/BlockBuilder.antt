@@ -61,7 +61,7 @@ estimate entries begun =
     length (flat_map entry_bytes entries)
     + 4 * (if begun then length (restart_points entries) else 0) + 4
 
--- the entry would begin at an offset of more than 32 bits, or have a length of so many
+-- the entry would begin at an offset of more than 32 bits, or have a key or a value that long
 abbrev pub IsEntryTooLarge : List BlockEntry → List ℕ → List ℕ → Type 0
 IsEntryTooLarge entries key value =
     (2 ^ 32 ≤ length (flat_map entry_bytes entries)) ⊎ (2 ^ 32 ≤ length key)

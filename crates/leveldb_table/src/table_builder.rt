@@ -20,12 +20,10 @@ use std::alloc::Global;
 pub mod builder_core;
 mod footer;
 mod put_block;
-mod user_laws;
 
 pub use footer::{
     FOOTER_LENGTH, FULL_FOOTER_LENGTH, Footer, MAGIC_FOOTER_ENCODED, MAGIC_FOOTER_NUMBER,
 };
-pub use user_laws::{internal_keys_are_separated, raw_keys_are_separated};
 
 /// How many bytes the compressor's id after a block has.
 pub const TABLE_BLOCK_COMPRESS_LEN: usize = 1;

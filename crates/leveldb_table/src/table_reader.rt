@@ -31,15 +31,10 @@ use open::{read_filters, read_footer};
 use std::alloc::Global;
 
 mod iter;
-mod laws;
 mod open;
 mod walk;
 
 pub use iter::TableIterator;
-pub use laws::{
-    excluded_keys_are_not_there, internal_keys_stand_together, opened_tables_are_theirs,
-    raw_keys_stand_together, tables_can_be_opened, tables_have_one_list,
-};
 pub use walk::TableCore;
 
 /// An open table: its file, its index, and its filters where it has some under the policy's name.
@@ -48,7 +43,7 @@ pub struct Table<E: Env, C: Cmp, FP: FilterPolicy> {
     cmp: C,
     file: E::File,
 
-    // by which its blocks are told from others in a cache
+    // which is in the keys of its blocks in a cache
     id: CacheID,
     footer: Footer,
     index: Block<C>,

@@ -1,8 +1,6 @@
 //! The footer, a table's last bytes, which say where its metaindex and its index are.
-ghost use Rattle.std.specs.Prelude.{◌≡◌, ℕ, ◌+◌, ◌≤◌, List, ◌++◌, Option, Some, length, drop, IsTrue, ◌↔◌, replicate};
-ghost use Rattle.leveldb_base.specs.BlockHandle.{Handle, HandleFits};
-ghost use Rattle.leveldb_base.specs.Varint.{little};
-ghost use Rattle.leveldb_table.specs.Footer.{magic, footer_bytes, ReadsFooter};
+ghost use Rattle.std.specs.Prelude.{◌≡◌, ◌+◌, ◌≤◌, ◌++◌, Option, Some, length, drop, IsTrue, ◌↔◌, replicate};
+ghost use Rattle.leveldb_table.specs.Footer.{footer_bytes, ReadsFooter};
 ghost use Rattle.leveldb_table.specs.declared.table_builder.footer.Footer.{Footer};
 
 use leveldb_base::blockhandle::BlockHandle;
@@ -73,29 +71,3 @@ fn is_filler(bytes: &[u8]) -> bool
 {
     bytes.iter().all(|byte| *byte == 0)
 }
-
-/// A footer's bytes have one reading.
-#[tactic(auto, using(crate::proofs::FooterLemmas::one_footer))]
-pub fn footers_have_one_reading()
-    ensures { (meta index other_meta other_index : Handle)
-        → footer_bytes meta index ≡ footer_bytes other_meta other_index
-        → (meta ≡ other_meta) × (index ≡ other_index) }
-{}
-
-/// What was written is read: a reader that keeps the contract of `decode` returns the footer that
-/// was put.
-#[tactic(auto, using(crate::proofs::FooterLemmas::read_footer))]
-pub fn written_footer_is_read()
-    ensures { (footer : Footer) (answer : Option Footer) → HandleFits footer.meta_index
-        → HandleFits footer.index → ReadsFooter (footer_bytes footer.meta_index footer.index)
-        answer → answer ≡ Some footer }
-{}
-
-/// The magic bytes are those of the number, the lowest first, and each footer has 48 bytes.
-#[tactic(auto, using(crate::proofs::FooterLemmas::footer_lengths))]
-pub fn footers_end_in_the_number()
-    ensures number { little 8 MAGIC_FOOTER_NUMBER ≡ MAGIC_FOOTER_ENCODED }
-    ensures bytes { MAGIC_FOOTER_ENCODED ≡ magic }
-    ensures whole { (meta index : Handle) → HandleFits meta → HandleFits index
-        → length (footer_bytes meta index) ≡ FULL_FOOTER_LENGTH }
-{}

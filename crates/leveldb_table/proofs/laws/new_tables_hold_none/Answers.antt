@@ -1,5 +1,5 @@
 use Rattle.leveldb_table.proofs.BlockCacheLemmas.{HoldsOnlyOf-new, HoldsOnlyOf-after, HoldsOnlyOf-other, IsNumbered-raised, IsNumbered-after}
-use Rattle.leveldb_table.proofs.block_cache.new_tables_hold_none.Goals as goal
+use Rattle.leveldb_table.proofs.laws.new_tables_hold_none.Goals as goal
 
 pub returns-clause-none : goal.returns-clause-none
 returns-clause-none g c = λ codings cmp id bytes cache numbered new fits. HoldsOnlyOf-new cache fits new numbered

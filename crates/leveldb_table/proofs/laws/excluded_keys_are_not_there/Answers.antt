@@ -1,5 +1,5 @@
 use Rattle.leveldb_table.proofs.TableReaderLemmas.{refused_there}
-use Rattle.leveldb_table.proofs.table_reader.laws.excluded_keys_are_not_there.Goals as goal
+use Rattle.leveldb_table.proofs.laws.excluded_keys_are_not_there.Goals as goal
 
 pub returns : goal.returns
 returns g c order codings user matches filters bytes parts key part together outcome has accepted pass hk named stopped =

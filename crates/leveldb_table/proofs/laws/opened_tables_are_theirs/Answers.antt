@@ -1,5 +1,5 @@
 use Rattle.leveldb_table.proofs.TableReaderLemmas.{index_read, parts_there, opened_pass}
-use Rattle.leveldb_table.proofs.table_reader.laws.opened_tables_are_theirs.Goals as goal
+use Rattle.leveldb_table.proofs.laws.opened_tables_are_theirs.Goals as goal
 
 pub returns : goal.returns
 returns c = record {
