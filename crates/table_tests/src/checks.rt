@@ -1,6 +1,6 @@
 //! What several tests ask, and the pairs, tables and compressor that they share.
 ghost use Rattle.std.specs.Prelude.{◌≡◌, true, OnErr};
-ghost use Rattle.leveldb_table.specs.TableBuilding.{order_of};
+ghost use Rattle.leveldb_table.specs.TableBuilder.{order_of};
 
 use leveldb_base::cmp::{Cmp, DefaultCmp, InternalKeyCmp};
 use leveldb_base::error::{Result, StatusCode};

@@ -1,16 +1,15 @@
 //! Entries and restart points of a block, as they are read.
 ghost use Rattle.std.specs.Prelude.{◌≡◌};
 ghost use Rattle.leveldb_env.specs.FilterBlock.{numbers_in};
-ghost use Rattle.leveldb_table.specs.BlockLaws.{begins};
-ghost use Rattle.leveldb_table.specs.Reading.{lent_number, ReadsNumber, ReadsEntry};
+ghost use Rattle.leveldb_table.specs.BlockCheck.{begins, borrowed_number, ReadsNumber, ReadsEntry};
 
 use byteorder::{ByteOrder, LittleEndian};
 use leveldb_base::varint::get_varint32;
 
-/// An entry, with its texts lent from the block.
+/// An entry, with its texts borrowed from the block.
 #[derive(Clone, Copy)]
 pub(crate) struct EntryParts<'a> {
-    /// How many bytes of the key before stand in front of `rest`.
+    /// How many bytes of the key before are in front of `rest`.
     pub shared: usize,
     pub rest: &'a [u8],
     pub value: &'a [u8],
@@ -19,13 +18,13 @@ pub(crate) struct EntryParts<'a> {
 // The number at the front, and what follows it.
 #[inline]
 fn take_number(bytes: &[u8]) -> Option<(usize, &[u8])>
-    ensures { ReadsNumber bytes.now (lent_number result) }
+    ensures { ReadsNumber bytes.now (borrowed_number result) }
 {
     let (n, used) = get_varint32(bytes)?;
     Some((n as usize, &bytes[used..]))
 }
 
-/// The entry at the front, and what follows it; `None` where none stands there.
+/// The entry at the front, and what follows it; `None` where none is there.
 #[inline]
 pub(crate) fn take_entry(bytes: &[u8]) -> Option<(EntryParts<'_>, &[u8])>
     ensures { ReadsEntry bytes.now result }
@@ -33,8 +32,8 @@ pub(crate) fn take_entry(bytes: &[u8]) -> Option<(EntryParts<'_>, &[u8])>
     let (shared, after_shared) = take_number(bytes)?;
     let (rest_length, after_rest) = take_number(after_shared)?;
     let (value_length, texts) = take_number(after_rest)?;
-    let (rest, behind) = texts.split_at_checked(rest_length)?;
-    let (value, left) = behind.split_at_checked(value_length)?;
+    let (rest, after) = texts.split_at_checked(rest_length)?;
+    let (value, left) = after.split_at_checked(value_length)?;
     Some((
         EntryParts {
             shared,

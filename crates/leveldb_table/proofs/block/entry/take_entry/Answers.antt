@@ -1,4 +1,4 @@
-use Rattle.leveldb_table.proofs.EntryReads.{reads_no_shared, reads_no_rest_length, reads_no_value_length, reads_no_rest, reads_no_value, reads_entry}
+use Rattle.leveldb_table.proofs.BlockCheckLemmas.{reads_no_shared, reads_no_rest_length, reads_no_value_length, reads_no_rest, reads_no_value, reads_entry}
 use Rattle.leveldb_table.proofs.block.entry.take_entry.Goals as goal
 
 pub returns-in_err-shared : goal.returns-in_err-shared
@@ -28,12 +28,12 @@ returns-in_err-value c =
     (reads_no_value c.args.bytes.now c.in_ok-shared.shared c.in_ok-shared.after_shared.now c.in_ok-shared.ensures.1
     c.in_ok-rest_length.rest_length c.in_ok-rest_length.after_rest.now c.in_ok-rest_length.ensures.1
     c.in_ok-value_length.value_length c.in_ok-value_length.texts.now c.in_ok-value_length.ensures.1
-    c.in_ok-rest.rest.now c.in_ok-rest.behind.now c.in_ok-rest.ensures.cases c.in_err-value.ensures.cases)
+    c.in_ok-rest.rest.now c.in_ok-rest.after.now c.in_ok-rest.ensures.cases c.in_err-value.ensures.cases)
 
 pub returns : goal.returns
 returns c =
     reads_entry c.args.bytes.now c.in_ok-shared.shared c.in_ok-shared.after_shared.now c.in_ok-shared.ensures.1
     c.in_ok-rest_length.rest_length c.in_ok-rest_length.after_rest.now c.in_ok-rest_length.ensures.1
     c.in_ok-value_length.value_length c.in_ok-value_length.texts.now c.in_ok-value_length.ensures.1
-    c.in_ok-rest.rest.now c.in_ok-rest.behind.now c.in_ok-rest.ensures.cases
+    c.in_ok-rest.rest.now c.in_ok-rest.after.now c.in_ok-rest.ensures.cases
     c.in_ok-value.value.now c.in_ok-value.left.now c.in_ok-value.ensures.cases c.in_ok-shared.ensures.0 c.in_ok-rest_length.ensures.0 c.in_ok-value_length.ensures.0

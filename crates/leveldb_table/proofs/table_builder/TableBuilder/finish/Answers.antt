@@ -1,5 +1,5 @@
-use Rattle.leveldb_table.proofs.TableSteps.{IfErr-with}
-use Rattle.leveldb_table.proofs.TableSinks.{refused_so}
+use Rattle.leveldb_table.proofs.TableLemmas.{IfErr-with}
+use Rattle.leveldb_table.proofs.TableBuilderFinishLemmas.{refused_so}
 use Rattle.leveldb_table.proofs.table_builder.TableBuilder.finish.Goals as goal
 
 pub returns-clause-cause : goal.returns-clause-cause
