@@ -1,8 +1,9 @@
 //! A walk over the entries of a memtable.
-ghost use Rattle.std.specs.Prelude.{map};
+ghost use Rattle.std.specs.Prelude.{◌≡◌, Some, IsOk, length, map};
 ghost use Rattle.std.specs.Ordering.{is_lt};
 ghost use Rattle.std.specs.Option.{ForSome};
 ghost use Rattle.leveldb_base.specs.KeyTypes.{inner_key, internal_cmp};
+ghost use Rattle.leveldb_base.specs.Types.{previous_position, SameWalk};
 ghost use Rattle.leveldb_mem.specs.SkipMap.{HasNode, position_of};
 ghost use Rattle.leveldb_mem.specs.MemTable.{internal_pair};
 
@@ -38,6 +39,20 @@ pub struct MemtableIterator<'a, C: Cmp> {
     pub(crate) node: Option<usize>,
     ghost within: { ForSome node
         (HasNode table.now.nodes (map internal_pair table.now.kept.entries)) },
+}
+
+impl<'a, C: UserCmp> MemtableIterator<'a, C> {
+    /// Moves to the last entry, or to no position in an empty memtable.
+    pub fn seek_to_last(&mut self) -> Result<()>
+        ensures keeps { let it = ⟦<MemtableIterator<'a, C> as LdbIterator>⟧ in
+            SameWalk it.pairs it.order it.fails self.old self.new }
+        ensures position { let it = ⟦<MemtableIterator<'a, C> as LdbIterator>⟧ in
+            it.position self.new ≡ previous_position (Some (length (it.pairs self.old))) }
+        ensures ok { IsOk result }
+    {
+        self.node = self.table.last();
+        Ok(())
+    }
 }
 
 impl<'a, C: UserCmp> LdbIterator for MemtableIterator<'a, C> {
