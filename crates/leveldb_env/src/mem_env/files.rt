@@ -21,7 +21,10 @@ impl Model for MemFile {
 
     ghost Value = { File };
 
-    ghost view = { λ file. record { kept = take file.kept file.bytes.items; since = drop file.kept file.bytes.items } };
+    ghost view = { λ file. record {
+      kept = take file.kept file.bytes.items;
+      since = drop file.kept file.bytes.items;
+    } };
 
     ghost invariant = { λ file. file.kept ≤ length file.bytes.items };
 }
@@ -194,7 +197,8 @@ pub fn delete_file(files: &mut FileMap, name: &str) -> bool
     files.remove(name).is_some()
 }
 
-/// Gives a file another name, where it replaces what was there. Returns whether the old name was there.
+/// Gives a file another name, where it replaces what was there. Returns whether the old name was
+/// there.
 pub fn rename_file(
     files: &mut FileMap,
     alloc: Global,
