@@ -1,5 +1,5 @@
 //! Compressors: what is stored for a block, and the list of those that a store knows.
-ghost use Rattle.std.specs.Prelude.{◌≡◌, ◌⊎◌, ℕ, Bool, true, false, if◌then◌else◌, List, [], ◌∷◌, Option, None, Some, map, length, ◌<◌, ◌≤◌, is_some, option_map, ◌==◌, IfOk, IfErr, IfSome, IfNone, OnOk, OnErr};
+ghost use Rattle.std.specs.Prelude.{◌≡◌, ◌⊎◌, ℕ, true, false, if◌then◌else◌, [], Option, None, Some, map, length, ◌<◌, ◌≤◌, is_some, option_map, ◌==◌, IfOk, IfErr, IfSome, IfNone, OnOk, OnErr};
 ghost use Rattle.std.specs.List.{position_or_len};
 ghost use Rattle.leveldb_base.specs.Error.{IsOutOfMemory};
 ghost use Rattle.leveldb_env.specs.Compressor.{plain, Coding, IsEncodeError, IsDecodeError, Codings, no_codings, plain_codings, with_coding, SetsCoding, first_coding, listed_items, IsUnset};

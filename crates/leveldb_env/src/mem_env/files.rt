@@ -57,7 +57,8 @@ impl MemFile {
     /// Copies its bytes from an offset on over the front of the target, as far as both go. Returns
     /// how many came.
     pub fn read_at(&self, offset: usize, target: &mut [u8]) -> usize
-        ensures count { result ≡ min (length target.old) (length (drop offset (bytes_of self.now))) }
+        ensures count { result
+            ≡ min (length target.old) (length (drop offset (bytes_of self.now))) }
         ensures copied { target.new ≡ copied_over (drop offset (bytes_of self.now)) target.old }
         ensures end { offset + result < 2 ^ 64 }
     {

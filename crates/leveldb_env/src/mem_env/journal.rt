@@ -1,5 +1,5 @@
 //! Files in memory, with a journal of what they were at each moment of a run of calls.
-ghost use Rattle.std.specs.Prelude.{◌≡◌, ◌+◌, ◌*◌, ◌<◌, ◌^◌, ◌&&◌, ◌||◌, true, false, Bool, ℕ, List, OnOk, OnErr, IfOk, Ok, None, vec_len, vec_capacity, nat_le};
+ghost use Rattle.std.specs.Prelude.{◌≡◌, ◌+◌, ◌*◌, ◌<◌, ◌^◌, ◌&&◌, ◌||◌, true, false, ℕ, List, OnOk, IfOk, Ok, None, vec_len, vec_capacity, nat_le};
 ghost use Rattle.std.specs.Option.{option_copied};
 ghost use Rattle.leveldb_env.specs.Env.{same, BeforeOrAfter, FilesUnchanged};
 ghost use Rattle.leveldb_env.specs.Journal.{requested, noted, name_in, may_be_made, is_append, files_at, call_after, after, where_done, files_after, are_within, MakesChange};
@@ -158,7 +158,7 @@ impl Journal {
         }
         if let Some(call) = self.call_after(moment / 2) {
             let change = borrow_change(&call.change);
-            make_change(&mut files, alloc, &change, stands_inside(&change, side))?;
+            make_change(&mut files, alloc, &change, is_made_inside(&change, side))?;
         }
         Ok(files)
     }
@@ -278,7 +278,7 @@ fn replay_call(files: &mut FileMap, alloc: Global, call: &Call, n: u64) -> Resul
 }
 
 // Whether a change in flight is made on this side: an append is, a sync isn't.
-fn stands_inside(change: &Requested<'_>, side: bool) -> bool
+fn is_made_inside(change: &Requested<'_>, side: bool) -> bool
     ensures { result ≡ ((side || is_append change.now) && may_be_made change.now) }
 {
     match change {

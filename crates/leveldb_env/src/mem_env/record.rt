@@ -1,5 +1,5 @@
 //! A disk in memory that records what its files were at each moment.
-ghost use Rattle.std.specs.Prelude.{◌≡◌, ◌<◌, ◌+◌, ◌-◌, ◌^◌, ◌==◌, ◌&&◌, ◌||◌, min, true, false, Bool, ℕ, List, None, Some, if◌then◌else◌, not, IsErr, IsErrAnd, OnOk};
+ghost use Rattle.std.specs.Prelude.{◌≡◌, ◌<◌, ◌+◌, ◌-◌, ◌^◌, ◌==◌, ◌&&◌, ◌||◌, true, false, Bool, ℕ, List, None, Some, if◌then◌else◌, not, IsErr, IsErrAnd, OnOk};
 
 use crate::env::Env;
 use crate::errors::refuse;
@@ -28,13 +28,13 @@ const STILL_TO_COME: &str = "that moment is still to come";
 const NO_CRASH_LEAVES: &str = "no crash leaves these tails";
 
 impl RecordEnv {
-    ghost use Rattle.std.specs.Prelude.{◌⊎◌, ◌≤◌, nat_eq, IfOk, IfErr, OnErr};
+    ghost use Rattle.std.specs.Prelude.{◌⊎◌, ◌≤◌, IfOk, IfErr, OnErr};
     ghost use Rattle.leveldb_env.specs.MemEnv.{CopiesFrom, IsNoSuchFile};
     ghost use Rattle.leveldb_base.specs.Error.{IsOutOfMemory};
     ghost use Rattle.leveldb_env.specs.Env.{Files};
     ghost use Rattle.leveldb_env.specs.Picks.{ListsTails, tails_of};
     ghost use Rattle.leveldb_env.specs.Journal.{requested, finds_file, may_be_made, IsChangeError};
-    ghost use Rattle.leveldb_env.specs.Record.{record_observed, files_in, locked_in, moment_of, failures_of, fails_in, fails_done, SameObserved, is_past, is_chosen, one_more_failure, SameButFailures, CountsCall, ChangesNoFile, RequestsChange, files_then, CanCrashTo, CrashesByChoice, IsCrash, IsFresh};
+    ghost use Rattle.leveldb_env.specs.Record.{record_observed, files_in, locked_in, moment_of, failures_of, fails_in, fails_done, SameObserved, is_past, one_more_failure, SameButFailures, CountsCall, ChangesNoFile, RequestsChange, files_then, CanCrashTo, CrashesByChoice, IsCrash, IsFresh};
 
     /// A disk without a name or a lock, at moment 0. No call is chosen to fail.
     pub fn new(alloc: Global) -> RecordEnv
