@@ -5,7 +5,7 @@ use Rattle.std.proofs.lemmas.List.{take_at, drop_at, append-nil, take_all, take-
 use Rattle.std.proofs.lemmas.List.Elements.{All-nil, All-cons, All-head, All-tail, All-drop, Contains-push, Contains-append_left, All-take}
 use Rattle.std.proofs.lemmas.List.Folds.{concat-append}
 use Rattle.leveldb_env.specs.Filter.{first_offset, keys_at, IsFilterError}
-use Rattle.leveldb_env.specs.FilterBlock.{offsets_from, AreTexts, numbers, numbers_in, filter_block, FilterBlocksAreUnique, FiltersBuilt, filter_of, with_filters, started, finished, IsKeyKept, KeepsKeys, places_from, HasFiltersEndingAt, IsFilterBlock, FiltersRead, BeginsAt, RiseFrom, IsFilterTooLarge, IsFilterNotMade}
+use Rattle.leveldb_env.specs.FilterBlock.{offsets_from, AreTexts, numbers, numbers_in, filter_block, FilterBlocksAreUnique, FiltersBuilt, filter_of, with_filters, finished, IsKeyKept, KeepsKeys, places_from, HasFiltersEndingAt, IsFilterBlock, FiltersRead, BeginsAt, RiseFrom, IsFilterTooLarge, IsFilterNotMade}
 use Rattle.byteorder.specs.Endian.{little_number}
 use Rattle.byteorder.specs.Numbers.{little_from-lt, little_number-reads_back}
 use Rattle.leveldb_base.specs.Varint.{little}
@@ -191,15 +191,6 @@ here_get P (x ∷ xs) y ys h = here_get P xs y ys h
 some_pass : {X : Type 0} (test : X → Bool) (o : Option X) → IsSomeAnd o (λ x. test x ≡ true) → option_map_or test o true ≡ true
 some_pass test None h = absurd h
 some_pass test (Some x) h = h
-
-module _ {FP : Type 0} (make : List (List ℕ) → List ℕ) where
-  policy-with : (count : ℕ) (building : FiltersBuilt FP) → (with_filters make count building).policy ≡ building.policy
-  policy-with zero building = refl
-  policy-with (suc others) building = refl
-
-  -- the policy stays when a block begins
-  pub policy-started : (offset : ℕ) (building : FiltersBuilt FP) → (started make offset building).policy ≡ building.policy
-  policy-started offset building = policy-with (offset / 2048 - length building.filters) building
 
 module _ {FP : Type 0} (make : FP → List (List ℕ) → List ℕ) (matches : FP → List ℕ → List ℕ → Bool) (finds : (policy : FP) (keys : List (List ℕ)) (key : List ℕ) → Contains keys key → matches policy key (make policy keys) ≡ true) where
   made : (policy : FP) (keys : List (List ℕ)) (key : List ℕ) → Contains keys key → matches policy key (filter_of (make policy) keys) ≡ true

@@ -8,7 +8,7 @@ ghost use Rattle.std.specs.List.{concat};
 ghost use Rattle.leveldb_base.specs.Error.{IsOutOfMemory};
 ghost use Rattle.leveldb_base.specs.Varint.{little};
 ghost use Rattle.leveldb_base.specs.declared.error.StatusCode.TheVariants.{Corruption, NotSupported};
-ghost use Rattle.leveldb_env.specs.FilterBlock.{IsFilterBlock, IsNoFilterBlock, passes, filter_of, with_key, started, finished, IsFilterTooLarge, IsFilterNotMade, places_from, BeginsAt, RiseFrom, HasFiltersEndingAt, FindsFiltersEnd, numbers_in};
+ghost use Rattle.leveldb_env.specs.FilterBlock.{IsFilterBlock, IsNoFilterBlock, passes, filter_of, with_key, started, finished, KeepsPolicy, IsFilterTooLarge, IsFilterNotMade, places_from, BeginsAt, RiseFrom, HasFiltersEndingAt, FindsFiltersEnd, numbers_in};
 ghost use Rattle.leveldb_env.specs.FilterBlockLaws.{HasFiltersEndingAt-prop};
 
 use crate::filter::FilterPolicy;
@@ -103,7 +103,7 @@ impl<FP: FilterPolicy> FilterBlockBuilder<FP> {
         ensures not_too_large { OnOk result (length self.old.filters < offset / 2048
             → IsFilterTooLarge (FP.too_large self.old.policy)
             (FP.filter_for self.old.policy) self.old.filters self.old.keys → ⊥) }
-        ensures err { OnErr result (self.new ≡ self.old) }
+        ensures stays { KeepsPolicy self.old result self.new }
         ensures cause { IfErr result
             (IsFilterNotMade (FP.too_large self.old.policy)
             (FP.filter_for self.old.policy) self.old.filters self.old.keys) }
