@@ -11,6 +11,11 @@ mod JoiningLemmas
 pub mod WriteBatchLemmas
 pub mod EntryLemmas
 mod MemTableLemmas
-mod Laying
+mod TowersLemmas
+mod PlacedLemmas
+mod PathLemmas
+mod InsertionLemmas
+mod LaidLemmas
 mod Halving
 mod Rising
+mod SkipMapLemmas

@@ -4,5 +4,6 @@ pub mod WriteBatchLaws
 pub mod Laws
 pub mod Searching
 pub mod Placed
+pub mod Towers
 pub mod SkipMap
 pub mod MemTable

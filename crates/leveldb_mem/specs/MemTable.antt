@@ -80,10 +80,11 @@ pub record AddsEntry (old : Kept) (entry : Entry) (new : Kept) : Type 0 where
 
 -- ---- the memtable
 
--- a comparator of users' keys, and what is kept
+-- a comparator of users' keys, what is kept, and the nodes of the entries in the map
 pub record MemTableState (C : Type 0) : Type 0 where
   pub cmp : C
   pub kept : Kept
+  pub nodes : List ℕ
 
 -- an entry, as nested pairs of encodable parts
 abbrev pub entry_code : Coded Entry
@@ -94,9 +95,10 @@ entry_code =
 -- a memtable, as nested pairs of encodable parts
 abbrev pub memtable_code : {C : Type 0} → Coded C → Coded (MemTableState C)
 memtable_code {C} c =
-    code_by (C × (List Entry × (ℕ × ℕ))) (coded× c (coded× (coded_list entry_code) (coded× coded_ℕ coded_ℕ)))
-    (λ m. (m.cmp, (m.kept.entries, (m.kept.places, m.kept.bytes))))
-    (λ p. record { cmp = p.0; kept = record { entries = p.1.0; places = p.1.1.0; bytes = p.1.1.1 } }) (λ _. refl)
+    code_by (C × (List Entry × (List ℕ × (ℕ × ℕ))))
+    (coded× c (coded× (coded_list entry_code) (coded× (coded_list coded_ℕ) (coded× coded_ℕ coded_ℕ))))
+    (λ m. (m.cmp, (m.kept.entries, (m.nodes, (m.kept.places, m.kept.bytes)))))
+    (λ p. record { cmp = p.0; kept = record { entries = p.1.0; places = p.1.1.1.0; bytes = p.1.1.1.1 }; nodes = p.1.1.0 }) (λ _. refl)
 
 -- an entry's number, key and value
 abbrev pub entry_of : ℕ → List ℕ → Option (List ℕ) → Entry

@@ -3,14 +3,16 @@ ghost use Rattle.std.specs.Prelude.{◌≡◌, ◌⊎◌, ◌+◌, ◌*◌, ◌<
 ghost use Rattle.std.specs.Prelude.{OnOk, OnErr, IfErr, IsTrue, ◌↔◌, Some, None, map, slice_get};
 ghost use Rattle.std.specs.Prelude.{option_copied};
 ghost use Rattle.std.specs.Bool.{OnTrue, OnFalse};
-ghost use Rattle.std.specs.Option.{option_map};
+ghost use Rattle.std.specs.Option.{option_map, ForSome};
 ghost use Rattle.leveldb_base.specs.Error.{IsOutOfMemory};
 ghost use Rattle.leveldb_base.specs.declared.error.StatusCode.TheVariants.{AlreadyExists};
 ghost use Rattle.leveldb_base.specs.History.{placed, greatest, AreRising};
 ghost use Rattle.leveldb_base.specs.Varint.{varint, sized};
 ghost use Rattle.leveldb_base.specs.KeyTypes.{inner_key, internal_cmp, user_part, sequence_part};
-ghost use Rattle.leveldb_base.specs.Types.{count_before};
+ghost use Rattle.leveldb_base.specs.Types.{position_within, previous_position, seek_position};
 ghost use Rattle.leveldb_mem.specs.WriteBatch.{item_of};
+ghost use Rattle.leveldb_mem.specs.Placed.{rank};
+ghost use Rattle.leveldb_mem.specs.SkipMap.{HasNode, position_of};
 ghost use Rattle.leveldb_mem.specs.MemTable.{IsUnion, IsNewTo, AreNewTo, FindsNewest, HasRoom, KeepsRoom};
 ghost use Rattle.leveldb_mem.specs.MemTable.{AddsEntry, entry_of, type_of, bytes_of_value, value_of};
 ghost use Rattle.leveldb_mem.specs.MemTable.{entry_key, entry_from, inner_value, internal_pair};
@@ -65,6 +67,7 @@ impl<C: Cmp> Model for MemTable<C> {
         places = it.map.places;
         bytes = it.map.bytes - most_beside * it.map.places;
       };
+      nodes = it.map.nodes;
     } };
 
     ghost invariant = { λ it. All IsEntryPair it.map.pairs
@@ -200,8 +203,10 @@ impl<C: UserCmp> MemTable<C> {
             key,
             sequence,
         };
-        let at = self.map.count_by(&probe);
-        self.given_at(at, key)
+        match self.map.first_by(&probe) {
+            None => None,
+            Some(node) => self.given_at(node, key),
+        }
     }
 
     /// A walk over the internal keys of the entries with their values, which has no position yet.
@@ -218,20 +223,18 @@ impl<C: UserCmp> MemTable<C> {
         let _ = self.map.iter();
         MemtableIterator {
             table: self,
-            position: None,
+            node: None,
         }
     }
 
-    // What the entry at an index gives the key, if it is the key's.
+    // What the entry of a node gives the key, if it is the key's.
     #[inline]
-    fn given_at(&self, at: usize, key: &[u8]) -> Option<Option<&[u8]>>
-        ensures { IsValueAt self.now.kept.entries at key.now (option_map option_copied result) }
+    fn given_at(&self, node: usize, key: &[u8]) -> Option<Option<&[u8]>>
+        requires { HasNode self.now.nodes (map internal_pair self.now.kept.entries) node }
+        ensures { IsValueAt self.now.kept.entries (rank self.now.nodes node) key.now
+            (option_map option_copied result) }
     {
-        let end = self.map.len();
-        if at >= end {
-            return None;
-        }
-        let parts = split_entry(self.map.key(at));
+        let parts = split_entry(self.map.key(node));
         let parsed = parse_internal_key(parts.0);
         if is_same(parsed.2, key) {
             return Some(given(parsed.0, parts.1));
@@ -239,31 +242,59 @@ impl<C: UserCmp> MemTable<C> {
         None
     }
 
-    // The number of pairs that a walk passes.
-    fn pair_count(&self) -> usize
-        ensures { result ≡ length (map internal_pair self.now.kept.entries) }
+    // The node of the first entry.
+    fn first(&self) -> Option<usize>
+        ensures position { position_of self.now.nodes result
+            ≡ position_within (map internal_pair self.now.kept.entries) 0 }
+        ensures within { ForSome result
+            (HasNode self.now.nodes (map internal_pair self.now.kept.entries)) }
     {
-        self.map.len()
+        self.map.first()
     }
 
-    // The number of internal keys before this one.
-    fn pairs_before(&self, key: &[u8]) -> usize
-        ensures { result ≡ count_before (internal_cmp (C.cmp self.now.cmp)) key.now
-            (map internal_pair self.now.kept.entries) }
+    // The node after another.
+    fn after(&self, node: usize) -> Option<usize>
+        requires { HasNode self.now.nodes (map internal_pair self.now.kept.entries) node }
+        ensures position { position_of self.now.nodes result
+            ≡ position_within (map internal_pair self.now.kept.entries)
+            (rank self.now.nodes node + 1) }
+        ensures within { ForSome result
+            (HasNode self.now.nodes (map internal_pair self.now.kept.entries)) }
+    {
+        self.map.after(node)
+    }
+
+    // The node before another.
+    fn previous(&self, node: usize) -> Option<usize>
+        requires { HasNode self.now.nodes (map internal_pair self.now.kept.entries) node }
+        ensures position { position_of self.now.nodes result
+            ≡ previous_position (Some (rank self.now.nodes node)) }
+        ensures within { ForSome result
+            (HasNode self.now.nodes (map internal_pair self.now.kept.entries)) }
+    {
+        self.map.previous(node)
+    }
+
+    // The node of the first internal key at or after this one.
+    fn first_at(&self, key: &[u8]) -> Option<usize>
+        ensures position { position_of self.now.nodes result
+            ≡ seek_position (internal_cmp (C.cmp self.now.cmp))
+            (map internal_pair self.now.kept.entries) key.now }
+        ensures within { ForSome result
+            (HasNode self.now.nodes (map internal_pair self.now.kept.entries)) }
     {
         let cmp = self.map.comparator();
         let probe = AtInternalKey { cmp: &cmp.0, key };
-        self.map.count_by(&probe)
+        self.map.first_by(&probe)
     }
 
-    // The internal key and the value at an index.
-    fn pair(&self, at: usize) -> (&[u8], &[u8])
-        requires { at < length (map internal_pair self.now.kept.entries) }
-        ensures { slice_get (map internal_pair self.now.kept.entries) at
+    // The internal key and the value of a node.
+    fn pair(&self, node: usize) -> (&[u8], &[u8])
+        requires { HasNode self.now.nodes (map internal_pair self.now.kept.entries) node }
+        ensures { slice_get (map internal_pair self.now.kept.entries) (rank self.now.nodes node)
             ≡ Some (result.0.now, result.1.now) }
     {
-        let key = self.map.key(at);
-        split_entry(key)
+        split_entry(self.map.key(node))
     }
 
     // Takes memory for one entry.

@@ -7,8 +7,8 @@ use Rattle.std.specs.Str.{bytes_eq}
 use Rattle.leveldb_env.specs.Env.{Files, bytes_of, FileCrashesTo, FilesCrashTo}
 use Rattle.leveldb_mem.specs.Log.{log_block_size, HonestTail}
 use Rattle.std.specs.Cmp.Lexicographic.{bytes_decides}
-use Rattle.rusty_leveldb.specs.Contents.{Contents}
-use Rattle.rusty_leveldb.specs.Holds.{IsHonest}
+use Rattle.leveldb_version.specs.Contents.{Contents}
+use Rattle.leveldb_version.specs.Holds.{IsHonest}
 use Rattle.rusty_leveldb.specs.State.{State}
 use Rattle.rusty_leveldb.specs.Machine.{Risk}
 use Rattle.rusty_leveldb.specs.Unread.{Ignores, SameBeside, IsSparedBeside}
@@ -43,24 +43,18 @@ module _ (store : List ℕ) (reads : Files → Contents → Type 0) (beside : Li
   -- the later files are spared as the earlier ones were
   pub ignores_beside : (state : State) (risk : Risk) (old files : Files) → SameBeside beside old files → IsSparedBeside store reads beside state risk old → IsSparedBeside store reads beside state risk files
   ignores_beside state risk old files same is = record {
-    spared = record {
-      carries = λ left leaves honest.
-          let b = base old files same left leaves in
-          let c = is.spared.carries b (base_leaves old files same left leaves) (base_honest old files same left leaves honest) in
-          record {
-            part = c.part;
-            beginning = c.beginning;
-            carries = record {
-              contents = c.carries.contents;
-              read = is.unread b b left c.carries.contents (base_leaves old files same left leaves) (λ path apart. refl) (left_same old files same left leaves) c.carries.read;
-              tells = c.carries.observed;
-            };
+    spared = λ left leaves honest.
+        let b = base old files same left leaves in
+        let c = is.spared b (base_leaves old files same left leaves) (base_honest old files same left leaves honest) in
+        record {
+          part = c.part;
+          prefix = c.prefix;
+          carries = record {
+            contents = c.carries.contents;
+            read = is.unread b b left c.carries.contents (base_leaves old files same left leaves) (λ path apart. refl) (left_same old files same left leaves) c.carries.read;
+            matches = c.carries.matches;
           };
-      stays = λ left contents leaves honest read.
-          let b = base old files same left leaves in
-          is.spared.stays b contents (base_leaves old files same left leaves) (base_honest old files same left leaves honest)
-          (is.unread b left b contents (base_leaves old files same left leaves) (left_same old files same left leaves) (λ path apart. refl) read);
-    };
+        };
     unread = λ left one other contents leaves to_one to_other read.
         let b = base old files same left leaves in
         is.unread b one other contents (base_leaves old files same left leaves)

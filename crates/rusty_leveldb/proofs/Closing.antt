@@ -13,7 +13,7 @@ use Rattle.leveldb_mem.specs.Log.Writer.{Flushes}
 use Rattle.rusty_leveldb.specs.declared.db_impl.engine.Mode.{Mode}
 use Rattle.rusty_leveldb.specs.declared.db_impl.engine.Mode.TheVariants.{Open, Broken, Closed}
 use Rattle.rusty_leveldb.specs.declared.db_impl.engine.Engine.{Engine}
-use Rattle.rusty_leveldb.specs.Names.{lock_path}
+use Rattle.leveldb_version.specs.Paths.{lock_path}
 use Rattle.rusty_leveldb.specs.OneLog.{log_path}
 use Rattle.rusty_leveldb.specs.State as machine
 use Rattle.rusty_leveldb.specs.State.{State, Request, close, abandon, Answer, done, refused, open_mode, broken, closed}
@@ -161,12 +161,12 @@ module _ {E C FP F I : Type 0} {D : I → Type 0} (env : Ghosts E F) (cmp : List
 
       -- broken, with all covered, where the lock is as it was
       broke_now : (env.observed now).disk.locked ≡ (env.observed mid).disk.locked → StandsFor store (Reads store) (env.observed now).disk (broke old (length old.history))
-      broke_now same_locks = broke_covered store (env.observed at).disk (env.observed now).disk old represents.disk_is writes.file writes.there mode all
+      broke_now same_locks = broke_covered store (env.observed at).disk (env.observed now).disk old represents.disk_is mode all
           (ap (λ (locked : List ℕ → Bool). locked (lock_path store)) (same_locks ∙ flushed.flushed.locks told) ∙ represents.disk_is.locked)
 
       -- closed, with all covered, where the lock is free
       ended_now : (env.observed now).disk.locked ≡ lock_set lock false (env.observed mid).disk.locked → StandsFor store (Reads store) (env.observed now).disk (ended old (length old.history) false)
-      ended_now relocked = ended_covered store (env.observed at).disk (env.observed now).disk old represents.disk_is writes.file writes.there mode all false
+      ended_now relocked = ended_covered store (env.observed at).disk (env.observed now).disk old represents.disk_is mode all false
           (ap (λ (locked : List ℕ → Bool). locked (lock_path store)) relocked ∙ ap (λ l. lock_set l false (env.observed mid).disk.locked (lock_path store)) same_lock ∙ freed (lock_path store) (env.observed mid).disk.locked)
 
     -- the moments of both

@@ -4,7 +4,7 @@ use Rattle.std.proofs.lemmas.List.Elements.{All-nil, All-cons}
 use Rattle.std.specs.declared.cmp.Ordering.{Ordering}
 use Rattle.leveldb_base.specs.History.{Entry, HasValueAt}
 use Rattle.leveldb_base.proofs.HistoryLemmas.{in_front}
-use Rattle.rusty_leveldb.specs.Contents.{made}
+use Rattle.leveldb_version.specs.Contents.{made}
 use Rattle.rusty_leveldb.specs.State.{State, Opening, open_store, write, get, done, found, open_mode, closed}
 use Rattle.rusty_leveldb.specs.Causes.{Faults, Misfits, IsLongKey, IsLongBatch}
 use Rattle.rusty_leveldb.specs.Machine.{Step}
@@ -53,7 +53,7 @@ module _ (cmp : List ℕ → List ℕ → Ordering) (opening : Opening) (key val
         fits = (fits, compresses);
         free = refl;
         may = create;
-        stays = tt;
+        stays = inr (refl, tt);
         store = tt;
         joins = inl refl;
         reached = omega arith;
@@ -76,7 +76,7 @@ module _ (cmp : List ℕ → List ℕ → Ordering) (opening : Opening) (key val
         fits = (fits, compresses);
         free = refl;
         may = there;
-        stays = refl;
+        stays = inl refl;
         store = tt;
         joins = inl refl;
         reached = omega arith;
@@ -109,7 +109,7 @@ module _ (cmp : List ℕ → List ℕ → Ordering) (opening : Opening) (key val
     failures = 0;
     state = written;
     run = (opened, opens_first, (written, writes, (refl, refl)));
-    crash = (written, finds, (refl, refl), record { beginning = record { count = 1; enough = omega arith; there = omega arith; first = refl }; stays = refl; state = refl });
+    crash = (written, finds, (refl, refl), record { prefix = record { count = 1; enough = omega arith; there = omega arith; first = refl }; stays = refl; state = refl });
   }
 
   lives : Lives cmp 0 new_state (written_and_found opening key value) 0 written

@@ -1,5 +1,5 @@
 -- Lives of a store, one after another: they are one run of the machine if each crash was honest.
-use Rattle.std.proofs.Common.{◌≡◌, ◌<◌, ◌≤◌, ◌+◌, ◌-◌, inl, inr, ℕ, suc, Bool, List, [], ◌∷◌, ◌++◌, refl, sym, ◌∙◌, ap, subst, arith, Option, Some, None, Result, Ok, Err, IsTrue}
+use Rattle.std.proofs.Common.{◌≡◌, ◌<◌, ◌≤◌, ◌+◌, ◌-◌, ℕ, suc, Bool, List, [], ◌∷◌, ◌++◌, refl, sym, ◌∙◌, ap, subst, arith, Option, Some, None, Ok, Err, IsTrue}
 use Rattle.std.specs.Prelude.{◌↔◌, ◌⊎◌, All, map, Vec}
 use Rattle.std.specs.declared.alloc.Global.{Global}
 use Rattle.std.specs.declared.cmp.Ordering.{Ordering}
@@ -18,13 +18,13 @@ use Rattle.leveldb_env.specs.Record.{record_observed, moment_of, failures_of, fi
 use Rattle.rusty_leveldb.specs.declared.shell.crash_runs.Report.{Report}
 use Rattle.rusty_leveldb.specs.declared.shell.crash_runs.Life.{Life}
 use Rattle.rusty_leveldb.specs.State.{State, Opening, Request, Answer, closed}
-use Rattle.rusty_leveldb.specs.Holds.{IsHonest}
+use Rattle.leveldb_version.specs.Holds.{IsHonest}
 use Rattle.rusty_leveldb.specs.Runs as machine
 use Rattle.rusty_leveldb.specs.Runs.{Event, events_of, Run, CrashBefore, StopsAt, LifeLeads, Lives, new_state, goes_on, crashes}
 use Rattle.rusty_leveldb.specs.Serves.{Reads, StandsFor, Represents, IsConversation}
 use Rattle.rusty_leveldb.specs.Engine.{Recalls, IsStoreName, IsOpening}
 use Rattle.rusty_leveldb.specs.Shell.{NoCoder}
-use Rattle.rusty_leveldb.specs.Lives.{requests_of, IsLife, IsAlwaysLife, opening_of, ending_of, IsCrash, IsHonestCrash, IsNextDevice, IsReportOf, IsLifeOn, AreReports, AreReportsTo, AreReportsFromNone, IsLifeOf, AreLivesOf, AreOneRun, HasNoCrash, ReportsLives}
+use Rattle.rusty_leveldb.specs.Lives.{requests_of, IsLife, IsAlwaysLife, opening_of, ending_of, IsCrash, IsHonestCrash, IsNextDevice, IsReportOf, IsLifeOn, AreReports, AreReportsFromNone, IsLifeOf, AreLivesOf, AreOneRun, HasNoCrash, ReportsLives}
 use Rattle.rusty_leveldb.proofs.OneLog.LogFile.{front_honest}
 use Rattle.rusty_leveldb.proofs.Bounds.{nothing_stands}
 
@@ -172,7 +172,7 @@ kept_honest store files left is name was crashed journal same_was same_is =
     front_honest was [] was.since refl was crashed refl (sym (here ∙ ap (option_map (λ file. kept_file (file.kept ++ []))) same_was) ∙ same_is)
 
 honest_next : (store : List ℕ) (start : ℕ) (moment : Option ℕ) (pick : Pick) (to next : RecordEnv) → pick.tails.items ≡ [] → IsNextDevice IsCrash start moment pick to next → IsNextDevice (IsHonestCrash store) start moment pick to next
-honest_next store start None pick to next none follows = follows
+honest_next store _ None pick to next none follows = follows
 honest_next store start (Some moment) pick to next none crash =
     let files = files_then to (start + moment) pick.after in
     record { crash = crash; honest = kept_honest store files (files_in next) (crash.files ∙ ap (λ tails. picked (tails_of tails) files) none) }

@@ -9,7 +9,7 @@ use Rattle.leveldb_env.specs.Env.{File, Files, Disk, bytes_of, or_empty, file_ke
 use Rattle.leveldb_env.proofs.EnvLemmas.{SameBut-created, bytes_eq-apart, at_same, at_other}
 use Rattle.leveldb_env.specs.WholeFiles.{Replacing}
 use Rattle.rusty_leveldb.specs.OneLog.{log_path, temp_path}
-use Rattle.rusty_leveldb.specs.Names.{lock_path}
+use Rattle.leveldb_version.specs.Paths.{lock_path}
 use Rattle.rusty_leveldb.specs.State.{State, Request, Answer}
 use Rattle.rusty_leveldb.specs.Serves.{SameBytes, SparesFiles, IsKeptOrMade, SparesOthers}
 use Rattle.rusty_leveldb.specs.Recovery.{ChangesLogAlone}

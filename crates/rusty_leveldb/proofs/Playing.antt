@@ -1,5 +1,5 @@
 -- Runs of commands, one request after another.
-use Rattle.std.proofs.Common.{◌≡◌, ◌<◌, ◌≤◌, ◌+◌, inl, inr, ⊎_elim, ℕ, suc, Bool, false, List, [], ◌∷◌, ◌++◌, length, take, append-nil, append_assoc, refl, sym, ◌∙◌, ap, subst, arith, Option, Some, None, Result, Ok, Err, IsTrue}
+use Rattle.std.proofs.Common.{◌≡◌, ◌<◌, ◌≤◌, ◌+◌, inl, inr, ⊎_elim, ℕ, suc, Bool, List, [], ◌∷◌, ◌++◌, length, take, append-nil, append_assoc, refl, sym, ◌∙◌, ap, subst, arith, Option, Some, None, Result, Ok, Err, IsTrue}
 use Rattle.std.specs.Prelude.{map, OnErr, All}
 use Rattle.std.proofs.lemmas.Bool.{cases_lt}
 use Rattle.std.proofs.Math.ListN.{get_or}
@@ -13,9 +13,9 @@ use Rattle.leveldb_env.specs.declared.options.Options.{Options}
 use Rattle.rusty_leveldb.specs.declared.db_impl.engine.Engine.{Engine}
 use Rattle.rusty_leveldb.specs.declared.shell.commands.Command.{Command}
 use Rattle.rusty_leveldb.specs.declared.shell.commands.Reply.{Reply}
-use Rattle.rusty_leveldb.specs.Contents.{Contents}
+use Rattle.leveldb_version.specs.Contents.{Contents}
 use Rattle.rusty_leveldb.specs.State.{State, Opening, Request, open_store, abandon, Answer, done, refused}
-use Rattle.rusty_leveldb.specs.Holds.{IsHonest}
+use Rattle.leveldb_version.specs.Holds.{IsHonest}
 use Rattle.rusty_leveldb.specs.Machine.{Step, Crashes, risk_between}
 use Rattle.rusty_leveldb.specs.Runs.{Event, events_of, Run, CrashBefore, StopsAt, faults_of}
 use Rattle.rusty_leveldb.specs.Serves.{Reads, StandsFor, Represents, Goes, Runs, IsHonestlyLeft, IsConversation, done_or, refusal_of}

@@ -4,7 +4,7 @@ use Rattle.leveldb_env.specs.Env.{File, bytes_of}
 use Rattle.leveldb_mem.specs.WriteBatch.{Batch}
 use Rattle.leveldb_mem.specs.WriteBatchLaws.{BatchOf-one}
 use Rattle.leveldb_mem.proofs.LawsLemmas.{log_laws}
-use Rattle.rusty_leveldb.specs.Contents.{Contents}
+use Rattle.leveldb_version.specs.Contents.{Contents}
 use Rattle.rusty_leveldb.specs.OneLog.{Each, IsRecordOf, IsLogOf, IsRead, contents_of}
 use Rattle.rusty_leveldb.specs.Laws.{OneReading}
 

@@ -13,7 +13,7 @@ use Rattle.leveldb_mem.specs.Log.Writer.{WriterState, IsBroken}
 use Rattle.rusty_leveldb.specs.declared.db_impl.engine.Mode.{Mode}
 use Rattle.rusty_leveldb.specs.declared.db_impl.engine.Mode.TheVariants.{Open, Broken, Closed}
 use Rattle.rusty_leveldb.specs.declared.db_impl.engine.Engine.{Engine}
-use Rattle.rusty_leveldb.specs.Names.{lock_path}
+use Rattle.leveldb_version.specs.Paths.{lock_path}
 use Rattle.rusty_leveldb.specs.OneLog.{log_path}
 use Rattle.rusty_leveldb.specs.Recent.{AreUsedUp}
 use Rattle.rusty_leveldb.specs.State as machine

@@ -3,13 +3,13 @@ use Rattle.std.specs.Prelude.{◌≡◌, ◌⊎◌, ℕ, List, [], ◌∷◌, So
 use Rattle.std.specs.declared.cmp.Ordering.{Ordering}
 use Rattle.leveldb_env.specs.declared.env.Env.{Ghosts}
 use Rattle.leveldb_env.specs.Env.{Files, Disk, FilesCrashTo, DiskCrashesTo, Since}
-use Rattle.rusty_leveldb.specs.Names.{lock_path}
-use Rattle.rusty_leveldb.specs.Contents.{Contents}
+use Rattle.leveldb_version.specs.Paths.{lock_path}
+use Rattle.leveldb_version.specs.Contents.{Contents}
 use Rattle.rusty_leveldb.specs.OneLog.{log_path}
-use Rattle.rusty_leveldb.specs.Holds.{IsHonest, CarriesBeginning}
+use Rattle.leveldb_version.specs.Holds.{IsHonest, CarriesPrefix}
 use Rattle.rusty_leveldb.specs.State.{State, IsState, broken, closed, Opening, Request, open_store, write, get, Answer, done, found, Refusal, refused}
 use Rattle.rusty_leveldb.specs.Causes.{Faults, Cause, IsLongKey, IsLongBatch, Comes, IsClosedRefusal, IsBrokenRefusal}
-use Rattle.rusty_leveldb.specs.Machine.{Step, risk_between, risk_of, Crashes}
+use Rattle.rusty_leveldb.specs.Machine.{Step, StaysOr, risk_between, risk_of, Crashes}
 use Rattle.rusty_leveldb.specs.Runs.{Event, Life, goes_on, crashes, Lives, new_state}
 use Rattle.rusty_leveldb.specs.Serves.{Reads, StandsFor, IsSpared, AtEachMoment}
 
@@ -37,7 +37,7 @@ CrashInside = (store : List ℕ) (old new : State) (request : Request) (files : 
 abbrev pub CrashSince : {E F : Type 0} → Ghosts E F → Type 0
 CrashSince {E = E} env = (store : List ℕ) (old new : State) (request : Request) (from to : E) → AtEachMoment store (Reads store) request old new (env.observed from) (env.observed to)
     → (files left : Files) → Since (env.observed to) (env.observed from).moment files left → IsHonest store files left
-    → let risk = risk_of request old new in CarriesBeginning store (Reads store) risk.bound old.covered risk.history left
+    → let risk = risk_of request old new in CarriesPrefix store (Reads store) (StaysOr risk.opening old.store) risk.bound old.covered risk.history left
 
 -- a refusal has one of the causes, or the store was closed, or it broke earlier
 abbrev pub RefusalHasCause : Type 0

@@ -17,7 +17,7 @@ use Rattle.rusty_leveldb.specs.declared.shell.commands.Reply.{Reply}
 use Rattle.rusty_leveldb.specs.declared.shell.crash_runs.Report.{Report}
 use Rattle.rusty_leveldb.specs.declared.shell.crash_runs.Life.{Life}
 use Rattle.rusty_leveldb.specs.State.{State, Opening, Request, open_store, abandon, Answer, done, refused}
-use Rattle.rusty_leveldb.specs.Holds.{IsHonest}
+use Rattle.leveldb_version.specs.Holds.{IsHonest}
 use Rattle.rusty_leveldb.specs.Runs as machine
 use Rattle.rusty_leveldb.specs.Runs.{Ending, goes_on, crashes, Lives, new_state}
 use Rattle.rusty_leveldb.specs.Serves.{Reads, Represents, IsConversation, refusal_of}

@@ -2,7 +2,7 @@
 -- store doesn't depend on.
 use Rattle.std.specs.Prelude.{◌≡◌, ℕ, Bool, false, List}
 use Rattle.leveldb_env.specs.Env.{Files, FilesCrashTo, SameBut}
-use Rattle.rusty_leveldb.specs.Contents.{Contents}
+use Rattle.leveldb_version.specs.Contents.{Contents}
 use Rattle.rusty_leveldb.specs.State.{State}
 use Rattle.rusty_leveldb.specs.Machine.{Risk}
 use Rattle.rusty_leveldb.specs.Serves.{IsSpared}

@@ -12,9 +12,9 @@ pub fn files_have_one_reading()
 {}
 
 /// Wherever an honest crash comes, between two requests or at a safe moment inside one, what it leaves is a store from which the next life
-/// begins: a beginning of the batches handed on, whole ones only, with all that was covered; and so again if the next life is
+/// begins: a prefix of the batches handed on, whole ones only, with all that was covered; and so again if the next life is
 /// cut short.
-pub fn crashes_leave_a_beginning()
+pub fn crashes_leave_a_prefix()
     ensures between { CrashBetween }
     ensures inside { CrashInside }
 {}

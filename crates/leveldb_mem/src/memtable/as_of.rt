@@ -21,7 +21,7 @@ impl<'a, C: Cmp> Probe for AsOf<'a, C> {
         (nat_cmp it.sequence (sequence_part (inner_key key)))) };
 
     #[inline]
-    fn is_behind(&self, key: &[u8]) -> bool {
+    fn is_after(&self, key: &[u8]) -> bool {
         let (user, sequence) = split_sequence(front_key(key));
         self.cmp
             .cmp(user, self.key)

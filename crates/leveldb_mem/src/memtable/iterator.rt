@@ -1,8 +1,9 @@
 //! A walk over the entries of a memtable.
-ghost use Rattle.std.specs.Prelude.{◌<◌, length, map};
+ghost use Rattle.std.specs.Prelude.{map};
 ghost use Rattle.std.specs.Ordering.{is_lt};
 ghost use Rattle.std.specs.Option.{ForSome};
 ghost use Rattle.leveldb_base.specs.KeyTypes.{inner_key, internal_cmp};
+ghost use Rattle.leveldb_mem.specs.SkipMap.{HasNode, position_of};
 ghost use Rattle.leveldb_mem.specs.MemTable.{internal_pair};
 
 use crate::memtable::MemTable;
@@ -24,7 +25,7 @@ impl<'a, C: Cmp> Probe for AtInternalKey<'a, C> {
         is_lt (internal_cmp (C.cmp it.cmp.now) (inner_key key) it.key.now) };
 
     #[inline]
-    fn is_behind(&self, key: &[u8]) -> bool {
+    fn is_after(&self, key: &[u8]) -> bool {
         cmp_internal_key(self.cmp, front_key(key), self.key).is_lt()
     }
 }
@@ -34,9 +35,9 @@ impl<'a, C: Cmp> Probe for AtInternalKey<'a, C> {
 #[derive(Drop)]
 pub struct MemtableIterator<'a, C: Cmp> {
     pub(crate) table: &'a MemTable<C>,
-    pub(crate) position: Option<usize>,
-    ghost within: { ForSome position
-        (λ i. i < length (map internal_pair table.now.kept.entries)) },
+    pub(crate) node: Option<usize>,
+    ghost within: { ForSome node
+        (HasNode table.now.nodes (map internal_pair table.now.kept.entries)) },
 }
 
 impl<'a, C: UserCmp> LdbIterator for MemtableIterator<'a, C> {
@@ -44,51 +45,46 @@ impl<'a, C: UserCmp> LdbIterator for MemtableIterator<'a, C> {
 
     ghost pairs = { λ it. map internal_pair it.table.now.kept.entries };
 
-    ghost position = { λ it. it.position };
+    ghost position = { λ it. position_of it.table.now.nodes it.node };
 
     ghost order = { λ it. internal_cmp (C.cmp it.table.now.cmp) };
 
     ghost fails = { λ _ _ _. ⊥ };
 
     fn advance(&mut self) -> Result<bool> {
-        let end = self.table.pair_count();
-        let next = match self.position {
-            None => 0,
-            Some(i) => i + 1,
+        self.node = match self.node {
+            None => self.table.first(),
+            Some(node) => self.table.after(node),
         };
-        let there = next < end;
-        self.position = if there { Some(next) } else { None };
-        Ok(there)
+        Ok(self.node.is_some())
     }
 
     fn prev(&mut self) -> Result<bool> {
-        self.position = match self.position {
-            Some(i) if i > 0 => Some(i - 1),
-            _ => None,
+        self.node = match self.node {
+            None => None,
+            Some(node) => self.table.previous(node),
         };
-        Ok(self.position.is_some())
+        Ok(self.node.is_some())
     }
 
     fn seek(&mut self, key: &[u8]) -> Result<()> {
-        let at = self.table.pairs_before(key);
-        let end = self.table.pair_count();
-        self.position = if at < end { Some(at) } else { None };
+        self.node = self.table.first_at(key);
         Ok(())
     }
 
     fn current(&self) -> Option<(&[u8], &[u8])> {
-        match self.position {
+        match self.node {
             None => None,
-            Some(i) => Some(self.table.pair(i)),
+            Some(node) => Some(self.table.pair(node)),
         }
     }
 
     fn reset(&mut self) {
-        self.position = None;
+        self.node = None;
     }
 
     fn valid(&self) -> bool {
-        self.position.is_some()
+        self.node.is_some()
     }
 
     ghost in_range = { λ it. Prim.search rules };

@@ -8,7 +8,7 @@ use Rattle.leveldb_mem.specs.Log.Writer.{WriterState}
 use Rattle.leveldb_base.specs.Error.{IsOutOfMemory}
 use Rattle.leveldb_env.proofs.EnvLemmas.{bytes_eq-same, bytes_eq-apart}
 use Rattle.rusty_leveldb.specs.OneLog.{log_path, IsRead}
-use Rattle.rusty_leveldb.specs.Names.{lock_path}
+use Rattle.leveldb_version.specs.Paths.{lock_path}
 use Rattle.rusty_leveldb.specs.Recent.{Numbered}
 use Rattle.rusty_leveldb.specs.Serves.{Reads, IsUnreadable, SparesOthers}
 use Rattle.rusty_leveldb.specs.Engine.{OpenExcused}

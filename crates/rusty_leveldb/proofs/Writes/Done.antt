@@ -14,9 +14,9 @@ use Rattle.leveldb_mem.specs.Log.Writer.{after_frame}
 use Rattle.leveldb_mem.specs.WriteBatch.{batch_of}
 use Rattle.rusty_leveldb.specs.declared.db_impl.engine.Mode.TheVariants.{Open}
 use Rattle.rusty_leveldb.specs.declared.db_impl.engine.Engine.{Engine}
-use Rattle.rusty_leveldb.specs.Names.{lock_path}
+use Rattle.leveldb_version.specs.Paths.{lock_path}
 use Rattle.rusty_leveldb.specs.OneLog.{log_path}
-use Rattle.rusty_leveldb.specs.Holds.{Holds}
+use Rattle.leveldb_version.specs.Holds.{Holds}
 use Rattle.rusty_leveldb.specs.Recent.{Inserts}
 use Rattle.rusty_leveldb.specs.State.{State, IsState, SuitsMode, write, done}
 use Rattle.rusty_leveldb.specs.Machine.{MayCover, StepIn}
@@ -27,7 +27,7 @@ use Rattle.rusty_leveldb.proofs.Histories.{entries_more, placed_above, up_to_gre
 use Rattle.rusty_leveldb.proofs.OneLog.Appending.{bytes_append, batch_some}
 use Rattle.rusty_leveldb.proofs.OneLog.Writing.{appended_holds, synced_holds}
 use Rattle.rusty_leveldb.proofs.Others.{beside_but, others_but_log}
-use Rattle.rusty_leveldb.proofs.Writes.Stands.{IsStored, stored, IsOpen}
+use Rattle.rusty_leveldb.proofs.Writes.Stands.{IsOpen}
 use Rattle.rusty_leveldb.proofs.Writes.Moments.{risk_behind, append_moments, synced_moments, done_moments}
 use Rattle.rusty_leveldb.proofs.Writes.Batches.{placed_last, not_long, same_set, same_by}
 use Rattle.rusty_leveldb.proofs.Writes.Append.{IsNext, batch, longer, frame, longer_history, longer_reached}
@@ -65,7 +65,7 @@ module _ {E C FP F I : Type 0} {D : I → Type 0} (env : Ghosts E F) (store : Li
     pub there : (env.observed to).disk.files (log_path store) ≡ Some file
     pub since : AreBytes file.since
     pub bytes_are : bytes_of file ≡ bytes_of was.writes.file ++ the_frame
-    pub holds : Holds store (Reads store) (env.observed to).disk.files the_longer (old.last + length items) covered None
+    pub holds : Holds store (Reads store) (λ there. there ≡ old.store) (env.observed to).disk.files the_longer (old.last + length items) covered None
     pub but : SameBut (log_path store) (env.observed from).disk.files (env.observed to).disk.files
 
   -- memory has the batch
@@ -108,15 +108,10 @@ module _ {E C FP F I : Type 0} {D : I → Type 0} (env : Ghosts E F) (store : Li
       mode = subst (λ m. SuitsMode m new) (sym was.mode) (was.none, was.held);
     }
 
-    here : IsStored store old.store (env.observed to).disk.files
-    here = stored store old.store (env.observed to).disk.files wrote.file the_longer (old.last + length items) wrote.covered None was.made_is wrote.there wrote.holds
-
     stands : StandsFor store (Reads store) (env.observed to).disk new
     stands = record {
       is_state = is_state;
-      holds = subst (λ p. Holds store (Reads store) (env.observed to).disk.files the_longer (old.last + length items) wrote.covered p) (sym was.none) wrote.holds;
-      has_store = here.has;
-      keeps = here.keeps;
+      holds = subst (λ p. Holds store (Reads store) (λ there. there ≡ old.store) (env.observed to).disk.files the_longer (old.last + length items) wrote.covered p) (sym was.none) wrote.holds;
       locked = ap (λ locked. locked (lock_path store)) added.locks ∙ was.disk_is.locked;
     }
 
@@ -215,6 +210,6 @@ module _ {E C FP F I : Type 0} {D : I → Type 0} (env : Ghosts E F) (store : Li
       mid_there : mid (log_path store) ≡ Some grown
       mid_there = ap (λ (f : Files). f (log_path store)) first ∙ extended-same (log_path store) the_frame (env.observed from).disk.files was.writes.file was.writes.there
 
-      mid_holds : Holds store (Reads store) mid the_longer (old.last + length items) old.covered None
+      mid_holds : Holds store (Reads store) (λ there. there ≡ old.store) mid the_longer (old.last + length items) old.covered None
       mid_holds = appended_holds store (env.observed from).disk.files was.writes.file was.writes.there was.writes.since old.history old.last old.covered was.holds was.disk_is.is_state.covered was.disk_is.is_state.reached
           was.writes.records was.writes.ends items bytes next.is_batch next.first_fits next.all_fit mid first

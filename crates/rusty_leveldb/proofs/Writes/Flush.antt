@@ -13,9 +13,9 @@ use Rattle.leveldb_mem.specs.Log.{log_block_size, clean, IsLogFile}
 use Rattle.leveldb_mem.specs.Log.Writer.{Flushes}
 use Rattle.rusty_leveldb.specs.declared.db_impl.engine.Mode.TheVariants.{Open, Broken}
 use Rattle.rusty_leveldb.specs.declared.db_impl.engine.Engine.{Engine}
-use Rattle.rusty_leveldb.specs.Names.{lock_path}
+use Rattle.leveldb_version.specs.Paths.{lock_path}
 use Rattle.rusty_leveldb.specs.OneLog.{log_path}
-use Rattle.rusty_leveldb.specs.Holds.{Holds}
+use Rattle.leveldb_version.specs.Holds.{Holds}
 use Rattle.rusty_leveldb.specs.State.{State, SuitsMode, open_mode, broken, flush, Answer, done, refused}
 use Rattle.rusty_leveldb.specs.Causes.{Faults, out_of_memory, device_failed}
 use Rattle.rusty_leveldb.specs.Machine.{Breaks, StepIn, Responds}
@@ -24,7 +24,7 @@ use Rattle.rusty_leveldb.specs.Engine.{scene, Recalls, mode_of}
 use Rattle.rusty_leveldb.proofs.OneLog.Writing.{synced_holds}
 use Rattle.rusty_leveldb.proofs.Others.{beside_but, but_same, others_but_log, bytes_same, bytes_synced}
 use Rattle.rusty_leveldb.proofs.Writes.Moments.{risk_at, sync_moments, with_none}
-use Rattle.rusty_leveldb.proofs.Writes.Stands.{Fails, fails, IsStored, stored, Was, IsOpen, is_open, IsStill, remembers_still, broken_with, Broke, broken_is}
+use Rattle.rusty_leveldb.proofs.Writes.Stands.{Fails, fails, Was, IsOpen, is_open, IsStill, remembers_still, broken_with, Broke, broken_is}
 
 module _ {E C FP F I : Type 0} {D : I → Type 0} (env : Ghosts E F) (cmp : List ℕ → List ℕ → Ordering) (store : List ℕ) (engine after : Engine E C FP F I D) (from to : E) (old : State) (was : IsOpen env store engine from old) where
   abbrev Flushed : Answer → Type 0
@@ -86,11 +86,8 @@ module _ {E C FP F I : Type 0} {D : I → Type 0} (env : Ghosts E F) (cmp : List
       same_bytes : bytes_of file ≡ bytes_of was.writes.file
       same_bytes = append-nil (bytes_of was.writes.file)
 
-      holds : Holds store (Reads store) (env.observed to).disk.files old.history old.last (length old.history) None
+      holds : Holds store (Reads store) (λ there. there ≡ old.store) (env.observed to).disk.files old.history old.last (length old.history) None
       holds = synced_holds store (env.observed from).disk.files old.history old.last old.covered was.holds was.disk_is.is_state.covered (env.observed to).disk.files files
-
-      here : IsStored store old.store (env.observed to).disk.files
-      here = stored store old.store (env.observed to).disk.files file old.history old.last (length old.history) None was.made_is there holds
 
       stands : StandsFor store (Reads store) (env.observed to).disk new
       stands = record {
@@ -102,9 +99,7 @@ module _ {E C FP F I : Type 0} {D : I → Type 0} (env : Ghosts E F) (cmp : List
           held = was.disk_is.is_state.held;
           mode = subst (λ m. SuitsMode m new) (sym was.mode) (was.none, was.held);
         };
-        holds = subst (λ p. Holds store (Reads store) (env.observed to).disk.files old.history old.last (length old.history) p) (sym was.none) holds;
-        has_store = here.has;
-        keeps = here.keeps;
+        holds = subst (λ p. Holds store (Reads store) (λ there. there ≡ old.store) (env.observed to).disk.files old.history old.last (length old.history) p) (sym was.none) holds;
         locked = ap (λ locked. locked (lock_path store)) locks ∙ was.disk_is.locked;
       }
 
@@ -143,7 +138,6 @@ module _ {E C FP F I : Type 0} {D : I → Type 0} (env : Ghosts E F) (cmp : List
   flush_step (Err status) same_mode broke_mode synced_now =
       let sync = synced_now.flushed in
       let same = sync.undone modelled in
-      let there : (env.observed to).disk.files (log_path store) ≡ Some was.writes.file = ap (λ (f : Files). f (log_path store)) same ∙ was.writes.there in
       flush_refused env cmp store engine after from to old was status (sync_moments env store engine from old was to modelled sync.does) sync.cause.later
       (fails env.models_disk (env.name_of engine.log) (env.observed from) was.writes.file (env.failures from) (env.failures to) status (ap (env.observed from).disk.files was.writes.name ∙ was.writes.there) sync.cause)
       same (record {
@@ -151,9 +145,7 @@ module _ {E C FP F I : Type 0} {D : I → Type 0} (env : Ghosts E F) (cmp : List
         mode = broke_mode;
         history = subst (λ p. IsHistory (with_batch old.history p)) was.none was.disk_is.is_state.history;
         reached = omega (arith, was.disk_is.is_state.reached);
-        holds = subst (λ f. Holds store (Reads store) f old.history old.last old.covered None) (sym same) was.holds;
-        file = was.writes.file;
-        there = there;
+        holds = subst (λ f. Holds store (Reads store) (λ there. there ≡ old.store) f old.history old.last old.covered None) (sym same) was.holds;
         locks = sync.locks modelled;
         but = but_same (log_path store) (env.observed from).disk.files (env.observed to).disk.files same;
       })
