@@ -1,5 +1,5 @@
 -- Calls that read a table's file, one after another.
-use Rattle.std.proofs.Common.{◌≡◌, ◌≢◌, ◌⊎◌, ℕ, List, Result, Ok, Err, refl, sym, ◌∙◌, ap, subst, inl, inr, ⊎_elim, arith, ◌+◌, ◌-◌, ◌≤◌, ◌<◌, ◌^◌, [], ◌++◌, length, take, drop, Option, None, Some, length-append, length-drop}
+use Rattle.std.proofs.Common.{◌≡◌, ◌⊎◌, ℕ, List, Result, Ok, Err, refl, sym, ◌∙◌, ap, subst, inl, inr, ⊎_elim, arith, ◌+◌, ◌-◌, ◌≤◌, ◌<◌, ◌^◌, [], ◌++◌, length, take, drop, Option, None, Some, length-append, length-drop}
 use Rattle.std.specs.Prelude.{IfErr, IsTrue, IsSomeAnd, IsErrAnd}
 use Rattle.std.proofs.Math.Seq.{take-add, take-append-add}
 use Rattle.std.proofs.lemmas.List.{drop-drop, length-take-le, take_all, take_at, take-append-le}
@@ -25,9 +25,10 @@ pub damaged_or_memory : {T Missing : Type 0} (result : Result T Status) → (IsE
 damaged_or_memory (Ok answer) missing cause = tt
 damaged_or_memory (Err status) missing cause = ⊎_elim (λ code. inr (code, missing code)) (λ memory. inl memory) cause
 
-missing_clash : {bytes : List ℕ} {found : Option File} → found ≡ None → IsSomeAnd found (λ file. bytes_of file ≡ bytes) → ⊥
-missing_clash {found = None} none there = there
-missing_clash {found = Some file} none there = cc
+-- a file that is missing has no bytes
+missing_clash : (bytes : List ℕ) (found : Option File) → found ≡ None → IsSomeAnd found (λ file. bytes_of file ≡ bytes) → ⊥
+missing_clash bytes None none there = there
+missing_clash bytes (Some file) none there = cc
 
 module _ {E F : Type 0} (env : Ghosts E F) where
   -- ---- looking
@@ -92,18 +93,8 @@ module _ {E F : Type 0} (env : Ghosts E F) where
     ok = tt;
     uncounted = λ excuse. ⊎_elim (λ memory. absurd (cc)) (λ own. own.0) excuse;
     cause = ⊎_elim
-        (λ missing. inl (inr (cause.uncounted missing, (damaged, λ bytes has. ⊎_elim (λ memory. cc) (λ none. missing_clash (none.1 has.modelled) has.there) missing))))
+        (λ missing. inl (inr (cause.uncounted missing, (damaged, λ bytes has. ⊎_elim (λ memory. cc) (λ none. missing_clash bytes _ (none.1 has.modelled) has.there) missing))))
         (λ counted. inr counted) cause.cause;
-  }
-
-  -- one that says another cause
-  pub fails_call : {T : Type 0} {Why : Status → Type 0} {old new : E} {file : F} (status : Status) → status.code ≢ NotFound
-      → HasCause {T = T} (IsMissing env.models_disk (env.name_of file) (env.observed old)) (env.failures old) (env.failures new) (Err status) → FailsFor env {T = T} Why old new (Err status)
-  fails_call status other cause = record {
-    later = cause.later;
-    ok = tt;
-    uncounted = λ excuse. ⊎_elim (λ memory. cause.uncounted (inl memory)) (λ own. own.0) excuse;
-    cause = ⊎_elim (λ missing. ⊎_elim (λ memory. inl (inl memory)) (λ none. absurd (other none.0)) missing) (λ counted. inr counted) cause.cause;
   }
 
   -- a call after Ok ones, whose reason is one of the whole's

@@ -581,3 +581,13 @@ PutsEnd-all puts flushes {id = id} end =
       put = end.put;
       joined = is.encoded ∙ ap (λ z. with_trailer 0 is.filters ++ (with_trailer id is.meta_stored ++ (with_trailer id is.index_stored ++ z))) (sym (append-nil (footer_bytes is.meta is.index)));
     }
+
+-- and by whatever equal choices it was put
+pub PutsEnd-same : {FP S : Type 0} (puts : S → List ℕ → Result (Unit {0}) Status → S → Type 0) (flushes : S → Result (Unit {0}) Status → S → Type 0) {Decodes : ℕ → List ℕ → List ℕ → Type 0}
+    {cmp other : List ℕ → List ℕ → Ordering} (make : FP → List (List ℕ) → List ℕ) (name : FP → List ℕ) {id other_id : ℕ} {policy other_policy : FP} {stage : Stage FP} {from : S} {size : ℕ} {to : S}
+    → cmp ≡ other → policy ≡ other_policy → id ≡ other_id → PutsEnd puts flushes Decodes cmp (make policy) id (name policy) stage from size to
+    → PutsEnd puts flushes Decodes other (make other_policy) other_id (name other_policy) stage from size to
+PutsEnd-same puts flushes {Decodes} {cmp} {other} make name {id} {other_id} {policy} {other_policy} {stage} {from} {size} {to} ordered same_policy same_id end =
+    subst (λ n. PutsEnd puts flushes Decodes other (make other_policy) n (name other_policy) stage from size to) same_id
+    (subst (λ p. PutsEnd puts flushes Decodes other (make p) id (name p) stage from size to) same_policy
+    (subst (λ o. PutsEnd puts flushes Decodes o (make policy) id (name policy) stage from size to) ordered end))

@@ -299,7 +299,7 @@ module _ {C : Type 0} {order : CmpGhosts C} where
           }
 
   -- where the filters let the key pass or not at the handle of the line
-  pub let_by : {codings : Codings} {cmp : List ℕ → List ℕ → Ordering} {bytes : List ℕ} {parts : List Part} (index : BlockWalk C order) (key line_key value : List ℕ) (handle : Handle) (lets : ℕ → List ℕ → Bool) (b : Bool)
+  pub let_by : {codings : Codings} {accepts : List ℕ → Bool} {cmp : List ℕ → List ℕ → Ordering} {bytes : List ℕ} {parts : List Part} (index : BlockWalk C order) (key line_key value : List ℕ) (handle : Handle) (lets : ℕ → List ℕ → Bool) (b : Bool)
       → HasParts codings accepts cmp bytes parts → pairs_over index ≡ map index_pair parts → seek_position cmp (map index_pair parts) key ≡ position_over index → pair_at (pairs_over index) (position_over index) ≡ Some (line_key, value)
       → value ≡ handle_bytes handle → lets handle.offset key ≡ b → let_position cmp lets key parts ≡ (if b then seek_position cmp (pairs_in parts) key else None)
   let_by {cmp = cmp} {parts = parts} index key line_key value handle lets b has lines sought is names passes =

@@ -5,7 +5,7 @@ use Rattle.leveldb_env.specs.contracts.compressor.CompressorListCompressors.TheI
 use Rattle.leveldb_env.proofs.FilterBlockLemmas.{keeps_keys}
 use Rattle.leveldb_table.specs.TableBuilder.{stage}
 use Rattle.leveldb_table.proofs.TableLemmas.{IfErr-with}
-use Rattle.leveldb_table.proofs.TableBuilderFinishLemmas.{refused_with, stops_unset_at, table_made, PutsEnd-all}
+use Rattle.leveldb_table.proofs.TableBuilderFinishLemmas.{refused_with, stops_unset_at, table_made, PutsEnd-all, PutsEnd-same}
 use Rattle.leveldb_table.proofs.table_builder.builder_core.BuilderCore.finish.Goals as goal
 
 pub returns-in_err-check_unbroken-clause-cause : goal.returns-in_err-check_unbroken-clause-cause
@@ -58,5 +58,9 @@ returns-clause-ok g c =
 
 pub returns-clause-pieces : goal.returns-clause-pieces
 returns-clause-pieces g c =
-    let end = rw (c.in_ok-close_last.ensures.order, c.close_last.ensures.policy, c.close_last.ensures.compressor) at c.put_end.ensures.ok in
-    IfOk-weaker c.put_end.result _ _ (λ size end. record { last = stage c.close_last.new.self; mid = c.close_last.new.sink; closed = c.in_ok-close_last.ensures.rest; ended = end }) end
+    IfOk-weaker c.put_end.result _ _ (λ size end. record {
+      last = stage c.close_last.new.self;
+      mid = c.close_last.new.sink;
+      closed = c.in_ok-close_last.ensures.rest;
+      ended = PutsEnd-same g.S.Sink.puts g.S.Sink.flushes g.FP.FilterPolicy.filter_for g.FP.FilterPolicy.name c.in_ok-close_last.ensures.order c.close_last.ensures.policy c.close_last.ensures.compressor end;
+    }) c.put_end.ensures.ok
