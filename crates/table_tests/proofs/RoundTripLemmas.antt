@@ -1,6 +1,6 @@
 -- What a table's builder, its file, its look-ups and its walks make of a list of pairs.
 use Rattle.std.proofs.Common.{◌≡◌, ◌≢◌, ◌⊎◌, ℕ, ◌+◌, ◌-◌, ◌<◌, ◌≤◌, ◌^◌, Bool, true, false, List, [], ◌∷◌, ◌++◌, length, take, Option, None, Some, Result, Ok, Err, refl, sym, ◌∙◌, ap, subst, inl, inr, ⊎_elim, arith, zero, suc, map, nat_lt, append_assoc}
-use Rattle.std.specs.Prelude.{is_some, IfOk, OnOk, IfSome, IsTrue, flat_map}
+use Rattle.std.specs.Prelude.{is_some, IsSomeAnd, IfOk, OnOk, IfSome, IsTrue, flat_map}
 use Rattle.std.specs.List.{slice_get}
 use Rattle.std.specs.Option.{option_map}
 use Rattle.std.proofs.lemmas.Bool.{lt-ltb}
@@ -15,23 +15,23 @@ use Rattle.leveldb_base.specs.declared.error.Status.{Status}
 use Rattle.leveldb_env.proofs.EnvLemmas.{at_same, extended-same, synced-same}
 use Rattle.leveldb_env.proofs.EnvFileLemmas.{IsLonger-borrowed}
 use Rattle.leveldb_env.specs.Compressor.{Codings, Decodes}
-use Rattle.leveldb_env.specs.Env.{ChangesFiles, BeforeOrAfter, emptied, extended, synced, kept_file, longer_file, Files}
+use Rattle.leveldb_env.specs.Env.{ChangesFiles, BeforeOrAfter, FilesUnchanged, same, bytes_of, emptied, extended, synced, kept_file, longer_file, Files}
 use Rattle.leveldb_env.specs.EnvFile.{Opened, opened, IsLonger, Syncs, ChangesBorrowedFile, AppendsBorrowed, SyncsBorrowed, done}
 use Rattle.leveldb_env.specs.FilterBlock.{FiltersRead, passes}
 use Rattle.leveldb_env.specs.Sink.{PutsAll}
 use Rattle.leveldb_env.proofs.SinkLemmas.{PutsAll-none, PutsAll-trans}
 use Rattle.leveldb_env.specs.declared.env.Env.{Ghosts as EnvGhosts}
 use Rattle.leveldb_env.specs.declared.env.env_file.EnvFile.{EnvFile}
-use Rattle.leveldb_table.proofs.BlockCacheLemmas.{HoldsOnlyOf-after}
+use Rattle.leveldb_table.proofs.BlockCacheLemmas.{HoldsOnlyOf-after, HoldsOnlyOf-new}
 use Rattle.leveldb_table.proofs.TableBlockLemmas.{FileHas-after}
 use Rattle.leveldb_table.proofs.TableReaderLemmas.{index_read, parts_there, opened_pass, refused_there, named_line}
 use Rattle.leveldb_table.proofs.TableReaderWalkLemmas.{first_is, seek_none, position_in, position_out, some_none}
-use Rattle.leveldb_table.specs.BlockCache.{HoldsOnlyOf, GainsBlocks, IsBlockOfFile}
+use Rattle.leveldb_table.specs.BlockCache.{HoldsOnlyOf, GainsBlocks, IsBlockOfFile, IsNumbered}
 use Rattle.leveldb_table.specs.Cache.{Cached}
 use Rattle.leveldb_table.specs.Table.{Part, index_pair, named_part, first_from, IsTable, AllPass, filter_key}
 use Rattle.leveldb_table.specs.TableBlock.{FileHas, ForBytesOf, KeepsDisk}
 use Rattle.leveldb_table.specs.TableBuilder.{MatchesByUser, AddsPair, IsBuiltTable}
-use Rattle.leveldb_table.specs.TableReader.{HasParts, KeepsUsersTogether, HasNoneFrom, pairs_in, found_in, lines_of, filters_in, lets}
+use Rattle.leveldb_table.specs.TableReader.{HasParts, KeepsUsersTogether, HasNoneFrom, pairs_in, found_in, lines_of, filters_in, filters_of, lets, OpensAs}
 use Rattle.leveldb_table.specs.TableReaderWalk.{MovesInTable, IsAtPosition, Outcome, inner_position, pairs_over}
 use Rattle.leveldb_table.specs.declared.block_cache.CachedBlock.{CachedBlock}
 use Rattle.leveldb_table.specs.declared.table_reader.Table.{Table}
@@ -98,6 +98,35 @@ module _ {E F : Type 0} (env : EnvGhosts E F) where
       let synced_is : (env.observed new.env).disk.files ≡ synced name (env.observed mid.env).disk.files =
       built.synced.does.ok modelled ∙ ap (λ n. synced n (env.observed mid.env).disk.files) named_mid in
       ap (λ (f : Files). f name) synced_is ∙ synced-same name (env.observed mid.env).disk.files (longer_file bytes (kept_file [])) at2
+
+  -- the file that is opened has them
+  has_file : {T : Type 0} {name : List ℕ} {old mid : E} {file : F} {answer : T} → ChangesFiles env.models_disk same FilesUnchanged (env.observed old) (env.observed mid) (Ok answer) → (IsTrue env.models_disk → env.name_of file ≡ name) → (bytes : List ℕ)
+      → IsTrue env.models_disk → (env.observed old).disk.files name ≡ Some (kept_file bytes) → length bytes < 2 ^ 64 → FileHas env mid file bytes
+  has_file {name = name} {mid = mid} does named bytes modelled there fits =
+      let found = ap (env.observed mid).disk.files (named modelled) ∙ ap (λ (f : Files). f name) (does.ok modelled) ∙ there in
+      record { modelled = modelled; there = subst (λ z. IsSomeAnd z (λ f. bytes_of f ≡ bytes)) (sym found) (append-nil bytes); fits = fits }
+
+  -- so the table is open that it is
+  pub opens_so : {T C FP : Type 0} {order : CmpGhosts C} {codings : Codings} {c : C} {policy : FP} {key name : List ℕ} {size : ℕ} {old mid new : E} {file : F} {answer : T} {cache new_cache : Cached (CachedBlock C order)}
+      (result : Result (Table E C FP F order) Status)
+      → ChangesFiles env.models_disk same FilesUnchanged (env.observed old) (env.observed mid) (Ok answer) → (IsTrue env.models_disk → env.name_of file ≡ name) → KeepsDisk env mid new
+      → IfOk result (λ table. ForBytesOf env mid file (λ bytes. OpensAs codings (order.cmp c) (filter_key key) bytes size (lines_of table) table.footer.meta_index table.footer.index (filters_of table)))
+      → IfOk result (λ table. table.file ≡ file) → IfOk result (λ table. (table.cmp ≡ c) × (table.index.cmp ≡ c)) → IfOk result (λ table. IfSome table.filters (λ reader. reader.policy ≡ policy))
+      → IfOk result (λ table. (table.id ≡ cache.given + 1) × (new_cache ≡ record cache { given = table.id })) → IfOk result (λ table. table.id < 2 ^ 64)
+      → IfOk result (λ table. (bytes : List ℕ) → IsTrue env.models_disk → (env.observed old).disk.files name ≡ Some (kept_file bytes) → length bytes < 2 ^ 64 → IsNumbered cache
+      → IsOpen env codings c policy key bytes size new new_cache table)
+  opens_so {order = order} {codings} {c} {new = new} {cache = cache} (Ok table) does named kept opens file_is ordered policy_is id_is fits = λ bytes modelled there long numbered.
+      let has = has_file does named bytes modelled there long in
+      let given_is = id_is.0 in
+      let holds : HoldsOnlyOf codings (order.cmp c) table.id bytes cache = HoldsOnlyOf-new cache fits (omega (arith, given_is)) numbered in
+      record {
+        file = subst (λ f. FileHas env new f bytes) (sym file_is) (FileHas-after env kept has);
+        opens = opens bytes has;
+        ordered = ordered;
+        policy_is = policy_is;
+        holds = subst (HoldsOnlyOf codings (order.cmp c) table.id bytes) (sym id_is.1) holds;
+      }
+  opens_so (Err status) does named kept opens file_is ordered policy_is id_is fits = tt
 
 -- ---- look-ups
 

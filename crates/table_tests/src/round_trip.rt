@@ -108,7 +108,7 @@ fn open_file<E: Env, C: Cmp + Copy + Drop, FP: FilterPolicy + Copy + Drop>(
     name: &str,
     size: usize,
 ) -> Result<Table<E, C, FP>>
-    ensures disk { OnOk result (KeepsDisk E.Env env.old env.new) }
+    ensures disk { KeepsDisk E.Env env.old env.new }
     ensures open { IfOk result (λ table. (bytes : List ℕ) → IsTrue E.models_disk
         → (E.observed env.old).disk.files name.now ≡ Some (kept_file bytes)
         → length bytes < 2 ^ 64 → IsNumbered cache.old
@@ -238,7 +238,10 @@ fn walks<E: Env, C: Cmp + Copy + Drop, FP: FilterPolicy + Copy + Drop>(
 {
     let compressors = &options.compressor_list;
     let mut it = table.iter(alloc, env, cache)?;
-    Ok(goes_forward(&mut it, compressors, pairs)? && goes_back(&mut it, compressors, pairs)?)
+    if !goes_forward(&mut it, compressors, pairs)? {
+        return Ok(false);
+    }
+    goes_back(&mut it, compressors, pairs)
 }
 
 /// Builds a table of pairs into a file, opens it, looks a key up, and walks over it both ways.
