@@ -1,11 +1,12 @@
 -- What a table's builder, its file, its look-ups and its walks make of a list of pairs.
-use Rattle.std.proofs.Common.{◌≡◌, ◌≢◌, ◌⊎◌, ℕ, ◌+◌, ◌-◌, ◌<◌, ◌≤◌, ◌^◌, Bool, true, false, List, [], ◌∷◌, ◌++◌, length, take, Option, None, Some, Result, Ok, Err, refl, sym, ◌∙◌, ap, subst, inl, inr, ⊎_elim, arith, zero, suc, map, nat_lt, append_assoc}
+use Rattle.std.proofs.Common.{◌≡◌, ◌≢◌, ◌⊎◌, ℕ, ◌+◌, ◌-◌, ◌<◌, ◌≤◌, ◌^◌, Bool, true, false, List, [], ◌∷◌, ◌++◌, length, take, get_or, Option, None, Some, Result, Ok, Err, refl, sym, ◌∙◌, ap, subst, inl, inr, ⊎_elim, arith, zero, suc, map, nat_lt, append_assoc, if◌then◌else◌}
 use Rattle.std.specs.Prelude.{is_some, IsSomeAnd, IfOk, OnOk, IfSome, IsTrue, flat_map}
 use Rattle.std.specs.List.{slice_get}
 use Rattle.std.specs.Option.{option_map}
 use Rattle.std.proofs.lemmas.Bool.{lt-ltb}
-use Rattle.std.proofs.lemmas.Option.{slice_get_cases}
-use Rattle.std.proofs.lemmas.List.{append-nil}
+use Rattle.std.proofs.lemmas.Option.{slice_get_cases, slice_get-map, slice_get_read}
+use Rattle.std.proofs.lemmas.List.{append-nil, take_more, get_or-map, length-map}
+use Rattle.std.specs.Borrow.{Bor}
 use Rattle.std.specs.declared.cmp.Ordering.{Ordering}
 use Rattle.leveldb_base.specs.BlockHandle.{Handle}
 use Rattle.leveldb_base.specs.Cmp.{IsPreorderOn}
@@ -36,7 +37,7 @@ use Rattle.leveldb_table.specs.TableReaderWalk.{MovesInTable, IsAtPosition, Outc
 use Rattle.leveldb_table.specs.declared.block_cache.CachedBlock.{CachedBlock}
 use Rattle.leveldb_table.specs.declared.table_reader.Table.{Table}
 use Rattle.leveldb_table.specs.declared.table_reader.walk.TableCore.{TableCore}
-use Rattle.table_tests.specs.RoundTrip.{AddsAll, IsTableOf, PutsTable, AppendsSynced, GoesByUser, IsOpen, FindsFirst, IsWalkingAt}
+use Rattle.table_tests.specs.RoundTrip.{given, AddsAll, IsTableOf, PutsTable, AppendsSynced, GoesByUser, IsOpen, FindsFirst, IsWalkingAt}
 
 -- ---- into a sink
 
@@ -65,9 +66,9 @@ pub built_of : {C FP : Type 0} (codings : Codings) (accepts : C → List ℕ →
     {order c : C} {policy p : FP} {succ : List ℕ → List ℕ} {make : List (List ℕ) → List ℕ} {id interval index_interval : ℕ} {bytes : List ℕ} {pairs : List Pair} → order ≡ c → policy ≡ p
     → IsBuiltTable codings (accepts order) (cmp order) (sep order) succ (matches policy) make id (name policy) interval index_interval bytes pairs
     → IsTableOf codings (accepts c) (cmp c) (sep c) (matches p) (name p) pairs bytes
-built_of codings accepts cmp sep matches name {policy = policy} {p = p} {bytes = bytes} {pairs = pairs} ordered same built =
+built_of codings accepts cmp sep matches name {order = order} {p = p} {bytes = bytes} {pairs = pairs} ordered same built =
     subst (λ o. IsTableOf codings (accepts o) (cmp o) (sep o) (matches p) (name p) pairs bytes) ordered
-    (subst (λ q. IsTableOf codings (accepts _) (cmp _) (sep _) (matches q) (name q) pairs bytes) same (λ meaning user separated matched known. (built meaning user separated matched known).table))
+    (subst (λ q. IsTableOf codings (accepts order) (cmp order) (sep order) (matches q) (name q) pairs bytes) same (λ meaning user separated matched known. (built meaning user separated matched known).table))
 
 -- ---- into a file
 
@@ -107,7 +108,7 @@ module _ {E F : Type 0} (env : EnvGhosts E F) where
       record { modelled = modelled; there = subst (λ z. IsSomeAnd z (λ f. bytes_of f ≡ bytes)) (sym found) (append-nil bytes); fits = fits }
 
   -- so the table is open that it is
-  pub opens_so : {T C FP : Type 0} {order : CmpGhosts C} {codings : Codings} {c : C} {policy : FP} {key name : List ℕ} {size : ℕ} {old mid new : E} {file : F} {answer : T} {cache new_cache : Cached (CachedBlock C order)}
+  pub opens_so : {T C FP : Type 0} {order : CmpGhosts C} (codings : Codings) (c : C) (policy : FP) (key name : List ℕ) (size : ℕ) {old mid new : E} {file : F} {answer : T} (cache new_cache : Cached (CachedBlock C order))
       (result : Result (Table E C FP F order) Status)
       → ChangesFiles env.models_disk same FilesUnchanged (env.observed old) (env.observed mid) (Ok answer) → (IsTrue env.models_disk → env.name_of file ≡ name) → KeepsDisk env mid new
       → IfOk result (λ table. ForBytesOf env mid file (λ bytes. OpensAs codings (order.cmp c) (filter_key key) bytes size (lines_of table) table.footer.meta_index table.footer.index (filters_of table)))
@@ -115,7 +116,7 @@ module _ {E F : Type 0} (env : EnvGhosts E F) where
       → IfOk result (λ table. (table.id ≡ cache.given + 1) × (new_cache ≡ record cache { given = table.id })) → IfOk result (λ table. table.id < 2 ^ 64)
       → IfOk result (λ table. (bytes : List ℕ) → IsTrue env.models_disk → (env.observed old).disk.files name ≡ Some (kept_file bytes) → length bytes < 2 ^ 64 → IsNumbered cache
       → IsOpen env codings c policy key bytes size new new_cache table)
-  opens_so {order = order} {codings} {c} {new = new} {cache = cache} (Ok table) does named kept opens file_is ordered policy_is id_is fits = λ bytes modelled there long numbered.
+  opens_so {order = order} codings c policy key name size {new = new} cache new_cache (Ok table) does named kept opens file_is ordered policy_is id_is fits = λ bytes modelled there long numbered.
       let has = has_file does named bytes modelled there long in
       let given_is = id_is.0 in
       let holds : HoldsOnlyOf codings (order.cmp c) table.id bytes cache = HoldsOnlyOf-new cache fits (omega (arith, given_is)) numbered in
@@ -126,14 +127,14 @@ module _ {E F : Type 0} (env : EnvGhosts E F) where
         policy_is = policy_is;
         holds = subst (HoldsOnlyOf codings (order.cmp c) table.id bytes) (sym id_is.1) holds;
       }
-  opens_so (Err status) does named kept opens file_is ordered policy_is id_is fits = tt
+  opens_so codings c policy key name size cache new_cache (Err status) does named kept opens file_is ordered policy_is id_is fits = tt
 
 -- ---- look-ups
 
 -- where a position within a list has no pair, it is none
 no_pair : (pairs : List Pair) (n : ℕ) → pair_at pairs (position_within pairs n) ≡ None → position_within pairs n ≡ None
 no_pair pairs n none = ⊎_elim
-    (λ there. absurd (some_none (sym there.2.0 ∙ sym (ap (pair_at pairs) (position_in pairs n there.1)) ∙ none)))
+    (λ there. absurd (some_none (sym there.2 ∙ sym (ap (pair_at pairs) (position_in pairs n there.1)) ∙ none)))
     (λ past. position_out pairs n past.0) (slice_get_cases pairs n).1
 
 module _ {accepts : List ℕ → Bool} {cmp : List ℕ → List ℕ → Ordering} (order : IsPreorderOn accepts cmp) {codings : Codings} {bytes : List ℕ} {parts : List Part} (has : HasParts codings accepts cmp bytes parts)
@@ -227,15 +228,6 @@ module _ {E F C FP : Type 0} (env : EnvGhosts E F) {order : CmpGhosts C} (accept
         at = record { lines = lines ∙ (index_read built.tabled ready.opens).0; ordered = ap order.cmp (ordered ∙ ready.ordered.1); at = ap inner_position none };
       })
 
-  -- a walk at a pair says so, and one at none
-  pub is_there : {id : ℕ} {file : F} {cmp : List ℕ → List ℕ → Ordering} {fits : List ℕ → Bool} {bytes : List ℕ} {parts : List Part} {state : E} {cache : Cached (CachedBlock C order)} {core : TableCore C order} {n : ℕ}
-      → IsWalkingAt env codings fits cmp id file bytes parts state cache core (Some n) → is_some (inner_position core.inner) ≡ true
-  is_there walk = ap is_some walk.at.at.at_position
-
-  pub is_nowhere : {id : ℕ} {file : F} {cmp : List ℕ → List ℕ → Ordering} {fits : List ℕ → Bool} {bytes : List ℕ} {parts : List Part} {state : E} {cache : Cached (CachedBlock C order)} {core : TableCore C order}
-      → IsWalkingAt env codings fits cmp id file bytes parts state cache core None → is_some (inner_position core.inner) ≡ false
-  is_nowhere walk = ap is_some walk.at.at
-
 -- the position before the one after `n` pairs is that of the last of them
 pub previous_is : (n : ℕ) → 0 < n → previous_position (Some n) ≡ Some (n - 1)
 previous_is n some = ap (λ b. if b then Some (n - 1) else None) (lt-ltb 0 n some)
@@ -245,6 +237,15 @@ next_is pairs zero within = position_in pairs 0 within
 next_is pairs (suc n) within = ap (next_position pairs) (previous_is (suc n) (omega arith)) ∙ position_in pairs (suc n - 1 + 1) (omega (arith, within)) ∙ ap Some (omega arith)
 
 module _ {E F C : Type 0} (env : EnvGhosts E F) {order : CmpGhosts C} {codings : Codings} {accepts : List ℕ → Bool} {cmp : List ℕ → List ℕ → Ordering} {id : ℕ} {file : F} where
+  -- a walk at a pair says so, and one at none
+  pub is_there : {bytes : List ℕ} {parts : List Part} {state : E} {cache : Cached (CachedBlock C order)} {core : TableCore C order} {n : ℕ} → IsWalkingAt env codings accepts cmp id file bytes parts state cache core (Some n)
+      → is_some (inner_position core.inner) ≡ true
+  is_there walk = ap is_some walk.at.at.at_position
+
+  pub is_nowhere : {bytes : List ℕ} {parts : List Part} {state : E} {cache : Cached (CachedBlock C order)} {core : TableCore C order} → IsWalkingAt env codings accepts cmp id file bytes parts state cache core None
+      → is_some (inner_position core.inner) ≡ false
+  is_nowhere walk = ap is_some walk.at.at
+
   -- a move goes from one position to the next
   pub moves_on : {T : Type 0} {to : List Pair → Option ℕ → Option ℕ} {Step : Codings → (List ℕ → List ℕ → Ordering) → List ℕ → TableCore C order → Outcome → Type 0} {old_env new_env : E}
       {old_cache new_cache : Cached (CachedBlock C order)} {old new : TableCore C order} {bytes : List ℕ} {parts : List Part} {position : Option ℕ} (result : Result T Status)
@@ -258,3 +259,25 @@ module _ {E F C : Type 0} (env : EnvGhosts E F) {order : CmpGhosts C} {codings :
     at = moves.ok bytes at.has parts position at.parted tt at.holds at.at;
   }
   moves_on (Err status) moves at = tt
+
+-- the position before the one after some pairs is the last of them
+pub after_is : (n : ℕ) → previous_position (Some (n + 1)) ≡ Some n
+after_is n = previous_is (n + 1) (omega arith) ∙ ap Some (omega arith)
+
+-- ---- pairs of a list
+
+-- the next pair
+pub given_next : (pairs : List (Bor (List ℕ) × Bor (List ℕ))) (i : ℕ) (pair : Bor (List ℕ) × Bor (List ℕ)) → i < length pairs → pair ≡ get_or pairs i pair
+    → take (i + 1) (given pairs) ≡ take i (given pairs) ++ (pair.0.now, pair.1.now) ∷ []
+given_next pairs i pair within is =
+    let held : Pair = (pair.0.now, pair.1.now) in
+    take_more (given pairs) i held (omega (arith, length-map pairs (λ ref. (ref.0.now, ref.1.now)), within))
+    ∙ ap (λ z. take i (given pairs) ++ z ∷ []) (get_or-map (λ ref. (ref.0.now, ref.1.now)) pairs i pair held within ∙ ap (λ ref. (ref.0.now, ref.1.now)) (sym is))
+
+pub given_at : (pairs : List (Bor (List ℕ) × Bor (List ℕ))) (i : ℕ) (pair : Bor (List ℕ) × Bor (List ℕ)) → i < length pairs → pair ≡ get_or pairs i pair
+    → slice_get (given pairs) i ≡ Some (pair.0.now, pair.1.now)
+given_at pairs i pair within is = slice_get-map (λ ref. (ref.0.now, ref.1.now)) pairs i ∙ ap (option_map (λ ref. (ref.0.now, ref.1.now))) (slice_get_read pairs (length pairs) i pair refl within is)
+
+-- where a walk goes forward through them
+pub next_given : (pairs : List (Bor (List ℕ) × Bor (List ℕ))) (parts : List Part) (i : ℕ) → pairs_in parts ≡ given pairs → i < length pairs → next_position (pairs_in parts) (previous_position (Some i)) ≡ Some i
+next_given pairs parts i same within = next_is (pairs_in parts) i (omega (arith, ap length same, length-map pairs (λ ref. (ref.0.now, ref.1.now)), within))

@@ -1,15 +1,16 @@
 //! A table from outside: built of a list of pairs into a file, opened, looked up and walked over
 //! both ways, and what a caller knows then.
-ghost use Rattle.std.specs.Prelude.{◌≡◌, ◌+◌, ◌<◌, ℕ, List, length, true, None, Some, IfOk, OnOk, IsTrue};
+ghost use Rattle.std.specs.Prelude.{◌≡◌, ◌+◌, ◌<◌, ◌^◌, ℕ, List, length, true, None, Some, IfOk, OnOk, IsTrue};
 ghost use Rattle.leveldb_base.specs.KeyTypes.{user_part};
 ghost use Rattle.leveldb_base.specs.Types.{Pair, pair_of, previous_position};
 ghost use Rattle.leveldb_env.specs.Env.{kept_file};
+ghost use Rattle.leveldb_env.specs.EnvFile.{opened};
 ghost use Rattle.leveldb_table.specs.BlockCache.{IsNumbered};
 ghost use Rattle.leveldb_table.specs.Table.{Part};
 ghost use Rattle.leveldb_table.specs.TableBlock.{KeepsDisk, ForBytesOf};
 ghost use Rattle.leveldb_table.specs.TableBuilder.{IsBegun, KeepsChoices, order_of};
 ghost use Rattle.leveldb_table.specs.TableReader.{pairs_in};
-ghost use Rattle.table_tests.specs.RoundTrip.{given, AddsAll, IsTableOf, PutsTable, GoesByUser, IsOpen, FindsFirst, IsWalkingAt};
+ghost use Rattle.table_tests.specs.RoundTrip.{given, AddsAll, AppendsSynced, IsTableOf, PutsTable, GoesByUser, IsOpen, FindsFirst, IsWalkingAt};
 
 use crate::checks::Given;
 use bytes::Bytes;
@@ -75,7 +76,25 @@ fn build_into<S: Sink, C: Cmp + Copy + Drop, FP: FilterPolicy + Copy + Drop>(
     core.finish(sink, compressors)
 }
 
-/// Builds the table of these pairs into a file, and returns its length.
+/// Builds the table of these pairs into an open file, and returns its length.
+fn build_open<E: Env, C: Cmp + Copy + Drop, FP: FilterPolicy + Copy + Drop>(
+    alloc: Global,
+    options: &Options<C, FP>,
+    env: &mut E,
+    file: &mut E::File,
+    pairs: &[Given<'_>],
+) -> Result<usize>
+    ensures { let codings = ⟦<CompressorList as Compressors>⟧.codings options.now.compressor_list in
+        IfOk result (λ size. (bytes : List ℕ) × (size ≡ length bytes)
+        × AppendsSynced E.Env bytes (opened env.old file.old) (opened env.new file.new)
+        × IsTableOf codings (C.accepts options.now.cmp) (C.cmp options.now.cmp)
+        (C.shortest_sep options.now.cmp) (FP.matches options.now.filter_policy)
+        (FP.name options.now.filter_policy) (given pairs.now) bytes) }
+{
+    build_into(alloc, options, &mut EnvFile { env, file }, pairs)
+}
+
+/// Builds the table of these pairs into a new file, and returns its length.
 fn build_file<E: Env, C: Cmp + Copy + Drop, FP: FilterPolicy + Copy + Drop>(
     alloc: Global,
     options: &Options<C, FP>,
@@ -92,11 +111,7 @@ fn build_file<E: Env, C: Cmp + Copy + Drop, FP: FilterPolicy + Copy + Drop>(
         (FP.name options.now.filter_policy) (given pairs.now) bytes) }
 {
     let mut file = env.open_writable_file(name)?;
-    let mut sink = EnvFile {
-        env,
-        file: &mut file,
-    };
-    build_into(alloc, options, &mut sink, pairs)
+    build_open(alloc, options, env, &mut file, pairs)
 }
 
 /// Opens the table that a file is.
@@ -159,7 +174,7 @@ fn look_up<E: Env, C: Cmp + Copy + Drop, FP: FilterPolicy + Copy + Drop>(
 
 /// Whether two borrowed slices hold what a pair does.
 fn is_pair(found: Option<(&[u8], &[u8])>, pair: &Given<'_>) -> bool
-    ensures { pair_of found ≡ Some (pair.now.0.now, pair.now.1.now) → result ≡ true }
+    ensures { pair_of found.entry ≡ Some (pair.now.0.now, pair.now.1.now) → result ≡ true }
 {
     let Some((key, value)) = found else {
         return false;
@@ -308,8 +323,8 @@ fn internal_options() -> Options<InternalKeyCmp<DefaultCmp>, InternalFilterPolic
     }
 }
 
-/// The value that is found for the user's key `a` at a sequence.
-fn value_at(rt: &(impl Abort + AllocGlobal), sequence: u8) -> Result<Option<Bytes>> {
+/// Whether this value is found for the user's key `a` at a sequence.
+fn finds_value(rt: &(impl Abort + AllocGlobal), sequence: u8, value: &[u8]) -> Result<bool> {
     let options = internal_options();
     let mut env = MemEnv::new(rt.alloc());
     let mut cache = Cache::new(rt.alloc(), 4)?;
@@ -322,14 +337,16 @@ fn value_at(rt: &(impl Abort + AllocGlobal), sequence: u8) -> Result<Option<Byte
         &ENTRIES,
         &key,
     )?;
-    assert!(rt; is_same);
-    Ok(found.map(|(_, value)| value))
+    let Some((_, found)) = found else {
+        return Ok(false);
+    };
+    Ok(is_same && found.as_slice() == value)
 }
 
 /// A look-up finds the newest entry at or below its sequence.
 #[test]
 fn newest_entries(rt: HostRuntime) -> Result<()> {
-    assert!(rt; value_at(&rt, 9)?.as_deref() == Some(b"new".as_slice()));
-    assert!(rt; value_at(&rt, 2)?.as_deref() == Some(b"old".as_slice()));
+    assert!(rt; finds_value(&rt, 9, b"new")?);
+    assert!(rt; finds_value(&rt, 2, b"old")?);
     Ok(())
 }

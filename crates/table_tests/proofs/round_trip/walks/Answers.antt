@@ -4,8 +4,8 @@ use Rattle.leveldb_env.specs.contracts.compressor.CompressorListCompressors.TheI
 use Rattle.table_tests.proofs.RoundTripLemmas.{begins_walk}
 use Rattle.table_tests.proofs.round_trip.walks.Goals as goal
 
-pub returns-then-not-goes_forward : goal.returns-then-not-goes_forward
-returns-then-not-goes_forward g c = λ user bytes by is ready.
+pub returns-then-not-branch : goal.returns-then-not-branch
+returns-then-not-branch g c = λ user bytes by is ready.
     let matches = g.FP.FilterPolicy.matches c.args.options.now.filter_policy in
     let built = is (λ _. Some matches) user by.separated by.matched refl in
     let it = c.in_ok-it.ensures in
