@@ -4,7 +4,7 @@ use Rattle.std.specs.Prelude.{is_some, IsSomeAnd, IfOk, OnOk, IfSome, IsTrue, fl
 use Rattle.std.specs.List.{slice_get}
 use Rattle.std.specs.Option.{option_map}
 use Rattle.std.proofs.lemmas.Bool.{lt-ltb}
-use Rattle.std.proofs.lemmas.Option.{slice_get_cases, slice_get-map, slice_get_read}
+use Rattle.std.proofs.lemmas.Option.{slice_get_cases, slice_get-map, slice_get-get_or}
 use Rattle.std.proofs.lemmas.List.{append-nil, take_more, get_or-map, length-map}
 use Rattle.std.specs.Borrow.{Bor}
 use Rattle.std.specs.declared.cmp.Ordering.{Ordering}
@@ -113,10 +113,10 @@ module _ {E F : Type 0} (env : EnvGhosts E F) where
       → ChangesFiles env.models_disk same FilesUnchanged (env.observed old) (env.observed mid) (Ok answer) → (IsTrue env.models_disk → env.name_of file ≡ name) → KeepsDisk env mid new
       → IfOk result (λ table. ForBytesOf env mid file (λ bytes. OpensAs codings (order.cmp c) (filter_key key) bytes size (lines_of table) table.footer.meta_index table.footer.index (filters_of table)))
       → IfOk result (λ table. table.file ≡ file) → IfOk result (λ table. (table.cmp ≡ c) × (table.index.cmp ≡ c)) → IfOk result (λ table. IfSome table.filters (λ reader. reader.policy ≡ policy))
-      → IfOk result (λ table. (table.id ≡ cache.given + 1) × (new_cache ≡ record cache { given = table.id })) → IfOk result (λ table. table.id < 2 ^ 64)
+      → IfOk result (λ table. (table.id ≡ cache.given + 1) × (new_cache ≡ record cache { given = table.id }))
       → IfOk result (λ table. (bytes : List ℕ) → IsTrue env.models_disk → (env.observed old).disk.files name ≡ Some (kept_file bytes) → length bytes < 2 ^ 64 → IsNumbered cache
-      → IsOpen env codings c policy key bytes size new new_cache table)
-  opens_so {order = order} codings c policy key name size {new = new} cache new_cache (Ok table) does named kept opens file_is ordered policy_is id_is fits = λ bytes modelled there long numbered.
+      → cache.given + 1 < 2 ^ 64 → IsOpen env codings c policy key bytes size new new_cache table)
+  opens_so {order = order} codings c policy key name size {new = new} cache new_cache (Ok table) does named kept opens file_is ordered policy_is id_is = λ bytes modelled there long numbered fits.
       let has = has_file does named bytes modelled there long in
       let given_is = id_is.0 in
       let holds : HoldsOnlyOf codings (order.cmp c) table.id bytes cache = HoldsOnlyOf-new cache fits (omega (arith, given_is)) numbered in
@@ -127,7 +127,7 @@ module _ {E F : Type 0} (env : EnvGhosts E F) where
         policy_is = policy_is;
         holds = subst (HoldsOnlyOf codings (order.cmp c) table.id bytes) (sym id_is.1) holds;
       }
-  opens_so codings c policy key name size cache new_cache (Err status) does named kept opens file_is ordered policy_is id_is fits = tt
+  opens_so codings c policy key name size cache new_cache (Err status) does named kept opens file_is ordered policy_is id_is = tt
 
 -- ---- look-ups
 
@@ -266,18 +266,53 @@ after_is n = previous_is (n + 1) (omega arith) ∙ ap Some (omega arith)
 
 -- ---- pairs of a list
 
+abbrev held : Bor (List ℕ) × Bor (List ℕ) → Pair
+held ref = (ref.0.now, ref.1.now)
+
+-- what stands for a pair that isn't there
+abbrev pub no_given : Bor (List ℕ) × Bor (List ℕ)
+no_given = (record { ref_ptr = (0, 0); now = [] }, record { ref_ptr = (0, 0); now = [] })
+
 -- the next pair
-pub given_next : (pairs : List (Bor (List ℕ) × Bor (List ℕ))) (i : ℕ) (pair : Bor (List ℕ) × Bor (List ℕ)) → i < length pairs → pair ≡ get_or pairs i pair
-    → take (i + 1) (given pairs) ≡ take i (given pairs) ++ (pair.0.now, pair.1.now) ∷ []
-given_next pairs i pair within is =
-    let held : Pair = (pair.0.now, pair.1.now) in
-    take_more (given pairs) i held (omega (arith, length-map pairs (λ ref. (ref.0.now, ref.1.now)), within))
-    ∙ ap (λ z. take i (given pairs) ++ z ∷ []) (get_or-map (λ ref. (ref.0.now, ref.1.now)) pairs i pair held within ∙ ap (λ ref. (ref.0.now, ref.1.now)) (sym is))
+given_next : (pairs : List (Bor (List ℕ) × Bor (List ℕ))) (i : ℕ) (d : Bor (List ℕ) × Bor (List ℕ)) → i < length pairs → take (i + 1) (given pairs) ≡ take i (given pairs) ++ held (get_or pairs i d) ∷ []
+given_next pairs i d within =
+    let long : length (given pairs) ≡ length pairs = length-map {B = Pair} pairs held in
+    take_more (given pairs) i (held d) (omega (arith, long, within)) ∙ ap (λ z. take i (given pairs) ++ z ∷ []) (get_or-map held pairs i d (held d) within)
 
-pub given_at : (pairs : List (Bor (List ℕ) × Bor (List ℕ))) (i : ℕ) (pair : Bor (List ℕ) × Bor (List ℕ)) → i < length pairs → pair ≡ get_or pairs i pair
-    → slice_get (given pairs) i ≡ Some (pair.0.now, pair.1.now)
-given_at pairs i pair within is = slice_get-map (λ ref. (ref.0.now, ref.1.now)) pairs i ∙ ap (option_map (λ ref. (ref.0.now, ref.1.now))) (slice_get_read pairs (length pairs) i pair refl within is)
+-- one pair more is added
+pub adds_next : {S : Type 0} (puts : S → List ℕ → Result (Unit {0}) Status → S → Type 0) {old mid new : List ℕ → List Pair → Type 0} {from to end : S} (pairs : List (Bor (List ℕ) × Bor (List ℕ))) (i : ℕ) (d : Bor (List ℕ) × Bor (List ℕ)) → i < length pairs
+    → AddsAll puts old mid from (take i (given pairs)) to → AddsPair puts mid new to (held (get_or pairs i d)) end → AddsAll puts old new from (take (i + 1) (given pairs)) end
+adds_next puts {old} {mid} {new} {from} {to} {end} pairs i d within all one = subst (λ z. AddsAll puts old new from z end) (sym (given_next pairs i d within)) (adds_more puts all one)
 
--- where a walk goes forward through them
-pub next_given : (pairs : List (Bor (List ℕ) × Bor (List ℕ))) (parts : List Part) (i : ℕ) → pairs_in parts ≡ given pairs → i < length pairs → next_position (pairs_in parts) (previous_position (Some i)) ≡ Some i
-next_given pairs parts i same within = next_is (pairs_in parts) i (omega (arith, ap length same, length-map pairs (λ ref. (ref.0.now, ref.1.now)), within))
+-- the pair at a position
+pub given_at : (pairs : List (Bor (List ℕ) × Bor (List ℕ))) (parts : List Part) (i : ℕ) (d : Bor (List ℕ) × Bor (List ℕ)) → pairs_in parts ≡ given pairs → i < length pairs → pair_at (pairs_in parts) (Some i) ≡ Some (held (get_or pairs i d))
+given_at pairs parts i d same within = ap (λ z. slice_get z i) same ∙ slice_get-map held pairs i ∙ ap (option_map held) (slice_get-get_or pairs i d within)
+
+-- ---- moves through them
+
+next_given : (pairs : List (Bor (List ℕ) × Bor (List ℕ))) (parts : List Part) (i : ℕ) → pairs_in parts ≡ given pairs → i < length pairs → next_position (pairs_in parts) (previous_position (Some i)) ≡ Some i
+next_given pairs parts i same within =
+    let long : length (given pairs) ≡ length pairs = length-map {B = Pair} pairs held in
+    next_is (pairs_in parts) i (omega (arith, ap length same, long, within))
+
+module _ {E F C : Type 0} (env : EnvGhosts E F) {order : CmpGhosts C} {codings : Codings} where
+  -- a walk is at a position however that is written
+  pub walks_at : {accepts : List ℕ → Bool} {cmp : List ℕ → List ℕ → Ordering} {id : ℕ} {file : F} {bytes : List ℕ} {parts : List Part} {state : E} {cache : Cached (CachedBlock C order)} {core : TableCore C order} {position other : Option ℕ} → position ≡ other
+      → IsWalkingAt env codings accepts cmp id file bytes parts state cache core position → IsWalkingAt env codings accepts cmp id file bytes parts state cache core other
+  walks_at {accepts} {cmp} {id} {file} {bytes} {parts} {state} {cache} {core} same walk = subst (IsWalkingAt env codings accepts cmp id file bytes parts state cache core) same walk
+
+  module _ {FP T : Type 0} (accepts : C → List ℕ → Bool) (table other : Table E C FP F order) (is : other ≡ table) {old_env new_env : E} {old_cache new_cache : Cached (CachedBlock C order)} {old new : TableCore C order} (answer : T)
+      {Step : Codings → (List ℕ → List ℕ → Ordering) → List ℕ → TableCore C order → Outcome → Type 0} {bytes : List ℕ} {parts : List Part} where
+    abbrev Moves : (List Pair → Option ℕ → Option ℕ) → Table E C FP F order → Type 0
+    Moves to z = MovesInTable env codings (accepts z.cmp) (order.cmp z.cmp) z.id z.file (λ _. Unit {0}) to Step old_env old_cache old (Ok answer) new_env new_cache new
+
+    -- forward to the next pair
+    pub walks_forward : (pairs : List (Bor (List ℕ) × Bor (List ℕ))) (i : ℕ) → pairs_in parts ≡ given pairs → i < length pairs → Moves next_position other
+        → IsWalkingAt env codings (accepts table.cmp) (order.cmp table.cmp) table.id table.file bytes parts old_env old_cache old (previous_position (Some i))
+        → IsWalkingAt env codings (accepts table.cmp) (order.cmp table.cmp) table.id table.file bytes parts new_env new_cache new (Some i)
+    walks_forward pairs i same within moves walk = walks_at (next_given pairs parts i same within) (moves_on env (Ok answer) (subst (Moves next_position) is moves) walk)
+
+    -- and back
+    pub walks_back : (i : ℕ) → Moves (λ _. previous_position) other → IsWalkingAt env codings (accepts table.cmp) (order.cmp table.cmp) table.id table.file bytes parts old_env old_cache old (Some i)
+        → IsWalkingAt env codings (accepts table.cmp) (order.cmp table.cmp) table.id table.file bytes parts new_env new_cache new (previous_position (Some i))
+    walks_back i moves walk = moves_on env (Ok answer) (subst (Moves (λ _. previous_position)) is moves) walk

@@ -126,7 +126,7 @@ fn open_file<E: Env, C: Cmp + Copy + Drop, FP: FilterPolicy + Copy + Drop>(
     ensures disk { KeepsDisk E.Env env.old env.new }
     ensures open { IfOk result (λ table. (bytes : List ℕ) → IsTrue E.models_disk
         → (E.observed env.old).disk.files name.now ≡ Some (kept_file bytes)
-        → length bytes < 2 ^ 64 → IsNumbered cache.old
+        → length bytes < 2 ^ 64 → IsNumbered cache.old → cache.old.given + 1 < 2 ^ 64
         → IsOpen E.Env (⟦<CompressorList as Compressors>⟧.codings options.now.compressor_list)
         options.now.cmp options.now.filter_policy (FP.name options.now.filter_policy) bytes size
         env.new cache.new table) }
@@ -270,7 +270,7 @@ fn build_and_read<E: Env, C: Cmp + Copy + Drop, FP: FilterPolicy + Copy + Drop>(
     key: &[u8],
 ) -> Result<(Option<(Bytes, Bytes)>, bool)>
     ensures { let cmp = options.now.cmp in (user : List ℕ → List ℕ) → IsTrue E.models_disk
-        → IsNumbered cache.old → C.accepts cmp key.now ≡ true
+        → IsNumbered cache.old → cache.old.given + 1 < 2 ^ 64 → C.accepts cmp key.now ≡ true
         → GoesByUser (C.accepts cmp) (C.cmp cmp) (C.shortest_sep cmp)
         (FP.matches options.now.filter_policy) user → IfOk result (λ answer.
         FindsFirst (C.cmp cmp) user key.now (given pairs.now) answer.0 × (answer.1 ≡ true)) }
@@ -293,7 +293,8 @@ fn build_and_read_internal<E: Env, C: UserCmp + Copy + Drop, FP: FilterPolicy + 
     key: &[u8],
 ) -> Result<(Option<(Bytes, Bytes)>, bool)>
     ensures { let Order = ⟦<InternalKeyCmp<C> as Cmp>⟧ in IsTrue E.models_disk
-        → IsNumbered cache.old → Order.accepts options.now.cmp key.now ≡ true
+        → IsNumbered cache.old → cache.old.given + 1 < 2 ^ 64
+        → Order.accepts options.now.cmp key.now ≡ true
         → IfOk result (λ answer. FindsFirst (Order.cmp options.now.cmp) user_part key.now
         (given pairs.now) answer.0 × (answer.1 ≡ true)) }
 {

@@ -2,7 +2,7 @@ use Rattle.std.proofs.Common.{◌≡◌, ◌+◌, refl, sym, ◌∙◌, ap, subs
 use Rattle.leveldb_env.specs.contracts.compressor.CompressorListCompressors.TheImpl.{ghosts as compressors}
 use Rattle.leveldb_table.specs.TableBuilder.{IsBegun, KeepsChoices}
 use Rattle.table_tests.specs.RoundTrip.{given, AddsAll}
-use Rattle.table_tests.proofs.RoundTripLemmas.{adds_none, adds_more, given_next}
+use Rattle.table_tests.proofs.RoundTripLemmas.{adds_none, adds_next, no_given}
 use Rattle.table_tests.proofs.round_trip.add_pairs.Goals as goal
 
 pub loop-key-init : goal.loop-key-init
@@ -28,5 +28,5 @@ loop-key-preserved g c =
         same_size = kept.same_size ∙ so_far.same_size;
         same_intervals = (kept.same_intervals.0 ∙ so_far.same_intervals.0, kept.same_intervals.1 ∙ so_far.same_intervals.1);
       };
-      adds = rw (given_next c.args.pairs.now c.loop-key.key-index _ c.loop-key-test.true refl) (adds_more g.S.Sink.puts before.adds c.in_ok-add.ensures.ok);
+      adds = adds_next g.S.Sink.puts c.args.pairs.now c.loop-key.key-index no_given c.loop-key-test.true before.adds c.in_ok-add.ensures.ok;
     }
