@@ -266,7 +266,8 @@ after_is n = previous_is (n + 1) (omega arith) ∙ ap Some (omega arith)
 
 -- ---- pairs of a list
 
-abbrev held : Bor (List ℕ) × Bor (List ℕ) → Pair
+-- what a borrowed pair holds
+abbrev pub held : Bor (List ℕ) × Bor (List ℕ) → Pair
 held ref = (ref.0.now, ref.1.now)
 
 -- what stands for a pair that isn't there
