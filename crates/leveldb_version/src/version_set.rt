@@ -45,12 +45,15 @@ pub fn check_key_ranges<C: Cmp>(
     Ok(())
 }
 
-// The error for a table of this number.
+// The error for a table of this number, without a text where there is no memory for it.
 fn no_key_range(alloc: Global, number: FileNum) -> Status
     ensures { result.code ≡ StatusCode.Corruption }
 {
-    match format!(in alloc; "table {number:06}: smallest and largest key are no range") {
-        Ok(text) => Status::new(alloc, StatusCode::Corruption, text.as_str()),
-        Err(_) => Status::new(alloc, StatusCode::Corruption, ""),
+    let text = format!(in alloc;
+        "Corruption: table {number:06}: smallest and largest key are no range"
+    );
+    Status {
+        code: StatusCode::Corruption,
+        err: text.ok(),
     }
 }
