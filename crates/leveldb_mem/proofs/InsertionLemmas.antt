@@ -1,15 +1,12 @@
 -- A new node comes into a skip list.
-use Rattle.std.proofs.Common.{◌≡◌, ◌≢◌, ℕ, zero, suc, ◌+◌, ◌-◌, ◌<◌, ◌≤◌, Bool, true, false, cond, List, [], ◌∷◌, ◌++◌, length, get_or, take, drop, map, slice_index, slice_range, refl, sym, ◌∙◌, ap, subst, arith, ◌⊎◌, inl, inr, ⊎_elim, append_assoc, length-append, take-append-drop, length-drop}
+use Rattle.std.proofs.Common.{◌≡◌, ◌≢◌, ℕ, zero, suc, ◌+◌, ◌-◌, ◌<◌, ◌≤◌, cond, List, [], ◌∷◌, ◌++◌, length, get_or, drop, map, slice_index, slice_range, refl, sym, ◌∙◌, ap, subst, arith, ◌⊎◌, ⊎_elim, append_assoc, length-append}
 use Rattle.std.specs.Prelude.{All, nat_lt}
-use Rattle.std.specs.List.{insert}
-use Rattle.std.proofs.lemmas.Bool.{cases_order, cases_lt, cases_Bool, ltb-true, ltb-false}
-use Rattle.std.proofs.lemmas.List.{get_or_append_left, get_or-append-add, get_or-take, length-take-le, map-append, take-map, drop-map, take_rest, drop-drop}
-use Rattle.std.proofs.lemmas.List.Elements.{All-head, All-tail, All-cons, All-append, All-filter, filter_passes}
-use Rattle.std.proofs.lemmas.List.Sums.{sum_by-append, sum_by-cons, sum_by-take-drop}
-use Rattle.leveldb_base.specs.Types.{Pair}
-use Rattle.leveldb_mem.specs.Placed.{head, most_height, tower, link, level, first_of_nodes, last_after, AreLinked, IsApart, AreApart, IsNode, IsSkipList, IsPathTo, IsLaid, rank, pair_in, pairs_in, nodes_after, bytes_of, key_start, key_end, value_end}
-use Rattle.leveldb_mem.proofs.PlacedLemmas.{rank-same, rank-other, rank-get_or, get_or-rank, rank-append, level-append, level-keep, level-skip, level-zero, link_at, last_after-append, node_or_head, length-nodes_after}
-use Rattle.leveldb_mem.proofs.PathLemmas.{All-middle, All-after}
+use Rattle.std.proofs.lemmas.Bool.{cases_order, cases_lt}
+use Rattle.std.proofs.lemmas.List.{map-append}
+use Rattle.std.proofs.lemmas.List.Elements.{All-head, All-tail, All-cons, All-append, All-filter}
+use Rattle.leveldb_mem.specs.Placed.{head, most_height, tower, link, level, first_of_nodes, last_after, AreLinked, IsApart, AreApart, IsNode, IsSkipList, IsPathTo, rank, pair_in, pairs_in, nodes_after, value_end}
+use Rattle.leveldb_mem.proofs.PlacedLemmas.{rank-other, rank-get_or, get_or-rank, rank-append, level-append, level-keep, level-skip, level-zero, link_at, last_after-append, node_or_head}
+use Rattle.leveldb_mem.proofs.PathLemmas.{All-middle}
 
 -- ---- all of a list
 

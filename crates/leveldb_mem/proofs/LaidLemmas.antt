@@ -1,12 +1,12 @@
 -- How the pairs of a map stay or change as bytes, a head and nodes come.
-use Rattle.std.proofs.Common.{◌≡◌, ◌≢◌, ℕ, zero, suc, ◌+◌, ◌-◌, ◌<◌, ◌≤◌, List, [], ◌∷◌, ◌++◌, length, get_or, take, drop, replicate, map, slice_index, slice_range, refl, sym, ◌∙◌, ap, subst, arith, ⊎_elim, length-append, length-drop, take-append-drop}
+use Rattle.std.proofs.Common.{◌≡◌, ◌≢◌, ℕ, zero, suc, ◌+◌, ◌-◌, ◌<◌, ◌≤◌, List, [], ◌∷◌, ◌++◌, length, get_or, take, drop, replicate, slice_index, slice_range, refl, sym, ◌∙◌, ap, subst, arith, ⊎_elim, length-append, length-drop, take-append-drop}
 use Rattle.std.specs.Prelude.{All}
 use Rattle.std.specs.List.{insert}
 use Rattle.std.proofs.lemmas.Bool.{cases_lt}
 use Rattle.std.proofs.lemmas.List.{get_or_append_left, get_or-append-add, get_or-replicate, get_or-take, length-take-le, take-map, drop-map, take_rest, drop-drop, take-append-le, drop-append-le, take_all, nil_from_length}
 use Rattle.std.proofs.lemmas.List.Sums.{sum_by-append, sum_by-cons, sum_by-take-drop}
 use Rattle.leveldb_base.specs.Types.{Pair}
-use Rattle.leveldb_mem.specs.Placed.{head, head_words, most_height, tower, link, level, last_after, AreLinked, IsNode, IsSkipList, IsPathTo, IsLaid, place_of, pair_in, pairs_in, nodes_after, bytes_of, key_start, key_end, value_end}
+use Rattle.leveldb_mem.specs.Placed.{head, head_words, link, level, last_after, AreLinked, IsNode, IsSkipList, IsPathTo, IsLaid, place_of, pair_in, pairs_in, nodes_after, bytes_of, key_start, key_end, value_end}
 use Rattle.leveldb_mem.proofs.PathLemmas.{last_place}
 use Rattle.leveldb_mem.proofs.PlacedLemmas.{rank-same, level-keep, all_nodes, skip_list, length-nodes_after, length-pairs_in}
 use Rattle.leveldb_mem.proofs.InsertionLemmas.{Links, before_within, same_map, new_skip, new_order, new_lasts, new_pairs}

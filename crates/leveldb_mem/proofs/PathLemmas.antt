@@ -1,14 +1,14 @@
 -- A search from the head of a skip list along each height, down to the lowest.
-use Rattle.std.proofs.Common.{◌≡◌, ◌≢◌, ℕ, zero, suc, ◌+◌, ◌-◌, ◌<◌, ◌≤◌, Bool, true, false, cond, List, [], ◌∷◌, ◌++◌, length, get_or, take, drop, set, map, slice_index, refl, sym, ◌∙◌, ap, subst, arith, ◌⊎◌, inl, inr, ⊎_elim, append_assoc, length-append, take-append-drop, length-drop, append-nil}
+use Rattle.std.proofs.Common.{◌≡◌, ◌≢◌, ℕ, zero, suc, ◌+◌, ◌-◌, ◌<◌, ◌≤◌, Bool, true, false, List, [], ◌∷◌, ◌++◌, length, get_or, take, drop, set, slice_index, refl, sym, ◌∙◌, ap, subst, arith, ◌⊎◌, ⊎_elim, append_assoc, length-append, take-append-drop, length-drop, append-nil}
 use Rattle.std.specs.Prelude.{All, nat_lt}
 use Rattle.std.proofs.lemmas.Bool.{cases_order, cases_Bool, false≢true}
-use Rattle.std.proofs.lemmas.List.{get_or-set_same, get_or-set_other, get_or-take, get_or-drop, length-take-le, length-set, get_or-map, length-map}
-use Rattle.std.proofs.lemmas.List.Elements.{All-head, All-tail, All-filter, All-take, All-drop, All-from_get_or}
+use Rattle.std.proofs.lemmas.List.{get_or-set_same, get_or-set_other, get_or-take, get_or-drop, length-take-le, length-set, get_or-map}
+use Rattle.std.proofs.lemmas.List.Elements.{All-head, All-tail, All-filter, All-drop, All-from_get_or}
 use Rattle.leveldb_base.specs.Types.{Pair}
 use Rattle.leveldb_mem.specs.Searching.{key_at, count_while, IsParted}
 use Rattle.leveldb_mem.specs.Placed.{head, most_height, tower, link, level, first_of_nodes, last_after, AreLinked, AreApart, IsNode, IsSkipList, IsPathTo, rank, place_of, pair_in, pairs_in}
 use Rattle.leveldb_mem.proofs.Halving.{before_count, at_count, count-le}
-use Rattle.leveldb_mem.proofs.PlacedLemmas.{rank-append, rank-later, rank-le, level-append, level-keep, level-zero, Splits, split_level, link_at, last_after-is, EndsIn, ends_in, all_nodes, node_or_head, pair_at_rank, length-pairs_in, get_or-rank}
+use Rattle.leveldb_mem.proofs.PlacedLemmas.{rank-append, rank-later, level-append, level-keep, level-zero, Splits, split_level, link_at, last_after-is, ends_in, all_nodes, node_or_head, length-pairs_in}
 
 pub All-middle : {X : Type 0} (P : X → Type 0) (front : List X) (x : X) (back : List X) → All P (front ++ x ∷ back) → P x
 All-middle P [] x back all = All-head P x back all

@@ -1,21 +1,21 @@
 -- Places of a walk over a map: nodes, and the indexes of their pairs.
-use Rattle.std.proofs.Common.{◌≡◌, ◌≢◌, ℕ, zero, suc, ◌+◌, ◌-◌, ◌<◌, ◌≤◌, Bool, true, false, cond, List, [], ◌∷◌, length, take, get_or, Option, Some, None, refl, sym, ◌∙◌, ap, subst, arith, ◌⊎◌, inl, inr, ⊎_elim}
+use Rattle.std.proofs.Common.{◌≡◌, ◌≢◌, ℕ, ◌-◌, ◌<◌, ◌≤◌, Bool, true, false, List, [], ◌∷◌, length, take, Option, Some, None, refl, sym, ◌∙◌, ap, subst, arith, ◌⊎◌, ⊎_elim}
 use Rattle.std.specs.Prelude.{nat_lt}
 use Rattle.std.specs.Option.{ForSome}
-use Rattle.std.proofs.lemmas.Bool.{cases_lt, cases_order, cond-true, cond-false, lt-ltb, cond_both, ltb-true}
+use Rattle.std.proofs.lemmas.Bool.{cases_lt, cond-true, lt-ltb, cond_both, ltb-true}
 use Rattle.std.proofs.lemmas.Option.{same_Some}
 use Rattle.std.proofs.lemmas.List.Elements.{All-get_or}
-use Rattle.std.specs.Ordering.{is_lt, is_eq, ordering_reverse}
+use Rattle.std.specs.Ordering.{is_lt, ordering_reverse}
 use Rattle.std.specs.declared.cmp.Ordering.{Ordering}
 use Rattle.std.specs.declared.cmp.Ordering.TheVariants.{Less, Equal, Greater}
 use Rattle.leveldb_base.specs.Cmp.{IsPreorderOn}
-use Rattle.leveldb_base.specs.Types.{Pair, count_before, position_within, previous_position}
-use Rattle.leveldb_mem.specs.Searching.{key_at, count_while, IsParted}
-use Rattle.leveldb_mem.specs.SkipMap.{IsSorted, HasKey, HasNode, IsGap, position_of}
+use Rattle.leveldb_base.specs.Types.{Pair, position_within, previous_position}
+use Rattle.leveldb_mem.specs.Searching.{key_at, count_while}
+use Rattle.leveldb_mem.specs.SkipMap.{IsSorted, HasNode, IsGap, position_of}
 use Rattle.leveldb_mem.specs.Placed.{head, rank, place_of, IsAt, IsPathTo}
 use Rattle.leveldb_mem.proofs.Halving.{count_at, count-le, count_before-is}
 use Rattle.leveldb_mem.proofs.PlacedLemmas.{rank-zero, rank-later, rank-same}
-use Rattle.leveldb_mem.proofs.Rising.{rising_at, is_less, gap_at, gap_after}
+use Rattle.leveldb_mem.proofs.Rising.{rising_at, gap_at, gap_after}
 
 -- no position in a list of no pairs
 pub none_within : (pairs : List Pair) (i : ℕ) → length pairs ≤ i → None ≡ position_within pairs i

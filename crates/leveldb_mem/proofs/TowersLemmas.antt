@@ -1,6 +1,6 @@
 -- Draws of a tower's height.
 use Rattle.std.proofs.Common.{◌≡◌, ◌≢◌, ℕ, zero, suc, ◌+◌, ◌-◌, ◌<◌, ◌≤◌, refl, sym, ◌∙◌, ap, arith}
-use Rattle.std.specs.Prelude.{◌%◌, nat_eq}
+use Rattle.std.specs.Prelude.{◌%◌}
 use Rattle.std.proofs.lemmas.Bool.{cond-true, cond-false, eq-eqb, ne_eqb}
 use Rattle.rand_core.specs.Stream.{Stream, next_u64}
 use Rattle.leveldb_mem.specs.Towers.{drawn_links}

@@ -2,7 +2,7 @@
 -- A node is the offset of its links, one for each height of its tower. In the four words before them are where its key
 -- begins in the text, the lengths of its key and of its value, and the height of its tower. The first node is a head with
 -- all twelve links, which has no pair. A link is the next node of its height, or 0 at the end.
-use Rattle.std.specs.Prelude.{◌≡◌, ◌≢◌, ℕ, zero, suc, ◌+◌, ◌-◌, ◌<◌, ◌≤◌, Bool, true, List, [], ◌∷◌, length, map, filter, nat_eq, nat_lt, sum_by, slice_range, slice_index, slice_index_or, replicate, All, if◌then◌else◌}
+use Rattle.std.specs.Prelude.{◌≡◌, ◌≢◌, ℕ, zero, suc, ◌+◌, ◌-◌, ◌<◌, ◌≤◌, List, [], ◌∷◌, length, map, filter, nat_eq, nat_lt, sum_by, slice_range, slice_index, replicate, All, if◌then◌else◌}
 use Rattle.leveldb_base.specs.Types.{Pair}
 
 -- pairs, what comes after them of a pair that is to come, room for `places` pairs and `bytes` bytes, and the nodes of the

@@ -1,4 +1,4 @@
-use Rattle.std.proofs.Common.{◌≡◌, ◌∙◌, ap, sym, subst, arith}
+use Rattle.std.proofs.Common.{◌∙◌, arith}
 use Rattle.leveldb_mem.proofs.MemTableLemmas.{length-walked, within_walked}
 use Rattle.leveldb_mem.proofs.memtable.MemTable.after.Goals as goal
 

@@ -1,4 +1,4 @@
-use Rattle.std.proofs.Common.{◌≡◌, ◌∙◌, ap, sym, subst, arith}
+use Rattle.std.proofs.Common.{◌∙◌, ap, sym, subst, arith}
 use Rattle.std.specs.Ordering.{is_lt}
 use Rattle.leveldb_base.specs.Types.{position_within}
 use Rattle.leveldb_base.specs.KeyTypes.{inner_key, internal_cmp}

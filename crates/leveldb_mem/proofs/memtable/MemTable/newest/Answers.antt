@@ -1,9 +1,8 @@
-use Rattle.std.proofs.Common.{◌≡◌, Some, None, refl, sym, ap, subst, ◌∙◌, arith}
+use Rattle.std.proofs.Common.{None, refl, sym, ap, subst, ◌∙◌}
 use Rattle.leveldb_base.specs.Types.{position_within}
 use Rattle.leveldb_mem.specs.Placed.{rank}
 use Rattle.leveldb_mem.specs.Searching.{count_while, IsParted}
-use Rattle.leveldb_mem.specs.MemTable.{entries_in, IsValueAt}
-use Rattle.leveldb_mem.proofs.MemTableLemmas.{as_of, parted_as_of, finds_as_of, gives_nothing, length-walked}
+use Rattle.leveldb_mem.proofs.MemTableLemmas.{as_of, parted_as_of, finds_as_of, gives_nothing}
 use Rattle.leveldb_mem.proofs.SkipMapLemmas.{at_index, beyond}
 use Rattle.leveldb_mem.proofs.memtable.MemTable.newest.Goals as goal
 

@@ -1,5 +1,5 @@
-use Rattle.std.proofs.Common.{◌≡◌, ◌∙◌, ap, sym, subst, arith}
-use Rattle.leveldb_mem.proofs.MemTableLemmas.{length-walked, within_walked}
+use Rattle.std.proofs.Common.{arith}
+use Rattle.leveldb_mem.proofs.MemTableLemmas.{length-walked}
 use Rattle.leveldb_mem.proofs.memtable.MemTable.previous.Goals as goal
 
 pub previous-requires : goal.previous-requires

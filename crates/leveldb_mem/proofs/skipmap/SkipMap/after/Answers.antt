@@ -1,6 +1,5 @@
-use Rattle.std.proofs.Common.{◌≡◌, ◌∙◌, ◌+◌, ap, subst, arith}
+use Rattle.std.proofs.Common.{◌∙◌, ap, arith}
 use Rattle.leveldb_base.specs.Types.{position_within}
-use Rattle.leveldb_mem.specs.Placed.{IsAt}
 use Rattle.leveldb_mem.proofs.SkipMapLemmas.{place_at}
 use Rattle.leveldb_mem.proofs.skipmap.SkipMap.after.Goals as goal
 

@@ -1,4 +1,4 @@
-use Rattle.std.proofs.Common.{◌≡◌, ◌≤◌, ◌∙◌, ap, subst, arith, length}
+use Rattle.std.proofs.Common.{◌≤◌, arith, length}
 use Rattle.std.specs.Ordering.{is_lt}
 use Rattle.leveldb_mem.specs.Placed.{place_of}
 use Rattle.leveldb_mem.proofs.Halving.{count-le, count_before-is}

@@ -1,8 +1,6 @@
-use Rattle.std.proofs.Common.{◌≡◌, ◌≤◌, ◌∙◌, ap, subst, arith, length}
-use Rattle.std.proofs.lemmas.Grind.{get_or_default_zero}
+use Rattle.std.proofs.Common.{◌≤◌, arith, length}
 use Rattle.leveldb_mem.specs.Placed.{place_of}
 use Rattle.leveldb_mem.proofs.Halving.{count-le}
-use Rattle.leveldb_mem.proofs.SkipMapLemmas.{place_at, place_has}
 use Rattle.leveldb_mem.proofs.skipmap.SkipMap.first_by.Goals as goal
 
 pub after-requires-clause-node : goal.after-requires-clause-node

@@ -1,8 +1,8 @@
-use Rattle.std.proofs.Common.{◌≡◌, ◌≤◌, ◌++◌, ◌∙◌, ap, sym, subst, refl, length, take, List, ℕ, arith, ap}
+use Rattle.std.proofs.Common.{◌≡◌, ◌++◌, ◌∙◌, ap, sym, subst, refl, length, List, arith, ap}
 use Rattle.std.specs.List.{insert}
 use Rattle.std.proofs.lemmas.Result.{err_from_is_err_and}
 use Rattle.leveldb_base.specs.Types.{Pair}
-use Rattle.leveldb_mem.specs.Placed.{place_of, IsPathTo}
+use Rattle.leveldb_mem.specs.Placed.{place_of}
 use Rattle.leveldb_mem.specs.SkipMap.{IsSorted}
 use Rattle.leveldb_mem.proofs.Rising.{placed_at, inserts_at}
 use Rattle.leveldb_mem.proofs.SkipMapLemmas.{same_path}

@@ -1,4 +1,4 @@
-use Rattle.std.proofs.Common.{◌≡◌, ◌∙◌, [], Some, ap, sym, arith}
+use Rattle.std.proofs.Common.{◌∙◌, [], Some, ap, sym}
 use Rattle.std.proofs.lemmas.Option.{slice_get-get_or}
 use Rattle.leveldb_mem.specs.Placed.{rank}
 use Rattle.leveldb_mem.proofs.skipmap.SkipMap.pair.Goals as goal

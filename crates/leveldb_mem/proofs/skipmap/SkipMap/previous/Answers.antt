@@ -1,7 +1,7 @@
-use Rattle.std.proofs.Common.{◌≡◌, ◌≢◌, ◌≤◌, ◌<◌, ◌∙◌, ◌∷◌, inr, Some, refl, slice_index, ap, sym, subst, arith, length}
+use Rattle.std.proofs.Common.{◌≡◌, ◌<◌, ◌∙◌, ◌∷◌, inr, Some, refl, slice_index, ap, arith, length}
 use Rattle.std.specs.Ordering.{is_lt}
 use Rattle.leveldb_mem.specs.Placed.{head, rank}
-use Rattle.leveldb_mem.specs.Searching.{key_at, count_while, IsParted}
+use Rattle.leveldb_mem.specs.Searching.{key_at, count_while}
 use Rattle.leveldb_mem.specs.SkipMap.{HasNode}
 use Rattle.leveldb_mem.proofs.Rising.{parted_by_order}
 use Rattle.leveldb_mem.proofs.SkipMapLemmas.{accepted_key, count_of_key, before_head, before_node, before_has, for_some}

@@ -1,4 +1,4 @@
-use Rattle.std.proofs.Common.{◌≡◌, ◌-◌, ◌<◌, ◌∙◌, true, false, length, take, ap, subst, sym, arith}
+use Rattle.std.proofs.Common.{take, subst, sym}
 use Rattle.std.proofs.lemmas.Bool.{iff_false}
 use Rattle.leveldb_mem.specs.Placed.{IsPathTo, place_of}
 use Rattle.leveldb_mem.proofs.Rising.{gap_at, key_there}

@@ -1,4 +1,4 @@
-use Rattle.std.proofs.Common.{◌≡◌, ◌∙◌, true, inl, inr, ap, subst, sym, refl, take, length}
+use Rattle.std.proofs.Common.{◌∙◌, inr, subst, take}
 use Rattle.leveldb_mem.specs.Placed.{IsPathTo}
 use Rattle.leveldb_mem.proofs.Halving.{count_before-is}
 use Rattle.leveldb_mem.proofs.Rising.{parted_by_order}

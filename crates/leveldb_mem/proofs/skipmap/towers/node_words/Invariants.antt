@@ -1,4 +1,4 @@
-use Rattle.std.proofs.Common.{◌≡◌, ◌+◌, ◌<◌, ◌≤◌, ℕ, length, slice_index}
+use Rattle.std.proofs.Common.{◌≡◌, ◌+◌, ◌<◌, ℕ, length, slice_index}
 use Rattle.leveldb_mem.proofs.skipmap.towers.node_words.Given as goal
 
 abbrev pub invariant-loop-at : goal.invariant-loop-at

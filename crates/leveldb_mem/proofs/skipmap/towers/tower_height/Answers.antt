@@ -1,4 +1,4 @@
-use Rattle.std.proofs.Common.{◌≡◌, refl, sym, arith}
+use Rattle.std.proofs.Common.{refl, arith}
 use Rattle.std.proofs.lemmas.Bool.{iff_false}
 use Rattle.leveldb_mem.proofs.TowersLemmas.{draws_more, stopped, ended}
 use Rattle.leveldb_mem.proofs.skipmap.towers.tower_height.Goals as goal

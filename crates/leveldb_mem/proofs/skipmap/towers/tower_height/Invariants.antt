@@ -1,4 +1,4 @@
-use Rattle.std.proofs.Common.{◌-◌, ◌≡◌, ◌+◌, ◌<◌, ◌≤◌}
+use Rattle.std.proofs.Common.{◌-◌}
 use Rattle.leveldb_mem.proofs.TowersLemmas.{Draws}
 use Rattle.leveldb_mem.proofs.skipmap.towers.tower_height.Given as goal
 

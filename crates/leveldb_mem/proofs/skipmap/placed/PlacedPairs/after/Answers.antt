@@ -1,4 +1,4 @@
-use Rattle.std.proofs.Common.{◌≡◌, ◌∙◌, ◌<◌, ◌≤◌, ◌∷◌, slice_index, ap, subst, sym, arith, length}
+use Rattle.std.proofs.Common.{◌≡◌, ◌∙◌, ◌∷◌, slice_index, ap, subst, sym, arith}
 use Rattle.std.proofs.lemmas.Grind.{get_or_default_zero}
 use Rattle.leveldb_mem.specs.Placed.{Placed, IsAt, head, rank}
 use Rattle.leveldb_mem.proofs.PlacedLemmas.{skip_list_of, after_is, rank-after_head, node_or_head, length_is}

@@ -1,4 +1,4 @@
-use Rattle.std.proofs.Common.{ap, ◌∙◌, length, arith, length-drop, take}
+use Rattle.std.proofs.Common.{ap, ◌∙◌, arith}
 use Rattle.leveldb_mem.specs.Placed.{Placed}
 use Rattle.leveldb_mem.proofs.LaidLemmas.{laid-take, pairs-take}
 use Rattle.leveldb_mem.proofs.skipmap.placed.PlacedPairs.drop_tail.Goals as goal

@@ -1,5 +1,5 @@
-use Rattle.std.proofs.Common.{◌≡◌, ◌∙◌, ap, sym, length}
-use Rattle.leveldb_mem.specs.Placed.{Placed, head, nodes_after}
+use Rattle.std.proofs.Common.{◌∙◌, ap, sym, length}
+use Rattle.leveldb_mem.specs.Placed.{Placed, head}
 use Rattle.leveldb_mem.proofs.PlacedLemmas.{length_is, length-nodes_after}
 use Rattle.leveldb_mem.proofs.skipmap.placed.PlacedPairs.len.Goals as goal
 

@@ -1,4 +1,4 @@
-use Rattle.std.proofs.Common.{◌≡◌, ◌+◌, ◌*◌, ◌∙◌, ap, sym, arith, length}
+use Rattle.std.proofs.Common.{ap, arith, length}
 use Rattle.leveldb_mem.specs.Placed.{Placed, head, nodes_after, bytes_of}
 use Rattle.leveldb_mem.proofs.PlacedLemmas.{length-pairs_in, length-nodes_after}
 use Rattle.leveldb_mem.proofs.skipmap.placed.PlacedPairs.memory.Goals as goal

@@ -1,4 +1,4 @@
-use Rattle.std.proofs.Common.{◌≡◌, ◌∙◌, ◌+◌, ◌-◌, ◌<◌, ◌≤◌, take, drop, slice_index, ap, sym, arith, length}
+use Rattle.std.proofs.Common.{◌≡◌, ◌∙◌, ◌+◌, ◌-◌, take, drop, slice_index, ap, sym, arith, length}
 use Rattle.std.proofs.lemmas.Grind.{get_or_default_zero}
 use Rattle.leveldb_mem.specs.Placed.{Placed}
 use Rattle.leveldb_mem.proofs.PlacedLemmas.{node_is, pair_is, length_is}

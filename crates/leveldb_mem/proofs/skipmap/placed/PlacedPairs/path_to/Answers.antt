@@ -1,8 +1,8 @@
-use Rattle.std.proofs.Common.{◌≡◌, ◌≢◌, ◌∙◌, ◌<◌, ◌-◌, ◌+◌, ◌⊎◌, ◌∷◌, List, ℕ, false, true, length, slice_index, take, ap, subst, sym, arith, refl}
+use Rattle.std.proofs.Common.{◌≡◌, ◌∙◌, ◌<◌, ◌-◌, ◌+◌, ◌⊎◌, List, length, slice_index, ap, subst, sym, arith, refl}
 use Rattle.std.proofs.lemmas.Grind.{get_or_default_zero}
 use Rattle.leveldb_base.specs.Types.{Pair}
-use Rattle.leveldb_mem.specs.Searching.{count_while, IsParted}
-use Rattle.leveldb_mem.specs.Placed.{Placed, head, rank, pair_in, pairs_in, nodes_after, place_of, IsPathTo}
+use Rattle.leveldb_mem.specs.Searching.{IsParted}
+use Rattle.leveldb_mem.specs.Placed.{Placed, head, rank, nodes_after}
 use Rattle.leveldb_mem.proofs.PlacedLemmas.{skip_list, length_is, pair_is}
 use Rattle.leveldb_mem.proofs.PathLemmas.{searches_from, searched_within, searched_there, searched_next, searched_along, searched_down, searched, found}
 use Rattle.leveldb_mem.proofs.skipmap.placed.PlacedPairs.path_to.Goals.{else-next-ne0-via-then-next-ne0+else-is_after, else-next-ne0-via-else-next-ne0}

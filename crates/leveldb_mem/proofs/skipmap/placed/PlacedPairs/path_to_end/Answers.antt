@@ -1,5 +1,3 @@
-use Rattle.std.proofs.Common.{◌≡◌, ◌∙◌, ap, sym, length, take, arith}
-use Rattle.leveldb_mem.specs.Placed.{Placed, head, nodes_after, IsPathTo}
 use Rattle.leveldb_mem.proofs.LaidLemmas.{lasts_are, lasts_place}
 use Rattle.leveldb_mem.proofs.skipmap.placed.PlacedPairs.path_to_end.Goals as goal
 

@@ -1,8 +1,8 @@
 -- what comes after the pairs becomes a pair, and its node is linked
-use Rattle.std.proofs.Common.{◌≡◌, ◌≢◌, ◌≤◌, ◌∙◌, ◌+◌, ◌-◌, ◌<◌, ◌++◌, ℕ, suc, true, is_ok, ap, sym, subst, length, take, drop, slice_index, arith, length-drop, length-append, take-append-drop}
+use Rattle.std.proofs.Common.{◌≡◌, ◌≢◌, ◌≤◌, ◌∙◌, ◌+◌, ◌-◌, ◌<◌, ◌++◌, ℕ, suc, true, is_ok, ap, sym, length, take, drop, slice_index, arith, length-drop, length-append, take-append-drop}
 use Rattle.std.proofs.lemmas.Bool.{cond-true}
 use Rattle.std.proofs.lemmas.List.{take_at}
-use Rattle.leveldb_mem.specs.Placed.{Placed, head, nodes_after, place_of}
+use Rattle.leveldb_mem.specs.Placed.{head, nodes_after, place_of}
 use Rattle.leveldb_mem.proofs.PlacedLemmas.{length-pairs_in}
 use Rattle.leveldb_mem.proofs.InsertionLemmas.{before_within}
 use Rattle.leveldb_mem.proofs.LaidLemmas.{NodeWords, grown_size, laid_placed, pairs_placed}

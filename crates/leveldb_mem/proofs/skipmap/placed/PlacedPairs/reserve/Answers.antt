@@ -1,4 +1,4 @@
-use Rattle.std.proofs.Common.{◌≡◌, ◌∙◌, ap, sym, length, arith}
+use Rattle.std.proofs.Common.{◌∙◌, ap, arith}
 use Rattle.leveldb_mem.specs.Placed.{Placed}
 use Rattle.leveldb_mem.proofs.LaidLemmas.{opens}
 use Rattle.leveldb_mem.proofs.skipmap.placed.PlacedPairs.reserve.Goals as goal
