@@ -175,8 +175,8 @@ fn filter_of_no_keys(rt: HostRuntime) -> Result<()> {
     Ok(())
 }
 
-// Offsets that are past the end, or that fall, cut what there is: here the keys `abc`, the empty key
-// and `bc`.
+// Offsets that are past the end, or that fall, cut what there is: here the keys `abc`, the empty
+// key and `bc`.
 #[test]
 fn filter_by_offsets_that_fall(rt: HostRuntime) -> Result<()> {
     let policy = BloomPolicy::new(12);

@@ -151,35 +151,35 @@ is_probe-more before bits count keys i bit there =
     ∙ ap (λ b. before || b) (sym (list_any_more (λ key. list_any (λ probe. probe == bit) (probes bits count key)) keys i [] there))
 
 -- the hash after some words of four bytes
-pub hash_behind-words : (count hash : ℕ) (text : List ℕ) → count * 4 ≤ length text
+pub hash_after-words : (count hash : ℕ) (text : List ℕ) → count * 4 ≤ length text
     → hash_after (fold (λ h word. mixed 16 h (little_number 4 word)) hash (first_chunks 4 count text)) (drop (count * 4) text) ≡ hash_after hash text
 unfolding hash_after
-hash_behind-words zero hash text long = refl
-hash_behind-words (suc count) hash [] long = absurd (omega arith)
-hash_behind-words (suc count) hash (a ∷ []) long = absurd (omega arith)
-hash_behind-words (suc count) hash (a ∷ b ∷ []) long = absurd (omega arith)
-hash_behind-words (suc count) hash (a ∷ b ∷ c ∷ []) long = absurd (omega arith)
-hash_behind-words (suc count) hash (a ∷ b ∷ c ∷ d ∷ rest) long =
+hash_after-words zero hash text long = refl
+hash_after-words (suc count) hash [] long = absurd (omega arith)
+hash_after-words (suc count) hash (a ∷ []) long = absurd (omega arith)
+hash_after-words (suc count) hash (a ∷ b ∷ []) long = absurd (omega arith)
+hash_after-words (suc count) hash (a ∷ b ∷ c ∷ []) long = absurd (omega arith)
+hash_after-words (suc count) hash (a ∷ b ∷ c ∷ d ∷ rest) long =
     let next = mixed 16 hash (little_number 4 (a ∷ b ∷ c ∷ d ∷ []))
     in let place : suc count * 4 ≡ suc (suc (suc (suc (count * 4)))) = omega arith
     in ap (λ n. hash_after (fold (λ h word. mixed 16 h (little_number 4 word)) next (first_chunks 4 count rest)) (drop n (a ∷ b ∷ c ∷ d ∷ rest))) place
-    ∙ hash_behind-words count next rest (omega arith)
+    ∙ hash_after-words count next rest (omega arith)
 
 -- the hash after one to three bytes, as a word with zeros after them
-pub hash_behind-rest : (hash : ℕ) (rest word : List ℕ) → 0 < length rest → length rest < 4 → word ≡ rest ++ drop (length rest) (0 ∷ 0 ∷ 0 ∷ 0 ∷ [])
+pub hash_after-rest : (hash : ℕ) (rest word : List ℕ) → 0 < length rest → length rest < 4 → word ≡ rest ++ drop (length rest) (0 ∷ 0 ∷ 0 ∷ 0 ∷ [])
     → mixed 24 hash (little_number 4 word) ≡ hash_after hash rest
 unfolding hash_after
-hash_behind-rest hash [] word some few is = absurd (omega arith)
-hash_behind-rest hash (a ∷ []) word some few is = ap (λ w. mixed 24 hash (little_number 4 w)) is
-hash_behind-rest hash (a ∷ b ∷ []) word some few is = ap (λ w. mixed 24 hash (little_number 4 w)) is
-hash_behind-rest hash (a ∷ b ∷ c ∷ []) word some few is = ap (λ w. mixed 24 hash (little_number 4 w)) is
-hash_behind-rest hash (a ∷ b ∷ c ∷ d ∷ rest) word some few is = absurd (omega arith)
+hash_after-rest hash [] word some few is = absurd (omega arith)
+hash_after-rest hash (a ∷ []) word some few is = ap (λ w. mixed 24 hash (little_number 4 w)) is
+hash_after-rest hash (a ∷ b ∷ []) word some few is = ap (λ w. mixed 24 hash (little_number 4 w)) is
+hash_after-rest hash (a ∷ b ∷ c ∷ []) word some few is = ap (λ w. mixed 24 hash (little_number 4 w)) is
+hash_after-rest hash (a ∷ b ∷ c ∷ d ∷ rest) word some few is = absurd (omega arith)
 
 -- the hash after nothing
-pub hash_behind-none : (hash : ℕ) (rest : List ℕ) → length rest ≡ 0 → hash ≡ hash_after hash rest
+pub hash_after-none : (hash : ℕ) (rest : List ℕ) → length rest ≡ 0 → hash ≡ hash_after hash rest
 unfolding hash_after
-hash_behind-none hash [] none = refl
-hash_behind-none hash (a ∷ rest) none = absurd (omega arith)
+hash_after-none hash [] none = refl
+hash_after-none hash (a ∷ rest) none = absurd (omega arith)
 
 -- a key's hash by its words, and then by what is left of it
 pub bloom_hash-words : (key rest : List ℕ) (words : List (List ℕ)) → words ≡ first_chunks 4 (length key / 4) key → rest ≡ drop (length key / 4 * 4) key
@@ -189,7 +189,7 @@ bloom_hash-words key rest words front back =
     ap₂ (λ w r. hash_after (fold (λ h word. mixed 16 h (little_number 4 word)) (bit_xor 0xbc9f1d34 (length key % 2 ^ 32 * 0xc6a4a793 % 2 ^ 32)) w) r) front back
     ∙ ap (λ n. hash_after (fold (λ h word. mixed 16 h (little_number 4 word)) (bit_xor 0xbc9f1d34 n) (first_chunks 4 (length key / 4) key)) (drop (length key / 4 * 4) key))
     (mul-mod_first (length key) 0xc6a4a793 (2 ^ 32))
-    ∙ hash_behind-words (length key / 4) (bit_xor 0xbc9f1d34 (length key * 0xc6a4a793 % 2 ^ 32)) key (omega arith)
+    ∙ hash_after-words (length key / 4) (bit_xor 0xbc9f1d34 (length key * 0xc6a4a793 % 2 ^ 32)) key (omega arith)
 
 -- the hash by which a key's n-th probe goes
 abbrev pub hash_at : List ℕ → ℕ → ℕ
@@ -239,7 +239,7 @@ neither true b c none = absurd (cc)
 neither false true c none = absurd (cc)
 neither false false c none = (refl, refl, none)
 
-pub tells-something : (filter : List ℕ) → matches_all filter ≡ false → (1 < length filter) × (count_in filter ≤ 30) × (bits_of filter < 2 ^ 32)
-tells-something filter something =
+pub matches_all-none : (filter : List ℕ) → matches_all filter ≡ false → (1 < length filter) × (count_in filter ≤ 30) × (bits_of filter < 2 ^ 32)
+matches_all-none filter something =
     let none = neither (nat_le (length filter) 1) (nat_lt 30 (count_in filter)) (nat_le (2 ^ 32) (bits_of filter)) something
     in (leb-false (length filter) 1 none.0, ltb-false 30 (count_in filter) none.1, leb-false (2 ^ 32) (bits_of filter) none.2)

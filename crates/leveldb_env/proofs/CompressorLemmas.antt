@@ -120,8 +120,8 @@ module _ {A : Type 0} (id_of : A → ℕ) (coding_of : A → Coding) (otherwise 
     Changes from to = codings to other ≡ with_coding (codings from) id (coding_of x) other
 
     -- a change after a compressor with another id
-    behind : (y : A) (ys zs : List A) → test y ≡ false → Changes ys zs → Changes (y ∷ ys) (y ∷ zs)
-    behind y ys zs none rest =
+    changes_after : (y : A) (ys zs : List A) → test y ≡ false → Changes ys zs → Changes (y ∷ ys) (y ∷ zs)
+    changes_after y ys zs none rest =
         ap (λ (c : Option Coding). cond (id_of y == other) (Some (coding_of y)) c) rest
         ∙ swap (id_of y == other) (id == other) (Some (coding_of y)) (Some (coding_of x)) (codings ys other) (apart y other none)
 
@@ -139,7 +139,7 @@ module _ {A : Type 0} (id_of : A → ℕ) (coding_of : A → Coding) (otherwise 
         by false none there rest =
             let one : 1 + first ys ≡ suc (first ys) = omega arith in
             ap (λ n. codings (slice_set (y ∷ ys) n x) other) one
-            ∙ behind y ys (slice_set ys (first ys) x) none (rest (omega (arith, there)))
+            ∙ changes_after y ys (slice_set ys (first ys) x) none (rest (omega (arith, there)))
 
     last_pushed : (xs : List A) → length xs ≤ first xs → Changes xs (xs ++ x ∷ [])
     last_pushed [] past = ap (λ n. cond (n == other) (Some (coding_of x)) (otherwise other)) is
@@ -148,7 +148,7 @@ module _ {A : Type 0} (id_of : A → ℕ) (coding_of : A → Coding) (otherwise 
         by : (b : Bool) → test y ≡ b → suc (length ys) ≤ cond (not b) (1 + first ys) 0 → (length ys ≤ first ys → Changes ys (ys ++ x ∷ []))
             → Changes (y ∷ ys) (y ∷ ys ++ x ∷ [])
         by true same past rest = absurd (omega (arith, past))
-        by false none past rest = behind y ys (ys ++ x ∷ []) none (rest (omega (arith, past)))
+        by false none past rest = changes_after y ys (ys ++ x ∷ []) none (rest (omega (arith, past)))
 
   -- a compressor in the place of the first with this id changes the coding of this id
   pub replaced : (xs : List A) (at : ℕ) (x y : A) → (at < length xs) × (at ≡ first xs) → get_or xs at y ≡ y → id_of x ≡ id_of y

@@ -68,10 +68,10 @@ module _ {E F : Type 0} (env : Ghosts E F) where
   -- nothing was put
   pub IsLonger-none : (from : Opened E F) → IsLonger env from [] from
   IsLonger-none from =
-      let told = env.observed from.env in
-      let run = begun {P = λ files. files ≡ told.disk.files} told refl in
+      let observed = env.observed from.env in
+      let run = begun {P = λ files. files ≡ observed.disk.files} observed refl in
       record {
-        does = λ modelled. record { ok = λ t. sym (extended-nil (env.name_of from.file) told.disk.files); now = λ t. inl refl; time = Within-mono (λ files same. inl same) run.time };
+        does = λ modelled. record { ok = λ t. sym (extended-nil (env.name_of from.file) observed.disk.files); now = λ t. inl refl; time = Within-mono (λ files same. inl same) run.time };
         locks = λ modelled. refl;
         file = λ modelled. refl;
         counted = refl;
@@ -229,15 +229,15 @@ module _ {E F : Type 0} (env : Ghosts E F) where
   -- ---- where the file is borrowed
 
   abbrev seen : EnvFile E F → Opened E F
-  seen lent = opened lent.env.now lent.file.now
+  seen borrowed = opened borrowed.env.now borrowed.file.now
 
   -- all that is put is appended to the file
   pub IsLonger-borrowed : {from to : EnvFile E F} {bytes : List ℕ} → PutsAll (AppendsBorrowed env) from bytes to
       → ChangesBorrowedFile (λ old new. IsLonger env old bytes new) from to
   IsLonger-borrowed all = record {
     changes = IsLonger-all (PutsAll-seen (AppendsBorrowed env) (Appends env) seen (λ old bytes result new put. put.changes) all);
-    same_env = PutsAll-same (AppendsBorrowed env) (λ lent. lent.env.ghost_name) (λ old bytes result new put. put.same_env) all;
-    same_file = PutsAll-same (AppendsBorrowed env) (λ lent. lent.file.ghost_name) (λ old bytes result new put. put.same_file) all;
+    same_env = PutsAll-same (AppendsBorrowed env) (λ borrowed. borrowed.env.ghost_name) (λ old bytes result new put. put.same_env) all;
+    same_file = PutsAll-same (AppendsBorrowed env) (λ borrowed. borrowed.file.ghost_name) (λ old bytes result new put. put.same_file) all;
   }
 
   -- puts that break off
@@ -245,8 +245,8 @@ module _ {E F : Type 0} (env : Ghosts E F) where
       → ChangesBorrowedFile (λ old new. IsPartlyAppended env old bytes status new) from to
   IsPartlyAppended-borrowed broken = record {
     changes = IsPartlyAppended-any (PutsPart-seen (AppendsBorrowed env) (Appends env) seen (λ old bytes result new put. put.changes) broken);
-    same_env = PutsPart-same (AppendsBorrowed env) (λ lent. lent.env.ghost_name) (λ old bytes result new put. put.same_env) broken;
-    same_file = PutsPart-same (AppendsBorrowed env) (λ lent. lent.file.ghost_name) (λ old bytes result new put. put.same_file) broken;
+    same_env = PutsPart-same (AppendsBorrowed env) (λ borrowed. borrowed.env.ghost_name) (λ old bytes result new put. put.same_env) broken;
+    same_file = PutsPart-same (AppendsBorrowed env) (λ borrowed. borrowed.file.ghost_name) (λ old bytes result new put. put.same_file) broken;
   }
 
   -- reads go on in the file
@@ -254,8 +254,8 @@ module _ {E F : Type 0} (env : Ghosts E F) where
       → ChangesBorrowedFile (λ old new. IsFurther env old bytes new) from to
   IsFurther-borrowed some = record {
     changes = IsFurther-given (GivesSome-seen (ReadsBorrowed env) (Reads env) seen (λ old room result new read. read.changes) some);
-    same_env = GivesSome-same (ReadsBorrowed env) (λ lent. lent.env.ghost_name) (λ old room result new read. read.same_env) some;
-    same_file = GivesSome-same (ReadsBorrowed env) (λ lent. lent.file.ghost_name) (λ old room result new read. read.same_file) some;
+    same_env = GivesSome-same (ReadsBorrowed env) (λ borrowed. borrowed.env.ghost_name) (λ old room result new read. read.same_env) some;
+    same_file = GivesSome-same (ReadsBorrowed env) (λ borrowed. borrowed.file.ghost_name) (λ old room result new read. read.same_file) some;
   }
 
   -- at its end the file is read out
@@ -263,8 +263,8 @@ module _ {E F : Type 0} (env : Ghosts E F) where
       → ChangesBorrowedFile (λ old new. IsReadOut env old bytes new) from to
   IsReadOut-borrowed all = record {
     changes = IsReadOut-given (GivesAll-seen (ReadsBorrowed env) (Reads env) seen (λ old room result new read. read.changes) all);
-    same_env = GivesAll-same (ReadsBorrowed env) (λ lent. lent.env.ghost_name) (λ old room result new read. read.same_env) all;
-    same_file = GivesAll-same (ReadsBorrowed env) (λ lent. lent.file.ghost_name) (λ old room result new read. read.same_file) all;
+    same_env = GivesAll-same (ReadsBorrowed env) (λ borrowed. borrowed.env.ghost_name) (λ old room result new read. read.same_env) all;
+    same_file = GivesAll-same (ReadsBorrowed env) (λ borrowed. borrowed.file.ghost_name) (λ old room result new read. read.same_file) all;
   }
 
   -- a read that fails gives the reading up
@@ -272,8 +272,8 @@ module _ {E F : Type 0} (env : Ghosts E F) where
       → ChangesBorrowedFile (λ old new. IsGivenUp env old status new) from to
   IsGivenUp-borrowed up = record {
     changes = IsGivenUp-given (GivesUp-seen (ReadsBorrowed env) (Reads env) seen (λ old room result new read. read.changes) up);
-    same_env = GivesUp-same (ReadsBorrowed env) (λ lent. lent.env.ghost_name) (λ old room result new read. read.same_env) up;
-    same_file = GivesUp-same (ReadsBorrowed env) (λ lent. lent.file.ghost_name) (λ old room result new read. read.same_file) up;
+    same_env = GivesUp-same (ReadsBorrowed env) (λ borrowed. borrowed.env.ghost_name) (λ old room result new read. read.same_env) up;
+    same_file = GivesUp-same (ReadsBorrowed env) (λ borrowed. borrowed.file.ghost_name) (λ old room result new read. read.same_file) up;
   }
 
 -- What was borrowed has changed so when the borrow has ended. The proof of the function that borrowed it knows its

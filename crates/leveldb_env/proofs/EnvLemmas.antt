@@ -157,8 +157,8 @@ FileCrashesTo-kept bytes left leaves = leaves.3 ∙ ap (λ tail. Some (kept_file
 -- ---- parts of a time
 
 -- no time
-pub Within-refl : (told : Observed) (P : Files → Type 0) → Within P told told
-Within-refl told P = record {
+pub Within-refl : (observed : Observed) (P : Files → Type 0) → Within P observed observed
+Within-refl observed P = record {
   later = omega arith;
   before = λ m files early was. was;
   meanwhile = λ m files from until was. absurd (omega (arith, from, until));
@@ -188,8 +188,8 @@ Within-mono so part = record {
 -- ---- a run of calls
 
 -- no call yet
-pub begun : {P : Files → Type 0} (told : Observed) → P told.disk.files → Run P told told
-begun {P} told has = record { has = has; time = Within-refl told P }
+pub begun : {P : Files → Type 0} (observed : Observed) → P observed.disk.files → Run P observed observed
+begun {P} observed has = record { has = has; time = Within-refl observed P }
 
 -- one call more, where the files that it passes have P
 pub call : {P : Files → Type 0} {T : Type 0} {models_disk : Bool} {first old new : Observed} {change : Files → Files} {Passes : Files → Files → Type 0} {result : Result T Status}

@@ -5,7 +5,7 @@ use Rattle.std.proofs.lemmas.List.{take_at, drop_at, append-nil, take_all, take-
 use Rattle.std.proofs.lemmas.List.Elements.{All-nil, All-cons, All-head, All-tail, All-drop, Contains-push, Contains-append_left, All-take}
 use Rattle.std.proofs.lemmas.List.Folds.{concat-append}
 use Rattle.leveldb_env.specs.Filter.{first_offset, keys_at, IsFilterError}
-use Rattle.leveldb_env.specs.FilterBlock.{offsets_from, AreTexts, numbers, numbers_in, filter_block, FilterBlocksAreUnique, FiltersBuilt, filter_of, with_filters, finished, IsKeyKept, KeepsKeys, places_from, HasFiltersEndingAt, IsFilterBlock, FiltersRead, BeginsAt, RiseFrom, IsFilterTooLarge, IsFilterNotMade}
+use Rattle.leveldb_env.specs.FilterBlock.{offsets_from, AreTexts, numbers, numbers_in, filter_block, FilterBlocksAreUnique, FiltersBuilt, filter_of, with_filters, started, finished, IsKeyKept, KeepsKeys, places_from, HasFiltersEndingAt, IsFilterBlock, FiltersRead, BeginsAt, RiseFrom, IsFilterTooLarge, IsFilterNotMade}
 use Rattle.byteorder.specs.Endian.{little_number}
 use Rattle.byteorder.specs.Numbers.{little_from-lt, little_number-reads_back}
 use Rattle.leveldb_base.specs.Varint.{little}
@@ -20,9 +20,9 @@ next_offset : (at end : ℕ) (texts : List (List ℕ)) → at + length (concat t
 next_offset at end [] e = let same : end ≡ at = omega (arith, e) in same
 next_offset at end (text ∷ texts) e = refl
 
-cut_behind : (front : List ℕ) (at : ℕ) (texts : List (List ℕ)) → length front ≡ at → keys_at (offsets_from at texts) (front ++ concat texts) ≡ texts
-cut_behind front at [] e = refl
-cut_behind front at (text ∷ texts) e =
+cut_after : (front : List ℕ) (at : ℕ) (texts : List (List ℕ)) → length front ≡ at → keys_at (offsets_from at texts) (front ++ concat texts) ≡ texts
+cut_after front at [] e = refl
+cut_after front at (text ∷ texts) e =
     let whole = front ++ (text ++ concat texts) in
     let end : (at + length text) + length (concat texts) ≡ length whole = omega (arith, e, length-append front (text ++ concat texts), length-append text (concat texts)) in
     let next = next_offset (at + length text) (length whole) texts end in
@@ -32,12 +32,12 @@ cut_behind front at (text ∷ texts) e =
     ∙ ap (take ((at + length text) - at)) (drop_at front (text ++ concat texts) at e)
     ∙ take_at text (concat texts) ((at + length text) - at) size in
     let others = ap (keys_at (offsets_from (at + length text) texts)) (sym (append_assoc front text (concat texts)))
-    ∙ cut_behind (front ++ text) (at + length text) texts (omega (arith, e, length-append front text)) in
+    ∙ cut_after (front ++ text) (at + length text) texts (omega (arith, e, length-append front text)) in
     ap (λ z. z ∷ keys_at (offsets_from (at + length text) texts) whole) first ∙ ap (λ z. text ∷ z) others
 
 -- the texts are what their offsets cut out of their bytes
 pub cut_texts : {bytes offsets : List ℕ} {texts : List (List ℕ)} → AreTexts bytes offsets texts → keys_at offsets bytes ≡ texts
-cut_texts {bytes} {offsets} {texts} h = ap (λ z. keys_at z bytes) h.placed ∙ ap (keys_at (offsets_from 0 texts)) h.joined ∙ cut_behind [] 0 texts refl
+cut_texts {bytes} {offsets} {texts} h = ap (λ z. keys_at z bytes) h.placed ∙ ap (keys_at (offsets_from 0 texts)) h.joined ∙ cut_after [] 0 texts refl
 
 pub cut_again : {bytes offsets : List ℕ} {texts : List (List ℕ)} → AreTexts bytes offsets texts → AreTexts bytes offsets (keys_at offsets bytes)
 cut_again {bytes} {offsets} h = subst (λ z. AreTexts bytes offsets z) (sym (cut_texts h)) h
@@ -191,6 +191,15 @@ here_get P (x ∷ xs) y ys h = here_get P xs y ys h
 some_pass : {X : Type 0} (test : X → Bool) (o : Option X) → IsSomeAnd o (λ x. test x ≡ true) → option_map_or test o true ≡ true
 some_pass test None h = absurd h
 some_pass test (Some x) h = h
+
+module _ {FP : Type 0} (make : List (List ℕ) → List ℕ) where
+  policy-with : (count : ℕ) (building : FiltersBuilt FP) → (with_filters make count building).policy ≡ building.policy
+  policy-with zero building = refl
+  policy-with (suc others) building = refl
+
+  -- the policy stays when a block begins
+  pub policy-started : (offset : ℕ) (building : FiltersBuilt FP) → (started make offset building).policy ≡ building.policy
+  policy-started offset building = policy-with (offset / 2048 - length building.filters) building
 
 module _ {FP : Type 0} (make : FP → List (List ℕ) → List ℕ) (matches : FP → List ℕ → List ℕ → Bool) (finds : (policy : FP) (keys : List (List ℕ)) (key : List ℕ) → Contains keys key → matches policy key (make policy keys) ≡ true) where
   made : (policy : FP) (keys : List (List ℕ)) (key : List ℕ) → Contains keys key → matches policy key (filter_of (make policy) keys) ≡ true
@@ -425,7 +434,7 @@ begin_places : (ns : List ℕ) → BeginsAt 0 ns → (others : List ℕ) × (ns 
 begin_places [] h = absurd h
 begin_places (n ∷ ns) h = (ns, ap (λ z. z ∷ ns) h)
 
-module _ (bytes : List ℕ) (small : All (λ b. b < 256) bytes) (tail limit : ℕ) (size : tail + 5 ≡ length bytes) (last : get_or bytes (tail + 4) 0 ≡ 11) (told : little_number 4 (drop tail bytes) ≡ limit) (within : limit ≤ tail) (whole : (tail - limit) % 4 ≡ 0) where
+module _ (bytes : List ℕ) (small : All (λ b. b < 256) bytes) (tail limit : ℕ) (size : tail + 5 ≡ length bytes) (last : get_or bytes (tail + 4) 0 ≡ 11) (limit_is : little_number 4 (drop tail bytes) ≡ limit) (within : limit ≤ tail) (whole : (tail - limit) % 4 ≡ 0) where
   middle : List ℕ
   middle = take (tail + 4 - limit) (drop limit bytes)
 
@@ -447,17 +456,17 @@ module _ (bytes : List ℕ) (small : All (λ b. b < 256) bytes) (tail limit : �
   one_left (x ∷ []) e f = ap (λ z. z ∷ []) f
   one_left (x ∷ y ∷ xs) e f = absurd (omega (arith, e))
 
-  get_behind : (n : ℕ) (xs : List ℕ) → n ≤ length xs → get_or (drop n xs) 0 0 ≡ get_or xs n 0
-  get_behind zero xs h = refl
-  get_behind (suc n) [] h = refl
-  get_behind (suc n) (x ∷ xs) h = get_behind n xs (omega (arith, h))
+  get_after : (n : ℕ) (xs : List ℕ) → n ≤ length xs → get_or (drop n xs) 0 0 ≡ get_or xs n 0
+  get_after zero xs h = refl
+  get_after (suc n) [] h = refl
+  get_after (suc n) (x ∷ xs) h = get_after n xs (omega (arith, h))
 
   three_parts : bytes ≡ take limit bytes ++ (take (tail + 4 - limit) (drop limit bytes) ++ 11 ∷ [])
   three_parts =
       let far : limit + (tail + 4 - limit) ≡ tail + 4 = omega (arith, within) in
       let end : drop (tail + 4 - limit) (drop limit bytes) ≡ 11 ∷ [] =
       drop-drop (tail + 4 - limit) limit bytes ∙ ap (λ z. drop z bytes) far
-      ∙ one_left (drop (tail + 4) bytes) (omega (arith, size, length-drop (tail + 4) bytes)) (get_behind (tail + 4) bytes (omega (arith, size)) ∙ last) in
+      ∙ one_left (drop (tail + 4) bytes) (omega (arith, size, length-drop (tail + 4) bytes)) (get_after (tail + 4) bytes (omega (arith, size)) ∙ last) in
       sym (ap (λ z. take limit bytes ++ (take (tail + 4 - limit) (drop limit bytes) ++ z)) (sym end)
       ∙ ap (λ z. take limit bytes ++ z) (take-append-drop (tail + 4 - limit) (drop limit bytes)) ∙ take-append-drop limit bytes)
 
@@ -476,7 +485,7 @@ module _ (bytes : List ℕ) (small : All (λ b. b < 256) bytes) (tail limit : �
       ∙ ap (λ z. little_number 4 (drop (4 * n) z)) (sym (drop_at (take limit bytes) (mid ++ 11 ∷ []) limit front_size))
       ∙ ap (little_number 4) (drop-drop (4 * n) limit (take limit bytes ++ (mid ++ 11 ∷ [])))
       ∙ ap (λ z. little_number 4 (drop z (take limit bytes ++ (mid ++ 11 ∷ [])))) (sym far)
-      ∙ ap (λ z. little_number 4 (drop tail z)) (sym three_parts) ∙ told
+      ∙ ap (λ z. little_number 4 (drop tail z)) (sym three_parts) ∙ limit_is
 
   -- bytes with these parts are a filter block
   pub is_held : BeginsAt 0 (numbers_in (take (tail + 4 - limit) (drop limit bytes))) → RiseFrom 0 (numbers_in (take (tail + 4 - limit) (drop limit bytes))) → HasFiltersEndingAt bytes limit
@@ -499,7 +508,7 @@ module _ (bytes : List ℕ) (small : All (λ b. b < 256) bytes) (tail limit : �
                 three_parts ∙ ap (λ z. z ++ (mid ++ 11 ∷ [])) (sym made.1)
                 ∙ ap (λ z. concat texts ++ (z ++ 11 ∷ [])) (sym there.written ∙ ap (flat_map (little 4)) (first.1 ∙ sym made.0))
                 ∙ sym (by_places texts);
-            fits = omega (arith, ap length made.1, front_size, told, little_from-lt 0 4 (drop tail bytes) (small_at (drop tail bytes) (All-drop (λ b. b < 256) tail bytes small)));
+            fits = omega (arith, ap length made.1, front_size, limit_is, little_from-lt 0 4 (drop tail bytes) (small_at (drop tail bytes) (All-drop (λ b. b < 256) tail bytes small)));
           };
           ends = omega (arith, ap length made.1, front_size);
         },

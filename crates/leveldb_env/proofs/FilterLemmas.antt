@@ -23,9 +23,9 @@ first_end : (at : ℕ) (keys : List (List ℕ)) (end : ℕ) → end ≡ at + len
 first_end at [] end is = omega (arith, is)
 first_end at (key ∷ keys) end is = refl
 
-cuts_behind : (front : List ℕ) (keys : List (List ℕ)) → keys_at (starts (length front) keys) (front ++ concat keys) ≡ keys
-cuts_behind front [] = refl
-cuts_behind front (key ∷ keys) =
+cuts_after : (front : List ℕ) (keys : List (List ℕ)) → keys_at (starts (length front) keys) (front ++ concat keys) ≡ keys
+cuts_after front [] = refl
+cuts_after front (key ∷ keys) =
     let rest = concat keys
     in let whole = front ++ (key ++ rest)
     in let total : length whole ≡ length front + length key + length rest = omega (arith, length-append front (key ++ rest), length-append key rest)
@@ -35,12 +35,12 @@ cuts_behind front (key ∷ keys) =
     ap (λ e. take (e - length front) (drop (length front) whole)) end
     ∙ ap₂ take wide (drop-append_seam front (key ++ rest)) ∙ take-append_seam key rest
     in let others : keys_at (starts (length front + length key) keys) whole ≡ keys =
-    ap₂ (λ n w. keys_at (starts n keys) w) (sym (length-append front key)) (sym (append_assoc front key rest)) ∙ cuts_behind (front ++ key) keys
+    ap₂ (λ n w. keys_at (starts n keys) w) (sym (length-append front key)) (sym (append_assoc front key rest)) ∙ cuts_after (front ++ key) keys
     in ap₂ (λ k ks. k ∷ ks) first others
 
 -- the keys are cut out again
 pub keys_at-starts : (keys : List (List ℕ)) → keys_at (starts 0 keys) (concat keys) ≡ keys
-keys_at-starts keys = cuts_behind [] keys
+keys_at-starts keys = cuts_after [] keys
 
 -- one key more after the others
 pub concat-more : (keys : List (List ℕ)) (key : List ℕ) → concat (keys ++ key ∷ []) ≡ concat keys ++ key
@@ -66,10 +66,10 @@ first_offset-drop (offset ∷ offsets) zero end there = refl
 first_offset-drop (offset ∷ offsets) (suc i) end there = first_offset-drop offsets i end (omega arith)
 
 pub first_offset-end : (offsets : List ℕ) (i end : ℕ) → length offsets ≤ i → first_offset (drop i offsets) end ≡ end
-first_offset-end [] zero end behind = refl
-first_offset-end [] (suc i) end behind = refl
-first_offset-end (offset ∷ offsets) zero end behind = absurd (omega arith)
-first_offset-end (offset ∷ offsets) (suc i) end behind = first_offset-end offsets i end (omega arith)
+first_offset-end [] zero end past = refl
+first_offset-end [] (suc i) end past = refl
+first_offset-end (offset ∷ offsets) zero end past = absurd (omega arith)
+first_offset-end (offset ∷ offsets) (suc i) end past = first_offset-end offsets i end (omega arith)
 
 -- bytes cut between an offset and the next, each of which may be past the end, and the next before
 -- the first

@@ -84,18 +84,18 @@ module _ (first : Files) (calls : List Call) (n : ℕ) (within : are_within n ca
     inside_before k lt =
         let later : (call.number == k + 1) ≡ false = grind (arith, nat_tests) in
         ap (λ o. cut_off_if o (files_after first (calls ++ call ∷ []) k))
-        (find-append (λ (call : Call). call.number == k + 1) calls (call ∷ []) ∙ ap (λ b. option_or (find (λ call. call.number == k + 1) calls) (cond b (Some call) None)) later ∙ none_behind (find (λ call. call.number == k + 1) calls))
+        (find-append (λ (call : Call). call.number == k + 1) calls (call ∷ []) ∙ ap (λ b. option_or (find (λ call. call.number == k + 1) calls) (cond b (Some call) None)) later ∙ none_after (find (λ call. call.number == k + 1) calls))
         ∙ ap (cut_off_if (find (λ call. call.number == k + 1) calls)) (after_before k (omega arith))
       where
-        none_behind : (o : Option Call) → option_or o None ≡ o
-        none_behind None = refl
-        none_behind (Some call) = refl
+        none_after : (o : Option Call) → option_or o None ≡ o
+        none_after None = refl
+        none_after (Some call) = refl
 
 -- ---- the moments
 
 -- what is observed after n calls
-abbrev pub told : Files → List Call → ℕ → Disk → Observed
-told first calls n disk = record { disk = disk; moment = 2 * n; at_moment = FilesWere first calls }
+abbrev pub observed_after : Files → List Call → ℕ → Disk → Observed
+observed_after first calls n disk = record { disk = disk; moment = 2 * n; at_moment = FilesWere first calls }
 
 -- of the moments before the n-th call's end the new calls say what the old ones did
 pub record TellsMore (first : Files) (old new : List Call) (n : ℕ) : Type 0 where
@@ -116,7 +116,7 @@ module _ {first : Files} {old new : List Call} {n : ℕ} (more : TellsMore first
   stood_meanwhile P m files half before inside (inr found) = subst P (sym (found.1 ∙ ap (files_inside first new) half)) inside
 
   -- the files have P before the next call and inside it
-  pub passes : (P : Files → Type 0) → P (files_after first old n) → P (files_inside first new n) → (was now : Disk) → Within P (told first old n was) (told first new (n + 1) now)
+  pub passes : (P : Files → Type 0) → P (files_after first old n) → P (files_inside first new n) → (was now : Disk) → Within P (observed_after first old n was) (observed_after first new (n + 1) now)
   passes P before inside was now = record {
     later = omega arith;
     before = λ m files earlier stood. stood_before m files earlier stood;
@@ -144,11 +144,11 @@ module _ (first files : Files) (calls : List Call) (n : ℕ) (within : are_withi
     pub skipped_replayed : (now : Files) → now ≡ files → now ≡ files_after first new (n + 1)
     skipped_replayed now stay = stay ∙ replayed ∙ sym (after_next first calls n within) ∙ ap (λ (all : List Call). files_after first all (n + 1)) (sym same)
 
-    pub skipped_passes : (P : Files → Type 0) → P files → (was now : Disk) → Within P (told first calls n was) (told first new (n + 1) now)
+    pub skipped_passes : (P : Files → Type 0) → P files → (was now : Disk) → Within P (observed_after first calls n was) (observed_after first new (n + 1) now)
     skipped_passes P stays was now =
         let before : P (files_after first calls n) = subst P replayed stays in
         let inside : P (files_inside first calls n) = subst P (sym (inside_next first calls n within)) before in
-        subst (λ (all : List Call). Within P (told first calls n was) (told first all (n + 1) now)) (sym same) (passes (nothing_more first calls n) P before inside was now)
+        subst (λ (all : List Call). Within P (observed_after first calls n was) (observed_after first all (n + 1) now)) (sym same) (passes (nothing_more first calls n) P before inside was now)
 
   -- one that is
   module _ (call : Call) (is : call.number ≡ n + 1) (new : List Call) (pushed : new ≡ calls ++ call ∷ []) where
@@ -161,11 +161,11 @@ module _ (first files : Files) (calls : List Call) (n : ℕ) (within : are_withi
     noted_cut : files_inside first new n ≡ cut_off call.change files
     noted_cut = ap (λ (all : List Call). files_inside first all n) pushed ∙ inside_push first calls n within call is ∙ ap (cut_off call.change) (sym replayed)
 
-    pub noted_passes : (P : Files → Type 0) → P files → P (cut_off call.change files) → (was now : Disk) → Within P (told first calls n was) (told first new (n + 1) now)
+    pub noted_passes : (P : Files → Type 0) → P files → P (cut_off call.change files) → (was now : Disk) → Within P (observed_after first calls n was) (observed_after first new (n + 1) now)
     noted_passes P stays makes was now =
         let before : P (files_after first calls n) = subst P replayed stays in
         let inside : P (files_inside first (calls ++ call ∷ []) n) = subst P (sym noted_cut ∙ ap (λ (all : List Call). files_inside first all n) pushed) makes in
-        subst (λ (all : List Call). Within P (told first calls n was) (told first all (n + 1) now)) (sym pushed) (passes (one_more first calls n within call is) P before inside was now)
+        subst (λ (all : List Call). Within P (observed_after first calls n was) (observed_after first all (n + 1) now)) (sym pushed) (passes (one_more first calls n within call is) P before inside was now)
 
     pub noted_inside : FilesWere first new (2 * n + 1) (cut_off call.change files)
     noted_inside = let half : (2 * n + 1) / 2 ≡ n = omega arith in inr (omega arith, sym noted_cut ∙ ap (files_inside first new) (sym half))

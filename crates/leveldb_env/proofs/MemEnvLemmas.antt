@@ -291,8 +291,8 @@ module _ (folder name : List ℕ) where
   pub child_under-in_folder : (child : List ℕ) → name ≡ in_folder folder child → child_under folder name ≡ Some child
   child_under-in_folder child is =
       let under : is_under folder name ≡ true = (starts_is Decides-eqb name (folder ++ 47 ∷ []) (is_under folder name) refl).1 child (front_is child is) in
-      let behind : drop (length folder + 1) name ≡ child = ap (λ n. drop n name) (sym (length-append folder (47 ∷ []))) ∙ front_rest name (folder ++ 47 ∷ []) child (front_is child is) in
-      ap (λ b. cond b (Some (drop (length folder + 1) name)) None) under ∙ ap Some behind
+      let past : drop (length folder + 1) name ≡ child = ap (λ n. drop n name) (sym (length-append folder (47 ∷ []))) ∙ front_rest name (folder ++ 47 ∷ []) child (front_is child is) in
+      ap (λ b. cond b (Some (drop (length folder + 1) name)) None) under ∙ ap Some past
 
   pub child_under-none : ((child : List ℕ) → name ≢ in_folder folder child) → child_under folder name ≡ None
   child_under-none apart =
@@ -324,9 +324,9 @@ name_under folder name child is = by (is_under folder name) refl
     by : (b : Bool) → is_under folder name ≡ b → name ≡ in_folder folder child
     by false e = absurd (cc (sym is ∙ ap (λ b. cond b (Some (drop (length folder + 1) name)) None) e))
     by true e =
-        let behind : drop (length folder + 1) name ≡ child = cc (sym (ap (λ b. cond b (Some (drop (length folder + 1) name)) None) e) ∙ is) in
+        let past : drop (length folder + 1) name ≡ child = cc (sym (ap (λ b. cond b (Some (drop (length folder + 1) name)) None) e) ∙ is) in
         (starts_is Decides-eqb name needle (is_under folder name) refl).0 e
-        ∙ ap (λ n. needle ++ drop n name) (length-append folder (47 ∷ [])) ∙ ap (λ (t : List ℕ). needle ++ t) behind
+        ∙ ap (λ n. needle ++ drop n name) (length-append folder (47 ∷ [])) ∙ ap (λ (t : List ℕ). needle ++ t) past
         ∙ append_assoc folder (47 ∷ []) child
 
 -- ---- the children of a folder, of all names that are there

@@ -184,7 +184,7 @@ appends name bytes may old new r asked =
     let does = ChangesFiles-from_asks (extended name bytes) may old new r asked in
     record {
       ok = does.ok;
-      now = λ told. PrefixAppended-from_sides name bytes _ _ (does.now told);
+      now = λ modelled. PrefixAppended-from_sides name bytes _ _ (does.now modelled);
       time = Within-weaker (λ files side. PrefixAppended-from_sides name bytes _ files side) does.time;
     }
 

@@ -85,21 +85,21 @@ module _ {S N : Type 0} (puts : S → List ℕ → Result (Unit {0}) Status → 
 pub PutsAll-borrowed : {S : Type 0} (puts : S → List ℕ → Result (Unit {0}) Status → S → Type 0) {from to : MutBor S} {bytes : List ℕ}
     → PutsAll (λ old bytes result new. ChangesBorrowed (λ s t. puts s bytes result t) old new) from bytes to → ChangesBorrowed (λ s t. PutsAll puts s bytes t) from to
 PutsAll-borrowed {S} puts all =
-    let lent : MutBor S → List ℕ → Result (Unit {0}) Status → MutBor S → Type 0 = λ old bytes result new. ChangesBorrowed (λ s t. puts s bytes result t) old new in
+    let borrowed : MutBor S → List ℕ → Result (Unit {0}) Status → MutBor S → Type 0 = λ old bytes result new. ChangesBorrowed (λ s t. puts s bytes result t) old new in
     record {
-      changes = PutsAll-seen lent puts (λ s. s.now) (λ old bytes result new put. put.changes) all;
-      same_reference = PutsAll-same lent (λ s. s.ghost_name) (λ old bytes result new put. put.same_reference) all;
+      changes = PutsAll-seen borrowed puts (λ s. s.now) (λ old bytes result new put. put.changes) all;
+      same_reference = PutsAll-same borrowed (λ s. s.ghost_name) (λ old bytes result new put. put.same_reference) all;
     }
 
 -- ---- bytes in memory
 
-each_behind : (from : List ℕ) (pieces : List (List ℕ)) (to : List ℕ) → PutsEach AppendsBytes from pieces to → to ≡ from ++ concat pieces
-each_behind from [] to put = put ∙ sym (append-nil from)
-each_behind from (piece ∷ pieces) to put = each_behind put.0 pieces to put.2 ∙ ap (λ b. b ++ concat pieces) put.1.ok ∙ append_assoc from piece (concat pieces)
+each_after : (from : List ℕ) (pieces : List (List ℕ)) (to : List ℕ) → PutsEach AppendsBytes from pieces to → to ≡ from ++ concat pieces
+each_after from [] to put = put ∙ sym (append-nil from)
+each_after from (piece ∷ pieces) to put = each_after put.0 pieces to put.2 ∙ ap (λ b. b ++ concat pieces) put.1.ok ∙ append_assoc from piece (concat pieces)
 
 -- all that was put is appended to what was there
 pub PutsAll-bytes : {S : Type 0} (items : S → List ℕ) {from to : S} {bytes : List ℕ}
     → PutsAll (λ old put result new. AppendsBytes (items old) put result (items new)) from bytes to → items to ≡ items from ++ bytes
 PutsAll-bytes {S} items {from} {to} all =
     let seen = PutsAll-seen (λ (old : S) put result (new : S). AppendsBytes (items old) put result (items new)) AppendsBytes items (λ old put result new behind. behind) all in
-    each_behind (items from) seen.pieces (items to) seen.put ∙ ap (λ b. items from ++ b) (sym seen.joined)
+    each_after (items from) seen.pieces (items to) seen.put ∙ ap (λ b. items from ++ b) (sym seen.joined)

@@ -1,14 +1,15 @@
 -- Compressors: the block that stored bytes are decoded to, how a compressor fails, and which id has
 -- which compressor.
-use Rattle.std.specs.Prelude.{◌≡◌, ◌==◌, ℕ, Bool, false, if◌then◌else◌, List, [], ◌∷◌, ◌++◌, Option, None, Some, IfSome, IsTrue, codes, string_bytes}
+use Rattle.std.specs.Prelude.{◌≡◌, ◌==◌, ℕ, Bool, false, if◌then◌else◌, List, [], ◌∷◌, ◌++◌, Option, None, Some, IfSome, IsTrue, Result, OnOk, OnErr, IfErr, codes, string_bytes}
 use Rattle.std.specs.Fmt.{decimal}
 use Rattle.std.specs.declared.vec.Vec.{Vec}
+use Rattle.leveldb_base.specs.Error.{IsOutOfMemory}
 use Rattle.leveldb_base.specs.declared.error.Status.{Status}
 use Rattle.leveldb_base.specs.declared.error.StatusCode.{StatusCode}
 use Rattle.leveldb_base.specs.declared.error.StatusCode.TheVariants.{NotSupported}
 
--- The block that stored bytes are decoded to, where there is one; the codes with which encoding this
--- very block may fail; and those with which decoding these very bytes may.
+-- The block that stored bytes are decoded to, where there is one; the codes with which encoding
+-- this very block may fail; and those with which decoding these very bytes may.
 pub record Coding : Type 0 where
   pub decoded : List ℕ → Option (List ℕ)
   pub encode_fails : List ℕ → StatusCode → Bool
@@ -47,6 +48,13 @@ plain_codings id = if id == 0 then Some plain else None
 abbrev pub with_coding : Codings → ℕ → Coding → Codings
 with_coding codings id coding other = if id == other then Some coding else codings other
 
+-- An id gets this coding. The only error is out of memory, and it changes nothing.
+pub record SetsCoding {T : Type 0} (id : ℕ) (coding : Coding) (old : Codings)
+    (result : Result T Status) (new : Codings) : Type 0 where
+  pub ok : OnOk result (new ≡ with_coding old id coding)
+  pub err : OnErr result (new ≡ old)
+  pub memory : IfErr result IsOutOfMemory
+
 -- the block, under a coding where there is one
 abbrev pub decoded_under : Option Coding → List ℕ → Option (List ℕ)
 decoded_under None stored = None
@@ -63,12 +71,17 @@ Decodes codings id stored block = decoded_by codings id stored ≡ Some block
 -- the coding of the first pair with this id, or that of the id otherwise
 abbrev pub first_coding : List (ℕ × Coding) → Codings → Codings
 first_coding [] otherwise id = otherwise id
-first_coding (pair ∷ pairs) otherwise id = if pair.0 == id then Some pair.1 else first_coding pairs otherwise id
+first_coding (pair ∷ pairs) otherwise id =
+    if pair.0 == id then Some pair.1 else first_coding pairs otherwise id
+
+-- the text for an id without a compressor
+abbrev pub unset_text : ℕ → List ℕ
+unset_text id = codes "invalid compression id `" ++ decimal id ++ codes "`"
 
 -- the error for an id without a compressor
 abbrev pub IsUnset : ℕ → Status → Type 0
 IsUnset id status = (status.code ≡ NotSupported)
-    × IfSome status.err (λ text. string_bytes text ≡ codes "invalid compression id `" ++ decimal id ++ codes "`")
+    × IfSome status.err (λ text. string_bytes text ≡ unset_text id)
 
 -- the items of a vector, where there is one
 abbrev pub listed_items : {A B : Type 0} → Option (Vec A B) → List A

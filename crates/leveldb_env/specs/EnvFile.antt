@@ -21,8 +21,8 @@ pub record ChangesBorrowedFile {E F : Type 0} (Changes : Opened E F → Opened E
   pub same_env : new.env.ghost_name ≡ old.env.ghost_name
   pub same_file : new.file.ghost_name ≡ old.file.ghost_name
 
--- These bytes come next from an offset of a file on, no more than there is room for, and none only at
--- its end or for no room.
+-- These bytes come next from an offset of a file on, no more than there is room for, and none only
+-- at its end or for no room.
 pub record IsNextPiece (offset room : ℕ) (piece file : List ℕ) : Type 0 where
   pub bytes_are : piece ≡ take (length piece) (drop offset file)
   pub fits : length piece ≤ room

@@ -77,7 +77,10 @@ with_key key building = record building { keys = building.keys ++ key ∷ [] }
 abbrev pub with_filters : {FP : Type 0} → (List (List ℕ) → List ℕ) → ℕ → FiltersBuilt FP
     → FiltersBuilt FP
 with_filters make zero building = building
-with_filters make (suc others) building = record building { filters = building.filters ++ filter_of make building.keys ∷ replicate others []; keys = [] }
+with_filters make (suc others) building = record building {
+  filters = building.filters ++ filter_of make building.keys ∷ replicate others [];
+  keys = [];
+}
 
 -- a block begins at this offset: the filters before its own are made
 abbrev pub started : {FP : Type 0} → (List (List ℕ) → List ℕ) → ℕ → FiltersBuilt FP

@@ -1,6 +1,7 @@
--- A filter block has one list of filters. This is in specs/ since a ghost field of
--- `FilterBlockReader` is unique by it, and the checker takes no term of proofs/ there.
-use Rattle.std.proofs.Common.{◌≡◌, ℕ, ◌+◌, ◌-◌, ◌^◌, ◌<◌, List, [], ◌∷◌, ◌++◌, length, get_or, flat_map, refl, sym, ◌∙◌, ap, arith, append_assoc, length-append}
+-- A filter block has one list of filters. A ghost field of `FilterBlockReader` cites
+-- `HasFiltersEndingAt-prop`, where the checker takes no term of proofs/; the rest is what it stands
+-- on.
+use Rattle.std.proofs.Common.{◌≡◌, ℕ, ◌+◌, ◌^◌, ◌<◌, List, [], ◌∷◌, ◌++◌, length, get_or, flat_map, refl, sym, ◌∙◌, ap, arith, append_assoc, length-append}
 use Rattle.std.specs.List.{All, concat}
 use Rattle.std.proofs.lemmas.List.{append-nil}
 use Rattle.std.proofs.lemmas.List.Elements.{All-nil, All-cons, All-head, All-tail}

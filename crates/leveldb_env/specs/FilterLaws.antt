@@ -1,6 +1,6 @@
--- A key of which a filter was made matches it, in a Bloom filter and in one of internal keys. These
--- are in specs/ since the impls of `FilterPolicy` prove their law by them, and the checker takes no
--- term of proofs/ there.
+-- A key of which a filter was made matches it, in a Bloom filter and in one of internal keys. The
+-- impls of `FilterPolicy` cite `bloom_finds` and `cut_keys_find` as their law, where the checker
+-- takes no term of proofs/; the rest is what these two stand on.
 use Rattle.std.proofs.Common.{◌≡◌, ℕ, zero, suc, ◌+◌, ◌-◌, ◌*◌, ◌/◌, ◌%◌, ◌^◌, ◌<◌, Bool, true, false, cond, refl, ap, ap₂, ◌∙◌, arith, List, [], ◌∷◌, ◌++◌, length, get_or, map}
 use Rattle.std.specs.Prelude.{Contains, ◌==◌, if◌then◌else◌}
 use Rattle.std.specs.List.{list_any, list_all}
@@ -129,8 +129,8 @@ probes_set len count keys key rest some there =
     ∙ is_probe-Contains (8 * len) count keys key n d there below)
 
 -- the count of probes is after the bytes
-pub count_in-behind : (bytes : List ℕ) (count : ℕ) → count_in (bytes ++ count ∷ []) ≡ count
-count_in-behind bytes count =
+pub count_in-append : (bytes : List ℕ) (count : ℕ) → count_in (bytes ++ count ∷ []) ≡ count
+count_in-append bytes count =
     let place : length (bytes ++ count ∷ []) - 1 ≡ length bytes = omega
     (arith, length-append bytes (count ∷ []))
     in ap (λ n. get_or (bytes ++ count ∷ []) n 0) place ∙ get_or-append_seam bytes count [] 0
@@ -152,7 +152,7 @@ bloom_finds bits_per_key keys key there =
     in or_right (matches_all filter)
     (list_all (has_bit filter) (probes (bits_of filter) (count_in filter) key))
     (ap₂ (λ n c. list_all (has_bit filter) (probes (8 * n) c key)) long
-    (count_in-behind (bytes_with len picks) count)
+    (count_in-append (bytes_with len picks) count)
     ∙ probes_set len count keys key (count ∷ []) (bits_len-some bits_per_key (length keys)) there)
 
 Contains-map : (f : List ℕ → List ℕ) (keys : List (List ℕ)) (key : List ℕ) → Contains keys key

@@ -1,5 +1,5 @@
 -- The files at each moment of a run of calls, rebuilt from the calls that asked for a change.
-use Rattle.std.specs.Prelude.{◌≡◌, ◌⊎◌, ◌/◌, ◌%◌, ◌+◌, ◌==◌, ◌||◌, ℕ, List, filter, fold, nat_le, if◌then◌else◌, Option, None, Some, is_some, Bool, true, false, String, string_bytes, Vec}
+use Rattle.std.specs.Prelude.{◌≡◌, ◌⊎◌, ◌/◌, ◌%◌, ◌+◌, ◌==◌, ◌||◌, ℕ, List, filter, fold, nat_le, if◌then◌else◌, Option, None, Some, is_some, Bool, true, false, String, string_bytes, Vec, Result, Ok, IfOk, OnOk, OnErr}
 use Rattle.std.specs.Borrow.{Bor}
 use Rattle.std.specs.List.{find, list_all}
 use Rattle.std.specs.declared.alloc.Global.{Global}
@@ -81,13 +81,22 @@ IsChangeError (Deleted name) files = IsNoFileOrMemory files name.now
 IsChangeError (Renamed from to) files = IsNoFileOrMemory files from.now
 IsChangeError (Cleared folder) files = IsOutOfMemory
 
--- what a call asked for
-abbrev pub noted : Change (String Global) (Vec ℕ Global) → Files → Files
-noted change files = changed string_bytes (λ bytes. bytes.items) change files
-
 -- a change where it is done
 abbrev pub where_done : Bool → (Files → Files) → Files → Files
 where_done done change files = if done then change files else files
+
+-- A change is made of the files where it is done. The result says whether the file that it is of is
+-- there. Where that isn't so, and at an Err, the files stay.
+pub record MakesChange {E : Type 0} (change : Requested) (done : Bool) (old : Files)
+    (result : Result Bool E) (new : Files) : Type 0 where
+  pub there : IfOk result (λ there. done ≡ true → there ≡ finds_file change old)
+  pub ok : OnOk result (new ≡ where_done done (requested change) old)
+  pub missing : result ≡ Ok false → new ≡ old
+  pub err : OnErr result (new ≡ old)
+
+-- what a call asked for
+abbrev pub noted : Change (String Global) (Vec ℕ Global) → Files → Files
+noted change files = changed string_bytes (λ bytes. bytes.items) change files
 
 -- what a call left of the files
 abbrev pub after : Files → Call → Files

@@ -36,6 +36,11 @@ handle_name file = string_bytes file.name
 abbrev pub handle_offset : MemHandle → ℕ
 handle_offset file = file.offset
 
+-- the same file, `n` bytes further on
+pub record IsMovedBy (n : ℕ) (old new : MemHandle) : Type 0 where
+  pub name : handle_name new ≡ handle_name old
+  pub offset : handle_offset new ≡ handle_offset old + n
+
 -- ---- what the calls do
 
 -- A call makes this change of the files, or fails and makes none. Locks and time stay.
@@ -58,7 +63,10 @@ CopiesFrom (Some file) offset n was now = let bytes = drop offset (bytes_of file
 
 -- a name that is locked; a missing one is an empty file first
 abbrev pub lock_taken : List ℕ → Disk → Disk
-lock_taken name disk = record { files = created name disk.files; locked = lock_set name true disk.locked }
+lock_taken name disk = record {
+  files = created name disk.files;
+  locked = lock_set name true disk.locked;
+}
 
 -- a name that is free
 abbrev pub lock_freed : List ℕ → Disk → Disk

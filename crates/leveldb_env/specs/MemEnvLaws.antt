@@ -1,5 +1,5 @@
--- What the environments in memory report of the present moment. These are in specs/ since the impls
--- of `Env` prove their laws by them, and the checker takes no term of proofs/ there.
+-- What the environments in memory report of the present moment. The impls of `Env` cite these as
+-- their laws, where the checker takes no term of proofs/; the rest is what they stand on.
 use Rattle.std.specs.Prelude.{◌≡◌, ◌<◌, ◌^◌, true, false, IsTrue, ℕ, ◌/◌, ◌%◌, ◌*◌}
 use Rattle.std.proofs.Common.{lit<, inl, inr, arith, sym, ap, ◌∙◌}
 use Rattle.std.proofs.lemmas.Bool.{false≢true}

@@ -9,7 +9,8 @@ use Rattle.leveldb_env.specs.Env.{BeforeOrAfter, FilesUnchanged, Files, FilesCra
 use Rattle.leveldb_base.specs.Error.{IsOutOfMemory}
 use Rattle.leveldb_env.specs.Journal.{FilesWere, where_done, files_at}
 use Rattle.leveldb_env.specs.MemEnv.{files_of}
-use Rattle.leveldb_env.specs.Picks.{Tails, IsAllowed, picked}
+use Rattle.leveldb_env.specs.Picks.{Tails, tails_of, IsAllowed, picked}
+use Rattle.leveldb_env.specs.declared.mem_env.picks.Pick.{Pick}
 
 -- ---- a journal
 
@@ -19,7 +20,11 @@ files_were journal = FilesWere (files_of journal.first) journal.calls.items
 
 -- what a journal reports, with the locks
 abbrev pub observed_by : Journal → (List ℕ → Bool) → Observed
-observed_by journal locked = record { disk = record { files = files_of journal.files; locked = locked }; moment = 2 * journal.count; at_moment = files_were journal }
+observed_by journal locked = record {
+  disk = record { files = files_of journal.files; locked = locked };
+  moment = 2 * journal.count;
+  at_moment = files_were journal;
+}
 
 -- from the old to the new the files had P, whatever the locks were
 abbrev pub Passed : (Files → Type 0) → Journal → Journal → Type 0
@@ -163,3 +168,11 @@ pub record IsFresh (env : RecordEnv) : Type 0 where
   pub free : (name : List ℕ) → locked_in env name ≡ false
   pub failures : failures_of env ≡ 0
   pub fails_in : fails_in env ≡ 0
+
+-- a crash at a moment may leave what is left: the disk that it leaves by this choice, fresh again
+pub record IsCrash (env : RecordEnv) (moment : ℕ) (pick : Pick) (left : RecordEnv) : Type 0 where
+  pub allowed : CanCrashTo env moment pick.after (tails_of pick.tails.items)
+  pub observed : (record_observed env).at_moment moment (files_then env moment pick.after)
+  pub files : files_in left ≡ picked (tails_of pick.tails.items) (files_then env moment pick.after)
+  pub crashed : FilesCrashTo (files_then env moment pick.after) (files_in left)
+  pub fresh : IsFresh left

@@ -1,8 +1,8 @@
 //! Compressors: what is stored for a block, and the list of those that a store knows.
-ghost use Rattle.std.specs.Prelude.{◌≡◌, ◌⊎◌, ℕ, Bool, true, false, if◌then◌else◌, List, [], ◌∷◌, Option, None, Some, map, length, ◌<◌, ◌≤◌, is_some, option_map, ◌==◌, IfOk, IfErr, IfSome, IfNone, OnOk, OnErr};
+ghost use Rattle.std.specs.Prelude.{◌≡◌, ◌⊎◌, ℕ, true, false, if◌then◌else◌, [], Option, None, Some, map, length, ◌<◌, ◌≤◌, is_some, option_map, ◌==◌, IfOk, IfErr, IfSome, IfNone, OnOk, OnErr};
 ghost use Rattle.std.specs.List.{position_or_len};
 ghost use Rattle.leveldb_base.specs.Error.{IsOutOfMemory};
-ghost use Rattle.leveldb_env.specs.Compressor.{plain, Coding, IsEncodeError, IsDecodeError, Codings, no_codings, plain_codings, with_coding, first_coding, listed_items, IsUnset};
+ghost use Rattle.leveldb_env.specs.Compressor.{plain, Coding, IsEncodeError, IsDecodeError, Codings, no_codings, plain_codings, with_coding, SetsCoding, first_coding, listed_items, IsUnset};
 
 use leveldb_base::error::{Result, Status, StatusCode};
 use std::alloc::Global;
@@ -147,12 +147,9 @@ impl CompressorList {
         alloc: Global,
         compressor: Box<dyn Compressor>,
     ) -> Result<()>
-        ensures ok { OnOk result
-            (⟦<CompressorList as Compressors>⟧.codings self.new ≡ with_coding
-            (⟦<CompressorList as Compressors>⟧.codings self.old) I.ID (coding compressor)) }
-        ensures err { OnErr result
-            (⟦<CompressorList as Compressors>⟧.codings self.new ≡ ⟦<CompressorList as Compressors>⟧.codings self.old) }
-        ensures memory { IfErr result IsOutOfMemory }
+        ensures { SetsCoding I.ID (coding compressor)
+            (⟦<CompressorList as Compressors>⟧.codings self.old) result
+            (⟦<CompressorList as Compressors>⟧.codings self.new) }
     {
         self.set_with_id(alloc, I::ID, compressor)
     }
@@ -164,12 +161,9 @@ impl CompressorList {
         id: u8,
         compressor: Box<dyn Compressor>,
     ) -> Result<()>
-        ensures ok { OnOk result
-            (⟦<CompressorList as Compressors>⟧.codings self.new ≡ with_coding
-            (⟦<CompressorList as Compressors>⟧.codings self.old) id (coding compressor)) }
-        ensures err { OnErr result
-            (⟦<CompressorList as Compressors>⟧.codings self.new ≡ ⟦<CompressorList as Compressors>⟧.codings self.old) }
-        ensures memory { IfErr result IsOutOfMemory }
+        ensures { SetsCoding id (coding compressor)
+            (⟦<CompressorList as Compressors>⟧.codings self.old) result
+            (⟦<CompressorList as Compressors>⟧.codings self.new) }
     {
         let Some(listed) = &mut self.listed else {
             let mut listed = Vec::new(alloc);
@@ -213,7 +207,8 @@ impl CompressorList {
 
     // The compressor of an id, where it has one.
     fn found(&self, id: u8) -> Option<ListedCompressor<'_>>
-        ensures { option_map ⟦<ListedCompressor<'static> as Compressor>⟧.coding result ≡ ⟦<CompressorList as Compressors>⟧.codings self.now id }
+        ensures { option_map ⟦<ListedCompressor<'static> as Compressor>⟧.coding result
+            ≡ ⟦<CompressorList as Compressors>⟧.codings self.now id }
     {
         let listed = self.listed();
         if let Some(at) = index_of(listed, id) {
@@ -246,7 +241,9 @@ fn index_of(listed: &[Listed], id: u8) -> Option<usize>
 fn put(listed: &mut Vec<Listed>, id: u8, compressor: Box<dyn Compressor>) -> Result<()>
     ensures ok { OnOk result ((otherwise : Codings)
         → first_coding (map (λ l. (l.id, coding l.compressor)) listed.new.items) otherwise
-        ≡ with_coding (first_coding (map (λ l. (l.id, coding l.compressor)) listed.old.items) otherwise) id (coding compressor)) }
+        ≡ with_coding
+        (first_coding (map (λ l. (l.id, coding l.compressor)) listed.old.items) otherwise)
+        id (coding compressor)) }
     ensures err { OnErr result (listed.new.items ≡ listed.old.items) }
     ensures memory { IfErr result IsOutOfMemory }
 {

@@ -98,13 +98,11 @@ impl<FP: FilterPolicy> FilterBlockBuilder<FP> {
         requires { 2048 * length self.old.filters ≤ offset }
         ensures ok { OnOk result
             (self.new ≡ started (FP.filter_for self.old.policy) offset self.old) }
-        ensures policy { self.new.policy ≡ self.old.policy }
         ensures open { OnOk result (length self.new.filters ≡ offset / 2048) }
         ensures none { offset / 2048 ≡ length self.old.filters → IsOk result }
         ensures not_too_large { OnOk result (length self.old.filters < offset / 2048
             → IsFilterTooLarge (FP.too_large self.old.policy)
             (FP.filter_for self.old.policy) self.old.filters self.old.keys → ⊥) }
-        ensures fits { length (concat self.new.filters) < 2 ^ 32 }
         ensures err { OnErr result (self.new ≡ self.old) }
         ensures cause { IfErr result
             (IsFilterNotMade (FP.too_large self.old.policy)

@@ -4,6 +4,7 @@
 
 pub mod compressor;
 pub mod env;
+mod errors;
 pub mod filter;
 pub mod filter_block;
 pub mod laws;

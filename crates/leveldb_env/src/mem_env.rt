@@ -4,7 +4,7 @@ ghost use Rattle.std.specs.BTreeSet.{contains_text};
 ghost use Rattle.leveldb_base.specs.Error.{status_text, annotated, IsOutOfMemory};
 ghost use Rattle.leveldb_env.specs.Env.{bytes_of, emptied, created, deleted, renamed, extended, synced, without_folder, lock_set, DiskCrashesTo, ListsChildren};
 ghost use Rattle.leveldb_env.specs.Picks.{picked, tails_of, IsAllowed, IsChoiceError, CrashesByTails};
-ghost use Rattle.leveldb_env.specs.MemEnv.{ChangesOrFails, CopiesFrom, IsNoSuchFile, IsNoFileOrMemory, IsAlreadyLocked, IsNotLocked, lock_taken, lock_freed, disk_of, time_of, mem_observed, handle_name, handle_offset};
+ghost use Rattle.leveldb_env.specs.MemEnv.{ChangesOrFails, CopiesFrom, IsNoSuchFile, IsNoFileOrMemory, IsAlreadyLocked, IsNotLocked, lock_taken, lock_freed, disk_of, time_of, mem_observed, handle_name, handle_offset, IsMovedBy};
 ghost use Rattle.leveldb_env.specs.MemEnvLaws.{mem_failures_below, mem_only_now, mem_counts_now};
 
 pub mod files;
@@ -13,6 +13,7 @@ pub mod picks;
 mod record;
 
 use crate::env::Env;
+use crate::errors::refuse;
 use files::FileMap;
 use leveldb_base::error::{Result, Status, StatusCode, err};
 pub use picks::Pick;
@@ -120,20 +121,6 @@ impl MemHandle {
     }
 }
 
-// An error whose text says what is wrong with which name, where there is memory for it.
-#[cold]
-fn refuse<T>(alloc: Global, code: StatusCode, what: &str, name: &str) -> Result<T>
-    ensures code { IsErrAnd result (λ status. status.code ≡ code) }
-    ensures text { IsErrAnd result
-        (λ status. IfSome status.err
-        (λ text. string_bytes text ≡ status_text code (annotated what.now name.now))) }
-{
-    let Ok(msg) = format!(in alloc; "{what}: {name}") else {
-        return Err(Status { code, err: None });
-    };
-    Err(Status::new(alloc, code, msg.as_str()))
-}
-
 #[cold]
 fn missing<T>(alloc: Global, name: &str) -> Result<T>
     ensures code { IsErrAnd result (λ status. status.code ≡ StatusCode.NotFound) }
@@ -237,8 +224,7 @@ impl Env for MemEnv {
         ensures copied { IfOk result
             (λ n. CopiesFrom ((disk_of self.old).files (handle_name file.old))
             (handle_offset file.old) n target.old target.new) }
-        ensures offset { IfOk result (λ n. handle_offset file.new ≡ handle_offset file.old + n) }
-        ensures name { handle_name file.new ≡ handle_name file.old }
+        ensures moved { IfOk result (λ n. IsMovedBy n file.old file.new) }
         ensures refused { IfErr result
             (IsNoSuchFile (disk_of self.old).files (handle_name file.old)) }
         ensures err { OnErr result ((target.new ≡ target.old) × (file.new ≡ file.old)) }

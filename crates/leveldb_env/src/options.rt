@@ -36,7 +36,8 @@ impl Options<DefaultCmp, BloomPolicy> {
         ensures size { result.block_size ≡ 4096 }
         ensures interval { result.block_restart_interval ≡ 16 }
         ensures id { result.compressor ≡ 0 }
-        ensures compressors { ⟦<CompressorList as Compressors>⟧.codings result.compressor_list ≡ plain_codings }
+        ensures compressors { ⟦<CompressorList as Compressors>⟧.codings result.compressor_list
+            ≡ plain_codings }
     {
         Options {
             cmp: DefaultCmp,

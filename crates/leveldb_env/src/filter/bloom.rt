@@ -2,11 +2,11 @@
 //!
 //! A filter is its bits, eight a byte from the lowest on, and in one more byte how many of them a
 //! key has.
-ghost use Rattle.std.specs.Prelude.{◌≡◌, ◌==◌, ◌||◌, false, ◌*◌, ◌^◌, ◌<◌, ◌≤◌, ℕ, List, IfOk, IfErr, MatchOption, length, fold, slice_index};
+ghost use Rattle.std.specs.Prelude.{◌≡◌, ◌==◌, ◌||◌, false, ◌*◌, ◌^◌, ◌<◌, ◌≤◌, ℕ, MatchOption, length, fold, slice_index};
 ghost use Rattle.std.specs.List.{list_all, list_any};
 ghost use Rattle.byteorder.specs.Endian.{little_number};
 ghost use Rattle.leveldb_env.specs.Filter.{keys_at};
-ghost use Rattle.leveldb_env.specs.Bloom.{mixed, hash_after, bloom_hash, probe_count, probes, has_bit, bits_len, is_probe, bits_of, count_in, matches_all};
+ghost use Rattle.leveldb_env.specs.Bloom.{mixed, bloom_hash, probe_count, probes, has_bit, bits_len, is_probe, bits_of, count_in, matches_all};
 
 use crate::filter::{FilterPolicy, key_at};
 use leveldb_base::error::{Result, StatusCode, err};
@@ -175,7 +175,7 @@ fn bloom_hash(key: &[u8]) -> u32
 {
     let len = (key.len() % (1 << 32)) as u32;
     let (words, rest) = key.as_chunks::<4>();
-    let hash = behind_words(SEED ^ len.wrapping_mul(FACTOR), words);
+    let hash = hash_words(SEED ^ len.wrapping_mul(FACTOR), words);
     if rest.is_empty() {
         return hash;
     }
@@ -184,7 +184,7 @@ fn bloom_hash(key: &[u8]) -> u32
     mixed(24, hash, word)
 }
 
-fn behind_words(mut hash: u32, words: &[[u8; 4]]) -> u32
+fn hash_words(mut hash: u32, words: &[[u8; 4]]) -> u32
     ensures { result ≡ fold (λ hash word. mixed 16 hash (little_number 4 word)) hash words.now }
 {
     for word in words {

@@ -21,7 +21,10 @@ impl Model for MemFile {
 
     ghost Value = { File };
 
-    ghost view = { λ file. record { kept = take file.kept file.bytes.items; since = drop file.kept file.bytes.items } };
+    ghost view = { λ file. record {
+      kept = take file.kept file.bytes.items;
+      since = drop file.kept file.bytes.items;
+    } };
 
     ghost invariant = { λ file. file.kept ≤ length file.bytes.items };
 }
@@ -54,7 +57,8 @@ impl MemFile {
     /// Copies its bytes from an offset on over the front of the target, as far as both go. Returns
     /// how many came.
     pub fn read_at(&self, offset: usize, target: &mut [u8]) -> usize
-        ensures count { result ≡ min (length target.old) (length (drop offset (bytes_of self.now))) }
+        ensures count { result
+            ≡ min (length target.old) (length (drop offset (bytes_of self.now))) }
         ensures copied { target.new ≡ copied_over (drop offset (bytes_of self.now)) target.old }
         ensures end { offset + result < 2 ^ 64 }
     {
@@ -194,7 +198,8 @@ pub fn delete_file(files: &mut FileMap, name: &str) -> bool
     files.remove(name).is_some()
 }
 
-/// Gives a file another name, where it replaces what was there. Returns whether the old name was there.
+/// Gives a file another name, where it replaces what was there. Returns whether the old name was
+/// there.
 pub fn rename_file(
     files: &mut FileMap,
     alloc: Global,

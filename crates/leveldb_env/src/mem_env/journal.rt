@@ -1,8 +1,8 @@
 //! Files in memory, with a journal of what they were at each moment of a run of calls.
-ghost use Rattle.std.specs.Prelude.{◌≡◌, ◌+◌, ◌*◌, ◌<◌, ◌^◌, ◌&&◌, ◌||◌, true, false, Bool, ℕ, List, OnOk, OnErr, IfOk, Ok, None, vec_len, vec_capacity, nat_le};
+ghost use Rattle.std.specs.Prelude.{◌≡◌, ◌+◌, ◌*◌, ◌<◌, ◌^◌, ◌&&◌, ◌||◌, true, false, ℕ, List, OnOk, IfOk, Ok, None, vec_len, vec_capacity, nat_le};
 ghost use Rattle.std.specs.Option.{option_copied};
 ghost use Rattle.leveldb_env.specs.Env.{same, BeforeOrAfter, FilesUnchanged};
-ghost use Rattle.leveldb_env.specs.Journal.{requested, noted, name_in, may_be_made, is_append, finds_file, files_at, call_after, after, where_done, files_after, are_within};
+ghost use Rattle.leveldb_env.specs.Journal.{requested, noted, name_in, may_be_made, is_append, files_at, call_after, after, where_done, files_after, are_within, MakesChange};
 ghost use Rattle.leveldb_env.specs.MemEnv.{files_of};
 
 use super::files;
@@ -57,12 +57,7 @@ fn make_change(
     change: &Requested<'_>,
     done: bool,
 ) -> Result<bool, AllocError>
-    ensures there { IfOk result
-        (λ there. done ≡ true → there ≡ finds_file change.now (files_of files.old)) }
-    ensures ok { OnOk result
-        (files_of files.new ≡ where_done done (requested change.now) (files_of files.old)) }
-    ensures missing { result ≡ Ok false → files_of files.new ≡ files_of files.old }
-    ensures err { OnErr result (files_of files.new ≡ files_of files.old) }
+    ensures { MakesChange change.now done (files_of files.old) result (files_of files.new) }
 {
     if !done {
         return Ok(true);
@@ -163,7 +158,7 @@ impl Journal {
         }
         if let Some(call) = self.call_after(moment / 2) {
             let change = borrow_change(&call.change);
-            make_change(&mut files, alloc, &change, stands_inside(&change, side))?;
+            make_change(&mut files, alloc, &change, is_made_inside(&change, side))?;
         }
         Ok(files)
     }
@@ -231,13 +226,8 @@ impl Journal {
     ) -> Result<bool, AllocError>
         requires { self.old.count + 1 < 2 ^ 62 }
         ensures counted { self.new.count ≡ self.old.count + 1 }
-        ensures there { IfOk result
-            (λ there. done ≡ true → there ≡ finds_file change.now (files_of self.old.files)) }
-        ensures ok { OnOk result
-            (files_of self.new.files ≡ where_done done (requested change.now)
-            (files_of self.old.files)) }
-        ensures missing { result ≡ Ok false → files_of self.new.files ≡ files_of self.old.files }
-        ensures err { OnErr result (files_of self.new.files ≡ files_of self.old.files) }
+        ensures makes { MakesChange change.now done
+            (files_of self.old.files) result (files_of self.new.files) }
         ensures time { Passed
             (BeforeOrAfter (requested change.now) (files_of self.old.files)) self.old self.new }
         ensures inside { OnOk result
@@ -288,7 +278,7 @@ fn replay_call(files: &mut FileMap, alloc: Global, call: &Call, n: u64) -> Resul
 }
 
 // Whether a change in flight is made on this side: an append is, a sync isn't.
-fn stands_inside(change: &Requested<'_>, side: bool) -> bool
+fn is_made_inside(change: &Requested<'_>, side: bool) -> bool
     ensures { result ≡ ((side || is_append change.now) && may_be_made change.now) }
 {
     match change {

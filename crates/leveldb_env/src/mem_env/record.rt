@@ -1,9 +1,10 @@
 //! A disk in memory that records what its files were at each moment.
-ghost use Rattle.std.specs.Prelude.{◌≡◌, ◌<◌, ◌+◌, ◌-◌, ◌^◌, ◌==◌, ◌&&◌, ◌||◌, min, true, false, Bool, ℕ, List, None, Some, if◌then◌else◌, not, IsErr, IsErrAnd, OnOk};
+ghost use Rattle.std.specs.Prelude.{◌≡◌, ◌<◌, ◌+◌, ◌-◌, ◌^◌, ◌==◌, ◌&&◌, ◌||◌, true, false, Bool, ℕ, List, None, Some, if◌then◌else◌, not, IsErr, IsErrAnd, OnOk};
 
 use crate::env::Env;
+use crate::errors::refuse;
 use crate::mem_env::journal::{Change, Journal, Requested, may_be_made, name_in};
-use crate::mem_env::{MemHandle, Pick, files, missing, picks, put_lock, refuse, take_lock};
+use crate::mem_env::{MemHandle, Pick, files, missing, picks, put_lock, take_lock};
 use leveldb_base::error::{Result, Status, StatusCode, err};
 use std::alloc::{AllocError, Global};
 use std::collections::BTreeSet;
@@ -27,13 +28,13 @@ const STILL_TO_COME: &str = "that moment is still to come";
 const NO_CRASH_LEAVES: &str = "no crash leaves these tails";
 
 impl RecordEnv {
-    ghost use Rattle.std.specs.Prelude.{◌⊎◌, ◌≤◌, nat_eq, IfOk, IfErr, OnErr};
+    ghost use Rattle.std.specs.Prelude.{◌⊎◌, ◌≤◌, IfOk, IfErr, OnErr};
     ghost use Rattle.leveldb_env.specs.MemEnv.{CopiesFrom, IsNoSuchFile};
     ghost use Rattle.leveldb_base.specs.Error.{IsOutOfMemory};
-    ghost use Rattle.leveldb_env.specs.Env.{Files, FilesCrashTo};
-    ghost use Rattle.leveldb_env.specs.Picks.{ListsTails, picked, tails_of};
+    ghost use Rattle.leveldb_env.specs.Env.{Files};
+    ghost use Rattle.leveldb_env.specs.Picks.{ListsTails, tails_of};
     ghost use Rattle.leveldb_env.specs.Journal.{requested, finds_file, may_be_made, IsChangeError};
-    ghost use Rattle.leveldb_env.specs.Record.{record_observed, files_in, locked_in, moment_of, failures_of, fails_in, fails_done, SameObserved, is_past, is_chosen, one_more_failure, SameButFailures, CountsCall, ChangesNoFile, RequestsChange, files_then, CanCrashTo, CrashesByChoice, IsFresh};
+    ghost use Rattle.leveldb_env.specs.Record.{record_observed, files_in, locked_in, moment_of, failures_of, fails_in, fails_done, SameObserved, is_past, one_more_failure, SameButFailures, CountsCall, ChangesNoFile, RequestsChange, files_then, CanCrashTo, CrashesByChoice, IsCrash, IsFresh};
 
     /// A disk without a name or a lock, at moment 0. No call is chosen to fail.
     pub fn new(alloc: Global) -> RecordEnv
@@ -95,16 +96,9 @@ impl RecordEnv {
     /// `InvalidArgument` for a moment that is still to come, for a name given twice or not there,
     /// and for a tail that is too long. Each disk that a crash may leave is left by some choice.
     pub fn disk_at(&self, alloc: Global, moment: u64, pick: &Pick) -> Result<RecordEnv>
-        ensures left { IfOk result
-            (λ left. files_in left ≡ picked (tails_of pick.now.tails.items)
-            (files_then self.now moment pick.now.after)) }
-        ensures leaves { IfOk result
-            (λ left. FilesCrashTo (files_then self.now moment pick.now.after) (files_in left)) }
-        ensures fresh { IfOk result IsFresh }
-        ensures stood { (record_observed self.now).at_moment moment
-            (files_then self.now moment pick.now.after) }
-        ensures allowed { OnOk result
-            (CanCrashTo self.now moment pick.now.after (tails_of pick.now.tails.items)) }
+        ensures left { IfOk result (IsCrash self.now moment pick.now) }
+        ensures sides { (side : Bool)
+            → (record_observed self.now).at_moment moment (files_then self.now moment side) }
         ensures refused { IfErr result
             (λ e. IsOutOfMemory e
             ⊎ ((e.code ≡ StatusCode.InvalidArgument)
@@ -146,7 +140,9 @@ impl RecordEnv {
     // Whether the next call is the chosen one; none where it isn't counted.
     fn turn(&mut self) -> Option<bool>
         ensures turn { result ≡ (if is_past self.old then None else Some (self.old.fails_in == 1)) }
-        ensures next { self.new ≡ record self.old { fails_in = if is_past self.old then self.old.fails_in else self.old.fails_in - 1 } }
+        ensures next { self.new ≡ record self.old {
+          fails_in = if is_past self.old then self.old.fails_in else self.old.fails_in - 1;
+        } }
     {
         if self.journal.is_full() {
             return None;
@@ -236,7 +232,7 @@ impl Env for RecordEnv {
     ghost use Rattle.std.specs.Prelude.{◌⊎◌, refl, is_ok, is_some, length, map, string_bytes, Ok, Result, IfOk, IfErr, IsSome, IsSomeAnd, OnErr};
     ghost use Rattle.leveldb_base.specs.Error.{IsOutOfMemory};
     ghost use Rattle.leveldb_env.specs.Env.{ListsChildren, bytes_of, emptied, created, deleted, renamed, extended, synced, without_folder, lock_set};
-    ghost use Rattle.leveldb_env.specs.MemEnv.{CopiesFrom, IsNoFileOrMemory, IsNoSuchFile, IsAlreadyLocked, IsNotLocked, handle_name, handle_offset};
+    ghost use Rattle.leveldb_env.specs.MemEnv.{CopiesFrom, IsNoFileOrMemory, IsNoSuchFile, IsAlreadyLocked, IsNotLocked, handle_name, handle_offset, IsMovedBy};
     ghost use Rattle.leveldb_env.specs.Record.{record_observed, files_in, locked_in, moment_of, failures_of, CountsCall, ChangesNoFile, RequestsChange};
     ghost use Rattle.leveldb_env.specs.MemEnvLaws.{record_only_now, record_counts_now, record_failures_below};
 
@@ -324,8 +320,7 @@ impl Env for RecordEnv {
         ensures copied { IfOk result
             (λ n. CopiesFrom (files_in self.old (handle_name file.old))
             (handle_offset file.old) n target.old target.new) }
-        ensures offset { IfOk result (λ n. handle_offset file.new ≡ handle_offset file.old + n) }
-        ensures name { handle_name file.new ≡ handle_name file.old }
+        ensures moved { IfOk result (λ n. IsMovedBy n file.old file.new) }
         ensures err { OnErr result ((target.new ≡ target.old) × (file.new ≡ file.old)) }
     {
         self.look()?;

@@ -1,7 +1,6 @@
 use Rattle.std.proofs.Common.{◌≡◌, ◌-◌, ◌^◌, [], ◌∷◌, ◌++◌, length, replicate, sym, ap, subst, ◌∙◌, arith}
 use Rattle.std.specs.Prelude.{OnOk}
 use Rattle.std.proofs.lemmas.Result.{err_from_is_err_and}
-use Rattle.std.specs.List.{concat}
 use Rattle.leveldb_env.specs.Filter.{keys_at}
 use Rattle.leveldb_env.proofs.FilterBlockLemmas.{cut_texts, pushed_size, some_made, not_made, too_many, made_fits, on_ok}
 use Rattle.leveldb_env.proofs.filter_block.make_filters.Goals as goal

@@ -1,4 +1,4 @@
-use Rattle.std.proofs.Common.{◌≡◌, ℕ, ◌+◌, ◌<◌, ◌≤◌, List, [], ◌∷◌, ◌++◌, ap, ap₂, sym, ◌∙◌, arith, length, map, take, get_or}
+use Rattle.std.proofs.Common.{◌≡◌, ◌+◌, ◌<◌, ◌≤◌, [], ◌∷◌, ◌++◌, ap, ap₂, sym, ◌∙◌, arith, length, map, take, get_or}
 use Rattle.std.specs.List.{concat}
 use Rattle.std.proofs.lemmas.List.{map_more, take_all}
 use Rattle.leveldb_base.specs.KeyTypes.{user_part}

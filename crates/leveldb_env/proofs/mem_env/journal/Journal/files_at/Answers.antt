@@ -15,12 +15,12 @@ returns c =
     elim c.match-call_after.branch [
       | in-Some+in_ok-make_change w ↦
           let call = w.in-Some.call.now in
-          let lent = w.borrow_change-change.result in
+          let asked = w.borrow_change-change.result in
           let before = files_of c.in_ok-files.files in
           let found : Some call ≡ call_after j.calls.items (c.args.moment / 2) = ap option_copied (sym w.in-Some.is) ∙ c.call_after.ensures in
           ap files_of w.files-is ∙ w.in_ok-make_change.ensures.ok
-          ∙ ap (λ done. where_done done (requested lent) before) w.stands_inside.ensures
-          ∙ done_both (side || is_append lent) (may_be_made lent) (requested lent) before
+          ∙ ap (λ done. where_done done (requested asked) before) w.is_made_inside.ensures
+          ∙ done_both (side || is_append asked) (may_be_made asked) (requested asked) before
           ∙ (λ i. where_done (side || w.borrow_change-change.ensures.append i) (where_done (w.borrow_change-change.ensures.may i) (w.borrow_change-change.ensures.change i)) before)
           ∙ ap (side_of side (Some call)) c.in_ok-files.ensures
           ∙ files_at_odd first j.calls.items c.args.moment side (Some call) odd found

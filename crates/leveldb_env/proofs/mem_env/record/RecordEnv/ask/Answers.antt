@@ -23,7 +23,7 @@ pub returns-in_err-there-clause-asks : goal.returns-in_err-there-clause-asks
 returns-in_err-there-clause-asks c =
     let p = err_from_is_err_and c.from_residual.result c.from_residual.ensures.1 in
     asks_no_memory c.args.self.now _ c.turn.new.self.journal c.make.new.self (journal_after c.turn.ensures.next) refl (requested c.args.change.now) (may_be_made c.args.change.now) c.make.ensures.time
-    c.from_residual.result p.0 p.1 p.2 c.in_err-there.ensures.err
+    c.from_residual.result p.0 p.1 p.2 c.in_err-there.ensures.makes.err
 
 -- ---- the chosen call
 
@@ -33,7 +33,7 @@ returns-then-chosen-clause-asks c =
     let env = c.args.self.now in
     let p = err_from_is_err_and c.refuse_call-then-chosen.result c.refuse_call-then-chosen.ensures.code in
     let is_done = done_is d ∙ chosen_made (is_past env) (env.fails_in == 1) c.in-Some.chosen env.fails_done (may_be_made c.args.change.now) (taken d).0 (taken d).1 c.if-chosen.true in
-    let made = c.in_ok-there.ensures.ok ∙ ap (λ done. where_done done (requested c.args.change.now) (files_of c.turn.new.self.journal.files)) is_done in
+    let made = c.in_ok-there.ensures.makes.ok ∙ ap (λ done. where_done done (requested c.args.change.now) (files_of c.turn.new.self.journal.files)) is_done in
     asks_err env _ c.turn.new.self.journal c.make.new.self (journal_after c.turn.ensures.next) c.refuse_call-then-chosen.ensures.same.journal (requested c.args.change.now) (may_be_made c.args.change.now) c.make.ensures.time
     c.refuse_call-then-chosen.result p.0 p.1 made c.in_ok-there.ensures.inside
 
@@ -48,14 +48,14 @@ is_made c other = done_is c ∙ ap (λ b. not b || (may_be_made c.args.change.no
 
 -- the name was there where that is returned
 found : (c : In_ok-there) → c.in-Some.chosen ≡ false → c.in_ok-there.there ≡ finds_file c.args.change.now (files_in c.args.self.now)
-found c other = c.in_ok-there.ensures.there (is_made c other) ∙ ap (λ (env : RecordEnv). finds_file c.args.change.now (files_in env)) c.turn.ensures.next
+found c other = c.in_ok-there.ensures.makes.there (is_made c other) ∙ ap (λ (env : RecordEnv). finds_file c.args.change.now (files_in env)) c.turn.ensures.next
 
 pub returns-then-not-there-clause-asks : goal.returns-then-not-there-clause-asks
 returns-then-not-there-clause-asks c =
     let d = (goal.at.returns-then-not-there-clause-asks c).In_ok-there in
     let env = c.args.self.now in
     let p = err_from_is_err_and c.missing.result c.missing.ensures.code in
-    let same = c.in_ok-there.ensures.missing (ap Ok c.if-not-there.true) in
+    let same = c.in_ok-there.ensures.makes.missing (ap Ok c.if-not-there.true) in
     let none : (may_be_made c.args.change.now && is_chosen_made env) ≡ false = ap (λ b. may_be_made c.args.change.now && (b && env.fails_done)) (is_other d c.if-chosen.false) ∙ and_false (may_be_made c.args.change.now) in
     let made = same ∙ ap (λ is_chosen_made. where_done is_chosen_made (requested c.args.change.now) (files_of c.turn.new.self.journal.files)) (sym none) in
     asks_err env _ c.turn.new.self.journal c.make.new.self (journal_after c.turn.ensures.next) refl (requested c.args.change.now) (may_be_made c.args.change.now) c.make.ensures.time
@@ -85,6 +85,6 @@ pub returns-clause-asks : goal.returns-clause-asks
 returns-clause-asks c =
     let d = (goal.at.returns-clause-asks c).In_ok-there in
     let env = c.args.self.now in
-    let made = c.in_ok-there.ensures.ok ∙ ap (λ done. where_done done (requested c.args.change.now) (files_of c.turn.new.self.journal.files)) (is_made d c.if-chosen.false) in
+    let made = c.in_ok-there.ensures.makes.ok ∙ ap (λ done. where_done done (requested c.args.change.now) (files_of c.turn.new.self.journal.files)) (is_made d c.if-chosen.false) in
     asks_ok env _ c.turn.new.self.journal c.make.new.self (journal_after c.turn.ensures.next) refl (requested c.args.change.now) (may_be_made c.args.change.now) c.make.ensures.time
     _ made c.in_ok-there.ensures.inside
