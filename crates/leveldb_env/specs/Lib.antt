@@ -10,6 +10,8 @@ pub mod FilterBlock
 pub mod FilterBlockLaws
 pub mod MemEnv
 pub mod MemEnvLaws
+pub mod DiskEnv
+pub mod DiskEnvLaws
 pub mod Journal
 pub mod Record
 pub mod Picks

@@ -3,6 +3,7 @@
 #![tactic(auto)]
 
 pub mod compressor;
+pub mod disk_env;
 pub mod env;
 pub mod filter;
 pub mod filter_block;
