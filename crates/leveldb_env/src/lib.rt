@@ -7,6 +7,7 @@ pub mod disk_env;
 pub mod env;
 pub mod filter;
 pub mod filter_block;
+pub mod infolog;
 pub mod laws;
 pub mod mem_env;
 pub mod options;
