@@ -16,3 +16,4 @@ pub mod Journal
 pub mod Record
 pub mod Picks
 pub mod Compressor
+pub mod Options
