@@ -16,6 +16,8 @@ mod filter_blocks;
 #[cfg(test)]
 mod filters;
 #[cfg(test)]
+mod infologs;
+#[cfg(test)]
 mod internal_filters;
 #[cfg(test)]
 mod mem_envs;

@@ -6,6 +6,7 @@ pub mod WholeFilesLemmas
 pub mod FilterLemmas
 pub mod BloomLemmas
 pub mod FilterBlockLemmas
+pub mod DiskEnvLemmas
 pub mod MemEnvLemmas
 pub mod JournalLemmas
 pub mod RecordLemmas

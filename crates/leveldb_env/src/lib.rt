@@ -3,10 +3,12 @@
 #![tactic(auto)]
 
 pub mod compressor;
+pub mod disk_env;
 pub mod env;
 mod errors;
 pub mod filter;
 pub mod filter_block;
+pub mod infolog;
 pub mod laws;
 pub mod mem_env;
 pub mod options;
