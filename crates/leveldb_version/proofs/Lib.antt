@@ -29,3 +29,4 @@ pub mod CurrentKeptLemmas
 pub mod CrashLemmas
 pub mod ToldLemmas
 pub mod FirstCurrentLemmas
+pub mod LevelsLemmas
