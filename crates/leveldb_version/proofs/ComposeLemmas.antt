@@ -6,8 +6,8 @@ use Rattle.leveldb_env.specs.Env.{ChangesFiles, Files, Observed, Run, Within}
 use Rattle.leveldb_version.proofs.SafeLemmas.{safe_more}
 use Rattle.leveldb_version.specs.Contents.{Contents, Store}
 use Rattle.leveldb_version.specs.Holds.{IsSafe}
-use Rattle.leveldb_version.specs.StoreSteps.{Risk, IsPartOf, IsSafeFor}
-use Rattle.std.proofs.Common.{◌≡◌, ◌≤◌, Bool, IsTrue, List, Result, [], append-nil, arith, subst, sym, ℕ}
+use Rattle.leveldb_version.specs.StoreSteps.{IsPartOf, IsSafeFor, Risk}
+use Rattle.std.proofs.Common.{◌≤◌, Bool, IsTrue, List, Result, [], append-nil, arith, subst, sym, ℕ}
 
 pub whole_is_part : (risk : Risk) → IsPartOf risk risk
 whole_is_part risk =

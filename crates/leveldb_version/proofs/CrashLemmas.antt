@@ -12,10 +12,10 @@ use Rattle.leveldb_mem.proofs.LawsLemmas.{crash_leaves, each_reads, log_laws, us
 use Rattle.leveldb_mem.specs.Log.{End, HonestTail, IsLogFile, clean, log_block_size}
 use Rattle.leveldb_mem.specs.WriteBatch.{Batch}
 use Rattle.leveldb_version.proofs.BatchesLemmas.{each_take}
-use Rattle.leveldb_version.proofs.EditAppendLemmas.{left_whole}
 use Rattle.leveldb_version.proofs.KeptLemmas.{kept_left}
 use Rattle.leveldb_version.proofs.LastLogLemmas.{batches_now, batches_were, before_it, with_now}
 use Rattle.leveldb_version.proofs.ManagedLemmas.{SameBytes, found_again, kinds_apart, managed_on}
+use Rattle.leveldb_version.proofs.ManifestLemmas.{left_whole}
 use Rattle.leveldb_version.proofs.SafeLemmas.{Honest}
 use Rattle.leveldb_version.specs.Batches.{AreInOrder, Each, IsRecordOf, all_entries, batch_entries}
 use Rattle.leveldb_version.specs.Contents.{Contents}
@@ -23,7 +23,7 @@ use Rattle.leveldb_version.specs.Current.{IsCurrentText}
 use Rattle.leveldb_version.specs.Holds.{IsHonest}
 use Rattle.leveldb_version.specs.Levels.{table_entries}
 use Rattle.leveldb_version.specs.Paths.{current_path, log_path, table_path}
-use Rattle.leveldb_version.specs.Store.{HasEdits, IsManagedBy, IsReplayed, ReplayedLog}
+use Rattle.leveldb_version.specs.Store.{IsManagedBy, IsReplayed, ReplayedLog}
 use Rattle.leveldb_version.specs.StoreSteps.{IsCut, IsCutStore, IsCuttable, IsJournalFile, IsKeptButLog}
 use Rattle.leveldb_version.specs.VersionEdit.{Edit, IsEdit}
 use Rattle.leveldb_version.specs.VersionSet.{live_after}
@@ -52,13 +52,13 @@ pub journal_left : (file : File) (kept written : List (List ℕ)) (left : Option
 journal_left file kept written left j leaves honest =
     let now = kept_file (file.kept ++ leaves.0) in
     let found = each_reads true log_block_size 0 (file.kept ++ leaves.0) usual_size in
-    let honest_here : HonestTail log_block_size (file.kept ++ file.since) (file.kept ++ leaves.0) =
+    let honest_here : HonestTail log_block_size (file.kept ++ file.since)
+    (file.kept ++ leaves.0) =
     subst (λ b. HonestTail log_block_size (bytes_of file) b)
     (append-nil (file.kept ++ leaves.0)) (honest file now refl leaves.3) in
-    let first =
-    crash_leaves log_block_size file.kept file.since j.missing leaves.0 kept written j.records
-    found.0 j.kept_end j.end found.1 usual_size j.kept_read j.read j.whole leaves.2 honest_here
-    found.2 in
+    let first = crash_leaves log_block_size file.kept file.since j.missing leaves.0 kept written
+    j.records found.0 j.kept_end j.end found.1 usual_size j.kept_read j.read j.whole leaves.2
+    honest_here found.2 in
     record {
       now = now;
       there = leaves.3;
@@ -178,12 +178,11 @@ module _ (store : List ℕ) (cmp : List ℕ → List ℕ → Ordering)
         → Contains managed.logs log → log.number ≡ n → n ≤ number
     most n replayed log c is =
         let h = managed.has_logs.each log c in
-        let again =
-        found_again (whole (log_path store log.number))
+        let again = found_again (whole (log_path store log.number))
         (files (log_path store log.number)) h.0.0
         (sym
-        (other_bytes (file_name Log log.number) log.number
-        (made_name Log log.number h.2) h.1)) h.0.1 in
+        (other_bytes (file_name Log log.number) log.number (made_name Log log.number h.2) h.1))
+        h.0.1 in
         subst (λ x. x ≤ number) is
         (s.logs.greatest (file_name Log log.number) log.number
         (made_name Log log.number h.2) h.1
@@ -193,12 +192,11 @@ module _ (store : List ℕ) (cmp : List ℕ → List ℕ → Ordering)
         → log.end ≡ clean
     clean_earlier log c less =
         let h = managed.has_logs.each log c in
-        let again =
-        found_again (whole (log_path store log.number))
+        let again = found_again (whole (log_path store log.number))
         (files (log_path store log.number)) h.0.0
         (sym
-        (other_bytes (file_name Log log.number) log.number
-        (made_name Log log.number h.2) h.1)) h.0.1 in
+        (other_bytes (file_name Log log.number) log.number (made_name Log log.number h.2) h.1))
+        h.0.1 in
         let clean_read = s.logs.clean_before log.number again.now less h.1 again.there in
         (log_laws.one (bytes_of h.0.0) h.0.2.records clean_read.0 log.end clean h.0.2.read
         (subst (λ b. IsLogFile b clean_read.0 clean) again.bytes clean_read.1)).1
@@ -219,23 +217,19 @@ module _ (store : List ℕ) (cmp : List ℕ → List ℕ → Ordering)
 
     pub cut_store : (c : Contents) × IsManagedBy store cmp IsTableOf left edits c
         × IsCut batches k s.contents c
-    cut_store =
-        let m =
+    cut_store = let m =
         with_now store cmp IsTableOf whole left edits s.contents managed number fits
         s.logs.replayed most clean_earlier same
         (file_kept file) now whole_there there_now written
         (take k written) end now_end whole_read read_now
         batches (take k batches) each
         (each_take IsRecordOf k written batches each) rises known in
-        let were =
-        batches_were store cmp IsTableOf whole left edits s.contents managed number fits
+        let were = batches_were store cmp IsTableOf whole left edits s.contents managed number fits
         s.logs.replayed most clean_earlier same
         (file_kept file) now whole_there there_now written
-        (take k written) end now_end whole_read read_now
-        batches (take k batches) each
+        (take k written) end now_end whole_read read_now batches (take k batches) each
         (each_take IsRecordOf k written batches each) rises known in
-        let are =
-        batches_now store cmp IsTableOf whole left edits s.contents managed number fits
+        let are = batches_now store cmp IsTableOf whole left edits s.contents managed number fits
         s.logs.replayed most clean_earlier same
         (file_kept file) now whole_there there_now written
         (take k written) end now_end whole_read read_now
@@ -249,8 +243,7 @@ module _ (store : List ℕ) (cmp : List ℕ → List ℕ → Ordering)
                 before_it store cmp IsTableOf whole left edits s.contents managed number fits
                 s.logs.replayed most clean_earlier same
                 (file_kept file) now whole_there there_now written
-                (take k written) end now_end whole_read read_now
-                batches (take k batches) each
+                (take k written) end now_end whole_read read_now batches (take k batches) each
                 (each_take IsRecordOf k written batches each) rises known;
             last = managed.last;
             old_entries = ap (λ (c : Contents). c.entries) managed.is

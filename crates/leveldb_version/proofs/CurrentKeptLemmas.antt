@@ -7,7 +7,7 @@ use Rattle.leveldb_base.specs.declared.types.FileType.TheVariants.{Current, Desc
 use Rattle.leveldb_env.proofs.EnvLemmas.{at_other, at_same}
 use Rattle.leveldb_env.specs.Env.{AreBytes, File, FileCrashesTo, Files, FilesCrashTo, bytes_of, in_folder, kept_file, with_file}
 use Rattle.leveldb_mem.specs.Log.{HonestTail, log_block_size}
-use Rattle.leveldb_version.proofs.EditNowLemmas.{all_honest, all_kept, all_leaves}
+use Rattle.leveldb_version.proofs.HonestCrashLemmas.{all_honest, all_kept, all_leaves}
 use Rattle.leveldb_version.proofs.ManagedLemmas.{kinds_apart}
 use Rattle.leveldb_version.proofs.SafeLemmas.{leaves_with, some_is}
 use Rattle.leveldb_version.specs.Contents.{Contents, Store}
@@ -76,8 +76,7 @@ module _ (store : List ℕ) (cmp : List ℕ → List ℕ → Ordering)
           left = with_file (current_path store) (Some now) (all_kept files)
 
           leaves : FilesCrashTo files left
-          leaves =
-              leaves_with (current_path store) files files (all_kept files) (Some now)
+          leaves = leaves_with (current_path store) files files (all_kept files) (Some now)
               (λ other away. refl) (all_leaves files bytes)
               (subst (λ f. FileCrashesTo f (Some now)) (sym there) (
                 0 ∷ [],
@@ -94,7 +93,8 @@ module _ (store : List ℕ) (cmp : List ℕ → List ℕ → Ordering)
               ∙ at_same (current_path store) (Some now) (all_kept files) in cc
           spoiled (inr m) =
               let h = m.has_edits in
-              let same : h.current ≡ now =
+              let same : h.current
+              ≡ now =
               some_is h.current now
               (sym h.current_there ∙ at_same (current_path store) (Some now) (all_kept files))
               in

@@ -1,6 +1,6 @@
 -- An edit comes to the manifest: each disk that the append passes is safe.
 use Rattle.leveldb_base.proofs.NamesLemmas.{made_name}
-use Rattle.leveldb_base.specs.History.{History, entries_of}
+use Rattle.leveldb_base.specs.History.{History}
 use Rattle.leveldb_base.specs.Names.{file_name}
 use Rattle.leveldb_base.specs.Types.{Pair}
 use Rattle.leveldb_base.specs.declared.types.FileType.TheVariants.{Current, Descriptor}
@@ -10,128 +10,30 @@ use Rattle.leveldb_mem.proofs.LawsLemmas.{cut_reads, each_reads, log_laws, usual
 use Rattle.leveldb_mem.specs.Laws.{AreFirst}
 use Rattle.leveldb_mem.specs.Log.{End, HonestTail, IsLogFile, clean, frame_at, log_block_size}
 use Rattle.leveldb_version.proofs.BatchesLemmas.{each_more, each_one}
-use Rattle.leveldb_version.proofs.CurrentLemmas.{one_current}
 use Rattle.leveldb_version.proofs.ManagedLemmas.{kinds_apart, managed_on, same_for_others}
-use Rattle.leveldb_version.proofs.MatchesLemmas.{matches_from_last}
-use Rattle.leveldb_version.proofs.SafeLemmas.{Honest, front_honest, honest_with, leaves_with, some_is}
+use Rattle.leveldb_version.proofs.ManifestLemmas.{IsLeftWhole, bytes_take, has_edits, left_whole, read_by}
+use Rattle.leveldb_version.proofs.MatchesLemmas.{matches_refined}
+use Rattle.leveldb_version.proofs.SafeLemmas.{Honest, front_honest, honest_with, leaves_with}
 use Rattle.leveldb_version.proofs.VersionEditLemmas.{one_edit}
-use Rattle.leveldb_version.proofs.ViewsLemmas.{view_trans}
-use Rattle.leveldb_version.specs.Batches.{Each}
 use Rattle.leveldb_version.specs.Contents.{Contents, Store}
 use Rattle.leveldb_version.specs.Current.{IsCurrentText}
-use Rattle.leveldb_version.specs.Holds.{CarriesPrefix, IsHonest, IsSafe, MatchesHistory}
+use Rattle.leveldb_version.specs.Holds.{CarriesPrefix, IsHonest, IsSafe}
 use Rattle.leveldb_version.specs.Paths.{current_path}
-use Rattle.leveldb_version.specs.Store.{HasEdits, IsManagedBy, IsStore}
-use Rattle.leveldb_version.specs.StoreSteps.{EditKeeps, IsManifestOpen, Refines}
+use Rattle.leveldb_version.specs.Store.{IsManagedBy, IsStore}
+use Rattle.leveldb_version.specs.StoreSteps.{EditKeeps, IsManifestOpen}
 use Rattle.leveldb_version.specs.VersionEdit.{Edit, IsEdit}
 use Rattle.leveldb_version.specs.VersionSet.{live_after}
-use Rattle.std.proofs.Common.{◌++◌, ◌<◌, ◌∙◌, ◌∷◌, ◌≡◌, ◌≤◌, ◌⊎◌, List, None, Option, Some, [], ap, append-nil, append_assoc, arith, drop, false, inl, inr, length, length-append, refl, subst, sym, take, true, ℕ, ⊎_elim}
+use Rattle.std.proofs.Common.{◌++◌, ◌<◌, ◌∙◌, ◌∷◌, ◌≡◌, ◌≤◌, ◌⊎◌, List, Some, [], ap, append-nil, append_assoc, arith, drop, false, inl, inr, length, length-append, refl, subst, sym, take, true, ℕ, ⊎_elim}
 use Rattle.std.proofs.lemmas.Bool.{cases_lt}
-use Rattle.std.proofs.lemmas.List.{get_or-take, get_or_past, length-take, nil_from_length, take-append-drop, take-append-le, take_all}
+use Rattle.std.proofs.lemmas.List.{length-take, take-append-drop, take-append-le, take_all}
 use Rattle.std.specs.Prelude.{◌≢◌}
 use Rattle.std.specs.Str.{bytes_eq}
 use Rattle.std.specs.declared.cmp.Ordering.{Ordering}
-
--- a part of bytes are bytes
-pub bytes_take : (n : ℕ) (bytes : List ℕ) → AreBytes bytes → AreBytes (take n bytes)
-bytes_take n bytes are i = ⊎_elim
-    (λ (inside : i < n). omega (arith, are i, get_or-take n bytes i 0 inside))
-    (λ (past : n ≤ i). omega
-    (arith, get_or_past (take n bytes) i 0 (omega (arith, past, length-take n bytes))))
-    (cases_lt i n)
-
--- ---- a kept file
-
-pub record IsLeftWhole (file : File) (left : Option File) : Type 0 where
-  pub now : File
-  pub there : left ≡ Some now
-  pub kept : now.since ≡ []
-  pub bytes : bytes_of now ≡ bytes_of file
-
-pub left_whole : (file : File) (left : Option File) → file.since ≡ []
-    → FileCrashesTo (Some file) left → IsLeftWhole file left
-left_whole file left is leaves =
-    let few = ap length is in
-    let none : leaves.0 ≡ [] = nil_from_length leaves.0 (omega (arith, leaves.2, few)) in
-    record {
-      now = kept_file (file.kept ++ leaves.0);
-      there = leaves.3;
-      kept = refl;
-      bytes = append-nil (file.kept ++ leaves.0) ∙ ap (λ b. file.kept ++ b) (none ∙ sym is);
-    }
-
--- ---- contents that show the same
-
-pub matches_refined :
-    (allowed : Store → Type 0) (bound : ℕ) (old new : Contents) (history : History)
-    → Refines bound old new → MatchesHistory allowed bound old history
-    → MatchesHistory allowed bound new history
-matches_refined allowed bound old new history r t = matches_from_last allowed bound new history
-    (λ at most.
-    view_trans new.entries old.entries (entries_of history) at (r.same at most)
-    (t.same at (omega (arith, t.reached, r.later, most))))
-    (λ entry c. t.up_to entry (r.none_new entry c)) (omega (arith, t.reached, r.later)) r.bounded
-    (subst (allowed) (sym r.store) t.store)
 
 module _ (store : List ℕ) (cmp : List ℕ → List ℕ → Ordering)
     (IsTableOf : List ℕ → List Pair → Type 0) where
   abbrev reads : Files → Contents → Type 0
   reads = IsStore store cmp IsTableOf
-
-  -- ---- what is read of a manifest
-
-  module _ (name : List ℕ) (number : ℕ) (current : File)
-      (named : IsCurrentText (bytes_of current) name number) where
-    -- the edits that a store is read by are those of the manifest's records
-    pub record ReadBy (left : Files) (records : List (List ℕ)) (contents : Contents) : Type 0 where
-      pub edits : List Edit
-      pub each : Each IsEdit records edits
-      pub managed : IsManagedBy store cmp IsTableOf left edits contents
-
-    pub read_by :
-        (left : Files) (file : File) (records : List (List ℕ)) (end : End) (contents : Contents)
-        → left (current_path store) ≡ Some current → left (in_folder store name) ≡ Some file
-        → IsLogFile (bytes_of file) records end → reads left contents → ReadBy left records contents
-    read_by left file records end contents here there read (inl bare) =
-        absurd (let never : None ≡ Some current = sym bare.0.no_current ∙ here in cc)
-    read_by left file records end contents here there read (inr m) =
-        let e = m.has_edits in
-        let same_current : e.current ≡ current =
-        some_is e.current current (sym e.current_there ∙ here) in
-        let same_name =
-        (one_current (bytes_of current) e.name name e.number number
-        (subst (λ f. IsCurrentText (bytes_of f) e.name e.number) same_current e.named) named).0
-        in
-        let same_file : e.manifest ≡ file =
-        some_is e.manifest file
-        (sym e.there ∙ ap (λ n. left (in_folder store n)) same_name ∙ there) in
-        let same_records =
-        (log_laws.one (bytes_of file) e.is.records records e.is.end end
-        (subst (λ f. IsLogFile (bytes_of f) e.is.records e.is.end) same_file e.is.read) read).0
-        in
-        record {
-          edits = m.edits;
-          each = subst (λ rs. Each IsEdit rs m.edits) same_records e.is.each;
-          managed = m.managed;
-        }
-
-    pub has_edits :
-        (left : Files) (file : File) (records : List (List ℕ)) (end : End) (edits : List Edit)
-        → left (current_path store) ≡ Some current → left (in_folder store name) ≡ Some file
-        → IsLogFile (bytes_of file) records end → Each IsEdit records edits
-        → HasEdits store left edits
-    has_edits left file records end edits here there read each = record {
-      current = current;
-      current_there = here;
-      name = name;
-      number = number;
-      named = named;
-      manifest = file;
-      there = there;
-      is = record { records = records; end = end; read = read; each = each };
-    }
-
-  -- ---- the append
 
   module _ (files : Files) (edits : List Edit) (m : IsManifestOpen store files edits)
       (since : AreBytes m.file.since) (allowed : Store → Type 0) (bound durable : ℕ)
@@ -172,8 +74,7 @@ module _ (store : List ℕ) (cmp : List ℕ → List ℕ → Ordering)
       found_there = manifest_left.3
 
       apart : bytes_eq path (current_path store) ≡ false
-      apart =
-          kinds_apart store m.name (file_name Current 0) m.number 0 Descriptor Current m.named.0
+      apart = kinds_apart store m.name (file_name Current 0) m.number 0 Descriptor Current m.named.0
           (made_name Current 0 refl) (λ e. cc)
 
       current_left : IsLeftWhole m.current (left (current_path store))
@@ -229,8 +130,7 @@ module _ (store : List ℕ) (cmp : List ℕ → List ℕ → Ordering)
           → CarriesPrefix store reads allowed bound durable history left
       fewer count k e1 e2 read found =
           let c = safe (before k) (before_leaves k) (before_honest k) in
-          let by =
-          read_by m.name m.number current_left.now named_left (before k)
+          let by = read_by store cmp IsTableOf m.name m.number current_left.now named_left (before k)
           (kept_file (m.file.kept ++ take k m.file.since))
           (take count m.records) e1 c.carries.contents
           (at_other path (Some (kept_file (m.file.kept ++ take k m.file.since))) left
@@ -245,7 +145,7 @@ module _ (store : List ℕ) (cmp : List ℕ → List ℕ → Ordering)
               read = inr (record {
                 edits = by.edits;
                 has_edits =
-                    has_edits m.name m.number current_left.now named_left left found_file
+                    has_edits store cmp IsTableOf m.name m.number current_left.now named_left left found_file
                     (take count m.records) e2 by.edits current_left.there found_there found by.each;
                 managed = back k by.edits c.carries.contents by.managed;
               });
@@ -259,18 +159,17 @@ module _ (store : List ℕ) (cmp : List ℕ → List ℕ → Ordering)
           → CarriesPrefix store reads allowed bound durable history left
       all k e1 e2 read found =
           let c = safe (before k) (before_leaves k) (before_honest k) in
-          let by =
-          read_by m.name m.number current_left.now named_left (before k)
+          let by = read_by store cmp IsTableOf m.name m.number current_left.now named_left (before k)
           (kept_file (m.file.kept ++ take k m.file.since)) m.records e1 c.carries.contents
           (at_other path (Some (kept_file (m.file.kept ++ take k m.file.since))) left
           (current_path store) apart ∙ current_left.there) (before_there k)
           (subst (λ b. IsLogFile b m.records e1)
           (sym (append-nil (m.file.kept ++ take k m.file.since))) read) c.carries.read in
-          let same_edits : by.edits ≡ edits =
+          let same_edits : by.edits
+          ≡ edits =
           each_one IsEdit
           (λ t x y p q. one_edit t x y p q) m.records by.edits edits by.each m.each in
-          let now =
-          keeps (before k) c.carries.contents (before_leaves k)
+          let now = keeps (before k) c.carries.contents (before_leaves k)
           (before_honest k) c.carries.matches.bounded
           (subst
           (λ es. IsManagedBy store cmp IsTableOf (before k) es c.carries.contents) same_edits
@@ -283,7 +182,7 @@ module _ (store : List ℕ) (cmp : List ℕ → List ℕ → Ordering)
               read = inr (record {
                 edits = edits ++ edit ∷ [];
                 has_edits =
-                    has_edits m.name m.number current_left.now named_left left found_file
+                    has_edits store cmp IsTableOf m.name m.number current_left.now named_left left found_file
                     (m.records ++ text ∷ []) e2
                     (edits ++ edit ∷ []) current_left.there found_there found
                     (each_more IsEdit m.records edits text edit m.each is_edit);
@@ -299,8 +198,7 @@ module _ (store : List ℕ) (cmp : List ℕ → List ℕ → Ordering)
       regrouped = sym (append_assoc m.file.kept m.file.since (take n frame))
 
       grown_safe : CarriesPrefix store reads allowed bound durable history left
-      grown_safe =
-          from
+      grown_safe = from
           (log_laws.torn m.file.kept m.file.since tail first.0 m.records written.0 text n first.1
           written.1 some first.2 m.clean_end stood_read no_longer honest_here)
         where
@@ -337,8 +235,7 @@ module _ (store : List ℕ) (cmp : List ℕ → List ℕ → Ordering)
               (inr (m.name, m.number, m.named.0, refl)) there_then found_there))
 
           low_first : length first.0 ≤ length m.records
-          low_first =
-              let a =
+          low_first = let a =
               cut_reads true log_block_size 0 m.file.kept m.file.since [] first.0 m.records
               m.records first.1 clean clean usual_size first.2 m.clean_end
               (subst (λ b. IsLogFile b m.records clean)
@@ -360,16 +257,14 @@ module _ (store : List ℕ) (cmp : List ℕ → List ℕ → Ordering)
                   → found ≡ take count m.records
                   → CarriesPrefix store reads allowed bound durable history left
               few count low high is =
-                  let c =
-                  log_laws.cut m.file.kept m.file.since first.0 m.records first.1 clean count
-                  first.2 m.clean_end low high in
+                  let c = log_laws.cut m.file.kept m.file.since first.0 m.records first.1 clean
+                  count first.2 m.clean_end low high in
                   fewer count c.0 c.1 e c.2 (here (take count m.records) is)
 
               whole : length first.0 ≤ length m.records → found ≡ m.records ++ text ∷ []
                   → CarriesPrefix store reads allowed bound durable history left
               whole low is =
-                  let c =
-                  log_laws.cut m.file.kept m.file.since first.0 m.records first.1 clean
+                  let c = log_laws.cut m.file.kept m.file.since first.0 m.records first.1 clean
                   (length m.records) first.2 m.clean_end low (omega arith) in
                   all c.0 c.1 e
                   (subst (λ rs. IsLogFile (m.file.kept ++ take c.0 m.file.since) rs c.1)

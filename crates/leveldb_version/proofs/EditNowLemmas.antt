@@ -5,43 +5,24 @@ use Rattle.leveldb_base.specs.Names.{file_name}
 use Rattle.leveldb_base.specs.Types.{Pair}
 use Rattle.leveldb_base.specs.declared.types.FileType.TheVariants.{Current, Descriptor}
 use Rattle.leveldb_env.proofs.EnvLemmas.{SameBut-appending, extended-same}
-use Rattle.leveldb_env.specs.Env.{AreBytes, File, FileCrashesTo, Files, FilesCrashTo, PrefixAppended, bytes_of, extended, file_kept, in_folder, longer_file}
+use Rattle.leveldb_env.specs.Env.{Files, PrefixAppended, bytes_of, extended, in_folder, longer_file}
 use Rattle.leveldb_mem.proofs.LawsLemmas.{log_laws}
 use Rattle.leveldb_mem.specs.Log.{End, IsLogFile, frame_at}
 use Rattle.leveldb_version.proofs.BatchesLemmas.{each_more}
-use Rattle.leveldb_version.proofs.EditAppendLemmas.{append_safe, has_edits, matches_refined}
-use Rattle.leveldb_version.proofs.ManagedLemmas.{SameBytes, SameFor, kinds_apart, managed_on, same_for_others}
-use Rattle.leveldb_version.proofs.RenameLemmas.{whole_honest, whole_leaves}
+use Rattle.leveldb_version.proofs.HonestCrashLemmas.{all_honest, all_kept, all_leaves, all_same}
+use Rattle.leveldb_version.proofs.ManagedLemmas.{SameFor, kinds_apart, managed_on, same_for_others}
+use Rattle.leveldb_version.proofs.ManifestLemmas.{has_edits}
+use Rattle.leveldb_version.proofs.MatchesLemmas.{matches_refined}
 use Rattle.leveldb_version.specs.Contents.{Contents, Store}
-use Rattle.leveldb_version.specs.Holds.{Carries, IsHonest, IsSafe, MatchesHistory}
+use Rattle.leveldb_version.specs.Holds.{Carries, MatchesHistory}
 use Rattle.leveldb_version.specs.Paths.{current_path, table_path}
 use Rattle.leveldb_version.specs.Store.{IsManaged, IsManagedBy, IsStore}
 use Rattle.leveldb_version.specs.StoreSteps.{EditKeeps, EditsRefine, HasBytes, IsManifestOpen, Refines}
 use Rattle.leveldb_version.specs.VersionEdit.{Edit, IsEdit}
 use Rattle.leveldb_version.specs.VersionSet.{FileSet, live_after}
-use Rattle.std.proofs.Common.{◌++◌, ◌<◌, ◌∙◌, ◌∷◌, ◌≡◌, ◌≤◌, ◌⊎◌, List, None, Option, Some, [], ap, append-nil, append_assoc, inl, inr, length, refl, subst, sym, take, ℕ, ⊎_elim}
-use Rattle.std.specs.Option.{option_map}
+use Rattle.std.proofs.Common.{◌++◌, ◌<◌, ◌∙◌, ◌∷◌, ◌≡◌, ◌≤◌, ◌⊎◌, List, Some, [], append_assoc, inl, inr, length, refl, subst, sym, take, ℕ, ⊎_elim}
 use Rattle.std.specs.Prelude.{◌≢◌}
 use Rattle.std.specs.declared.cmp.Ordering.{Ordering}
-
--- a crash may keep everything
-abbrev pub all_kept : Files → Files
-all_kept files = λ name. option_map file_kept (files name)
-
-pub all_leaves : (files : Files) → HasBytes files → FilesCrashTo files (all_kept files)
-all_leaves files bytes name = by (files name) refl
-  where
-    by : (file : Option File) → files name ≡ file → FileCrashesTo file (option_map file_kept file)
-    by None e = refl
-    by (Some file) e = whole_leaves file (bytes name file e)
-
-pub all_honest : (store : List ℕ) (files : Files) → IsHonest store files (all_kept files)
-all_honest store files name file left journal there found =
-    whole_honest file file left refl (ap (option_map file_kept) (sym there) ∙ found)
-
-pub all_same : (file : Option File) → SameBytes file (option_map file_kept file)
-all_same None = refl
-all_same (Some file) = ap (λ b. Some b) (append-nil (bytes_of file))
 
 module _ (store : List ℕ) (cmp : List ℕ → List ℕ → Ordering)
     (IsTableOf : List ℕ → List Pair → Type 0) where
@@ -53,11 +34,9 @@ module _ (store : List ℕ) (cmp : List ℕ → List ℕ → Ordering)
       → (now : Contents) × IsManagedBy store cmp IsTableOf files others now
       × Refines bound contents now
   refine_now bound files edits others contents bytes refines_all most m =
-      let there =
-      managed_on store cmp IsTableOf files (all_kept files) edits contents
+      let there = managed_on store cmp IsTableOf files (all_kept files) edits contents
       (to (live_after edits)) m in
-      let found =
-      refines_all (all_kept files) contents (all_leaves files bytes)
+      let found = refines_all (all_kept files) contents (all_leaves files bytes)
       (all_honest store files) most there in (
         found.0,
         managed_on store cmp IsTableOf (all_kept files) files others found.0
@@ -83,11 +62,11 @@ module _ (store : List ℕ) (cmp : List ℕ → List ℕ → Ordering)
   reads = IsStore store cmp IsTableOf
 
   module _ (files : Files) (edits : List Edit) (m : IsManifestOpen store files edits)
-      (bytes : HasBytes files) (allowed : Store → Type 0) (bound durable : ℕ) (history : History)
+      (bytes : HasBytes files) (allowed : Store → Type 0) (bound : ℕ) (history : History)
       (contents : Contents)
       (managed : IsManagedBy store cmp IsTableOf files edits contents)
       (matches : MatchesHistory allowed bound contents history)
-      (safe : IsSafe store reads allowed bound durable history files) (text : List ℕ)
+      (text : List ℕ)
       (some : text ≢ []) (edit : Edit) (is_edit : IsEdit text edit)
       (keeps : EditKeeps store cmp IsTableOf bound files edits edit) where
     abbrev path : List ℕ
@@ -102,8 +81,7 @@ module _ (store : List ℕ) (cmp : List ℕ → List ℕ → Ordering)
     -- the contents with the edit
     pub then : (now : Contents) × IsManagedBy store cmp IsTableOf files (edits ++ edit ∷ []) now
         × Refines bound contents now
-    then =
-        refine_now bound files edits
+    then = refine_now bound files edits
         (edits ++ edit ∷ []) contents bytes keeps matches.bounded managed
 
     on : (n : ℕ) (es : List Edit) (c : Contents) → IsManagedBy store cmp IsTableOf files es c
@@ -133,8 +111,8 @@ module _ (store : List ℕ) (cmp : List ℕ → List ℕ → Ordering)
               (longer_file (take n frame) m.file) m.records part.1 edits (current_there n)
               (extended-same path (take n frame) files m.file m.there)
               (subst
-              (λ rs. IsLogFile (bytes_of (longer_file (take n frame) m.file)) rs part.1) none
-              read) m.each;
+              (λ rs. IsLogFile (bytes_of (longer_file (take n frame) m.file)) rs part.1) none read)
+              m.each;
           managed = on n edits contents managed;
         }))
         (λ (more : part.0 ≡ m.records ++ text ∷ []). inr
@@ -142,12 +120,12 @@ module _ (store : List ℕ) (cmp : List ℕ → List ℕ → Ordering)
           edits = edits ++ edit ∷ [];
           has_edits =
               has_edits store cmp IsTableOf m.name m.number m.current m.named (longer n)
-              (longer_file (take n frame) m.file) (m.records ++ text ∷ []) part.1 (edits ++ edit ∷ [])
-              (current_there n)
+              (longer_file (take n frame) m.file) (m.records ++ text ∷ []) part.1
+              (edits ++ edit ∷ []) (current_there n)
               (extended-same path (take n frame) files m.file m.there)
               (subst
-              (λ rs. IsLogFile (bytes_of (longer_file (take n frame) m.file)) rs part.1) more
-              read) (each_more IsEdit m.records edits text edit m.each is_edit);
+              (λ rs. IsLogFile (bytes_of (longer_file (take n frame) m.file)) rs part.1) more read)
+              (each_more IsEdit m.records edits text edit m.each is_edit);
           managed = on n (edits ++ edit ∷ []) then.0 then.1;
         }))
         part.3
@@ -159,45 +137,34 @@ module _ (store : List ℕ) (cmp : List ℕ → List ℕ → Ordering)
         part = log_laws.part (bytes_of m.file) m.records text n some m.clean_end
 
         read : IsLogFile (bytes_of (longer_file (take n frame) m.file)) part.0 part.1
-        read =
-            subst (λ b. IsLogFile b part.0 part.1)
+        read = subst (λ b. IsLogFile b part.0 part.1)
             (append_assoc m.file.kept m.file.since (take n frame)) part.2
 
-    -- so the disk holds what it held at each moment, whole append or part
-    pub edit_holds : (now : Files) → PrefixAppended path frame files now
+    -- so the files carry what they carried at each moment, whole append or part
+    pub edit_carries : (now : Files) → PrefixAppended path frame files now
         → Carries store reads allowed bound history now
-        × IsSafe store reads allowed bound durable history now
-    edit_holds now passes = (
-      now_of passes,
-      append_safe store cmp IsTableOf files edits m
-          (bytes path m.file m.there) allowed bound durable history safe text some edit is_edit
-          keeps now passes,
-    )
-      where
-        now_of : PrefixAppended path frame files now → Carries store reads allowed bound history now
-        now_of (inl is) = record {
+    edit_carries now (inl is) = record {
+      contents = contents;
+      read = subst (λ f. reads f contents) (sym is)
+          (inr
+          (record {
+            edits = edits;
+            has_edits =
+                has_edits store cmp IsTableOf m.name m.number m.current m.named files m.file
+                m.records _ edits m.current_there m.there m.clean_end m.each;
+            managed = managed;
+          }));
+      matches = matches;
+    }
+    edit_carries now (inr part) = ⊎_elim
+        (λ (same : IsManaged store cmp IsTableOf (longer part.0) contents). record {
           contents = contents;
-          read =
-              subst (λ f. reads f contents) (sym is)
-              (inr
-              (record {
-                edits = edits;
-                has_edits =
-                    has_edits store cmp IsTableOf m.name m.number m.current m.named files m.file m.records
-                    _ edits m.current_there m.there m.clean_end m.each;
-                managed = managed;
-              }));
+          read = subst (λ f. reads f contents) (sym part.1) (inr same);
           matches = matches;
-        }
-        now_of (inr part) = ⊎_elim
-            (λ (same : IsManaged store cmp IsTableOf (longer part.0) contents). record {
-              contents = contents;
-              read = subst (λ f. reads f contents) (sym part.1) (inr same);
-              matches = matches;
-            })
-            (λ (more : IsManaged store cmp IsTableOf (longer part.0) then.0). record {
-              contents = then.0;
-              read = subst (λ f. reads f then.0) (sym part.1) (inr more);
-              matches = matches_refined allowed bound contents then.0 history then.2 matches;
-            })
-            (is_either part.0)
+        })
+        (λ (more : IsManaged store cmp IsTableOf (longer part.0) then.0). record {
+          contents = then.0;
+          read = subst (λ f. reads f then.0) (sym part.1) (inr more);
+          matches = matches_refined allowed bound contents then.0 history then.2 matches;
+        })
+        (is_either part.0)

@@ -1,12 +1,12 @@
 -- Which tables are live behind an edit: those that it adds, and those that were live and that it
 -- neither deletes nor replaces.
-use Rattle.leveldb_version.specs.StoreSteps.{LeavesAlone, AddsOnce}
 use Rattle.leveldb_base.proofs.HistoryLemmas.{in_cases, in_front, in_none, in_rest}
 use Rattle.leveldb_base.specs.Types.{Pair}
 use Rattle.leveldb_env.specs.Env.{Files}
 use Rattle.leveldb_version.proofs.VersionSetLemmas.{applies_in_order}
 use Rattle.leveldb_version.specs.Levels.{LiveTable}
 use Rattle.leveldb_version.specs.Store.{HasTable, HasTables}
+use Rattle.leveldb_version.specs.StoreSteps.{AddsOnce, LeavesAlone}
 use Rattle.leveldb_version.specs.VersionEdit.{Edit, LevelFile, NewFile}
 use Rattle.leveldb_version.specs.VersionSet.{FileChange, adding, deleting, file_changes, is_same_file, last_one, left_by, level_file, live_after}
 use Rattle.std.proofs.Common.{◌++◌, ◌<◌, ◌^◌, ◌∙◌, ◌∷◌, ◌≡◌, ◌⊎◌, Bool, List, None, Option, Some, [], ap, false, inl, inr, refl, rules, subst, sym, true, ℕ, ⊎_elim}
@@ -187,8 +187,8 @@ added_live edits edit file there once = (applies_in_order edits edit).file at
     (if_none (is_same_file at at) (Some file)
     (none.1 (adding file) (map_in adding edit.added file there)))))
     (λ (one : _ × _ × _). let m = in_map adding edit.added one.0 one.1 in
-    let is =
-    if_some (is_same_file (level_file m.0) at) (Some m.0) _ (ap (left_by at) m.2 ∙ one.2) in
+    let is = if_some (is_same_file (level_file m.0) at) (Some m.0) _
+    (ap (left_by at) m.2 ∙ one.2) in
     sym is.1 ∙ ap (λ z. Some z) (once file m.0 there m.1 is.0))
     (left_of (left_by at) (map adding edit.added) start)
   where

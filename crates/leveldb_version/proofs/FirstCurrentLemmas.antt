@@ -1,6 +1,4 @@
 -- A store's first `CURRENT`: a temporary file that names a manifest is renamed to it.
-use Rattle.std.proofs.lemmas.List.{take_all}
-use Rattle.leveldb_version.proofs.SafeLemmas.{cut_off, cut_leaves, cut_honest}
 use Rattle.leveldb_base.proofs.HistoryLemmas.{in_none}
 use Rattle.leveldb_base.proofs.NamesLemmas.{made_name}
 use Rattle.leveldb_base.specs.History.{History}
@@ -8,40 +6,22 @@ use Rattle.leveldb_base.specs.Names.{IsFileName, file_name}
 use Rattle.leveldb_base.specs.Types.{Pair}
 use Rattle.leveldb_base.specs.declared.types.FileType.TheVariants.{Current, Descriptor, Log, Temp}
 use Rattle.leveldb_env.proofs.EnvLemmas.{at_other, at_same, renamed-there}
-use Rattle.leveldb_env.specs.Env.{BeforeOrAfter, File, FileCrashesTo, Files, FilesCrashTo, bytes_of, deleted, file_kept, in_folder, renamed, synced, with_file}
-use Rattle.leveldb_version.proofs.KeptLemmas.{IsAllKept, kept_safe}
-use Rattle.leveldb_version.proofs.ManagedLemmas.{kinds_apart, managed_on}
-use Rattle.leveldb_version.proofs.StaysLemmas.{synced_same}
-use Rattle.leveldb_version.specs.Contents.{Contents, Store, made, missing, no_contents}
-use Rattle.leveldb_version.specs.Current.{IsCurrentText}
-use Rattle.leveldb_version.specs.Holds.{Carries, Holds, IsHonest, IsSafe, MatchesHistory}
-use Rattle.leveldb_version.specs.Paths.{current_path, log_path, table_path}
-use Rattle.leveldb_version.specs.Store.{HasEdits, HasNoStore, IsManaged, IsManagedBy, IsManifest, IsReplayed, IsStore, contents_of}
-use Rattle.leveldb_version.specs.StoreSteps.{HasNextCurrent, IsKept, IsLastLog, IsNew, TablesAreKept}
-use Rattle.leveldb_version.specs.VersionEdit.{Edit, NewFile}
-use Rattle.leveldb_version.specs.VersionSet.{FileSet, level_file, live_after}
-use Rattle.std.proofs.Common.{◌+◌, ◌<◌, ◌^◌, ◌∙◌, ◌≡◌, Bool, List, None, Option, Some, [], ap, arith, false, inl, inr, length, refl, subst, sym, true, ℕ}
-use Rattle.std.specs.Cmp.Lexicographic.{bytes_decides}
-use Rattle.std.specs.Option.{option_map}
-use Rattle.std.specs.Prelude.{IsSome}
+use Rattle.leveldb_env.specs.Env.{BeforeOrAfter, Files, FilesCrashTo, deleted, in_folder, renamed, with_file}
+use Rattle.leveldb_version.proofs.ManifestLemmas.{missing_left}
+use Rattle.leveldb_version.proofs.HonestCrashLemmas.{all_cut, all_cut_honest, all_cut_left}
+use Rattle.leveldb_version.proofs.KeptLemmas.{kept_safe}
+use Rattle.leveldb_version.proofs.ManagedLemmas.{kinds_apart}
+use Rattle.leveldb_version.specs.Contents.{Contents, Store, made, no_contents}
+use Rattle.leveldb_version.specs.Holds.{Carries, IsSafe, MatchesHistory}
+use Rattle.leveldb_version.specs.Paths.{current_path}
+use Rattle.leveldb_version.specs.Store.{HasNoStore, IsManagedBy, IsStore, contents_of}
+use Rattle.leveldb_version.specs.StoreSteps.{HasNextCurrent, IsAllKept, IsKept, IsNew}
+use Rattle.leveldb_version.specs.VersionEdit.{Edit}
+use Rattle.leveldb_version.specs.VersionSet.{live_after}
+use Rattle.std.proofs.Common.{◌∙◌, ◌≡◌, List, None, Some, [], arith, false, inl, inr, length, refl, subst, sym, ℕ}
+use Rattle.std.proofs.lemmas.List.{take_all}
 use Rattle.std.specs.Str.{bytes_eq}
 use Rattle.std.specs.declared.cmp.Ordering.{Ordering}
-
--- a crash may leave nothing of what was appended
-abbrev pub all_cut : Files → Files
-all_cut files = λ name. cut_off (files name)
-
-all_cut_left : (files : Files) → FilesCrashTo files (all_cut files)
-all_cut_left files name = cut_leaves (files name)
-
-all_cut_honest : (store : List ℕ) (files : Files) → IsHonest store files (all_cut files)
-all_cut_honest store files name file left journal there found =
-    cut_honest (files name) file left there found
-
--- what a crash leaves of nothing
-gone : (file left : Option File) → FileCrashesTo file left → file ≡ None → left ≡ None
-gone None left crashes e = crashes
-gone (Some file) left crashes e = absurd (let never : Some file ≡ None = e in cc)
 
 module _ (store : List ℕ) (cmp : List ℕ → List ℕ → Ordering)
     (IsTableOf : List ℕ → List Pair → Type 0) where
@@ -53,11 +33,11 @@ module _ (store : List ℕ) (cmp : List ℕ → List ℕ → Ordering)
   pub no_store_left : (files left : Files) → HasNoStore store cmp IsTableOf files
       → FilesCrashTo files left → HasNoStore store cmp IsTableOf left
   no_store_left files left bare leaves = record {
-    no_current = gone (files (current_path store)) (left (current_path store))
+    no_current = missing_left (files (current_path store)) (left (current_path store))
         (leaves (current_path store)) bare.no_current;
-    no_table = λ name n is. gone (files (in_folder store name)) (left (in_folder store name))
+    no_table = λ name n is. missing_left (files (in_folder store name)) (left (in_folder store name))
         (leaves (in_folder store name)) (bare.no_table name n is);
-    no_log = λ name n is. gone (files (in_folder store name)) (left (in_folder store name))
+    no_log = λ name n is. missing_left (files (in_folder store name)) (left (in_folder store name))
         (leaves (in_folder store name)) (bare.no_log name n is);
   }
 
@@ -102,30 +82,27 @@ module _ (store : List ℕ) (cmp : List ℕ → List ℕ → Ordering)
     last = 0;
     last_is = n.last_is;
     tables = [];
-    has_tables =
-        record {
-          each = λ table c. absurd (in_none table c);
-          all = λ file live. absurd (n.no_table file live);
-        };
+    has_tables = record {
+      each = λ table c. absurd (in_none table c);
+      all = λ file live. absurd (n.no_table file live);
+    };
     logs = [];
-    has_logs =
-        record {
-          each = λ log c. absurd (in_none log c);
-          all = λ name k is replayed some. absurd (some (no_log name k is));
-          rising = tt;
-        };
+    has_logs = record {
+      each = λ log c. absurd (in_none log c);
+      all = λ name k is replayed some. absurd (some (no_log name k is));
+      rising = tt;
+    };
     fit = record {
       rise = tt;
       ends = λ a b in_a. absurd (in_none a in_a);
       last_fits = omega arith;
       numbered = λ entry c. absurd (in_none entry c);
       below = λ entry later c. absurd (in_none entry c);
-      levels =
-          record {
-            disjoint = λ a b in_a. absurd (in_none a in_a);
-            deeper = λ a b in_a. absurd (in_none a in_a);
-            newer = λ a b in_a. absurd (in_none a in_a);
-          };
+      levels = record {
+        disjoint = λ a b in_a. absurd (in_none a in_a);
+        deeper = λ a b in_a. absurd (in_none a in_a);
+        newer = λ a b in_a. absurd (in_none a in_a);
+      };
     };
     is = refl;
   }
@@ -230,8 +207,8 @@ module _ (store : List ℕ) (cmp : List ℕ → List ℕ → Ordering)
           (subst (λ x. MatchesHistory allowed bound x c.part) none c.carries.matches) in
           let d = kept_safe store cmp IsTableOf allowed bound c.part moved_files new all matches
           left leaves honest in
-          let whole : d.part ≡ c.part =
-          d.prefix.first ∙ take_all d.prefix.count c.part d.prefix.enough in
+          let whole : d.part ≡ c.part = d.prefix.first
+          ∙ take_all d.prefix.count c.part d.prefix.enough in
           record {
             part = c.part;
             prefix = c.prefix;

@@ -1,31 +1,22 @@
 -- Files of which all that is read is kept: a crash leaves the same store.
 use Rattle.leveldb_base.specs.History.{History}
-use Rattle.leveldb_base.specs.Names.{IsFileName}
 use Rattle.leveldb_base.specs.Types.{Pair}
-use Rattle.leveldb_base.specs.declared.types.FileType.TheVariants.{Log}
 use Rattle.leveldb_env.specs.Env.{File, FileCrashesTo, Files, FilesCrashTo, bytes_of, in_folder}
 use Rattle.leveldb_mem.specs.Log.{IsLogFile}
-use Rattle.leveldb_version.proofs.EditAppendLemmas.{left_whole}
 use Rattle.leveldb_version.proofs.ManagedLemmas.{SameBytes, SameFor, managed_on}
+use Rattle.leveldb_version.proofs.ManifestLemmas.{left_whole}
 use Rattle.leveldb_version.specs.Contents.{Contents, Store}
 use Rattle.leveldb_version.specs.Current.{IsCurrentText}
 use Rattle.leveldb_version.specs.Holds.{IsSafe, MatchesHistory}
 use Rattle.leveldb_version.specs.Paths.{current_path, table_path}
-use Rattle.leveldb_version.specs.Store.{HasEdits, IsManaged, IsReplayed, IsStore}
-use Rattle.leveldb_version.specs.StoreSteps.{IsKept}
-use Rattle.leveldb_version.specs.VersionEdit.{Edit, NewFile}
-use Rattle.leveldb_version.specs.VersionSet.{FileSet, level_file, live_after}
+use Rattle.leveldb_version.specs.Store.{HasEdits, IsStore}
+use Rattle.leveldb_version.specs.StoreSteps.{AreKept, IsAllKept, IsKept}
+use Rattle.leveldb_version.specs.VersionEdit.{Edit}
+use Rattle.leveldb_version.specs.VersionSet.{FileSet, live_after}
 use Rattle.std.proofs.Common.{◌∙◌, ◌≡◌, List, None, Option, Some, [], ap, arith, inr, length, subst, sym, ℕ}
 use Rattle.std.proofs.lemmas.List.{take_all}
 use Rattle.std.specs.Option.{option_map}
 use Rattle.std.specs.declared.cmp.Ordering.{Ordering}
-
--- the live tables and the logs that are replayed are kept
-pub record AreKept (store : List ℕ) (set : FileSet) (files : Files) : Type 0 where
-  pub tables : (file : NewFile) → set.file (level_file file) ≡ Some file
-      → IsKept (files (table_path store file.number))
-  pub logs : (name : List ℕ) (n : ℕ) → IsFileName name n Log → IsReplayed set n
-      → IsKept (files (in_folder store name))
 
 -- a crash leaves the bytes of what is kept
 pub kept_left : (file left : Option File) → IsKept file → FileCrashesTo file left
@@ -54,12 +45,10 @@ pub edits_left :
     → e.current.since ≡ [] → e.manifest.since ≡ [] → FilesCrashTo files left
     → HasEdits store left edits
 edits_left store files left edits e kept_current kept_manifest leaves =
-    let c =
-    left_whole e.current (left (current_path store)) kept_current
+    let c = left_whole e.current (left (current_path store)) kept_current
     (subst (λ f. FileCrashesTo f (left (current_path store))) e.current_there
     (leaves (current_path store))) in
-    let m =
-    left_whole e.manifest (left (in_folder store e.name)) kept_manifest
+    let m = left_whole e.manifest (left (in_folder store e.name)) kept_manifest
     (subst (λ f. FileCrashesTo f (left (in_folder store e.name))) e.there
     (leaves (in_folder store e.name))) in
     record {
@@ -70,26 +59,21 @@ edits_left store files left edits e kept_current kept_manifest leaves =
       named = subst (λ b. IsCurrentText b e.name e.number) (sym c.bytes) e.named;
       manifest = m.now;
       there = m.there;
-      is =
-          record {
-            records = e.is.records;
-            end = e.is.end;
-            read = subst (λ b. IsLogFile b e.is.records e.is.end) (sym m.bytes) e.is.read;
-            each = e.is.each;
-          };
+      is = record {
+        records = e.is.records;
+        end = e.is.end;
+        read = subst (λ b. IsLogFile b e.is.records e.is.end) (sym m.bytes) e.is.read;
+        each = e.is.each;
+      };
     }
 
 module _ (store : List ℕ) (cmp : List ℕ → List ℕ → Ordering)
     (IsTableOf : List ℕ → List Pair → Type 0) where
-  -- all that is read is kept
-  pub record IsAllKept (files : Files) (contents : Contents) : Type 0 where
-    pub managed : IsManaged store cmp IsTableOf files contents
-    pub current : managed.has_edits.current.since ≡ []
-    pub manifest : managed.has_edits.manifest.since ≡ []
-    pub kept : AreKept store (live_after managed.edits) files
+  abbrev AllKept : Files → Contents → Type 0
+  AllKept = IsAllKept store cmp IsTableOf
 
   -- so a crash leaves a store with the same contents
-  pub kept_stays : (files left : Files) (contents : Contents) → IsAllKept files contents
+  pub kept_stays : (files left : Files) (contents : Contents) → AllKept files contents
       → FilesCrashTo files left → IsStore store cmp IsTableOf left contents
   kept_stays files left contents k leaves =
       let m = k.managed in
@@ -104,22 +88,20 @@ module _ (store : List ℕ) (cmp : List ℕ → List ℕ → Ordering)
   -- and they are safe with all that they carry
   pub kept_safe :
       (allowed : Store → Type 0) (bound : ℕ) (history : History) (files : Files)
-      (contents : Contents) → IsAllKept files contents
+      (contents : Contents) → AllKept files contents
       → MatchesHistory allowed bound contents history
       → IsSafe store (IsStore store cmp IsTableOf) allowed bound (length history) history files
   kept_safe allowed bound history files contents kept matches left leaves honest = record {
     part = history;
-    prefix =
-        record {
-          count = length history;
-          enough = omega arith;
-          there = omega arith;
-          first = sym (take_all (length history) history (omega arith));
-        };
-    carries =
-        record {
-          contents = contents;
-          read = kept_stays files left contents kept leaves;
-          matches = matches;
-        };
+    prefix = record {
+      count = length history;
+      enough = omega arith;
+      there = omega arith;
+      first = sym (take_all (length history) history (omega arith));
+    };
+    carries = record {
+      contents = contents;
+      read = kept_stays files left contents kept leaves;
+      matches = matches;
+    };
   }

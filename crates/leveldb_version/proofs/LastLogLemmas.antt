@@ -70,8 +70,7 @@ module _ (store : List ℕ) (cmp : List ℕ → List ℕ → Ordering)
 
     pub its : (file_name Log n ≡ file_name Log n)
         × ((log : ReplayedLog) × Contains m.logs log × (log.number ≡ n))
-    its =
-        m.has_logs.all (file_name Log n) n named replayed
+    its = m.has_logs.all (file_name Log n) n named replayed
         (λ gone. let never : Some was ≡ None = sym there ∙ gone in absurd (cc))
 
     -- the last log before
@@ -90,10 +89,9 @@ module _ (store : List ℕ) (cmp : List ℕ → List ℕ → Ordering)
     earlier = ends.earlier
 
     old_batches : old_log.batches ≡ batches
-    old_batches =
-        let has = (m.has_logs.each old_log its.1.1).0 in
-        let file =
-        some_is has.0 was (sym has.1 ∙ ap (λ k. old (log_path store k)) number_is ∙ there) in
+    old_batches = let has = (m.has_logs.each old_log its.1.1).0 in
+        let file = some_is has.0 was
+        (sym has.1 ∙ ap (λ k. old (log_path store k)) number_is ∙ there) in
         let same_records =
         (log_laws.one (bytes_of was) has.2.records records old_log.end end
         (subst (λ f. IsLogFile (bytes_of f) has.2.records old_log.end) file has.2.read) read).0
@@ -195,8 +193,7 @@ module _ (store : List ℕ) (cmp : List ℕ → List ℕ → Ordering)
       each = λ log c. ⊎_elim
           (λ (early : Contains earlier log).
           let h = m.has_logs.each log (in_old log early) in
-          let apart =
-          numbers_apart store (file_name Log n)
+          let apart = numbers_apart store (file_name Log n)
           (file_name Log log.number) n log.number Log Log named (made_name Log log.number h.2)
           (λ e. let l = below_last log early in omega (arith, l, e)) in (
             log_on store cmp IsTableOf old new log
@@ -292,20 +289,17 @@ module _ (store : List ℕ) (cmp : List ℕ → List ℕ → Ordering)
         (subst (λ es. Contains es later) (all_append batches more) c))
 
     abbrev before : List Batch
-    before =
-        before_it old new edits contents m n fits replayed most clean_before same was now there
+    before = before_it old new edits contents m n fits replayed most clean_before same was now there
         there_now records found end found_end read read_now batches
         (batches ++ more) each each_now rises known
 
     abbrev logs : List ReplayedLog
-    logs =
-        new_logs old new edits contents m n fits replayed most clean_before same was now there
+    logs = new_logs old new edits contents m n fits replayed most clean_before same was now there
         there_now records found end found_end read read_now batches
         (batches ++ more) each each_now rises known
 
     entries_now : log_entries logs ≡ log_entries m.logs ++ all_entries more
-    entries_now =
-        ap all_entries
+    entries_now = ap all_entries
         (batches_now old new edits contents m n fits replayed most clean_before same was now
         there there_now records found end found_end read read_now batches
         (batches ++ more) each each_now rises known
@@ -318,8 +312,7 @@ module _ (store : List ℕ) (cmp : List ℕ → List ℕ → Ordering)
         ∙ all_append (log_batches m.logs) more
 
     pub with_more : IsManagedBy store cmp IsTableOf new edits (with_batches contents more)
-    with_more =
-        subst (IsManagedBy store cmp IsTableOf new edits)
+    with_more = subst (IsManagedBy store cmp IsTableOf new edits)
         (λ i. record { store = stores i; entries = entries i; last = lasts i })
         (with_now old new edits contents m n fits replayed most clean_before same was now there
         there_now records found end found_end read read_now batches
@@ -336,8 +329,7 @@ module _ (store : List ℕ) (cmp : List ℕ → List ℕ → Ordering)
         lasts :
             max m.last (greatest (log_entries logs))
             ≡ max contents.last (greatest (all_entries more))
-        lasts =
-            let l : contents.last ≡ max m.last (greatest (log_entries m.logs)) =
+        lasts = let l : contents.last ≡ max m.last (greatest (log_entries m.logs)) =
             ap (λ (c : Contents). c.last) m.is in
             let g = ap greatest entries_now
             ∙ greatest_append (log_entries m.logs) (all_entries more) in

@@ -1,21 +1,21 @@
 -- Tables by levels, and look-ups from newer entries to older ones.
-use Rattle.std.proofs.Common.{◌≡◌, ◌≢◌, inl, inr, ⊎_elim, ℕ, zero, suc, ◌<◌, Bool, true, false, List, [], ◌∷◌, ◌++◌, length, take, map, refl, sym, ◌∙◌, ap, subst, arith, add-one, Option, Some, None}
-use Rattle.std.specs.Prelude.{Contains, AllPairs, slice_get, slice_index_or, ◌⊎◌, ◌↔◌}
-use Rattle.std.proofs.lemmas.List.Elements.{All-map, Contains-get_or, Contains-append_left, Contains-append_right, Contains-append_cases}
-use Rattle.std.proofs.lemmas.List.{take_all}
-use Rattle.std.proofs.lemmas.List.Kept.{AllPairs-cons}
-use Rattle.std.specs.declared.cmp.Ordering.{Ordering}
-use Rattle.std.specs.declared.cmp.Ordering.TheVariants.{Less, Equal, Greater}
-use Rattle.std.specs.Ordering.{is_lt, is_gt, ordering_reverse}
-use Rattle.std.specs.Cmp.{IsTotalOrder}
-use Rattle.std.proofs.lemmas.Cmp.{upto}
 use Rattle.leveldb_base.proofs.HistoryLemmas.{in_cases, in_front, in_none, in_rest}
 use Rattle.leveldb_base.specs.History.{Entry}
 use Rattle.leveldb_base.specs.KeyTypes.{user_part}
-use Rattle.leveldb_mem.specs.MemTable.{HasNewest, FindsNewest}
+use Rattle.leveldb_mem.specs.MemTable.{FindsNewest, HasNewest}
 use Rattle.leveldb_version.proofs.OneStoreLemmas.{flat_in, in_flat}
-use Rattle.leveldb_version.specs.Levels.{LiveTable, IsOlder, AreLayered, source_entries, table_entries, IsInRange, IsBounded, AreDisjoint, LevelOrder, CanBeAdded, IsSearchedBefore, SearchFinds}
+use Rattle.leveldb_version.specs.Levels.{AreDisjoint, AreLayered, CanBeAdded, IsBounded, IsInRange, IsOlder, IsSearchedBefore, LevelOrder, LiveTable, SearchFinds, source_entries, table_entries}
 use Rattle.leveldb_version.specs.VersionEdit.{NewFile}
+use Rattle.std.proofs.Common.{◌++◌, ◌<◌, ◌∙◌, ◌∷◌, ◌≡◌, ◌≢◌, Bool, List, None, Option, Some, [], add-one, ap, arith, false, inl, inr, length, map, refl, subst, suc, sym, take, true, zero, ℕ, ⊎_elim}
+use Rattle.std.proofs.lemmas.Cmp.{upto}
+use Rattle.std.proofs.lemmas.List.{take_all}
+use Rattle.std.proofs.lemmas.List.Elements.{All-map, Contains-append_cases, Contains-append_left, Contains-append_right, Contains-get_or}
+use Rattle.std.proofs.lemmas.List.Kept.{AllPairs-cons}
+use Rattle.std.specs.Cmp.{IsTotalOrder}
+use Rattle.std.specs.Ordering.{is_gt, is_lt, ordering_reverse}
+use Rattle.std.specs.Prelude.{◌↔◌, ◌⊎◌, AllPairs, Contains, slice_get, slice_index_or}
+use Rattle.std.specs.declared.cmp.Ordering.{Ordering}
+use Rattle.std.specs.declared.cmp.Ordering.TheVariants.{Equal, Greater, Less}
 
 -- ---- sources, one after another
 
@@ -72,8 +72,8 @@ skip_back xs ys s key value older has = record {
         (λ (d : Contains ys other).
         let below = older other has.entry d has.newest.there (k ∙ sym has.key_is) in
         let above = newest.newest has.entry
-            (Contains-append_left xs ys has.entry has.newest.there) (has.key_is ∙ sym k)
-            has.newest.seen in
+        (Contains-append_left xs ys has.entry has.newest.there) (has.key_is ∙ sym k)
+        has.newest.seen in
         absurd (omega arith))
         (Contains-append_cases xs ys other newest.there);
     seen = newest.seen;
@@ -97,7 +97,7 @@ older_rest source sources layered a b c d k =
     let i = from.1.0 in
     let within : suc i < suc (length sources) = let h = from.1.1 in omega arith in
     subst (λ (older : List Entry). IsOlder older source) from.1.2
-        (layered zero (suc i) from.0 (omega arith) within) a b from.2 d k
+    (layered zero (suc i) from.0 (omega arith) within) a b from.2 d k
 
 stops_at : (sources : List (List Entry)) (s : ℕ) (key : List ℕ) → AreLayered sources
     → (i : ℕ) (source : List Entry) (value : Option (List ℕ))
@@ -166,6 +166,29 @@ found_by_key these those s key (Some value) same has = record {
     newest = λ more c l seen. newest.newest more ((same more (l ∙ k)).0 c) l seen;
   }) k;
 }
+
+-- tables whose range lacks the key may be left out
+pub ranges_leave_out : (cmp : List ℕ → List ℕ → Ordering) (all some : List LiveTable)
+    → ((table : LiveTable) → Contains all table → IsBounded cmp table)
+    → ((table : LiveTable) → Contains some table → Contains all table)
+    → (key : List ℕ)
+    → ((table : LiveTable) → Contains all table → IsInRange cmp table.file key
+    → Contains some table)
+    → (s : ℕ) (found : Option (Option (List ℕ)))
+    → FindsNewest (table_entries some) s key found → FindsNewest (table_entries all) s key found
+ranges_leave_out cmp all some bounded among key kept s found =
+    found_by_key (table_entries some) (table_entries all) s key found same
+  where
+    same : (entry : Entry) → entry.key ≡ key
+        → Contains (table_entries some) entry ↔ Contains (table_entries all) entry
+    same entry is = (
+      λ c. let t = in_flat (λ (x : LiveTable). x.entries) some entry c in
+          flat_in (λ (x : LiveTable). x.entries) all t.0 entry (among t.0 t.1) t.2,
+      λ c. let t = in_flat (λ (x : LiveTable). x.entries) all entry c in
+          flat_in (λ (x : LiveTable). x.entries) some t.0 entry
+          (kept t.0 t.1
+          (subst (IsInRange cmp t.0.file) is ((bounded t.0 t.1).within entry t.2))) t.2,
+    )
 
 -- ---- a total order by its test
 

@@ -30,3 +30,7 @@ pub mod CrashLemmas
 pub mod ToldLemmas
 pub mod FirstCurrentLemmas
 pub mod LevelsLemmas
+pub mod ManifestLemmas
+pub mod BatchMatchesLemmas
+pub mod BatchCrashLemmas
+pub mod HonestCrashLemmas

@@ -79,8 +79,7 @@ pub ends_in : (logs : List ReplayedLog) (log : ReplayedLog) → LogsRise logs �
 ends_in [] log rising there most = absurd (in_none log there)
 ends_in (first ∷ logs) log rising there most = ⊎_elim
     (λ (e : first ≡ log).
-    let none =
-    nothing_in logs
+    let none = nothing_in logs
     (λ other c. let up = rising.0 other c in
     let low = most other (in_rest first other logs c) in
     let n = ap (λ (x : ReplayedLog). x.number) e in omega (arith, up, low, n)) in
@@ -149,8 +148,7 @@ parts_at n (first ∷ logs) rising = ⊎_elim
       front = first ∷ rest.front;
       back = rest.back;
       parts = ap (λ ls. first ∷ ls) rest.parts;
-      before =
-          λ log c.
+      before = λ log c.
           ⊎_elim (λ (e : first ≡ log). subst (λ (x : ReplayedLog). x.number < n) e less)
           (λ (later : Contains rest.front log). rest.before log later)
           (in_cases first log rest.front c);
@@ -162,8 +160,7 @@ parts_at n (first ∷ logs) rising = ⊎_elim
       back = first ∷ logs;
       parts = refl;
       before = λ log c. absurd (in_none log c);
-      from =
-          λ log c.
+      from = λ log c.
           ⊎_elim (λ (e : first ≡ log). subst (λ (x : ReplayedLog). n ≤ x.number) e most)
           (λ (later : Contains logs log). let up = rising.0 log later in omega (arith, up, most))
           (in_cases first log logs c);

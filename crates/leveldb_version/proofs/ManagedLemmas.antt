@@ -93,8 +93,7 @@ module _ (store : List ℕ) (cmp : List ℕ → List ℕ → Ordering)
       (new (table_path store table.file.number))
       → HasTable store cmp IsTableOf old table → HasTable store cmp IsTableOf new table
   table_on old new table same has =
-      let f =
-      found_again (old (table_path store table.file.number))
+      let f = found_again (old (table_path store table.file.number))
       (new (table_path store table.file.number)) has.file same has.there in
       record {
         file = f.now;
@@ -121,8 +120,7 @@ module _ (store : List ℕ) (cmp : List ℕ → List ℕ → Ordering)
       → SameBytes (old (log_path store log.number)) (new (log_path store log.number))
       → HasLog store old log → HasLog store new log
   log_on old new log same has =
-      let f =
-      found_again (old (log_path store log.number))
+      let f = found_again (old (log_path store log.number))
       (new (log_path store log.number)) has.0 same has.1 in (
         f.now,
         f.there,

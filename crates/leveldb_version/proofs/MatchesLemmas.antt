@@ -6,7 +6,8 @@ use Rattle.leveldb_version.proofs.NumbersLemmas.{up_to_greatest}
 use Rattle.leveldb_version.proofs.ViewsLemmas.{view_trans}
 use Rattle.leveldb_version.specs.Contents.{Contents, Store}
 use Rattle.leveldb_version.specs.Holds.{MatchesHistory}
-use Rattle.std.proofs.Common.{◌≤◌, List, arith, ℕ}
+use Rattle.leveldb_version.specs.StoreSteps.{Refines}
+use Rattle.std.proofs.Common.{◌≤◌, List, arith, subst, sym, ℕ}
 use Rattle.std.specs.Prelude.{Contains}
 
 -- entries up to a number show the same from there on
@@ -71,3 +72,15 @@ matches_from_last allowed bound contents history same up reached bounded store =
   bounded = bounded;
   store = store;
 }
+
+-- contents that refine others match what these match
+pub matches_refined :
+    (allowed : Store → Type 0) (bound : ℕ) (old new : Contents) (history : History)
+    → Refines bound old new → MatchesHistory allowed bound old history
+    → MatchesHistory allowed bound new history
+matches_refined allowed bound old new history r t = matches_from_last allowed bound new history
+    (λ at most.
+    view_trans new.entries old.entries (entries_of history) at (r.same at most)
+    (t.same at (omega (arith, t.reached, r.later, most))))
+    (λ entry c. t.up_to entry (r.none_new entry c)) (omega (arith, t.reached, r.later)) r.bounded
+    (subst (allowed) (sym r.store) t.store)

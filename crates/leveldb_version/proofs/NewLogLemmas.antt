@@ -1,5 +1,4 @@
 -- A new log is made, empty, with a number above those of all logs: what is read stays.
-use Rattle.leveldb_version.specs.StoreSteps.{IsAboveLogs}
 use Rattle.leveldb_base.proofs.NamesLemmas.{made_name, one_reading}
 use Rattle.leveldb_base.specs.History.{History, greatest}
 use Rattle.leveldb_base.specs.Names.{IsFileName, file_name}
@@ -8,9 +7,9 @@ use Rattle.leveldb_base.specs.declared.types.FileType.TheVariants.{Current, Desc
 use Rattle.leveldb_env.proofs.EnvLemmas.{FileCrashesTo-kept, SameBut-created, at_other, at_same}
 use Rattle.leveldb_env.specs.Env.{BeforeOrAfter, File, FileCrashesTo, Files, FilesCrashTo, SameBut, created, in_folder, kept_file, or_empty, with_file}
 use Rattle.leveldb_mem.specs.Log.{clean}
-use Rattle.leveldb_version.proofs.BatchAppendLemmas.{edits_on}
 use Rattle.leveldb_version.proofs.LogsLemmas.{batches_last, rising_last}
 use Rattle.leveldb_version.proofs.ManagedLemmas.{kinds_apart, log_on, managed_on, numbers_apart, same_bytes, same_name, tables_on}
+use Rattle.leveldb_version.proofs.ManifestLemmas.{edits_on}
 use Rattle.leveldb_version.proofs.SafeLemmas.{unread_safe}
 use Rattle.leveldb_version.specs.Batches.{AreInOrder, all_entries}
 use Rattle.leveldb_version.specs.Contents.{Contents, Store, made}
@@ -18,6 +17,7 @@ use Rattle.leveldb_version.specs.Holds.{IsHonest, IsSafe}
 use Rattle.leveldb_version.specs.Levels.{table_entries}
 use Rattle.leveldb_version.specs.Paths.{current_path, log_path, table_path}
 use Rattle.leveldb_version.specs.Store.{HasLog, IsManagedBy, IsReplayed, IsStore, ReplayedLog, log_batches}
+use Rattle.leveldb_version.specs.StoreSteps.{IsAboveLogs}
 use Rattle.leveldb_version.specs.VersionEdit.{Edit}
 use Rattle.leveldb_version.specs.VersionSet.{FileSet, live_after}
 use Rattle.std.proofs.Common.{◌++◌, ◌<◌, ◌^◌, ◌∙◌, ◌∷◌, ◌≡◌, ◌≤◌, ◌⊎◌, Bool, List, None, Option, Some, [], ap, append-nil, arith, false, inl, inr, refl, subst, sym, true, ℕ, ⊎_elim}
@@ -124,8 +124,7 @@ module _ (store : List ℕ) (cmp : List ℕ → List ℕ → Ordering)
         each = λ log c. ⊎_elim
             (λ (early : Contains m.logs log).
             let h = m.has_logs.each log early in
-            let apart =
-            numbers_apart store (file_name Log n)
+            let apart = numbers_apart store (file_name Log n)
             (file_name Log log.number) n log.number Log Log named (made_name Log log.number h.2)
             (λ e. let l = below log early in omega (arith, l, e)) in (
               log_on store cmp IsTableOf left new log
@@ -187,18 +186,15 @@ module _ (store : List ℕ) (cmp : List ℕ → List ℕ → Ordering)
                 → (name ≡ file_name Log k)
                 × ((log : ReplayedLog) × Contains logs log × (log.number ≡ k))
             by true e =
-                let same_path =
-                same_name store (file_name Log n) name
+                let same_path = same_name store (file_name Log n) name
                 ((bytes_decides path (in_folder store name)).0 e) in
-                let number =
-                (one_reading name n k Log Log
+                let number = (one_reading name n k Log Log
                 (subst (λ z. IsFileName z n Log) same_path named) is).0 in (
                   sym same_path ∙ ap (file_name Log) number,
                   (empty_log n, Contains-push m.logs (empty_log n), number),
                 )
             by false e =
-                let h =
-                m.has_logs.all name k is is_replayed
+                let h = m.has_logs.all name k is is_replayed
                 (λ gone. some (same (in_folder store name) e ∙ gone)) in
                 (h.0, (h.1.0, Contains-append_left m.logs (empty_log n ∷ []) h.1.0 h.1.1, h.1.2))
 
@@ -272,7 +268,8 @@ module _ (store : List ℕ) (cmp : List ℕ → List ℕ → Ordering)
               (let never : Some (kept_file (f.kept ++ l.0)) ≡ None = sym l.3 ∙ bare.0.no_current in
               cc)
       still left contents file leaves honest here (inr m) =
-          let is_empty : file ≡ Some (kept_file []) =
+          let is_empty : file
+          ≡ Some (kept_file []) =
           FileCrashesTo-kept [] file (subst (λ f. FileCrashesTo f file) there here) in
           let named = made_name Log n fits in
           inr (record {

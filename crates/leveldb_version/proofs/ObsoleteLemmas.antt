@@ -8,60 +8,24 @@ use Rattle.leveldb_base.specs.declared.types.FileType.{FileType}
 use Rattle.leveldb_base.specs.declared.types.FileType.TheVariants.{Current, Log}
 use Rattle.leveldb_env.proofs.EnvLemmas.{at_other}
 use Rattle.leveldb_env.specs.Env.{File, FileCrashesTo, Files, FilesCrashTo, SameBut, bytes_of, in_folder, with_file}
-use Rattle.leveldb_mem.proofs.LawsLemmas.{log_laws}
-use Rattle.leveldb_version.proofs.BatchAppendLemmas.{edits_on, managed_of}
-use Rattle.leveldb_version.proofs.BatchesLemmas.{each_one}
 use Rattle.leveldb_version.proofs.CurrentLemmas.{one_current}
-use Rattle.leveldb_version.proofs.EditAppendLemmas.{left_whole}
 use Rattle.leveldb_version.proofs.KeptLemmas.{edits_left}
 use Rattle.leveldb_version.proofs.ManagedLemmas.{kinds_apart}
+use Rattle.leveldb_version.proofs.ManifestLemmas.{edits_on, kept_name, left_whole, managed_of, missing_left, one_has_edits}
 use Rattle.leveldb_version.proofs.SafeLemmas.{cut_honest, cut_leaves, cut_off, honest_with, leaves_with, some_is}
-use Rattle.leveldb_version.proofs.VersionEditLemmas.{one_edit}
-use Rattle.leveldb_version.specs.Batches.{Each}
 use Rattle.leveldb_version.specs.Contents.{Contents, Store}
 use Rattle.leveldb_version.specs.Current.{IsCurrentText}
 use Rattle.leveldb_version.specs.Holds.{IsHonest, IsSafe}
 use Rattle.leveldb_version.specs.Paths.{current_path, table_path}
-use Rattle.leveldb_version.specs.Store.{HasEdits, IsManifest, IsStore}
+use Rattle.leveldb_version.specs.Store.{HasEdits, IsStore}
 use Rattle.leveldb_version.specs.StoreSteps.{IsUnnamed, IsUnread}
-use Rattle.leveldb_version.specs.VersionEdit.{Edit, IsEdit, NewFile}
+use Rattle.leveldb_version.specs.VersionEdit.{Edit, NewFile}
 use Rattle.leveldb_version.specs.VersionSet.{live_after}
-use Rattle.std.proofs.Common.{◌∙◌, ◌≡◌, Bool, List, None, Option, Some, [], ap, false, inl, inr, refl, subst, sym, true, ℕ, ⊎_elim}
+use Rattle.std.proofs.Common.{◌∙◌, ◌≡◌, Bool, List, None, Some, [], ap, false, inl, inr, refl, subst, sym, true, ℕ, ⊎_elim}
 use Rattle.std.specs.Cmp.Lexicographic.{bytes_decides}
 use Rattle.std.specs.Prelude.{◌≢◌}
 use Rattle.std.specs.Str.{bytes_eq}
 use Rattle.std.specs.declared.cmp.Ordering.{Ordering}
-
--- what a crash left written before
-pub missing_left : (file left : Option File) → FileCrashesTo file left → file ≡ None → left ≡ None
-missing_left None left leaves e = leaves
-missing_left (Some file) left leaves e = absurd (let never : Some file ≡ None = e in cc)
-
-pub kept_name : (file left : Option File) → FileCrashesTo file left → left ≡ None → file ≡ None
-kept_name None left leaves e = refl
-kept_name (Some file) left leaves e = absurd (let never : _ = sym leaves.3 ∙ e in cc)
-
--- one manifest, and one list of edits
-pub one_has_edits :
-    (store : List ℕ) (files : Files) (these those : List Edit) (a : HasEdits store files these)
-    (b : HasEdits store files those) → (a.name ≡ b.name) × (these ≡ those)
-one_has_edits store files these those a b =
-    let current = some_is a.current b.current (sym a.current_there ∙ b.current_there) in
-    let name =
-    (one_current (bytes_of b.current) a.name b.name a.number b.number
-    (subst (λ f. IsCurrentText (bytes_of f) a.name a.number) current a.named) b.named).0 in
-    let file =
-    some_is a.manifest b.manifest
-    (sym a.there ∙ ap (λ n. files (in_folder store n)) name ∙ b.there) in
-    let moved = subst (λ f. IsManifest f these) file a.is in
-    let records =
-    (log_laws.one
-    (bytes_of b.manifest) moved.records b.is.records moved.end b.is.end moved.read b.is.read).0
-    in (
-      name,
-      each_one IsEdit (λ t x y p q. one_edit t x y p q) b.is.records these those
-          (subst (λ rs. Each IsEdit rs these) records moved.each) b.is.each,
-    )
 
 module _ (store : List ℕ) (cmp : List ℕ → List ℕ → Ordering)
     (IsTableOf : List ℕ → List Pair → Type 0) where
@@ -92,8 +56,7 @@ module _ (store : List ℕ) (cmp : List ℕ → List ℕ → Ordering)
         (was_honest left honest)
         (at_other path (cut_off (old path)) left (current_path store) un.not_current
         ∙ e.current_there) e.named));
-    bare =
-        ⊎_elim
+    bare = ⊎_elim
         (λ (there : old (current_path store) ≢ None). inl
         (λ gone. there (sym (same (current_path store) un.not_current) ∙ gone)))
         (λ apart. inr apart) un.bare;
@@ -106,7 +69,8 @@ module _ (store : List ℕ) (cmp : List ℕ → List ℕ → Ordering)
       was_honest : (left : Files) → IsHonest store new left
           → IsHonest store old (before path old left)
       was_honest left honest =
-          honest_with store path old new left (cut_off (old path)) same honest (cut_honest (old path))
+          honest_with store path old new left (cut_off (old path)) same honest
+          (cut_honest (old path))
 
   -- ---- missing
 
@@ -128,9 +92,8 @@ module _ (store : List ℕ) (cmp : List ℕ → List ℕ → Ordering)
         unnamed = λ left edits leaves honest e.
             let c = safe left leaves honest in
             let m = managed_of store cmp IsTableOf left edits c.carries.contents e c.carries.read in
-            let left_gone =
-            missing_left (files (in_folder store name)) (left (in_folder store name))
-            (leaves (in_folder store name)) gone in
+            let left_gone = missing_left (files (in_folder store name))
+            (left (in_folder store name)) (leaves (in_folder store name)) gone in
             record {
               tables = λ file fits live.
                   let t = m.has_tables.all file live in
@@ -188,14 +151,12 @@ module _ (store : List ℕ) (cmp : List ℕ → List ℕ → Ordering)
   obsolete_unread files edits e kept_current kept_manifest path no_current no_manifest un = record {
     not_current = no_current;
     not_manifest = λ left file name n leaves honest there text.
-        let c =
-        left_whole e.current (left (current_path store)) kept_current
+        let c = left_whole e.current (left (current_path store)) kept_current
         (subst (λ f. FileCrashesTo f (left (current_path store))) e.current_there
         (leaves (current_path store))) in
         let same_file = some_is c.now file (sym c.there ∙ there) in
-        let mine : IsCurrentText (bytes_of file) e.name e.number =
-        subst (λ b. IsCurrentText b e.name e.number)
-        (sym c.bytes ∙ ap bytes_of same_file) e.named in
+        let mine : IsCurrentText (bytes_of file) e.name e.number = subst
+        (λ b. IsCurrentText b e.name e.number) (sym c.bytes ∙ ap bytes_of same_file) e.named in
         subst (λ z. bytes_eq path (in_folder store z) ≡ false)
         (one_current (bytes_of file) e.name name e.number n mine text).0 no_manifest;
     unnamed = λ left others leaves honest o.

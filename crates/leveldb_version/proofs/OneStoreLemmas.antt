@@ -12,14 +12,14 @@ use Rattle.leveldb_env.specs.Env.{File, Files, bytes_of}
 use Rattle.leveldb_mem.proofs.LawsLemmas.{log_laws}
 use Rattle.leveldb_mem.specs.MemTable.{value_of}
 use Rattle.leveldb_version.proofs.BatchesLemmas.{each_one, one_batches}
-use Rattle.leveldb_version.proofs.EditAppendLemmas.{read_by}
+use Rattle.leveldb_version.proofs.ManifestLemmas.{read_by}
 use Rattle.leveldb_version.proofs.SafeLemmas.{some_is}
 use Rattle.leveldb_version.proofs.VersionEditLemmas.{one_edit}
 use Rattle.leveldb_version.specs.Batches.{Each, IsRecordOf}
 use Rattle.leveldb_version.specs.Contents.{Contents, made}
 use Rattle.leveldb_version.specs.Levels.{LiveTable, table_entries}
 use Rattle.leveldb_version.specs.Paths.{log_path, table_path}
-use Rattle.leveldb_version.specs.Store.{HasLog, HasLogs, HasTable, HasTables, IsEntryPair, IsLog, IsManaged, IsManagedBy, IsReplayed, IsStore, LogsRise, OneTableReading, ReplayedLog, SameContents, SameEntries, contents_of, log_entries}
+use Rattle.leveldb_version.specs.Store.{HasLogs, HasTable, HasTables, IsEntryPair, IsLog, IsManagedBy, IsStore, LogsRise, OneTableReading, ReplayedLog, SameContents, log_entries}
 use Rattle.leveldb_version.specs.VersionEdit.{Edit, IsEdit}
 use Rattle.leveldb_version.specs.VersionSet.{FileSet, live_after}
 use Rattle.std.proofs.Common.{◌++◌, ◌∙◌, ◌∷◌, ◌≡◌, List, None, Some, [], ap, arith, inl, inr, refl, subst, sym, ℕ, ⊎_elim}
@@ -52,8 +52,8 @@ flat_in f (first ∷ xs) x y c there = ⊎_elim
 
 pub one_entry : (pair : Pair) (a b : Entry) → IsEntryPair pair a → IsEntryPair pair b → a ≡ b
 one_entry pair a b p q =
-    let same : internal_key a.key a.sequence p.kind ≡ internal_key b.key b.sequence q.kind =
-    sym p.key ∙ q.key in
+    let same : internal_key a.key a.sequence p.kind
+    ≡ internal_key b.key b.sequence q.kind = sym p.key ∙ q.key in
     let key = sym (user_part-internal_key a.key a.sequence p.kind) ∙ ap user_part same
     ∙ user_part-internal_key b.key b.sequence q.kind in
     let number = sym (sequence_part-internal_key a.key a.sequence p.kind p.fits)
@@ -69,8 +69,7 @@ pub one_log : (file : File) (a b : ReplayedLog) → a.number ≡ b.number → Is
     → a ≡ b
 one_log file a b number p q =
     let same = log_laws.one (bytes_of file) p.records q.records a.end b.end p.read q.read in
-    let batches =
-    one_batches q.records a.batches b.batches
+    let batches = one_batches q.records a.batches b.batches
     (subst (λ rs. Each IsRecordOf rs a.batches) same.0 p.each) q.each in
     let size = p.size ∙ sym q.size in
     λ i. record { number = number i; batches = batches i; end = same.1 i; size = size i }
@@ -121,11 +120,9 @@ module _ (store : List ℕ) (cmp : List ℕ → List ℕ → Ordering)
       → HasTable store cmp IsTableOf files a → HasTable store cmp IsTableOf files b
       → a.entries ≡ b.entries
   one_table files a b same p q =
-      let file =
-      some_is p.file q.file
+      let file = some_is p.file q.file
       (sym p.there ∙ ap (λ (f : _). files (table_path store f.number)) same ∙ q.there) in
-      let pairs =
-      one (bytes_of q.file) p.pairs q.pairs
+      let pairs = one (bytes_of q.file) p.pairs q.pairs
       (subst (λ f. IsTableOf (bytes_of f) p.pairs) file p.read) q.read in
       each_one IsEntryPair one_entry q.pairs a.entries b.entries
       (subst (λ ps. Each IsEntryPair ps a.entries) pairs p.each) q.each
@@ -148,13 +145,11 @@ module _ (store : List ℕ) (cmp : List ℕ → List ℕ → Ordering)
       → Contains these log → Contains those log
   logs_in files set these those p q log c =
       let h = p.each log c in
-      let u =
-      q.all (file_name Log log.number) log.number (made_name Log log.number h.2) h.1
+      let u = q.all (file_name Log log.number) log.number (made_name Log log.number h.2) h.1
       (λ gone. let never : Some h.0.0 ≡ None = sym h.0.1 ∙ gone in absurd (cc)) in
       let other = u.1.0 in
       let has = (q.each other u.1.1).0 in
-      let file =
-      some_is h.0.0 has.0
+      let file = some_is h.0.0 has.0
       (sym h.0.1 ∙ ap (λ n. files (log_path store n)) (sym u.1.2) ∙ has.1) in
       let same = one_log has.0 log other (sym u.1.2) (subst (λ f. IsLog f log) file h.0.2) has.2 in
       subst (λ l. Contains those l) (sym same) u.1.1
@@ -166,8 +161,7 @@ module _ (store : List ℕ) (cmp : List ℕ → List ℕ → Ordering)
       let set = live_after edits in
       let name = some_is p.comparator q.comparator (sym p.comparator_is ∙ q.comparator_is) in
       let last = some_is p.last q.last (sym p.last_is ∙ q.last_is) in
-      let logs =
-      one_rising p.logs q.logs p.has_logs.rising q.has_logs.rising
+      let logs = one_rising p.logs q.logs p.has_logs.rising q.has_logs.rising
       (logs_in files set p.logs q.logs p.has_logs q.has_logs)
       (logs_in files set q.logs p.logs q.has_logs p.has_logs) in
       let to = tables_in files set p.tables q.tables p.has_tables q.has_tables in
@@ -228,10 +222,10 @@ module _ (store : List ℕ) (cmp : List ℕ → List ℕ → Ordering)
       ∙ a.has_edits.current_there in cc)
   one_store files these those (inr a) (inr b) =
       let e = b.has_edits in
-      let by =
-      read_by store cmp IsTableOf e.name e.number e.current e.named files e.manifest
+      let by = read_by store cmp IsTableOf e.name e.number e.current e.named files e.manifest
       e.is.records e.is.end these e.current_there e.there e.is.read (inr a) in
-      let same : by.edits ≡ b.edits =
+      let same : by.edits
+      ≡ b.edits =
       each_one IsEdit
       (λ t x y p q. one_edit t x y p q) e.is.records by.edits b.edits by.each e.is.each in
       one_managed files b.edits these those

@@ -7,10 +7,11 @@ use Rattle.leveldb_base.specs.declared.types.FileType.TheVariants.{Current, Desc
 use Rattle.leveldb_env.proofs.EnvLemmas.{at_other, at_same, bytes_eq-sym, renamed-there}
 use Rattle.leveldb_env.specs.Env.{AreBytes, BeforeOrAfter, File, FileCrashesTo, Files, FilesCrashTo, bytes_of, deleted, file_kept, in_folder, renamed, with_file}
 use Rattle.leveldb_mem.specs.Log.{IsLogFile}
-use Rattle.leveldb_version.proofs.BatchAppendLemmas.{managed_of}
-use Rattle.leveldb_version.proofs.EditAppendLemmas.{left_whole, matches_refined}
+use Rattle.leveldb_version.proofs.HonestCrashLemmas.{whole_honest, whole_leaves}
 use Rattle.leveldb_version.proofs.ManagedLemmas.{SameFor, kinds_apart, managed_on, same_for_others}
-use Rattle.leveldb_version.proofs.SafeLemmas.{Honest, front_honest, honest_with, leaves_with}
+use Rattle.leveldb_version.proofs.ManifestLemmas.{left_whole, managed_of}
+use Rattle.leveldb_version.proofs.MatchesLemmas.{matches_refined}
+use Rattle.leveldb_version.proofs.SafeLemmas.{Honest, honest_with, leaves_with}
 use Rattle.leveldb_version.specs.Contents.{Contents, Store}
 use Rattle.leveldb_version.specs.Current.{IsCurrentText}
 use Rattle.leveldb_version.specs.Holds.{CarriesPrefix, IsHonest, IsSafe}
@@ -22,14 +23,6 @@ use Rattle.leveldb_version.specs.VersionSet.{FileSet, live_after}
 use Rattle.std.proofs.Common.{◌∙◌, ◌≡◌, List, None, Some, [], append-nil, arith, false, inl, inr, refl, subst, sym, ℕ}
 use Rattle.std.specs.Str.{bytes_eq}
 use Rattle.std.specs.declared.cmp.Ordering.{Ordering}
-
--- a crash may leave all bytes of a file
-pub whole_leaves : (file : File) → AreBytes file.since
-    → FileCrashesTo (Some file) (Some (file_kept file))
-whole_leaves file bytes = (file.since, bytes, omega arith, refl)
-
-pub whole_honest : (file : File) → Honest (Some file) (Some (file_kept file))
-whole_honest file = front_honest file file.since [] (sym (append-nil file.since))
 
 module _ (store : List ℕ) (cmp : List ℕ → List ℕ → Ordering)
     (IsTableOf : List ℕ → List Pair → Type 0) where
@@ -76,8 +69,7 @@ module _ (store : List ℕ) (cmp : List ℕ → List ℕ → Ordering)
     current_named = made_name Current 0 refl
 
     from_to : bytes_eq from to ≡ false
-    from_to =
-        kinds_apart store temp
+    from_to = kinds_apart store temp
         (file_name Current 0) temp_number 0 Temp Current temp_name current_named (λ d. cc)
 
     from_new : bytes_eq from new_path ≡ false
@@ -85,16 +77,14 @@ module _ (store : List ℕ) (cmp : List ℕ → List ℕ → Ordering)
         kinds_apart store temp name temp_number number Temp Descriptor temp_name named.0 (λ d. cc)
 
     to_new : bytes_eq to new_path ≡ false
-    to_new =
-        kinds_apart store
+    to_new = kinds_apart store
         (file_name Current 0) name 0 number Current Descriptor current_named named.0 (λ d. cc)
 
     to_from : bytes_eq to from ≡ false
     to_from = bytes_eq-sym to from ∙ from_to
 
     old_to : bytes_eq old_path to ≡ false
-    old_to =
-        kinds_apart store e.name
+    old_to = kinds_apart store e.name
         (file_name Current 0) e.number 0 Descriptor Current e.named.0 current_named (λ d. cc)
 
     from_old : bytes_eq from old_path ≡ false
@@ -136,8 +126,7 @@ module _ (store : List ℕ) (cmp : List ℕ → List ℕ → Ordering)
           (whole_honest e.current))
 
       second_leaves : FilesCrashTo files second
-      second_leaves =
-          leaves_with from files (deleted from files) first (Some (file_kept text))
+      second_leaves = leaves_with from files (deleted from files) first (Some (file_kept text))
           (λ other away. at_other from None files other away) first_leaves
           (subst (λ f. FileCrashesTo f (Some (file_kept text))) (sym text_there)
           (whole_leaves text text_bytes))
@@ -149,15 +138,13 @@ module _ (store : List ℕ) (cmp : List ℕ → List ℕ → Ordering)
           (subst (λ f. Honest f (Some (file_kept text))) (sym text_there) (whole_honest text))
 
       before_leaves : FilesCrashTo files before
-      before_leaves =
-          leaves_with old_path files files second (Some (file_kept e.manifest))
+      before_leaves = leaves_with old_path files files second (Some (file_kept e.manifest))
           (λ other away. refl) second_leaves
           (subst (λ f. FileCrashesTo f (Some (file_kept e.manifest))) (sym e.there)
           (whole_leaves e.manifest manifest_bytes))
 
       before_honest : IsHonest store files before
-      before_honest =
-          honest_with store old_path files files second (Some (file_kept e.manifest))
+      before_honest = honest_with store old_path files files second (Some (file_kept e.manifest))
           (λ other away. refl) second_honest
           (subst (λ f. Honest f (Some (file_kept e.manifest))) (sym e.there)
           (whole_honest e.manifest))
@@ -175,15 +162,14 @@ module _ (store : List ℕ) (cmp : List ℕ → List ℕ → Ordering)
             (sym (append-nil (bytes_of e.current))) e.named;
         manifest = file_kept e.manifest;
         there = at_same old_path (Some (file_kept e.manifest)) second;
-        is =
-            record {
-              records = e.is.records;
-              end = e.is.end;
-              read =
-                  subst (λ b. IsLogFile b e.is.records e.is.end)
-                  (sym (append-nil (bytes_of e.manifest))) e.is.read;
-              each = e.is.each;
-            };
+        is = record {
+          records = e.is.records;
+          end = e.is.end;
+          read =
+              subst (λ b. IsLogFile b e.is.records e.is.end)
+              (sym (append-nil (bytes_of e.manifest))) e.is.read;
+          each = e.is.each;
+        };
       }
 
       -- no table and no log is another
@@ -202,15 +188,13 @@ module _ (store : List ℕ) (cmp : List ℕ → List ℕ → Ordering)
           (λ other away. sym (at_other to (Some (file_kept e.current)) left other away))))
 
       left_edits : HasEdits store left others
-      left_edits =
-          let c =
+      left_edits = let c =
           left_whole text (left to) text_kept
           (subst (λ f. FileCrashesTo f (left to)) (at_same to (Some text) (deleted from files))
           (leaves to)) in
           let there = at_other to (Some text) (deleted from files) new_path to_new
           ∙ at_other from None files new_path from_new ∙ manifest_there in
-          let m =
-          left_whole manifest (left new_path) manifest_kept
+          let m = left_whole manifest (left new_path) manifest_kept
           (subst (λ f. FileCrashesTo f (left new_path)) there (leaves new_path)) in
           record {
             current = c.now;
@@ -220,37 +204,32 @@ module _ (store : List ℕ) (cmp : List ℕ → List ℕ → Ordering)
             named = subst (λ b. IsCurrentText b name number) (sym c.bytes) named;
             manifest = m.now;
             there = m.there;
-            is =
-                record {
-                  records = is.records;
-                  end = is.end;
-                  read = subst (λ b. IsLogFile b is.records is.end) (sym m.bytes) is.read;
-                  each = is.each;
-                };
+            is = record {
+              records = is.records;
+              end = is.end;
+              read = subst (λ b. IsLogFile b is.records is.end) (sym m.bytes) is.read;
+              each = is.each;
+            };
           }
 
       moved_safe : CarriesPrefix store reads allowed bound durable history left
-      moved_safe =
-          let c = safe before before_leaves before_honest in
-          let managed =
-          managed_of store cmp IsTableOf before edits c.carries.contents before_edits
+      moved_safe = let c = safe before before_leaves before_honest in
+          let managed = managed_of store cmp IsTableOf before edits c.carries.contents before_edits
           c.carries.read in
-          let now =
-          refines_all before c.carries.contents before_leaves before_honest
+          let now = refines_all before c.carries.contents before_leaves before_honest
           c.carries.matches.bounded managed in
           record {
             part = c.part;
             prefix = c.prefix;
             carries = record {
               contents = now.0;
-              read =
-                  inr (record {
-                    edits = others;
-                    has_edits = left_edits;
-                    managed =
-                        managed_on store cmp IsTableOf before left others now.0
-                        (same_here (live_after others)) now.1;
-                  });
+              read = inr (record {
+                edits = others;
+                has_edits = left_edits;
+                managed =
+                    managed_on store cmp IsTableOf before left others now.0
+                    (same_here (live_after others)) now.1;
+              });
               matches =
                   matches_refined allowed bound c.carries.contents now.0 c.part now.2
                   c.carries.matches;

@@ -27,11 +27,11 @@ Honest file left = (was is : File) → file ≡ Some was → left ≡ Some is
 pub front_honest : (file : File) (front rest : List ℕ) → file.since ≡ front ++ rest
     → Honest (Some file) (Some (kept_file (file.kept ++ front)))
 front_honest file front rest e was is same_was same_is =
-    let whole : ((file.kept ++ front) ++ []) ++ rest ≡ bytes_of file =
-    ap (λ b. b ++ rest) (append-nil (file.kept ++ front)) ∙ append_assoc file.kept front rest
-    ∙ ap (λ b. file.kept ++ b) (sym e) in
-    let here : HonestTail log_block_size (bytes_of file) ((file.kept ++ front) ++ []) =
-    subst (λ b. HonestTail log_block_size b ((file.kept ++ front) ++ [])) whole
+    let whole : ((file.kept ++ front) ++ []) ++ rest
+    ≡ bytes_of file = ap (λ b. b ++ rest) (append-nil (file.kept ++ front))
+    ∙ append_assoc file.kept front rest ∙ ap (λ b. file.kept ++ b) (sym e) in
+    let here : HonestTail log_block_size (bytes_of file) ((file.kept ++ front) ++ []) = subst
+    (λ b. HonestTail log_block_size b ((file.kept ++ front) ++ [])) whole
     (cut_is_honest log_block_size ((file.kept ++ front) ++ []) rest) in
     subst (λ f. HonestTail log_block_size (bytes_of f) (bytes_of is)) (some_is file was same_was)
     (subst (λ f. HonestTail log_block_size (bytes_of file) (bytes_of f))
@@ -161,13 +161,12 @@ module _ (store : List ℕ) (reads : Files → Contents → Type 0) where
           there = omega (arith, c.prefix.there, length-append history rest);
           first = c.prefix.first ∙ sym (take-append-le c.prefix.count history rest c.prefix.there);
         };
-        carries =
-            record {
-              contents = c.carries.contents;
-              read = c.carries.read;
-              matches =
-                  matches_more allowed bound more c.carries.contents c.part most c.carries.matches;
-            };
+        carries = record {
+          contents = c.carries.contents;
+          read = c.carries.read;
+          matches =
+              matches_more allowed bound more c.carries.contents c.part most c.carries.matches;
+        };
       }
 
   -- ---- a sync of any file
@@ -193,10 +192,9 @@ module _ (store : List ℕ) (reads : Files → Contents → Type 0) where
       → IsSafe store reads allowed bound durable history new
   unread_safe allowed bound durable history name old new same unread safe left leaves honest =
       let before : Files = with_file name (cut_off (old name)) left in
-      let b_leaves =
-      leaves_with name old new left (cut_off (old name)) same leaves (cut_leaves (old name)) in
-      let b_honest =
-      honest_with store name old new left (cut_off (old name)) same honest
+      let b_leaves = leaves_with name old new left (cut_off (old name)) same leaves
+      (cut_leaves (old name)) in
+      let b_honest = honest_with store name old new left (cut_off (old name)) same honest
       (cut_honest (old name)) in
       let c = safe before b_leaves b_honest in
       record {

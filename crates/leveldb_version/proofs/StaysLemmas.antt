@@ -6,21 +6,20 @@ use Rattle.leveldb_base.specs.Types.{Pair}
 use Rattle.leveldb_base.specs.declared.types.FileType.TheVariants.{Current, Descriptor, Table}
 use Rattle.leveldb_env.proofs.EnvLemmas.{at_other, at_same}
 use Rattle.leveldb_env.specs.Env.{File, FileCrashesTo, Files, FilesCrashTo, SameBut, bytes_of, file_kept, in_folder, kept_file, synced, with_file}
-use Rattle.leveldb_mem.specs.Log.{IsLogFile}
-use Rattle.leveldb_version.proofs.BatchAppendLemmas.{edits_on, managed_of}
-use Rattle.leveldb_version.proofs.EditNowLemmas.{all_honest, all_kept, all_leaves, all_same}
-use Rattle.leveldb_version.proofs.ManagedLemmas.{SameBytes, found_again, kinds_apart, managed_on}
+use Rattle.leveldb_version.proofs.HonestCrashLemmas.{all_honest, all_kept, all_leaves, all_same}
+use Rattle.leveldb_version.proofs.ManagedLemmas.{SameBytes, kinds_apart, managed_on}
+use Rattle.leveldb_version.proofs.ManifestLemmas.{edits_on, edits_same, managed_of}
 use Rattle.leveldb_version.proofs.SafeLemmas.{Honest, front_honest, honest_with, leaves_with, some_is}
 use Rattle.leveldb_version.proofs.SwapEditLemmas.{replayed_by}
 use Rattle.leveldb_version.proofs.UnreadLemmas.{unnamed_on}
 use Rattle.leveldb_version.specs.Contents.{Contents, Store}
 use Rattle.leveldb_version.specs.Current.{IsCurrentText}
 use Rattle.leveldb_version.specs.Holds.{IsHonest, IsSafe}
-use Rattle.leveldb_version.specs.Paths.{current_path, table_path}
+use Rattle.leveldb_version.specs.Paths.{table_path}
 use Rattle.leveldb_version.specs.Store.{HasEdits, IsManaged, IsStore}
 use Rattle.leveldb_version.specs.StoreSteps.{EditsRefine, HasBytes, IsKept, IsUnread, SameButNextFile}
 use Rattle.leveldb_version.specs.VersionEdit.{Edit, NewFile}
-use Rattle.leveldb_version.specs.VersionSet.{FileSet, level_file, live_after}
+use Rattle.leveldb_version.specs.VersionSet.{level_file, live_after}
 use Rattle.std.proofs.Common.{◌++◌, ◌<◌, ◌^◌, ◌∙◌, ◌≡◌, Bool, List, None, Option, Some, [], ap, append-nil, arith, false, length, length-append, refl, subst, sym, true, ℕ}
 use Rattle.std.proofs.lemmas.List.{nil_from_length}
 use Rattle.std.specs.Cmp.Lexicographic.{bytes_decides}
@@ -28,36 +27,6 @@ use Rattle.std.specs.Option.{option_map}
 use Rattle.std.specs.Prelude.{IsSome}
 use Rattle.std.specs.Str.{bytes_eq}
 use Rattle.std.specs.declared.cmp.Ordering.{Ordering}
-
--- ---- the same bytes everywhere
-
--- files of the same bytes have the same edits
-pub edits_same : (store : List ℕ) (old new : Files) (edits : List Edit)
-    → ((path : List ℕ) → SameBytes (old path) (new path)) → HasEdits store old edits
-    → HasEdits store new edits
-edits_same store old new edits same e =
-    let c =
-    found_again (old (current_path store)) (new (current_path store)) e.current
-    (same (current_path store)) e.current_there in
-    let m =
-    found_again (old (in_folder store e.name)) (new (in_folder store e.name)) e.manifest
-    (same (in_folder store e.name)) e.there in
-    record {
-      current = c.now;
-      current_there = c.there;
-      name = e.name;
-      number = e.number;
-      named = subst (λ b. IsCurrentText b e.name e.number) (sym c.bytes) e.named;
-      manifest = m.now;
-      there = m.there;
-      is =
-          record {
-            records = e.is.records;
-            end = e.is.end;
-            read = subst (λ b. IsLogFile b e.is.records e.is.end) (sym m.bytes) e.is.read;
-            each = e.is.each;
-          };
-    }
 
 module _ (store : List ℕ) (cmp : List ℕ → List ℕ → Ordering)
     (IsTableOf : List ℕ → List Pair → Type 0) where
@@ -105,9 +74,8 @@ module _ (store : List ℕ) (cmp : List ℕ → List ℕ → Ordering)
       let left = all_kept old in
       let there = edits_same store old left m.edits (λ p. all_same (old p)) e in
       let named = un.unnamed left m.edits (all_leaves old bytes) (all_honest store old) there in
-      let no_manifest =
-      un.not_manifest left there.current there.name there.number (all_leaves old bytes)
-      (all_honest store old) there.current_there there.named in
+      let no_manifest = un.not_manifest left there.current there.name there.number
+      (all_leaves old bytes) (all_honest store old) there.current_there there.named in
       record {
         edits = m.edits;
         has_edits = edits_on store cmp IsTableOf path old new m.edits e same un.not_current
@@ -201,8 +169,7 @@ module _ (store : List ℕ) (cmp : List ℕ → List ℕ → Ordering)
               ([], (λ i. omega arith), omega arith, refl))
 
           honest : IsHonest store files left
-          honest =
-              honest_with store (table_path store file.number) files files (all_kept files)
+          honest = honest_with store (table_path store file.number) files files (all_kept files)
               (Some cut_one) (λ other away. refl) (all_honest store files)
               (subst (λ x. Honest x (Some cut_one)) (sym e) (front_honest f [] f.since refl))
 
@@ -210,8 +177,7 @@ module _ (store : List ℕ) (cmp : List ℕ → List ℕ → Ordering)
           named = made_name Table file.number fits
 
           edits : HasEdits store left m.edits
-          edits =
-              let kept =
+          edits = let kept =
               edits_same store files (all_kept files) m.edits
               (λ p. all_same (files p)) m.has_edits in
               edits_on store cmp IsTableOf (table_path store file.number)
@@ -227,24 +193,24 @@ module _ (store : List ℕ) (cmp : List ℕ → List ℕ → Ordering)
               named kept.named.0 (λ d. cc))
 
           whole : f.since ≡ []
-          whole =
-              let c = safe left leaves honest in
-              let there =
-              managed_of store cmp IsTableOf left m.edits c.carries.contents edits
+          whole = let c = safe left leaves honest in
+              let there = managed_of store cmp IsTableOf left m.edits c.carries.contents edits
               c.carries.read in
               let t = there.has_tables.all file live in
               let h = (there.has_tables.each t.0 t.1).0 in
-              let is_cut : h.file ≡ cut_one =
+              let is_cut : h.file
+              ≡ cut_one =
               some_is h.file cut_one
               (sym h.there ∙ ap (λ (x : NewFile). left (table_path store x.number)) t.2
               ∙ at_same (table_path store file.number) (Some cut_one) (all_kept files)) in
               let u = m.managed.has_tables.all file live in
               let g = (m.managed.has_tables.each u.0 u.1).0 in
-              let is_whole : g.file ≡ f =
+              let is_whole : g.file
+              ≡ f =
               some_is g.file f
               (sym g.there ∙ ap (λ (x : NewFile). files (table_path store x.number)) u.2 ∙ e) in
-              let size : length (bytes_of cut_one) ≡ length (bytes_of f) =
-              sym (ap (λ x. length (bytes_of x)) is_cut) ∙ h.size
+              let size : length (bytes_of cut_one)
+              ≡ length (bytes_of f) = sym (ap (λ x. length (bytes_of x)) is_cut) ∙ h.size
               ∙ ap (λ (x : NewFile). x.size) (t.2 ∙ sym u.2) ∙ sym g.size
               ∙ ap (λ x. length (bytes_of x)) is_whole in
               let one = length-append (f.kept ++ []) [] in

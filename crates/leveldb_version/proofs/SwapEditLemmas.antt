@@ -1,7 +1,6 @@
 -- The edit of a compaction: tables go and tables come, with the same view; whatever a crash leaves
 -- of logs, it shows the same.
 use Rattle.leveldb_base.specs.History.{Entry, SameView, greatest}
-use Rattle.leveldb_base.specs.KeyTypes.{greatest_sequence}
 use Rattle.leveldb_base.specs.Types.{Pair}
 use Rattle.leveldb_env.specs.Env.{Files, FilesCrashTo}
 use Rattle.leveldb_version.proofs.KeptLemmas.{kept_left}
@@ -12,13 +11,13 @@ use Rattle.leveldb_version.proofs.OneStoreLemmas.{tables_in}
 use Rattle.leveldb_version.proofs.SafeLemmas.{some_is}
 use Rattle.leveldb_version.proofs.ViewsLemmas.{append_sets, greatest_most, same_sets, same_with_later, turned, view_trans}
 use Rattle.leveldb_version.specs.Contents.{Contents}
-use Rattle.leveldb_version.specs.Levels.{LevelOrder, LiveTable, table_entries}
+use Rattle.leveldb_version.specs.Levels.{LiveTable, table_entries}
 use Rattle.leveldb_version.specs.Paths.{table_path}
 use Rattle.leveldb_version.specs.Store.{HasTables, IsManagedBy, IsReplayed, OneTableReading, SameEntries, contents_of, log_batches, log_entries}
 use Rattle.leveldb_version.specs.StoreSteps.{EditKeeps, Refines, SwapsTables, TablesAreKept}
 use Rattle.leveldb_version.specs.VersionEdit.{Edit}
 use Rattle.leveldb_version.specs.VersionSet.{FileSet, live_after}
-use Rattle.std.proofs.Common.{◌++◌, ◌∙◌, ◌∷◌, ◌≡◌, ◌≤◌, List, Some, [], ap, arith, inl, inr, refl, subst, sym, ℕ, ⊎_elim}
+use Rattle.std.proofs.Common.{◌++◌, ◌∙◌, ◌∷◌, ◌≡◌, ◌≤◌, List, [], ap, arith, inl, inr, refl, subst, sym, ℕ, ⊎_elim}
 use Rattle.std.proofs.lemmas.List.Elements.{Contains-append_cases, Contains-append_left, Contains-append_right}
 use Rattle.std.specs.Prelude.{Contains, IsSome, max}
 use Rattle.std.specs.declared.cmp.Ordering.{Ordering}
@@ -51,8 +50,7 @@ module _ (store : List ℕ) (cmp : List ℕ → List ℕ → Ordering)
       now = contents_of m.comparator s.after m.logs s.last.last
 
       before_here : SameEntries (table_entries m.tables) (table_entries s.before)
-      before_here =
-          let has =
+      before_here = let has =
           tables_left files left
           (live_after edits) s.before s.before_kept leaves s.has_before in
           λ entry. (
@@ -130,8 +128,7 @@ module _ (store : List ℕ) (cmp : List ℕ → List ℕ → Ordering)
           (turned (table_entries m.tables) (table_entries s.before) before_here)) t)
         where
           before_low : greatest (table_entries s.before) ≤ s.last.last
-          before_low =
-              greatest_most s.last.last (table_entries s.before)
+          before_low = greatest_most s.last.last (table_entries s.before)
               (λ entry c. let n = m.fit.numbered entry ((before_here entry).1 c) in
               omega (arith, n.1, last_is, s.last.later))
 

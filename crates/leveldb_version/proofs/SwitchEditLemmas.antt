@@ -1,7 +1,6 @@
 -- The edit of a switch: the logs before a number go, and a table comes that has all their entries.
 use Rattle.leveldb_base.proofs.NamesLemmas.{made_name}
-use Rattle.leveldb_base.specs.History.{AreUpTo, Entry, SameView, greatest}
-use Rattle.leveldb_base.specs.KeyTypes.{greatest_sequence}
+use Rattle.leveldb_base.specs.History.{Entry, SameView, greatest}
 use Rattle.leveldb_base.specs.Names.{file_name}
 use Rattle.leveldb_base.specs.Types.{Pair}
 use Rattle.leveldb_base.specs.declared.types.FileType.TheVariants.{Log}
@@ -15,16 +14,16 @@ use Rattle.leveldb_version.proofs.SafeLemmas.{some_is}
 use Rattle.leveldb_version.proofs.ViewsLemmas.{greatest_most, same_sets}
 use Rattle.leveldb_version.specs.Batches.{AreInOrder, all_entries, batch_entries}
 use Rattle.leveldb_version.specs.Contents.{Contents}
-use Rattle.leveldb_version.specs.Levels.{LevelOrder, LiveTable, table_entries}
+use Rattle.leveldb_version.specs.Levels.{LiveTable, table_entries}
 use Rattle.leveldb_version.specs.Paths.{log_path, table_path}
 use Rattle.leveldb_version.specs.Store.{HasLog, HasTables, IsLog, IsManagedBy, IsReplayed, OneTableReading, ReplayedLog, SameEntries, contents_of, log_batches, log_entries}
-use Rattle.leveldb_version.specs.StoreSteps.{EditKeeps, IsKept, Refines, SwitchesLog, TablesAreKept}
+use Rattle.leveldb_version.specs.StoreSteps.{EditKeeps, Refines, SwitchesLog, TablesAreKept}
 use Rattle.leveldb_version.specs.VersionEdit.{Edit}
 use Rattle.leveldb_version.specs.VersionSet.{FileSet, live_after}
-use Rattle.std.proofs.Common.{◌++◌, ◌<◌, ◌^◌, ◌∙◌, ◌∷◌, ◌≡◌, ◌≤◌, List, None, Some, [], ap, arith, inl, inr, refl, subst, sym, ℕ, ⊎_elim}
+use Rattle.std.proofs.Common.{◌++◌, ◌∙◌, ◌∷◌, ◌≡◌, ◌≤◌, List, None, Some, [], ap, arith, inl, inr, refl, subst, sym, ℕ, ⊎_elim}
 use Rattle.std.proofs.lemmas.List.Concat.{flat_map-append}
 use Rattle.std.proofs.lemmas.List.Elements.{Contains-append_cases, Contains-append_left, Contains-append_right}
-use Rattle.std.specs.Prelude.{◌≢◌, Contains, IsSome, max}
+use Rattle.std.specs.Prelude.{Contains, IsSome, max}
 use Rattle.std.specs.declared.cmp.Ordering.{Ordering}
 
 -- logs that are among others have no more entries
@@ -91,12 +90,10 @@ module _ (store : List ℕ) (cmp : List ℕ → List ℕ → Ordering)
     front_taken l c =
         let h = m.has_logs.each l (in_front_too l c) in
         let less = p.before l c in
-        let bytes =
-        kept_left (files (log_path store l.number)) (left (log_path store l.number))
+        let bytes = kept_left (files (log_path store l.number)) (left (log_path store l.number))
         (s.kept l.number less h.1) (leaves (log_path store l.number)) in
         let was = log_on store cmp IsTableOf left files l (sym bytes) h.0 in
-        let t =
-        s.all_taken l.number less h.1
+        let t = s.all_taken l.number less h.1
         (λ gone. let never : Some was.0 ≡ None = sym was.1 ∙ gone in cc) in
         subst (Contains s.taken)
         (one_has_log store files t.0 l t.2 (s.each_taken t.0 t.1).0 was) t.1
@@ -104,12 +101,10 @@ module _ (store : List ℕ) (cmp : List ℕ → List ℕ → Ordering)
     taken_front : (l : ReplayedLog) → Contains s.taken l → Contains p.front l
     taken_front l c =
         let h = s.each_taken l c in
-        let bytes =
-        kept_left (files (log_path store l.number)) (left (log_path store l.number))
+        let bytes = kept_left (files (log_path store l.number)) (left (log_path store l.number))
         (s.kept l.number h.2 h.1) (leaves (log_path store l.number)) in
         let is = log_on store cmp IsTableOf files left l bytes h.0 in
-        let a =
-        m.has_logs.all (file_name Log l.number) l.number (made_name Log l.number h.3) h.1
+        let a = m.has_logs.all (file_name Log l.number) l.number (made_name Log l.number h.3) h.1
         (λ gone. let never : Some is.0 ≡ None = sym is.1 ∙ gone in cc) in
         let same = one_has_log store left a.1.0 l a.1.2 (m.has_logs.each a.1.0 a.1.1).0 is in
         ⊎_elim (λ (f : Contains p.front l). f)
@@ -125,8 +120,7 @@ module _ (store : List ℕ) (cmp : List ℕ → List ℕ → Ordering)
     )
 
     before_here : SameEntries (table_entries m.tables) (table_entries s.before)
-    before_here =
-        let has =
+    before_here = let has =
         tables_left files left (live_after edits) s.before s.before_kept leaves s.has_before in
         λ entry. (
           tables_in store cmp IsTableOf one left
@@ -198,8 +192,7 @@ module _ (store : List ℕ) (cmp : List ℕ → List ℕ → Ordering)
             (subst (λ es. Contains es entry) after_are c));
         below = λ entry later c l. ⊎_elim
             (λ (t : Contains (table_entries s.added) entry).
-            let up =
-            order_above (max 0 (greatest (all_entries (log_batches p.front))))
+            let up = order_above (max 0 (greatest (all_entries (log_batches p.front))))
             (log_batches p.back)
             (order_after 0 (log_batches p.front) (log_batches p.back) order) later l in
             let low = up_to_greatest (log_entries p.front) entry ((wrote entry).0 t) in
@@ -262,8 +255,7 @@ module _ (store : List ℕ) (cmp : List ℕ → List ℕ → Ordering)
         (subst (λ es. Contains es entry) entries_are c)))
 
     back_greatest : greatest (log_entries p.back) ≤ greatest (log_entries m.logs)
-    back_greatest =
-        greatest_most (greatest (log_entries m.logs)) (log_entries p.back)
+    back_greatest = greatest_most (greatest (log_entries m.logs)) (log_entries p.back)
         (λ entry c.
         up_to_greatest (log_entries m.logs) entry
         (entries_in_logs p.back m.logs in_back_too entry c))

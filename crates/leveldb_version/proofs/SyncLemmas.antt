@@ -1,27 +1,23 @@
 -- A sync of the last log covers everything; and the first `CURRENT` makes a store.
-use Rattle.leveldb_base.proofs.HistoryLemmas.{in_none}
 use Rattle.leveldb_base.proofs.NamesLemmas.{made_name}
 use Rattle.leveldb_base.specs.History.{History}
 use Rattle.leveldb_base.specs.Names.{IsFileName, file_name}
 use Rattle.leveldb_base.specs.Types.{Pair}
-use Rattle.leveldb_base.specs.declared.types.FileType.TheVariants.{Current, Descriptor, Log, Temp}
-use Rattle.leveldb_env.proofs.EnvLemmas.{at_other, at_same, renamed-there}
-use Rattle.leveldb_env.specs.Env.{File, Files, bytes_of, deleted, file_kept, in_folder, renamed, synced, with_file}
-use Rattle.leveldb_version.proofs.KeptLemmas.{IsAllKept, kept_safe}
+use Rattle.leveldb_base.specs.declared.types.FileType.TheVariants.{Current, Descriptor, Log}
+use Rattle.leveldb_env.proofs.EnvLemmas.{at_other, at_same}
+use Rattle.leveldb_env.specs.Env.{File, Files, file_kept, in_folder, synced}
+use Rattle.leveldb_version.proofs.KeptLemmas.{kept_safe}
 use Rattle.leveldb_version.proofs.ManagedLemmas.{kinds_apart, managed_on}
 use Rattle.leveldb_version.proofs.StaysLemmas.{synced_same}
-use Rattle.leveldb_version.specs.Contents.{Contents, Store, missing, no_contents}
-use Rattle.leveldb_version.specs.Current.{IsCurrentText}
-use Rattle.leveldb_version.specs.Holds.{Carries, Holds, IsSafe, MatchesHistory}
+use Rattle.leveldb_version.specs.Contents.{Contents, Store}
+use Rattle.leveldb_version.specs.Holds.{Holds, MatchesHistory}
 use Rattle.leveldb_version.specs.Paths.{current_path, log_path, table_path}
-use Rattle.leveldb_version.specs.Store.{HasEdits, HasNoStore, IsManaged, IsManagedBy, IsManifest, IsReplayed, IsStore, contents_of}
-use Rattle.leveldb_version.specs.StoreSteps.{IsKept, IsLastLog, IsNew, TablesAreKept}
-use Rattle.leveldb_version.specs.VersionEdit.{Edit, NewFile}
-use Rattle.leveldb_version.specs.VersionSet.{FileSet, level_file, live_after}
+use Rattle.leveldb_version.specs.Store.{HasEdits, IsManaged, IsReplayed, IsStore}
+use Rattle.leveldb_version.specs.StoreSteps.{IsAllKept, IsKept, IsLastLog, TablesAreKept}
+use Rattle.leveldb_version.specs.VersionSet.{live_after}
 use Rattle.std.proofs.Common.{◌+◌, ◌<◌, ◌^◌, ◌∙◌, ◌≡◌, Bool, List, None, Option, Some, [], ap, arith, false, inl, inr, length, refl, subst, sym, true, ℕ}
 use Rattle.std.specs.Cmp.Lexicographic.{bytes_decides}
 use Rattle.std.specs.Option.{option_map}
-use Rattle.std.specs.Prelude.{IsSome}
 use Rattle.std.specs.Str.{bytes_eq}
 use Rattle.std.specs.declared.cmp.Ordering.{Ordering}
 
@@ -131,8 +127,8 @@ module _ (store : List ℕ) (cmp : List ℕ → List ℕ → Ordering)
   sync_makes_durable files contents m current_kept manifest_kept tables number fits log allowed last
       history matches =
       let all = sync_keeps_all files contents m current_kept manifest_kept tables number fits log in
-      let more : MatchesHistory allowed (last + 0) contents history =
-      subst (λ b. MatchesHistory allowed b contents history) (omega arith) matches in
+      let more : MatchesHistory allowed (last + 0) contents history = subst
+      (λ b. MatchesHistory allowed b contents history) (omega arith) matches in
       record {
         now = inl (record { contents = contents; read = inr all.managed; matches = more });
         crash =

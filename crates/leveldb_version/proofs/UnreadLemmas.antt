@@ -7,8 +7,8 @@ use Rattle.leveldb_base.specs.declared.types.FileType.{FileType}
 use Rattle.leveldb_base.specs.declared.types.FileType.TheVariants.{Current, Descriptor, Log, Table}
 use Rattle.leveldb_env.proofs.EnvLemmas.{at_other}
 use Rattle.leveldb_env.specs.Env.{File, FileCrashesTo, Files, FilesCrashTo, SameBut, in_folder, with_file}
-use Rattle.leveldb_version.proofs.BatchAppendLemmas.{edits_on}
 use Rattle.leveldb_version.proofs.ManagedLemmas.{SameFor, kinds_apart, managed_on, same_bytes}
+use Rattle.leveldb_version.proofs.ManifestLemmas.{edits_on}
 use Rattle.leveldb_version.proofs.SafeLemmas.{unread_safe}
 use Rattle.leveldb_version.specs.Contents.{Contents, Store}
 use Rattle.leveldb_version.specs.Holds.{IsHonest, IsSafe}
@@ -56,11 +56,10 @@ module _ (store : List ℕ) (cmp : List ℕ → List ℕ → Ordering)
       still left contents file leaves honest (inr m) =
           let e = m.has_edits in
           let u = un.unnamed left m.edits leaves honest e in
-          let no_manifest =
-          un.not_manifest left e.current e.name e.number leaves honest e.current_there e.named
-          in
-          let but : SameBut path left (with_file path file left) =
-          λ other away. at_other path file left other away in
+          let no_manifest = un.not_manifest left e.current e.name e.number leaves honest
+          e.current_there e.named in
+          let but : SameBut path left (with_file path file left) = λ other away.
+          at_other path file left other away in
           inr (record {
             edits = m.edits;
             has_edits =
@@ -81,10 +80,12 @@ module _ (store : List ℕ) (cmp : List ℕ → List ℕ → Ordering)
               no_current = at_other path file left (current_path store) un.not_current
                   ∙ bare.0.no_current;
               no_table =
-                  λ name n is. at_other path file left (in_folder store name) (apart name n (inl is))
+                  λ name n is.
+                  at_other path file left (in_folder store name) (apart name n (inl is))
                   ∙ bare.0.no_table name n is;
               no_log =
-                  λ name n is. at_other path file left (in_folder store name) (apart name n (inr is))
+                  λ name n is.
+                  at_other path file left (in_folder store name) (apart name n (inr is))
                   ∙ bare.0.no_log name n is;
             },
             bare.1,

@@ -10,12 +10,11 @@ value_too : (these those : List Entry) → SameEntries these those → (t : ℕ)
     → HasValueAt these t key value → HasValueAt those t key value
 value_too these those same t key value s = record {
   entry = s.entry;
-  newest =
-      record {
-        there = (same s.entry).0 s.newest.there;
-        seen = s.newest.seen;
-        newest = λ other c k seen. s.newest.newest other ((same other).1 c) k seen;
-      };
+  newest = record {
+    there = (same s.entry).0 s.newest.there;
+    seen = s.newest.seen;
+    newest = λ other c k seen. s.newest.newest other ((same other).1 c) k seen;
+  };
   key_is = s.key_is;
   value_is = s.value_is;
 }

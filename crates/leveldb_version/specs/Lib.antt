@@ -9,3 +9,4 @@ pub mod Batches
 pub mod Levels
 pub mod Store
 pub mod StoreSteps
+pub mod StoreLaws

@@ -13,10 +13,10 @@ use Rattle.leveldb_mem.specs.WriteBatch.{Batch}
 use Rattle.leveldb_version.specs.Batches.{Each, IsRecordOf, all_entries}
 use Rattle.leveldb_version.specs.Contents.{Store, Contents}
 use Rattle.leveldb_version.specs.Current.{IsCurrentText}
-use Rattle.leveldb_version.specs.Holds.{IsHonest, IsSafe}
+use Rattle.leveldb_version.specs.Holds.{Carries, IsHonest, IsSafe}
 use Rattle.leveldb_version.specs.Levels.{LiveTable, LevelOrder, table_entries}
 use Rattle.leveldb_version.specs.Paths.{current_path, log_path, table_path}
-use Rattle.leveldb_version.specs.Store.{ReplayedLog, SameEntries, IsReplayed, HasEdits, HasLog, HasTables, IsManagedBy, IsManifest, log_entries}
+use Rattle.leveldb_version.specs.Store.{HasEdits, HasLog, HasTables, IsManaged, IsManagedBy, IsManifest, IsReplayed, IsStore, ReplayedLog, SameEntries, log_entries}
 use Rattle.leveldb_version.specs.VersionEdit.{Edit, LevelFile, NewFile, IsEdit}
 use Rattle.leveldb_version.specs.VersionSet.{FileSet, is_same_file, level_file, live_after}
 
@@ -35,6 +35,31 @@ IsKept (Some file) = file.since ≡ []
 abbrev pub TablesAreKept : List ℕ → Files → FileSet → Type 0
 TablesAreKept store files set = (file : NewFile) → set.file (level_file file) ≡ Some file
     → IsKept (files (table_path store file.number))
+
+-- the live tables and the logs that are replayed are kept
+pub record AreKept (store : List ℕ) (set : FileSet) (files : Files) : Type 0 where
+  pub tables : TablesAreKept store files set
+  pub logs : (name : List ℕ) (n : ℕ) → IsFileName name n Log → IsReplayed set n
+      → IsKept (files (in_folder store name))
+
+module _ (store : List ℕ) (cmp : List ℕ → List ℕ → Ordering)
+    (IsTableOf : List ℕ → List Pair → Type 0) where
+  -- all that is read is kept
+  pub record IsAllKept (files : Files) (contents : Contents) : Type 0 where
+    pub managed : IsManaged store cmp IsTableOf files contents
+    pub current : managed.has_edits.current.since ≡ []
+    pub manifest : managed.has_edits.manifest.since ≡ []
+    pub kept : AreKept store (live_after managed.edits) files
+
+  -- whatever history the old files carry, the new ones do too, now and after an honest crash
+  pub record KeepsHistory (allowed : Store → Type 0) (bound : ℕ) (old new : Files)
+      : Type 0 where
+    pub now : (history : History)
+        → Carries store (IsStore store cmp IsTableOf) allowed bound history old
+        → Carries store (IsStore store cmp IsTableOf) allowed bound history new
+    pub crash : (durable : ℕ) (history : History)
+        → IsSafe store (IsStore store cmp IsTableOf) allowed bound durable history old
+        → IsSafe store (IsStore store cmp IsTableOf) allowed bound durable history new
 
 -- ---- the manifest
 
@@ -100,6 +125,16 @@ pub record IsLogOpen (store : List ℕ) (files : Files) (set : FileSet) : Type 0
   pub clean_end : IsLogFile (bytes_of file) records clean
   pub batches : List Batch
   pub each : Each IsRecordOf records batches
+
+-- A batch may be appended: `CURRENT`, the manifest and the live tables are kept, and the last log is
+-- open.
+pub record IsWritable (store : List ℕ) (files : Files) (edits : List Edit) : Type 0 where
+  pub has_edits : HasEdits store files edits
+  pub current : has_edits.current.since ≡ []
+  pub manifest : has_edits.manifest.since ≡ []
+  pub tables : TablesAreKept store files (live_after edits)
+  pub log : IsLogOpen store files (live_after edits)
+  pub bytes : AreBytes log.file.since
 
 -- all logs that are there have a smaller number
 abbrev pub IsAboveLogs : List ℕ → Files → ℕ → Type 0
