@@ -25,7 +25,7 @@ use Rattle.leveldb_version.specs.Store.{HasEdits, IsManaged, IsManagedBy, IsRepl
 use Rattle.leveldb_version.specs.StoreSteps.{IsLogOpen, TablesAreKept}
 use Rattle.leveldb_version.specs.VersionSet.{live_after}
 use Rattle.std.proofs.Common.{◌++◌, ◌+◌, ◌<◌, ◌∙◌, ◌∷◌, ◌≡◌, ◌≤◌, ◌⊎◌, List, None, Some, [], ap, append-nil, append_assoc, arith, false, inl, inr, length, length-append, refl, subst, sym, take, ℕ, ⊎_elim}
-use Rattle.std.proofs.lemmas.List.{take-append-le}
+use Rattle.std.proofs.lemmas.List.{take-append-le, take_all}
 use Rattle.std.specs.Prelude.{◌≢◌, Contains}
 use Rattle.std.specs.Str.{bytes_eq}
 use Rattle.std.specs.declared.cmp.Ordering.{Ordering}
@@ -137,50 +137,55 @@ module _ (store : List ℕ) (cmp : List ℕ → List ℕ → Ordering)
         (SameBut-appending path frame files (longer n) (inr (n, refl))) no_current
         (not_manifest m.has_edits.name m.has_edits.number m.has_edits.named.0)
 
-    -- with so much of the frame the files are the store that they were, or that with the batch
-    pub is_either : (n : ℕ)
+    -- where the record is read, the files are the store with the batch
+    with_record : (n : ℕ) (end : End)
+        → IsLogFile (bytes_of (longer_file (take n frame) log.file)) (log.records ++ text ∷ []) end
+        → IsManaged store cmp IsTableOf (longer n)
+        (with_batches contents (batch_of (last + 1) items ∷ []))
+    with_record n end read = record {
+      edits = m.edits;
+      has_edits = now_edits n;
+      managed = with_more store cmp IsTableOf files (longer n) m.edits contents m.managed
+          log.number log.fits log.last.replayed most_now clean_now
+          (SameBut-appending path frame files (longer n) (inr (n, refl))) log.file
+          (longer_file (take n frame) log.file) log.there
+          (extended-same path (take n frame) files log.file log.there) log.records
+          (log.records ++ text ∷ []) clean end log.clean_end read log.batches
+          (batch_of (last + 1) items ∷ []) log.each
+          (each_more IsRecordOf log.records log.batches text (batch_of (last + 1) items) log.each
+          is_batch) (
+            omega (arith, matches.bounded),
+            first_fits,
+            omega (arith, placed_greatest last items, all_fit),
+            tt,
+          );
+    }
+
+    -- and where it isn't, they are the store that they were
+    without_record : (n : ℕ) (end : End)
+        → IsLogFile (bytes_of (longer_file (take n frame) log.file)) log.records end
+        → IsManaged store cmp IsTableOf (longer n) contents
+    without_record n end read = record {
+      edits = m.edits;
+      has_edits = now_edits n;
+      managed = subst (IsManagedBy store cmp IsTableOf (longer n) m.edits) (with_none contents)
+          (with_more store cmp IsTableOf files (longer n) m.edits contents m.managed log.number
+          log.fits log.last.replayed most_now clean_now
+          (SameBut-appending path frame files (longer n) (inr (n, refl))) log.file
+          (longer_file (take n frame) log.file) log.there
+          (extended-same path (take n frame) files log.file log.there) log.records log.records
+          clean end log.clean_end read log.batches [] log.each
+          (subst (Each IsRecordOf log.records) (sym (append-nil log.batches)) log.each) tt);
+    }
+
+    -- with any part of the frame they are one of the two
+    is_either : (n : ℕ)
         → IsManaged store cmp IsTableOf (longer n) contents
         ⊎ IsManaged store cmp IsTableOf (longer n)
         (with_batches contents (batch_of (last + 1) items ∷ []))
     is_either n = ⊎_elim
-        (λ (none : found ≡ log.records). inl
-        (record {
-          edits = m.edits;
-          has_edits = now_edits n;
-          managed =
-              subst (IsManagedBy store cmp IsTableOf (longer n) m.edits) (with_none contents)
-              (with_more store cmp IsTableOf files
-              (longer n) m.edits contents m.managed log.number log.fits log.last.replayed most_now
-              clean_now (SameBut-appending path frame files (longer n) (inr (n, refl))) log.file
-              (longer_file (take n frame) log.file) log.there
-              (extended-same path (take n frame) files log.file log.there) log.records log.records
-              clean part.1 log.clean_end
-              (subst
-              (λ rs. IsLogFile (bytes_of (longer_file (take n frame) log.file)) rs part.1) none
-              read) log.batches [] log.each
-              (subst (Each IsRecordOf log.records) (sym (append-nil log.batches)) log.each) tt);
-        }))
-        (λ (more : found ≡ log.records ++ text ∷ []). inr
-        (record {
-          edits = m.edits;
-          has_edits = now_edits n;
-          managed = with_more store cmp IsTableOf files
-              (longer n) m.edits contents m.managed log.number log.fits log.last.replayed most_now
-              clean_now (SameBut-appending path frame files (longer n) (inr (n, refl)))
-              log.file (longer_file (take n frame) log.file) log.there
-              (extended-same path (take n frame) files log.file log.there) log.records
-              (log.records ++ text ∷ []) clean part.1 log.clean_end
-              (subst
-              (λ rs. IsLogFile (bytes_of (longer_file (take n frame) log.file)) rs part.1)
-              more read) log.batches (batch_of (last + 1) items ∷ []) log.each
-              (each_more IsRecordOf log.records log.batches text
-              (batch_of (last + 1) items) log.each is_batch) (
-                omega (arith, matches.bounded),
-                first_fits,
-                omega (arith, placed_greatest last items, all_fit),
-                tt,
-              );
-        }))
+        (λ (none : found ≡ log.records). inl (without_record n part.1 (reads_as none)))
+        (λ (more : found ≡ log.records ++ text ∷ []). inr (with_record n part.1 (reads_as more)))
         part.3
       where
         part : (found : List (List ℕ)) × (e : End)
@@ -192,9 +197,44 @@ module _ (store : List ℕ) (cmp : List ℕ → List ℕ → Ordering)
         found : List (List ℕ)
         found = part.0
 
-        read : IsLogFile (bytes_of (longer_file (take n frame) log.file)) found part.1
-        read = subst (λ b. IsLogFile b part.0 part.1)
-            (append_assoc log.file.kept log.file.since (take n frame)) part.2
+        reads_as : {records : List (List ℕ)} → found ≡ records
+            → IsLogFile (bytes_of (longer_file (take n frame) log.file)) records part.1
+        reads_as same = subst (λ rs. IsLogFile (bytes_of (longer_file (take n frame) log.file)) rs part.1)
+            same (subst (λ b. IsLogFile b part.0 part.1)
+            (append_assoc log.file.kept log.file.since (take n frame)) part.2)
+
+    -- after all of it the history has the batch
+    pub whole_holds : Holds store reads allowed (extended path frame files) more_history bound
+        durable None
+    whole_holds = record {
+      now = inl (record {
+        contents = with_batches contents (batch_of (last + 1) items ∷ []);
+        read = subst (λ f. reads f (with_batches contents (batch_of (last + 1) items ∷ [])))
+            same_files (inr (with_record (length frame) clean whole_read));
+        matches = subst
+            (λ b. MatchesHistory allowed b (with_batches contents (batch_of (last + 1) items ∷ []))
+            more_history) no_more (matches_batch allowed last contents history items matches);
+      });
+      crash = subst
+          (λ b. IsSafe store reads allowed b durable more_history (extended path frame files))
+          no_more (append_safe (extended path frame files) (inr (length frame, sym same_files)));
+    }
+      where
+        no_more : bound ≡ bound + 0
+        no_more = omega arith
+
+        all_of_it : take (length frame) frame ≡ frame
+        all_of_it = take_all (length frame) frame (omega arith)
+
+        same_files : longer (length frame) ≡ extended path frame files
+        same_files = ap (λ bytes. extended path bytes files) all_of_it
+
+        whole_read : IsLogFile (bytes_of (longer_file (take (length frame) frame) log.file))
+            (log.records ++ text ∷ []) clean
+        whole_read = subst (λ b. IsLogFile b (log.records ++ text ∷ []) clean)
+            (append_assoc log.file.kept log.file.since frame
+            ∙ ap (λ f. log.file.kept ++ (log.file.since ++ f)) (sym all_of_it))
+            (log_laws.more (bytes_of log.file) log.records text some log.clean_end)
 
     -- so the disk holds the history with the batch pending, at each of these moments
     pub append_holds : (now : Files) → PrefixAppended path frame files now

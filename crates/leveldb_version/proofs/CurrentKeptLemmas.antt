@@ -14,7 +14,7 @@ use Rattle.leveldb_version.specs.Contents.{Contents, Store}
 use Rattle.leveldb_version.specs.Holds.{IsHonest, IsSafe}
 use Rattle.leveldb_version.specs.Paths.{IsJournal, current_path}
 use Rattle.leveldb_version.specs.Store.{IsStore}
-use Rattle.leveldb_version.specs.StoreSteps.{HasBytes}
+use Rattle.leveldb_version.specs.StoreSteps.{HasBytes, IsKept}
 use Rattle.std.proofs.Common.{◌++◌, ◌∙◌, ◌∷◌, ◌≡◌, Bool, List, None, Option, Some, [], ap, append-nil, arith, false, inl, inr, length, refl, subst, suc, sym, true, zero, ℕ}
 use Rattle.std.proofs.lemmas.List.{same_from_push}
 use Rattle.std.specs.Cmp.Lexicographic.{bytes_decides}
@@ -104,3 +104,15 @@ module _ (store : List ℕ) (cmp : List ℕ → List ℕ → Ordering)
               (same_from_push current.kept h.name 0 10
               (sym (append-nil (current.kept ++ 0 ∷ [])) ∙ text)).1 in
               omega (arith, last)
+
+  pub current_kept : (files : Files) (bytes : HasBytes files) (allowed : Store → Type 0)
+      (bound durable : ℕ) (history : History)
+      → IsSafe store (IsStore store cmp IsTableOf) allowed bound durable history files
+      → IsKept (files (current_path store))
+  current_kept files bytes allowed bound durable history safe =
+      by (files (current_path store)) refl
+    where
+      by : (file : Option File) → files (current_path store) ≡ file → IsKept file
+      by None e = tt
+      by (Some file) e =
+          safe_current_kept files bytes allowed bound durable history safe file e

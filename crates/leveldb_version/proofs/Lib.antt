@@ -34,3 +34,5 @@ pub mod ManifestLemmas
 pub mod BatchMatchesLemmas
 pub mod BatchCrashLemmas
 pub mod HonestCrashLemmas
+pub mod KeepsLemmas
+pub mod WritesLemmas

@@ -1,11 +1,12 @@
 -- A new manifest takes the old one's place: `CURRENT` is renamed to. Either side is safe.
+use Rattle.leveldb_version.proofs.EditNowLemmas.{refine_now}
 use Rattle.leveldb_base.proofs.NamesLemmas.{made_name}
 use Rattle.leveldb_base.specs.History.{History}
 use Rattle.leveldb_base.specs.Names.{IsFileName, file_name}
 use Rattle.leveldb_base.specs.Types.{Pair}
 use Rattle.leveldb_base.specs.declared.types.FileType.TheVariants.{Current, Descriptor, Temp}
 use Rattle.leveldb_env.proofs.EnvLemmas.{at_other, at_same, bytes_eq-sym, renamed-there}
-use Rattle.leveldb_env.specs.Env.{AreBytes, BeforeOrAfter, File, FileCrashesTo, Files, FilesCrashTo, bytes_of, deleted, file_kept, in_folder, renamed, with_file}
+use Rattle.leveldb_env.specs.Env.{AreBytes, BeforeOrAfter, FileCrashesTo, Files, FilesCrashTo, bytes_of, deleted, file_kept, in_folder, renamed, with_file}
 use Rattle.leveldb_mem.specs.Log.{IsLogFile}
 use Rattle.leveldb_version.proofs.HonestCrashLemmas.{whole_honest, whole_leaves}
 use Rattle.leveldb_version.proofs.ManagedLemmas.{SameFor, kinds_apart, managed_on, same_for_others}
@@ -14,13 +15,13 @@ use Rattle.leveldb_version.proofs.MatchesLemmas.{matches_refined}
 use Rattle.leveldb_version.proofs.SafeLemmas.{Honest, honest_with, leaves_with}
 use Rattle.leveldb_version.specs.Contents.{Contents, Store}
 use Rattle.leveldb_version.specs.Current.{IsCurrentText}
-use Rattle.leveldb_version.specs.Holds.{CarriesPrefix, IsHonest, IsSafe}
+use Rattle.leveldb_version.specs.Holds.{Carries, CarriesPrefix, IsHonest, IsSafe}
 use Rattle.leveldb_version.specs.Paths.{current_path}
-use Rattle.leveldb_version.specs.Store.{HasEdits, IsManifest, IsStore}
-use Rattle.leveldb_version.specs.StoreSteps.{EditsRefine}
+use Rattle.leveldb_version.specs.Store.{HasEdits, IsStore}
+use Rattle.leveldb_version.specs.StoreSteps.{EditsRefine, HasBytes, HasNextCurrent}
 use Rattle.leveldb_version.specs.VersionEdit.{Edit}
 use Rattle.leveldb_version.specs.VersionSet.{FileSet, live_after}
-use Rattle.std.proofs.Common.{◌∙◌, ◌≡◌, List, None, Some, [], append-nil, arith, false, inl, inr, refl, subst, sym, ℕ}
+use Rattle.std.proofs.Common.{◌∙◌, ◌≡◌, List, None, Some, append-nil, arith, false, inl, inr, refl, subst, sym, ℕ}
 use Rattle.std.specs.Str.{bytes_eq}
 use Rattle.std.specs.declared.cmp.Ordering.{Ordering}
 
@@ -37,19 +38,11 @@ module _ (store : List ℕ) (cmp : List ℕ → List ℕ → Ordering)
     logs = λ name n is replayed. q.logs name n is replayed ∙ p.logs name n is replayed;
   }
 
-  -- The store has these edits; a temporary file is kept that names another manifest, which is kept
-  -- and has edits that lead to the same.
+  -- The store has these edits, and another manifest is ready whose edits refine them.
   module _ (files : Files) (edits : List Edit) (e : HasEdits store files edits)
-      (current_bytes : AreBytes e.current.since) (manifest_bytes : AreBytes e.manifest.since)
-      (temp : List ℕ) (temp_number : ℕ) (temp_name : IsFileName temp temp_number Temp) (text : File)
-      (text_there : files (in_folder store temp) ≡ Some text) (text_kept : text.since ≡ [])
-      (name : List ℕ) (number : ℕ) (named : IsCurrentText (bytes_of text) name number)
-      (manifest : File) (manifest_there : files (in_folder store name) ≡ Some manifest)
-      (manifest_kept : manifest.since ≡ [])
-      (others : List Edit) (is : IsManifest manifest others) (allowed : Store → Type 0)
-      (bound durable : ℕ) (history : History)
-      (refines_all : EditsRefine store cmp IsTableOf bound files edits others)
-      (safe : IsSafe store reads allowed bound durable history files) where
+      (bytes : HasBytes files) (temp : List ℕ) (others : List Edit)
+      (h : HasNextCurrent store files temp others) (allowed : Store → Type 0) (bound : ℕ)
+      (refines : EditsRefine store cmp IsTableOf bound files edits others) where
     abbrev from : List ℕ
     from = in_folder store temp
 
@@ -60,25 +53,25 @@ module _ (store : List ℕ) (cmp : List ℕ → List ℕ → Ordering)
     old_path = in_folder store e.name
 
     abbrev new_path : List ℕ
-    new_path = in_folder store name
+    new_path = in_folder store h.name
 
     abbrev moved_files : Files
-    moved_files = with_file to (Some text) (deleted from files)
+    moved_files = with_file to (Some h.text) (deleted from files)
 
     current_named : IsFileName (file_name Current 0) 0 Current
     current_named = made_name Current 0 refl
 
     from_to : bytes_eq from to ≡ false
     from_to = kinds_apart store temp
-        (file_name Current 0) temp_number 0 Temp Current temp_name current_named (λ d. cc)
+        (file_name Current 0) h.temp_number 0 Temp Current h.temp_name current_named (λ d. cc)
 
     from_new : bytes_eq from new_path ≡ false
     from_new =
-        kinds_apart store temp name temp_number number Temp Descriptor temp_name named.0 (λ d. cc)
+        kinds_apart store temp h.name h.temp_number h.number Temp Descriptor h.temp_name h.named.0 (λ d. cc)
 
     to_new : bytes_eq to new_path ≡ false
     to_new = kinds_apart store
-        (file_name Current 0) name 0 number Current Descriptor current_named named.0 (λ d. cc)
+        (file_name Current 0) h.name 0 h.number Current Descriptor current_named h.named.0 (λ d. cc)
 
     to_from : bytes_eq to from ≡ false
     to_from = bytes_eq-sym to from ∙ from_to
@@ -89,18 +82,18 @@ module _ (store : List ℕ) (cmp : List ℕ → List ℕ → Ordering)
 
     from_old : bytes_eq from old_path ≡ false
     from_old =
-        kinds_apart store temp e.name temp_number e.number Temp Descriptor temp_name e.named.0
+        kinds_apart store temp e.name h.temp_number e.number Temp Descriptor h.temp_name e.named.0
         (λ d. cc)
 
     module _ (left : Files) (leaves : FilesCrashTo moved_files left)
         (honest : IsHonest store moved_files left) where
       -- what a crash before leaves, with all bytes of `CURRENT`, of the temporary file and of the
-      -- old manifest
+      -- old h.manifest
       abbrev first : Files
       first = with_file to (Some (file_kept e.current)) left
 
       abbrev second : Files
-      second = with_file from (Some (file_kept text)) first
+      second = with_file from (Some (file_kept h.text)) first
 
       abbrev before : Files
       before = with_file old_path (Some (file_kept e.manifest)) second
@@ -108,40 +101,40 @@ module _ (store : List ℕ) (cmp : List ℕ → List ℕ → Ordering)
       deleted_to : deleted from files to ≡ Some e.current
       deleted_to = at_other from None files to from_to ∙ e.current_there
 
-      text_bytes : AreBytes text.since
-      text_bytes = subst AreBytes (sym text_kept) (λ i. omega arith)
+      text_bytes : AreBytes h.text.since
+      text_bytes = subst AreBytes (sym h.text_kept) (λ i. omega arith)
 
       first_leaves : FilesCrashTo (deleted from files) first
       first_leaves =
           leaves_with to (deleted from files) moved_files left (Some (file_kept e.current))
-          (λ other away. at_other to (Some text) (deleted from files) other away) leaves
+          (λ other away. at_other to (Some h.text) (deleted from files) other away) leaves
           (subst (λ f. FileCrashesTo f (Some (file_kept e.current))) (sym deleted_to)
-          (whole_leaves e.current current_bytes))
+          (whole_leaves e.current (bytes to e.current e.current_there)))
 
       first_honest : IsHonest store (deleted from files) first
       first_honest =
           honest_with store to (deleted from files) moved_files left (Some (file_kept e.current))
-          (λ other away. at_other to (Some text) (deleted from files) other away) honest
+          (λ other away. at_other to (Some h.text) (deleted from files) other away) honest
           (subst (λ f. Honest f (Some (file_kept e.current))) (sym deleted_to)
           (whole_honest e.current))
 
       second_leaves : FilesCrashTo files second
-      second_leaves = leaves_with from files (deleted from files) first (Some (file_kept text))
+      second_leaves = leaves_with from files (deleted from files) first (Some (file_kept h.text))
           (λ other away. at_other from None files other away) first_leaves
-          (subst (λ f. FileCrashesTo f (Some (file_kept text))) (sym text_there)
-          (whole_leaves text text_bytes))
+          (subst (λ f. FileCrashesTo f (Some (file_kept h.text))) (sym h.text_there)
+          (whole_leaves h.text text_bytes))
 
       second_honest : IsHonest store files second
       second_honest =
-          honest_with store from files (deleted from files) first (Some (file_kept text))
+          honest_with store from files (deleted from files) first (Some (file_kept h.text))
           (λ other away. at_other from None files other away) first_honest
-          (subst (λ f. Honest f (Some (file_kept text))) (sym text_there) (whole_honest text))
+          (subst (λ f. Honest f (Some (file_kept h.text))) (sym h.text_there) (whole_honest h.text))
 
       before_leaves : FilesCrashTo files before
       before_leaves = leaves_with old_path files files second (Some (file_kept e.manifest))
           (λ other away. refl) second_leaves
           (subst (λ f. FileCrashesTo f (Some (file_kept e.manifest))) (sym e.there)
-          (whole_leaves e.manifest manifest_bytes))
+          (whole_leaves e.manifest (bytes old_path e.manifest e.there)))
 
       before_honest : IsHonest store files before
       before_honest = honest_with store old_path files files second (Some (file_kept e.manifest))
@@ -153,7 +146,7 @@ module _ (store : List ℕ) (cmp : List ℕ → List ℕ → Ordering)
       before_edits = record {
         current = file_kept e.current;
         current_there = at_other old_path (Some (file_kept e.manifest)) second to old_to
-            ∙ at_other from (Some (file_kept text)) first to from_to
+            ∙ at_other from (Some (file_kept h.text)) first to from_to
             ∙ at_same to (Some (file_kept e.current)) left;
         name = e.name;
         number = e.number;
@@ -180,43 +173,46 @@ module _ (store : List ℕ) (cmp : List ℕ → List ℕ → Ordering)
           (λ other away.
           sym (at_other old_path (Some (file_kept e.manifest)) second other away)))
           (same_trans set second first left
-          (same_for_others store cmp IsTableOf set temp temp_number Temp second first temp_name
+          (same_for_others store cmp IsTableOf set temp h.temp_number Temp second first h.temp_name
           (λ d. cc) (λ d. cc)
-          (λ other away. sym (at_other from (Some (file_kept text)) first other away)))
+          (λ other away. sym (at_other from (Some (file_kept h.text)) first other away)))
           (same_for_others store cmp IsTableOf set
           (file_name Current 0) 0 Current first left current_named (λ d. cc) (λ d. cc)
           (λ other away. sym (at_other to (Some (file_kept e.current)) left other away))))
 
       left_edits : HasEdits store left others
       left_edits = let c =
-          left_whole text (left to) text_kept
-          (subst (λ f. FileCrashesTo f (left to)) (at_same to (Some text) (deleted from files))
+          left_whole h.text (left to) h.text_kept
+          (subst (λ f. FileCrashesTo f (left to)) (at_same to (Some h.text) (deleted from files))
           (leaves to)) in
-          let there = at_other to (Some text) (deleted from files) new_path to_new
-          ∙ at_other from None files new_path from_new ∙ manifest_there in
-          let m = left_whole manifest (left new_path) manifest_kept
+          let there = at_other to (Some h.text) (deleted from files) new_path to_new
+          ∙ at_other from None files new_path from_new ∙ h.manifest_there in
+          let m = left_whole h.manifest (left new_path) h.manifest_kept
           (subst (λ f. FileCrashesTo f (left new_path)) there (leaves new_path)) in
           record {
             current = c.now;
             current_there = c.there;
-            name = name;
-            number = number;
-            named = subst (λ b. IsCurrentText b name number) (sym c.bytes) named;
+            name = h.name;
+            number = h.number;
+            named = subst (λ b. IsCurrentText b h.name h.number) (sym c.bytes) h.named;
             manifest = m.now;
             there = m.there;
             is = record {
-              records = is.records;
-              end = is.end;
-              read = subst (λ b. IsLogFile b is.records is.end) (sym m.bytes) is.read;
-              each = is.each;
+              records = h.is.records;
+              end = h.is.end;
+              read = subst (λ b. IsLogFile b h.is.records h.is.end) (sym m.bytes) h.is.read;
+              each = h.is.each;
             };
           }
 
-      moved_safe : CarriesPrefix store reads allowed bound durable history left
-      moved_safe = let c = safe before before_leaves before_honest in
+      moved_safe : (durable : ℕ) (history : History)
+          → IsSafe store reads allowed bound durable history files
+          → CarriesPrefix store reads allowed bound durable history left
+      moved_safe durable history safe =
+          let c = safe before before_leaves before_honest in
           let managed = managed_of store cmp IsTableOf before edits c.carries.contents before_edits
           c.carries.read in
-          let now = refines_all before c.carries.contents before_leaves before_honest
+          let now = refines before c.carries.contents before_leaves before_honest
           c.carries.matches.bounded managed in
           record {
             part = c.part;
@@ -237,11 +233,63 @@ module _ (store : List ℕ) (cmp : List ℕ → List ℕ → Ordering)
           }
 
     -- either side of the rename is safe
-    pub renaming_safe : (now : Files) → BeforeOrAfter (renamed from to) files now
+    pub renaming_safe : (durable : ℕ) (history : History)
+        → IsSafe store reads allowed bound durable history files
+        → (now : Files) → BeforeOrAfter (renamed from to) files now
         → IsSafe store reads allowed bound durable history now
-    renaming_safe now (inl same) =
+    renaming_safe durable history safe now (inl same) =
         subst (IsSafe store reads allowed bound durable history) (sym same) safe
-    renaming_safe now (inr moved) =
+    renaming_safe durable history safe now (inr moved) =
         subst (IsSafe store reads allowed bound durable history)
-        (sym (moved ∙ renamed-there from to files text text_there))
-        (λ left leaves honest. moved_safe left leaves honest)
+        (sym (moved ∙ renamed-there from to files h.text h.text_there))
+        (λ left leaves honest. moved_safe left leaves honest durable history safe)
+
+    -- ---- what the files carry after it
+
+    moved_edits : HasEdits store moved_files others
+    moved_edits = record {
+      current = h.text;
+      current_there = at_same to (Some h.text) (deleted from files);
+      name = h.name;
+      number = h.number;
+      named = h.named;
+      manifest = h.manifest;
+      there = at_other to (Some h.text) (deleted from files) new_path to_new
+          ∙ at_other from None files new_path from_new ∙ h.manifest_there;
+      is = h.is;
+    }
+
+    moved_same : (set : FileSet) → SameFor store set files moved_files
+    moved_same set = same_trans set files (deleted from files) moved_files
+        (same_for_others store cmp IsTableOf set temp h.temp_number Temp files
+        (deleted from files) h.temp_name (λ d. cc) (λ d. cc)
+        (λ other away. at_other from None files other away))
+        (same_for_others store cmp IsTableOf set (file_name Current 0) 0 Current
+        (deleted from files) moved_files current_named (λ d. cc) (λ d. cc)
+        (λ other away. at_other to (Some h.text) (deleted from files) other away))
+
+    moved_carries : (history : History) → Carries store reads allowed bound history files
+        → Carries store reads allowed bound history moved_files
+    moved_carries history c =
+        let managed = managed_of store cmp IsTableOf files edits c.contents e c.read in
+        let then = refine_now store cmp IsTableOf bound files edits others c.contents bytes
+        refines c.matches.bounded managed in
+        record {
+          contents = then.0;
+          read = inr (record {
+            edits = others;
+            has_edits = moved_edits;
+            managed = managed_on store cmp IsTableOf files moved_files others then.0
+                (moved_same (live_after others)) then.1;
+          });
+          matches = matches_refined allowed bound c.contents then.0 history then.2 c.matches;
+        }
+
+    pub rename_carries : (history : History) → Carries store reads allowed bound history files
+        → (now : Files) → BeforeOrAfter (renamed from to) files now
+        → Carries store reads allowed bound history now
+    rename_carries history c now (inl same) =
+        subst (Carries store reads allowed bound history) (sym same) c
+    rename_carries history c now (inr moved) =
+        subst (Carries store reads allowed bound history)
+        (sym (moved ∙ renamed-there from to files h.text h.text_there)) (moved_carries history c)

@@ -17,7 +17,7 @@ use Rattle.leveldb_version.specs.Current.{IsCurrentText}
 use Rattle.leveldb_version.specs.Holds.{IsHonest, IsSafe}
 use Rattle.leveldb_version.specs.Paths.{table_path}
 use Rattle.leveldb_version.specs.Store.{HasEdits, IsManaged, IsStore}
-use Rattle.leveldb_version.specs.StoreSteps.{EditsRefine, HasBytes, IsKept, IsUnread, SameButNextFile}
+use Rattle.leveldb_version.specs.StoreSteps.{EditsRefine, HasBytes, IsKept, IsUnread, SameButNextFile, TablesAreKept}
 use Rattle.leveldb_version.specs.VersionEdit.{Edit, NewFile}
 use Rattle.leveldb_version.specs.VersionSet.{level_file, live_after}
 use Rattle.std.proofs.Common.{◌++◌, ◌<◌, ◌^◌, ◌∙◌, ◌≡◌, Bool, List, None, Option, Some, [], ap, append-nil, arith, false, length, length-append, refl, subst, sym, true, ℕ}
@@ -217,3 +217,14 @@ module _ (store : List ℕ) (cmp : List ℕ → List ℕ → Ordering)
               let two = length-append f.kept [] in
               let three = length-append f.kept f.since in
               nil_from_length f.since (omega (arith, size, one, two, three))
+
+  pub tables_kept : (files : Files) (bytes : HasBytes files) (allowed : Store → Type 0)
+      (bound durable : ℕ) (history : History) (contents : Contents)
+      → IsSafe store reads allowed bound durable history files
+      → (m : IsManaged store cmp IsTableOf files contents)
+      → TablesAreKept store files (live_after m.edits)
+  tables_kept files bytes allowed bound durable history contents safe m file live =
+      let t = m.managed.has_tables.all file live in
+      let fits : file.number < 2 ^ 64 =
+      subst (λ (x : NewFile). x.number < 2 ^ 64) t.2 (m.managed.has_tables.each t.0 t.1).2 in
+      safe_tables_kept files bytes allowed bound durable history contents safe m file fits live
