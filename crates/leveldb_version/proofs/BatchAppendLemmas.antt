@@ -1,4 +1,5 @@
--- A batch comes to the last log: each disk that the append passes is safe.
+-- A batch that is appended to the last log: the files hold it as pending at each moment of the
+-- append, and have it after the whole of it.
 use Rattle.leveldb_base.proofs.NamesLemmas.{made_name}
 use Rattle.leveldb_base.specs.History.{Entry, History, Item, greatest, placed}
 use Rattle.leveldb_base.specs.KeyTypes.{greatest_sequence}
@@ -81,7 +82,7 @@ module _ (store : List ℕ) (cmp : List ℕ → List ℕ → Ordering)
         kinds_apart store (file_name Log log.number) name log.number n Log Descriptor named is
         (λ e. cc)
 
-    -- each disk that the append passes is safe, with the batch in hand
+    -- with any part of the frame the files are safe, the batch being at risk
     pub append_safe : (now : Files) → PrefixAppended path frame files now
         → IsSafe store reads allowed bound durable more_history now
     append_safe now (inl is) =
@@ -111,9 +112,12 @@ module _ (store : List ℕ) (cmp : List ℕ → List ℕ → Ordering)
         })
     append_safe now (inr part) =
         subst (IsSafe store reads allowed bound durable more_history) (sym part.1)
-        (λ left leaves honest. grown_safe store cmp IsTableOf files contents m current_kept manifest_kept tables_kept log since allowed last durable history matches safe durable_there items text is_batch first_fits all_fit part.0 left leaves honest)
+        (λ left leaves honest.
+        grown_safe store cmp IsTableOf files contents m current_kept manifest_kept tables_kept
+        log since allowed last durable history matches safe durable_there items text is_batch
+        first_fits all_fit part.0 left leaves honest)
 
-    -- ---- what is_either now
+    -- ---- what the files are then
 
     most_now : (number : ℕ) → IsReplayed (live_after m.edits) number → (other : ReplayedLog)
         → Contains m.managed.logs other → other.number ≡ number → number ≤ log.number
@@ -199,7 +203,8 @@ module _ (store : List ℕ) (cmp : List ℕ → List ℕ → Ordering)
 
         reads_as : {records : List (List ℕ)} → found ≡ records
             → IsLogFile (bytes_of (longer_file (take n frame) log.file)) records part.1
-        reads_as same = subst (λ rs. IsLogFile (bytes_of (longer_file (take n frame) log.file)) rs part.1)
+        reads_as same =
+            subst (λ rs. IsLogFile (bytes_of (longer_file (take n frame) log.file)) rs part.1)
             same (subst (λ b. IsLogFile b part.0 part.1)
             (append_assoc log.file.kept log.file.since (take n frame)) part.2)
 
@@ -236,7 +241,7 @@ module _ (store : List ℕ) (cmp : List ℕ → List ℕ → Ordering)
             ∙ ap (λ f. log.file.kept ++ (log.file.since ++ f)) (sym all_of_it))
             (log_laws.more (bytes_of log.file) log.records text some log.clean_end)
 
-    -- so the disk holds the history with the batch pending, at each of these moments
+    -- so with any part of it they hold the history with the batch pending
     pub append_holds : (now : Files) → PrefixAppended path frame files now
         → Holds store reads allowed now history last durable (Some batch)
     append_holds now passes =

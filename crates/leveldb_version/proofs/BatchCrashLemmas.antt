@@ -1,4 +1,4 @@
--- A batch comes to the last log: what a crash leaves of the part that was appended.
+-- A batch that is appended to the last log: what a crash leaves of any part of its frame.
 use Rattle.leveldb_base.proofs.NamesLemmas.{made_name, one_reading}
 use Rattle.leveldb_base.specs.History.{Entry, History, Item, greatest, placed}
 use Rattle.leveldb_base.specs.KeyTypes.{greatest_sequence}
@@ -109,7 +109,7 @@ module _ (store : List ℕ) (cmp : List ℕ → List ℕ → Ordering)
       found_there : left path ≡ Some found_file
       found_there = log_left.3
 
-      -- what a crash before the append leaves, with so many of the bytes that were appended since
+      -- what a crash before the append leaves, with the first k of the bytes appended since
       abbrev cut_file : ℕ → File
       cut_file k = kept_file (log.file.kept ++ take k log.file.since)
 
@@ -144,7 +144,8 @@ module _ (store : List ℕ) (cmp : List ℕ → List ℕ → Ordering)
 
       left_edits : (k : ℕ) → HasEdits store left m.edits
       left_edits k =
-          edits_on store cmp IsTableOf path (before k) left m.edits (before_edits k) (before_same k) no_current
+          edits_on store cmp IsTableOf path (before k) left m.edits (before_edits k)
+          (before_same k) no_current
           (not_manifest (before_edits k).name (before_edits k).number (before_edits k).named.0)
 
       -- the bytes of the other logs are those that were kept
@@ -195,7 +196,7 @@ module _ (store : List ℕ) (cmp : List ℕ → List ℕ → Ordering)
           (log_laws.one (bytes_of h.0.0) h.0.2.records read.0 other.end clean h.0.2.read
           (subst (λ b. IsLogFile b read.0 clean) again.bytes read.1)).1
 
-      -- so many of the records are left
+      -- the first records are left, without the batch
       fewer : (count k : ℕ) (e1 e2 : End)
           → IsLogFile (log.file.kept ++ take k log.file.since) (take count log.records) e1
           → IsLogFile (bytes_of found_file) (take count log.records) e2
@@ -203,7 +204,9 @@ module _ (store : List ℕ) (cmp : List ℕ → List ℕ → Ordering)
       fewer count k e1 e2 read found =
           let c = safe (before k) (before_leaves k) (before_honest k) in
           let it = c.carries.contents in
-          let managed = managed_of store cmp IsTableOf (before k) m.edits it (before_edits k) c.carries.read in
+          let managed =
+          managed_of store cmp IsTableOf (before k) m.edits it
+          (before_edits k) c.carries.read in
           let batches = take count log.batches in
           let each = each_take IsRecordOf count log.records log.batches log.each in
           let now = with_more store cmp IsTableOf
@@ -243,7 +246,7 @@ module _ (store : List ℕ) (cmp : List ℕ → List ℕ → Ordering)
             };
           }
 
-      -- all bytes that written before
+      -- all bytes that were there before
       abbrev all_there : ℕ
       all_there = length log.file.since
 

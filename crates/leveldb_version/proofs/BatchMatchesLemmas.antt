@@ -11,7 +11,7 @@ use Rattle.std.proofs.Common.{◌++◌, ◌+◌, ◌∙◌, ◌∷◌, ◌≡◌
 use Rattle.std.proofs.lemmas.List.Elements.{Contains-append_cases}
 use Rattle.std.specs.Prelude.{◌≢◌, Contains, max}
 
--- a batch has bytes
+-- a batch is encoded by some bytes
 pub batch_some : (bytes : List ℕ) (first : ℕ) (items : List Item) → BatchOf bytes first items
     → bytes ≢ []
 unfolding batch_bytes

@@ -1,10 +1,10 @@
--- A log of a store has one reading.
+-- The records of a log are one list of batches.
 use Rattle.leveldb_mem.specs.WriteBatch.{Batch}
 use Rattle.leveldb_mem.specs.WriteBatchLaws.{BatchOf-one}
 use Rattle.leveldb_version.specs.Batches.{Each, IsRecordOf}
 use Rattle.std.proofs.Common.{◌++◌, ◌∷◌, ◌≡◌, List, [], refl, suc, take, zero, ℕ}
 
--- ---- lists in step
+-- ---- lists that are related one by one
 
 pub each_take : {A B : Type 0} (R : A → B → Type 0) (n : ℕ) (xs : List A) (ys : List B)
     → Each R xs ys → Each R (take n xs) (take n ys)

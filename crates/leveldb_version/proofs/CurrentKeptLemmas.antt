@@ -1,4 +1,5 @@
--- What safety tells of `CURRENT`: it is kept, since a crash could spoil its newline.
+-- `CURRENT` is kept in a safe store, since a crash could leave another byte in place of its
+-- newline.
 use Rattle.leveldb_base.proofs.NamesLemmas.{made_name}
 use Rattle.leveldb_base.specs.History.{History}
 use Rattle.leveldb_base.specs.Names.{file_name}
@@ -21,7 +22,7 @@ use Rattle.std.specs.Cmp.Lexicographic.{bytes_decides}
 use Rattle.std.specs.Str.{bytes_eq}
 use Rattle.std.specs.declared.cmp.Ordering.{Ordering}
 
--- a zero behind bytes
+-- a zero after bytes
 zero_after : (front : List ℕ) → AreBytes front → AreBytes (front ++ 0 ∷ [])
 zero_after [] are zero = omega arith
 zero_after [] are (suc i) = omega arith
@@ -30,7 +31,7 @@ zero_after (b ∷ front) are (suc i) = zero_after front (λ k. are (suc k)) i
 
 module _ (store : List ℕ) (cmp : List ℕ → List ℕ → Ordering)
     (IsTableOf : List ℕ → List Pair → Type 0) where
-  -- `CURRENT` is for no journal
+  -- `CURRENT` is no journal
   no_journal : IsJournal store (current_path store) → ⊥
   no_journal (inl (name, n, is, same)) = let never : true ≡ false =
       sym ((bytes_decides (current_path store) (in_folder store name)).1 same)

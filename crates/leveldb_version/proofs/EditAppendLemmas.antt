@@ -1,4 +1,4 @@
--- An edit comes to the manifest: each disk that the append passes is safe.
+-- An edit that is appended to the manifest: with any part of its frame the files are safe.
 use Rattle.leveldb_base.proofs.NamesLemmas.{made_name}
 use Rattle.leveldb_base.specs.History.{History}
 use Rattle.leveldb_base.specs.Names.{file_name}
@@ -85,7 +85,7 @@ module _ (store : List ℕ) (cmp : List ℕ → List ℕ → Ordering)
       named_left : IsCurrentText (bytes_of current_left.now) m.name m.number
       named_left = subst (λ b. IsCurrentText b m.name m.number) (sym current_left.bytes) m.named
 
-      -- what a crash before the append leaves, with so many of the bytes that were appended since
+      -- what a crash before the append leaves, with the first k of the bytes appended since
       abbrev before : ℕ → Files
       before k = with_file path (Some (kept_file (m.file.kept ++ take k m.file.since))) left
 
@@ -123,14 +123,15 @@ module _ (store : List ℕ) (cmp : List ℕ → List ℕ → Ordering)
           sym (at_other path
           (Some (kept_file (m.file.kept ++ take k m.file.since))) left other away))) managed
 
-      -- so many of the records are left
+      -- the first records are left, without the edit
       fewer : (count k : ℕ) (e1 e2 : End)
           → IsLogFile (m.file.kept ++ take k m.file.since) (take count m.records) e1
           → IsLogFile (bytes_of found_file) (take count m.records) e2
           → CarriesPrefix store reads allowed bound durable history left
       fewer count k e1 e2 read found =
           let c = safe (before k) (before_leaves k) (before_honest k) in
-          let by = read_by store cmp IsTableOf m.name m.number current_left.now named_left (before k)
+          let by =
+          read_by store cmp IsTableOf m.name m.number current_left.now named_left (before k)
           (kept_file (m.file.kept ++ take k m.file.since))
           (take count m.records) e1 c.carries.contents
           (at_other path (Some (kept_file (m.file.kept ++ take k m.file.since))) left
@@ -145,7 +146,8 @@ module _ (store : List ℕ) (cmp : List ℕ → List ℕ → Ordering)
               read = inr (record {
                 edits = by.edits;
                 has_edits =
-                    has_edits store cmp IsTableOf m.name m.number current_left.now named_left left found_file
+                    has_edits store cmp IsTableOf m.name m.number current_left.now named_left left
+                    found_file
                     (take count m.records) e2 by.edits current_left.there found_there found by.each;
                 managed = back k by.edits c.carries.contents by.managed;
               });
@@ -159,7 +161,8 @@ module _ (store : List ℕ) (cmp : List ℕ → List ℕ → Ordering)
           → CarriesPrefix store reads allowed bound durable history left
       all k e1 e2 read found =
           let c = safe (before k) (before_leaves k) (before_honest k) in
-          let by = read_by store cmp IsTableOf m.name m.number current_left.now named_left (before k)
+          let by =
+          read_by store cmp IsTableOf m.name m.number current_left.now named_left (before k)
           (kept_file (m.file.kept ++ take k m.file.since)) m.records e1 c.carries.contents
           (at_other path (Some (kept_file (m.file.kept ++ take k m.file.since))) left
           (current_path store) apart ∙ current_left.there) (before_there k)
@@ -182,7 +185,8 @@ module _ (store : List ℕ) (cmp : List ℕ → List ℕ → Ordering)
               read = inr (record {
                 edits = edits ++ edit ∷ [];
                 has_edits =
-                    has_edits store cmp IsTableOf m.name m.number current_left.now named_left left found_file
+                    has_edits store cmp IsTableOf m.name m.number current_left.now named_left left
+                    found_file
                     (m.records ++ text ∷ []) e2
                     (edits ++ edit ∷ []) current_left.there found_there found
                     (each_more IsEdit m.records edits text edit m.each is_edit);
@@ -200,7 +204,7 @@ module _ (store : List ℕ) (cmp : List ℕ → List ℕ → Ordering)
       grown_safe : CarriesPrefix store reads allowed bound durable history left
       grown_safe = from
           (log_laws.torn m.file.kept m.file.since tail first.0 m.records written.0 text n first.1
-          written.1 some first.2 m.clean_end stood_read no_longer honest_here)
+          written.1 some first.2 m.clean_end written_read no_longer honest_here)
         where
           first : (records : List (List ℕ)) × (end : End) × IsLogFile m.file.kept records end
           first = each_reads true log_block_size 0 m.file.kept usual_size
@@ -211,8 +215,8 @@ module _ (store : List ℕ) (cmp : List ℕ → List ℕ → Ordering)
               × (n < length frame → found ≡ m.records)
           written = log_laws.part (bytes_of m.file) m.records text n some m.clean_end
 
-          stood_read : IsLogFile (m.file.kept ++ m.file.since ++ take n frame) written.0 written.1
-          stood_read = written.2
+          written_read : IsLogFile (m.file.kept ++ m.file.since ++ take n frame) written.0 written.1
+          written_read = written.2
 
           no_longer :
               length (m.file.kept ++ tail) ≤ length (m.file.kept ++ m.file.since ++ take n frame)
@@ -293,7 +297,7 @@ module _ (store : List ℕ) (cmp : List ℕ → List ℕ → Ordering)
                   ∙ take-append-le some_of.count m.records (text ∷ []) within))
                   (cases_lt (length m.records) some_of.count)
 
-    -- each disk that the append passes is safe
+    -- with any part of the frame the files are safe
     pub append_safe : (now : Files) → PrefixAppended path frame files now
         → IsSafe store reads allowed bound durable history now
     append_safe now (inl is) =

@@ -1,4 +1,4 @@
--- What stands as an edit comes to the manifest: the disk holds what it held, at each moment.
+-- An edit that is appended to the manifest: the files carry what they carried.
 use Rattle.leveldb_base.proofs.NamesLemmas.{made_name}
 use Rattle.leveldb_base.specs.History.{History}
 use Rattle.leveldb_base.specs.Names.{file_name}
@@ -26,17 +26,17 @@ use Rattle.std.specs.declared.cmp.Ordering.{Ordering}
 
 module _ (store : List ℕ) (cmp : List ℕ → List ℕ → Ordering)
     (IsTableOf : List ℕ → List Pair → Type 0) where
-  -- edits that lead to the same after each crash do so now
+  -- edits that refine others after each crash do so now
   pub refine_now : (bound : ℕ) (files : Files) (edits others : List Edit) (contents : Contents)
       → HasBytes files → EditsRefine store cmp IsTableOf bound files edits others
       → contents.last ≤ bound
       → IsManagedBy store cmp IsTableOf files edits contents
       → (now : Contents) × IsManagedBy store cmp IsTableOf files others now
       × Refines bound contents now
-  refine_now bound files edits others contents bytes refines_all most m =
+  refine_now bound files edits others contents bytes refines most m =
       let there = managed_on store cmp IsTableOf files (all_kept files) edits contents
       (to (live_after edits)) m in
-      let found = refines_all (all_kept files) contents (all_leaves files bytes)
+      let found = refines (all_kept files) contents (all_leaves files bytes)
       (all_honest store files) most there in (
         found.0,
         managed_on store cmp IsTableOf (all_kept files) files others found.0
@@ -97,7 +97,7 @@ module _ (store : List ℕ) (cmp : List ℕ → List ℕ → Ordering)
         (kinds_apart store m.name (file_name Current 0) m.number 0 Descriptor Current m.named.0
         (made_name Current 0 refl) (λ e. cc)) ∙ m.current_there
 
-    -- with so much of the frame the files are the store by the old edits, or by these and the new
+    -- with any part of the frame the files are the store by the old edits, or by these and the new
     -- one
     pub is_either : (n : ℕ)
         → IsManaged store cmp IsTableOf (longer n) contents
@@ -140,7 +140,7 @@ module _ (store : List ℕ) (cmp : List ℕ → List ℕ → Ordering)
         read = subst (λ b. IsLogFile b part.0 part.1)
             (append_assoc m.file.kept m.file.since (take n frame)) part.2
 
-    -- so the files carry what they carried at each moment, whole append or part
+    -- so they carry what they carried
     pub edit_carries : (now : Files) → PrefixAppended path frame files now
         → Carries store reads allowed bound history now
     edit_carries now (inl is) = record {

@@ -1,4 +1,4 @@
--- Which tables are live behind an edit: those that it adds, and those that were live and that it
+-- Which tables are live after an edit: those that it adds, and those that were live and that it
 -- neither deletes nor replaces.
 use Rattle.leveldb_base.proofs.HistoryLemmas.{in_cases, in_front, in_none, in_rest}
 use Rattle.leveldb_base.specs.Types.{Pair}
@@ -42,7 +42,7 @@ left_of : {X Y : Type 0} (g : X → Option Y) (xs : List X) (value : Y)
 left_of g [] value = inl (refl, λ x c. absurd (in_none x c))
 left_of g (x ∷ xs) value = one_left g value x xs (g x) refl (λ start. left_of g xs start)
 
--- ---- file_changes
+-- ---- changes
 
 in_map : {X Y : Type 0} (f : X → Y) (xs : List X) (y : Y) → Contains (map f xs) y
     → (x : X) × Contains xs x × (f x ≡ y)
@@ -203,7 +203,7 @@ added_live edits edit file there once = (applies_in_order edits edit).file at
 
 module _ (store : List ℕ) (cmp : List ℕ → List ℕ → Ordering)
     (IsTableOf : List ℕ → List Pair → Type 0) where
-  -- Behind an edit the live tables are the new ones, which are the files that it adds, and those
+  -- After an edit the live tables are the new ones, which are the files that it adds, and those
   -- that it leaves alone.
   pub tables_then :
       (files : Files) (edits : List Edit) (edit : Edit) (ins news outs : List LiveTable)

@@ -14,7 +14,7 @@ use Rattle.leveldb_version.proofs.ManagedLemmas.{kinds_apart}
 use Rattle.leveldb_version.specs.Contents.{Contents, Store, made, no_contents}
 use Rattle.leveldb_version.specs.Holds.{Carries, IsSafe, MatchesHistory}
 use Rattle.leveldb_version.specs.Paths.{current_path}
-use Rattle.leveldb_version.specs.Store.{HasNoStore, IsManagedBy, IsStore, contents_of}
+use Rattle.leveldb_version.specs.Store.{HasNoStore, IsManagedBy, IsStore, LastNumbersFit, contents_of}
 use Rattle.leveldb_version.specs.StoreSteps.{HasNextCurrent, IsAllKept, IsKept, IsNew}
 use Rattle.leveldb_version.specs.VersionEdit.{Edit}
 use Rattle.leveldb_version.specs.VersionSet.{live_after}
@@ -35,7 +35,8 @@ module _ (store : List ℕ) (cmp : List ℕ → List ℕ → Ordering)
   no_store_left files left bare leaves = record {
     no_current = missing_left (files (current_path store)) (left (current_path store))
         (leaves (current_path store)) bare.no_current;
-    no_table = λ name n is. missing_left (files (in_folder store name)) (left (in_folder store name))
+    no_table =
+        λ name n is. missing_left (files (in_folder store name)) (left (in_folder store name))
         (leaves (in_folder store name)) (bare.no_table name n is);
     no_log = λ name n is. missing_left (files (in_folder store name)) (left (in_folder store name))
         (leaves (in_folder store name)) (bare.no_log name n is);
@@ -72,15 +73,17 @@ module _ (store : List ℕ) (cmp : List ℕ → List ℕ → Ordering)
 
   -- where neither a table nor a log is, they are a store with no entry
   pub new_managed : (files : Files) (edits : List Edit) → (n : IsNew (live_after edits))
+      → LastNumbersFit edits
       → ((name : List ℕ) (k : ℕ) → IsFileName name k Log → files (in_folder store name) ≡ None)
       → IsManagedBy store cmp IsTableOf files edits (contents_of n.comparator [] [] 0)
-  new_managed files edits n no_log = record {
+  new_managed files edits n fits no_log = record {
     comparator = n.comparator;
     comparator_is = n.comparator_is;
     log_is = n.log_is;
     next_file_is = n.next_file_is;
     last = 0;
     last_is = n.last_is;
+    numbers_fit = fits;
     tables = [];
     has_tables = record {
       each = λ table c. absurd (in_none table c);
@@ -95,7 +98,6 @@ module _ (store : List ℕ) (cmp : List ℕ → List ℕ → Ordering)
     fit = record {
       rise = tt;
       ends = λ a b in_a. absurd (in_none a in_a);
-      last_fits = omega arith;
       numbered = λ entry c. absurd (in_none entry c);
       below = λ entry later c. absurd (in_none entry c);
       levels = record {
@@ -111,7 +113,7 @@ module _ (store : List ℕ) (cmp : List ℕ → List ℕ → Ordering)
 
   module _ (files : Files) (bare : HasNoStore store cmp IsTableOf files) (temp : List ℕ)
       (edits : List Edit) (h : HasNextCurrent store files temp edits)
-      (n : IsNew (live_after edits)) where
+      (n : IsNew (live_after edits)) (fits : LastNumbersFit edits) where
     abbrev from : List ℕ
     from = in_folder store temp
 
@@ -161,7 +163,7 @@ module _ (store : List ℕ) (cmp : List ℕ → List ℕ → Ordering)
               h.named.0 (λ d. cc)) ∙ h.manifest_there;
           is = h.is;
         };
-        managed = new_managed moved_files edits n no_log;
+        managed = new_managed moved_files edits n fits no_log;
       };
       current = h.text_kept;
       manifest = h.manifest_kept;

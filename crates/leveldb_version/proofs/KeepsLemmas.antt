@@ -25,7 +25,7 @@ use Rattle.leveldb_version.proofs.UnreadLemmas.{unread_stays_safe}
 use Rattle.leveldb_version.specs.Contents.{Contents, Store, made}
 use Rattle.leveldb_version.specs.Holds.{Carries, Holds, IsSafe}
 use Rattle.leveldb_version.specs.Paths.{current_path, log_path}
-use Rattle.leveldb_version.specs.Store.{HasEdits, HasNoStore, IsStore}
+use Rattle.leveldb_version.specs.Store.{HasEdits, HasNoStore, IsStore, LastNumbersFit}
 use Rattle.leveldb_version.specs.StoreSteps.{EditKeeps, EditsRefine, HasBytes, HasNextCurrent, IsAboveLogs, IsManifestOpen, IsNew, IsUnread, KeepsHistory}
 use Rattle.leveldb_version.specs.VersionEdit.{Edit, IsEdit}
 use Rattle.leveldb_version.specs.VersionSet.{live_after}
@@ -213,14 +213,14 @@ module _ (store : List ℕ) (cmp : List ℕ → List ℕ → Ordering)
 
     pub first_current_keeps : (files : Files) → HasNoStore store cmp IsTableOf files
         → (temp : List ℕ) (edits : List Edit) → HasNextCurrent store files temp edits
-        → (n : IsNew (live_after edits)) → allowed (made (Some n.comparator)) → (bound : ℕ)
+        → (n : IsNew (live_after edits)) → LastNumbersFit edits → allowed (made (Some n.comparator)) → (bound : ℕ)
         (now : Files)
         → BeforeOrAfter (renamed (in_folder store temp) (current_path store)) files now
         → KeepsHistory store cmp IsTableOf allowed bound files now
-    first_current_keeps files bare temp edits h n may bound now passes = record {
+    first_current_keeps files bare temp edits h n fits may bound now passes = record {
       now = carried passes;
       crash = λ durable history safe.
-          first_current_safe store cmp IsTableOf files bare temp edits h n allowed may bound
+          first_current_safe store cmp IsTableOf files bare temp edits h n fits allowed may bound
           durable history safe now passes;
     }
       where
@@ -230,7 +230,7 @@ module _ (store : List ℕ) (cmp : List ℕ → List ℕ → Ordering)
         carried (inl is) history c =
             subst (Carries store reads allowed bound history) (sym is) c
         carried (inr is) history c = subst (Carries store reads allowed bound history) (sym is)
-            (first_current_carries store cmp IsTableOf files bare temp edits h n allowed may
+            (first_current_carries store cmp IsTableOf files bare temp edits h n fits allowed may
             bound history c)
 
     -- ---- what is held

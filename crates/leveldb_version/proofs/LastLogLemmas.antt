@@ -1,4 +1,4 @@
--- A store whose last log has some batches more.
+-- A store whose last log changes: it has more batches, or fewer.
 use Rattle.leveldb_base.proofs.NamesLemmas.{made_name}
 use Rattle.leveldb_base.specs.History.{Entry, greatest}
 use Rattle.leveldb_base.specs.Names.{IsFileName, file_name}
@@ -45,7 +45,7 @@ module _ (store : List ℕ) (cmp : List ℕ → List ℕ → Ordering)
     (IsTableOf : List ℕ → List Pair → Type 0) where
   -- Only the log of this number differs, which is the last of those that are replayed, and those
   -- before it end cleanly. It had these batches, and has those:
-  -- they rise too behind any before them, and each of their entries was there or is past the last
+  -- they rise too after any before them, and each of their entries was there or is above the last
   -- number.
   module _ (old new : Files) (edits : List Edit) (contents : Contents)
       (m : IsManagedBy store cmp IsTableOf old edits contents) (n : ℕ) (fits : n < 2 ^ 64)
@@ -150,7 +150,6 @@ module _ (store : List ℕ) (cmp : List ℕ → List ℕ → Ordering)
           absurd (omega (arith, less, number, other)))
           (Contains-push_cases earlier new_log b in_b))
           (Contains-push_cases earlier new_log a in_a);
-      last_fits = m.fit.last_fits;
       numbered = m.fit.numbered;
       below = λ entry later t l. ⊎_elim
           (λ (early : Contains (all_entries before_it) later). m.fit.below entry later t
@@ -242,6 +241,7 @@ module _ (store : List ℕ) (cmp : List ℕ → List ℕ → Ordering)
       next_file_is = m.next_file_is;
       last = m.last;
       last_is = m.last_is;
+      numbers_fit = m.numbers_fit;
       tables = m.tables;
       has_tables = tables_on store cmp IsTableOf (live_after edits) old new m.tables
           (λ file file_fits live.

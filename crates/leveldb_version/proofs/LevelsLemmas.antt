@@ -192,7 +192,7 @@ ranges_leave_out cmp all some bounded among key kept s found =
 
 -- ---- a total order by its test
 
-reversed : (o : Ordering) → is_lt (ordering_reverse o) ≡ is_gt o
+pub reversed : (o : Ordering) → is_lt (ordering_reverse o) ≡ is_gt o
 reversed Less = refl
 reversed Equal = refl
 reversed Greater = refl
@@ -211,7 +211,7 @@ is_true false h = absurd (h refl)
 
 module _ (cmp : List ℕ → List ℕ → Ordering) (total : IsTotalOrder cmp) where
   -- c isn't before b, nor b before a, so c isn't before a
-  none_before : (a b c : List ℕ) → is_lt (cmp b a) ≡ false → is_lt (cmp c b) ≡ false
+  pub none_before : (a b c : List ℕ) → is_lt (cmp b a) ≡ false → is_lt (cmp c b) ≡ false
       → is_lt (cmp c a) ≡ false
   none_before a b c p q = back c a (upto total a b c (to b a p) (to c b q))
     where

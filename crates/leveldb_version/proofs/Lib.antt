@@ -27,7 +27,7 @@ pub mod StaysLemmas
 pub mod SyncLemmas
 pub mod CurrentKeptLemmas
 pub mod CrashLemmas
-pub mod ToldLemmas
+pub mod HistoriesLemmas
 pub mod FirstCurrentLemmas
 pub mod LevelsLemmas
 pub mod ManifestLemmas
@@ -36,3 +36,5 @@ pub mod BatchCrashLemmas
 pub mod HonestCrashLemmas
 pub mod KeepsLemmas
 pub mod WritesLemmas
+pub mod WritableLemmas
+pub mod TablesLemmas

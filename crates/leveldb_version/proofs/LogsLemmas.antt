@@ -1,4 +1,4 @@
--- Logs in rising order, the last of which changes or comes; and batches in order.
+-- Logs in rising order, the last of which changes or is new; and batches in order.
 use Rattle.leveldb_base.proofs.HistoryLemmas.{in_cases, in_front, in_none, in_rest}
 use Rattle.leveldb_base.specs.History.{AreAbove, greatest}
 use Rattle.leveldb_mem.specs.WriteBatch.{Batch}
@@ -28,21 +28,21 @@ order_low low high (batch ∷ batches) le order = (
       (max high (greatest (batch_entries batch))) batches (omega (arith, le)) order.3,
 )
 
--- batches in order behind others
+-- batches in order after others
 pub order_append : (low high : ℕ) (batches more : List Batch) → low ≤ high
     → greatest (all_entries batches) ≤ high → AreInOrder low batches → AreInOrder high more
     → AreInOrder low (batches ++ more)
-order_append low high [] more le all order behind = order_low low high more le behind
-order_append low high (batch ∷ batches) more le all order behind =
+order_append low high [] more le all order after = order_low low high more le after
+order_append low high (batch ∷ batches) more le all order after =
     let g = greatest_append (batch_entries batch) (all_entries batches) in (
       order.0,
       order.1,
       order.2,
       order_append (max low (greatest (batch_entries batch))) high batches more
-          (omega (arith, le, all, g)) (omega (arith, all, g)) order.3 behind,
+          (omega (arith, le, all, g)) (omega (arith, all, g)) order.3 after,
     )
 
--- their entries are above
+-- their entries are above the number
 pub order_above : (low : ℕ) (batches : List Batch) → AreInOrder low batches
     → AreAbove low (all_entries batches)
 order_above low [] order entry c = absurd (in_none entry c)
@@ -99,7 +99,7 @@ last_above (first ∷ earlier) log rising other c = ⊎_elim
     (λ (rest : Contains earlier other). last_above earlier log rising.1 other rest)
     (in_cases first other earlier c)
 
--- one may take its place, or come behind
+-- one may be in its place, or after it
 pub rising_last : (earlier : List ReplayedLog) (log : ReplayedLog) → LogsRise earlier
     → ((other : ReplayedLog) → Contains earlier other → other.number < log.number)
     → LogsRise (earlier ++ log ∷ [])
@@ -177,7 +177,7 @@ pub entries_parts : (front back : List ReplayedLog)
 entries_parts front back = ap all_entries (batches_parts front back)
     ∙ all_append (log_batches front) (log_batches back)
 
--- batches behind others in order are above these
+-- batches after others in order are above these
 pub order_after : (low : ℕ) (batches more : List Batch) → AreInOrder low (batches ++ more)
     → AreInOrder (max low (greatest (all_entries batches))) more
 order_after low [] more order = order_low (max low 0) low more (omega arith) order

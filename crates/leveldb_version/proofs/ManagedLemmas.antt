@@ -28,7 +28,7 @@ pub same_name : (store name other : List ℕ) → in_folder store name ≡ in_fo
 same_name store name other e =
     let tail : 47 ∷ name ≡ 47 ∷ other = append_cancel_left store (47 ∷ name) (47 ∷ other) e in cc
 
--- names for different uses, or with different numbers, are apart
+-- names of different types, or with different numbers, are apart
 pub kinds_apart : (store name other : List ℕ) (m n : ℕ) (k l : FileType) → IsFileName name m k
     → IsFileName other n l → k ≢ l → bytes_eq (in_folder store name) (in_folder store other) ≡ false
 kinds_apart store name other m n k l is_name is_other differ =
@@ -49,7 +49,7 @@ numbers_apart store name other m n k l is_name is_other differ =
 
 -- ---- the files that are read
 
--- what is_either under two names has the same bytes
+-- what is there before and after has the same bytes
 abbrev pub SameBytes : Option File → Option File → Type 0
 SameBytes old new = option_map bytes_of new ≡ option_map bytes_of old
 
@@ -144,6 +144,7 @@ module _ (store : List ℕ) (cmp : List ℕ → List ℕ → Ordering)
     next_file_is = m.next_file_is;
     last = m.last;
     last_is = m.last_is;
+    numbers_fit = m.numbers_fit;
     tables = m.tables;
     has_tables = tables_on (live_after edits) old new m.tables same.tables m.has_tables;
     logs = m.logs;
@@ -166,7 +167,7 @@ module _ (store : List ℕ) (cmp : List ℕ → List ℕ → Ordering)
     is = m.is;
   }
 
-  -- a file for another use than a table's or a log's has no part in it
+  -- a file of another type than a table or a log may change
   pub same_for_others : (set : FileSet) (name : List ℕ) (n : ℕ) (kind : FileType) (old new : Files)
       → IsFileName name n kind → kind ≢ Table → kind ≢ Log
       → SameBut (in_folder store name) old new → SameFor store set old new

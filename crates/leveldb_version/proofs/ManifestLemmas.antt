@@ -20,7 +20,7 @@ use Rattle.std.proofs.lemmas.List.{get_or-take, get_or_past, length-take, nil_fr
 use Rattle.std.specs.Str.{bytes_eq}
 use Rattle.std.specs.declared.cmp.Ordering.{Ordering}
 
--- a part of bytes are bytes
+-- the first of some bytes are bytes
 pub bytes_take : (n : ℕ) (bytes : List ℕ) → AreBytes bytes → AreBytes (take n bytes)
 bytes_take n bytes are i = ⊎_elim
     (λ (inside : i < n). omega (arith, are i, get_or-take n bytes i 0 inside))
@@ -61,7 +61,7 @@ kept_name (Some file) left leaves e = absurd (let never : _ = sym leaves.3 ∙ e
 
 -- ---- edits
 
--- one manifest, and one list of edits
+-- `CURRENT` names one manifest, which has one list of edits
 pub one_has_edits :
     (store : List ℕ) (files : Files) (these those : List Edit) (a : HasEdits store files these)
     (b : HasEdits store files those) → (a.name ≡ b.name) × (these ≡ those)

@@ -1,6 +1,5 @@
--- Contents that tell a history: it is enough that the two show the same from the contents' last
--- number on, where none of the contents' entries
--- is past the history's end.
+-- Contents that match a history: it is enough that the two show the same from the contents' last
+-- number on, where none of the contents' entries is past the history's end.
 use Rattle.leveldb_base.specs.History.{AreUpTo, Entry, HasValueAt, History, SameView, entries_of, greatest}
 use Rattle.leveldb_version.proofs.NumbersLemmas.{up_to_greatest}
 use Rattle.leveldb_version.proofs.ViewsLemmas.{view_trans}
@@ -37,9 +36,8 @@ same_at these those n s t up_these up_those from late same key value = (
       ((same key value).1 (value_at those n t s up_those from key value shows late)) from,
 )
 
--- Of entries that show what a history shows, from its end on, some may go if what is shown at one
--- number past the end store: memory's part of
--- a compaction, which keeps what is shown at the last number.
+-- Of entries that show what a history shows, from its end on, some may be dropped if what is shown
+-- at one number past the end stays: so a compaction keeps what memory matches.
 pub same_with_fewer : (old new those : List Entry) (n s : ℕ) → AreUpTo n old → AreUpTo n those
     → ((entry : Entry) → Contains new entry → Contains old entry) → n ≤ s → SameView new old s
     → ((t : ℕ) → n ≤ t → SameView old those t) → (t : ℕ) → n ≤ t → SameView new those t

@@ -110,6 +110,7 @@ module _ (store : List ℕ) (cmp : List ℕ → List ℕ → Ordering)
       next_file_is = m.next_file_is;
       last = m.last;
       last_is = m.last_is;
+      numbers_fit = m.numbers_fit;
       tables = m.tables;
       has_tables = tables_on store cmp IsTableOf (live_after edits) left new m.tables
           (λ file file_fits live.
@@ -158,7 +159,6 @@ module _ (store : List ℕ) (cmp : List ℕ → List ℕ → Ordering)
             (Contains-push_cases m.logs (empty_log n) a in_a))
             (λ (e : empty_log n ≡ b). sym (ap (λ (x : ReplayedLog). x.size) e))
             (Contains-push_cases m.logs (empty_log n) b in_b);
-        last_fits = m.fit.last_fits;
         numbered = m.fit.numbered;
         below =
             λ entry later t l.
@@ -221,7 +221,7 @@ module _ (store : List ℕ) (cmp : List ℕ → List ℕ → Ordering)
 
   -- ---- the step
 
-  -- a crash leaves a file where one was
+  -- a crash leaves no other logs
   pub newest_left : (files left : Files) (n : ℕ) → IsAboveLogs store files n
       → FilesCrashTo files left → IsAboveLogs store left n
   newest_left files left n newest leaves name k is some =

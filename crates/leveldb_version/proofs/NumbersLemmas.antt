@@ -65,11 +65,11 @@ rise_more low last [] items a b r = rise_placed low (last + 1) items (omega arit
 rise_more low last (entry ∷ entries) items a b r =
     (r.0, rise_more entry.sequence last entries items (omega arith) (omega arith) r.1)
 
--- the batch behind is one placed batch
+-- the batch after it is one placed batch
 one_placed : (last : ℕ) (items : List Item) → All IsPlaced (placed (last + 1) items ∷ [])
 one_placed last items k d lt = let at : k ≡ 0 = omega arith in rw at (last + 1, items, refl)
 
--- a batch that is placed behind a history makes one
+-- a history and a batch placed after it are a history
 pub history_more : (history : History) (last : ℕ) (items : List Item)
     → greatest (entries_of history) ≤ last → IsHistory history
     → IsHistory (history ++ placed (last + 1) items ∷ [])
@@ -86,7 +86,7 @@ rise_front : (low : ℕ) (front rest : List Entry) → RiseAbove low (front ++ r
 rise_front low [] rest r = tt
 rise_front low (entry ∷ front) rest r = (r.0, rise_front entry.sequence front rest r.1)
 
--- a prefix and what is behind it
+-- a prefix and what is after it
 pub entries_split : (n : ℕ) (history : History)
     → entries_of history ≡ entries_of (take n history) ++ entries_of (drop n history)
 entries_split n history = ap entries_of (sym (take-append-drop n history))

@@ -1,4 +1,5 @@
--- A new manifest takes the old one's place: `CURRENT` is renamed to. Either side is safe.
+-- A new manifest in place of the old one: a temporary file is renamed to `CURRENT`, and either side
+-- is safe.
 use Rattle.leveldb_version.proofs.EditNowLemmas.{refine_now}
 use Rattle.leveldb_base.proofs.NamesLemmas.{made_name}
 use Rattle.leveldb_base.specs.History.{History}
@@ -67,7 +68,8 @@ module _ (store : List ℕ) (cmp : List ℕ → List ℕ → Ordering)
 
     from_new : bytes_eq from new_path ≡ false
     from_new =
-        kinds_apart store temp h.name h.temp_number h.number Temp Descriptor h.temp_name h.named.0 (λ d. cc)
+        kinds_apart store temp h.name h.temp_number h.number Temp Descriptor h.temp_name h.named.0
+        (λ d. cc)
 
     to_new : bytes_eq to new_path ≡ false
     to_new = kinds_apart store
@@ -88,7 +90,7 @@ module _ (store : List ℕ) (cmp : List ℕ → List ℕ → Ordering)
     module _ (left : Files) (leaves : FilesCrashTo moved_files left)
         (honest : IsHonest store moved_files left) where
       -- what a crash before leaves, with all bytes of `CURRENT`, of the temporary file and of the
-      -- old h.manifest
+      -- old manifest
       abbrev first : Files
       first = with_file to (Some (file_kept e.current)) left
 

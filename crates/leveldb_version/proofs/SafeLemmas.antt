@@ -23,7 +23,7 @@ abbrev pub Honest : Option File → Option File → Type 0
 Honest file left = (was is : File) → file ≡ Some was → left ≡ Some is
     → HonestTail log_block_size (bytes_of was) (bytes_of is)
 
--- bytes that are a front of the file's are honest
+-- a prefix of the file's bytes is honest
 pub front_honest : (file : File) (front rest : List ℕ) → file.since ≡ front ++ rest
     → Honest (Some file) (Some (kept_file (file.kept ++ front)))
 front_honest file front rest e was is same_was same_is =
@@ -131,7 +131,7 @@ honest_of_synced store name files left honest other was is journal same_was same
     journal same_was same_is
 
 module _ (store : List ℕ) (reads : Files → Contents → Type 0) where
-  -- ---- a greater bound, a longer history, fewer batches durable
+  -- ---- a greater bound, a longer history, fewer durable batches
 
   pub matches_more :
       (allowed : Store → Type 0) (bound more : ℕ) (contents : Contents) (history : History)

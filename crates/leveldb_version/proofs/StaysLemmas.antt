@@ -1,4 +1,5 @@
--- What stands now behind steps on files that aren't read, and what safety tells of files.
+-- What files carry after steps that change nothing that is read, and which files a safe store
+-- keeps.
 use Rattle.leveldb_base.proofs.NamesLemmas.{made_name}
 use Rattle.leveldb_base.specs.History.{History}
 use Rattle.leveldb_base.specs.Names.{IsFileName, file_name}
@@ -16,7 +17,7 @@ use Rattle.leveldb_version.specs.Contents.{Contents, Store}
 use Rattle.leveldb_version.specs.Current.{IsCurrentText}
 use Rattle.leveldb_version.specs.Holds.{IsHonest, IsSafe}
 use Rattle.leveldb_version.specs.Paths.{table_path}
-use Rattle.leveldb_version.specs.Store.{HasEdits, IsManaged, IsStore}
+use Rattle.leveldb_version.specs.Store.{HasEdits, IsManaged, IsStore, LastNumbersFit}
 use Rattle.leveldb_version.specs.StoreSteps.{EditsRefine, HasBytes, IsKept, IsUnread, SameButNextFile, TablesAreKept}
 use Rattle.leveldb_version.specs.VersionEdit.{Edit, NewFile}
 use Rattle.leveldb_version.specs.VersionSet.{level_file, live_after}
@@ -45,7 +46,7 @@ module _ (store : List ℕ) (cmp : List ℕ → List ℕ → Ordering)
     }) m.managed;
   }
 
-  -- a sync file_changes nothing that is read
+  -- a sync changes nothing that is read
   pub synced_same : (name : List ℕ) (files : Files) (path : List ℕ)
       → SameBytes (files path) (synced name files path)
   synced_same name files path = by (bytes_eq name path) refl
@@ -91,9 +92,9 @@ module _ (store : List ℕ) (cmp : List ℕ → List ℕ → Ordering)
   -- ---- a snapshot of the edits
 
   pub snapshot_refines : (bound : ℕ) (files : Files) (edits others : List Edit)
-      → SameButNextFile (live_after edits) (live_after others)
+      → SameButNextFile (live_after edits) (live_after others) → LastNumbersFit others
       → EditsRefine store cmp IsTableOf bound files edits others
-  snapshot_refines bound files edits others s left contents leaves honest most m = (
+  snapshot_refines bound files edits others s fits left contents leaves honest most m = (
     contents,
     record {
       comparator = m.comparator;
@@ -102,6 +103,7 @@ module _ (store : List ℕ) (cmp : List ℕ → List ℕ → Ordering)
       next_file_is = s.next_file;
       last = m.last;
       last_is = s.last_sequence ∙ m.last_is;
+      numbers_fit = fits;
       tables = m.tables;
       has_tables = record {
         each = λ table c. let h = m.has_tables.each table c in (h.0, s.file table.file ∙ h.1, h.2);
@@ -134,7 +136,7 @@ module _ (store : List ℕ) (cmp : List ℕ → List ℕ → Ordering)
     },
   )
 
-  -- ---- what safety matches
+  -- ---- what is kept
 
   -- The live tables of safe files are kept, since a crash could cut them to another size.
   pub safe_tables_kept :

@@ -1,5 +1,7 @@
--- The edit of a compaction: tables go and tables come, with the same view; whatever a crash leaves
--- of logs, it shows the same.
+-- The edit of a compaction: tables are replaced by others with the same view. Whatever a crash
+-- leaves of the logs, it shows the same.
+use Rattle.std.specs.Option.{option_or}
+use Rattle.leveldb_version.proofs.VersionSetLemmas.{applies_in_order}
 use Rattle.leveldb_base.specs.History.{Entry, SameView, greatest}
 use Rattle.leveldb_base.specs.Types.{Pair}
 use Rattle.leveldb_env.specs.Env.{Files, FilesCrashTo}
@@ -13,12 +15,12 @@ use Rattle.leveldb_version.proofs.ViewsLemmas.{append_sets, greatest_most, same_
 use Rattle.leveldb_version.specs.Contents.{Contents}
 use Rattle.leveldb_version.specs.Levels.{LiveTable, table_entries}
 use Rattle.leveldb_version.specs.Paths.{table_path}
-use Rattle.leveldb_version.specs.Store.{HasTables, IsManagedBy, IsReplayed, OneTableReading, SameEntries, contents_of, log_batches, log_entries}
-use Rattle.leveldb_version.specs.StoreSteps.{EditKeeps, Refines, SwapsTables, TablesAreKept}
+use Rattle.leveldb_version.specs.Store.{HasTables, IsManagedBy, IsReplayed, LastNumbersFit, OneTableReading, SameEntries, contents_of, log_batches, log_entries}
+use Rattle.leveldb_version.specs.StoreSteps.{EditKeeps, LastRises, Refines, SwapsTables, TablesAreKept}
 use Rattle.leveldb_version.specs.VersionEdit.{Edit}
 use Rattle.leveldb_version.specs.VersionSet.{FileSet, live_after}
-use Rattle.std.proofs.Common.{◌++◌, ◌∙◌, ◌∷◌, ◌≡◌, ◌≤◌, List, [], ap, arith, inl, inr, refl, subst, sym, ℕ, ⊎_elim}
-use Rattle.std.proofs.lemmas.List.Elements.{Contains-append_cases, Contains-append_left, Contains-append_right}
+use Rattle.std.proofs.Common.{◌++◌, ◌∙◌, ◌∷◌, ◌≡◌, ◌≤◌, List, Some, [], ap, arith, inl, inr, refl, subst, sym, ℕ, ⊎_elim}
+use Rattle.std.proofs.lemmas.List.Elements.{Contains-append_cases, Contains-append_left, Contains-append_right, Contains-push_cases}
 use Rattle.std.specs.Prelude.{Contains, IsSome, max}
 use Rattle.std.specs.declared.cmp.Ordering.{Ordering}
 
@@ -27,6 +29,21 @@ pub replayed_by : (old new : FileSet) (n : ℕ) → new.log_number ≡ old.log_n
     → new.previous_log ≡ old.previous_log → IsReplayed old n → IsReplayed new n
 replayed_by old new n log previous (inl (l, is, le)) = inl (l, log ∙ is, le)
 replayed_by old new n log previous (inr (is, pos)) = inr (previous ∙ is, pos)
+
+-- the edit's last sequence number is the set's, so it fits where that does
+pub edit_fits : (bound : ℕ) (edits : List Edit) (edit : Edit)
+    → LastRises bound (live_after edits) (live_after (edits ++ edit ∷ [])) → LastNumbersFit edits
+    → LastNumbersFit (edits ++ edit ∷ [])
+edit_fits bound edits edit rises fits one n c is = ⊎_elim
+    (λ (old : Contains edits one). fits one n old is)
+    (λ (e : edit ≡ one).
+    let set : (live_after (edits ++ edit ∷ [])).last_sequence ≡ Some n =
+    (applies_in_order edits edit).last_sequence
+    ∙ ap (λ o. option_or o (live_after edits).last_sequence)
+    (ap (λ (x : Edit). x.last_sequence) e ∙ is) in
+    let same = some_is rises.last n (sym rises.new_last ∙ set) in
+    omega (arith, same, rises.fits))
+    (Contains-push_cases edits edit one c)
 
 module _ (store : List ℕ) (cmp : List ℕ → List ℕ → Ordering)
     (IsTableOf : List ℕ → List Pair → Type 0) (one : OneTableReading IsTableOf) where
@@ -75,6 +92,7 @@ module _ (store : List ℕ) (cmp : List ℕ → List ℕ → Ordering)
         next_file_is = s.next_file;
         last = s.last.last;
         last_is = s.last.new_last;
+        numbers_fit = edit_fits bound edits edit s.last m.numbers_fit;
         tables = s.after;
         has_tables =
             tables_left files left
@@ -97,7 +115,6 @@ module _ (store : List ℕ) (cmp : List ℕ → List ℕ → Ordering)
         fit = record {
           rise = m.fit.rise;
           ends = m.fit.ends;
-          last_fits = s.last.fits;
           numbered = λ entry c. let n = m.fit.numbered entry (old_entry entry c) in
               (n.0, omega (arith, n.1, last_is, s.last.later));
           below = λ entry later c l. m.fit.below entry later (old_entry entry c) l;

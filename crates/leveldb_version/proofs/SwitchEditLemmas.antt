@@ -1,4 +1,6 @@
--- The edit of a switch: the logs before a number go, and a table comes that has all their entries.
+-- The edit of a switch: the logs below a number aren't replayed any more, and new tables have all
+-- their entries.
+use Rattle.leveldb_version.proofs.SwapEditLemmas.{edit_fits}
 use Rattle.leveldb_base.proofs.NamesLemmas.{made_name}
 use Rattle.leveldb_base.specs.History.{Entry, SameView, greatest}
 use Rattle.leveldb_base.specs.Names.{file_name}
@@ -149,6 +151,7 @@ module _ (store : List ℕ) (cmp : List ℕ → List ℕ → Ordering)
       next_file_is = s.next_file;
       last = s.last.last;
       last_is = s.last.new_last;
+      numbers_fit = edit_fits bound edits edit s.last m.numbers_fit;
       tables = after;
       has_tables =
           tables_left files left
@@ -178,7 +181,6 @@ module _ (store : List ℕ) (cmp : List ℕ → List ℕ → Ordering)
             order_low 0 (max 0 (greatest (all_entries (log_batches p.front)))) (log_batches p.back)
             (omega arith) (order_after 0 (log_batches p.front) (log_batches p.back) order);
         ends = λ a b in_a in_b. m.fit.ends a b (in_back_too a in_a) (in_back_too b in_b);
-        last_fits = s.last.fits;
         numbered = λ entry c. ⊎_elim
             (λ (t : Contains (table_entries s.added) entry). (
               order_above 0 (log_batches m.logs) m.fit.rise entry

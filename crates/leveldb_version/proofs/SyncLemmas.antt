@@ -1,4 +1,4 @@
--- A sync of the last log covers everything; and the first `CURRENT` makes a store.
+-- A sync of the last log makes all durable.
 use Rattle.leveldb_base.proofs.NamesLemmas.{made_name}
 use Rattle.leveldb_base.specs.History.{History}
 use Rattle.leveldb_base.specs.Names.{IsFileName, file_name}

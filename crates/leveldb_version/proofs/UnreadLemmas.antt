@@ -39,7 +39,7 @@ module _ (store : List ℕ) (cmp : List ℕ → List ℕ → Ordering)
         (same (in_folder store name) (un.logs name n is replayed));
   }
 
-  -- Creation, appends, sync and deletion of such a file: one law for all of them.
+  -- whether such a file is made, appended to, synced or deleted
   pub unread_stays_safe : (path : List ℕ) (old new : Files) → SameBut path old new
       → IsUnread store old path
       → (allowed : Store → Type 0) (bound durable : ℕ) (history : History)
@@ -95,8 +95,7 @@ module _ (store : List ℕ) (cmp : List ℕ → List ℕ → Ordering)
           missing_left None l = refl
           missing_left (Some f) l = absurd (let never : _ = sym l.3 ∙ bare.0.no_current in cc)
 
-  -- a name for another use than a store's own files is never read: a temporary file, the lock's, a
-  -- journal's of messages
+  -- a file of another type than `CURRENT`, manifests, tables and logs is never read
   pub other_unread : (files : Files) (name : List ℕ) (n : ℕ) (kind : FileType)
       → IsFileName name n kind → kind ≢ Current → kind ≢ Descriptor → kind ≢ Table → kind ≢ Log
       → IsUnread store files (in_folder store name)

@@ -49,7 +49,7 @@ greatest_less n (entry ∷ entries) pos all =
     let rest = greatest_less n entries pos (λ other c. all other (in_rest entry other entries c)) in
     omega (arith, here, rest)
 
--- newer entries behind sets that show the same from the greatest on
+-- newer entries after sets that show the same from the greatest number on
 pub same_with_later : (these those more : List Entry) (t : ℕ) → greatest these ≤ greatest those
     → ((entry later : Entry) → Contains those entry → Contains more later
     → entry.sequence < later.sequence)

@@ -1,5 +1,5 @@
--- Batches that are appended to the last log, and its sync, from what the files hold to what they hold
--- then.
+-- Batches that are appended to the last log, and its sync, from what the files hold to what they
+-- hold then.
 use Rattle.std.proofs.Common.{◌≡◌, ◌≤◌, ◌+◌, ⊎_elim, ℕ, List, length, subst, arith, None}
 use Rattle.std.specs.declared.cmp.Ordering.{Ordering}
 use Rattle.leveldb_base.specs.History.{History, Item}

@@ -1,5 +1,6 @@
 -- What a store's files are: a manifest that `CURRENT` names, tables, and logs; and what is read of
 -- them.
+use Rattle.leveldb_table.specs.Table.{IsTable}
 use Rattle.std.specs.Prelude.{◌≡◌, ◌≢◌, ◌<◌, ◌≤◌, ◌^◌, ◌⊎◌, ◌↔◌, Bool, ℕ, List, [], ◌∷◌, ◌++◌, length, max, flat_map, Option, Some, None, IsSome, Contains}
 use Rattle.std.specs.declared.cmp.Ordering.{Ordering}
 use Rattle.leveldb_base.specs.declared.key_types.ValueType.{ValueType}
@@ -22,8 +23,8 @@ use Rattle.leveldb_version.specs.VersionSet.{FileSet, live_after, level_file}
 
 -- ---- what is read
 
--- a log that is replayed: its number, its batches up to its first bad end, how it ends, and how many
--- bytes its file has
+-- a log that is replayed: its number, its batches up to its first bad end, how it ends, and how
+-- many bytes its file has
 pub record ReplayedLog : Type 0 where
   pub number : ℕ
   pub batches : List Batch
@@ -60,8 +61,6 @@ pub record FitTogether (cmp : List ℕ → List ℕ → Ordering) (tables : List
   -- a bad end of a log ends the history: the logs after it are empty
   pub ends : (a b : ReplayedLog) → Contains logs a → Contains logs b → a.number < b.number
       → a.end ≡ bad → b.size ≡ 0
-  -- the last sequence number is one that an entry can have
-  pub last_fits : last ≤ greatest_sequence
   -- the entries of tables have numbers from 1 to the last one
   pub numbered : (entry : Entry) → Contains (table_entries tables) entry
       → (0 < entry.sequence) × (entry.sequence ≤ last)
@@ -72,6 +71,11 @@ pub record FitTogether (cmp : List ℕ → List ℕ → Ordering) (tables : List
   pub levels : LevelOrder cmp tables
 
 -- ---- logs and the manifest
+
+-- no edit sets a last sequence number that an entry can't have
+abbrev pub LastNumbersFit : List Edit → Type 0
+LastNumbersFit edits = (edit : Edit) (n : ℕ) → Contains edits edit → edit.last_sequence ≡ Some n
+    → n ≤ greatest_sequence
 
 -- the manifest says that a log of this number is replayed: its log number, and each one above it;
 -- and the previous log's where that isn't 0
@@ -123,8 +127,8 @@ pub record HasLogs (store : List ℕ) (files : Files) (set : FileSet) (logs : Li
 
 -- ---- tables
 
--- A pair of a table is this entry: the key with its number and kind, and the value. The bytes beside
--- a deletion's key are ignored.
+-- A pair of a table is this entry: the key with its number and kind, and the value. The bytes
+-- beside a deletion's key are ignored.
 pub record IsEntryPair (pair : Pair) (entry : Entry) : Type 0 where
   pub kind : ValueType
   pub key : pair.0 ≡ internal_key entry.key entry.sequence kind
@@ -138,6 +142,14 @@ IsFirstKey key pairs = (value : List ℕ) × (rest : List Pair) × (pairs ≡ (k
 -- the last key of pairs
 abbrev pub IsLastKey : List ℕ → List Pair → Type 0
 IsLastKey key pairs = (front : List Pair) × (value : List ℕ) × (pairs ≡ front ++ (key, value) ∷ [])
+
+-- Bytes are a table of these pairs, in the order of internal keys, with filters that let their user
+-- keys pass. `Decodes` says what compressors decode, `cmp` is the order of user keys, and `meaning`
+-- says of the name of a filter policy what its filters mean.
+abbrev pub IsStoreTable : (ℕ → List ℕ → List ℕ → Type 0) → (List ℕ → List ℕ → Ordering)
+    → (List ℕ → Option (List ℕ → List ℕ → Bool)) → List ℕ → List Pair → Type 0
+IsStoreTable Decodes cmp meaning bytes pairs =
+    IsTable Decodes (internal_cmp cmp) meaning user_part bytes pairs
 
 -- ---- the store
 
@@ -174,6 +186,7 @@ module _ (store : List ℕ) (cmp : List ℕ → List ℕ → Ordering)
     pub next_file_is : IsSome (live_after edits).next_file
     pub last : ℕ
     pub last_is : (live_after edits).last_sequence ≡ Some last
+    pub numbers_fit : LastNumbersFit edits
     pub tables : List LiveTable
     pub has_tables : HasTables files (live_after edits) tables
     pub logs : List ReplayedLog

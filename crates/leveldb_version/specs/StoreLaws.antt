@@ -2,14 +2,15 @@
 --
 -- `store` is a store's path, `cmp` the order of its user keys, `IsTableOf` says which bytes are a
 -- table of which pairs, and `allowed` which store may be there.
-use Rattle.std.specs.Prelude.{◌≡◌, ◌≢◌, ◌≤◌, ◌<◌, ◌^◌, ◌+◌, ◌⊎◌, ◌↔◌, false, ℕ, List, [], ◌∷◌, ◌++◌, length, map, Option, Some, None, Contains, AllPairs}
+use Rattle.leveldb_table.specs.Table.{DecodesOne, OneTable}
+use Rattle.std.specs.Prelude.{◌++◌, ◌+◌, ◌<◌, ◌^◌, ◌↔◌, ◌∷◌, ◌≡◌, ◌≢◌, ◌≤◌, ◌⊎◌, AllPairs, Bool, Contains, List, None, Option, Some, [], false, length, map, ℕ}
 use Rattle.std.specs.Cmp.{IsTotalOrder}
 use Rattle.std.specs.Str.{bytes_eq}
 use Rattle.std.specs.declared.cmp.Ordering.{Ordering}
 use Rattle.leveldb_base.specs.declared.types.FileType.{FileType}
 use Rattle.leveldb_base.specs.declared.types.FileType.TheVariants.{Log, Table, Descriptor, Current}
-use Rattle.leveldb_base.specs.History.{Entry, History, Item, count_of, placed}
-use Rattle.leveldb_base.specs.KeyTypes.{greatest_sequence}
+use Rattle.leveldb_base.specs.History.{Entry, History, Item, count_of, greatest, placed}
+use Rattle.leveldb_base.specs.KeyTypes.{greatest_sequence, internal_cmp}
 use Rattle.leveldb_base.specs.Names.{IsFileName}
 use Rattle.leveldb_base.specs.Types.{Pair}
 use Rattle.leveldb_env.specs.declared.env.Env.{Ghosts}
@@ -17,11 +18,11 @@ use Rattle.leveldb_env.specs.Env.{File, Files, FilesCrashTo, SameBut, BeforeOrAf
 use Rattle.leveldb_mem.specs.Log.{frame_at}
 use Rattle.leveldb_mem.specs.MemTable.{FindsNewest}
 use Rattle.leveldb_mem.specs.WriteBatch.{Batch, BatchOf}
-use Rattle.leveldb_version.specs.Contents.{Store, Contents, made, no_contents}
+use Rattle.leveldb_version.specs.Contents.{Contents, Store, made, missing, no_contents}
 use Rattle.leveldb_version.specs.Holds.{IsHonest, MatchesHistory, IsSafe, Holds}
 use Rattle.leveldb_version.specs.Levels.{LiveTable, LevelOrder, IsInRange, IsBounded, table_entries, CanBeAdded, AreLayered, IsSearchedBefore, SearchFinds}
 use Rattle.leveldb_version.specs.Paths.{current_path, log_path}
-use Rattle.leveldb_version.specs.Store.{HasNoStore, HasEdits, HasTable, HasTables, IsManaged, IsStore, SameContents, OneTableReading}
+use Rattle.leveldb_version.specs.Store.{HasEdits, HasNoStore, HasTable, HasTables, IsManaged, IsManagedBy, IsStore, IsStoreTable, LastNumbersFit, OneTableReading, SameContents, SameEntries}
 use Rattle.leveldb_version.specs.StoreSteps.{AddsOnce, EditKeeps, EditsRefine, HasBytes, HasNextCurrent, IsAboveLogs, IsAllKept, IsCuttable, IsCutStore, IsKept, IsManifestOpen, IsNew, IsPartOf, IsSafeFor, IsUnnamed, IsUnread, IsWritable, KeepsHistory, LeavesAlone, Risk, SameButNextFile, SwapsTables, SwitchesLog, TablesAreKept}
 use Rattle.leveldb_version.specs.VersionEdit.{Edit, NewFile, IsEdit}
 use Rattle.leveldb_version.specs.VersionSet.{level_file, live_after}
@@ -66,7 +67,7 @@ module _ (store : List ℕ) (cmp : List ℕ → List ℕ → Ordering)
   -- nor do other edits that leave the same set
   abbrev pub SnapshotsRefine : Type 0
   SnapshotsRefine = (bound : ℕ) (files : Files) (edits others : List Edit)
-      → SameButNextFile (live_after edits) (live_after others)
+      → SameButNextFile (live_after edits) (live_after others) → LastNumbersFit others
       → EditsRefine store cmp IsTableOf bound files edits others
 
   -- After an edit the live tables are those that it adds, and those from before that it leaves
@@ -82,6 +83,31 @@ module _ (store : List ℕ) (cmp : List ℕ → List ℕ → Ordering)
       → ((table : LiveTable) → Contains after table
       ↔ (Contains added table ⊎ (Contains before table × LeavesAlone edit (level_file table.file))))
       → HasTables store cmp IsTableOf files (live_after (edits ++ edit ∷ [])) after
+
+  -- ---- what stays open
+
+  -- after a batch is appended, another may be
+  abbrev pub BatchesStayWritable : Type 0
+  BatchesStayWritable = (files : Files) (edits : List Edit) (contents : Contents)
+      → IsManagedBy store cmp IsTableOf files edits contents → (w : IsWritable store files edits)
+      → (first : ℕ) (items : List Item) (text : List ℕ) → BatchOf text first items
+      → HasBytes (extended (log_path store w.log.number)
+      (frame_at (length (bytes_of w.log.file)) text) files)
+      → IsWritable store (extended (log_path store w.log.number)
+      (frame_at (length (bytes_of w.log.file)) text) files) edits
+
+  -- and so after a sync of the last log
+  abbrev pub SyncsStayWritable : Type 0
+  SyncsStayWritable = (files : Files) (edits : List Edit) (contents : Contents)
+      → IsManagedBy store cmp IsTableOf files edits contents → (w : IsWritable store files edits)
+      → IsWritable store (synced (log_path store w.log.number) files) edits
+
+  -- after an edit is appended, the manifest has it, and another may be
+  abbrev pub EditsStayOpen : Type 0
+  EditsStayOpen = (files : Files) (edits : List Edit) (m : IsManifestOpen store files edits)
+      (text : List ℕ) → text ≢ [] → (edit : Edit) → IsEdit text edit
+      → IsManifestOpen store (extended (in_folder store m.name)
+      (frame_at (length (bytes_of m.file)) text) files) (edits ++ edit ∷ [])
 
   -- ---- files that aren't read
 
@@ -204,7 +230,7 @@ module _ (store : List ℕ) (cmp : List ℕ → List ℕ → Ordering)
         → IsUnread store old path → (bound : ℕ)
         → KeepsHistory store cmp IsTableOf allowed bound old new
 
-    -- so does an edit that comes to the manifest, at each moment
+    -- so does an edit that is appended to the manifest, at each moment
     abbrev pub EditAppendsKeep : Type 0
     EditAppendsKeep = (files : Files) (edits : List Edit) (m : IsManifestOpen store files edits)
         → HasBytes files → (text : List ℕ) → text ≢ [] → (edit : Edit) → IsEdit text edit
@@ -225,10 +251,46 @@ module _ (store : List ℕ) (cmp : List ℕ → List ℕ → Ordering)
     abbrev pub FirstCurrentKeeps : Type 0
     FirstCurrentKeeps = (files : Files) → HasNoStore store cmp IsTableOf files
         → (temp : List ℕ) (edits : List Edit) → HasNextCurrent store files temp edits
-        → (n : IsNew (live_after edits)) → allowed (made (Some n.comparator)) → (bound : ℕ)
+        → (n : IsNew (live_after edits)) → LastNumbersFit edits → allowed (made (Some n.comparator)) → (bound : ℕ)
         (now : Files)
         → BeforeOrAfter (renamed (in_folder store temp) (current_path store)) files now
         → KeepsHistory store cmp IsTableOf allowed bound files now
+
+-- ---- contents and histories
+
+module _ (allowed : Store → Type 0) where
+  -- where no store is, the contents match the empty history
+  abbrev pub NothingMatches : Type 0
+  NothingMatches = allowed missing → (bound : ℕ)
+      → MatchesHistory allowed bound no_contents []
+
+  -- contents match a history with an empty batch at its end exactly if they match it without
+  abbrev pub EmptyBatchesMatch : Type 0
+  EmptyBatchesMatch = (bound : ℕ) (contents : Contents) (history : History)
+      → MatchesHistory allowed bound contents history
+      ↔ MatchesHistory allowed bound contents (history ++ [] ∷ [])
+
+  -- a set of entries matches a history of one batch that has these entries
+  abbrev pub SetsMatch : Type 0
+  SetsMatch = (bound : ℕ) (contents : Contents) (found : List Entry)
+      → SameEntries contents.entries found → greatest found ≤ contents.last
+      → contents.last ≤ bound → allowed contents.store
+      → MatchesHistory allowed bound contents (found ∷ [])
+
+-- ---- tables
+
+-- bytes are a store's table of one list of pairs, as they are of any table's
+abbrev pub OneStoreTable : (ℕ → List ℕ → List ℕ → Type 0) → Type 0
+OneStoreTable Decodes = (cmp : List ℕ → List ℕ → Ordering)
+    (meaning : List ℕ → Option (List ℕ → List ℕ → Bool)) → DecodesOne Decodes
+    → OneTable Decodes (internal_cmp cmp) → OneTableReading (IsStoreTable Decodes cmp meaning)
+
+-- the keys of a store's table are in the range that its edit says
+abbrev pub TablesAreBounded : (ℕ → List ℕ → List ℕ → Type 0) → Type 0
+TablesAreBounded Decodes = (store : List ℕ) (cmp : List ℕ → List ℕ → Ordering)
+    → IsTotalOrder cmp → (meaning : List ℕ → Option (List ℕ → List ℕ → Bool)) (files : Files)
+    (table : LiveTable) → HasTable store cmp (IsStoreTable Decodes cmp meaning) files table
+    → IsBounded cmp table
 
 -- ---- steps of a call
 

@@ -77,8 +77,8 @@ pub record IsManifestOpen (store : List ℕ) (files : Files) (edits : List Edit)
   pub clean_end : IsLogFile (bytes_of file) records clean
   pub each : Each IsEdit records edits
 
--- The new contents show what the old ones show, from their own last number on, which isn't below the
--- old one, and no entry of them is new.
+-- The new contents show what the old ones show, from their own last number on, which isn't below
+-- the old one, and no entry of them is new.
 pub record Refines (bound : ℕ) (old new : Contents) : Type 0 where
   pub later : old.last ≤ new.last
   pub bounded : new.last ≤ bound
@@ -88,8 +88,8 @@ pub record Refines (bound : ℕ) (old new : Contents) : Type 0 where
 
 module _ (store : List ℕ) (cmp : List ℕ → List ℕ → Ordering)
     (IsTableOf : List ℕ → List Pair → Type 0) where
-  -- Whatever an honest crash leaves of these files: what is a store by the first edits is one by the
-  -- others too, whose contents refine its own.
+  -- Whatever an honest crash leaves of these files: what is a store by the first edits is one by
+  -- the others too, whose contents refine its own.
   abbrev pub EditsRefine : ℕ → Files → List Edit → List Edit → Type 0
   EditsRefine bound files edits others = (left : Files) (contents : Contents)
       → FilesCrashTo files left → IsHonest store files left → contents.last ≤ bound
@@ -126,8 +126,8 @@ pub record IsLogOpen (store : List ℕ) (files : Files) (set : FileSet) : Type 0
   pub batches : List Batch
   pub each : Each IsRecordOf records batches
 
--- A batch may be appended: `CURRENT`, the manifest and the live tables are kept, and the last log is
--- open.
+-- A batch may be appended: `CURRENT`, the manifest and the live tables are kept, and the last log
+-- is open.
 pub record IsWritable (store : List ℕ) (files : Files) (edits : List Edit) : Type 0 where
   pub has_edits : HasEdits store files edits
   pub current : has_edits.current.since ≡ []
@@ -181,7 +181,8 @@ abbrev pub AddsOnce : Edit → Type 0
 AddsOnce edit = (file other : NewFile) → Contains edit.added file → Contains edit.added other
     → is_same_file (level_file other) (level_file file) ≡ true → other ≡ file
 
--- the sets have the same files, comparator and numbers, but for the next file's number, which is set
+-- the sets have the same files, comparator and numbers, but for the next file's number, which is
+-- set
 pub record SameButNextFile (old new : FileSet) : Type 0 where
   pub file : (file : NewFile) → new.file (level_file file) ≡ old.file (level_file file)
   pub comparator : new.comparator ≡ old.comparator
@@ -288,8 +289,8 @@ pub record HasNextCurrent (store : List ℕ) (files : Files) (temp : List ℕ) (
 
 -- ---- what a crash cuts
 
--- A journal as far as it was written: what its kept bytes are read as, and what all of them are read
--- as. There are bytes that would complete the record that may have been cut short at its end.
+-- A journal as far as it was written: what its kept bytes are read as, and what all of them are
+-- read as. There are bytes that would complete the record that may have been cut short at its end.
 pub record IsJournalFile (file : File) (kept written : List (List ℕ)) : Type 0 where
   pub kept_end : End
   pub kept_read : IsLogFile file.kept kept kept_end

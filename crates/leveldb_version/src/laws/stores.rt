@@ -1,11 +1,12 @@
-//! Laws of a store's files: they have one reading, an honest crash leaves a prefix of their history,
-//! and each step of an engine keeps that.
+//! Laws of a store's files: they have one reading, an honest crash leaves a prefix of their
+//! history, and each step of an engine keeps that.
 ghost use Rattle.std.specs.Prelude.{ℕ, List};
 ghost use Rattle.std.specs.declared.cmp.Ordering.{Ordering};
 ghost use Rattle.leveldb_base.specs.Types.{Pair};
+ghost use Rattle.leveldb_env.specs.Compressor.{Codings, Decodes};
 ghost use Rattle.leveldb_version.specs.Contents.{Store};
 ghost use Rattle.leveldb_version.specs.Store.{IsStore};
-ghost use Rattle.leveldb_version.specs.StoreLaws.{BatchesAppend, CrashesCutStores, EditAppendsKeep, EditsLeaveTables, FirstCurrentKeeps, KeepingHolds, KeptIsSafe, MissingIsUnread, NewLogsKeep, NoStoreIsSafe, ObsoleteIsUnread, OneStoreReading, OthersAreUnread, PartsAreSafe, RenamesKeep, SafeCurrentIsKept, SafeTablesAreKept, SnapshotsRefine, StepsCompose, SwapsKeep, SwitchesKeep, SyncMakesDurable, SyncsKeep, UnreadKeeps, UnreadStays};
+ghost use Rattle.leveldb_version.specs.StoreLaws.{BatchesAppend, BatchesStayWritable, CrashesCutStores, EditAppendsKeep, EditsLeaveTables, EditsStayOpen, EmptyBatchesMatch, FirstCurrentKeeps, KeepingHolds, KeptIsSafe, MissingIsUnread, NewLogsKeep, NoStoreIsSafe, NothingMatches, ObsoleteIsUnread, OneStoreReading, OneStoreTable, OthersAreUnread, PartsAreSafe, RenamesKeep, SafeCurrentIsKept, SafeTablesAreKept, SetsMatch, SnapshotsRefine, StepsCompose, SwapsKeep, SwitchesKeep, SyncMakesDurable, SyncsKeep, SyncsStayWritable, TablesAreBounded, UnreadKeeps, UnreadStays};
 
 use leveldb_env::env::Env;
 
@@ -22,6 +23,20 @@ pub trait StoreFormat {
 /// Files are a store with one contents, as a set.
 pub fn files_have_one_reading<F: StoreFormat>()
     ensures { (store : List ℕ) → OneStoreReading store F.cmp F.is_table }
+{}
+
+/// The bytes of a table have one list of pairs, and its keys are in the range that its edit says.
+pub fn tables_are_bounded()
+    ensures list { (codings : Codings) → OneStoreTable (Decodes codings) }
+    ensures range { (codings : Codings) → TablesAreBounded (Decodes codings) }
+{}
+
+/// Histories that contents match: none where no store is, the same with an empty batch more, and
+/// any set of entries as one batch.
+pub fn which_histories_match<F: StoreFormat>()
+    ensures none { NothingMatches F.allowed }
+    ensures empty { EmptyBatchesMatch F.allowed }
+    ensures set { SetsMatch F.allowed }
 {}
 
 /// A crash that cuts the manifest and the last log, both perhaps, leaves a store by the first edits
@@ -48,6 +63,14 @@ pub fn batches_are_appended_and_synced<F: StoreFormat>()
     ensures sync { (store : List ℕ) → SyncMakesDurable store F.cmp F.is_table F.allowed }
 {}
 
+/// After a batch is appended or the last log is synced, the next batch may be appended; after an edit
+/// is appended the manifest has it, and the next one may be.
+pub fn logs_and_manifests_stay_open<F: StoreFormat>()
+    ensures batch { (store : List ℕ) → BatchesStayWritable store F.cmp F.is_table }
+    ensures sync { (store : List ℕ) → SyncsStayWritable store F.cmp F.is_table }
+    ensures edit { (store : List ℕ) → EditsStayOpen store F.cmp F.is_table }
+{}
+
 /// A sync of any file and a new log keep each history, at every moment.
 pub fn syncs_and_new_logs_keep_histories<F: StoreFormat>()
     ensures sync { (store : List ℕ) → SyncsKeep store F.cmp F.is_table F.allowed }
@@ -60,7 +83,8 @@ pub fn unread_files_may_change<F: StoreFormat>()
     ensures stays { (store : List ℕ) → UnreadStays store F.cmp F.is_table }
 {}
 
-/// Files that aren't read: a temporary one, one that is missing yet, one that no edit names any more.
+/// Files that aren't read: a temporary one, one that is missing yet, one that no edit names any
+/// more.
 pub fn which_files_are_unread<F: StoreFormat>()
     ensures others { (store : List ℕ) → OthersAreUnread store F.cmp F.is_table }
     ensures missing { (store : List ℕ) → MissingIsUnread store F.cmp F.is_table F.allowed }
