@@ -5,3 +5,8 @@ pub mod VersionSet
 pub mod Contents
 pub mod Paths
 pub mod Holds
+pub mod Batches
+pub mod Levels
+pub mod Store
+pub mod StoreSteps
+pub mod StoreLaws
