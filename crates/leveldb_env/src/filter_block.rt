@@ -98,6 +98,7 @@ impl<FP: FilterPolicy> FilterBlockBuilder<FP> {
         requires { 2048 * length self.old.filters ≤ offset }
         ensures ok { OnOk result
             (self.new ≡ started (FP.filter_for self.old.policy) offset self.old) }
+        ensures policy { self.new.policy ≡ self.old.policy }
         ensures open { OnOk result (length self.new.filters ≡ offset / 2048) }
         ensures none { offset / 2048 ≡ length self.old.filters → IsOk result }
         ensures not_too_large { OnOk result (length self.old.filters < offset / 2048

@@ -142,8 +142,7 @@ fn mend<E: Env>(
     }
     let temp_name = file_name(alloc, name, "000003.dbtmp")?;
     let framed = frame_all(alloc, records)?;
-    let replaced = replace_file(env, &temp_name, log_name, &framed);
-    found(alloc, replaced)
+    replace_file(alloc, env, &temp_name, log_name, &framed)
 }
 
 // The log, which is made where it is missing, all its bytes kept, and how many it has.
