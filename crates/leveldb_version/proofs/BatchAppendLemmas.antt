@@ -1,7 +1,7 @@
 -- A batch that is appended to the last log: the files hold it as pending at each moment of the
 -- append, and have it after the whole of it.
 use Rattle.leveldb_base.proofs.NamesLemmas.{made_name}
-use Rattle.leveldb_base.specs.History.{Entry, History, Item, greatest, placed}
+use Rattle.leveldb_base.specs.History.{Entry, History, Item, placed}
 use Rattle.leveldb_base.specs.KeyTypes.{greatest_sequence}
 use Rattle.leveldb_base.specs.Names.{IsFileName, file_name}
 use Rattle.leveldb_base.specs.Types.{Pair}

@@ -1,6 +1,6 @@
 -- A batch that is appended to the last log: what a crash leaves of any part of its frame.
 use Rattle.leveldb_base.proofs.NamesLemmas.{made_name, one_reading}
-use Rattle.leveldb_base.specs.History.{Entry, History, Item, greatest, placed}
+use Rattle.leveldb_base.specs.History.{Entry, History, Item, placed}
 use Rattle.leveldb_base.specs.KeyTypes.{greatest_sequence}
 use Rattle.leveldb_base.specs.Names.{IsFileName, file_name}
 use Rattle.leveldb_base.specs.Types.{Pair}
