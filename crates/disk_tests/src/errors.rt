@@ -6,6 +6,7 @@ use leveldb_env::env::Env;
 use std::alloc::Global;
 use std::fs::{self, Permissions};
 use std::os::unix::fs::PermissionsExt;
+use std::rt::Files;
 
 const LONG: &str =
     "disk_tests_errors/eeeeeeeeeeeeeeeeeeeeeeeeeeeeeeeeeeeeeeeeeeeeeeeeeeeeeeeeeeeeeeeeee\
@@ -151,25 +152,33 @@ fn folders_give_errors(rt: HostRuntime) -> Result<()> {
     env.rmdir("disk_tests_errors")
 }
 
-/// Whether the folder takes a file in spite of its mode, as it does from root.
-fn takes_files<E: Env>(env: &mut E, alloc: Global) -> Result<bool> {
-    let code = code_of(env, alloc, Call::Append("disk_tests_denied/probe", b""))?;
-    Ok(code == StatusCode::OK)
+/// Makes a folder that can't be written to, with a file that can't be read.
+fn close_folder<E: Env>(files: &impl Files, env: &mut E) -> Result<()> {
+    env.rmdir("disk_tests_denied")?;
+    env.mkdir("disk_tests_denied")?;
+    env.open_appendable_file("disk_tests_denied/file")?;
+    let mode = Permissions::from_mode(0o222);
+    fs::set_permissions(files, "disk_tests_denied/file", mode)?;
+    fs::set_permissions(files, "disk_tests_denied", Permissions::from_mode(0o555))?;
+    Ok(())
+}
+
+/// The index of the first call that isn't denied. Root may write to the folder in spite of its
+/// mode, and then there is none.
+fn first_allowed<E: Env>(env: &mut E, alloc: Global) -> Result<Option<usize>> {
+    if code_of(env, alloc, Call::Append("disk_tests_denied/x", b""))? == StatusCode::OK {
+        return Ok(None);
+    }
+    first_other(env, alloc, &DENIED)
 }
 
 #[test]
 fn modes_give_errors(rt: HostRuntime) -> Result<()> {
     let mut env = PosixDiskEnv::new(&rt);
-    env.rmdir("disk_tests_denied")?;
-    env.mkdir("disk_tests_denied")?;
-    fs::write(&rt, "disk_tests_denied/file", "")?;
-    fs::set_permissions(&rt, "disk_tests_denied/file", Permissions::from_mode(0o222))?;
-    fs::set_permissions(&rt, "disk_tests_denied", Permissions::from_mode(0o555))?;
-    if !takes_files(&mut env, rt.alloc())? {
-        let other = first_other(&mut env, rt.alloc(), &DENIED)?;
-        assert!(rt; other == None, "call {other:?}");
-    }
+    close_folder(&rt, &mut env)?;
+    let allowed = first_allowed(&mut env, rt.alloc())?;
     fs::set_permissions(&rt, "disk_tests_denied", Permissions::from_mode(0o755))?;
+    assert!(rt; allowed == None, "call {allowed:?}");
     env.rmdir("disk_tests_denied")
 }
 

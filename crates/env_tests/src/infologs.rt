@@ -33,8 +33,8 @@ fn logged(alloc: Global, is_broken: bool) -> Result<[usize; 2]> {
     let bytes = Rc::new(alloc, Cell::new(0))?;
     let sink = Counts {
         alloc,
-        lines: Rc::clone(&lines),
-        bytes: Rc::clone(&bytes),
+        lines: lines.clone()?,
+        bytes: bytes.clone()?,
         is_broken,
     };
     let mut logger = Some(Logger(Box::new(alloc, sink)?));
@@ -54,7 +54,7 @@ fn lines_are_handed_to_the_sink(rt: HostRuntime) -> Result<()> {
 #[test]
 fn lost_lines_are_no_error(rt: HostRuntime) -> Result<()> {
     assert!(rt; logged(rt.alloc(), true)? == [0, 0]);
-    let mut logger = None;
+    let mut logger: Option<Logger> = None;
     log!(logger, rt.alloc(); "nobody reads this");
     Ok(())
 }

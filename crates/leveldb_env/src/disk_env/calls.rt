@@ -188,20 +188,25 @@ pub(super) fn lock(files: &impl Files<File = File>, name: &str) -> io::Result<Op
     }
 }
 
+// Opens `/dev/null`, and leaves it open if its descriptor is at most this one. Returns whether it is.
+fn leave_open(files: &impl Files<File = File>, how: &OpenOptions, most: i32) -> io::Result<bool> {
+    let file = how.open(files, "/dev/null")?;
+    if file.as_raw_fd() > most {
+        return Ok(false);
+    }
+    file.into_raw_fd();
+    Ok(true)
+}
+
 /// Keeps the descriptors 0 to 2 from files that are opened later, so that nothing which is printed
 /// goes into a store. Call it first in a program: where standard input, output or error is closed,
-/// it opens `/dev/null` in its place, such that reading the one or writing the others still fails.
+/// it opens `/dev/null` in its place, such that it can't be read or written either.
 pub fn reserve_descriptors(files: &impl Files<File = File>) -> Result<()> {
-    let unreadable = OpenOptions::new().write(true).open(files, "/dev/null")?;
-    if unreadable.as_raw_fd() == 0 {
-        unreadable.into_raw_fd();
-    }
+    leave_open(files, OpenOptions::new().write(true), 0)?;
     for _ in 0..3 {
-        let unwritable = File::open(files, "/dev/null")?;
-        if unwritable.as_raw_fd() > 2 {
+        if !leave_open(files, OpenOptions::new().read(true), 2)? {
             break;
         }
-        unwritable.into_raw_fd();
     }
     Ok(())
 }
