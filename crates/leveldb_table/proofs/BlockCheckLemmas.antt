@@ -1,19 +1,19 @@
 -- What reading the parts of an entry, one after the other, finds.
-use Rattle.std.proofs.Common.{◌≡◌, ℕ, ◌+◌, ◌^◌, ◌<◌, ◌≤◌, true, false, nat_eq, List, [], ◌∷◌, ◌++◌, length, drop, None, sym, ◌∙◌, ap, arith, length-append, length-drop, inl, inr, leb, ◌-◌, Bool, if◌then◌else◌, flat_map, Option, Some, IsSome, refl, subst, append_assoc, ◌*◌, take}
+use Rattle.std.proofs.Common.{◌≡◌, ℕ, ◌+◌, ◌^◌, ◌<◌, ◌≤◌, true, false, nat_eq, List, [], ◌∷◌, ◌++◌, length, drop, None, sym, ◌∙◌, ap, arith, length-append, length-drop, inl, inr, leb, ◌-◌, Bool, if◌then◌else◌, flat_map, Option, Some, IsSome, refl, subst, append_assoc, ◌*◌, take, get_or}
 use Rattle.std.proofs.lemmas.Bool.{cases_lt, lt-leb, eqb-true}
-use Rattle.std.proofs.lemmas.List.{take-append-drop, append-nil, append_cancel_left, nil_from_length, take_at, drop_at, drop-drop, take_all, length-take-le}
+use Rattle.std.proofs.lemmas.List.{take-append-drop, append-nil, append_cancel_left, nil_from_length, take_at, drop_at, drop-drop, take_all, take_rest, length-take-le}
 use Rattle.std.specs.List.{IsSplitAt, All}
 use Rattle.std.proofs.lemmas.List.Elements.{All-nil, All-push, All-drop, All-take}
 use Rattle.std.specs.declared.cmp.Ordering.{Ordering}
 use Rattle.byteorder.specs.Endian.{little_number}
 use Rattle.byteorder.specs.Numbers.{little_from-lt, little_number-reads_back}
 use Rattle.leveldb_base.specs.Varint.{varint, little}
-use Rattle.leveldb_base.proofs.VarintLemmas.{one_number, little-little_number}
+use Rattle.leveldb_base.proofs.VarintLemmas.{one_number, little-little_number, varint-small, length-varint-pos}
 use Rattle.leveldb_env.specs.FilterBlock.{numbers_in}
 use Rattle.leveldb_env.proofs.FilterBlockLemmas.{numbers_more, numbers_none, length-fours, numbers_written, small_at, AreNumbers, are_numbers}
 use Rattle.leveldb_table.specs.Block.{BlockEntry, parts_bytes, entry_bytes, LengthsFit, key_of, pairs_of, SharesFrom, AreEntries, RiseAfter, points_from, restart_points, block_bytes, HasEntries, IsNoBlock, HasEntriesEndingAt}
 use Rattle.leveldb_table.specs.BlockLaws.{spread, same_parts, one_entry, length-entry_bytes-ge, restart_known, points_left}
-use Rattle.leveldb_table.specs.BlockCheck.{block_entry, begins, points_after, ReadsNumber, ReadsEntry, key_before, CanFollow, HasEntriesAndPoints, FindsEntries, count_at_end}
+use Rattle.leveldb_table.specs.BlockCheck.{block_entry, begins, points_after, ReadsNumber, ReadsLengths, ReadsEntry, key_before, CanFollow, HasEntriesAndPoints, FindsEntries, count_at_end}
 use Rattle.leveldb_table.specs.BlockWalk.{last_key}
 use Rattle.leveldb_table.proofs.BlockLemmas.{last_key-append, pairs_of-append, rise_parts, rise_both}
 
@@ -21,60 +21,83 @@ use Rattle.leveldb_table.proofs.BlockLemmas.{last_key-append, pairs_of-append, r
 split_whole : {xs front back : List ℕ} {n : ℕ} → IsSplitAt xs n front back → xs ≡ front ++ back
 split_whole {xs} {front} {back} {n} cut = sym (take-append-drop n xs) ∙ ap (λ z. z ++ drop n xs) (sym cut.1) ∙ ap (λ z. front ++ z) (sym cut.2)
 
+-- ---- the lengths of an entry
+
 module _ (bytes : List ℕ) where
-  pub reads_no_shared : ReadsNumber bytes None → ReadsEntry bytes None
+  pub lacks_shared : ReadsNumber bytes None → ReadsLengths bytes None
+  lacks_shared none shared rest value left fits_s fits_n fits_m e = none shared _ fits_s e
+
+  module _ (s : ℕ) (a : List ℕ) (first : bytes ≡ varint s ++ a) where
+    pub lacks_rest : ReadsNumber a None → ReadsLengths bytes None
+    lacks_rest none shared rest value left fits_s fits_n fits_m e = none rest _ fits_n (one_number s shared a _ (sym first ∙ e)).1
+
+    pub lacks_value : (n : ℕ) (b : List ℕ) → a ≡ varint n ++ b → ReadsNumber b None → ReadsLengths bytes None
+    lacks_value n b second none shared rest value left fits_s fits_n fits_m e =
+        none value _ fits_m (one_number n rest b _ (sym second ∙ (one_number s shared a _ (sym first ∙ e)).1)).1
+
+  -- three encodings have three bytes
+  pub too_short : length bytes < 3 → ReadsLengths bytes None
+  too_short short shared rest value left fits_s fits_n fits_m e =
+      omega (arith, short, length-varint-pos shared, length-varint-pos rest, length-varint-pos value, ap length e, length-append (varint shared) (varint rest ++ (varint value ++ left)), length-append (varint rest) (varint value ++ left), length-append (varint value) left)
+
+-- numbers below 128
+short_lengths : (s n m : ℕ) (texts : List ℕ) → s < 128 → n < 128 → m < 128 → s ∷ n ∷ m ∷ texts ≡ varint s ++ (varint n ++ (varint m ++ texts))
+short_lengths s n m texts small_s small_n small_m =
+    sym (ap (λ z. z ++ (varint n ++ (varint m ++ texts))) (varint-small s small_s) ∙ ap (λ z. s ∷ (z ++ (varint m ++ texts))) (varint-small n small_n) ∙ ap (λ z. s ∷ n ∷ (z ++ texts)) (varint-small m small_m))
+
+pub reads_short : (bytes : List ℕ) → 3 ≤ length bytes → get_or bytes 0 0 < 128 → get_or bytes 1 0 < 128 → get_or bytes 2 0 < 128
+    → bytes ≡ varint (get_or bytes 0 0) ++ (varint (get_or bytes 1 0) ++ (varint (get_or bytes 2 0) ++ take (length bytes - 3) (drop 3 bytes)))
+reads_short [] long small_s small_n small_m = absurd (omega (arith, long))
+reads_short (s ∷ []) long small_s small_n small_m = absurd (omega (arith, long))
+reads_short (s ∷ n ∷ []) long small_s small_n small_m = absurd (omega (arith, long))
+reads_short (s ∷ n ∷ m ∷ texts) long small_s small_n small_m =
+    short_lengths s n m texts small_s small_n small_m ∙ ap (λ z. varint s ++ (varint n ++ (varint m ++ z))) (sym (take_rest (s ∷ n ∷ m ∷ texts) 3))
+
+-- ---- the texts after them
+
+module _ (bytes : List ℕ) where
+  pub reads_no_lengths : ReadsLengths bytes None → ReadsEntry bytes None
   unfolding entry_bytes
-  reads_no_shared none entry left short e =
-      none entry.shared _ short.shared_fits (e ∙ spread entry.shared entry.rest entry.value left)
+  reads_no_lengths none entry left short e =
+      none entry.shared (length entry.rest) (length entry.value) _ short.shared_fits short.rest_fits short.value_fits (e ∙ spread entry.shared entry.rest entry.value left)
 
-  module _ (shared : ℕ) (a : List ℕ) (first : bytes ≡ varint shared ++ a) where
-    after_shared : (entry : BlockEntry) (left : List ℕ) → bytes ≡ entry_bytes entry ++ left → a ≡ varint (length entry.rest) ++ (varint (length entry.value) ++ (entry.rest ++ (entry.value ++ left)))
+  module _ (shared n m : ℕ) (c : List ℕ) (front : bytes ≡ varint shared ++ (varint n ++ (varint m ++ c))) where
+    after_lengths : (entry : BlockEntry) (left : List ℕ) → bytes ≡ entry_bytes entry ++ left → (n ≡ length entry.rest) × (m ≡ length entry.value) × (c ≡ entry.rest ++ (entry.value ++ left))
     unfolding entry_bytes
-    after_shared entry left e = (one_number shared entry.shared a _ (sym first ∙ e ∙ spread entry.shared entry.rest entry.value left)).1
+    after_lengths entry left e =
+        let first = one_number shared entry.shared _ _ (sym front ∙ e ∙ spread entry.shared entry.rest entry.value left) in
+        let second = one_number n (length entry.rest) _ _ first.1 in
+        let third = one_number m (length entry.value) c _ second.1 in
+        (second.0, third.0, third.1)
 
-    pub reads_no_rest_length : ReadsNumber a None → ReadsEntry bytes None
-    reads_no_rest_length none entry left short e = none (length entry.rest) _ short.rest_fits (after_shared entry left e)
+    texts_fit : (entry : BlockEntry) (left : List ℕ) → bytes ≡ entry_bytes entry ++ left → n + m ≤ length c
+    texts_fit entry left e =
+        let is = after_lengths entry left e in
+        omega (arith, is.0, is.1, ap length is.2, length-append entry.rest (entry.value ++ left), length-append entry.value left)
 
-    module _ (n : ℕ) (b : List ℕ) (second : a ≡ varint n ++ b) where
-      after_rest : (entry : BlockEntry) (left : List ℕ) → bytes ≡ entry_bytes entry ++ left → (n ≡ length entry.rest) × (b ≡ varint (length entry.value) ++ (entry.rest ++ (entry.value ++ left)))
-      after_rest entry left e = one_number n (length entry.rest) b _ (sym second ∙ after_shared entry left e)
+    pub reads_no_rest : length c < n → ReadsEntry bytes None
+    reads_no_rest short_texts entry left short e = omega (arith, short_texts, texts_fit entry left e)
 
-      pub reads_no_value_length : ReadsNumber b None → ReadsEntry bytes None
-      reads_no_value_length none entry left short e = none (length entry.value) _ short.value_fits (after_rest entry left e).1
+    module _ (rest after : List ℕ) (cut : IsSplitAt c n rest after) where
+      cut_whole : c ≡ rest ++ after
+      cut_whole = split_whole cut
 
-      module _ (m : ℕ) (c : List ℕ) (third : b ≡ varint m ++ c) where
-        after_value : (entry : BlockEntry) (left : List ℕ) → bytes ≡ entry_bytes entry ++ left → (m ≡ length entry.value) × (c ≡ entry.rest ++ (entry.value ++ left))
-        after_value entry left e = one_number m (length entry.value) c _ (sym third ∙ (after_rest entry left e).1)
+      fits : length rest ≡ n
+      fits = cut.3
 
-        texts_fit : (entry : BlockEntry) (left : List ℕ) → bytes ≡ entry_bytes entry ++ left → n + m ≤ length c
-        texts_fit entry left e =
-            let r = (after_rest entry left e).0 in
-            let v = after_value entry left e in
-            omega (arith, r, v.0, ap length v.1, length-append entry.rest (entry.value ++ left), length-append entry.value left)
+      pub reads_no_value : length after < m → ReadsEntry bytes None
+      reads_no_value short_texts entry left short e =
+          omega (arith, short_texts, fits, texts_fit entry left e, ap length cut_whole, length-append rest after)
 
-        pub reads_no_rest : length c < n → ReadsEntry bytes None
-        reads_no_rest short_texts entry left short e = omega (arith, short_texts, texts_fit entry left e)
-
-        module _ (rest after : List ℕ) (cut : IsSplitAt c n rest after) where
-          fourth : c ≡ rest ++ after
-          fourth = split_whole cut
-
-          fits : length rest ≡ n
-          fits = cut.3
-
-          pub reads_no_value : length after < m → ReadsEntry bytes None
-          reads_no_value short_texts entry left short e =
-              omega (arith, short_texts, fits, texts_fit entry left e, ap length fourth, length-append rest after)
-
-          pub reads_entry : (value left : List ℕ) → IsSplitAt after m value left → shared < 2 ^ 32 → n < 2 ^ 32 → m < 2 ^ 32
-              → LengthsFit (block_entry false shared rest value) × (bytes ≡ parts_bytes shared rest value ++ left)
-          reads_entry value left last fits_s fits_n fits_m = let size = last.3 in let fifth = split_whole last in (
-            record { shared_fits = fits_s; rest_fits = omega (arith, fits, fits_n); value_fits = omega (arith, size, fits_m) },
-            first ∙ ap (λ z. varint shared ++ z)
-                (second ∙ ap (λ z. varint z ++ b) (sym fits) ∙ ap (λ z. varint (length rest) ++ z)
-                (third ∙ ap (λ z. varint z ++ c) (sym size) ∙ ap (λ z. varint (length value) ++ z) (fourth ∙ ap (λ z. rest ++ z) fifth)))
-                ∙ sym (spread shared rest value left),
-          )
+      pub reads_entry : (value left : List ℕ) → IsSplitAt after m value left → shared < 2 ^ 32 → n < 2 ^ 32 → m < 2 ^ 32
+          → LengthsFit (block_entry false shared rest value) × (bytes ≡ parts_bytes shared rest value ++ left)
+      reads_entry value left last fits_s fits_n fits_m = let size = last.3 in let last_whole = split_whole last in (
+          record { shared_fits = fits_s; rest_fits = omega (arith, fits, fits_n); value_fits = omega (arith, size, fits_m) },
+          front ∙ ap (λ z. varint shared ++ z)
+              (ap (λ z. varint z ++ (varint m ++ c)) (sym fits) ∙ ap (λ z. varint (length rest) ++ z)
+              (ap (λ z. varint z ++ c) (sym size) ∙ ap (λ z. varint (length value) ++ z) (cut_whole ∙ ap (λ z. rest ++ z) last_whole)))
+              ∙ sym (spread shared rest value left),
+        )
 
 -- ---- numbers of four bytes
 

@@ -30,7 +30,7 @@ use Rattle.leveldb_table.specs.Block.{HasEntries}
 use Rattle.leveldb_table.specs.TableReaderMoves.{HasLine, InsideOr, ToBlock, ToFirstPair, ToLastPair, ToNextPair, ToPreviousPair, ToKeyInBlock, ToKeyByLine, ToKeyByLineIfLet, LookUpByLine, LookUpFromLine, line_for, Forward, Backward, ToFirst, ToNextBlock, ToPreviousBlock, ToKey, ToKeyIfLet}
 use Rattle.leveldb_table.proofs.BlockCacheLemmas.{GainsBlocks-refl, GainsBlocks-trans, GainsBlocks-weaker, HoldsOnlyOf-after}
 use Rattle.leveldb_table.proofs.TableBlockLemmas.{KeepsDisk-refl, FileHas-after, ForBytesOf-before, reads_then, reads_weaker, reads_own, reads_ok, reads_refused}
-use Rattle.leveldb_table.proofs.TableReaderWalkLemmas.{ok_refused, err_holds, some_none, some_there, same_handle, same_value, line_is_of, part_pairs, IsInto, is_there_along, parts_some, named_at, named_none, seek_in, seek_after, previous_block, lacks_some, next_in}
+use Rattle.leveldb_table.proofs.TableReaderWalkLemmas.{ok_refused, err_holds, some_none, some_there, same_handle, same_value, line_is_of, part_pairs, IsInto, is_there_along, parts_some, named_at, named_none, seek_in, seek_after, previous_block, last_block, lacks_some, next_in}
 use Rattle.leveldb_table.proofs.TableLemmas.{OnOk-with}
 
 -- for a block that the index names, and where it names none
@@ -328,6 +328,26 @@ module _ {C : Type 0} {order : CmpGhosts C} where
           },
         )
 
+  -- ---- to the end
+
+  module _ {codings : Codings} {cmp : List ℕ → List ℕ → Ordering} {bytes : List ℕ} {parts : List Part} {old : TableCore C order} (has : HasParts codings cmp bytes parts) (indexed : IsIndexed cmp parts old) where
+    -- to the last pair of the last block
+    pub last_is_there : (new : TableCore C order) → IsInto codings cmp bytes (last_position (pairs_over old.index)) last_position old new
+        → ((k : ℕ) × (inner_position new.inner ≡ Some k)) × IsAtPosition cmp parts new (last_position (pairs_in parts))
+    last_is_there new into =
+        let lines = into.lines ∙ indexed.lines in
+        let at = line_is_of new.index has lines into.some in
+        let pairs = part_pairs codings new.inner at.is (subst (λ l. IsBlockOf codings cmp bytes l (inner_block new.inner)) at.line into.block) in
+        let last = last_there at.part.pairs at.is.some in
+        let there : inner_position new.inner ≡ Some last.0 = into.position ∙ ap last_position pairs ∙ last.1 in (
+          (last.0, there),
+          record {
+            lines = lines;
+            ordered = ap order.cmp into.same_order ∙ indexed.ordered;
+            at = is_there_along parts (last_position (pairs_in parts)) at.at_line pairs there (last_block parts at.i at.part last.0 (ap last_position (sym indexed.lines) ∙ sym into.at_line ∙ at.at_line) at.there last.1);
+          },
+        )
+
 -- Moves of a walk over a table from block to block, whatever its file is.
 
 -- ---- inside a block
@@ -398,6 +418,11 @@ module _ (codings : Codings) (cmp : List ℕ → List ℕ → Ordering) (bytes :
   back_outside : (at : Option ℕ) (old : TablePosition) (out : Outcome) → at ≢ None → previous_position at ≡ None → ToLastPair codings cmp bytes lines (previous_position old.line) out → ToPreviousPair codings cmp bytes lines at old out
   back_outside None old out some first last = absurd (some refl)
   back_outside (Some i) old out some first last = outside (previous_position (Some i)) old out (ToLastPair codings cmp bytes lines (previous_position old.line) out) first last
+
+  -- without a line it comes nowhere
+  pub to_no_block : (to : List Pair → Option ℕ) (line : Option ℕ) (new : TablePosition) → line ≡ None → new.line ≡ None → new.inner ≡ None → ToBlock codings cmp bytes lines to line (Ok new)
+  to_no_block to None new none at inner = (at, inner)
+  to_no_block to (Some i) new none at inner = absurd (some_none none)
 
   pub seeks_none : (key : List ℕ) (line : Option ℕ) (new : TablePosition) → line ≡ None → new.line ≡ line → new.inner ≡ None → ToKeyByLine codings cmp bytes lines key line (Ok new)
   seeks_none key None new none at inner = (at, inner)

@@ -524,6 +524,41 @@ module _ {parts : List Part} {line : Option ℕ} {pairs : List Pair} {position :
       } in
       subst (IsAtPairOrNone parts (Some i) part.pairs (Some k)) (sym (prev_is n (length (pairs_in cut.before) + k) many)) is_there
 
+-- the last position of so many pairs
+last_is : (pairs : List Pair) (n : ℕ) → length pairs ≡ n + 1 → last_position pairs ≡ Some n
+last_is [] n e = absurd (omega (arith, e))
+last_is (pair ∷ pairs) n e = let same : length pairs ≡ n = omega (arith, e) in ap (λ z. Some z) same
+
+-- to the last pair of the last block
+pub last_block : (parts : List Part) (i : ℕ) (part : Part) (k : ℕ) → last_position (map index_pair parts) ≡ Some i → slice_get parts i ≡ Some part → last_position part.pairs ≡ Some k
+    → IsAtPairOrNone parts (Some i) part.pairs (Some k) (last_position (pairs_in parts))
+last_block parts i part k line there last =
+    let many = last_some (map index_pair parts) i line in
+    let long = last_some part.pairs k last in
+    let cut = split_at parts i part there in
+    let count = cut.count in
+    let none : cut.after ≡ [] = long_none cut.after (omega (arith, many, count, length-map parts index_pair, ap length cut.parted, length-append cut.before (part ∷ cut.after))) in
+    let all : pairs_in parts ≡ pairs_in cut.before ++ (part.pairs ++ []) = ap pairs_in (cut.parted ∙ ap (λ z. cut.before ++ part ∷ z) none) ∙ pairs_cut cut.before (part ∷ []) in
+    let counts : length (pairs_in parts) ≡ length (pairs_in cut.before) + k + 1 = omega (arith, long, ap length all, length-append (pairs_in cut.before) (part.pairs ++ []), length-append part.pairs []) in
+    let is_there : IsAtPair parts (Some i) part.pairs (Some k) (length (pairs_in cut.before) + k) = record {
+      before = cut.before;
+      part = part;
+      after = cut.after;
+      inner = k;
+      parted = cut.parted;
+      at_line = ap (λ z. Some z) (sym count);
+      same = refl;
+      at_position = refl;
+      within = omega (arith, long);
+      counts = refl;
+    } in
+    subst (IsAtPairOrNone parts (Some i) part.pairs (Some k)) (sym (last_is (pairs_in parts) (length (pairs_in cut.before) + k) counts)) is_there
+
+-- without blocks there is none
+pub last_of_none : (parts : List Part) → last_position (map index_pair parts) ≡ None → last_position (pairs_in parts) ≡ None
+last_of_none [] e = refl
+last_of_none (part ∷ parts) e = absurd (cc)
+
 -- Moves of a walk over a table: into which block they lead, and where the walk then is.
 
 -- ---- returns

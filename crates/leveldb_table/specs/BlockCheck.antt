@@ -7,6 +7,7 @@ use Rattle.byteorder.specs.Endian.{little_number}
 use Rattle.leveldb_base.specs.Varint.{varint}
 use Rattle.leveldb_table.specs.Block.{BlockEntry, parts_bytes, entry_bytes, key_of, pairs_of, LengthsFit, SharesFrom, AreEntries, RiseAfter, KeysRise, restart_points}
 use Rattle.leveldb_table.specs.declared.block.entry.EntryParts.{EntryParts}
+use Rattle.leveldb_table.specs.declared.block.entry.Lengths.{Lengths}
 
 -- the number, and the bytes after it
 abbrev pub borrowed_number : Option (ℕ × Bor (List ℕ)) → Option (ℕ × List ℕ)
@@ -18,6 +19,17 @@ borrowed_number (Some read) = Some (read.0, read.1.now)
 abbrev pub ReadsNumber : List ℕ → Option (ℕ × List ℕ) → Type 0
 ReadsNumber bytes (Some (n, left)) = (n < 2 ^ 32) × (bytes ≡ varint n ++ left)
 ReadsNumber bytes None = (n : ℕ) (left : List ℕ) → n < 2 ^ 32 → bytes ≡ varint n ++ left → ⊥
+
+-- what reading an entry's three lengths at the front of some bytes gives: the lengths and what
+-- follows them, or nothing where no encodings of three numbers of 32 bits are there
+abbrev pub ReadsLengths : List ℕ → Option (Lengths × Bor (List ℕ)) → Type 0
+ReadsLengths bytes (Some read) =
+    (read.0.shared < 2 ^ 32) × (read.0.rest < 2 ^ 32) × (read.0.value < 2 ^ 32)
+    × (bytes ≡ varint read.0.shared
+    ++ (varint read.0.rest ++ (varint read.0.value ++ read.1.now)))
+ReadsLengths bytes None =
+    (shared rest value : ℕ) (left : List ℕ) → shared < 2 ^ 32 → rest < 2 ^ 32 → value < 2 ^ 32
+    → bytes ≡ varint shared ++ (varint rest ++ (varint value ++ left)) → ⊥
 
 -- an entry of these parts
 abbrev pub block_entry : Bool → ℕ → List ℕ → List ℕ → BlockEntry

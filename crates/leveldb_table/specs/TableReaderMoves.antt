@@ -161,6 +161,12 @@ module _ {C : Type 0} {order : CmpGhosts C} where
       ToFirstPair codings cmp bytes (pairs_over old.index)
       (position_within (pairs_over old.index) 0) out
 
+  -- to the last pair of the last block
+  abbrev pub ToLast : Codings → (List ℕ → List ℕ → Ordering) → List ℕ → TableCore C order
+      → Outcome → Type 0
+  ToLast codings cmp bytes old out =
+      ToLastPair codings cmp bytes (pairs_over old.index) (last_position (pairs_over old.index)) out
+
   -- to the first pair of the next line's block, and to the last of that of the line before
   abbrev pub ToNextBlock : Codings → (List ℕ → List ℕ → Ordering) → List ℕ → TableCore C order
       → Outcome → Type 0

@@ -1,5 +1,5 @@
 //! Table builders, and the parts of a table's file that they share with its readers.
-ghost use Rattle.std.specs.Prelude.{◌≡◌, ◌+◌, ◌-◌, ◌^◌, ◌<◌, ◌++◌, ◌∷◌, ◌⊎◌, ◌≢◌, [], List, None, max, true, false, min, IfOk, IfErr, OnOk, OnErr, IsErrAnd};
+ghost use Rattle.std.specs.Prelude.{◌≡◌, ◌↔◌, ◌+◌, ◌-◌, ◌^◌, ◌<◌, ◌++◌, ◌∷◌, ◌⊎◌, ◌≢◌, [], List, None, max, true, false, min, IfOk, IfErr, OnOk, OnErr, IsErrAnd, IsTrue};
 ghost use Rattle.std.specs.declared.cmp.Ordering.TheVariants.{Less};
 ghost use Rattle.leveldb_env.specs.Compressor.{Codings, IsUnset};
 ghost use Rattle.leveldb_table.specs.TableBuilderFinish.{IsFinishError, StopsUnset};
@@ -139,6 +139,21 @@ impl<Dst: Sink, C: Cmp + Copy, FP: FilterPolicy + Copy> TableBuilder<Dst, C, FP>
         ensures { result ≡ min (table_estimate self.now.core) (2 ^ 64 - 1) }
     {
         self.core.size_estimate()
+    }
+
+    /// The key that was added last, empty where none was. A builder that is broken may have none.
+    pub fn last_key(&self) -> &[u8]
+        ensures { result.now ≡ last_of self.now.core }
+    {
+        self.core.last_key()
+    }
+
+    /// Whether the key is after the last one, as `add` requires, or the first.
+    pub fn follows(&self, key: &[u8]) -> bool
+        ensures { IsTrue result ↔ (0 < self.now.core.count
+            → C.cmp (order_of self.now.core) (last_of self.now.core) key.now ≡ Less) }
+    {
+        self.core.follows(key)
     }
 
     /// Adds a pair whose key is after all others. An open block that has more bytes than the

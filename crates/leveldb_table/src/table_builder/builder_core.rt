@@ -1,5 +1,5 @@
 //! What a table builder knows of its table, without the sink that the table moves to.
-ghost use Rattle.std.specs.Prelude.{◌≡◌, ◌≢◌, ◌⊎◌, ◌+◌, ◌-◌, ◌^◌, min, ◌<◌, ◌≤◌, ◌++◌, ◌∷◌, [], ℕ, List, Bool, true, false, Option, None, Some, Ok, IfOk, IfErr, IfSome, OnOk, OnErr, IsErr, IsErrAnd, length, codes, max};
+ghost use Rattle.std.specs.Prelude.{◌≡◌, ◌≢◌, ◌↔◌, ◌⊎◌, ◌+◌, ◌-◌, ◌^◌, min, ◌<◌, ◌≤◌, ◌++◌, ◌∷◌, [], ℕ, List, Bool, true, false, Option, None, Some, Ok, IfOk, IfErr, IfSome, OnOk, OnErr, IsErr, IsErrAnd, IsTrue, length, codes, max};
 ghost use Rattle.std.specs.declared.cmp.Ordering.TheVariants.{Less, Greater};
 ghost use Rattle.leveldb_base.specs.Cmp.{bytewise};
 ghost use Rattle.leveldb_base.specs.BlockHandle.{Handle, handle_bytes, HandleFits};
@@ -137,6 +137,21 @@ impl<C: Cmp + Copy, FP: FilterPolicy> BuilderCore<C, FP> {
             .saturating_add(self.filter.size_estimate())
             .saturating_add(self.offset)
             .saturating_add(FULL_FOOTER_LENGTH)
+    }
+
+    /// The key that was added last, empty where none was. A builder that is broken may have none.
+    pub fn last_key(&self) -> &[u8]
+        ensures { result.now ≡ last_of self.now }
+    {
+        self.block.last_key()
+    }
+
+    /// Whether the key is after the last one, as `add` requires, or the first.
+    pub fn follows(&self, key: &[u8]) -> bool
+        ensures { IsTrue result ↔ (0 < self.now.count
+            → C.cmp (order_of self.now) (last_of self.now) key.now ≡ Less) }
+    {
+        self.count == 0 || self.block.order().cmp(self.last_key(), key).is_lt()
     }
 
     /// Adds a pair whose key is after all others. An open block that is full is written before.

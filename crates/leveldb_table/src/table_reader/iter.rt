@@ -3,6 +3,7 @@ ghost use Rattle.std.specs.Prelude.{◌≡◌, ℕ, List, Option, None, Some, If
 ghost use Rattle.std.specs.declared.cmp.Ordering.{Ordering};
 ghost use Rattle.leveldb_base.specs.Types.{next_position, previous_position, seek_position, position_within, pair_of, pair_at};
 ghost use Rattle.leveldb_base.specs.Error.{IsOutOfMemory};
+ghost use Rattle.leveldb_table.specs.BlockWalk.{last_position};
 ghost use Rattle.leveldb_table.specs.Table.{Part};
 
 use crate::block_cache::BlockCache;
@@ -57,7 +58,7 @@ impl<E: Env, C: Cmp + Copy + Drop, FP: FilterPolicy> Table<E, C, FP> {
 }
 
 impl<'a, E: Env, C: Cmp + Copy + Drop, FP: FilterPolicy> TableIterator<'a, E, C, FP> {
-    ghost use Rattle.leveldb_table.specs.TableReaderMoves.{Forward, Backward, ToFirst, ToKey};
+    ghost use Rattle.leveldb_table.specs.TableReaderMoves.{Forward, Backward, ToFirst, ToLast, ToKey};
     ghost use Rattle.leveldb_table.specs.TableReader.{CanSeek, pairs_in};
     ghost use Rattle.leveldb_table.specs.TableReaderWalk.{MovesInTable, IsAtPosition, current_of, inner_position};
 
@@ -127,6 +128,21 @@ impl<'a, E: Env, C: Cmp + Copy + Drop, FP: FilterPolicy> TableIterator<'a, E, C,
     {
         self.core
             .seek_to_first(self.table, self.env, self.cache, compressors)
+    }
+
+    /// Moves to the last pair, or to no position in an empty table.
+    pub fn seek_to_last(&mut self, compressors: &CompressorList) -> Result<()>
+        ensures moves { MovesInTable E.Env (⟦<CompressorList as Compressors>⟧.codings
+            compressors.now) (C.cmp self.old.table.now.cmp) self.old.table.now.id
+            self.old.table.now.file (λ _. Unit {0}) (λ pairs _. last_position pairs) ToLast
+            self.old.env.now self.old.cache.now self.old.core result self.new.env.now
+            self.new.cache.now self.new.core }
+        ensures env_reference { self.new.env.ghost_name ≡ self.old.env.ghost_name }
+        ensures cache_reference { self.new.cache.ghost_name ≡ self.old.cache.ghost_name }
+        ensures table { self.new.table.now ≡ self.old.table.now }
+    {
+        self.core
+            .seek_to_last(self.table, self.env, self.cache, compressors)
     }
 
     /// The key and the value of the pair at which it is, borrowed until the walk moves.

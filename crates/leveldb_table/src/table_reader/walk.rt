@@ -38,7 +38,7 @@ pub struct TableCore<C: Cmp> {
 
 impl<C: Cmp + Copy + Drop> TableCore<C> {
     ghost use Rattle.leveldb_table.specs.TableReaderBlocks.{IsBlockAt, IsBlockOf, line_of, MovesFromLine};
-    ghost use Rattle.leveldb_table.specs.TableReaderMoves.{Forward, Backward, ToFirst, ToNextBlock, ToPreviousBlock, ToKey, ToKeyIfLet};
+    ghost use Rattle.leveldb_table.specs.TableReaderMoves.{Forward, Backward, ToFirst, ToLast, ToNextBlock, ToPreviousBlock, ToKey, ToKeyIfLet};
     ghost use Rattle.leveldb_table.specs.TableReader.{CanSeek, pairs_in, lines_of, lets};
     ghost use Rattle.leveldb_table.specs.TableReaderWalk.{MovesInTable, IsAtPosition, inner_block, inner_position, inner_pairs, current_of, pairs_over, position_over};
 
@@ -146,6 +146,23 @@ impl<C: Cmp + Copy + Drop> TableCore<C> {
     {
         self.reset();
         self.advance(table, env, cache, compressors)?;
+        Ok(())
+    }
+
+    /// Moves to the last pair, or to no position in an empty table.
+    pub fn seek_to_last<E: Env, FP: FilterPolicy>(
+        &mut self,
+        table: &Table<E, C, FP>,
+        env: &mut E,
+        cache: &mut BlockCache<C>,
+        compressors: &CompressorList,
+    ) -> Result<()>
+        ensures moves { MovesInTable E.Env (⟦<CompressorList as Compressors>⟧.codings
+            compressors.now) (C.cmp table.now.cmp) table.now.id table.now.file (λ _. Unit {0})
+            (λ pairs _. last_position pairs) ToLast env.old cache.old self.old result env.new
+            cache.new self.new }
+    {
+        self.to_last_block(table, env, cache, compressors)?;
         Ok(())
     }
 
@@ -290,6 +307,31 @@ impl<C: Cmp + Copy + Drop> TableCore<C> {
     {
         self.inner = None;
         if !self.index.prev()? {
+            return Ok(false);
+        }
+        self.load_line(table, env, cache, compressors)?;
+        if !self.to_last()? {
+            return self.empty_block_error();
+        }
+        Ok(true)
+    }
+
+    // Moves to the last pair of the last block, or without blocks to no position.
+    fn to_last_block<E: Env, FP: FilterPolicy>(
+        &mut self,
+        table: &Table<E, C, FP>,
+        env: &mut E,
+        cache: &mut BlockCache<C>,
+        compressors: &CompressorList,
+    ) -> Result<bool>
+        ensures enters { MovesFromLine E.Env (⟦<CompressorList as Compressors>⟧.codings
+            compressors.now) (C.cmp table.now.cmp) table.now.id table.now.file
+            (λ parts position. position ≡ last_position (pairs_in parts)) ToLast env.old cache.old
+            self.old result env.new cache.new self.new }
+    {
+        self.inner = None;
+        self.index.seek_to_last()?;
+        if !self.index.valid() {
             return Ok(false);
         }
         self.load_line(table, env, cache, compressors)?;
