@@ -6,7 +6,7 @@ use Rattle.std.proofs.lemmas.List.{drop-drop, length-take-le, take_all, take_at,
 use Rattle.std.specs.declared.cmp.Ordering.{Ordering}
 use borrow.Rule.Slice.PartMut.{put_mid, post_of}
 use Rattle.leveldb_base.specs.declared.error.Status.{Status}
-use Rattle.leveldb_base.specs.declared.error.StatusCode.TheVariants.{Corruption}
+use Rattle.leveldb_base.specs.declared.error.StatusCode.TheVariants.{Corruption, NotFound}
 use Rattle.leveldb_base.specs.Error.{IsOutOfMemory}
 use Rattle.leveldb_base.specs.BlockHandle.{Handle}
 use Rattle.leveldb_base.specs.Types.{Pair}
@@ -24,6 +24,11 @@ pub damaged_or_memory : {T Missing : Type 0} (result : Result T Status) → (IsE
     → IfErr result (λ status. (status.code ≡ Corruption) ⊎ IsOutOfMemory status) → IfErr result (λ status. IsOutOfMemory status ⊎ ((status.code ≡ Corruption) × Missing))
 damaged_or_memory (Ok answer) missing cause = tt
 damaged_or_memory (Err status) missing cause = ⊎_elim (λ code. inr (code, missing code)) (λ memory. inl memory) cause
+
+-- a file that is missing has no bytes
+missing_clash : (bytes : List ℕ) (found : Option File) → found ≡ None → IsSomeAnd found (λ file. bytes_of file ≡ bytes) → ⊥
+missing_clash bytes None none there = there
+missing_clash bytes (Some file) none there = cc
 
 module _ {E F : Type 0} (env : Ghosts E F) where
   -- ---- looking
@@ -63,108 +68,95 @@ module _ {E F : Type 0} (env : Ghosts E F) where
 
   -- ---- why a call fails
 
-  -- a name that is missing after a look was missing before it
-  missing_before : {old mid : E} {name : List ℕ} {status : Status} → KeepsDisk env old mid → IsMissing env.models_disk name (env.observed mid) status → IsMissing env.models_disk name (env.observed old) status
-  missing_before {name = name} kept_disk missing = ⊎_elim (λ memory. inl memory)
-      (λ none. inr (none.0, λ modelled. sym (ap (λ files. files name) (same_files kept_disk modelled)) ∙ none.1 modelled)) missing
-
-  -- and one that was missing before it is missing after it
-  missing_after : {old mid : E} {name : List ℕ} {status : Status} → KeepsDisk env old mid → IsMissing env.models_disk name (env.observed old) status → IsMissing env.models_disk name (env.observed mid) status
-  missing_after {name = name} kept_disk missing = ⊎_elim (λ memory. inl memory)
-      (λ none. inr (none.0, λ modelled. ap (λ files. files name) (same_files kept_disk modelled) ∙ none.1 modelled)) missing
-
   -- an Ok call
-  pub fails_ok : {T : Type 0} {Why : Status → Type 0} {old new : E} {file : F} {answer : T} → env.failures new ≡ env.failures old → FailsFor env Why old file new (Ok answer)
+  pub fails_ok : {T : Type 0} {Why : Status → Type 0} {old new : E} {answer : T} → env.failures new ≡ env.failures old → FailsFor env Why old new (Ok answer)
   fails_ok counted = record { later = omega (arith, counted); ok = counted; uncounted = tt; cause = tt }
 
   -- a refusal of the code's own, after Ok calls, or out of memory
-  pub fails_own : {T : Type 0} {Why P : Status → Type 0} {old new : E} {file : F} (result : Result T Status) → env.failures new ≡ env.failures old → IsErrAnd result P
-      → ((status : Status) → P status → IsOutOfMemory status ⊎ Why status) → FailsFor env Why old file new result
+  pub fails_own : {T : Type 0} {Why P : Status → Type 0} {old new : E} (result : Result T Status) → env.failures new ≡ env.failures old → IsErrAnd result P
+      → ((status : Status) → P status → IsOutOfMemory status ⊎ Why status) → FailsFor env Why old new result
   fails_own (Ok answer) counted refused why = absurd refused
   fails_own (Err status) counted refused why = record {
     later = omega (arith, counted);
     ok = tt;
     uncounted = λ excuse. counted;
-    cause = inl (⊎_elim (λ memory. inl (inl memory)) (λ own. inr (counted, own)) (why status refused));
+    cause = inl (⊎_elim (λ memory. inl memory) (λ own. inr (counted, own)) (why status refused));
   }
 
-  -- one call of the environment
-  pub fails_call : {T : Type 0} {Why : Status → Type 0} {old new : E} {file : F} (result : Result T Status)
-      → HasCause (IsMissing env.models_disk (env.name_of file) (env.observed old)) (env.failures old) (env.failures new) result → FailsFor env Why old file new result
-  fails_call (Ok answer) cause = record { later = cause.later; ok = cause.ok; uncounted = tt; cause = tt }
-  fails_call (Err status) cause = record {
+  -- one call of the environment that says that the file is missing, which is damage
+  pub fails_missing : {T U : Type 0} {old new : E} (file : F) (status : Status) (result : Result U Status) → status.code ≡ NotFound → IsErrAnd result (λ other. other.code ≡ Corruption)
+      → HasCause {T = T} (IsMissing env.models_disk (env.name_of file) (env.observed old)) (env.failures old) (env.failures new) (Err status)
+      → FailsFor env (IsDamaged env (λ _. ⊥) old file) old new result
+  fails_missing file status (Ok answer) code damaged cause = absurd damaged
+  fails_missing {old = old} file status (Err other) code damaged cause = record {
     later = cause.later;
     ok = tt;
-    uncounted = λ excuse. ⊎_elim (λ missing. cause.uncounted missing) (λ own. own.0) excuse;
-    cause = ⊎_elim (λ missing. inl (inl missing)) (λ counted. inr counted) cause.cause;
+    uncounted = λ excuse. ⊎_elim (λ memory. absurd (cc)) (λ own. own.0) excuse;
+    cause = ⊎_elim
+        (λ missing. inl (inr (cause.uncounted missing, (damaged, λ bytes has. ⊎_elim (λ memory. cc) (λ none. missing_clash bytes _ (none.1 has.modelled) has.there) missing))))
+        (λ counted. inr counted) cause.cause;
   }
 
   -- a call after Ok ones, whose reason is one of the whole's
-  pub fails_after : {T : Type 0} {Part Why : Status → Type 0} {old mid new : E} {file : F} (result : Result T Status) → KeepsDisk env old mid → env.failures mid ≡ env.failures old
-      → ((status : Status) → Part status → Why status) → FailsFor env Part mid file new result → FailsFor env Why old file new result
+  pub fails_after : {T : Type 0} {Part Why : Status → Type 0} {old mid new : E} (result : Result T Status) → KeepsDisk env old mid → env.failures mid ≡ env.failures old
+      → ((status : Status) → Part status → Why status) → FailsFor env Part mid new result → FailsFor env Why old new result
   fails_after (Ok answer) kept_disk counted why cause = record { later = omega (arith, counted, cause.later); ok = cause.ok ∙ counted; uncounted = tt; cause = tt }
   fails_after (Err status) kept_disk counted why cause = record {
     later = omega (arith, counted, cause.later);
     ok = tt;
-    uncounted = λ excuse. ⊎_elim (λ missing. cause.uncounted (inl (missing_after kept_disk missing)) ∙ counted) (λ own. own.0) excuse;
-    cause = ⊎_elim (λ excuse. inl (⊎_elim (λ missing. inl (missing_before kept_disk missing)) (λ own. inr (own.0 ∙ counted, why status own.1)) excuse))
+    uncounted = λ excuse. ⊎_elim (λ memory. cause.uncounted (inl memory) ∙ counted) (λ own. own.0) excuse;
+    cause = ⊎_elim (λ excuse. inl (⊎_elim (λ memory. inl memory) (λ own. inr (own.0 ∙ counted, why status own.1)) excuse))
         (λ more. inr (⊎_elim (λ one. inl (one ∙ ap (λ n. n + 1) counted)) (λ full. inr (sym counted ∙ full.0, full.1 ∙ counted)) more)) cause.cause;
   }
 
   -- more reasons
-  pub fails_weaker : {T : Type 0} {Part Why : Status → Type 0} {old new : E} {file : F} (result : Result T Status) → ((status : Status) → Part status → Why status)
-      → FailsFor env Part old file new result → FailsFor env Why old file new result
+  pub fails_weaker : {T : Type 0} {Part Why : Status → Type 0} {old new : E} (result : Result T Status) → ((status : Status) → Part status → Why status)
+      → FailsFor env Part old new result → FailsFor env Why old new result
   fails_weaker {old = old} result why cause = fails_after result (KeepsDisk-refl old) refl why cause
 
   -- a refusal that is passed on as another type of answer
-  pub fails_refused : {T U : Type 0} {Why : Status → Type 0} {old new : E} {file : F} {status : Status} (result : Result U Status) → IsErrAnd result (λ other. other ≡ status)
-      → FailsFor env {T = T} Why old file new (Err status) → FailsFor env Why old file new result
+  pub fails_refused : {T U : Type 0} {Why : Status → Type 0} {old new : E} {status : Status} (result : Result U Status) → IsErrAnd result (λ other. other ≡ status)
+      → FailsFor env {T = T} Why old new (Err status) → FailsFor env Why old new result
   fails_refused (Ok answer) same cause = absurd same
-  fails_refused {T} {U} {Why} {old} {new} {file} (Err other) same cause =
-      subst (λ z. FailsFor env {T = U} Why old file new (Err z)) (sym same) (cause_refused {T = T} {U = U} cause)
+  fails_refused {T} {U} {Why} {old} {new} (Err other) same cause =
+      subst (λ z. FailsFor env {T = U} Why old new (Err z)) (sym same) (cause_refused {T = T} {U = U} cause)
 
   -- ---- reading
 
   -- Ok calls
-  pub reads_ok : {T : Type 0} {Why : Status → Type 0} {old new : E} {file : F} {answer : T} → KeepsDisk env old new → env.failures new ≡ env.failures old → ReadsFile env Why old file new (Ok answer)
+  pub reads_ok : {T : Type 0} {Why : Status → Type 0} {old new : E} {answer : T} → KeepsDisk env old new → env.failures new ≡ env.failures old → ReadsFile env Why old new (Ok answer)
   reads_ok kept_disk counted = record { kept_disk = kept_disk; cause = fails_ok counted }
 
   -- Ok calls, and then a refusal of the code's own or out of memory
-  pub reads_own : {T : Type 0} {Why P : Status → Type 0} {old new : E} {file : F} (result : Result T Status) → KeepsDisk env old new → env.failures new ≡ env.failures old → IsErrAnd result P
-      → ((status : Status) → P status → IsOutOfMemory status ⊎ Why status) → ReadsFile env Why old file new result
+  pub reads_own : {T : Type 0} {Why P : Status → Type 0} {old new : E} (result : Result T Status) → KeepsDisk env old new → env.failures new ≡ env.failures old → IsErrAnd result P
+      → ((status : Status) → P status → IsOutOfMemory status ⊎ Why status) → ReadsFile env Why old new result
   reads_own result kept_disk counted refused why = record { kept_disk = kept_disk; cause = fails_own result counted refused why }
 
   -- Ok calls, and then another's refusal that is passed on
-  pub reads_passed : {T : Type 0} {Why : Status → Type 0} {old new : E} {file : F} {status : Status} (result : Result T Status) → KeepsDisk env old new → env.failures new ≡ env.failures old
-      → IsErrAnd result (λ other. other ≡ status) → IsOutOfMemory status ⊎ Why status → ReadsFile env Why old file new result
+  pub reads_passed : {T : Type 0} {Why : Status → Type 0} {old new : E} {status : Status} (result : Result T Status) → KeepsDisk env old new → env.failures new ≡ env.failures old
+      → IsErrAnd result (λ other. other ≡ status) → IsOutOfMemory status ⊎ Why status → ReadsFile env Why old new result
   reads_passed {Why = Why} {status = status} result kept_disk counted refused why =
       reads_own {P = λ other. other ≡ status} result kept_disk counted refused (λ other is. subst (λ z. IsOutOfMemory z ⊎ Why z) (sym is) why)
 
   -- Ok calls, and then an answer of the code's own, which may be a refusal
-  pub reads_ends : {T : Type 0} {Why : Status → Type 0} {old new : E} {file : F} (result : Result T Status) → KeepsDisk env old new → env.failures new ≡ env.failures old
-      → IfErr result (λ status. IsOutOfMemory status ⊎ Why status) → ReadsFile env Why old file new result
+  pub reads_ends : {T : Type 0} {Why : Status → Type 0} {old new : E} (result : Result T Status) → KeepsDisk env old new → env.failures new ≡ env.failures old
+      → IfErr result (λ status. IsOutOfMemory status ⊎ Why status) → ReadsFile env Why old new result
   reads_ends (Ok answer) kept_disk counted why = reads_ok kept_disk counted
   reads_ends {Why = Why} (Err status) kept_disk counted why = reads_passed {Why = Why} (Err status) kept_disk counted refl why
 
-  -- one call of the environment
-  pub reads_call : {T : Type 0} {Why : Status → Type 0} {old new : E} {file : F} {change : Files → Files} (result : Result T Status)
-      → ChangesFiles env.models_disk change FilesUnchanged (env.observed old) (env.observed new) result → SameLocks env.models_disk (env.observed old) (env.observed new)
-      → HasCause (IsMissing env.models_disk (env.name_of file) (env.observed old)) (env.failures old) (env.failures new) result → ReadsFile env Why old file new result
-  reads_call result does locks cause = record { kept_disk = KeepsDisk-call does locks; cause = fails_call result cause }
-
   -- a call after Ok ones, whose reason is one of the whole's
-  pub reads_then : {T : Type 0} {Part Why : Status → Type 0} {old mid new : E} {file : F} (result : Result T Status) → KeepsDisk env old mid → env.failures mid ≡ env.failures old
-      → ((status : Status) → Part status → Why status) → ReadsFile env Part mid file new result → ReadsFile env Why old file new result
+  pub reads_then : {T : Type 0} {Part Why : Status → Type 0} {old mid new : E} (result : Result T Status) → KeepsDisk env old mid → env.failures mid ≡ env.failures old
+      → ((status : Status) → Part status → Why status) → ReadsFile env Part mid new result → ReadsFile env Why old new result
   reads_then result kept_disk counted why reads = record { kept_disk = KeepsDisk-trans kept_disk reads.kept_disk; cause = fails_after result kept_disk counted why reads.cause }
 
   -- more reasons
-  pub reads_weaker : {T : Type 0} {Part Why : Status → Type 0} {old new : E} {file : F} (result : Result T Status) → ((status : Status) → Part status → Why status)
-      → ReadsFile env Part old file new result → ReadsFile env Why old file new result
+  pub reads_weaker : {T : Type 0} {Part Why : Status → Type 0} {old new : E} (result : Result T Status) → ((status : Status) → Part status → Why status)
+      → ReadsFile env Part old new result → ReadsFile env Why old new result
   reads_weaker result why reads = record { kept_disk = reads.kept_disk; cause = fails_weaker result why reads.cause }
 
   -- a refusal that is passed on as another type of answer
-  pub reads_refused : {T U : Type 0} {Why : Status → Type 0} {old new : E} {file : F} {status : Status} (result : Result U Status) → IsErrAnd result (λ other. other ≡ status)
-      → ReadsFile env {T = T} Why old file new (Err status) → ReadsFile env Why old file new result
+  pub reads_refused : {T U : Type 0} {Why : Status → Type 0} {old new : E} {status : Status} (result : Result U Status) → IsErrAnd result (λ other. other ≡ status)
+      → ReadsFile env {T = T} Why old new (Err status) → ReadsFile env Why old new result
   reads_refused result same reads = record { kept_disk = reads.kept_disk; cause = fails_refused result same reads.cause }
 
 -- Bytes of a file that are gathered by one read after another.
@@ -192,6 +184,11 @@ front_kept read room known more is = ap (λ z. take known (z ++ room)) (take_all
 -- ---- one read after another
 
 module _ {E F : Type 0} (env : Ghosts E F) where
+  -- what a read of a file gives of its bytes
+  pub reads_of : {offset count : ℕ} {target bytes : List ℕ} (found : Option File) → IsSomeAnd found (λ found_file. bytes_of found_file ≡ bytes) → ReadsAt found offset count target → ReadsFrom offset count target bytes
+  reads_of None there reads = absurd there
+  reads_of {offset} {count} {target} (Some found_file) same reads = subst (ReadsFrom offset count target) same reads
+
   -- these bytes of the file from an offset on were read by Ok calls
   pub record HasRead (old : E) (file : F) (offset : ℕ) (read : List ℕ) (new : E) : Type 0 where
     pub kept_disk : KeepsDisk env old new
@@ -206,31 +203,18 @@ module _ {E F : Type 0} (env : Ghosts E F) where
     bytes = λ bytes has. none ∙ sym (ap (λ z. take (length z) (drop offset bytes)) none);
   }
 
-  reads_of : {offset count : ℕ} {target bytes : List ℕ} (found : Option File) → IsSomeAnd found (λ found_file. bytes_of found_file ≡ bytes) → ReadsAt found offset count target → ReadsFrom offset count target bytes
-  reads_of None there reads = absurd there
-  reads_of {offset} {count} {target} (Some found_file) same reads = subst (ReadsFrom offset count target) same reads
-
   module _ (old mid : E) (file : F) (offset : ℕ) (read : List ℕ) (gathers : HasRead old file offset read mid) where
-    -- what a read after them gives of the file's bytes
-    next_is : (next count : ℕ) (target : List ℕ) → (IsTrue env.models_disk → ReadsAt ((env.observed mid).disk.files (env.name_of file)) next count target)
-        → ForBytesOf env old file (ReadsFrom next count target)
-    next_is next count target reads bytes has =
-        let there = FileHas-after env gathers.kept_disk has in
-        reads_of ((env.observed mid).disk.files (env.name_of file)) there.there (reads has.modelled)
-
     after_is : (next : ℕ) (bytes : List ℕ) → next ≡ offset + length read → drop (length read) (drop offset bytes) ≡ drop next bytes
     after_is next bytes at = drop-drop (length read) offset bytes ∙ ap (λ n. drop n bytes) (sym at)
 
     -- one read more
-    pub gathers_more : {new : E} {change : Files → Files} (next count : ℕ) (target more : List ℕ) → next ≡ offset + length read → count ≤ length target → more ≡ read ++ take count target
-        → ChangesFiles {T = ℕ} env.models_disk change FilesUnchanged (env.observed mid) (env.observed new) (Ok count) → SameLocks env.models_disk (env.observed mid) (env.observed new)
-        → HasCause {T = ℕ} (IsMissing env.models_disk (env.name_of file) (env.observed mid)) (env.failures mid) (env.failures new) (Ok count)
-        → (IsTrue env.models_disk → ReadsAt ((env.observed mid).disk.files (env.name_of file)) next count target) → HasRead old file offset more new
-    gathers_more next count target more at fits is does locks cause reads = record {
-      kept_disk = KeepsDisk-trans env gathers.kept_disk (KeepsDisk-call env does locks);
-      counted = cause.ok ∙ gathers.counted;
+    pub gathers_more : {new : E} (next count : ℕ) (target more : List ℕ) → next ≡ offset + length read → count ≤ length target → more ≡ read ++ take count target
+        → KeepsDisk env mid new → env.failures new ≡ env.failures mid → ForBytesOf env mid file (ReadsFrom next count target) → HasRead old file offset more new
+    gathers_more next count target more at fits is kept counted reads = record {
+      kept_disk = KeepsDisk-trans env gathers.kept_disk kept;
+      counted = counted ∙ gathers.counted;
       bytes = λ bytes has.
-          let from = next_is next count target reads bytes has in
+          let from = reads bytes (FileHas-after env gathers.kept_disk has) in
           let long : length more ≡ length read + count = omega (arith, ap length is, length-append read (take count target), length-take-le count target fits) in
           is ∙ ap (λ z. z ++ take count target) (gathers.bytes bytes has)
           ∙ ap (λ z. take (length read) (drop offset bytes) ++ z) (from.bytes_are ∙ ap (take count) (sym (after_is next bytes at)))
@@ -239,9 +223,9 @@ module _ {E F : Type 0} (env : Ghosts E F) where
 
     -- no bytes come where some are wanted: the file ends before
     pub ends_here : (size next : ℕ) (target : List ℕ) → length read < size → next ≡ offset + length read → 0 < length target
-        → (IsTrue env.models_disk → ReadsAt ((env.observed mid).disk.files (env.name_of file)) next 0 target) → ForBytesOf env old file (λ bytes. EndsBefore bytes offset size)
+        → ForBytesOf env mid file (ReadsFrom next 0 target) → ForBytesOf env old file (λ bytes. EndsBefore bytes offset size)
     ends_here size next target wanted at room reads bytes has =
-        let from = next_is next 0 target reads bytes has in
+        let from = reads bytes (FileHas-after env gathers.kept_disk has) in
         ⊎_elim (λ (none : target ≡ []). absurd (omega (arith, room, ap length none)))
         (λ (none : drop next bytes ≡ []). omega (arith, wanted, ap length (after_is next bytes at ∙ none), length-drop (length read) (drop offset bytes))) (from.none refl)
 

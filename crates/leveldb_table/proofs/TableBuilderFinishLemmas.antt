@@ -13,11 +13,12 @@ use Rattle.leveldb_base.specs.BlockHandle.{Handle, handle_bytes}
 use Rattle.leveldb_base.specs.declared.error.Status.{Status}
 use Rattle.leveldb_env.specs.FilterBlock.{FiltersBuilt, IsKeyKept, KeepsKeys, finished, passes}
 use Rattle.leveldb_env.specs.Compressor.{Codings, Decodes, Coding, IsEncodeError, IsUnset, decoded_under}
+use Rattle.leveldb_env.specs.Sink.{PutsAll}
 use Rattle.leveldb_table.specs.Block.{RiseAfter, KeysRise, IsBlock}
 use Rattle.leveldb_table.specs.BlockBuilder.{last_added, block_made}
 use Rattle.leveldb_table.specs.Table.{Part, IsPart, IsAtOrAfterAll, IsBeforeAll, AreParted, PartPasses, AllPass, filter_key, StoresAt, IsStoredUnder, with_trailer, index_pair, AreLinked, blocks_len, keys_for, filters_before, filters_for, HasFiltersAt, FiltersHold, HasTableBlocks, IsWritten}
 use Rattle.leveldb_table.specs.TableBuilderStage.{Stage, first_key, AreSeparated, KeepsAll, IsLaidOut}
-use Rattle.leveldb_table.specs.TableBuilder.{SeparatesUsers, MatchesByUser, IsEnd, IsPlaced, IsMeaningOf, AreMade, BuildsTable, IsBuiltTable, IsLast}
+use Rattle.leveldb_table.specs.TableBuilder.{PutsEnd, SeparatesUsers, MatchesByUser, IsEnd, IsPlaced, IsMeaningOf, AreMade, BuildsTable, IsBuiltTable, IsLast}
 use Rattle.leveldb_table.specs.Footer.{footer_bytes}
 use Rattle.leveldb_table.specs.PutBlock.{PutsBlock, IsNoMetaindex, StopsFrom}
 use Rattle.leveldb_table.specs.TableBuilderFinish.{StopsFromFilters, StopsFromMetaindex, StopsFromIndex, StopsUnset}
@@ -485,6 +486,7 @@ module _ {FP : Type 0} (codings : Codings) (accepts : List ℕ → Bool) (cmp : 
           meta = end.meta;
           index = end.index;
           tabled = is_tabled;
+          accepted = record { pairs = closed.accepted; lines = lines_accepted order sep separates laid.parts next closed };
           sorted = laid.sorted;
           pairs_are = in_parts;
           filters = (filters_hold, tt);
@@ -493,7 +495,6 @@ module _ {FP : Type 0} (codings : Codings) (accepts : List ℕ → Bool) (cmp : 
         written = is_written;
         exact = are_made;
         separated = separated_last sep laid.parts next (succ (last_added pairs)) (λ some. last.successor (lines_some stage.lines laid.parts laid.lined some)) laid.separated;
-        accepted = record { pairs = closed.accepted; lines = lines_accepted order sep separates laid.parts next closed };
         filtered = has_filters;
         exactly = exact_filters;
       }
@@ -568,3 +569,25 @@ module _ {S : Type 0} (puts : S → List ℕ → Result (Unit {0}) Status → S 
 
   pub block_ends : {id : ℕ} {stored : List ℕ} {from : S} {offset : ℕ} {handle : Handle} {end : ℕ} {to : S} → PutsBlock puts id stored from offset handle end to → end ≡ handle.offset + handle.size + 5
   block_ends put = omega (arith, put.ends, put.begins, put.size)
+
+-- what was put after the data blocks, whatever its pieces are
+pub PutsEnd-all : {FP S : Type 0} (puts : S → List ℕ → Result (Unit {0}) Status → S → Type 0) (flushes : S → Result (Unit {0}) Status → S → Type 0) {Decodes : ℕ → List ℕ → List ℕ → Type 0}
+    {cmp : List ℕ → List ℕ → Ordering} {make : List (List ℕ) → List ℕ} {id : ℕ} {name : List ℕ} {stage : Stage FP} {from : S} {size : ℕ} {to : S}
+    → (end : PutsEnd puts flushes Decodes cmp make id name stage from size to) → PutsAll puts from end.bytes end.mid
+PutsEnd-all puts flushes {id = id} end =
+    let is = end.ended in
+    record {
+      pieces = with_trailer 0 is.filters ∷ with_trailer id is.meta_stored ∷ with_trailer id is.index_stored ∷ footer_bytes is.meta is.index ∷ [];
+      put = end.put;
+      joined = is.encoded ∙ ap (λ z. with_trailer 0 is.filters ++ (with_trailer id is.meta_stored ++ (with_trailer id is.index_stored ++ z))) (sym (append-nil (footer_bytes is.meta is.index)));
+    }
+
+-- and by whatever equal choices it was put
+pub PutsEnd-same : {FP S : Type 0} (puts : S → List ℕ → Result (Unit {0}) Status → S → Type 0) (flushes : S → Result (Unit {0}) Status → S → Type 0) {Decodes : ℕ → List ℕ → List ℕ → Type 0}
+    {cmp other : List ℕ → List ℕ → Ordering} (make : FP → List (List ℕ) → List ℕ) (name : FP → List ℕ) {id other_id : ℕ} {policy other_policy : FP} {stage : Stage FP} {from : S} {size : ℕ} {to : S}
+    → cmp ≡ other → policy ≡ other_policy → id ≡ other_id → PutsEnd puts flushes Decodes cmp (make policy) id (name policy) stage from size to
+    → PutsEnd puts flushes Decodes other (make other_policy) other_id (name other_policy) stage from size to
+PutsEnd-same puts flushes {Decodes} {cmp} {other} make name {id} {other_id} {policy} {other_policy} {stage} {from} {size} {to} ordered same_policy same_id end =
+    subst (λ n. PutsEnd puts flushes Decodes other (make other_policy) n (name other_policy) stage from size to) same_id
+    (subst (λ p. PutsEnd puts flushes Decodes other (make p) id (name p) stage from size to) same_policy
+    (subst (λ o. PutsEnd puts flushes Decodes o (make policy) id (name policy) stage from size to) ordered end))

@@ -248,9 +248,9 @@ module _ {codings : Codings} {cmp : List ℕ → List ℕ → Ordering} {bytes :
       let same = ends_read tabled.front tabled.meta_is_there.is_there.fits tabled.index_is_there.is_there.fits tabled.ends opens.footer in
       blocks_one (has_one_block codings opens.meta_is_there (subst (λ h. HasBlockAt (Decodes codings) bytes h tabled.meta_text) (sym same.0) tabled.meta_is_there)) opens.meta_block tabled.meta_block
 
-module _ {codings : Codings} {cmp : List ℕ → List ℕ → Ordering} {meaning : List ℕ → Option (List ℕ → List ℕ → Bool)} {user : List ℕ → List ℕ} {bytes : List ℕ} {pairs : List Pair} (table : IsTable (Decodes codings) cmp meaning user bytes pairs) where
-  pub parts_there : HasParts codings cmp bytes table.parts
-  parts_there = record { each = table.tabled.each; parted = table.tabled.parted; sorted = subst (KeysRise cmp) table.pairs_are table.sorted }
+module _ {codings : Codings} {accepts : List ℕ → Bool} {cmp : List ℕ → List ℕ → Ordering} {meaning : List ℕ → Option (List ℕ → List ℕ → Bool)} {user : List ℕ → List ℕ} {bytes : List ℕ} {pairs : List Pair} (table : IsTable (Decodes codings) accepts cmp meaning user bytes pairs) where
+  pub parts_there : HasParts codings accepts cmp bytes table.parts
+  parts_there = record { each = table.tabled.each; parted = table.tabled.parted; sorted = subst (KeysRise cmp) table.pairs_are table.sorted; accepted = table.accepted }
 
   pub opened_pass : {name : List ℕ} {matches : List ℕ → List ℕ → Bool} {lines : List Pair} {meta index : Handle} {filters : Option (List (List ℕ))} → OpensAs codings cmp (filter_key name) bytes (length bytes) lines meta index filters → meaning name ≡ Some matches
       → IfSome filters (λ texts. AllPass matches user texts table.parts)
@@ -316,7 +316,7 @@ module _ {Decodes : ℕ → List ℕ → List ℕ → Type 0} (one : DecodesOne 
       ap (λ z. z ++ pairs_in parts) here ∙ ap (λ z. other.pairs ++ z) (pairs_one cmp parts others rest first.1 second.1)
 
 pub one_table : (Decodes : ℕ → List ℕ → List ℕ → Type 0) (cmp : List ℕ → List ℕ → Ordering) → OneTable Decodes cmp
-one_table Decodes cmp one meaning other user part file pairs others first second =
+one_table Decodes cmp one accepts others_accept meaning other user part file pairs others first second =
     let f = first.tabled in
     let g = second.tabled in
     let same = ends_one f.front g.front f.meta_is_there.is_there.fits f.index_is_there.is_there.fits g.meta_is_there.is_there.fits g.index_is_there.is_there.fits f.ends g.ends in
@@ -438,10 +438,10 @@ module _ {accepts : List ℕ → Bool} {cmp : List ℕ → List ℕ → Ordering
               after first parts lines.0 some.1 rest later parted pass (not_less (cmp first.index_key key) e) (subst (λ p. passes matches filters p.handle.offset key ≡ false) (sym same) stopped))
         ] refl named)
 
-    pub refused_there : {codings : Codings} {bytes : List ℕ} (parts : List Part) (part : Part) → HasParts codings cmp bytes parts → AreAccepted accepts parts → AllPass matches user filters parts → named_part cmp key parts ≡ Some part
+    pub refused_there : {codings : Codings} {bytes : List ℕ} (parts : List Part) (part : Part) → HasParts codings accepts cmp bytes parts → AllPass matches user filters parts → named_part cmp key parts ≡ Some part
         → passes matches filters part.handle.offset key ≡ false → HasNoneFrom cmp user key (pairs_in parts)
-    refused_there parts part has accepted pass named stopped =
-        refused parts part (all_with _ (λ other. other.pairs ≢ []) (λ other is. is.some) parts has.each) accepted.pairs accepted.lines has.sorted has.parted pass named stopped
+    refused_there parts part has pass named stopped =
+        refused parts part (all_with _ (λ other. other.pairs ≢ []) (λ other is. is.some) parts has.each) has.accepted.pairs has.accepted.lines has.sorted has.parted pass named stopped
 
 -- ---- users' keys that are together
 

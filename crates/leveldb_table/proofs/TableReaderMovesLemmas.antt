@@ -14,7 +14,7 @@ use Rattle.leveldb_base.specs.Error.{IsOutOfMemory}
 use Rattle.leveldb_env.specs.declared.env.Env.{Ghosts as EnvGhosts}
 use Rattle.leveldb_env.specs.Compressor.{Codings}
 use Rattle.leveldb_table.specs.Cache.{Cached}
-use Rattle.leveldb_table.specs.Table.{Part, index_pair, named_part, AreAccepted}
+use Rattle.leveldb_table.specs.Table.{Part, index_pair, named_part}
 use Rattle.leveldb_table.specs.BlockCache.{HoldsOnlyOf, IsBlockOfFile, GainsBlocks}
 use Rattle.leveldb_table.specs.TableReaderBlocks.{IsAfterLine, IsBeforeBlock, let_position, IsBlockAt, IsBlockOf, line_of, IsIndexed, MovesFromLine}
 use Rattle.leveldb_table.specs.TableReader.{pairs_in, HasParts}
@@ -118,13 +118,13 @@ module _ {C : Type 0} {order : CmpGhosts C} where
 
   -- ---- one call after another
 
-  module _ {E F : Type 0} {env : EnvGhosts E F} {codings : Codings} {cmp : List ℕ → List ℕ → Ordering} {id : ℕ} {file : F} where
+  module _ {E F : Type 0} {env : EnvGhosts E F} {codings : Codings} {accepts : List ℕ → Bool} {cmp : List ℕ → List ℕ → Ordering} {id : ℕ} {file : F} where
     -- after Ok calls that leave the index
     pub enters_then : {T : Type 0} {Fit Way : List Part → Option ℕ → Type 0} {Part_step Step : Codings → (List ℕ → List ℕ → Ordering) → List ℕ → TableCore C order → Outcome → Type 0} {old_env mid_env new_env : E} {old_cache mid_cache new_cache : Cached (CachedBlock C order)} {mid new : TableCore C order} {result : Result T Status} (old : TableCore C order)
         → KeepsDisk env old_env mid_env → env.failures mid_env ≡ env.failures old_env → GainsBlocks id (λ offset held. ForBytesOf env old_env file (λ bytes. IsBlockOfFile codings cmp bytes offset held)) old_cache mid_cache → pairs_over mid.index ≡ pairs_over old.index → mid.index.block.cmp ≡ old.index.block.cmp
-        → ((bytes : List ℕ) → FileHas env old_env file bytes → (parts : List Part) (position : Option ℕ) → HasParts codings cmp bytes parts → Fit parts position → HoldsOnlyOf codings cmp id bytes old_cache → IsIndexed cmp parts old → Way parts position)
+        → ((bytes : List ℕ) → FileHas env old_env file bytes → (parts : List Part) (position : Option ℕ) → HasParts codings accepts cmp bytes parts → Fit parts position → HoldsOnlyOf codings cmp id bytes old_cache → IsIndexed cmp parts old → Way parts position)
         → ((bytes : List ℕ) → FileHas env old_env file bytes → HoldsOnlyOf codings cmp id bytes old_cache → (out : Outcome) → Part_step codings cmp bytes mid out → Step codings cmp bytes old out)
-        → MovesFromLine env codings cmp id file Way Part_step mid_env mid_cache mid result new_env new_cache new → MovesFromLine env codings cmp id file Fit Step old_env old_cache old result new_env new_cache new
+        → MovesFromLine env codings accepts cmp id file Way Part_step mid_env mid_cache mid result new_env new_cache new → MovesFromLine env codings accepts cmp id file Fit Step old_env old_cache old result new_env new_cache new
     enters_then {Part_step = Part_step} {Step = Step} {old_env = old_env} {old_cache = old_cache} {mid_cache = mid_cache} {mid = mid} {new = new} {result = result} old kept_disk counted gathers lines same way step enters =
         let held : (bytes : List ℕ) → FileHas env old_env file bytes → HoldsOnlyOf codings cmp id bytes old_cache → HoldsOnlyOf codings cmp id bytes mid_cache = λ bytes has. HoldsOnlyOf-after (λ offset held right. right bytes has) gathers in
         let indexed : (parts : List Part) → IsIndexed cmp parts old → IsIndexed cmp parts mid = λ parts is. record { lines = lines ∙ is.lines; ordered = ap order.cmp same ∙ is.ordered } in
@@ -146,7 +146,7 @@ module _ {C : Type 0} {order : CmpGhosts C} where
 
     -- with another answer
     pub enters_ok : {T U : Type 0} {Fit : List Part → Option ℕ → Type 0} {Step : Codings → (List ℕ → List ℕ → Ordering) → List ℕ → TableCore C order → Outcome → Type 0} {old_env new_env : E} {old_cache new_cache : Cached (CachedBlock C order)} {old new : TableCore C order} {answer : T} (other : U)
-        → MovesFromLine env codings cmp id file Fit Step old_env old_cache old (Ok answer) new_env new_cache new → MovesFromLine env codings cmp id file Fit Step old_env old_cache old (Ok other) new_env new_cache new
+        → MovesFromLine env codings accepts cmp id file Fit Step old_env old_cache old (Ok answer) new_env new_cache new → MovesFromLine env codings accepts cmp id file Fit Step old_env old_cache old (Ok other) new_env new_cache new
     enters_ok other enters = record {
       reads = reads_ok env enters.reads.kept_disk enters.reads.cause.ok;
       ok = enters.ok;
@@ -159,7 +159,7 @@ module _ {C : Type 0} {order : CmpGhosts C} where
 
     -- or a refusal that is passed on
     pub enters_refused : {T U : Type 0} {Fit : List Part → Option ℕ → Type 0} {Step : Codings → (List ℕ → List ℕ → Ordering) → List ℕ → TableCore C order → Outcome → Type 0} {old_env new_env : E} {old_cache new_cache : Cached (CachedBlock C order)} {old new : TableCore C order} {status : Status} (result : Result U Status) → IsErrAnd result (λ other. other ≡ status)
-        → MovesFromLine {T = T} env codings cmp id file Fit Step old_env old_cache old (Err status) new_env new_cache new → MovesFromLine env codings cmp id file Fit Step old_env old_cache old result new_env new_cache new
+        → MovesFromLine {T = T} env codings accepts cmp id file Fit Step old_env old_cache old (Err status) new_env new_cache new → MovesFromLine env codings accepts cmp id file Fit Step old_env old_cache old result new_env new_cache new
     enters_refused result same enters = record {
       reads = reads_refused env result same enters.reads;
       ok = λ bytes has parts position right fit holds is. ok_refused _ _ result same;
@@ -172,8 +172,8 @@ module _ {C : Type 0} {order : CmpGhosts C} where
 
     -- no call, and no position
     pub enters_ends : {T : Type 0} {Fit : List Part → Option ℕ → Type 0} {Step : Codings → (List ℕ → List ℕ → Ordering) → List ℕ → TableCore C order → Outcome → Type 0} {state : E} {cache : Cached (CachedBlock C order)} (old new : TableCore C order) (answer : T) → pairs_over new.index ≡ pairs_over old.index → new.index.block.cmp ≡ old.index.block.cmp
-        → inner_position new.inner ≡ None → ((bytes : List ℕ) → (parts : List Part) (position : Option ℕ) → HasParts codings cmp bytes parts → Fit parts position → IsIndexed cmp parts old → position ≡ None)
-        → ((bytes : List ℕ) → Step codings cmp bytes old (Ok (table_position new))) → MovesFromLine env codings cmp id file Fit Step state cache old (Ok answer) state cache new
+        → inner_position new.inner ≡ None → ((bytes : List ℕ) → (parts : List Part) (position : Option ℕ) → HasParts codings accepts cmp bytes parts → Fit parts position → IsIndexed cmp parts old → position ≡ None)
+        → ((bytes : List ℕ) → Step codings cmp bytes old (Ok (table_position new))) → MovesFromLine env codings accepts cmp id file Fit Step state cache old (Ok answer) state cache new
     enters_ends {state = state} {cache = cache} old new answer lines same none way step = record {
       reads = reads_ok env (KeepsDisk-refl env state) refl;
       ok = λ bytes has parts position right fit holds is. record {
@@ -191,8 +191,8 @@ module _ {C : Type 0} {order : CmpGhosts C} where
     -- no call, and a refusal
     pub enters_own : {T : Type 0} {P : Status → Type 0} {Fit : List Part → Option ℕ → Type 0} {Step : Codings → (List ℕ → List ℕ → Ordering) → List ℕ → TableCore C order → Outcome → Type 0} {state : E} {cache : Cached (CachedBlock C order)} (old new : TableCore C order) (result : Result T Status) → pairs_over new.index ≡ pairs_over old.index → new.index.block.cmp ≡ old.index.block.cmp
         → inner_position new.inner ≡ None → IsErrAnd result P
-        → ((status : Status) → P status → IsOutOfMemory status ⊎ ((status.code ≡ Corruption) × ((bytes : List ℕ) → ((parts : List Part) (position : Option ℕ) → HasParts codings cmp bytes parts → Fit parts position → IsIndexed cmp parts old → ⊥) × Step codings cmp bytes old (Err status))))
-        → MovesFromLine env codings cmp id file Fit Step state cache old result state cache new
+        → ((status : Status) → P status → IsOutOfMemory status ⊎ ((status.code ≡ Corruption) × ((bytes : List ℕ) → ((parts : List Part) (position : Option ℕ) → HasParts codings accepts cmp bytes parts → Fit parts position → IsIndexed cmp parts old → ⊥) × Step codings cmp bytes old (Err status))))
+        → MovesFromLine env codings accepts cmp id file Fit Step state cache old result state cache new
     enters_own {state = state} {cache = cache} old new result lines same none refused why = record {
       reads = reads_own env result (KeepsDisk-refl env state) refl refused (λ status is. ⊎_elim inl (λ lacks. inr (inl lacks.0, λ bytes has. (λ parts position right fit holds indexed. (lacks.1 bytes).0 parts position right fit indexed, λ holds. (lacks.1 bytes).1))) (why status is));
       ok = λ bytes has parts position right fit holds is. ok_refused _ _ result refused;
@@ -205,8 +205,8 @@ module _ {C : Type 0} {order : CmpGhosts C} where
 
     -- from no position to the first pair is by a step
     pub moves_first : {T : Type 0} {Part_step Step : Codings → (List ℕ → List ℕ → Ordering) → List ℕ → TableCore C order → Outcome → Type 0} {old_env new_env : E} {old_cache new_cache : Cached (CachedBlock C order)} {mid new : TableCore C order} {result : Result T Status} (old : TableCore C order) → mid.index ≡ old.index → mid.inner ≡ None
-        → ((bytes : List ℕ) (out : Outcome) → Part_step codings cmp bytes mid out → Step codings cmp bytes old out) → MovesInTable env codings cmp id file (λ _. Unit {0}) next_position Part_step old_env old_cache mid result new_env new_cache new
-        → MovesInTable env codings cmp id file (λ _. Unit {0}) (λ pairs _. position_within pairs 0) Step old_env old_cache old result new_env new_cache new
+        → ((bytes : List ℕ) (out : Outcome) → Part_step codings cmp bytes mid out → Step codings cmp bytes old out) → MovesInTable env codings accepts cmp id file (λ _. Unit {0}) next_position Part_step old_env old_cache mid result new_env new_cache new
+        → MovesInTable env codings accepts cmp id file (λ _. Unit {0}) (λ pairs _. position_within pairs 0) Step old_env old_cache old result new_env new_cache new
     moves_first {Part_step = Part_step} {Step = Step} {mid = mid} {new = new} {result = result} old index none step moves =
         let at : (parts : List Part) (position : Option ℕ) → IsAtPosition cmp parts old position → IsAtPosition cmp parts mid None = λ parts position is_there. record {
           lines = ap pairs_over index ∙ is_there.lines;
@@ -230,7 +230,7 @@ module _ {C : Type 0} {order : CmpGhosts C} where
         }
 
     pub moves_ok : {T U : Type 0} {Fit : List Part → Type 0} {to : List Pair → Option ℕ → Option ℕ} {Step : Codings → (List ℕ → List ℕ → Ordering) → List ℕ → TableCore C order → Outcome → Type 0} {old_env new_env : E} {old_cache new_cache : Cached (CachedBlock C order)} {old new : TableCore C order} {answer : T} (other : U)
-        → MovesInTable env codings cmp id file Fit to Step old_env old_cache old (Ok answer) new_env new_cache new → MovesInTable env codings cmp id file Fit to Step old_env old_cache old (Ok other) new_env new_cache new
+        → MovesInTable env codings accepts cmp id file Fit to Step old_env old_cache old (Ok answer) new_env new_cache new → MovesInTable env codings accepts cmp id file Fit to Step old_env old_cache old (Ok other) new_env new_cache new
     moves_ok other moves = record {
       reads = reads_ok env moves.reads.kept_disk moves.reads.cause.ok;
       ok = moves.ok;
@@ -242,7 +242,7 @@ module _ {C : Type 0} {order : CmpGhosts C} where
     }
 
     pub moves_refused : {T U : Type 0} {Fit : List Part → Type 0} {to : List Pair → Option ℕ → Option ℕ} {Step : Codings → (List ℕ → List ℕ → Ordering) → List ℕ → TableCore C order → Outcome → Type 0} {old_env new_env : E} {old_cache new_cache : Cached (CachedBlock C order)} {old new : TableCore C order} {status : Status} (result : Result U Status)
-        → IsErrAnd result (λ other. other ≡ status) → MovesInTable {T = T} env codings cmp id file Fit to Step old_env old_cache old (Err status) new_env new_cache new → MovesInTable env codings cmp id file Fit to Step old_env old_cache old result new_env new_cache new
+        → IsErrAnd result (λ other. other ≡ status) → MovesInTable {T = T} env codings accepts cmp id file Fit to Step old_env old_cache old (Err status) new_env new_cache new → MovesInTable env codings accepts cmp id file Fit to Step old_env old_cache old result new_env new_cache new
     moves_refused result same moves = record {
       reads = reads_refused env result same moves.reads;
       ok = λ bytes has parts position right fit holds is_there. ok_refused _ _ result same;
@@ -265,12 +265,12 @@ module _ {C : Type 0} {order : CmpGhosts C} where
   index_line parts index key position lines ordered line =
       ap (λ (o : List ℕ → List ℕ → Ordering). seek_position o (map index_pair parts) key) (sym ordered) ∙ ap (λ z. seek_position (order.cmp index.block.cmp) z key) (sym lines) ∙ sym line
 
-  module _ {codings : Codings} {cmp : List ℕ → List ℕ → Ordering} {bytes : List ℕ} {parts : List Part} {old : TableCore C order} (key : List ℕ) (has : HasParts codings cmp bytes parts) (indexed : IsIndexed cmp parts old)
+  module _ {codings : Codings} {accepts : List ℕ → Bool} {cmp : List ℕ → List ℕ → Ordering} {bytes : List ℕ} {parts : List Part} {old : TableCore C order} (key : List ℕ) (has : HasParts codings accepts cmp bytes parts) (indexed : IsIndexed cmp parts old)
       (line : position_over old.index ≡ seek_position (order.cmp old.index.block.cmp) (pairs_over old.index) key) where
     sought_line : seek_position cmp (map index_pair parts) key ≡ position_over old.index
     sought_line = index_line parts old.index key (position_over old.index) indexed.lines indexed.ordered line
 
-    module _ {accepts : List ℕ → Bool} (preorder : IsPreorderOn accepts cmp) (accepted : AreAccepted accepts parts) (fit : accepts key ≡ true) where
+    module _ (preorder : IsPreorderOn accepts cmp) (fit : accepts key ≡ true) where
       -- in the line's block
       pub sought_in : (new : TableCore C order) → is_some (position_over old.index) ≡ true → IsSought codings cmp bytes key old new → is_some (inner_position new.inner) ≡ true → IsAtPosition cmp parts new (seek_position cmp (pairs_in parts) key)
       sought_in new some sought there =
@@ -281,7 +281,7 @@ module _ {C : Type 0} {order : CmpGhosts C} where
             lines = ap pairs_over sought.index ∙ indexed.lines;
             ordered = ap (λ (z : BlockWalk C order). order.cmp z.block.cmp) sought.index ∙ indexed.ordered;
             at = is_there_along parts (seek_position cmp (pairs_in parts) key) (ap position_over sought.index ∙ at.at_line) pairs found.1
-                (seek_in preorder has.parted accepted key fit at.i at.part found.0 (sought_line ∙ at.at_line) at.there (ap (λ z. seek_position cmp z key) (sym pairs) ∙ sym sought.position ∙ found.1));
+                (seek_in preorder has.parted has.accepted key fit at.i at.part found.0 (sought_line ∙ at.at_line) at.there (ap (λ z. seek_position cmp z key) (sym pairs) ∙ sym sought.position ∙ found.1));
           }
 
       -- or in the next one
@@ -289,7 +289,7 @@ module _ {C : Type 0} {order : CmpGhosts C} where
       sought_after new some sought none =
           let at = line_is_of old.index has indexed.lines some in
           let pairs = part_pairs codings new.inner at.is (subst (λ l. IsBlockOf codings cmp bytes l (inner_block new.inner)) at.line sought.block) in
-          let found_after = seek_after preorder has.parted accepted key fit (parts_some has) at.i at.part (sought_line ∙ at.at_line) at.there (ap (λ z. seek_position cmp z key) (sym pairs) ∙ sym sought.position ∙ none) in
+          let found_after = seek_after preorder has.parted has.accepted key fit (parts_some has) at.i at.part (sought_line ∙ at.at_line) at.there (ap (λ z. seek_position cmp z key) (sym pairs) ∙ sym sought.position ∙ none) in
           record {
             before = found_after.before;
             after = found_after.after;
@@ -299,8 +299,8 @@ module _ {C : Type 0} {order : CmpGhosts C} where
           }
 
   -- where the filters let the key pass or not at the handle of the line
-  pub let_by : {codings : Codings} {cmp : List ℕ → List ℕ → Ordering} {bytes : List ℕ} {parts : List Part} (index : BlockWalk C order) (key line_key value : List ℕ) (handle : Handle) (lets : ℕ → List ℕ → Bool) (b : Bool)
-      → HasParts codings cmp bytes parts → pairs_over index ≡ map index_pair parts → seek_position cmp (map index_pair parts) key ≡ position_over index → pair_at (pairs_over index) (position_over index) ≡ Some (line_key, value)
+  pub let_by : {codings : Codings} {accepts : List ℕ → Bool} {cmp : List ℕ → List ℕ → Ordering} {bytes : List ℕ} {parts : List Part} (index : BlockWalk C order) (key line_key value : List ℕ) (handle : Handle) (lets : ℕ → List ℕ → Bool) (b : Bool)
+      → HasParts codings accepts cmp bytes parts → pairs_over index ≡ map index_pair parts → seek_position cmp (map index_pair parts) key ≡ position_over index → pair_at (pairs_over index) (position_over index) ≡ Some (line_key, value)
       → value ≡ handle_bytes handle → lets handle.offset key ≡ b → let_position cmp lets key parts ≡ (if b then seek_position cmp (pairs_in parts) key else None)
   let_by {cmp = cmp} {parts = parts} index key line_key value handle lets b has lines sought is names passes =
       let at = line_is_of index has lines (position_there (pairs_over index) (position_over index) is) in
@@ -309,7 +309,7 @@ module _ {C : Type 0} {order : CmpGhosts C} where
 
   -- ---- back
 
-  module _ {codings : Codings} {cmp : List ℕ → List ℕ → Ordering} {bytes : List ℕ} {parts : List Part} {position : Option ℕ} {old : TableCore C order} (has : HasParts codings cmp bytes parts)
+  module _ {codings : Codings} {accepts : List ℕ → Bool} {cmp : List ℕ → List ℕ → Ordering} {bytes : List ℕ} {parts : List Part} {position : Option ℕ} {old : TableCore C order} (has : HasParts codings accepts cmp bytes parts)
       (before : IsBeforeBlock parts (position_over old.index) position) (indexed : IsIndexed cmp parts old) where
     -- to its last pair
     pub previous_is_there : (new : TableCore C order) → IsInto codings cmp bytes (previous_position (position_over old.index)) last_position old new → ((k : ℕ) × (inner_position new.inner ≡ Some k)) × IsAtPosition cmp parts new position
@@ -357,12 +357,12 @@ is_there_on : (parts : List Part) (line : Option ℕ) (pairs : List Pair) (inner
 is_there_on parts line pairs inner None k some on at = absurd (some at)
 is_there_on parts line pairs inner (Some n) k some on at = next_in at k on
 
-module _ {C E F T : Type 0} {order : CmpGhosts C} {env : EnvGhosts E F} {codings : Codings} {cmp : List ℕ → List ℕ → Ordering} {id : ℕ} {file : F} {Fit : List Part → Type 0}
+module _ {C E F T : Type 0} {order : CmpGhosts C} {env : EnvGhosts E F} {codings : Codings} {accepts : List ℕ → Bool} {cmp : List ℕ → List ℕ → Ordering} {id : ℕ} {file : F} {Fit : List Part → Type 0}
     {Step : Codings → (List ℕ → List ℕ → Ordering) → List ℕ → TableCore C order → Outcome → Type 0} {state : E} {cache : Cached (CachedBlock C order)} where
   -- a step to the next pair of the block
   pub moves_inside : (old new : TableCore C order) (answer : T) → inner_position old.inner ≢ None → new.index ≡ old.index → inner_pairs new.inner ≡ inner_pairs old.inner
       → inner_position new.inner ≡ next_position (inner_pairs old.inner) (inner_position old.inner) → is_some (inner_position new.inner) ≡ true → ((bytes : List ℕ) → Step codings cmp bytes old (Ok (table_position new)))
-      → MovesInTable env codings cmp id file Fit next_position Step state cache old (Ok answer) state cache new
+      → MovesInTable env codings accepts cmp id file Fit next_position Step state cache old (Ok answer) state cache new
   moves_inside old new answer some index pairs on there step =
       let found = some_there (inner_position new.inner) there in
       record {

@@ -84,7 +84,7 @@ all_at P (first ∷ parts) zero part e all = let same : first ≡ part = cc in s
 all_at P (first ∷ parts) (suc i) part e all = all_at P parts i part e all.1
 
 -- none of a file's data blocks is empty
-pub parts_some : {codings : Codings} {cmp : List ℕ → List ℕ → Ordering} {bytes : List ℕ} {parts : List Part} → HasParts codings cmp bytes parts → AllByRecursion (λ part. part.pairs ≢ []) parts
+pub parts_some : {codings : Codings} {accepts : List ℕ → Bool} {cmp : List ℕ → List ℕ → Ordering} {bytes : List ℕ} {parts : List Part} → HasParts codings accepts cmp bytes parts → AllByRecursion (λ part. part.pairs ≢ []) parts
 parts_some {codings} {cmp} {bytes} {parts} has = all_with (IsPart (Decodes codings) cmp bytes) (λ part. part.pairs ≢ []) (λ part is. is.some) parts has.each
 
 -- ---- where a walk is
@@ -652,7 +652,7 @@ module _ {C : Type 0} {order : CmpGhosts C} where
   within_lines : (index : BlockWalk C order) (i : ℕ) → position_over index ≡ Some i → i < length (pairs_over index)
   within_lines index i e = let P : Option ℕ → Type 0 = IsPosition (pairs_over index) in subst P e (IsWithin-position index.block.contents index.block.entries.0 index.core.key.items index.core.spot index.within)
 
-  pub line_is_of : {codings : Codings} {cmp : List ℕ → List ℕ → Ordering} {bytes : List ℕ} {parts : List Part} (index : BlockWalk C order) → HasParts codings cmp bytes parts → pairs_over index ≡ map index_pair parts
+  pub line_is_of : {codings : Codings} {accepts : List ℕ → Bool} {cmp : List ℕ → List ℕ → Ordering} {bytes : List ℕ} {parts : List Part} (index : BlockWalk C order) → HasParts codings accepts cmp bytes parts → pairs_over index ≡ map index_pair parts
       → is_some (position_over index) ≡ true → IsLineOf codings cmp bytes parts index
   line_is_of {codings} {cmp} {bytes} {parts} index has lines there =
       let at = some_there (position_over index) there in
@@ -668,7 +668,7 @@ module _ {C : Type 0} {order : CmpGhosts C} where
       }
 
   -- where the line's block is lacking, the file isn't as it is said
-  pub line_lacks : {codings : Codings} {cmp : List ℕ → List ℕ → Ordering} {bytes : List ℕ} {parts : List Part} {status : Status} (index : BlockWalk C order) → HasParts codings cmp bytes parts → pairs_over index ≡ map index_pair parts
+  pub line_lacks : {codings : Codings} {accepts : List ℕ → Bool} {cmp : List ℕ → List ℕ → Ordering} {bytes : List ℕ} {parts : List Part} {status : Status} (index : BlockWalk C order) → HasParts codings accepts cmp bytes parts → pairs_over index ≡ map index_pair parts
       → LacksLine codings cmp bytes (pair_at (pairs_over index) (position_over index)) status → ⊥
   line_lacks index has lines lacks =
       let at = line_is_of index has lines (lacks_there (pairs_over index) (position_over index) lacks) in
@@ -714,7 +714,7 @@ module _ {C : Type 0} {order : CmpGhosts C} where
         position = position ∙ ap to (sym pairs);
       }
 
-  module _ {codings : Codings} {cmp : List ℕ → List ℕ → Ordering} {bytes : List ℕ} {parts : List Part} {position : Option ℕ} {old : TableCore C order} (has : HasParts codings cmp bytes parts)
+  module _ {codings : Codings} {accepts : List ℕ → Bool} {cmp : List ℕ → List ℕ → Ordering} {bytes : List ℕ} {parts : List Part} {position : Option ℕ} {old : TableCore C order} (has : HasParts codings accepts cmp bytes parts)
       (after : IsAfterLine parts (position_over old.index) position) (indexed : IsIndexed cmp parts old) where
     -- to its first pair
     pub next_is_there : (new : TableCore C order) → IsInto codings cmp bytes (next_position (pairs_over old.index) (position_over old.index)) (λ pairs. position_within pairs 0) old new → (inner_position new.inner ≡ Some 0) × IsAtPosition cmp parts new position
@@ -734,12 +734,12 @@ module _ {C : Type 0} {order : CmpGhosts C} where
 
   -- ---- moves by entering a block
 
-  pub moves_enters : {E F T : Type 0} {env : EnvGhosts E F} {codings : Codings} {cmp : List ℕ → List ℕ → Ordering} {id : ℕ} {file : F} {Fit : List Part → Type 0} {Way : List Part → Option ℕ → Type 0} {to : List Pair → Option ℕ → Option ℕ}
+  pub moves_enters : {E F T : Type 0} {env : EnvGhosts E F} {codings : Codings} {accepts : List ℕ → Bool} {cmp : List ℕ → List ℕ → Ordering} {id : ℕ} {file : F} {Fit : List Part → Type 0} {Way : List Part → Option ℕ → Type 0} {to : List Pair → Option ℕ → Option ℕ}
       {Part_step Step : Codings → (List ℕ → List ℕ → Ordering) → List ℕ → TableCore C order → Outcome → Type 0} {old_env new_env : E} {old_cache new_cache : Cached (CachedBlock C order)} {mid new : TableCore C order} {result : Result T Status} (old : TableCore C order)
       → pairs_over mid.index ≡ pairs_over old.index → mid.index.block.cmp ≡ old.index.block.cmp
       → ((parts : List Part) (position : Option ℕ) → Fit parts → IsAtPosition cmp parts old position → Way parts (to (pairs_in parts) position))
       → ((bytes : List ℕ) (out : Outcome) → Part_step codings cmp bytes mid out → Step codings cmp bytes old out)
-      → MovesFromLine env codings cmp id file Way Part_step old_env old_cache mid result new_env new_cache new → MovesInTable env codings cmp id file Fit to Step old_env old_cache old result new_env new_cache new
+      → MovesFromLine env codings accepts cmp id file Way Part_step old_env old_cache mid result new_env new_cache new → MovesInTable env codings accepts cmp id file Fit to Step old_env old_cache old result new_env new_cache new
   moves_enters {env = env} {codings = codings} {cmp = cmp} {to = to} {Part_step = Part_step} {Step = Step} {mid = mid} {new = new} {result = result} old lines same way step enters =
       let indexed : (parts : List Part) (position : Option ℕ) → IsAtPosition cmp parts old position → IsIndexed cmp parts mid = λ parts position is_there. record { lines = lines ∙ is_there.lines; ordered = ap order.cmp same ∙ is_there.ordered } in
       record {

@@ -161,17 +161,18 @@ pub record HasTableBlocks (Decodes : ℕ → List ℕ → List ℕ → Type 0)
   pub meta_is_there : HasBlockAt Decodes file meta meta_text
   pub meta_block : IsBlock bytewise meta_text metas
 
--- The file is a table of these pairs, which rise strictly, with filters that let them pass under
--- each policy whose meaning is known. The user's key is the part of a key that filters go by: the
--- key itself, or what an internal key has before its tag.
-pub record IsTable (Decodes : ℕ → List ℕ → List ℕ → Type 0) (cmp : List ℕ → List ℕ → Ordering)
-    (meaning : List ℕ → Option (List ℕ → List ℕ → Bool)) (user : List ℕ → List ℕ) (file : List ℕ)
-    (pairs : List Pair) : Type 0 where
+-- The file is a table of these pairs, which rise strictly and are accepted as the index keys are,
+-- with filters that let them pass under each policy whose meaning is known. The user's key is the
+-- part of a key that filters go by: the key itself, or what an internal key has before its tag.
+pub record IsTable (Decodes : ℕ → List ℕ → List ℕ → Type 0) (accepts : List ℕ → Bool)
+    (cmp : List ℕ → List ℕ → Ordering) (meaning : List ℕ → Option (List ℕ → List ℕ → Bool))
+    (user : List ℕ → List ℕ) (file : List ℕ) (pairs : List Pair) : Type 0 where
   pub parts : List Part
   pub metas : List Pair
   pub meta : Handle
   pub index : Handle
   pub tabled : HasTableBlocks Decodes cmp file parts metas meta index
+  pub accepted : AreAccepted accepts parts
   pub sorted : KeysRise cmp pairs
   pub pairs_are : pairs ≡ flat_map (λ part. part.pairs) parts
   pub filters : AllByRecursion (FiltersHold meaning user file parts) metas
@@ -234,7 +235,7 @@ DecodesOne Decodes =
 -- a file is a table of one list of pairs, whatever is asked of its filters
 abbrev pub OneTable : (ℕ → List ℕ → List ℕ → Type 0) → (List ℕ → List ℕ → Ordering) → Type 0
 OneTable Decodes cmp =
-    DecodesOne Decodes → (meaning other : List ℕ → Option (List ℕ → List ℕ → Bool))
-    (user part : List ℕ → List ℕ) (file : List ℕ) (pairs others : List Pair)
-    → IsTable Decodes cmp meaning user file pairs → IsTable Decodes cmp other part file others
-    → pairs ≡ others
+    DecodesOne Decodes → (accepts others_accept : List ℕ → Bool)
+    (meaning other : List ℕ → Option (List ℕ → List ℕ → Bool)) (user part : List ℕ → List ℕ) (file : List ℕ) (pairs others : List Pair)
+    → IsTable Decodes accepts cmp meaning user file pairs
+    → IsTable Decodes others_accept cmp other part file others → pairs ≡ others

@@ -3,9 +3,10 @@ use Rattle.std.specs.Prelude.{◌≡◌, ◌⊎◌, ◌^◌, ◌<◌, ℕ, List,
 use Rattle.std.specs.declared.cmp.Ordering.{Ordering}
 use Rattle.leveldb_base.specs.BlockHandle.{Handle, handle_bytes, HandleFits}
 use Rattle.leveldb_base.specs.Types.{Pair}
+use Rattle.leveldb_base.specs.Error.{IsOutOfMemory}
 use Rattle.leveldb_base.specs.declared.error.Status.{Status}
 use Rattle.leveldb_base.specs.declared.error.StatusCode.TheVariants.{Corruption}
-use Rattle.leveldb_env.specs.Env.{FilesUnchanged, SameLocks, HasCause, IsMissing, bytes_of, Run}
+use Rattle.leveldb_env.specs.Env.{FilesUnchanged, SameLocks, HasCause, bytes_of, Run}
 use Rattle.leveldb_env.specs.declared.env.Env.{Ghosts}
 use Rattle.leveldb_env.specs.Compressor.{Coding, Codings, Decodes, IsUnset, IsDecodeError}
 use Rattle.leveldb_env.specs.FilterBlock.{IsFilterBlock}
@@ -84,19 +85,19 @@ module _ {E F : Type 0} (env : Ghosts E F) where
         (λ found_file. bytes_of found_file ≡ bytes)
     pub fits : length bytes < 2 ^ 64
 
-  -- a call that reads a file fails out of memory, since the file is missing, for another cause
-  -- with no failure counted, or at a failure that is counted
-  abbrev pub FailsFor : {T : Type 0} → (Status → Type 0) → E → F → E → Result T Status → Type 0
-  FailsFor Why old file new result =
-      HasCause (λ status. IsMissing env.models_disk (env.name_of file) (env.observed old) status
+  -- a call that reads a file fails out of memory, for a cause of its own with no failure counted, or
+  -- at a failure that is counted
+  abbrev pub FailsFor : {T : Type 0} → (Status → Type 0) → E → E → Result T Status → Type 0
+  FailsFor Why old new result =
+      HasCause (λ status. IsOutOfMemory status
       ⊎ ((env.failures new ≡ env.failures old) × Why status))
       (env.failures old) (env.failures new) result
 
   -- it reads so, and leaves the disk as it is
-  pub record ReadsFile {T : Type 0} (Why : Status → Type 0) (old : E) (file : F) (new : E)
+  pub record ReadsFile {T : Type 0} (Why : Status → Type 0) (old new : E)
       (result : Result T Status) : Type 0 where
     pub kept_disk : KeepsDisk old new
-    pub cause : FailsFor Why old file new result
+    pub cause : FailsFor Why old new result
 
   -- the file has this property, whatever bytes it has
   abbrev pub ForBytesOf : E → F → (List ℕ → Type 0) → Type 0

@@ -9,14 +9,14 @@ use Rattle.leveldb_base.specs.Cmp.{bytewise}
 use Rattle.leveldb_base.specs.BlockHandle.{Handle, handle_bytes, HandleFits}
 use Rattle.leveldb_base.specs.Types.{Pair}
 use Rattle.leveldb_base.specs.declared.cmp.Cmp.{Ghosts as CmpGhosts}
-use Rattle.leveldb_env.specs.Sink.{PutsAll}
+use Rattle.leveldb_env.specs.Sink.{PutsAll, PutsEach}
 use Rattle.leveldb_env.specs.Compressor.{Codings, Decodes}
 use Rattle.leveldb_env.specs.FilterBlock.{IsFilterBlock, finished}
 use Rattle.leveldb_env.specs.declared.filter.FilterPolicy.{Ghosts as PolicyGhosts}
 use Rattle.leveldb_table.specs.Block.{pairs_of}
 use Rattle.leveldb_table.specs.BlockBuilder.{last_added, block_made, IsMade, estimate}
 use Rattle.leveldb_table.specs.Footer.{footer_bytes}
-use Rattle.leveldb_table.specs.Table.{Part, HasBlockAt, index_pair, IsTable, IsWritten, AreAccepted, HasFiltersAt, filters_for, filter_key, with_trailer}
+use Rattle.leveldb_table.specs.Table.{Part, HasBlockAt, index_pair, IsTable, IsWritten, HasFiltersAt, filters_for, filter_key, with_trailer}
 use Rattle.leveldb_table.specs.TableBuilderStage.{Stage, stage_of, IsLaidOut, AreSeparated, AreReady, Follows, first_key}
 use Rattle.leveldb_table.specs.declared.table_builder.builder_core.BuilderCore.{BuilderCore}
 
@@ -142,13 +142,12 @@ pub record BuildsTable (codings : Codings) (accepts : List ℕ → Bool)
     (matches : List ℕ → List ℕ → Bool)
     (make : List (List ℕ) → List ℕ) (id : ℕ) (policy : List ℕ) (interval index_interval : ℕ)
     (file : List ℕ) (pairs : List Pair) : Type 0 where
-  pub table : IsTable (Decodes codings) cmp meaning user file pairs
+  pub table : IsTable (Decodes codings) accepts cmp meaning user file pairs
   pub filter : Handle
   pub written : IsWritten file id policy table.parts table.metas filter table.meta table.index
   pub exact : AreMade (Decodes codings) interval index_interval file table.parts table.metas
       table.meta table.index
   pub separated : AreSeparated sep table.parts (succ (last_added pairs))
-  pub accepted : AreAccepted accepts table.parts
   pub filtered : HasFiltersAt matches user file table.parts filter
   pub exactly : filtered.filters ≡ filters_for make table.parts filter.offset
 
@@ -259,7 +258,8 @@ module _ {S : Type 0} (puts : S → List ℕ → Result (Unit {0}) Status → S 
         → IsLaidOut Decodes accepts cmp sep matches make id new next (written ++ bytes) pairs
         × IsLast accepts cmp succ new next pairs
 
-  -- what follows the data blocks was put, and then the sink was flushed
+  -- what follows the data blocks was put, each block with its trailer in one put and the footer in
+  -- one, and then the sink was flushed
   pub record PutsEnd {FP : Type 0} (flushes : S → Result (Unit {0}) Status → S → Type 0)
       (Decodes : ℕ → List ℕ → List ℕ → Type 0)
       (cmp : List ℕ → List ℕ → Ordering) (make : List (List ℕ) → List ℕ) (id : ℕ) (name : List ℕ)
@@ -267,5 +267,7 @@ module _ {S : Type 0} (puts : S → List ℕ → Result (Unit {0}) Status → S 
     pub bytes : List ℕ
     pub mid : S
     pub ended : IsEnd Decodes cmp make id name stage bytes size
-    pub put : PutsAll puts from bytes mid
+    pub put : PutsEach puts from (with_trailer 0 ended.filters
+        ∷ with_trailer id ended.meta_stored ∷ with_trailer id ended.index_stored
+        ∷ footer_bytes ended.meta ended.index ∷ []) mid
     pub flushed : flushes mid (Ok tt) to

@@ -7,7 +7,7 @@ use Rattle.leveldb_base.specs.BlockHandle.{Handle, handle_bytes}
 use Rattle.leveldb_base.specs.Error.{IsOutOfMemory}
 use Rattle.leveldb_base.specs.declared.cmp.Cmp.{Ghosts as CmpGhosts}
 use Rattle.leveldb_base.specs.declared.error.Status.{Status}
-use Rattle.leveldb_env.specs.Compressor.{Codings, IsUnset}
+use Rattle.leveldb_env.specs.Compressor.{Codings, Decodes, IsUnset}
 use Rattle.leveldb_env.specs.FilterBlock.{IsFilterBlock, IsFilterNotMade, finished}
 use Rattle.leveldb_env.specs.declared.filter.FilterPolicy.{Ghosts as PolicyGhosts}
 use Rattle.leveldb_table.specs.BlockBuilder.{IsMade}
@@ -15,7 +15,7 @@ use Rattle.leveldb_table.specs.Footer.{footer_bytes}
 use Rattle.leveldb_table.specs.Table.{with_trailer, filter_key}
 use Rattle.leveldb_table.specs.PutBlock.{PutsBlock, IsPutError, IsNoMetaindex, StopsFrom, StopsAtFooter}
 use Rattle.leveldb_table.specs.TableBuilderStage.{Stage}
-use Rattle.leveldb_table.specs.TableBuilder.{stage, last_of, IsBroken}
+use Rattle.leveldb_table.specs.TableBuilder.{stage, last_of, IsBroken, PutsEnd}
 use Rattle.leveldb_table.specs.TableBuilderAdd.{ClosesOpen, IsNotClosed}
 use Rattle.leveldb_table.specs.declared.table_builder.builder_core.BuilderCore.{BuilderCore}
 
@@ -98,3 +98,18 @@ module _ {C FP : Type 0} {order : CmpGhosts C} {policy : PolicyGhosts FP} (codin
       × StopsFromFilters codings (order.cmp core.block.cmp) (policy.too_large core.filter.policy)
       (policy.filter_for core.filter.policy) core.compressor
       (policy.name core.filter.policy) last puts flushes mid status to)
+
+module _ {C FP : Type 0} {order : CmpGhosts C} {policy : PolicyGhosts FP} (codings : Codings)
+    (core : BuilderCore C FP order policy)
+    {S : Type 0} (puts : S → List ℕ → Result (Unit {0}) Status → S → Type 0)
+    (flushes : S → Result (Unit {0}) Status → S → Type 0) where
+  -- The table was finished by these puts and no others: one of the open block, where there is one,
+  -- one each of the filters, the metaindex and the index, and one of the footer. Then the sink was
+  -- flushed.
+  pub record PutsRest (from : S) (size : ℕ) (to : S) : Type 0 where
+    pub last : Stage FP
+    pub mid : S
+    pub closed : ClosesRest codings core puts last from mid
+    pub ended : PutsEnd puts flushes (Decodes codings) (order.cmp core.block.cmp)
+        (policy.filter_for core.filter.policy) core.compressor (policy.name core.filter.policy) last
+        mid size to

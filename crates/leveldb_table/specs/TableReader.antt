@@ -100,20 +100,18 @@ CannotOpen codings cmp key bytes size =
 abbrev pub pairs_in : List Part → List Pair
 pairs_in parts = flat_map (λ part. part.pairs) parts
 
--- The file has these data blocks, in order, with index keys between them.
-pub record HasParts (codings : Codings) (cmp : List ℕ → List ℕ → Ordering) (bytes : List ℕ)
-    (parts : List Part) : Type 0 where
+-- The file has these data blocks, in order, with index keys between them, and all these keys are
+-- accepted.
+pub record HasParts (codings : Codings) (accepts : List ℕ → Bool)
+    (cmp : List ℕ → List ℕ → Ordering) (bytes : List ℕ) (parts : List Part) : Type 0 where
   pub each : AllByRecursion (IsPart (Decodes codings) cmp bytes) parts
   pub parted : AreParted cmp parts
   pub sorted : KeysRise cmp (pairs_in parts)
+  pub accepted : AreAccepted accepts parts
 
 -- the numbers of their handles have 64 bits
 abbrev pub HandlesFit : List Part → Type 0
 HandlesFit parts = AllByRecursion (λ part. HandleFits part.handle) parts
-
--- the comparator accepts the key that is sought, and all keys of the blocks and of the index
-abbrev pub CanSeek : (List ℕ → Bool) → List ℕ → List Part → Type 0
-CanSeek accepts key parts = AreAccepted accepts parts × (accepts key ≡ true)
 
 -- What a look-up finds: the first pair at or after the key, but none where the filters don't let
 -- the key pass at the block that the index names for it.

@@ -9,7 +9,7 @@ use Rattle.leveldb_base.specs.declared.error.Status.{Status}
 use Rattle.leveldb_env.specs.declared.env.Env.{Ghosts as EnvGhosts}
 use Rattle.leveldb_env.specs.Compressor.{Codings, Decodes}
 use Rattle.leveldb_table.specs.Cache.{Cached}
-use Rattle.leveldb_table.specs.Table.{Part, AreAccepted, HasBlockAt, index_pair, named_part}
+use Rattle.leveldb_table.specs.Table.{Part, HasBlockAt, index_pair, named_part}
 use Rattle.leveldb_table.specs.BlockCache.{HoldsOnlyOf, IsBlockOfFile, GainsBlocks}
 use Rattle.leveldb_table.specs.TableReader.{pairs_in}
 use Rattle.leveldb_table.specs.TableBlock.{ForBytesOf, IsLackError, ReadsFile}
@@ -52,14 +52,13 @@ let_position cmp lets key parts =
 abbrev pub IsKeyPosition : (List ℕ → Bool) → (List ℕ → List ℕ → Ordering) → List ℕ → List Part
     → Option ℕ → Type 0
 IsKeyPosition accepts cmp key parts position =
-    AreAccepted accepts parts × (accepts key ≡ true)
-    × (position ≡ seek_position cmp (pairs_in parts) key)
+    (accepts key ≡ true) × (position ≡ seek_position cmp (pairs_in parts) key)
 
 -- as IsKeyPosition, where the filters let the key pass; else it leads to no position
 abbrev pub IsLetPosition : (List ℕ → Bool) → (List ℕ → List ℕ → Ordering) → (ℕ → List ℕ → Bool)
     → List ℕ → List Part → Option ℕ → Type 0
 IsLetPosition accepts cmp lets key parts position =
-    AreAccepted accepts parts × (accepts key ≡ true) × (position ≡ let_position cmp lets key parts)
+    (accepts key ≡ true) × (position ≡ let_position cmp lets key parts)
 
 module _ {C : Type 0} {order : CmpGhosts C} where
   -- the block that a file has at a handle, in this order of keys
@@ -89,7 +88,7 @@ module _ {C : Type 0} {order : CmpGhosts C} where
   -- As a move does, but from a line of the index: where the file has data blocks, the walk moves
   -- to the position that is fit for them.
   pub record MovesFromLine {E F T : Type 0} (env : EnvGhosts E F) (codings : Codings)
-      (cmp : List ℕ → List ℕ → Ordering) (id : ℕ) (file : F)
+      (accepts : List ℕ → Bool) (cmp : List ℕ → List ℕ → Ordering) (id : ℕ) (file : F)
       (Fit : List Part → Option ℕ → Type 0) (Step : Codings → (List ℕ → List ℕ → Ordering) → List ℕ
       → TableCore C order → Outcome → Type 0)
       (old_env : E) (old_cache : Cached (CachedBlock C order)) (old : TableCore C order)
@@ -97,12 +96,12 @@ module _ {C : Type 0} {order : CmpGhosts C} where
       (new_env : E) (new_cache : Cached (CachedBlock C order))
       (new : TableCore C order) : Type 0 where
     pub reads : ReadsFile env (IsLackError env codings (λ bytes status.
-        GivenParts codings cmp id bytes old_cache Fit (λ parts position. IsIndexed cmp parts old)
+        GivenParts codings accepts cmp id bytes old_cache Fit (λ parts position. IsIndexed cmp parts old)
         (λ parts position. ⊥)
         × (HoldsOnlyOf codings cmp id bytes old_cache → Step codings cmp bytes old (Err status)))
-        old_env file) old_env file new_env result
+        old_env file) old_env new_env result
     pub ok : ForBytesOf env old_env file (λ bytes.
-        GivenParts codings cmp id bytes old_cache Fit (λ parts position. IsIndexed cmp parts old)
+        GivenParts codings accepts cmp id bytes old_cache Fit (λ parts position. IsIndexed cmp parts old)
         (λ parts position. OnOk result (IsAtPosition cmp parts new position)))
     pub steps : ForBytesOf env old_env file (λ bytes. HoldsOnlyOf codings cmp id bytes old_cache
         → OnOk result (Step codings cmp bytes old (Ok (table_position new))))

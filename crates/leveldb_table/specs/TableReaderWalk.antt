@@ -1,6 +1,6 @@
 -- Where a walk over a table is: at a line of the index, and at a pair of the data block that the
 -- line names.
-use Rattle.std.specs.Prelude.{◌≡◌, ◌+◌, ◌<◌, ℕ, List, [], ◌∷◌, ◌++◌, length, map, Option, None, Some, Result, Ok, Err, OnOk, OnErr}
+use Rattle.std.specs.Prelude.{◌≡◌, ◌+◌, ◌<◌, ℕ, Bool, List, [], ◌∷◌, ◌++◌, length, map, Option, None, Some, Result, Ok, Err, OnOk, OnErr}
 use Rattle.std.specs.declared.cmp.Ordering.{Ordering}
 use Rattle.leveldb_base.specs.BlockHandle.{Handle, handle_bytes, HandleFits}
 use Rattle.leveldb_base.specs.Types.{Pair, pair_at}
@@ -108,11 +108,11 @@ module _ {C : Type 0} {order : CmpGhosts C} where
 
   -- Holds is so wherever the file has data blocks that are fit, what the cache holds under the
   -- number is the file's, and At says where the walk is.
-  abbrev pub GivenParts : Codings → (List ℕ → List ℕ → Ordering) → ℕ → List ℕ
-      → Cached (CachedBlock C order)
+  abbrev pub GivenParts : Codings → (List ℕ → Bool) → (List ℕ → List ℕ → Ordering) → ℕ
+      → List ℕ → Cached (CachedBlock C order)
       → (Fit At Holds : List Part → Option ℕ → Type 0) → Type 0
-  GivenParts codings cmp id bytes cache Fit At Holds = (parts : List Part) (position : Option ℕ)
-      → HasParts codings cmp bytes parts → Fit parts position
+  GivenParts codings accepts cmp id bytes cache Fit At Holds = (parts : List Part) (position : Option ℕ)
+      → HasParts codings accepts cmp bytes parts → Fit parts position
       → HoldsOnlyOf codings cmp id bytes cache → At parts position → Holds parts position
 
   -- A move of a walk over a table's file, with this number in a cache of blocks. Whatever the file
@@ -122,7 +122,7 @@ module _ {C : Type 0} {order : CmpGhosts C} where
   -- fit, it fails for none of them, and the walk goes from its position among all their pairs to
   -- this one.
   pub record MovesInTable {E F T : Type 0} (env : EnvGhosts E F) (codings : Codings)
-      (cmp : List ℕ → List ℕ → Ordering) (id : ℕ) (file : F)
+      (accepts : List ℕ → Bool) (cmp : List ℕ → List ℕ → Ordering) (id : ℕ) (file : F)
       (Fit : List Part → Type 0) (to : List Pair → Option ℕ → Option ℕ)
       (Step : Codings → (List ℕ → List ℕ → Ordering) → List ℕ → TableCore C order → Outcome
       → Type 0)
@@ -131,12 +131,12 @@ module _ {C : Type 0} {order : CmpGhosts C} where
       (new_env : E) (new_cache : Cached (CachedBlock C order))
       (new : TableCore C order) : Type 0 where
     pub reads : ReadsFile env (IsLackError env codings (λ bytes status.
-        GivenParts codings cmp id bytes old_cache (λ parts position. Fit parts)
+        GivenParts codings accepts cmp id bytes old_cache (λ parts position. Fit parts)
         (λ parts position. IsAtPosition cmp parts old position) (λ parts position. ⊥)
         × (HoldsOnlyOf codings cmp id bytes old_cache → Step codings cmp bytes old (Err status)))
-        old_env file) old_env file new_env result
+        old_env file) old_env new_env result
     pub ok : ForBytesOf env old_env file (λ bytes.
-        GivenParts codings cmp id bytes old_cache (λ parts position. Fit parts)
+        GivenParts codings accepts cmp id bytes old_cache (λ parts position. Fit parts)
         (λ parts position. IsAtPosition cmp parts old position)
         (λ parts position.
         OnOk result (IsAtPosition cmp parts new (to (pairs_in parts) position))))

@@ -9,7 +9,7 @@ ghost use Rattle.leveldb_base.specs.Types.{Pair};
 ghost use Rattle.leveldb_base.specs.declared.cmp.internal.InternalKeyCmp.{InternalKeyCmp};
 ghost use Rattle.leveldb_env.specs.Compressor.{Codings, Decodes};
 ghost use Rattle.leveldb_env.specs.FilterBlock.{passes};
-ghost use Rattle.leveldb_table.specs.Table.{Part, HasTableBlocks, IsTable, AllPass, DecodesOne, OneTable, index_pair, filter_key, named_part, AreAccepted};
+ghost use Rattle.leveldb_table.specs.Table.{Part, HasTableBlocks, IsTable, AllPass, DecodesOne, OneTable, index_pair, filter_key, named_part};
 ghost use Rattle.leveldb_table.specs.TableBuilder.{MatchesByUser, SeparatesUsers};
 ghost use Rattle.leveldb_table.specs.TableReader.{OpensAs, CanOpen, HasParts, HandlesFit, KeepsUsersTogether, HasNoneFrom, pairs_in};
 ghost use Rattle.leveldb_base.specs.Varint.{little};
@@ -32,17 +32,18 @@ pub fn opened_tables_are_theirs()
         → HasTableBlocks (Decodes codings) cmp bytes parts metas other_meta other_index
         → (lines ≡ map index_pair parts) × (meta ≡ other_meta) × (index ≡ other_index)
         × HandlesFit parts }
-    ensures parts { (codings : Codings) (cmp : List ℕ → List ℕ → Ordering)
+    ensures parts { (codings : Codings) (accepts : List ℕ → Bool)
+        (cmp : List ℕ → List ℕ → Ordering)
         (meaning : List ℕ → Option (List ℕ → List ℕ → Bool)) (user : List ℕ → List ℕ)
-        (bytes : List ℕ) (pairs : List Pair) → (table : IsTable
-        (Decodes codings) cmp meaning user bytes pairs)
-        → HasParts codings cmp bytes table.parts × (pairs ≡ pairs_in table.parts) }
-    ensures filters { (codings : Codings) (cmp : List ℕ → List ℕ → Ordering)
+        (bytes : List ℕ) (pairs : List Pair) → (table : IsTable (Decodes codings) accepts cmp meaning user bytes pairs)
+        → HasParts codings accepts cmp bytes table.parts × (pairs ≡ pairs_in table.parts) }
+    ensures filters { (codings : Codings) (accepts : List ℕ → Bool)
+        (cmp : List ℕ → List ℕ → Ordering)
         (meaning : List ℕ → Option (List ℕ → List ℕ → Bool)) (matches : List ℕ → List ℕ → Bool)
         (user : List ℕ → List ℕ) (name bytes : List ℕ) (pairs lines : List Pair)
         (meta index : Handle) (filters : Option (List (List ℕ)))
         → OpensAs codings cmp (filter_key name) bytes (length bytes) lines meta index filters
-        → (table : IsTable (Decodes codings) cmp meaning user bytes pairs)
+        → (table : IsTable (Decodes codings) accepts cmp meaning user bytes pairs)
         → meaning name ≡ Some matches
         → IfSome filters (λ texts. AllPass matches user texts table.parts) }
 {}
@@ -50,10 +51,11 @@ pub fn opened_tables_are_theirs()
 /// A table can be opened under each policy whose name's meaning is known, so opening it fails for
 /// no damage.
 pub fn tables_can_be_opened()
-    ensures { (codings : Codings) (cmp : List ℕ → List ℕ → Ordering)
+    ensures { (codings : Codings) (accepts : List ℕ → Bool)
+        (cmp : List ℕ → List ℕ → Ordering)
         (meaning : List ℕ → Option (List ℕ → List ℕ → Bool)) (matches : List ℕ → List ℕ → Bool)
         (user : List ℕ → List ℕ) (name bytes : List ℕ) (pairs : List Pair)
-        → (table : IsTable (Decodes codings) cmp meaning user bytes pairs)
+        → (table : IsTable (Decodes codings) accepts cmp meaning user bytes pairs)
         → meaning name ≡ Some matches → CanOpen codings cmp matches user name bytes table.parts }
 {}
 
@@ -72,7 +74,7 @@ pub fn excluded_keys_are_not_there<C: Cmp>(_cmp: &C)
         (matches : List ℕ → List ℕ → Bool) (filters : List (List ℕ)) (bytes : List ℕ)
         (parts : List Part) (key : List ℕ) (part : Part)
         → KeepsUsersTogether (C.accepts c) (C.cmp c) user → MatchesByUser user matches
-        → HasParts codings (C.cmp c) bytes parts → AreAccepted (C.accepts c) parts
+        → HasParts codings (C.accepts c) (C.cmp c) bytes parts
         → AllPass matches user filters parts → C.accepts c key ≡ true
         → named_part (C.cmp c) key parts ≡ Some part
         → passes matches filters part.handle.offset key ≡ false

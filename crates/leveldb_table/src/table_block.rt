@@ -2,6 +2,7 @@
 ghost use Rattle.std.specs.Prelude.{◌≡◌, ◌⊎◌, ◌≤◌, ◌<◌, ◌+◌, ◌^◌, ℕ, length, take, drop, List, None, IfOk, IfSome, IfNone, IsErrAnd};
 ghost use Rattle.leveldb_base.specs.declared.error.StatusCode.TheVariants.{InvalidArgument};
 ghost use Rattle.leveldb_env.specs.Compressor.{Decodes};
+ghost use Rattle.leveldb_env.specs.Env.{ReadsFrom};
 ghost use Rattle.leveldb_env.specs.FilterBlock.{IsFilterBlock};
 ghost use Rattle.leveldb_table.specs.Table.{StoresAt, HasBlockAt, with_trailer};
 ghost use Rattle.leveldb_table.specs.TableBlock.{EndsBefore, StoresNothing, HasNoFilters, LacksBlock, ReadsFile, ForBytesOf, IsDamaged, IsLackError};
@@ -37,7 +38,7 @@ pub fn read_table_block<E: Env, C: Cmp + Drop>(
 ) -> Result<Block<C>>
     ensures reads { let codings = ⟦<CompressorList as Compressors>⟧.codings compressors.now in
         ReadsFile E.Env (IsLackError E.Env codings (λ bytes.
-        LacksBlock codings (C.cmp cmp) bytes location) env.old file.now) env.old file.now env.new
+        LacksBlock codings (C.cmp cmp) bytes location) env.old file.now) env.old env.new
         result }
     ensures ok { IfOk result (λ block. ForBytesOf E.Env env.old file.now
         (λ bytes. HasBlockAt (Decodes (⟦<CompressorList as Compressors>⟧.codings compressors.now))
@@ -61,7 +62,7 @@ pub fn read_filter_block<E: Env, FP: FilterPolicy + Drop>(
 ) -> Result<FilterBlockReader<FP>>
     ensures reads { ReadsFile E.Env (λ status. ((status.code ≡ InvalidArgument)
         × (location.size ≡ 0)) ⊎ IsDamaged E.Env (λ bytes. HasNoFilters bytes location) env.old
-        file.now status) env.old file.now env.new result }
+        file.now status) env.old env.new result }
     ensures ok { IfOk result (λ reader. ForBytesOf E.Env env.old file.now
         (λ bytes. (text : List ℕ) × StoresAt bytes location 0 text
         × IsFilterBlock text reader.filters)) }
@@ -90,7 +91,7 @@ fn read_stored<E: Env>(
     location: BlockHandle,
 ) -> Result<(u8, Vec<u8>)>
     ensures reads { ReadsFile E.Env (IsDamaged E.Env (λ bytes. StoresNothing bytes location)
-        env.old file.now) env.old file.now env.new result }
+        env.old file.now) env.old env.new result }
     ensures ok { IfOk result (λ found. ForBytesOf E.Env env.old file.now
         (λ bytes. StoresAt bytes location found.0 found.1.items)) }
 {
@@ -135,7 +136,7 @@ pub(crate) fn read_bytes<E: Env>(
     size: usize,
 ) -> Result<Vec<u8>>
     ensures reads { ReadsFile E.Env (IsDamaged E.Env (λ bytes. EndsBefore bytes offset size)
-        env.old file.now) env.old file.now env.new result }
+        env.old file.now) env.old env.new result }
     ensures ok { IfOk result (λ read. ForBytesOf E.Env env.old file.now
         (λ bytes. read.items ≡ take size (drop offset bytes))) }
     ensures size { IfOk result (λ read. length read.items ≡ size) }
@@ -148,11 +149,37 @@ pub(crate) fn read_bytes<E: Env>(
         let known = read.len();
         let more = (size - known).min(known.max(STEP));
         read.resize(known + more, 0)?;
-        let came = env.read_at(file, next, &mut read[known..])?;
+        let came = read_some(alloc, env, file, next, &mut read[known..])?;
         if came == 0 {
             return err(alloc, StatusCode::Corruption, "a block is past the file");
         }
         read.truncate(known + came);
     }
     Ok(read)
+}
+
+// Reads some bytes of a file from `offset` on, as the environment does; a file that is missing is
+// damage.
+fn read_some<E: Env>(
+    alloc: Global,
+    env: &mut E,
+    file: &E::File,
+    offset: usize,
+    target: &mut [u8],
+) -> Result<usize>
+    ensures reads { ReadsFile E.Env (IsDamaged E.Env (λ _. ⊥) env.old file.now)
+        env.old env.new result }
+    ensures fits { IfOk result (λ count. count ≤ length target.new) }
+    ensures bytes { IfOk result (λ count. ForBytesOf E.Env env.old file.now
+        (ReadsFrom offset count target.new)) }
+{
+    match env.read_at(file, offset, target) {
+        Ok(count) => Ok(count),
+        Err(status) => {
+            if status.code == StatusCode::NotFound {
+                return err(alloc, StatusCode::Corruption, "a table's file is missing");
+            }
+            Err(status)
+        }
+    }
 }

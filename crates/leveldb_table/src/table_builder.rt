@@ -2,7 +2,7 @@
 ghost use Rattle.std.specs.Prelude.{◌≡◌, ◌↔◌, ◌+◌, ◌-◌, ◌^◌, ◌<◌, ◌++◌, ◌∷◌, ◌⊎◌, ◌≢◌, [], List, None, max, true, false, min, IfOk, IfErr, OnOk, OnErr, IsErrAnd, IsTrue};
 ghost use Rattle.std.specs.declared.cmp.Ordering.TheVariants.{Less};
 ghost use Rattle.leveldb_env.specs.Compressor.{Codings, IsUnset};
-ghost use Rattle.leveldb_table.specs.TableBuilderFinish.{IsFinishError, StopsUnset};
+ghost use Rattle.leveldb_table.specs.TableBuilderFinish.{PutsRest, IsFinishError, StopsUnset};
 ghost use Rattle.leveldb_base.specs.Error.{IsOutOfMemory};
 ghost use Rattle.leveldb_table.specs.TableBuilderStage.{with_pair};
 ghost use Rattle.leveldb_table.specs.TableBuilderAdd.{ClosesBlock, TriesOpen, IsAddError};
@@ -202,38 +202,38 @@ impl<Dst: Sink, C: Cmp + Copy, FP: FilterPolicy + Copy> TableBuilder<Dst, C, FP>
     }
 
     /// Writes what is left of the table: the open block, the filters, the metaindex, the index and
-    /// the footer, and flushes the sink. Returns how many bytes the table has. The sink is
-    /// consumed, so the clauses say no more of it than that there was one after these puts: where
-    /// the sink is to be named afterwards, call the core, which borrows it. Fails as `add` does,
-    /// and where the sink can't be flushed.
-    pub fn finish(self, compressors: &CompressorList) -> Result<usize>
-    where
-        Dst: Drop,
+    /// the footer, and flushes the sink. Returns the sink, and how many bytes the table has. Fails
+    /// as `add` does, and where the sink can't be flushed.
+    pub fn finish(self, compressors: &CompressorList) -> (Dst, Result<usize>)
         ensures ok { let codings = ⟦<CompressorList as Compressors>⟧.codings compressors.now in
-            IfOk result (λ size. (after : Dst) × FinishesTable Dst.puts Dst.flushes
+            IfOk result.1 (λ size. FinishesTable Dst.puts Dst.flushes
             (IsBegun codings C.accepts C.cmp C.shortest_sep FP.matches self.core)
             (IsBuiltTable codings (C.accepts (order_of self.core)) (C.cmp (order_of self.core))
             (C.shortest_sep (order_of self.core)) (C.short_succ (order_of self.core))
             (FP.matches (policy_of self.core)) (FP.filter_for (policy_of self.core))
             self.core.compressor (FP.name (policy_of self.core)) self.core.block.interval
-            self.core.index.interval) self.dst size after) }
-        ensures unbroken { OnOk result (self.core.broken ≡ false) }
-        ensures cause { IfErr result (λ status. (after : Dst)
-            × IsFinishError (⟦<CompressorList as Compressors>⟧.codings compressors.now) self.core
-            Dst.puts Dst.flushes self.dst status after) }
+            self.core.index.interval) self.dst size result.0) }
+        ensures pieces { IfOk result.1 (λ size. PutsRest
+            (⟦<CompressorList as Compressors>⟧.codings compressors.now) self.core Dst.puts
+            Dst.flushes self.dst size result.0) }
+        ensures unbroken { OnOk result.1 (self.core.broken ≡ false) }
+        ensures cause { IfErr result.1 (λ status. IsFinishError
+            (⟦<CompressorList as Compressors>⟧.codings compressors.now) self.core Dst.puts
+            Dst.flushes self.dst status result.0) }
         ensures unset_rest { self.core.broken ≡ false → (stage self.core).open_pairs ≡ []
             → ⟦<CompressorList as Compressors>⟧.codings compressors.now self.core.compressor ≡ None
-            → IsErrAnd result (λ status. (after : Dst) × StopsUnset
-            (FP.too_large (policy_of self.core)) (FP.filter_for (policy_of self.core))
-            self.core.compressor (FP.name (policy_of self.core))
-            (stage self.core) Dst.puts self.dst status after) }
+            → IsErrAnd result.1 (λ status. StopsUnset (FP.too_large (policy_of self.core))
+            (FP.filter_for (policy_of self.core)) self.core.compressor
+            (FP.name (policy_of self.core)) (stage self.core) Dst.puts self.dst status result.0) }
         ensures unset { self.core.broken ≡ false → (stage self.core).open_pairs ≢ []
             → ⟦<CompressorList as Compressors>⟧.codings compressors.now self.core.compressor ≡ None
-            → IsErrAnd result
-            (λ status. IsUnset self.core.compressor status ⊎ IsOutOfMemory status) }
-        ensures broken { self.core.broken ≡ true → IsErrAnd result IsBroken }
+            → IsErrAnd result.1 (λ status. IsUnset self.core.compressor status
+            ⊎ IsOutOfMemory status) × (result.0 ≡ self.dst) }
+        ensures broken { self.core.broken ≡ true → IsErrAnd result.1 IsBroken
+            × (result.0 ≡ self.dst) }
     {
         let TableBuilder { core, mut dst } = self;
-        core.finish(&mut dst, compressors)
+        let size = core.finish(&mut dst, compressors);
+        (dst, size)
     }
 }

@@ -79,7 +79,7 @@ impl<E: Env, C: UserCmp + Copy + Drop, FP: FilterPolicy + Copy + Drop> Table<
             (filter_key (FP.name options.now.filter_policy)) bytes size
             × LacksPart codings (internal_cmp (C.cmp options.now.cmp))
             (filter_key (FP.name options.now.filter_policy)) bytes size status) env.old file
-            status) env.old file env.new result }
+            status) env.old env.new result }
         ensures ok { IfOk result (λ table. ForBytesOf E.Env env.old file
             (λ bytes. OpensAs (⟦<CompressorList as Compressors>⟧.codings
             options.now.compressor_list) (internal_cmp (C.cmp options.now.cmp))
@@ -127,7 +127,7 @@ impl<E: Env, C: Cmp + Copy + Drop, FP: FilterPolicy + Drop> Table<E, C, FP> {
             × (cache.old.given + 1 ≡ 2 ^ 64)) ⊎ IsLackError E.Env codings
             (λ bytes status. CannotOpen codings (C.cmp cmp) (filter_key (FP.name policy)) bytes
             size × LacksPart codings (C.cmp cmp) (filter_key (FP.name policy)) bytes size status)
-            env.old file status) env.old file env.new result }
+            env.old file status) env.old env.new result }
         ensures ok { IfOk result (λ table. ForBytesOf E.Env env.old file
             (λ bytes. OpensAs (⟦<CompressorList as Compressors>⟧.codings compressors.now)
             (C.cmp cmp) (filter_key (FP.name policy)) bytes size
@@ -164,7 +164,6 @@ impl<E: Env, C: Cmp + Copy + Drop, FP: FilterPolicy + Drop> Table<E, C, FP> {
 }
 
 impl<E: Env, C: Cmp + Copy + Drop, FP: FilterPolicy> Table<E, C, FP> {
-    ghost use Rattle.leveldb_table.specs.Table.{AreAccepted};
     ghost use Rattle.leveldb_table.specs.TableReader.{HasParts, HandlesFit, IsOffsetBy, found_in, key_line, lines_of, lets};
     ghost use Rattle.leveldb_table.specs.TableReaderMoves.{LookUpInTable, FindsPair};
 
@@ -203,18 +202,18 @@ impl<E: Env, C: Cmp + Copy + Drop, FP: FilterPolicy> Table<E, C, FP> {
             ReadsFile E.Env (IsLackError E.Env codings (λ bytes status.
             ((parts : List Part) → lines_of self.now ≡ map index_pair parts
             → C.cmp self.now.index.cmp ≡ C.cmp self.now.cmp
-            → HasParts codings (C.cmp self.now.cmp) bytes parts
-            → AreAccepted (C.accepts self.now.cmp) parts → C.accepts self.now.cmp key.now ≡ true
+            → HasParts codings (C.accepts self.now.cmp) (C.cmp self.now.cmp) bytes parts
+            → C.accepts self.now.cmp key.now ≡ true
             → HoldsOnlyOf codings (C.cmp self.now.cmp) self.now.id bytes cache.old → ⊥)
             × (HoldsOnlyOf codings (C.cmp self.now.cmp) self.now.id bytes cache.old
             → LookUpInTable codings FP.matches self.now key.now bytes (Err status))) env.old
-            self.now.file) env.old self.now.file env.new result }
+            self.now.file) env.old env.new result }
         ensures ok { let codings = ⟦<CompressorList as Compressors>⟧.codings compressors.now in
             ForBytesOf E.Env env.old self.now.file
             (λ bytes. (parts : List Part) → lines_of self.now ≡ map index_pair parts
             → C.cmp self.now.index.cmp ≡ C.cmp self.now.cmp
-            → HasParts codings (C.cmp self.now.cmp) bytes parts
-            → AreAccepted (C.accepts self.now.cmp) parts → C.accepts self.now.cmp key.now ≡ true
+            → HasParts codings (C.accepts self.now.cmp) (C.cmp self.now.cmp) bytes parts
+            → C.accepts self.now.cmp key.now ≡ true
             → HoldsOnlyOf codings (C.cmp self.now.cmp) self.now.id bytes cache.old
             → IfOk result (λ found. found ≡ found_in (C.cmp self.now.cmp)
             (lets FP.matches self.now) key.now parts)) }
@@ -255,8 +254,7 @@ impl<E: Env, C: Cmp + Copy + Drop, FP: FilterPolicy> Table<E, C, FP> {
     ) -> Result<Block<C>>
         ensures reads { let codings = ⟦<CompressorList as Compressors>⟧.codings compressors.now in
             ReadsFile E.Env (IsLackError E.Env codings (λ bytes.
-            LacksBlock codings (C.cmp self.now.cmp) bytes handle) env.old self.now.file) env.old
-            self.now.file env.new result }
+            LacksBlock codings (C.cmp self.now.cmp) bytes handle) env.old self.now.file) env.old env.new result }
         ensures ok { let codings = ⟦<CompressorList as Compressors>⟧.codings compressors.now in
             IfOk result (λ block. ForBytesOf E.Env env.old self.now.file
             (λ bytes. HoldsOnlyOf codings (C.cmp self.now.cmp) self.now.id bytes cache.old

@@ -137,13 +137,12 @@ pub fn table_of<FP: FilterPolicy + Copy>(
     options: &Options<DefaultCmp, FP>,
     pairs: &[Given<'_>],
 ) -> Result<Vec<u8>> {
-    let mut table = Vec::new(rt.alloc());
     let compressors = &options.compressor_list;
-    let mut builder = TableBuilder::new_raw(rt.alloc(), options, &mut table);
+    let mut builder = TableBuilder::new_raw(rt.alloc(), options, Vec::new(rt.alloc()));
     add_all(rt, &mut builder, &options.cmp, compressors, pairs)?;
     assert!(rt; builder.entries() == pairs.len());
-    let size = builder.finish(compressors)?;
-    assert!(rt; table.len() == size);
+    let (table, size) = builder.finish(compressors);
+    assert!(rt; table.len() == size?);
     Ok(table)
 }
 
@@ -152,13 +151,12 @@ pub fn internal_table(
     rt: &(impl Abort + AllocGlobal),
     options: &Options<DefaultCmp, BloomPolicy>,
 ) -> Result<Vec<u8>> {
-    let mut table = Vec::new(rt.alloc());
     let compressors = &options.compressor_list;
-    let mut builder = TableBuilder::new(rt.alloc(), options, &mut table);
+    let mut builder = TableBuilder::new(rt.alloc(), options, Vec::new(rt.alloc()));
     let cmp = InternalKeyCmp(options.cmp);
     add_all(rt, &mut builder, &cmp, compressors, &ONE)?;
-    let size = builder.finish(compressors)?;
-    assert!(rt; (size, table.len()) == (177, 177));
+    let (table, size) = builder.finish(compressors);
+    assert!(rt; (size?, table.len()) == (177, 177));
     Ok(table)
 }
 

@@ -67,7 +67,7 @@ impl<C: Cmp + Copy, FP: FilterPolicy> BuilderCore<C, FP> {
     ghost use Rattle.leveldb_table.specs.TableBuilderStage.{Closes, first_key, with_pair};
     ghost use Rattle.leveldb_table.specs.TableBuilder.{stage, last_of, order_of, policy_of, IsBegun, IsBroken, IsReady, IsReadyFor, IsClosable, KeepsChoices, IsBuiltTable, IsFull, table_estimate, PutsEnd, ClosesLast, MakesRoom, AddsPair, FinishesTable};
     ghost use Rattle.leveldb_table.specs.TableBuilderAdd.{ClosesBlock, HasRoom, TriesOpen, IsNotClosed, IsAddError};
-    ghost use Rattle.leveldb_table.specs.TableBuilderFinish.{StopsFromFilters, StopsUnset, ClosesRest, IsLeftOpen, IsFinishError};
+    ghost use Rattle.leveldb_table.specs.TableBuilderFinish.{PutsRest, StopsFromFilters, StopsUnset, ClosesRest, IsLeftOpen, IsFinishError};
 
     /// A builder under the options' order and policy as they are.
     pub fn new(alloc: Global, options: &Options<C, FP>) -> BuilderCore<C, FP>
@@ -219,6 +219,9 @@ impl<C: Cmp + Copy, FP: FilterPolicy> BuilderCore<C, FP> {
             (FP.matches (policy_of self)) (FP.filter_for (policy_of self)) self.compressor
             (FP.name (policy_of self)) self.block.interval self.index.interval) sink.old size
             sink.new) }
+        ensures pieces { IfOk result (λ size. PutsRest
+            (⟦<CompressorList as Compressors>⟧.codings compressors.now) self S.puts S.flushes
+            sink.old size sink.new) }
         ensures unbroken { OnOk result (self.broken ≡ false) }
         ensures cause { IfErr result (λ status. IsFinishError
             (⟦<CompressorList as Compressors>⟧.codings compressors.now) self S.puts S.flushes

@@ -59,14 +59,14 @@ impl<E: Env, C: Cmp + Copy + Drop, FP: FilterPolicy> Table<E, C, FP> {
 
 impl<'a, E: Env, C: Cmp + Copy + Drop, FP: FilterPolicy> TableIterator<'a, E, C, FP> {
     ghost use Rattle.leveldb_table.specs.TableReaderMoves.{Forward, Backward, ToFirst, ToLast, ToKey};
-    ghost use Rattle.leveldb_table.specs.TableReader.{CanSeek, pairs_in};
+    ghost use Rattle.leveldb_table.specs.TableReader.{pairs_in};
     ghost use Rattle.leveldb_table.specs.TableReaderWalk.{MovesInTable, IsAtPosition, current_of, inner_position};
 
     /// Moves to the next pair, from no position to the first, and from the last to no position.
     /// Returns whether it is at a pair.
     pub fn advance(&mut self, compressors: &CompressorList) -> Result<bool>
         ensures moves { MovesInTable E.Env (⟦<CompressorList as Compressors>⟧.codings
-            compressors.now) (C.cmp self.old.table.now.cmp) self.old.table.now.id
+            compressors.now) (C.accepts self.old.table.now.cmp) (C.cmp self.old.table.now.cmp) self.old.table.now.id
             self.old.table.now.file (λ _. Unit {0}) next_position Forward self.old.env.now
             self.old.cache.now self.old.core result self.new.env.now self.new.cache.now
             self.new.core }
@@ -84,7 +84,7 @@ impl<'a, E: Env, C: Cmp + Copy + Drop, FP: FilterPolicy> TableIterator<'a, E, C,
     /// Returns whether it is at a pair.
     pub fn prev(&mut self, compressors: &CompressorList) -> Result<bool>
         ensures moves { MovesInTable E.Env (⟦<CompressorList as Compressors>⟧.codings
-            compressors.now) (C.cmp self.old.table.now.cmp) self.old.table.now.id
+            compressors.now) (C.accepts self.old.table.now.cmp) (C.cmp self.old.table.now.cmp) self.old.table.now.id
             self.old.table.now.file (λ _. Unit {0})
             (λ _. previous_position) Backward self.old.env.now self.old.cache.now self.old.core
             result self.new.env.now self.new.cache.now self.new.core }
@@ -102,8 +102,8 @@ impl<'a, E: Env, C: Cmp + Copy + Drop, FP: FilterPolicy> TableIterator<'a, E, C,
     /// are before it.
     pub fn seek(&mut self, compressors: &CompressorList, key: &[u8]) -> Result<()>
         ensures moves { MovesInTable E.Env (⟦<CompressorList as Compressors>⟧.codings
-            compressors.now) (C.cmp self.old.table.now.cmp) self.old.table.now.id
-            self.old.table.now.file (CanSeek (C.accepts self.old.table.now.cmp) key.now)
+            compressors.now) (C.accepts self.old.table.now.cmp) (C.cmp self.old.table.now.cmp) self.old.table.now.id
+            self.old.table.now.file (λ _. C.accepts self.old.table.now.cmp key.now ≡ true)
             (λ pairs _. seek_position (C.cmp self.old.table.now.cmp) pairs key.now)
             (ToKey key.now) self.old.env.now self.old.cache.now self.old.core result
             self.new.env.now self.new.cache.now self.new.core }
@@ -118,7 +118,7 @@ impl<'a, E: Env, C: Cmp + Copy + Drop, FP: FilterPolicy> TableIterator<'a, E, C,
     /// Moves to the first pair, or to no position in an empty table.
     pub fn seek_to_first(&mut self, compressors: &CompressorList) -> Result<()>
         ensures moves { MovesInTable E.Env (⟦<CompressorList as Compressors>⟧.codings
-            compressors.now) (C.cmp self.old.table.now.cmp) self.old.table.now.id
+            compressors.now) (C.accepts self.old.table.now.cmp) (C.cmp self.old.table.now.cmp) self.old.table.now.id
             self.old.table.now.file (λ _. Unit {0})
             (λ pairs _. position_within pairs 0) ToFirst self.old.env.now self.old.cache.now
             self.old.core result self.new.env.now self.new.cache.now self.new.core }

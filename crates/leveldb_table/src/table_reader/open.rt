@@ -28,7 +28,7 @@ pub fn read_footer<E: Env>(
     size: usize,
 ) -> Result<Footer>
     ensures reads { ReadsFile E.Env (IsDamaged E.Env (λ bytes. (meta index : Handle)
-        → EndsInFooter bytes size meta index → ⊥) env.old file.now) env.old file.now env.new
+        → EndsInFooter bytes size meta index → ⊥) env.old file.now) env.old env.new
         result }
     ensures ok { IfOk result (λ footer. ForBytesOf E.Env env.old file.now
         (λ bytes. EndsInFooter bytes size footer.meta_index footer.index)) }
@@ -57,7 +57,7 @@ pub fn read_filters<E: Env, FP: FilterPolicy + Drop>(
 ) -> Result<Option<FilterBlockReader<FP>>>
     ensures reads { ReadsFile E.Env (IsDamaged E.Env (λ bytes. (filters : Option (List (List ℕ)))
         → HasFiltersBy bytes (value_under (filter_key (FP.name policy)) metas.now) filters → ⊥)
-        env.old file.now) env.old file.now env.new result }
+        env.old file.now) env.old env.new result }
     ensures ok { IfOk result (λ filters. ForBytesOf E.Env env.old file.now
         (λ bytes. HasFiltersBy bytes (value_under (filter_key (FP.name policy)) metas.now)
         (filters_in filters))) }

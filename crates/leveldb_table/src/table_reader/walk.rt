@@ -39,7 +39,7 @@ pub struct TableCore<C: Cmp> {
 impl<C: Cmp + Copy + Drop> TableCore<C> {
     ghost use Rattle.leveldb_table.specs.TableReaderBlocks.{IsBlockAt, IsBlockOf, line_of, MovesFromLine};
     ghost use Rattle.leveldb_table.specs.TableReaderMoves.{Forward, Backward, ToFirst, ToLast, ToNextBlock, ToPreviousBlock, ToKey, ToKeyIfLet};
-    ghost use Rattle.leveldb_table.specs.TableReader.{CanSeek, pairs_in, lines_of, lets};
+    ghost use Rattle.leveldb_table.specs.TableReader.{pairs_in, lines_of, lets};
     ghost use Rattle.leveldb_table.specs.TableReaderWalk.{MovesInTable, IsAtPosition, inner_block, inner_position, inner_pairs, current_of, pairs_over, position_over};
 
     /// At no position.
@@ -69,7 +69,7 @@ impl<C: Cmp + Copy + Drop> TableCore<C> {
         compressors: &CompressorList,
     ) -> Result<bool>
         ensures moves { MovesInTable E.Env (⟦<CompressorList as Compressors>⟧.codings
-            compressors.now) (C.cmp table.now.cmp) table.now.id table.now.file
+            compressors.now) (C.accepts table.now.cmp) (C.cmp table.now.cmp) table.now.id table.now.file
             (λ _. Unit {0}) next_position Forward env.old cache.old self.old result env.new
             cache.new self.new }
         ensures there { IfOk result (λ there. there ≡ is_some (inner_position self.new.inner)) }
@@ -92,7 +92,7 @@ impl<C: Cmp + Copy + Drop> TableCore<C> {
         compressors: &CompressorList,
     ) -> Result<bool>
         ensures moves { MovesInTable E.Env (⟦<CompressorList as Compressors>⟧.codings
-            compressors.now) (C.cmp table.now.cmp) table.now.id table.now.file (λ _. Unit {0})
+            compressors.now) (C.accepts table.now.cmp) (C.cmp table.now.cmp) table.now.id table.now.file (λ _. Unit {0})
             (λ _. previous_position) Backward env.old cache.old self.old result env.new cache.new
             self.new }
         ensures there { IfOk result (λ there. there ≡ is_some (inner_position self.new.inner)) }
@@ -117,8 +117,8 @@ impl<C: Cmp + Copy + Drop> TableCore<C> {
         key: &[u8],
     ) -> Result<()>
         ensures moves { MovesInTable E.Env (⟦<CompressorList as Compressors>⟧.codings
-            compressors.now) (C.cmp table.now.cmp) table.now.id table.now.file
-            (CanSeek (C.accepts table.now.cmp) key.now)
+            compressors.now) (C.accepts table.now.cmp) (C.cmp table.now.cmp) table.now.id table.now.file
+            (λ _. C.accepts table.now.cmp key.now ≡ true)
             (λ pairs _. seek_position (C.cmp table.now.cmp) pairs key.now)
             (ToKey key.now) env.old cache.old self.old result env.new cache.new self.new }
     {
@@ -140,7 +140,7 @@ impl<C: Cmp + Copy + Drop> TableCore<C> {
         compressors: &CompressorList,
     ) -> Result<()>
         ensures moves { MovesInTable E.Env (⟦<CompressorList as Compressors>⟧.codings
-            compressors.now) (C.cmp table.now.cmp) table.now.id table.now.file (λ _. Unit {0})
+            compressors.now) (C.accepts table.now.cmp) (C.cmp table.now.cmp) table.now.id table.now.file (λ _. Unit {0})
             (λ pairs _. position_within pairs 0) ToFirst env.old cache.old self.old result env.new
             cache.new self.new }
     {
@@ -205,7 +205,7 @@ impl<C: Cmp + Copy + Drop> TableCore<C> {
         key: &[u8],
     ) -> Result<bool>
         ensures enters { MovesFromLine E.Env (⟦<CompressorList as Compressors>⟧.codings
-            compressors.now) (C.cmp table.now.cmp) table.now.id table.now.file
+            compressors.now) (C.accepts table.now.cmp) (C.cmp table.now.cmp) table.now.id table.now.file
             (IsLetPosition (C.accepts table.now.cmp) (C.cmp table.now.cmp)
             (lets FP.matches table.now) key.now) (ToKeyIfLet (lets FP.matches table.now) key.now)
             env.old cache.old self.old result env.new cache.new self.new }
@@ -254,7 +254,7 @@ impl<C: Cmp + Copy + Drop> TableCore<C> {
         requires names { IsNamedBy (line_of self.old) handle }
         requires fits { HandleFits handle }
         ensures enters { MovesFromLine E.Env (⟦<CompressorList as Compressors>⟧.codings
-            compressors.now) (C.cmp table.now.cmp) table.now.id table.now.file
+            compressors.now) (C.accepts table.now.cmp) (C.cmp table.now.cmp) table.now.id table.now.file
             (IsKeyPosition (C.accepts table.now.cmp) (C.cmp table.now.cmp) key.now)
             (ToKey key.now) env.old cache.old self.old result env.new cache.new self.new }
     {
@@ -275,7 +275,7 @@ impl<C: Cmp + Copy + Drop> TableCore<C> {
         compressors: &CompressorList,
     ) -> Result<bool>
         ensures enters { MovesFromLine E.Env (⟦<CompressorList as Compressors>⟧.codings
-            compressors.now) (C.cmp table.now.cmp) table.now.id table.now.file
+            compressors.now) (C.accepts table.now.cmp) (C.cmp table.now.cmp) table.now.id table.now.file
             (λ parts position. IsAfterLine parts (position_over self.old.index) position)
             ToNextBlock env.old cache.old self.old result env.new cache.new self.new }
         ensures there { IfOk result (λ there. there ≡ is_some (inner_position self.new.inner)) }
@@ -300,7 +300,7 @@ impl<C: Cmp + Copy + Drop> TableCore<C> {
         compressors: &CompressorList,
     ) -> Result<bool>
         ensures enters { MovesFromLine E.Env (⟦<CompressorList as Compressors>⟧.codings
-            compressors.now) (C.cmp table.now.cmp) table.now.id table.now.file
+            compressors.now) (C.accepts table.now.cmp) (C.cmp table.now.cmp) table.now.id table.now.file
             (λ parts position. IsBeforeBlock parts (position_over self.old.index) position)
             ToPreviousBlock env.old cache.old self.old result env.new cache.new self.new }
         ensures there { IfOk result (λ there. there ≡ is_some (inner_position self.new.inner)) }
@@ -353,7 +353,7 @@ impl<C: Cmp + Copy + Drop> TableCore<C> {
         ensures reads { let codings = ⟦<CompressorList as Compressors>⟧.codings compressors.now in
             ReadsFile E.Env (IsLackError E.Env codings (λ bytes.
             LacksLine codings (C.cmp table.now.cmp) bytes (line_of self.old)) env.old
-            table.now.file) env.old table.now.file env.new result }
+            table.now.file) env.old env.new result }
         ensures block { let codings = ⟦<CompressorList as Compressors>⟧.codings compressors.now in
             OnOk result (ForBytesOf E.Env env.old table.now.file
             (λ bytes. HoldsOnlyOf codings (C.cmp table.now.cmp) table.now.id bytes cache.old
@@ -385,8 +385,7 @@ impl<C: Cmp + Copy + Drop> TableCore<C> {
     ) -> Result<()>
         ensures reads { let codings = ⟦<CompressorList as Compressors>⟧.codings compressors.now in
             ReadsFile E.Env (IsLackError E.Env codings (λ bytes.
-            LacksBlock codings (C.cmp table.now.cmp) bytes handle) env.old table.now.file) env.old
-            table.now.file env.new result }
+            LacksBlock codings (C.cmp table.now.cmp) bytes handle) env.old table.now.file) env.old env.new result }
         ensures block { let codings = ⟦<CompressorList as Compressors>⟧.codings compressors.now in
             OnOk result (ForBytesOf E.Env env.old table.now.file
             (λ bytes. HoldsOnlyOf codings (C.cmp table.now.cmp) table.now.id bytes cache.old

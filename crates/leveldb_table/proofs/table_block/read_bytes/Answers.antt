@@ -2,8 +2,9 @@ use Rattle.std.proofs.Common.{◌≡◌, ◌+◌, ◌-◌, ◌<◌, ◌≤◌, �
 use Rattle.std.proofs.lemmas.List.{length-take-le, with_items_is}
 use Rattle.std.specs.Prelude.{IsTrue}
 use borrow.Rule.Slice.PartMut.{put_mid}
-use Rattle.leveldb_env.specs.Env.{ReadsAt}
-use Rattle.leveldb_table.proofs.TableBlockLemmas.{length-put_after, take-put_after, front_kept, gathers_none, gathers_more, ends_here, ends_within, KeepsDisk-trans, KeepsDisk-call, reads_ok, reads_own, reads_call, reads_then, reads_refused}
+use Rattle.leveldb_env.specs.Env.{ReadsFrom}
+use Rattle.leveldb_table.specs.TableBlock.{ForBytesOf}
+use Rattle.leveldb_table.proofs.TableBlockLemmas.{length-put_after, take-put_after, front_kept, gathers_none, gathers_more, ends_here, ends_within, FileHas-after, KeepsDisk-trans, reads_ok, reads_own, reads_then, reads_refused}
 use Rattle.leveldb_table.proofs.table_block.read_bytes.Goals as goal
 
 pub loop-alloc-init : goal.loop-alloc-init
@@ -25,15 +26,16 @@ pub returns-in_err-came-clause-reads : goal.returns-in_err-came-clause-reads
 returns-in_err-came-clause-reads g c =
     let so_far = c.loop-alloc.invariant.gathers in
     let call = c.in_err-came.ensures in
-    reads_then g.E.Env c.from_residual-in_err-came.result so_far.kept_disk so_far.counted (λ status why. why)
-    (reads_refused g.E.Env {T = ℕ} c.from_residual-in_err-came.result c.from_residual-in_err-came.ensures.1 (reads_call g.E.Env _ call.does call.locks call.cause))
+    reads_then g.E.Env c.from_residual-in_err-came.result so_far.kept_disk so_far.counted
+    (λ status damaged. (damaged.0, λ bytes has. absurd (damaged.1 bytes (FileHas-after g.E.Env so_far.kept_disk has))))
+    (reads_refused g.E.Env {T = ℕ} c.from_residual-in_err-came.result c.from_residual-in_err-came.ensures.1 call.reads)
 
 pub returns-then-came-eq0-clause-reads : goal.returns-then-came-eq0-clause-reads
 returns-then-came-eq0-clause-reads g c =
     let so_far = c.loop-alloc.invariant.gathers in
     let read = c.loop-alloc.read.items in
     let grown = c.deref_mut.result.now in
-    let target = c.read_at.new.target in
+    let target = c.read_some.new.target in
     let call = c.in_ok-came.ensures in
     let known = c.len-known.result in
     let more = c.min-more.result in
@@ -42,14 +44,14 @@ returns-then-came-eq0-clause-reads g c =
     let least : more ≡ min (c.args.size - known) c.max.result = c.min-more.ensures in
     let len_is : length grown ≡ c.resize.new.self.len = c.deref_mut.ensures.len in
     let grew : c.resize.new.self.len ≡ known + more = c.in_ok-resize.ensures.len in
-    let room_is : length target ≡ length (take (length grown - known) (drop known grown)) = c.read_at.auto.target in
+    let room_is : length target ≡ length (take (length grown - known) (drop known grown)) = c.read_some.auto.target in
     let all : length grown ≡ known + more = len_is ∙ grew in
     let inside : known ≤ length grown = omega (arith, all) in
     let room : length target ≡ length grown - known = room_is ∙ length-take-le (length grown - known) (drop known grown) (omega (arith, length-drop known grown)) in
     let some : 0 < length target = omega (arith, c.loop-alloc-test.true) in
-    let none = subst (λ n. IsTrue g.E.Env.models_disk → ReadsAt ((g.E.Env.observed c.loop-alloc.env).disk.files (g.E.Env.name_of c.args.file.now)) c.in-Some.next n target) c.if-came-eq0.true call.bytes in
-    let counted = call.cause.ok ∙ so_far.counted in
-    let kept_disk = KeepsDisk-trans g.E.Env so_far.kept_disk (KeepsDisk-call g.E.Env call.does call.locks) in
+    let none = subst (λ n. ForBytesOf g.E.Env c.loop-alloc.env c.args.file.now (ReadsFrom c.in-Some.next n target)) c.if-came-eq0.true call.bytes in
+    let counted = call.reads.cause.ok ∙ so_far.counted in
+    let kept_disk = KeepsDisk-trans g.E.Env so_far.kept_disk call.reads.kept_disk in
     let ends = ends_here g.E.Env c.args.env.now c.loop-alloc.env c.args.file.now c.args.offset read so_far c.args.size c.in-Some.next target (omega arith) (omega arith) some none in
     reads_own g.E.Env c.err-then-came-eq0.result kept_disk counted c.err-then-came-eq0.ensures.code (λ status code. inr (code, ends))
 
@@ -58,7 +60,7 @@ loop-alloc-preserved g c =
     let so_far = c.loop-alloc.invariant.gathers in
     let read = c.loop-alloc.read.items in
     let grown = c.deref_mut.result.now in
-    let target = c.read_at.new.target in
+    let target = c.read_some.new.target in
     let call = c.in_ok-came.ensures in
     let known = c.len-known.result in
     let more = c.min-more.result in
@@ -67,7 +69,7 @@ loop-alloc-preserved g c =
     let least : more ≡ min (c.args.size - known) c.max.result = c.min-more.ensures in
     let len_is : length grown ≡ c.resize.new.self.len = c.deref_mut.ensures.len in
     let grew : c.resize.new.self.len ≡ known + more = c.in_ok-resize.ensures.len in
-    let room_is : length target ≡ length (take (length grown - known) (drop known grown)) = c.read_at.auto.target in
+    let room_is : length target ≡ length (take (length grown - known) (drop known grown)) = c.read_some.auto.target in
     let all : length grown ≡ known + more = len_is ∙ grew in
     let inside : known ≤ length grown = omega (arith, all) in
     let room : length target ≡ length grown - known = room_is ∙ length-take-le (length grown - known) (drop known grown) (omega (arith, length-drop known grown)) in
@@ -79,7 +81,7 @@ loop-alloc-preserved g c =
     let now : c.truncate.new.self.items ≡ read ++ take came target =
     c.truncate.ensures.items ∙ ap (take (known + came)) (with_items_is c.resize.new.self held count) ∙ take-put_after grown target known inside (length grown - known) came fits ∙ ap (λ z. z ++ take came target) front in
     record {
-      gathers = gathers_more g.E.Env c.args.env.now c.loop-alloc.env c.args.file.now c.args.offset read so_far c.in-Some.next came target c.truncate.new.self.items (omega arith) fits now call.does call.locks call.cause call.bytes;
+      gathers = gathers_more g.E.Env c.args.env.now c.loop-alloc.env c.args.file.now c.args.offset read so_far c.in-Some.next came target c.truncate.new.self.items (omega arith) fits now call.reads.kept_disk call.reads.cause.ok call.bytes;
       fits = omega (arith, ap length now, length-append read (take came target), length-take came target);
     }
 

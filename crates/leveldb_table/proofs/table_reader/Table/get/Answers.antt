@@ -17,7 +17,7 @@ returns-in_err-seek_let-clause-reads g c =
     (reads_weaker g.E.Env _ (λ status lacks. (
       lacks.0,
       λ bytes has. (
-        λ parts lines ordered right accepted fit holds. (lacks.1 bytes has).0 parts (let_position (g.C.Cmp.cmp c.args.self.now.cmp) passes c.args.key.now parts) right (accepted, fit, refl) holds
+        λ parts lines ordered right fit holds. (lacks.1 bytes has).0 parts (let_position (g.C.Cmp.cmp c.args.self.now.cmp) passes c.args.key.now parts) right (fit, refl) holds
             (record { lines = made.lines ∙ lines; ordered = ap g.C.Cmp.cmp made.order ∙ ordered }),
         λ holds. looked_along ((TheImpl.ghosts g.dyn-1).codings c.args.compressors.now) (g.C.Cmp.cmp c.args.self.now.cmp) bytes (lets g.FP.FilterPolicy.matches c.args.self.now) c.args.key.now c.in_ok-core.core (Err status) made.lines (ap g.C.Cmp.cmp made.order) ((lacks.1 bytes has).1 holds),
       ),
@@ -27,9 +27,9 @@ pub returns-then-branch-clause-ok : goal.returns-then-branch-clause-ok
 returns-then-branch-clause-ok g c =
     let made = c.in_ok-core.ensures in
     let passes = lets g.FP.FilterPolicy.matches c.args.self.now in
-    λ bytes has parts lines ordered right accepted fit holds. ok_says c.into_pair.result
+    λ bytes has parts lines ordered right fit holds. ok_says c.into_pair.result
     (λ found is. is ∙ found_by passes c.args.key.now c.seek_let.new.self
-    (c.in_ok-seek_let.ensures.enters.ok bytes has parts (let_position (g.C.Cmp.cmp c.args.self.now.cmp) passes c.args.key.now parts) right (accepted, fit, refl) holds
+    (c.in_ok-seek_let.ensures.enters.ok bytes has parts (let_position (g.C.Cmp.cmp c.args.self.now.cmp) passes c.args.key.now parts) right (fit, refl) holds
     (record { lines = made.lines ∙ lines; ordered = ap g.C.Cmp.cmp made.order ∙ ordered }))) c.into_pair.ensures.ok
 
 pub returns-then-branch-clause-finds : goal.returns-then-branch-clause-finds
@@ -59,6 +59,6 @@ returns-clause-ok g c =
     let passes = lets g.FP.FilterPolicy.matches c.args.self.now in
     let new = c.seek_let.new.self in
     let none = none_there (inner_position new.inner) (sym c.in_ok-seek_let.ensures.there ∙ c.if-branch.false) in
-    λ bytes has parts lines ordered right accepted fit holds. sym (ap (pair_at (inner_pairs new.inner)) none) ∙ found_by passes c.args.key.now new
-    (c.in_ok-seek_let.ensures.enters.ok bytes has parts (let_position (g.C.Cmp.cmp c.args.self.now.cmp) passes c.args.key.now parts) right (accepted, fit, refl) holds
+    λ bytes has parts lines ordered right fit holds. sym (ap (pair_at (inner_pairs new.inner)) none) ∙ found_by passes c.args.key.now new
+    (c.in_ok-seek_let.ensures.enters.ok bytes has parts (let_position (g.C.Cmp.cmp c.args.self.now.cmp) passes c.args.key.now parts) right (fit, refl) holds
     (record { lines = made.lines ∙ lines; ordered = ap g.C.Cmp.cmp made.order ∙ ordered }))

@@ -1,6 +1,5 @@
 use Rattle.std.proofs.Common.{sym, ap, refl, ◌∙◌, subst, ◌+◌, inl, inr}
 use Rattle.std.proofs.lemmas.Result.{err_from_is_err_and, IfOk-weaker}
-use Rattle.leveldb_env.proofs.SinkLemmas.{PutsAll-one, PutsAll-trans}
 use Rattle.leveldb_table.specs.TableBuilder.{IsPlaced}
 use Rattle.leveldb_table.proofs.TableLemmas.{IfErr-with}
 use Rattle.leveldb_table.proofs.TableBuilderFinishLemmas.{block_placed, block_ends}
@@ -146,7 +145,6 @@ returns-clause-ok g c =
         encoded = refl;
         ends = footer.ends ∙ ap (λ n. n + 48) (block_ends puts index.2);
       };
-      put = PutsAll-trans puts (PutsAll-one puts filters.put) (PutsAll-trans puts (PutsAll-one puts meta.2.put) (PutsAll-trans puts (PutsAll-one puts index.2.put)
-          (PutsAll-one puts (rw c.new.ensures at footer.put))));
+      put = (_, filters.put, (_, meta.2.put, (_, index.2.put, (_, rw c.new.ensures at footer.put, refl))));
       flushed = footer.flushed;
     }) c.put_footer.ensures.ok

@@ -48,8 +48,8 @@ returns-then-branch g c =
     record {
       enters = record {
         reads = reads_ok g.E.Env read.reads.kept_disk read.reads.cause.ok;
-        ok = λ bytes has parts position right fit holds indexed. subst (IsAtPosition cmp parts new) (sym fit.2)
-            (sought_in c.args.key.now right indexed c.requires.line (g.met.C.Cmp.preorder c.args.table.now.cmp) fit.0 fit.1 new (line_there (pairs_over old.index) (position_over old.index) c.args.handle c.requires.names) (sought bytes has holds)
+        ok = λ bytes has parts position right fit holds indexed. subst (IsAtPosition cmp parts new) (sym fit.1)
+            (sought_in c.args.key.now right indexed c.requires.line (g.met.C.Cmp.preorder c.args.table.now.cmp) fit.0 new (line_there (pairs_over old.index) (position_over old.index) c.args.handle c.requires.names) (sought bytes has holds)
             (sym step.there ∙ c.if-branch.true));
         steps = λ bytes has holds. sought_inside codings cmp bytes c.args.key.now old new c.requires.line (line_there (pairs_over old.index) (position_over old.index) c.args.handle c.requires.names) (sought bytes has holds) (sym step.there ∙ c.if-branch.true);
         err = tt;
@@ -70,8 +70,8 @@ returns-in_err-to_next_block g c =
     record {
       enters = enters_refused c.from_residual-in_err-to_next_block.result c.from_residual-in_err-to_next_block.ensures.1
           (enters_then old read.reads.kept_disk read.reads.cause.ok read.gathers (ap pairs_over (step.index ∙ read.index)) (ap (λ z. z.block.cmp) (step.index ∙ read.index))
-          (λ bytes has parts position right fit holds indexed. subst (IsAfterLine parts (position_over mid.index)) (sym fit.2)
-          (sought_after c.args.key.now right indexed c.requires.line (g.met.C.Cmp.preorder c.args.table.now.cmp) fit.0 fit.1 mid (line_there (pairs_over old.index) (position_over old.index) c.args.handle c.requires.names)
+          (λ bytes has parts position right fit holds indexed. subst (IsAfterLine parts (position_over mid.index)) (sym fit.1)
+          (sought_after c.args.key.now right indexed c.requires.line (g.met.C.Cmp.preorder c.args.table.now.cmp) fit.0 mid (line_there (pairs_over old.index) (position_over old.index) c.args.handle c.requires.names)
           (is_sought codings cmp bytes c.args.key.now old c.load.new.self mid c.args.handle c.requires.fits c.requires.names read.index (read.block bytes has holds) step.index step.block step.pairs step.ok)
           (none_there (inner_position mid.inner) (sym step.there ∙ c.if-branch.false))))
           (λ bytes has holds out. sought_next codings cmp bytes c.args.key.now old mid out c.requires.line (line_there (pairs_over old.index) (position_over old.index) c.args.handle c.requires.names)
@@ -90,8 +90,8 @@ returns g c =
     record {
       enters = enters_ok tt
           (enters_then old read.reads.kept_disk read.reads.cause.ok read.gathers (ap pairs_over (step.index ∙ read.index)) (ap (λ z. z.block.cmp) (step.index ∙ read.index))
-          (λ bytes has parts position right fit holds indexed. subst (IsAfterLine parts (position_over mid.index)) (sym fit.2)
-          (sought_after c.args.key.now right indexed c.requires.line (g.met.C.Cmp.preorder c.args.table.now.cmp) fit.0 fit.1 mid (line_there (pairs_over old.index) (position_over old.index) c.args.handle c.requires.names)
+          (λ bytes has parts position right fit holds indexed. subst (IsAfterLine parts (position_over mid.index)) (sym fit.1)
+          (sought_after c.args.key.now right indexed c.requires.line (g.met.C.Cmp.preorder c.args.table.now.cmp) fit.0 mid (line_there (pairs_over old.index) (position_over old.index) c.args.handle c.requires.names)
           (is_sought codings cmp bytes c.args.key.now old c.load.new.self mid c.args.handle c.requires.fits c.requires.names read.index (read.block bytes has holds) step.index step.block step.pairs step.ok)
           (none_there (inner_position mid.inner) (sym step.there ∙ c.if-branch.false))))
           (λ bytes has holds out. sought_next codings cmp bytes c.args.key.now old mid out c.requires.line (line_there (pairs_over old.index) (position_over old.index) c.args.handle c.requires.names)

@@ -16,9 +16,9 @@ returns-in_default g c =
     let found = c.in_ok-seek.ensures in
     let none = none_at c.seek.new.self (sym c.current.ensures ∙ ap pair_of c.in_default.is) in
     record {
-      moves = moves_enters {Way = IsKeyPosition (g.C.Cmp.accepts c.args.table.now.cmp) (g.C.Cmp.cmp c.args.table.now.cmp) key} {to = λ pairs _. seek_position (g.C.Cmp.cmp c.args.table.now.cmp) pairs key} {Part_step = ToKey key} old refl refl (λ parts position fit is_there. (fit.0, fit.1, refl)) (λ bytes out sought. sought)
+      moves = moves_enters {Way = IsKeyPosition (g.C.Cmp.accepts c.args.table.now.cmp) (g.C.Cmp.cmp c.args.table.now.cmp) key} {to = λ pairs _. seek_position (g.C.Cmp.cmp c.args.table.now.cmp) pairs key} {Part_step = ToKey key} old refl refl (λ parts position fit is_there. (fit, refl)) (λ bytes out sought. sought)
           (enters_ends old _ tt (block_lines c.seek.new.self old.index found.block) (ap (λ z. z.cmp) found.block) refl
-          (λ bytes parts position right fit indexed. fit.2 ∙ seek_none (g.met.C.Cmp.preorder c.args.table.now.cmp) right.parted fit.0 key fit.1 (index_line parts old.index key _ indexed.lines indexed.ordered found.ok ∙ none))
+          (λ bytes parts position right fit indexed. fit.1 ∙ seek_none (g.met.C.Cmp.preorder c.args.table.now.cmp) right.parted right.accepted key fit.0 (index_line parts old.index key _ indexed.lines indexed.ordered found.ok ∙ none))
           (λ bytes. seeks_none ((TheImpl.ghosts g.dyn-1).codings c.args.compressors.now) (g.C.Cmp.cmp c.args.table.now.cmp) bytes (pairs_over old.index) key (line_for key old) _ (sym found.ok ∙ none) found.ok refl));
     }
 
@@ -30,7 +30,7 @@ returns-in_err-handle g c =
     let lines = block_lines c.seek.new.self old.index found.block in
     let line : pair_at (pairs_over c.seek.new.self) (position_over c.seek.new.self) ≡ Some (c.in-Some.field-0-0.now, c.in-Some.value.now) = sym c.current.ensures ∙ ap pair_of c.in-Some.is in
     record {
-      moves = moves_enters {Way = IsKeyPosition (g.C.Cmp.accepts c.args.table.now.cmp) (g.C.Cmp.cmp c.args.table.now.cmp) key} {to = λ pairs _. seek_position (g.C.Cmp.cmp c.args.table.now.cmp) pairs key} {Part_step = ToKey key} old refl refl (λ parts position fit is_there. (fit.0, fit.1, refl)) (λ bytes out sought. sought)
+      moves = moves_enters {Way = IsKeyPosition (g.C.Cmp.accepts c.args.table.now.cmp) (g.C.Cmp.cmp c.args.table.now.cmp) key} {to = λ pairs _. seek_position (g.C.Cmp.cmp c.args.table.now.cmp) pairs key} {Part_step = ToKey key} old refl refl (λ parts position fit is_there. (fit, refl)) (λ bytes out sought. sought)
           (enters_own old _ c.from_residual-in_err-handle.result lines (ap (λ z. z.cmp) found.block) refl c.from_residual-in_err-handle.ensures.1 (λ status is.
           let code = ap (λ z. z.code) is ∙ c.in_err-handle.ensures.err.0 in
           inr (
@@ -48,5 +48,5 @@ returns g c =
     let found = c.in_ok-seek.ensures in
     record {
       moves = moves_enters {Way = IsKeyPosition (g.C.Cmp.accepts c.args.table.now.cmp) (g.C.Cmp.cmp c.args.table.now.cmp) c.args.key.now} {to = λ pairs _. seek_position (g.C.Cmp.cmp c.args.table.now.cmp) pairs c.args.key.now} old (block_lines c.seek.new.self old.index found.block) (ap (λ z. z.cmp) found.block)
-          (λ parts position fit is_there. (fit.0, fit.1, refl)) (λ bytes out. sought_along ((TheImpl.ghosts g.dyn-1).codings c.args.compressors.now) (g.C.Cmp.cmp c.args.table.now.cmp) bytes c.args.key.now old (record old { index = c.seek.new.self; inner = None }) out (block_lines c.seek.new.self old.index found.block) (ap (λ z. z.cmp) found.block)) c.enter.ensures.enters;
+          (λ parts position fit is_there. (fit, refl)) (λ bytes out. sought_along ((TheImpl.ghosts g.dyn-1).codings c.args.compressors.now) (g.C.Cmp.cmp c.args.table.now.cmp) bytes c.args.key.now old (record old { index = c.seek.new.self; inner = None }) out (block_lines c.seek.new.self old.index found.block) (ap (λ z. z.cmp) found.block)) c.enter.ensures.enters;
     }

@@ -19,7 +19,7 @@ returns-in_default-clause-enters g c =
     let found = c.in_ok-seek.ensures in
     let none = none_at c.seek.new.self (sym c.current.ensures ∙ ap pair_of c.in_default.is) in
     enters_ends old _ false (block_lines c.seek.new.self old.index found.block) (ap (λ z. z.cmp) found.block) refl
-    (λ bytes parts position right fit indexed. fit.2 ∙ let_none (g.C.Cmp.cmp c.args.table.now.cmp) (lets g.FP.FilterPolicy.matches c.args.table.now) key parts (index_line parts old.index key _ indexed.lines indexed.ordered found.ok ∙ none))
+    (λ bytes parts position right fit indexed. fit.1 ∙ let_none (g.C.Cmp.cmp c.args.table.now.cmp) (lets g.FP.FilterPolicy.matches c.args.table.now) key parts (index_line parts old.index key _ indexed.lines indexed.ordered found.ok ∙ none))
     (λ bytes. looks_none ((TheImpl.ghosts g.dyn-1).codings c.args.compressors.now) (g.C.Cmp.cmp c.args.table.now.cmp) bytes (pairs_over old.index) (lets g.FP.FilterPolicy.matches c.args.table.now) key (line_for key old) _ (sym found.ok ∙ none) found.ok refl)
 
 pub returns-in_err-handle-clause-enters : goal.returns-in_err-handle-clause-enters
@@ -47,7 +47,7 @@ returns-then-not-lets-clause-enters g c =
     let lines = block_lines c.seek.new.self old.index found.block in
     let refuses = ap (λ n. lets g.FP.FilterPolicy.matches c.args.table.now n key) (sym c.offset.ensures) ∙ sym c.lets.ensures ∙ c.if-not-lets.true in
     enters_ends old _ false lines (ap (λ z. z.cmp) found.block) refl
-    (λ bytes parts position right fit indexed. fit.2 ∙ let_by c.seek.new.self key c.in-Some.field-0-0.now c.in-Some.value.now c.in_ok-handle.handle (lets g.FP.FilterPolicy.matches c.args.table.now) false right (lines ∙ indexed.lines)
+    (λ bytes parts position right fit indexed. fit.1 ∙ let_by c.seek.new.self key c.in-Some.field-0-0.now c.in-Some.value.now c.in_ok-handle.handle (lets g.FP.FilterPolicy.matches c.args.table.now) false right (lines ∙ indexed.lines)
     (index_line parts old.index key (position_over c.seek.new.self) indexed.lines indexed.ordered found.ok) (sym c.current.ensures ∙ ap pair_of c.in-Some.is) c.in_ok-handle.ensures.ok.1 refuses)
     (λ bytes. looks_refused ((TheImpl.ghosts g.dyn-1).codings c.args.compressors.now) (g.C.Cmp.cmp c.args.table.now.cmp) bytes (pairs_over old.index) (lets g.FP.FilterPolicy.matches c.args.table.now) key (line_for key old) _ c.in_ok-handle.handle c.in_ok-handle.ensures.ok.0 (names_one c.in_ok-handle.handle (line_by lines found.ok (sym c.current.ensures ∙ ap pair_of c.in-Some.is)) c.in_ok-handle.ensures.ok.1) refuses refl)
 
@@ -62,8 +62,7 @@ returns-in_err-enter-clause-enters g c =
     (enters_then {Way = IsKeyPosition (g.C.Cmp.accepts c.args.table.now.cmp) (g.C.Cmp.cmp c.args.table.now.cmp) key} old (KeepsDisk-refl g.E.Env c.args.env.now) refl (GainsBlocks-refl c.args.table.now.id _ c.args.cache.now) lines (ap (λ z. z.cmp) found.block)
     (λ bytes has parts position right fit holds indexed. (
       fit.0,
-      fit.1,
-      fit.2 ∙ let_by c.seek.new.self key c.in-Some.field-0-0.now c.in-Some.value.now c.in_ok-handle.handle (lets g.FP.FilterPolicy.matches c.args.table.now) true right (lines ∙ indexed.lines)
+      fit.1 ∙ let_by c.seek.new.self key c.in-Some.field-0-0.now c.in-Some.value.now c.in_ok-handle.handle (lets g.FP.FilterPolicy.matches c.args.table.now) true right (lines ∙ indexed.lines)
           (index_line parts old.index key (position_over c.seek.new.self) indexed.lines indexed.ordered found.ok) (sym c.current.ensures ∙ ap pair_of c.in-Some.is) c.in_ok-handle.ensures.ok.1 passes,
     ))
     (λ bytes has holds out. looked_up ((TheImpl.ghosts g.dyn-1).codings c.args.compressors.now) (g.C.Cmp.cmp c.args.table.now.cmp) bytes (lets g.FP.FilterPolicy.matches c.args.table.now) key c.in_ok-handle.handle old (record old { index = c.seek.new.self; inner = None }) out lines (ap (λ z. z.cmp) found.block) c.in_ok-handle.ensures.ok.0 (names_one c.in_ok-handle.handle (line_by lines found.ok (sym c.current.ensures ∙ ap pair_of c.in-Some.is)) c.in_ok-handle.ensures.ok.1) passes) c.in_err-enter.ensures.enters)
@@ -79,8 +78,7 @@ returns-clause-enters g c =
     (enters_then {Way = IsKeyPosition (g.C.Cmp.accepts c.args.table.now.cmp) (g.C.Cmp.cmp c.args.table.now.cmp) key} old (KeepsDisk-refl g.E.Env c.args.env.now) refl (GainsBlocks-refl c.args.table.now.id _ c.args.cache.now) lines (ap (λ z. z.cmp) found.block)
     (λ bytes has parts position right fit holds indexed. (
       fit.0,
-      fit.1,
-      fit.2 ∙ let_by c.seek.new.self key c.in-Some.field-0-0.now c.in-Some.value.now c.in_ok-handle.handle (lets g.FP.FilterPolicy.matches c.args.table.now) true right (lines ∙ indexed.lines)
+      fit.1 ∙ let_by c.seek.new.self key c.in-Some.field-0-0.now c.in-Some.value.now c.in_ok-handle.handle (lets g.FP.FilterPolicy.matches c.args.table.now) true right (lines ∙ indexed.lines)
           (index_line parts old.index key (position_over c.seek.new.self) indexed.lines indexed.ordered found.ok) (sym c.current.ensures ∙ ap pair_of c.in-Some.is) c.in_ok-handle.ensures.ok.1 passes,
     ))
     (λ bytes has holds out. looked_up ((TheImpl.ghosts g.dyn-1).codings c.args.compressors.now) (g.C.Cmp.cmp c.args.table.now.cmp) bytes (lets g.FP.FilterPolicy.matches c.args.table.now) key c.in_ok-handle.handle old (record old { index = c.seek.new.self; inner = None }) out lines (ap (λ z. z.cmp) found.block) c.in_ok-handle.ensures.ok.0 (names_one c.in_ok-handle.handle (line_by lines found.ok (sym c.current.ensures ∙ ap pair_of c.in-Some.is)) c.in_ok-handle.ensures.ok.1) passes) c.in_ok-enter.ensures.enters)
