@@ -65,7 +65,7 @@ module _ (cmp : List ℕ → List ℕ → Ordering) (opening : Opening) (key val
   }
 
   writes : Step cmp quiet opened (write (record { key = key; value = Some value } ∷ []) true) done written
-  writes = record { later = omega arith; step = (small, record { state = refl; covered = inr refl; synced = λ t. refl }) }
+  writes = record { later = omega arith; step = (small, record { numbers = omega arith; state = refl; covered = inr refl; synced = λ t. refl }) }
 
   opens_again : Step cmp quiet left (open_store opening) done written
   opens_again = record {
