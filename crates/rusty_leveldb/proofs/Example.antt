@@ -9,7 +9,7 @@ use Rattle.rusty_leveldb.specs.State.{State, Opening, open_store, write, get, do
 use Rattle.rusty_leveldb.specs.Causes.{Faults, Misfits, IsLongKey, IsLongBatch}
 use Rattle.rusty_leveldb.specs.Machine.{Step}
 use Rattle.rusty_leveldb.specs.Runs.{Event, StopsAt, Lives, new_state}
-use Rattle.rusty_leveldb.specs.Laws.{SyncedIsFound, told_at, written_and_found}
+use Rattle.rusty_leveldb.specs.Laws.{SyncedCanBeFound, told_at, written_and_found}
 
 not_false : (b : Bool) → IsTrue b → b ≡ false → ⊥
 not_false true t e = absurd (cc)
@@ -65,7 +65,7 @@ module _ (cmp : List ℕ → List ℕ → Ordering) (opening : Opening) (key val
   }
 
   writes : Step cmp quiet opened (write (record { key = key; value = Some value } ∷ []) true) done written
-  writes = record { later = omega arith; step = (small, record { state = refl; covered = inr refl; synced = λ t. refl }) }
+  writes = record { later = omega arith; step = (small, record { numbers = omega arith; state = refl; covered = inr refl; synced = λ t. refl }) }
 
   opens_again : Step cmp quiet left (open_store opening) done written
   opens_again = record {
@@ -120,5 +120,5 @@ module _ (cmp : List ℕ → List ℕ → Ordering) (opening : Opening) (key val
     (0, written, (written, opens_again, (written, finds, (refl, refl))), (refl, refl)),
   )
 
-pub synced_is_found : SyncedIsFound
-synced_is_found cmp opening key value short small fits compresses create there = (written cmp opening key value short small fits compresses create there, lives cmp opening key value short small fits compresses create there)
+pub synced_can_be_found : SyncedCanBeFound
+synced_can_be_found cmp opening key value short small fits compresses create there = (written cmp opening key value short small fits compresses create there, lives cmp opening key value short small fits compresses create there)

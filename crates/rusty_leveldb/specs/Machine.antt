@@ -1,9 +1,10 @@
 -- The store as a machine: which answer a request may have in a state, and in which state the store then is.
-use Rattle.std.specs.Prelude.{◌≡◌, ◌≤◌, ◌+◌, ◌-◌, ◌^◌, ◌⊎◌, ℕ, Bool, true, false, List, [], ◌∷◌, ◌++◌, length, Option, Some, None, Contains, IsTrue}
+use Rattle.std.specs.Prelude.{◌≡◌, ◌≤◌, ◌+◌, ◌-◌, ◌^◌, ◌⊎◌, ℕ, Bool, true, false, List, [], ◌∷◌, ◌++◌, length, max, Option, Some, None, Contains, IsTrue}
 use Rattle.std.specs.declared.cmp.Ordering.{Ordering}
 use Rattle.leveldb_base.specs.History.{Item, Entry, History, placed, entries_of, greatest, with_batch, count_of, IsPrefixAtLeast, IsValueAt, IsView}
 use Rattle.leveldb_base.specs.Types.{Pair, position_within, next_position, previous_position, seek_position, pair_at}
 use Rattle.leveldb_version.specs.Contents.{Store, missing, made}
+use Rattle.rusty_leveldb.specs.OneLog.{max_sequence}
 use Rattle.rusty_leveldb.specs.State.{Mode, open_mode, broken, closed, Snapshot, Opening, State, Move, seek_to_first, advance, prev, seek, reset, Request, open_store, write, get, walk, get_snapshot, release_snapshot, flush, compact_range, close, abandon, Refusal, Landing, stands_on, nowhere, move_refused, Answer, done, found, walked, snapshot, refused}
 use Rattle.rusty_leveldb.specs.Causes.{Faults, Cause, out_of_memory, device_failed, lock_is_held, bad_operand, store_exists, Misfits, MoveMisfits, Comes, MoveComes, IsClosedRefusal, IsBrokenRefusal}
 
@@ -22,9 +23,15 @@ pub record Keeps (old new : State) : Type 0 where
 abbrev pub batch_of : State → List Item → List Entry
 batch_of old items = placed (old.last + 1) items
 
--- a batch stands at the end of the history, and all is covered where that was asked for
+-- A batch whose numbers fit is at the end of the history, and all is covered where that was asked for. Of an
+-- empty batch the first number has to fit, too.
 pub record Writes (old : State) (items : List Item) (sync : Bool) (new : State) : Type 0 where
-  pub state : new ≡ record old { history = old.history ++ batch_of old items ∷ []; last = old.last + length items; covered = new.covered }
+  pub numbers : old.last + max 1 (length items) ≤ max_sequence
+  pub state : new ≡ record old {
+    history = old.history ++ batch_of old items ∷ [];
+    last = old.last + length items;
+    covered = new.covered;
+  }
   pub covered : MayCover old.covered old.history new.covered ⊎ (new.covered ≡ length new.history)
   pub synced : IsTrue sync → new.covered ≡ length new.history
 
@@ -251,8 +258,9 @@ risk_between state = record {
   opening = None;
 }
 
--- At a moment of a request: the history after it, and what is pending then; so a batch is at risk once its append has begun.
--- While a store is opened it is the history before it, since what was pending may yet be found.
+-- At a moment of a request: the history after it, and what is pending then; so a batch is at risk from its
+-- write's first moment on. While a store is opened it is the history before it, since what was pending may yet
+-- be found.
 abbrev pub risk_of : Request → State → State → Risk
 risk_of (open_store opening) old new = record (risk_between old) { opening = Some opening }
 risk_of request old new = risk_between new

@@ -150,7 +150,7 @@ module _ {E C FP F I : Type 0} {D : I → Type 0} (env : Ghosts E F) (store : Li
       step = record {
         later = omega (arith, added.counted);
         step = subst (λ m. StepIn cmp m (faults_between (env.failures from) (env.failures to)) old (write items sync) done new) (sym was.mode)
-            (not_long bytes (old.last + 1) items next.is_batch, record { state = refl; covered = wrote.covers; synced = wrote.synced_is });
+            (not_long bytes (old.last + 1) items next.is_batch, record { numbers = let first = next.first_fits in let all = next.all_fit in omega arith; state = refl; covered = wrote.covers; synced = wrote.synced_is });
       };
       moments = done_moments env store engine from old was items bytes next wrote.moments;
       files = record { untouched = λ never. absurd never; refused = λ logging is_refused. absurd is_refused; stopped = λ not_open takes. absurd (not_open was.mode); bytes = λ never. absurd never };

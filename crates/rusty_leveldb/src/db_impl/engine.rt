@@ -30,8 +30,8 @@ pub enum Mode {
 #[derive(Drop)]
 pub struct Engine<E: Env, C: Cmp, FP> {
     pub(crate) alloc: Global,
-    /// What it was opened with.
-    pub options: Options<C, FP>,
+    // What it was opened with.
+    pub(crate) options: Options<C, FP>,
     // The name of the lock.
     pub(crate) lock: String,
     pub(crate) log: E::File,

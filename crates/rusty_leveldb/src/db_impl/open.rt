@@ -25,9 +25,10 @@ use std::alloc::Global;
 
 impl<E: Env, C: UserCmp + Copy, FP: FilterPolicy + Copy> Engine<E, C, FP> {
     /// Opens the store under this name, which isn't empty and doesn't end in a slash.
-    /// A missing store is made, or `InvalidArgument` where the options say so; a locked one is `LockError`.
-    /// A refused opening gives back the lock that it took, unless the device refuses that too. A store that is damaged or locked, or is
-    /// missing and isn't to be made, is never opened; its files stay as they are, but that its lock's file may be made.
+    /// A missing store is made, or `InvalidArgument` if the options say so; a locked one is `LockError`.
+    /// An opening that fails gives back the lock that it took, unless the device failed once more. A store
+    /// that is damaged or locked, or is missing and isn't to be made, is never opened; its files stay as
+    /// they are, but that its lock's file may be made.
     pub fn open(
         alloc: Global,
         name: &str,
