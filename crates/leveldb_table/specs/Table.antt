@@ -236,6 +236,7 @@ DecodesOne Decodes =
 abbrev pub OneTable : (ℕ → List ℕ → List ℕ → Type 0) → (List ℕ → List ℕ → Ordering) → Type 0
 OneTable Decodes cmp =
     DecodesOne Decodes → (accepts others_accept : List ℕ → Bool)
-    (meaning other : List ℕ → Option (List ℕ → List ℕ → Bool)) (user part : List ℕ → List ℕ) (file : List ℕ) (pairs others : List Pair)
+    (meaning other : List ℕ → Option (List ℕ → List ℕ → Bool)) (user part : List ℕ → List ℕ)
+    (file : List ℕ) (pairs others : List Pair)
     → IsTable Decodes accepts cmp meaning user file pairs
     → IsTable Decodes others_accept cmp other part file others → pairs ≡ others

@@ -7,6 +7,7 @@ use Rattle.std.specs.Ordering.{is_gt, is_lt, ordering_reverse, ordering_then}
 use Rattle.std.specs.declared.cmp.Ordering.{Ordering}
 use Rattle.std.specs.declared.cmp.Ordering.TheVariants.{Equal, Greater, Less}
 use Rattle.leveldb_base.proofs.HistoryLemmas.{in_cases, in_front, in_none, in_rest}
+use Rattle.leveldb_base.specs.Cmp.{internal_accepts}
 use Rattle.leveldb_base.specs.CmpLaws.{user_part-internal_key}
 use Rattle.leveldb_base.specs.History.{Entry}
 use Rattle.leveldb_base.specs.KeyTypes.{internal_cmp, user_part}
@@ -17,14 +18,14 @@ use Rattle.leveldb_table.specs.Table.{DecodesOne, OneTable}
 use Rattle.leveldb_version.proofs.LevelsLemmas.{none_before, reversed}
 use Rattle.leveldb_version.specs.Batches.{Each}
 use Rattle.leveldb_version.specs.Levels.{IsBounded, IsInRange, LiveTable}
-use Rattle.leveldb_version.specs.Store.{HasTable, IsEntryPair, IsStoreTable, OneTableReading}
+use Rattle.leveldb_version.specs.Store.{HasTable, IsEntryPair, IsStoreTable, OneTableReading, any_user_key}
 
 pub one_store_table : (Decodes : ℕ → List ℕ → List ℕ → Type 0)
     (cmp : List ℕ → List ℕ → Ordering) (meaning : List ℕ → Option (List ℕ → List ℕ → Bool))
     → DecodesOne Decodes → OneTable Decodes (internal_cmp cmp)
     → OneTableReading (IsStoreTable Decodes cmp meaning)
 one_store_table Decodes cmp meaning decodes one bytes these those p q =
-    one decodes meaning meaning user_part user_part bytes these those p q
+    one decodes (internal_accepts any_user_key) (internal_accepts any_user_key) meaning meaning user_part user_part bytes these those p q
 
 -- each of the second elements has a partner
 each_in : {A B : Type 0} (R : A → B → Type 0) (xs : List A) (ys : List B) (y : B) → Each R xs ys

@@ -1,10 +1,11 @@
 -- What a store's files are: a manifest that `CURRENT` names, tables, and logs; and what is read of
 -- them.
 use Rattle.leveldb_table.specs.Table.{IsTable}
-use Rattle.std.specs.Prelude.{◌≡◌, ◌≢◌, ◌<◌, ◌≤◌, ◌^◌, ◌⊎◌, ◌↔◌, Bool, ℕ, List, [], ◌∷◌, ◌++◌, length, max, flat_map, Option, Some, None, IsSome, Contains}
+use Rattle.std.specs.Prelude.{◌≡◌, ◌≢◌, ◌<◌, ◌≤◌, ◌^◌, ◌⊎◌, ◌↔◌, Bool, true, ℕ, List, [], ◌∷◌, ◌++◌, length, max, flat_map, Option, Some, None, IsSome, Contains}
 use Rattle.std.specs.declared.cmp.Ordering.{Ordering}
 use Rattle.leveldb_base.specs.declared.key_types.ValueType.{ValueType}
 use Rattle.leveldb_base.specs.declared.types.FileType.TheVariants.{Log, Table}
+use Rattle.leveldb_base.specs.Cmp.{internal_accepts}
 use Rattle.leveldb_base.specs.History.{Entry, greatest}
 use Rattle.leveldb_base.specs.KeyTypes.{greatest_sequence, internal_cmp, internal_key, user_part}
 use Rattle.leveldb_base.specs.Names.{IsFileName, file_name}
@@ -143,13 +144,17 @@ IsFirstKey key pairs = (value : List ℕ) × (rest : List Pair) × (pairs ≡ (k
 abbrev pub IsLastKey : List ℕ → List Pair → Type 0
 IsLastKey key pairs = (front : List Pair) × (value : List ℕ) × (pairs ≡ front ++ (key, value) ∷ [])
 
--- Bytes are a table of these pairs, in the order of internal keys, with filters that let their user
--- keys pass. `Decodes` says what compressors decode, `cmp` is the order of user keys, and `meaning`
--- says of the name of a filter policy what its filters mean.
+-- any bytes are a user key
+abbrev pub any_user_key : List ℕ → Bool
+any_user_key key = true
+
+-- Bytes are a table of these pairs, in the order of internal keys, each with its tag, and with
+-- filters that let their user keys pass. `Decodes` says what compressors decode, `cmp` is the order
+-- of user keys, and `meaning` says of the name of a filter policy what its filters mean.
 abbrev pub IsStoreTable : (ℕ → List ℕ → List ℕ → Type 0) → (List ℕ → List ℕ → Ordering)
     → (List ℕ → Option (List ℕ → List ℕ → Bool)) → List ℕ → List Pair → Type 0
 IsStoreTable Decodes cmp meaning bytes pairs =
-    IsTable Decodes (internal_cmp cmp) meaning user_part bytes pairs
+    IsTable Decodes (internal_accepts any_user_key) (internal_cmp cmp) meaning user_part bytes pairs
 
 -- ---- the store
 
