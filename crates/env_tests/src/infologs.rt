@@ -46,7 +46,7 @@ fn logged(alloc: Global, is_broken: bool) -> Result<[usize; 2]> {
 
 #[test]
 fn lines_are_handed_to_the_sink(rt: HostRuntime) -> Result<()> {
-    assert!(rt; logged(rt.alloc(), false)? == [2, 25 + 5]);
+    assert!(rt; logged(rt.alloc(), false)? == [2, 20 + 5]);
     Ok(())
 }
 
