@@ -37,30 +37,13 @@ fn damaged<T>(alloc: Global) -> Result<T> {
     err(alloc, StatusCode::Corruption, "the files are no store")
 }
 
-/// Whether a file was missing.
-fn is_missing(read: &Result<Vec<u8>>) -> bool {
-    match read {
-        Ok(_) => false,
-        Err(status) => status.code == StatusCode::NotFound,
-    }
-}
-
-/// All bytes of a file that the store has. `Corruption` where it is missing.
-fn read_part<E: Env>(alloc: Global, env: &mut E, path: &str) -> Result<Vec<u8>> {
-    let read = read_file(alloc, env, path);
-    if is_missing(&read) {
-        return damaged(alloc);
-    }
-    read
-}
-
 /// The set that the manifest in use leaves.
 fn read_manifest<E: Env>(alloc: Global, env: &mut E, store: &str) -> Result<FileSet> {
     let current = current_file_name(alloc, store)?;
-    let text = read_part(alloc, env, &current)?;
+    let text = read_file(alloc, env, &current)?;
     let (name, _) = parse_current_text(alloc, text.as_slice())?;
     let path = format!(in alloc; "{store}/{name}")?;
-    read_part(alloc, env, &path)?;
+    read_file(alloc, env, &path)?;
     let (records, _) = read_log_file(alloc, env, &path)?;
     let mut set = FileSet::new(alloc);
     for record in &records {
@@ -202,7 +185,7 @@ fn read_table<E: Env>(
     file: FileMetaData,
 ) -> Result<LiveTable> {
     let path = table_file_name(alloc, store, file.num)?;
-    let bytes = read_part(alloc, env, &path)?;
+    let bytes = read_file(alloc, env, &path)?;
     let Some(pairs) = table_pairs(alloc, bytes.as_slice())? else {
         return damaged(alloc);
     };
