@@ -335,10 +335,10 @@ impl<C: Cmp + Copy + Drop> TableCore<C> {
             return Ok(false);
         }
         self.load_line(table, env, cache, compressors)?;
-        if !self.to_last()? {
-            return self.empty_block_error();
+        if self.to_last()? {
+            return Ok(true);
         }
-        Ok(true)
+        self.empty_block_error()
     }
 
     // Reads the block that the index's line names, and is at no position of it.
