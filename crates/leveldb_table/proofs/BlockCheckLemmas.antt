@@ -1,6 +1,7 @@
 -- What reading the parts of an entry, one after the other, finds.
-use Rattle.std.proofs.Common.{◌≡◌, ℕ, ◌+◌, ◌^◌, ◌<◌, ◌≤◌, true, false, nat_eq, List, [], ◌∷◌, ◌++◌, length, drop, None, sym, ◌∙◌, ap, arith, length-append, length-drop, inl, inr, leb, ◌-◌, Bool, if◌then◌else◌, flat_map, Option, Some, IsSome, refl, subst, append_assoc, ◌*◌, take, get_or}
+use Rattle.std.proofs.Common.{◌≡◌, ℕ, ◌+◌, ◌^◌, ◌<◌, ◌≤◌, true, false, nat_eq, List, [], ◌∷◌, ◌++◌, length, drop, None, sym, ◌∙◌, ap, arith, length-append, length-drop, inl, inr, leb, ◌-◌, Bool, if◌then◌else◌, flat_map, Option, Some, IsSome, refl, subst, append_assoc, ◌*◌, take, get_or, bit_or}
 use Rattle.std.proofs.lemmas.Bool.{cases_lt, lt-leb, eqb-true}
+use Rattle.std.proofs.lemmas.Nat.{le_or_l, le_or_r}
 use Rattle.std.proofs.lemmas.List.{take-append-drop, append-nil, append_cancel_left, nil_from_length, take_at, drop_at, drop-drop, take_all, take_rest, length-take-le}
 use Rattle.std.specs.List.{IsSplitAt, All}
 use Rattle.std.proofs.lemmas.List.Elements.{All-nil, All-push, All-drop, All-take}
@@ -39,6 +40,12 @@ module _ (bytes : List ℕ) where
   pub too_short : length bytes < 3 → ReadsLengths bytes None
   too_short short shared rest value left fits_s fits_n fits_m e =
       omega (arith, short, length-varint-pos shared, length-varint-pos rest, length-varint-pos value, ap length e, length-append (varint shared) (varint rest ++ (varint value ++ left)), length-append (varint rest) (varint value ++ left), length-append (varint value) left)
+
+-- numbers that have no bit from the eighth on together
+pub all_small : (s n m : ℕ) → bit_or (bit_or s n) m < 128 → (s < 128) × (n < 128) × (m < 128)
+all_small s n m small =
+    let front = le_or_l (bit_or s n) m in
+    (omega (arith, small, front, le_or_l s n), omega (arith, small, front, le_or_r s n), omega (arith, small, le_or_r (bit_or s n) m))
 
 -- numbers below 128
 short_lengths : (s n m : ℕ) (texts : List ℕ) → s < 128 → n < 128 → m < 128 → s ∷ n ∷ m ∷ texts ≡ varint s ++ (varint n ++ (varint m ++ texts))
@@ -92,12 +99,12 @@ module _ (bytes : List ℕ) where
       pub reads_entry : (value left : List ℕ) → IsSplitAt after m value left → shared < 2 ^ 32 → n < 2 ^ 32 → m < 2 ^ 32
           → LengthsFit (block_entry false shared rest value) × (bytes ≡ parts_bytes shared rest value ++ left)
       reads_entry value left last fits_s fits_n fits_m = let size = last.3 in let last_whole = split_whole last in (
-          record { shared_fits = fits_s; rest_fits = omega (arith, fits, fits_n); value_fits = omega (arith, size, fits_m) },
-          front ∙ ap (λ z. varint shared ++ z)
-              (ap (λ z. varint z ++ (varint m ++ c)) (sym fits) ∙ ap (λ z. varint (length rest) ++ z)
-              (ap (λ z. varint z ++ c) (sym size) ∙ ap (λ z. varint (length value) ++ z) (cut_whole ∙ ap (λ z. rest ++ z) last_whole)))
-              ∙ sym (spread shared rest value left),
-        )
+        record { shared_fits = fits_s; rest_fits = omega (arith, fits, fits_n); value_fits = omega (arith, size, fits_m) },
+        front ∙ ap (λ z. varint shared ++ z)
+            (ap (λ z. varint z ++ (varint m ++ c)) (sym fits) ∙ ap (λ z. varint (length rest) ++ z)
+            (ap (λ z. varint z ++ c) (sym size) ∙ ap (λ z. varint (length value) ++ z) (cut_whole ∙ ap (λ z. rest ++ z) last_whole)))
+            ∙ sym (spread shared rest value left),
+      )
 
 -- ---- numbers of four bytes
 

@@ -330,7 +330,7 @@ module _ {C : Type 0} {order : CmpGhosts C} where
 
   -- ---- to the end
 
-  module _ {codings : Codings} {cmp : List ℕ → List ℕ → Ordering} {bytes : List ℕ} {parts : List Part} {old : TableCore C order} (has : HasParts codings cmp bytes parts) (indexed : IsIndexed cmp parts old) where
+  module _ {codings : Codings} {accepts : List ℕ → Bool} {cmp : List ℕ → List ℕ → Ordering} {bytes : List ℕ} {parts : List Part} {old : TableCore C order} (has : HasParts codings accepts cmp bytes parts) (indexed : IsIndexed cmp parts old) where
     -- to the last pair of the last block
     pub last_is_there : (new : TableCore C order) → IsInto codings cmp bytes (last_position (pairs_over old.index)) last_position old new
         → ((k : ℕ) × (inner_position new.inner ≡ Some k)) × IsAtPosition cmp parts new (last_position (pairs_in parts))

@@ -58,7 +58,8 @@ fn take_lengths(bytes: &[u8]) -> Option<(Lengths, &[u8])>
     let [shared, rest, value, texts @ ..] = bytes else {
         return None;
     };
-    if *shared >= 128 || *rest >= 128 || *value >= 128 {
+    let all = *shared | *rest | *value;
+    if all >= 128 {
         return take_long_lengths(bytes);
     }
     Some((

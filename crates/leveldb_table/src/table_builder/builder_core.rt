@@ -317,7 +317,7 @@ impl<C: Cmp + Copy, FP: FilterPolicy> BuilderCore<C, FP> {
         if self.block.entries() == 0 {
             return Ok(());
         }
-        let last = self.block.last_key();
+        let last = self.last_key();
         let next = self.block.order().find_short_succ(self.alloc, last)?;
         self.close_block(sink, compressors, &next)
     }
@@ -348,7 +348,7 @@ impl<C: Cmp + Copy, FP: FilterPolicy> BuilderCore<C, FP> {
             self.old.compressor ≡ None → IsErrAnd result (λ status.
             IsUnset self.old.compressor status ⊎ IsOutOfMemory status) × (sink.new ≡ sink.old) }
     {
-        let last = self.block.last_key();
+        let last = self.last_key();
         let separator = self
             .block
             .order()

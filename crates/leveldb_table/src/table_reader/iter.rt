@@ -133,10 +133,10 @@ impl<'a, E: Env, C: Cmp + Copy + Drop, FP: FilterPolicy> TableIterator<'a, E, C,
     /// Moves to the last pair, or to no position in an empty table.
     pub fn seek_to_last(&mut self, compressors: &CompressorList) -> Result<()>
         ensures moves { MovesInTable E.Env (⟦<CompressorList as Compressors>⟧.codings
-            compressors.now) (C.cmp self.old.table.now.cmp) self.old.table.now.id
-            self.old.table.now.file (λ _. Unit {0}) (λ pairs _. last_position pairs) ToLast
-            self.old.env.now self.old.cache.now self.old.core result self.new.env.now
-            self.new.cache.now self.new.core }
+            compressors.now) (C.accepts self.old.table.now.cmp) (C.cmp self.old.table.now.cmp)
+            self.old.table.now.id self.old.table.now.file (λ _. Unit {0})
+            (λ pairs _. last_position pairs) ToLast self.old.env.now self.old.cache.now
+            self.old.core result self.new.env.now self.new.cache.now self.new.core }
         ensures env_reference { self.new.env.ghost_name ≡ self.old.env.ghost_name }
         ensures cache_reference { self.new.cache.ghost_name ≡ self.old.cache.ghost_name }
         ensures table { self.new.table.now ≡ self.old.table.now }

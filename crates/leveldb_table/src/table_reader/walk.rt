@@ -158,9 +158,9 @@ impl<C: Cmp + Copy + Drop> TableCore<C> {
         compressors: &CompressorList,
     ) -> Result<()>
         ensures moves { MovesInTable E.Env (⟦<CompressorList as Compressors>⟧.codings
-            compressors.now) (C.cmp table.now.cmp) table.now.id table.now.file (λ _. Unit {0})
-            (λ pairs _. last_position pairs) ToLast env.old cache.old self.old result env.new
-            cache.new self.new }
+            compressors.now) (C.accepts table.now.cmp) (C.cmp table.now.cmp) table.now.id
+            table.now.file (λ _. Unit {0}) (λ pairs _. last_position pairs) ToLast env.old
+            cache.old self.old result env.new cache.new self.new }
     {
         self.to_last_block(table, env, cache, compressors)?;
         Ok(())
@@ -325,9 +325,9 @@ impl<C: Cmp + Copy + Drop> TableCore<C> {
         compressors: &CompressorList,
     ) -> Result<bool>
         ensures enters { MovesFromLine E.Env (⟦<CompressorList as Compressors>⟧.codings
-            compressors.now) (C.cmp table.now.cmp) table.now.id table.now.file
-            (λ parts position. position ≡ last_position (pairs_in parts)) ToLast env.old cache.old
-            self.old result env.new cache.new self.new }
+            compressors.now) (C.accepts table.now.cmp) (C.cmp table.now.cmp) table.now.id
+            table.now.file (λ parts position. position ≡ last_position (pairs_in parts)) ToLast
+            env.old cache.old self.old result env.new cache.new self.new }
     {
         self.inner = None;
         self.index.seek_to_last()?;
@@ -335,10 +335,10 @@ impl<C: Cmp + Copy + Drop> TableCore<C> {
             return Ok(false);
         }
         self.load_line(table, env, cache, compressors)?;
-        if !self.to_last()? {
-            return self.empty_block_error();
+        if self.to_last()? {
+            return Ok(true);
         }
-        Ok(true)
+        self.empty_block_error()
     }
 
     // Reads the block that the index's line names, and is at no position of it.

@@ -37,8 +37,8 @@ returns-in_err-load_line g c =
       };
     }
 
-pub returns-then-not-branch : goal.returns-then-not-branch
-returns-then-not-branch g c =
+pub returns : goal.returns
+returns g c =
     let codings = (TheImpl.ghosts g.dyn-1).codings c.args.compressors.now in
     let cmp = g.C.Cmp.cmp c.args.table.now.cmp in
     let old = c.args.self.now in
@@ -52,7 +52,7 @@ returns-then-not-branch g c =
     → IsInto codings cmp bytes (last_position (pairs_over old.index)) last_position old new = λ bytes has holds.
     is_into codings cmp bytes (last_position (pairs_over old.index)) last_position old loaded new c.seek_to_last.new.self c.in_ok-seek_to_last.ensures.block c.in_ok-seek_to_last.ensures.ok there
     read.index (read.block bytes has holds) step.index step.block step.pairs step.ok in
-    let none : inner_position new.inner ≡ None = none_there (inner_position new.inner) (sym step.there ∙ c.if-not-branch.true) in
+    let none : inner_position new.inner ≡ None = none_there (inner_position new.inner) (sym step.there ∙ c.if-branch.false) in
     record {
       enters = record {
         reads = reads_own g.E.Env c.empty_block_error.result read.reads.kept_disk read.reads.cause.ok c.empty_block_error.ensures
@@ -72,8 +72,8 @@ returns-then-not-branch g c =
       };
     }
 
-pub returns : goal.returns
-returns g c =
+pub returns-then-branch : goal.returns-then-branch
+returns-then-branch g c =
     let codings = (TheImpl.ghosts g.dyn-1).codings c.args.compressors.now in
     let cmp = g.C.Cmp.cmp c.args.table.now.cmp in
     let old = c.args.self.now in
@@ -91,7 +91,7 @@ returns g c =
       enters = record {
         reads = reads_ok g.E.Env read.reads.kept_disk read.reads.cause.ok;
         ok = λ bytes has parts position right fit holds indexed. subst (IsAtPosition cmp parts new) (sym fit) (last_is_there right indexed new (into bytes has holds)).1;
-        steps = λ bytes has holds. into_at codings cmp bytes old new (into bytes has holds) (sym step.there ∙ c.if-not-branch.false);
+        steps = λ bytes has holds. into_at codings cmp bytes old new (into bytes has holds) (sym step.there ∙ c.if-branch.true);
         err = tt;
         gathers = read.gathers;
         same_lines = ap pairs_over index ∙ block_lines c.seek_to_last.new.self c.args.self.now.index c.in_ok-seek_to_last.ensures.block;
