@@ -1,5 +1,5 @@
 //! Filter blocks built and read, under a policy whose filters show the keys that they were made of.
-ghost use Rattle.std.specs.Prelude.{◌≡◌, ◌<◌, ◌≤◌, true, [], length, IfOk, IfErr, OnOk, slice_index_or};
+ghost use Rattle.std.specs.Prelude.{◌≡◌, ◌<◌, ◌≤◌, ◌*◌, ◌/◌, true, [], length, IfOk, IfErr, OnOk, slice_index_or};
 ghost use Rattle.std.specs.List.{concat};
 ghost use Rattle.leveldb_base.specs.Error.{IsOutOfMemory};
 ghost use Rattle.leveldb_env.specs.Filter.{keys_at};
@@ -96,6 +96,17 @@ fn add_keys<FP: FilterPolicy>(builder: &mut FilterBlockBuilder<FP>) -> Result<()
     builder.add_key(b"mnopqrstuvwxyz")
 }
 
+/// Adds the keys of two blocks, at 0 and at 5000; a third block has the second one's filter.
+fn add_blocks<FP: FilterPolicy>(builder: &mut FilterBlockBuilder<FP>) -> Result<()>
+    requires { length builder.old.filters ≡ 0 }
+{
+    builder.start_block(0)?;
+    add_keys(builder)?;
+    builder.start_block(5000)?;
+    builder.start_block(6143)?;
+    add_keys(builder)
+}
+
 fn reader_of(alloc: Global, bytes: &[u8]) -> Result<FilterBlockReader<JoinedKeys>> {
     FilterBlockReader::new_owned(alloc, POLICY, Vec::from_slice(alloc, bytes)?)
 }
@@ -104,13 +115,18 @@ fn reader_of(alloc: Global, bytes: &[u8]) -> Result<FilterBlockReader<JoinedKeys
 fn built(rt: HostRuntime) -> Result<()> {
     let mut builder = FilterBlockBuilder::new(rt.alloc(), POLICY);
     assert!(rt; builder.filter_name() == "joined");
-    builder.start_block(0)?;
-    add_keys(&mut builder)?;
-    builder.start_block(5000)?;
-    builder.start_block(6143)?;
-    add_keys(&mut builder)?;
+    add_blocks(&mut builder)?;
     assert!(rt; builder.finish()?.as_slice() == BLOCK);
     Ok(())
+}
+
+/// The estimate once a block begins at this offset.
+fn estimate_at(builder: &mut FilterBlockBuilder<JoinedKeys>, offset: usize) -> Result<usize>
+    requires { 2048 * length builder.old.filters ≤ offset }
+    ensures { OnOk result (length builder.new.filters ≡ offset / 2048) }
+{
+    builder.start_block(offset)?;
+    Ok(builder.size_estimate())
 }
 
 /// Keys count once their filter is made.
@@ -118,14 +134,11 @@ fn built(rt: HostRuntime) -> Result<()> {
 fn estimates(rt: HostRuntime) -> Result<()> {
     let mut builder = FilterBlockBuilder::new(rt.alloc(), POLICY);
     assert!(rt; builder.size_estimate() == 5);
-    builder.start_block(0)?;
-    assert!(rt; builder.size_estimate() == 5);
+    assert!(rt; estimate_at(&mut builder, 0)? == 5);
     add_keys(&mut builder)?;
     assert!(rt; builder.size_estimate() == 5);
-    builder.start_block(5000)?;
-    assert!(rt; builder.size_estimate() == 39);
-    builder.start_block(6143)?;
-    assert!(rt; builder.size_estimate() == 39);
+    assert!(rt; estimate_at(&mut builder, 5000)? == 39);
+    assert!(rt; estimate_at(&mut builder, 6143)? == 39);
     Ok(())
 }
 

@@ -220,14 +220,17 @@ fn torn(alloc: Global) -> Result<RecordEnv> {
 /// Moments, the tail of the file that a crash then picks, and the files that it leaves.
 const LEFT: [(u64, &str, &str); 3] = [(7, "x", "a=1x "), (8, "23", "a=123 "), (10, "", "a=1 l= ")];
 
-/// Makes two calls on a disk that a crash left, and asserts what a crash then leaves.
-fn assert_goes_on(rt: &(impl Abort + AllocGlobal), left: &mut RecordEnv) -> Result<()> {
+/// Makes two calls on a disk that a crash left. Returns what a crash then leaves.
+fn go_on(left: &mut RecordEnv, alloc: Global) -> Result<RecordEnv> {
     left.lock("l")?;
-    run(left, rt.alloc(), Call::Append("a", "4"))?;
-    assert!(rt; left.moment() == 4);
-    let crashed = left.disk_at(rt.alloc(), 4, &no_tails(rt.alloc(), false))?;
-    assert!(rt; shown(&crashed, rt.alloc(), 0, false)?.starts_with(b"a=1"));
-    Ok(())
+    run(left, alloc, Call::Append("a", "4"))?;
+    left.disk_at(alloc, 4, &no_tails(alloc, false))
+}
+
+/// Whether a disk that a crash left goes on from moment 0, and a later crash keeps its kept bytes.
+fn goes_on(left: &mut RecordEnv, alloc: Global) -> Result<bool> {
+    let crashed = go_on(left, alloc)?;
+    Ok(left.moment() == 4 && shown(&crashed, alloc, 0, false)?.starts_with(b"a=1"))
 }
 
 #[test]
@@ -238,7 +241,7 @@ fn a_crash_leaves_a_disk_to_go_on_from(rt: HostRuntime) -> Result<()> {
         let mut left = env.disk_at(rt.alloc(), *moment, &pick)?;
         assert!(rt; left.moment() == 0);
         assert_shown(&rt, &left, 0, false, files)?;
-        assert_goes_on(&rt, &mut left)?;
+        assert!(rt; goes_on(&mut left, rt.alloc())?);
     }
     Ok(())
 }

@@ -11,7 +11,8 @@ use leveldb_base::error::{Result, StatusCode};
 use std::alloc::Global;
 
 /// What a call of an environment returned for a file that must be there: the same, but `Corruption`
-/// with the file's name in place of `NotFound`.
+/// with the file's name in place of `NotFound`. It can't see whether the device was counted to have
+/// failed, so a caller's clause excuses such an error only where it was not, as `IsLost` does.
 pub fn found<T>(alloc: Global, name: &str, answer: Result<T>) -> Result<T>
     ensures { IsFoundOr name.now answer result }
 {
