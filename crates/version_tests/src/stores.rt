@@ -38,7 +38,7 @@ fn put(alloc: Global, env: &mut MemEnv, name: &str, bytes: &[u8]) -> Result<()> 
     if path.as_str() == "temp" {
         return Ok(());
     }
-    replace_file(env, "temp", &path, bytes)
+    replace_file(alloc, env, "temp", &path, bytes)
 }
 
 /// An edit that sets a log's number and the last sequence number.
