@@ -12,8 +12,6 @@ mod checks;
 #[cfg(test)]
 mod footers;
 #[cfg(test)]
-mod round_trip;
-#[cfg(test)]
 mod short_reads;
 #[cfg(test)]
 mod table_blocks;
