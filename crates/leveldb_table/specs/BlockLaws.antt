@@ -1,6 +1,6 @@
 -- A block has one reading, and a position in it is one of its pairs. This is in specs/ since ghost
 -- fields cite it.
-use Rattle.std.proofs.Common.{◌≡◌, ℕ, ◌+◌, ◌*◌, ◌^◌, ◌<◌, ◌≤◌, Bool, true, false, nat_eq, if◌then◌else◌, List, [], ◌∷◌, ◌++◌, length, flat_map, Option, None, Some, refl, sym, ◌∙◌, ap, arith, append_assoc, length-append}
+use Rattle.std.proofs.Common.{◌≡◌, ℕ, ◌+◌, ◌*◌, ◌^◌, ◌<◌, ◌≤◌, Bool, true, false, if◌then◌else◌, List, [], ◌∷◌, ◌++◌, length, flat_map, Option, None, Some, refl, sym, ◌∙◌, ap, arith, append_assoc, length-append}
 use Rattle.std.proofs.Props.{props}
 use Rattle.std.proofs.lemmas.Bool.Decides.{nat_tests}
 use Rattle.std.specs.declared.cmp.Ordering.{Ordering}
@@ -12,7 +12,7 @@ use Rattle.leveldb_base.specs.Varint.{little, varint}
 use Rattle.leveldb_base.proofs.VarintLemmas.{apart, apart_right, one_number, length-varint-pos}
 use Rattle.leveldb_env.proofs.FilterBlockLemmas.{length-fours}
 use Rattle.leveldb_env.specs.FilterBlockLaws.{one_fixed, one_numbers}
-use Rattle.leveldb_table.specs.BlockCheck.{begins, points_after, block_entry}
+use Rattle.leveldb_table.specs.BlockCheck.{begins, points_after}
 use Rattle.leveldb_table.specs.Block.{BlockEntry, parts_bytes, entry_bytes, key_of, pairs_of, SharesFrom, AreEntries, RiseAfter, points_from, restart_points, block_bytes, HasEntries, AreEntriesEndingAt, HasEntriesEndingAt}
 use Rattle.leveldb_table.specs.BlockWalk.{entries_before, IsSpot, IsWithin, position_of}
 use Rattle.leveldb_table.specs.declared.block.walk.Spot.{Spot}
