@@ -48,7 +48,7 @@ fn are_shown(env: &mut MemEnv, alloc: Global, files: &[u8]) -> Result<bool> {
 /// A call, the code of what it returns, and the files after it.
 type Row = (Call, StatusCode, &'static str);
 
-const CALLS: [Row; 22] = [
+static CALLS: [Row; 22] = [
     (Call::Mkdir("db"), OK, ""),
     (Call::OpenWritable("db/a"), OK, "db/a= "),
     (Call::Append("db/a", "one"), OK, "db/a=|one "),
