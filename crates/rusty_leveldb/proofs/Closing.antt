@@ -20,9 +20,11 @@ use Rattle.rusty_leveldb.specs.State.{State, Request, close, abandon, Answer, do
 use Rattle.rusty_leveldb.specs.Causes.{Faults, Cause, out_of_memory, device_failed, Comes, ReachesDevice}
 use Rattle.rusty_leveldb.specs.Machine.{StepIn, Responds}
 use Rattle.rusty_leveldb.specs.Serves.{Reads, SameBytes, StandsFor, IsSpared, Represents, done_or, refusal_of, faults_between}
-use Rattle.rusty_leveldb.specs.Engine.{Recalls, WritesOn, mode_of, Answers}
+use Rattle.rusty_leveldb.specs.Engine.{Recalls, WritesOn, mode_of, scene, Answers}
+use Rattle.rusty_leveldb.specs.Recovery.{IsErrorFor}
 use Rattle.rusty_leveldb.proofs.Ended.{broke, ended, broke_still, ended_still, broke_covered, ended_covered}
 use Rattle.rusty_leveldb.proofs.Writes.Stands.{is_open as open_store}
+use Rattle.rusty_leveldb.proofs.Writes.Found.{found_goes}
 use Rattle.rusty_leveldb.proofs.Writes.Moments.{risk_at, moments_none, moments_still, sync_moments, with_none}
 use Rattle.rusty_leveldb.proofs.Others.{beside_but, but_same, others_with, others_but_log, others_still, spared_still, bytes_same, bytes_synced}
 
@@ -100,11 +102,11 @@ module _ {E C FP F I : Type 0} {D : I → Type 0} (env : Ghosts E F) (cmp : List
       not_closed : (mode : machine.Mode) → mode ≡ open_mode → mode ≡ closed → ⊥
       not_closed mode a b = cc
 
-  -- the sync was refused: the store is broken
-  pub sync_refused : (before after : Engine E C FP F I D) (at now : E) (status : Status) → before.mode ≡ Open → OnlyLog before after → after.mode ≡ Broken
+  -- the log refused the sync: the store is broken
+  log_refused : (before after : Engine E C FP F I D) (at now : E) (status : Status) → before.mode ≡ Open → OnlyLog before after → after.mode ≡ Broken
       → Flushes (Syncs env) before.writer (opened at before.log) (Err status) after.writer (opened now after.log)
       → Answers env cmp (Some before) at close (refused (refusal_of status)) (Some after) now
-  sync_refused before after at now status is_open only is_broken flushed store told old represents =
+  log_refused before after at now status is_open only is_broken flushed store told old represents =
       let syncs = flushed.flushed in
       let mode : old.mode ≡ open_mode = sym represents.memory_is.mode ∙ ap mode_of is_open in
       let writes = represents.memory_is.writes mode in
@@ -124,6 +126,15 @@ module _ {E C FP F I : Type 0} {D : I → Type 0} (env : Ghosts E F) (cmp : List
         others = others_but_log store (env.observed at).disk (env.observed now).disk (but_same (log_path store) (env.observed at).disk.files (env.observed now).disk.files (syncs.undone told)) (syncs.locks told);
         beside = λ opens_not. beside_but store (env.observed at).disk.files (env.observed now).disk.files (but_same (log_path store) (env.observed at).disk.files (env.observed now).disk.files (syncs.undone told));
       }
+
+  -- and that is told, or damage where the log is missing
+  pub sync_refused : (before after : Engine E C FP F I D) (at now : E) (status : Status) → before.mode ≡ Open → OnlyLog before after → after.mode ≡ Broken
+      → (raw : Status) × IsErrorFor raw status × Flushes (Syncs env) before.writer (opened at before.log) (Err raw) after.writer (opened now after.log)
+      → Answers env cmp (Some before) at close (refused (refusal_of status)) (Some after) now
+  sync_refused before after at now status is_open only is_broken refusal store told old represents =
+      found_goes store (Recalls env store) cmp (scene env cmp (Some before) at) close (scene env cmp (Some after) now) old (sym represents.memory_is.mode ∙ ap mode_of is_open)
+      (λ s new. (λ step. step, λ responds. responds)) refusal.0 status refusal.1
+      (log_refused before after at now refusal.0 is_open only is_broken refusal.2 store told old represents)
 
   -- an engine that was closed remembers that alone
   recalls_ended : (store : List ℕ) (before after : Engine E C FP F I D) (disk now : Disk) (old : State) (covered : ℕ) (locked : Bool) → Recalls env store before disk old

@@ -5,7 +5,7 @@ use Rattle.leveldb_base.specs.declared.error.Status.{Status}
 use Rattle.leveldb_base.specs.declared.error.StatusCode.TheVariants.{InvalidArgument, NotSupported, Corruption, IOError, LockError}
 use Rattle.leveldb_base.specs.History.{Item, Entry, entries_of, greatest, SameView}
 use Rattle.leveldb_env.specs.declared.env.Env.{Ghosts}
-use Rattle.leveldb_env.specs.Env.{File, Disk, bytes_of, AreBytes, Observed, IsGone}
+use Rattle.leveldb_env.specs.Env.{File, Disk, bytes_of, AreBytes, Observed}
 use Rattle.leveldb_base.specs.Error.{IsOutOfMemory}
 use Rattle.leveldb_env.specs.declared.options.Options.{Options}
 use Rattle.leveldb_mem.specs.Log.{log_block_size, clean, IsLogFile}
@@ -105,22 +105,27 @@ abbrev pub HaltedBy : Mode → WriterState → Status → Type 0
 HaltedBy mode writer e = (ShutOut mode e ⊎ ShutDown mode writer e) × (e.code ≡ IOError → IsShut mode → ⊥)
 
 module _ {E C FP F I : Type 0} {D : I → Type 0} (env : Ghosts E F) where
-  -- an append to the log and a sync of it: for want of memory, or where a told disk has lost the log's name
-  abbrev pub LogExcused : Engine E C FP F I D → E → Status → Type 0
-  LogExcused engine at e = IsGone env.models_disk (env.name_of engine.log) (env.observed at) e
+  -- an append to the log or a sync of it: out of memory, or a disk that is observed has lost the log, which is
+  -- damage and isn't counted
+  abbrev pub LogExcused : Engine E C FP F I D → E → E → Status → Type 0
+  LogExcused engine at now e = IsOutOfMemory e
+      ⊎ ((e.code ≡ Corruption) × IsTrue env.models_disk
+      × ((env.observed at).disk.files (env.name_of engine.log) ≡ None)
+      × (env.failures now ≡ env.failures at))
 
   -- why a write may fail where the device didn't: the store is closed or broken, the batch is too long, no numbers are left, or the log vanished
-  abbrev pub WriteExcused : Engine E C FP F I D → E → List Item → Status → Type 0
-  WriteExcused engine at items e = ShutOut engine.mode e ⊎ ShutDown engine.mode engine.writer e
-      ⊎ ((e.code ≡ InvalidArgument) × IsLongBatch items) ⊎ ((e.code ≡ NotSupported) × AreUsedUp engine.recent.last (length items)) ⊎ LogExcused engine at e
+  abbrev pub WriteExcused : Engine E C FP F I D → E → E → List Item → Status → Type 0
+  WriteExcused engine at now items e = ShutOut engine.mode e ⊎ ShutDown engine.mode engine.writer e
+      ⊎ ((e.code ≡ InvalidArgument) × IsLongBatch items) ⊎ ((e.code ≡ NotSupported) × AreUsedUp engine.recent.last (length items)) ⊎ LogExcused engine at now e
 
   -- why a flush may fail where the device didn't: the store is closed or broken, or the log vanished
-  abbrev pub SyncExcused : Engine E C FP F I D → E → Status → Type 0
-  SyncExcused engine at e = ShutOut engine.mode e ⊎ ShutDown engine.mode engine.writer e ⊎ LogExcused engine at e
+  abbrev pub SyncExcused : Engine E C FP F I D → E → E → Status → Type 0
+  SyncExcused engine at now e = ShutOut engine.mode e ⊎ ShutDown engine.mode engine.writer e
+      ⊎ LogExcused engine at now e
 
   -- as a sync, where nothing was counted: giving back the lock may be refused with the same code, and that is counted
   abbrev pub CloseExcused : Engine E C FP F I D → E → E → Status → Type 0
-  CloseExcused engine at now e = SyncExcused engine at e × (env.failures now ≡ env.failures at)
+  CloseExcused engine at now e = SyncExcused engine at now e × (env.failures now ≡ env.failures at)
 
 -- why a look-up may fail: the store is closed, the key is too long, or memory ran out
 abbrev pub GetExcused : Mode → List ℕ → Status → Type 0

@@ -1,5 +1,5 @@
 -- What holds of the machine and of disks that hold its history, in the format of this store.
-use Rattle.std.specs.Prelude.{◌≡◌, ◌≢◌, ◌≤◌, ◌⊎◌, ℕ, List, [], ◌∷◌, ◌++◌, length, map, flat_map, take, Option, Some, None, Contains, true, false, IsTrue, nat_le, if◌then◌else◌}
+use Rattle.std.specs.Prelude.{◌≡◌, ◌≢◌, ◌≤◌, ◌⊎◌, ℕ, List, [], ◌∷◌, ◌++◌, map, flat_map, take, Option, Some, None, Contains, true, false, IsTrue, nat_le, if◌then◌else◌}
 use Rattle.std.specs.declared.cmp.Ordering.{Ordering}
 use Rattle.leveldb_base.specs.History.{Item, Entry, History}
 use Rattle.leveldb_env.specs.declared.env.Env.{Ghosts}
@@ -29,9 +29,11 @@ NothingStands = (store : List ℕ) (disk : Disk)
 
 -- an honest crash between two requests leaves a disk that represents a state of the crash row
 abbrev pub CrashBetween : Type 0
-CrashBetween = (store : List ℕ) (old : State) (disk left : Disk) → StandsFor store (Reads store) disk old
-    → DiskCrashesTo disk left → IsHonest store disk.files left.files
-    → (after : State) × Crashes old (risk_between old) after × StandsFor store (Reads store) left after
+CrashBetween = (store : List ℕ) (old : State) (disk left : Disk)
+    → StandsFor store (Reads store) disk old → DiskCrashesTo disk left
+    → IsHonest store disk.files left.files
+    → (after : State) × Crashes old (risk_between old) after
+    × StandsFor store (Reads store) left after
 
 -- and so does one at a moment inside a request that led from the old state to the new one
 abbrev pub CrashInside : Type 0
@@ -39,24 +41,27 @@ CrashInside = (store : List ℕ) (old new : State) (request : Request) (files : 
     → IsState old → IsState new → IsSpared store (Reads store) old (risk_of request old new) files
     → FilesCrashTo files left.files → IsHonest store files left.files
     → ((name : List ℕ) → left.locked name ≡ false)
-    → (after : State) × Crashes old (risk_of request old new) after × StandsFor store (Reads store) left after
+    → (after : State) × Crashes old (risk_of request old new) after
+    × StandsFor store (Reads store) left after
 
--- From a call's moments: wherever an honest crash comes since the call began, what is left carries a prefix of
--- what was at risk, the pending batch included, with all that was durable as the call began.
+-- From a call's moments: wherever an honest crash comes since the call began, what is left carries
+-- a prefix of what was at risk, the pending batch included, with all that was durable as the call
+-- began.
 abbrev pub CrashSince : {E F : Type 0} → Ghosts E F → Type 0
 CrashSince {E = E} env = (store : List ℕ) (old new : State) (request : Request) (from to : E)
     → AtEachMoment store (Reads store) request old new (env.observed from) (env.observed to)
     → (files left : Files) → Since (env.observed to) (env.observed from).moment files left
     → IsHonest store files left
     → let risk = risk_of request old new in
-    CarriesPrefix store (Reads store) (StaysOr risk.opening old.store) risk.bound old.covered risk.history left
+    CarriesPrefix store (Reads store) (StaysOr risk.opening old.store) risk.bound old.covered
+    risk.history left
 
 -- ---- refusals
 
 -- a refusal has one of the causes, or the store was closed, or it broke earlier
 abbrev pub RefusalHasCause : Type 0
-RefusalHasCause = (cmp : List ℕ → List ℕ → Ordering) (faults : Faults) (old new : State) (request : Request)
-    (refusal : Refusal) → Step cmp faults old request (refused refusal) new
+RefusalHasCause = (cmp : List ℕ → List ℕ → Ordering) (faults : Faults) (old new : State)
+    (request : Request) (refusal : Refusal) → Step cmp faults old request (refused refusal) new
     → ((cause : Cause) × Comes faults old request refusal cause)
     ⊎ ((old.mode ≡ closed) × IsClosedRefusal refusal)
     ⊎ ((old.mode ≡ broken) × IsBrokenRefusal refusal)
@@ -65,8 +70,9 @@ RefusalHasCause = (cmp : List ℕ → List ℕ → Ordering) (faults : Faults) (
 
 -- a step leads from a state to a state
 abbrev pub StepFits : Type 0
-StepFits = (cmp : List ℕ → List ℕ → Ordering) (faults : Faults) (old new : State) (request : Request)
-    (answer : Answer) → IsState old → Step cmp faults old request answer new → IsState new
+StepFits = (cmp : List ℕ → List ℕ → Ordering) (faults : Faults) (old new : State)
+    (request : Request) (answer : Answer)
+    → IsState old → Step cmp faults old request answer new → IsState new
 
 -- and so does a crash between two requests
 abbrev pub CrashFits : Type 0
@@ -80,8 +86,8 @@ CrashInsideFits = (cmp : List ℕ → List ℕ → Ordering) (faults : Faults) (
 
 -- so do lives, one after another
 abbrev pub LivesFit : Type 0
-LivesFit = (cmp : List ℕ → List ℕ → Ordering) (lives : List Life) (before after : ℕ) (old new : State)
-    → IsState old → Lives cmp before old lives after new → IsState new
+LivesFit = (cmp : List ℕ → List ℕ → Ordering) (lives : List Life) (before after : ℕ)
+    (old new : State) → IsState old → Lives cmp before old lives after new → IsState new
 
 -- ---- what is durable
 
@@ -98,11 +104,12 @@ MakesDurable request answer = ⊥
 
 -- whatever lives follow, the history begins with the batches that were durable
 abbrev pub DurableStays : Type 0
-DurableStays = (cmp : List ℕ → List ℕ → Ordering) (lives : List Life) (before after : ℕ) (old last : State)
-    → IsState old → Lives cmp before old lives after last
+DurableStays = (cmp : List ℕ → List ℕ → Ordering) (lives : List Life) (before after : ℕ)
+    (old last : State) → IsState old → Lives cmp before old lives after last
     → BeginsWith last.history (take old.covered old.history)
 
--- and after a synced write, a flush or a close that was done it begins with the history as of that answer
+-- and after a synced write, a flush or a close that was done it begins with the history as of that
+-- answer
 abbrev pub SyncedStays : Type 0
 SyncedStays = (cmp : List ℕ → List ℕ → Ordering) (faults : Faults) (old next last : State)
     (request : Request) (answer : Answer) (lives : List Life) (before after : ℕ)
@@ -114,8 +121,8 @@ abbrev pub IsInTime : ℕ → Ending → Type 0
 IsInTime moment goes_on = Unit {0}
 IsInTime moment (crashes at counted) = moment ≤ at
 
--- Lives have a state before and after each answer that came in time: what was answered before it leads there,
--- and the rest of its life and the later ones lead on.
+-- Lives have a state before and after each answer that came in time: what was answered before it
+-- leads there, and the rest of its life and the later ones lead on.
 abbrev pub EachAnswerParts : Type 0
 EachAnswerParts = (cmp : List ℕ → List ℕ → Ordering) (earlier later : List Life) (ending : Ending)
     (answered undone : List (ℕ × Event)) (one : ℕ × Event) (before after : ℕ) (old last : State)
@@ -142,7 +149,8 @@ batches_of history = map (λ batch. items_of batch) history
 abbrev pub IsSubsequence : {A : Type 0} → List A → List A → Type 0
 IsSubsequence [] whole = Unit {0}
 IsSubsequence (x ∷ some) [] = ⊥
-IsSubsequence (x ∷ some) (y ∷ whole) = ((x ≡ y) × IsSubsequence some whole) ⊎ IsSubsequence (x ∷ some) whole
+IsSubsequence (x ∷ some) (y ∷ whole) =
+    ((x ≡ y) × IsSubsequence some whole) ⊎ IsSubsequence (x ∷ some) whole
 
 -- the batch that a request asks for
 abbrev pub asked_by : Request → List (List Item)
@@ -152,7 +160,8 @@ asked_by request = []
 -- of these answers those whose request had begun by a moment: they came by then, or next
 abbrev pub begun_by : ℕ → List (ℕ × Event) → List (ℕ × Event)
 begun_by moment [] = []
-begun_by moment (one ∷ answered) = one ∷ (if nat_le one.0 moment then begun_by moment answered else [])
+begun_by moment (one ∷ answered) =
+    one ∷ (if nat_le one.0 moment then begun_by moment answered else [])
 
 -- the answers whose request had begun by the end of a life
 abbrev pub begun_until : Ending → List (ℕ × Event) → List (ℕ × Event)
@@ -161,20 +170,24 @@ begun_until (crashes moment counted) answered = begun_by moment answered
 
 -- the batches that were asked for in these lives by writes that had begun, in order
 abbrev pub asked_in : List Life → List (List Item)
-asked_in lives = flat_map (λ life. flat_map (λ one. asked_by one.1.request) (begun_until life.ending life.answered)) lives
+asked_in lives = flat_map
+    (λ life. flat_map (λ one. asked_by one.1.request) (begun_until life.ending life.answered))
+    lives
 
--- the batches of every history that lives lead to were asked for by writes, whole and in this order
+-- the batches of every history that lives lead to were asked for by writes, whole and in order
 abbrev pub HistoryIsAsked : Type 0
 HistoryIsAsked = (cmp : List ℕ → List ℕ → Ordering) (lives : List Life) (after : ℕ) (last : State)
-    → Lives cmp 0 new_state lives after last → IsSubsequence (batches_of last.history) (asked_in lives)
+    → Lives cmp 0 new_state lives after last
+    → IsSubsequence (batches_of last.history) (asked_in lives)
 
--- after a synced write, a flush or a close that was done so were all that come after that answer's history
+-- after a synced write, a flush or a close that was done so were all after that answer's history
 abbrev pub MoreIsAsked : Type 0
 MoreIsAsked = (cmp : List ℕ → List ℕ → Ordering) (faults : Faults) (old next last : State)
     (request : Request) (answer : Answer) (lives : List Life) (before after : ℕ)
     → IsState old → Step cmp faults old request answer next → MakesDurable request answer
     → Lives cmp before next lives after last
-    → (more : History) × (last.history ≡ next.history ++ more) × IsSubsequence (batches_of more) (asked_in lives)
+    → (more : History) × (last.history ≡ next.history ++ more)
+    × IsSubsequence (batches_of more) (asked_in lives)
 
 -- ---- a value that was written with a sync
 
@@ -183,11 +196,12 @@ abbrev pub NoneHasKey : List ℕ → List (List Item) → Type 0
 NoneHasKey key batches = (batch : List Item) → Contains batches batch
     → (item : Item) → Contains batch item → item.key ≢ key
 
--- After a synced write of a value that was done, and no later write of its key, a look-up of the key in any life
--- finds that value, if it isn't refused.
+-- After a synced write of a value that was done, and no later write of its key, a look-up of the key
+-- in any life finds that value, if it isn't refused.
 abbrev pub SyncedIsRead : Type 0
-SyncedIsRead = (cmp : List ℕ → List ℕ → Ordering) (faults later : Faults) (old written last new : State)
-    (key value : List ℕ) (lives : List Life) (before after : ℕ) (looked : Option (List ℕ))
+SyncedIsRead = (cmp : List ℕ → List ℕ → Ordering) (faults later : Faults)
+    (old written last new : State) (key value : List ℕ) (lives : List Life) (before after : ℕ)
+    (looked : Option (List ℕ))
     → IsState old
     → Step cmp faults old (write (record { key = key; value = Some value } ∷ []) true) done written
     → NoneHasKey key (asked_in lives) → Lives cmp before written lives after last
@@ -197,9 +211,11 @@ SyncedIsRead = (cmp : List ℕ → List ℕ → Ordering) (faults later : Faults
 
 -- an answer that came at this moment, with no failure
 abbrev pub told_at : ℕ → Request → Answer → ℕ × Event
-told_at moment request answer = (moment, record { request = request; answer = answer; failures = 0; coders = [] })
+told_at moment request answer =
+    (moment, record { request = request; answer = answer; failures = 0; coders = [] })
 
--- a life that makes a store and writes a value with a sync, cut short after that, and one that finds the value
+-- a life that makes a store and writes a value with a sync, cut short after that, and one that finds
+-- the value
 abbrev pub written_and_found : Opening → List ℕ → List ℕ → List Life
 written_and_found opening key value =
     record {
@@ -211,7 +227,8 @@ written_and_found opening key value =
       ending = crashes 2 0;
     }
     ∷ record {
-      answered = told_at 1 (open_store opening) done ∷ told_at 2 (get None key) (found (Some value)) ∷ [];
+      answered =
+          told_at 1 (open_store opening) done ∷ told_at 2 (get None key) (found (Some value)) ∷ [];
       ending = goes_on;
     }
     ∷ []

@@ -93,6 +93,10 @@ pub record HasCauses {T : Type 0} (Excused : Status → Type 0) (before now : �
   pub ok : OnOk result (now ≡ before)
   pub cause : IfErr result (λ e. Excused e ⊎ HasFailed before now)
 
+-- the same error, but damage for a file that is missing
+abbrev pub IsErrorFor : Status → Status → Type 0
+IsErrorFor raw e = ((raw.code ≢ NotFound) × (e ≡ raw)) ⊎ ((raw.code ≡ NotFound) × (e.code ≡ Corruption))
+
 -- the same answer, but damage for a file that is missing
 abbrev pub IsFoundOr : {T : Type 0} → Result T Status → Result T Status → Type 0
 IsFoundOr (Ok value) result = result ≡ Ok value

@@ -1,17 +1,17 @@
 -- A flush is a step of the machine, at each of its exits.
-use Rattle.std.proofs.Common.{◌≡◌, ◌≤◌, ◌+◌, ◌%◌, inl, inr, ℕ, List, length, refl, sym, ◌∙◌, ap, subst, arith, append-nil, Some, None, Result, Ok, Err, IsTrue, false}
-use Rattle.std.specs.Prelude.{OnOk, OnErr, string_bytes}
+use Rattle.std.proofs.Common.{◌≡◌, ◌≤◌, ◌+◌, ◌%◌, inl, inr, ℕ, List, length, refl, sym, ◌∙◌, ap, subst, arith, append-nil, Some, None, Result, Ok, Err, IsTrue, ⊎_elim, true, false}
+use Rattle.std.specs.Prelude.{OnOk, OnErr, IfErr, ◌⊎◌, string_bytes}
 use Rattle.std.specs.declared.cmp.Ordering.{Ordering}
 use Rattle.leveldb_base.specs.declared.error.Status.{Status}
 use Rattle.leveldb_base.specs.Error.{text_of}
 use Rattle.leveldb_base.specs.History.{IsHistory, with_batch}
 use Rattle.leveldb_env.specs.declared.env.Env.{Ghosts}
-use Rattle.leveldb_env.specs.Env.{File, Files, bytes_of, file_kept, synced, Run}
+use Rattle.leveldb_env.specs.Env.{File, Files, bytes_of, file_kept, synced, HasCause, Run}
 use Rattle.leveldb_env.proofs.EnvLemmas.{SameBut-synced, synced-same}
 use Rattle.leveldb_env.specs.EnvFile.{opened, Syncs}
 use Rattle.leveldb_mem.specs.Log.{log_block_size, clean, IsLogFile}
 use Rattle.leveldb_mem.specs.Log.Writer.{Flushes}
-use Rattle.rusty_leveldb.specs.declared.db_impl.engine.Mode.TheVariants.{Open, Broken}
+use Rattle.rusty_leveldb.specs.declared.db_impl.engine.Mode.TheVariants.{Open, Broken, Closed}
 use Rattle.rusty_leveldb.specs.declared.db_impl.engine.Engine.{Engine}
 use Rattle.leveldb_version.specs.Paths.{lock_path}
 use Rattle.rusty_leveldb.specs.OneLog.{log_path}
@@ -20,9 +20,11 @@ use Rattle.rusty_leveldb.specs.State.{State, SuitsMode, open_mode, broken, flush
 use Rattle.rusty_leveldb.specs.Causes.{Faults, out_of_memory, device_failed}
 use Rattle.rusty_leveldb.specs.Machine.{Breaks, StepIn, Responds}
 use Rattle.rusty_leveldb.specs.Serves.{Reads, StandsFor, IsSpared, Goes, faults_between, refusal_of, done_or}
-use Rattle.rusty_leveldb.specs.Engine.{scene, Recalls, mode_of}
+use Rattle.rusty_leveldb.specs.Engine.{scene, Recalls, mode_of, SyncExcused, CloseExcused}
+use Rattle.rusty_leveldb.specs.Recovery.{IsErrorFor}
 use Rattle.rusty_leveldb.proofs.OneLog.Writing.{synced_holds}
 use Rattle.rusty_leveldb.proofs.Others.{beside_but, but_same, others_but_log, bytes_same, bytes_synced}
+use Rattle.rusty_leveldb.proofs.Writes.Found.{found_cause, found_goes}
 use Rattle.rusty_leveldb.proofs.Writes.Moments.{risk_at, sync_moments, with_none}
 use Rattle.rusty_leveldb.proofs.Writes.Stands.{Fails, fails, Was, IsOpen, is_open, IsStill, remembers_still, broken_with, Broke, broken_is}
 
@@ -129,17 +131,19 @@ module _ {E C FP F I : Type 0} {D : I → Type 0} (env : Ghosts E F) (cmp : List
   still = record { lock = ap (λ e. e.lock) rest; entries = ap (λ e. e.recent.kept.entries) rest; last = ap (λ e. e.recent.last) rest }
 
   pub flush_step : (result : Result (Unit {0}) Status) → OnOk result (after.mode ≡ engine.mode) → OnErr result (after.mode ≡ Broken)
-      → Flushes (Syncs env) engine.writer (opened from engine.log) result after.writer (opened to after.log)
+      → OnOk result (Flushes (Syncs env) engine.writer (opened from engine.log) (Ok tt) after.writer (opened to after.log))
+      → IfErr result (λ status. (raw : Status) × IsErrorFor raw status × Flushes (Syncs env) engine.writer (opened from engine.log) (Err raw) after.writer (opened to after.log))
       → Goes store (Reads store) (Recalls env store) cmp (scene env cmp (Some engine) from) flush (done_or result) (scene env cmp (Some after) to) old
-  flush_step (Ok unit) same_mode broke_mode synced_now =
+  flush_step (Ok unit) same_mode broke_mode synced_now unsynced =
       let sync = synced_now.flushed in
       flush_done env cmp store engine after from to old was (sync_moments env store engine from old was to modelled sync.does) (sync.does.ok modelled ∙ ap (λ name. synced name (env.observed from).disk.files) was.writes.name) (sync.locks modelled) sync.cause.ok still
       (same_mode ∙ open_now) synced_now.ok (sync.file modelled)
-  flush_step (Err status) same_mode broke_mode synced_now =
-      let sync = synced_now.flushed in
+  flush_step (Err status) same_mode broke_mode synced_now unsynced =
+      let sync = unsynced.2.flushed in
       let same = sync.undone modelled in
-      flush_refused env cmp store engine after from to old was status (sync_moments env store engine from old was to modelled sync.does) sync.cause.later
-      (fails env.models_disk (env.name_of engine.log) (env.observed from) was.writes.file (env.failures from) (env.failures to) status (ap (env.observed from).disk.files was.writes.name ∙ was.writes.there) sync.cause)
+      found_goes store (Recalls env store) cmp (scene env cmp (Some engine) from) flush (scene env cmp (Some after) to) old was.mode (λ s new. (λ step. step, λ responds. responds)) unsynced.0 status unsynced.1
+      (flush_refused env cmp store engine after from to old was unsynced.0 (sync_moments env store engine from old was to modelled sync.does) sync.cause.later
+      (fails env.models_disk (env.name_of engine.log) (env.observed from) was.writes.file (env.failures from) (env.failures to) unsynced.0 (ap (env.observed from).disk.files was.writes.name ∙ was.writes.there) sync.cause)
       same (record {
         still = still;
         mode = broke_mode;
@@ -148,4 +152,51 @@ module _ {E C FP F I : Type 0} {D : I → Type 0} (env : Ghosts E F) (cmp : List
         holds = subst (λ f. Holds store (Reads store) (λ there. there ≡ old.store) f old.history old.last old.covered None) (sym same) was.holds;
         locks = sync.locks modelled;
         but = but_same (log_path store) (env.observed from).disk.files (env.observed to).disk.files same;
-      })
+      }))
+
+-- ---- causes of a sync
+
+module _ {E C FP F I : Type 0} {D : I → Type 0} (env : Ghosts E F) (engine after : Engine E C FP F I D) (from to : E) (open_now : engine.mode ≡ Open) (sound : engine.writer.broken ≡ false) where
+  pub unsynced_cause : (status : Status) → (raw : Status) × IsErrorFor raw status × Flushes (Syncs env) engine.writer (opened from engine.log) (Err raw) after.writer (opened to after.log)
+      → HasCause {T = Unit {0}} (SyncExcused env engine from to) (env.failures from) (env.failures to) (Err status)
+  unsynced_cause status unsynced =
+      let cause = found_cause unsynced.0 status unsynced.1 env.models_disk (env.name_of engine.log) (env.observed from) (env.failures from) (env.failures to) unsynced.2.flushed.cause in
+      record {
+        later = cause.later;
+        ok = tt;
+        uncounted = λ excused. ⊎_elim
+            (λ out. absurd (let never : Open ≡ Closed = sym open_now ∙ out.0 in cc))
+            (λ rest. ⊎_elim
+            (λ down. ⊎_elim
+            (λ broke. absurd (let never : Open ≡ Broken = sym open_now ∙ broke in cc))
+            (λ broke. absurd (let never : false ≡ true = sym sound ∙ broke in cc)) down.0)
+            (λ log. cause.uncounted log) rest) excused;
+        cause = ⊎_elim (λ log. inl (inr (inr log))) (λ counted. inr counted) cause.cause;
+      }
+
+  pub sync_causes : (result : Result (Unit {0}) Status) → OnOk result (Flushes (Syncs env) engine.writer (opened from engine.log) (Ok tt) after.writer (opened to after.log))
+      → IfErr result (λ status. (raw : Status) × IsErrorFor raw status × Flushes (Syncs env) engine.writer (opened from engine.log) (Err raw) after.writer (opened to after.log))
+      → HasCause (SyncExcused env engine from to) (env.failures from) (env.failures to) result
+  sync_causes (Ok unit) synced_now unsynced =
+      let cause = synced_now.flushed.cause in
+      record { later = cause.later; ok = cause.ok; uncounted = tt; cause = tt }
+  sync_causes (Err status) synced_now unsynced = unsynced_cause status unsynced
+
+  -- and of a close whose sync was refused
+  pub close_cause : (status : Status) → (raw : Status) × IsErrorFor raw status × Flushes (Syncs env) engine.writer (opened from engine.log) (Err raw) after.writer (opened to after.log)
+      → HasCause {T = Unit {0}} (CloseExcused env engine from to) (env.failures from) (env.failures to) (Err status)
+  close_cause status unsynced =
+      let cause = unsynced_cause status unsynced in
+      record {
+        later = cause.later;
+        ok = tt;
+        uncounted = λ excused. excused.1;
+        cause = ⊎_elim (λ excused. inl (excused, cause.uncounted excused)) (λ counted. inr counted) cause.cause;
+      }
+
+  -- a writer that isn't broken leaves the mode
+  pub sync_stays : (result : Result (Unit {0}) Status) → OnOk result (after.mode ≡ engine.mode)
+      → IfErr result (λ status. (raw : Status) × IsErrorFor raw status × Flushes (Syncs env) engine.writer (opened from engine.log) (Err raw) after.writer (opened to after.log))
+      → IsTrue after.writer.broken ⊎ (after.mode ≡ engine.mode)
+  sync_stays (Ok unit) same unsynced = inr same
+  sync_stays (Err status) same unsynced = inl (ap (λ w. w.broken) unsynced.2.err)

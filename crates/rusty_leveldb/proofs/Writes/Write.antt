@@ -17,10 +17,12 @@ use Rattle.rusty_leveldb.specs.Recent.{Numbered, Follows, Inserts}
 use Rattle.rusty_leveldb.specs.State.{State, open_mode, closed, write, Answer, done, refused}
 use Rattle.rusty_leveldb.specs.Serves.{Reads, Goes, refusal_of}
 use Rattle.rusty_leveldb.specs.Engine.{scene, Recalls, mode_of}
+use Rattle.rusty_leveldb.specs.Recovery.{IsErrorFor}
 use Rattle.rusty_leveldb.proofs.Histories.{placed_greatest}
 use Rattle.rusty_leveldb.proofs.Writes.Stands.{Was}
 use Rattle.rusty_leveldb.proofs.Writes.Kept.{prepared_was}
 use Rattle.rusty_leveldb.proofs.Writes.Append.{IsNext}
+use Rattle.rusty_leveldb.proofs.Writes.Found.{found_goes}
 use Rattle.rusty_leveldb.proofs.Writes.Exits.{begun_with, append_refused, done_unsynced, done_synced, sync_refused}
 
 -- ---- the batch
@@ -73,19 +75,29 @@ module _ {E C FP F I : Type 0} {D : I → Type 0} (env : Ghosts E F) (modelled :
   from_prepared : (answer : Answer) (after : Engine E C FP F I D) (to : E) → Wrote env store cmp prepared from old items sync after to answer → Wrote env store cmp engine from old items sync after to answer
   from_prepared answer after to goes = begun_with store (Recalls env store) cmp (Some prepared) (Some engine) (env.observed from) (env.failures from) (write items sync) answer (scene env cmp (Some after) to) old goes
 
+  -- the error is the log's, or damage where the log is missing
+  tells : (after : Engine E C FP F I D) (to : E) (raw status : Status) → IsErrorFor raw status → Wrote env store cmp prepared from old items sync after to (refused (refusal_of raw)) → Wrote env store cmp prepared from old items sync after to (refused (refusal_of status))
+  tells after to raw status error goes =
+      found_goes store (Recalls env store) cmp (scene env cmp (Some prepared) from) (write items sync) (scene env cmp (Some after) to) old (sym stood.memory_is.mode ∙ ap mode_of open_now)
+      (λ s new. (λ step. step, λ responds. responds)) raw status error goes
+
   -- the append was refused
   pub refused_append : (after : Engine E C FP F I D) (to : E) (status : Status) → after ≡ record prepared { log = after.log; writer = after.writer; mode = after.mode } → after.mode ≡ (if after.writer.broken then Broken else engine.mode)
-      → FailsToAdd (Appends env) engine.writer (opened from engine.log) bytes status after.writer (opened to after.log) → Wrote env store cmp engine from old items sync after to (refused (refusal_of status))
-  refused_append after to status rest mode refusal = from_prepared (refused (refusal_of status)) after to (append_refused env modelled store prepared from old now open_now items bytes next_now cmp sync after to rest mode status refusal)
+      → (raw : Status) × IsErrorFor raw status × FailsToAdd (Appends env) engine.writer (opened from engine.log) bytes raw after.writer (opened to after.log)
+      → Wrote env store cmp engine from old items sync after to (refused (refusal_of status))
+  refused_append after to status rest mode refusal = from_prepared (refused (refusal_of status)) after to
+      (tells after to refusal.0 status refusal.1 (append_refused env modelled store prepared from old now open_now items bytes next_now cmp sync after to rest mode refusal.0 refusal.2))
 
   -- it was done
   module _ (middle : Engine E C FP F I D) (mid : E) (rest : middle ≡ record prepared { log = middle.log; writer = middle.writer; mode = middle.mode }) (mode : middle.mode ≡ (if middle.writer.broken then Broken else engine.mode))
       (count : ℕ) (adds : AddsRecord (Appends env) engine.writer (opened from engine.log) bytes count middle.writer (opened mid middle.log)) where
     -- and the sync was refused
     pub refused_sync : (after : Engine E C FP F I D) (to : E) (status : Status) → after ≡ record middle { log = after.log; writer = after.writer; mode = after.mode } → after.mode ≡ Broken
-        → Flushes (Syncs env) middle.writer (opened mid middle.log) (Err status) after.writer (opened to after.log) → Wrote env store cmp engine from old items sync after to (refused (refusal_of status))
-    refused_sync after to status rest_after broke flushed = from_prepared (refused (refusal_of status)) after to
-        (sync_refused env modelled store prepared from old now open_now items bytes next_now middle mid rest mode count adds cmp sync after to rest_after status broke flushed)
+        → (raw : Status) × IsErrorFor raw status × Flushes (Syncs env) middle.writer (opened mid middle.log) (Err raw) after.writer (opened to after.log)
+        → Wrote env store cmp engine from old items sync after to (refused (refusal_of status))
+    refused_sync after to status rest_after broke refusal = from_prepared (refused (refusal_of status)) after to
+        (tells after to refusal.0 status refusal.1
+        (sync_refused env modelled store prepared from old now open_now items bytes next_now middle mid rest mode count adds cmp sync after to rest_after refusal.0 broke refusal.2))
 
     module _ (batch : Batch) (batch_is : batch ≡ batch_of (engine.recent.last + 1) items) (below : AreUpTo engine.recent.last engine.recent.kept.entries) (inserted : Numbered) (self : Engine E C FP F I D) (inserts : Inserts self.recent batch inserted) (at : E) where
       last_is : engine.recent.last ≡ old.last

@@ -164,8 +164,8 @@ fn open_log<E: Env>(alloc: Global, env: &mut E, log_name: &str) -> Result<(E::Fi
     Ok((log, size))
 }
 
-// A file of the store that is missing is damage.
-fn found<T>(alloc: Global, answer: Result<T>) -> Result<T>
+/// A file of the store that is missing is damage.
+pub(crate) fn found<T>(alloc: Global, answer: Result<T>) -> Result<T>
     ensures { IsFoundOr answer result }
 {
     match answer {

@@ -96,7 +96,7 @@ impl<'e, E: Env, C: UserCmp + Copy, FP: FilterPolicy + Copy> Store<'e, E, Engine
         ensures time { TimeGoesOn E.Env self.old.env.now self.new.env.now }
         ensures step { Answers E.Env (C.cmp self.old.state.options.cmp) (Some self.old.state) self.old.env.now
             (write (item_of key.now (Some value.now) ∷ []) false) (done_or result) (Some self.new.state) self.new.env.now }
-        ensures cause { HasCause (WriteExcused E.Env self.old.state self.old.env.now (item_of key.now (Some value.now) ∷ []))
+        ensures cause { HasCause (WriteExcused E.Env self.old.state self.old.env.now self.new.env.now (item_of key.now (Some value.now) ∷ []))
             (E.failures self.old.env.now) (E.failures self.new.env.now) result }
     {
         self.state.put(&mut *self.env, key, value)
@@ -112,7 +112,7 @@ impl<'e, E: Env, C: UserCmp + Copy, FP: FilterPolicy + Copy> Store<'e, E, Engine
         ensures time { TimeGoesOn E.Env self.old.env.now self.new.env.now }
         ensures step { Answers E.Env (C.cmp self.old.state.options.cmp) (Some self.old.state) self.old.env.now
             (write (item_of key.now None ∷ []) false) (done_or result) (Some self.new.state) self.new.env.now }
-        ensures cause { HasCause (WriteExcused E.Env self.old.state self.old.env.now (item_of key.now None ∷ []))
+        ensures cause { HasCause (WriteExcused E.Env self.old.state self.old.env.now self.new.env.now (item_of key.now None ∷ []))
             (E.failures self.old.env.now) (E.failures self.new.env.now) result }
     {
         self.state.delete(&mut *self.env, key)
@@ -129,7 +129,7 @@ impl<'e, E: Env, C: UserCmp + Copy, FP: FilterPolicy + Copy> Store<'e, E, Engine
         ensures time { TimeGoesOn E.Env self.old.env.now self.new.env.now }
         ensures step { Answers E.Env (C.cmp self.old.state.options.cmp) (Some self.old.state) self.old.env.now
             (write batch.items sync) (done_or result) (Some self.new.state) self.new.env.now }
-        ensures cause { HasCause (WriteExcused E.Env self.old.state self.old.env.now batch.items)
+        ensures cause { HasCause (WriteExcused E.Env self.old.state self.old.env.now self.new.env.now batch.items)
             (E.failures self.old.env.now) (E.failures self.new.env.now) result }
     {
         self.state.write(&mut *self.env, batch, sync)
@@ -145,7 +145,7 @@ impl<'e, E: Env, C: UserCmp + Copy, FP: FilterPolicy + Copy> Store<'e, E, Engine
         ensures time { TimeGoesOn E.Env self.old.env.now self.new.env.now }
         ensures step { Answers E.Env (C.cmp self.old.state.options.cmp) (Some self.old.state) self.old.env.now
             flush (done_or result) (Some self.new.state) self.new.env.now }
-        ensures cause { HasCause (SyncExcused E.Env self.old.state self.old.env.now)
+        ensures cause { HasCause (SyncExcused E.Env self.old.state self.old.env.now self.new.env.now)
             (E.failures self.old.env.now) (E.failures self.new.env.now) result }
     {
         self.state.flush(&mut *self.env)

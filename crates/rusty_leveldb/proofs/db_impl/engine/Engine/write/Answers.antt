@@ -48,7 +48,7 @@ returns-in_err-sync-clause-step g c store tells old was =
     let p = err_from_is_err_and c.from_residual-in_err-sync.result c.from_residual-in_err-sync.ensures.1 in
     rw (p.1, p.2) (refused_sync g.E.Env tells store (g.C.Cmp.cmp c.args.self.now.options.cmp) c.args.self.now c.args.env.now old was c.in_ok-check_open.ensures.ok.0 c.prepare.new.self c.prepare.ensures.entries c.prepare.ensures.last c.args.batch.items c.args.sync c.contents.result.now next c.append.new.self c.append.new.env c.append.ensures.rest c.append.ensures.mode c.in_ok-append.ensures.ok.0 c.in_ok-append.ensures.ok.1
     c.sync.new.self c.sync.new.env c.in_err-sync.field-0.0 c.sync.ensures.rest c.in_err-sync.ensures.mode_err
-    (c.in_err-sync.ensures.synced (still_sound g.E.Env c.args.self.now c.args.env.now c.in_ok-check_open.ensures.ok.0 c.in_ok-check_open.ensures.ok.1 c.args.batch.items c.contents.result.now next c.append.new.self.writer c.append.new.self.log c.append.new.env c.in_ok-append.ensures.ok.0 c.in_ok-append.ensures.ok.1)))
+    (c.in_err-sync.ensures.unsynced (still_sound g.E.Env c.args.self.now c.args.env.now c.in_ok-check_open.ensures.ok.0 c.in_ok-check_open.ensures.ok.1 c.args.batch.items c.contents.result.now next c.append.new.self.writer c.append.new.self.log c.append.new.env c.in_ok-append.ensures.ok.0 c.in_ok-append.ensures.ok.1)))
 
 pub returns-in_err-sync-clause-cause : goal.returns-in_err-sync-clause-cause
 returns-in_err-sync-clause-cause g c =
@@ -56,7 +56,7 @@ returns-in_err-sync-clause-cause g c =
     let p = err_from_is_err_and c.from_residual-in_err-sync.result c.from_residual-in_err-sync.ensures.1 in
     rw (p.1, p.2) (sync_cause g.E.Env c.args.self.now c.args.env.now c.in_ok-check_open.ensures.ok.0 c.in_ok-check_open.ensures.ok.1 c.args.batch.items c.contents.result.now next c.append.new.self.writer c.append.new.self.log c.append.new.env c.in_ok-append.ensures.ok.0 c.in_ok-append.ensures.ok.1 c.in_err-sync.field-0.0
     c.sync.new.self.writer c.sync.new.self.log c.sync.new.env
-    (c.in_err-sync.ensures.synced (still_sound g.E.Env c.args.self.now c.args.env.now c.in_ok-check_open.ensures.ok.0 c.in_ok-check_open.ensures.ok.1 c.args.batch.items c.contents.result.now next c.append.new.self.writer c.append.new.self.log c.append.new.env c.in_ok-append.ensures.ok.0 c.in_ok-append.ensures.ok.1)))
+    (c.in_err-sync.ensures.unsynced (still_sound g.E.Env c.args.self.now c.args.env.now c.in_ok-check_open.ensures.ok.0 c.in_ok-check_open.ensures.ok.1 c.args.batch.items c.contents.result.now next c.append.new.self.writer c.append.new.self.log c.append.new.env c.in_ok-append.ensures.ok.0 c.in_ok-append.ensures.ok.1)))
 
 pub insert-requires-clause-follows : goal.insert-requires-clause-follows
 insert-requires-clause-follows g c =
@@ -90,8 +90,8 @@ returns-clause-cause g c =
 pub returns-in_err-sync-clause-stays : goal.returns-in_err-sync-clause-stays
 returns-in_err-sync-clause-stays g c =
     let next : IsNext c.args.self.now.recent.last c.args.batch.items c.contents.result.now = is_next c.args.self.now.recent.last c.in_ok-first.first c.count.result c.args.batch.items c.set_sequence.new.self c.contents.result.now c.in_ok-first.ensures.ok.0 c.in_ok-first.ensures.ok.1 c.in_ok-first.ensures.ok.2 c.count.ensures c.set_sequence.ensures c.contents.ensures c.append.ensures.bytes in
-    let flushed = c.in_err-sync.ensures.synced (still_sound g.E.Env c.args.self.now c.args.env.now c.in_ok-check_open.ensures.ok.0 c.in_ok-check_open.ensures.ok.1 c.args.batch.items c.contents.result.now next c.append.new.self.writer c.append.new.self.log c.append.new.env c.in_ok-append.ensures.ok.0 c.in_ok-append.ensures.ok.1) in
-    stays_refused c.append.new.self.writer c.sync.new.self.writer c.args.self.now.mode c.sync.new.self.mode flushed.err
+    let flushed = c.in_err-sync.ensures.unsynced (still_sound g.E.Env c.args.self.now c.args.env.now c.in_ok-check_open.ensures.ok.0 c.in_ok-check_open.ensures.ok.1 c.args.batch.items c.contents.result.now next c.append.new.self.writer c.append.new.self.log c.append.new.env c.in_ok-append.ensures.ok.0 c.in_ok-append.ensures.ok.1) in
+    stays_refused c.append.new.self.writer c.sync.new.self.writer c.args.self.now.mode c.sync.new.self.mode flushed.2.err
 
 pub returns-clause-options : goal.returns-clause-options
 returns-clause-options g c =
