@@ -173,6 +173,10 @@ module _ (store : List ℕ) (cmp : List ℕ → List ℕ → Ordering)
       };
     }
 
+    -- all that is read of the new store is kept
+    pub first_current_kept : IsAllKept store cmp IsTableOf (renamed from to files) new
+    first_current_kept = subst (λ f. IsAllKept store cmp IsTableOf f new) (sym moved_is) all
+
     module _ (allowed : Store → Type 0) (may : allowed (made (Some n.comparator)))
         (bound : ℕ) where
       -- the new store shows what no store shows: nothing

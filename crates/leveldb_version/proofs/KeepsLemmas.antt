@@ -20,13 +20,14 @@ use Rattle.leveldb_version.proofs.ManifestLemmas.{edits_on, managed_of}
 use Rattle.leveldb_version.proofs.NewLogLemmas.{create_log_safe, with_new_log}
 use Rattle.leveldb_version.proofs.RenameLemmas.{rename_carries, renaming_safe}
 use Rattle.leveldb_version.proofs.SafeLemmas.{sync_safe}
+use Rattle.leveldb_version.proofs.SameStoreLemmas.{made_is}
 use Rattle.leveldb_version.proofs.StaysLemmas.{synced_managed, synced_same, unread_managed}
 use Rattle.leveldb_version.proofs.UnreadLemmas.{unread_stays_safe}
 use Rattle.leveldb_version.specs.Contents.{Contents, Store, made}
 use Rattle.leveldb_version.specs.Holds.{Carries, Holds, IsSafe}
 use Rattle.leveldb_version.specs.Paths.{current_path, log_path}
 use Rattle.leveldb_version.specs.Store.{HasEdits, HasNoStore, IsStore, LastNumbersFit}
-use Rattle.leveldb_version.specs.StoreSteps.{EditKeeps, EditsRefine, HasBytes, HasNextCurrent, IsAboveLogs, IsManifestOpen, IsNew, IsUnread, KeepsHistory}
+use Rattle.leveldb_version.specs.StoreSteps.{EditKeeps, EditsRefine, HasBytes, HasNextCurrent, IsAboveLogs, IsManifestOpen, IsNew, IsUnread, KeepsHistory, MakesFile}
 use Rattle.leveldb_version.specs.VersionEdit.{Edit, IsEdit}
 use Rattle.leveldb_version.specs.VersionSet.{live_after}
 
@@ -140,15 +141,22 @@ module _ (store : List ℕ) (cmp : List ℕ → List ℕ → Ordering)
 
     pub new_log_keeps : (files : Files) (n : ℕ) → n < 2 ^ 64 → IsAboveLogs store files n
         → files (current_path store) ≢ None → files (log_path store n) ≡ None → (bound : ℕ)
-        (now : Files) → BeforeOrAfter (created (log_path store n)) files now
+        (now : Files) → MakesFile (log_path store n) files now
         → KeepsHistory store cmp IsTableOf allowed bound files now
-    new_log_keeps files n fits newest has_current gone bound now passes = record {
+    new_log_keeps files n fits newest has_current gone bound now makes = record {
       now = carried passes;
       crash = λ durable history safe.
           create_log_safe store cmp IsTableOf files n fits newest has_current gone allowed bound
           durable history safe now passes;
     }
       where
+        passes : BeforeOrAfter (created (log_path store n)) files now
+        passes = ⊎_elim
+            (λ (is : now ≡ files). inl is)
+            (λ (is : now ≡ with_file (log_path store n) (Some (kept_file [])) files).
+            inr (is ∙ ap (λ f. with_file (log_path store n) f files) (sym (ap or_empty gone))))
+            (made_is (log_path store n) files now gone makes)
+
         carried : BeforeOrAfter (created (log_path store n)) files now → (history : History)
             → Carries store reads allowed bound history files
             → Carries store reads allowed bound history now

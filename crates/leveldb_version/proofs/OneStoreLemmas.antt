@@ -10,7 +10,7 @@ use Rattle.leveldb_base.specs.Types.{Pair}
 use Rattle.leveldb_base.specs.declared.types.FileType.TheVariants.{Log}
 use Rattle.leveldb_env.specs.Env.{File, Files, bytes_of}
 use Rattle.leveldb_mem.proofs.LawsLemmas.{log_laws}
-use Rattle.leveldb_mem.specs.MemTable.{value_of}
+use Rattle.leveldb_base.specs.Entries.{value_of}
 use Rattle.leveldb_version.proofs.BatchesLemmas.{each_one, one_batches}
 use Rattle.leveldb_version.proofs.ManifestLemmas.{read_by}
 use Rattle.leveldb_version.proofs.SafeLemmas.{some_is}

@@ -136,6 +136,29 @@ module _ (store : List ℕ) (cmp : List ℕ → List ℕ → Ordering)
     },
   )
 
+  -- ---- edits one after another
+
+  pub refine_onwards : (bound : ℕ) (files : Files) (edits others last : List Edit)
+      → EditsRefine store cmp IsTableOf bound files edits others
+      → EditsRefine store cmp IsTableOf bound files others last
+      → EditsRefine store cmp IsTableOf bound files edits last
+  refine_onwards bound files edits others last first second left contents leaves honest most m =
+      let one = first left contents leaves honest most m in
+      let two = second left one.0 leaves honest one.2.bounded one.1 in (
+        two.0,
+        two.1,
+        record {
+          later = omega (arith, one.2.later, two.2.later);
+          bounded = two.2.bounded;
+          store = two.2.store ∙ one.2.store;
+          same = λ t late key value.
+              let a = one.2.same t (omega (arith, late, two.2.later)) key value in
+              let b = two.2.same t late key value in
+              (λ x. a.0 (b.0 x), λ x. b.1 (a.1 x));
+          none_new = λ entry c. one.2.none_new entry (two.2.none_new entry c);
+        },
+      )
+
   -- ---- what is kept
 
   -- The live tables of safe files are kept, since a crash could cut them to another size.

@@ -109,7 +109,7 @@ module _ (store : List ℕ) (cmp : List ℕ → List ℕ → Ordering)
               (kept_is (files path)))
           by false d =
               kept_on (in_folder store name)
-              (last.kept_before name n is replayed
+              (last.others_kept name n is replayed
               (λ same_name. let is_it : false ≡ true = sym d
               ∙ (bytes_decides path (in_folder store name)).1
               (ap (in_folder store) (sym same_name)) in cc))

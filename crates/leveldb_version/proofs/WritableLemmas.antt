@@ -51,16 +51,6 @@ module _ (store : List ℕ) (cmp : List ℕ → List ℕ → Ordering)
         kinds_apart store (file_name Log w.log.number) (file_name Table one.number) w.log.number
         one.number Log Table named (made_name Table one.number fits) (λ e. cc)
 
-    was_there : (name : List ℕ) → now (in_folder store name) ≢ None
-        → files (in_folder store name) ≢ None
-    was_there name some = by (bytes_eq path (in_folder store name)) refl
-      where
-        by : (b : Bool) → bytes_eq path (in_folder store name) ≡ b
-            → files (in_folder store name) ≢ None
-        by true e = λ gone. let never : Some w.log.file ≡ None = sym w.log.there
-            ∙ ap files ((bytes_decides path (in_folder store name)).0 e) ∙ gone in cc
-        by false e = λ gone. some (same (in_folder store name) e ∙ gone)
-
     other_name : (name : List ℕ) → name ≢ file_name Log w.log.number
         → bytes_eq path (in_folder store name) ≡ false
     other_name name differ = by (bytes_eq path (in_folder store name)) refl
@@ -97,17 +87,21 @@ module _ (store : List ℕ) (cmp : List ℕ → List ℕ → Ordering)
         fits = w.log.fits;
         last = record {
           replayed = w.log.last.replayed;
-          greatest = λ name n is replayed some.
-              w.log.last.greatest name n is replayed (was_there name some);
-          kept_before = λ name n is replayed differ.
-              subst IsKept (sym (same (in_folder store name) (other_name name differ)))
-              (w.log.last.kept_before name n is replayed differ);
-          clean_before = λ n other less replayed found. w.log.last.clean_before n other less replayed
-              (sym (same (log_path store n)
-              (numbers_apart store (file_name Log w.log.number) (file_name Log n) w.log.number n
-              Log Log named (made_name Log n (omega (arith, less, w.log.fits)))
+          empty_after = λ name n other is replayed less found.
+              w.log.last.empty_after name n other is replayed less
+              (sym (same (in_folder store name)
+              (numbers_apart store (file_name Log w.log.number) name w.log.number n Log Log named is
               (λ e. omega (arith, less, e)))) ∙ found);
+          others_kept = λ name n is replayed differ.
+              subst IsKept (sym (same (in_folder store name) (other_name name differ)))
+              (w.log.last.others_kept name n is replayed differ);
         };
+        clean_before = λ n other less replayed found.
+            w.log.clean_before n other less replayed
+            (sym (same (log_path store n)
+            (numbers_apart store (file_name Log w.log.number) (file_name Log n) w.log.number n
+            Log Log named (made_name Log n (omega (arith, less, w.log.fits)))
+            (λ e. omega (arith, less, e)))) ∙ found);
         file = file;
         there = there;
         records = records;

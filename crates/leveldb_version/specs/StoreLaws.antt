@@ -7,6 +7,8 @@ use Rattle.std.specs.Prelude.{◌++◌, ◌+◌, ◌<◌, ◌^◌, ◌↔◌, �
 use Rattle.std.specs.Cmp.{IsTotalOrder}
 use Rattle.std.specs.Str.{bytes_eq}
 use Rattle.std.specs.declared.cmp.Ordering.{Ordering}
+use Rattle.leveldb_base.specs.Entries.{FindsNewest}
+use Rattle.leveldb_base.specs.Layers.{AreLayered}
 use Rattle.leveldb_base.specs.declared.types.FileType.{FileType}
 use Rattle.leveldb_base.specs.declared.types.FileType.TheVariants.{Log, Table, Descriptor, Current}
 use Rattle.leveldb_base.specs.History.{Entry, History, Item, count_of, greatest, placed}
@@ -14,16 +16,15 @@ use Rattle.leveldb_base.specs.KeyTypes.{greatest_sequence, internal_cmp}
 use Rattle.leveldb_base.specs.Names.{IsFileName}
 use Rattle.leveldb_base.specs.Types.{Pair}
 use Rattle.leveldb_env.specs.declared.env.Env.{Ghosts}
-use Rattle.leveldb_env.specs.Env.{File, Files, FilesCrashTo, SameBut, BeforeOrAfter, PrefixAppended, Within, AreBytes, bytes_of, created, extended, in_folder, renamed, synced}
+use Rattle.leveldb_env.specs.Env.{File, Files, FilesCrashTo, SameBut, BeforeOrAfter, PrefixAppended, Within, AreBytes, bytes_of, extended, in_folder, renamed, synced}
 use Rattle.leveldb_mem.specs.Log.{frame_at}
-use Rattle.leveldb_mem.specs.MemTable.{FindsNewest}
 use Rattle.leveldb_mem.specs.WriteBatch.{Batch, BatchOf}
 use Rattle.leveldb_version.specs.Contents.{Contents, Store, made, missing, no_contents}
 use Rattle.leveldb_version.specs.Holds.{IsHonest, MatchesHistory, IsSafe, Holds}
-use Rattle.leveldb_version.specs.Levels.{LiveTable, LevelOrder, IsInRange, IsBounded, table_entries, CanBeAdded, AreLayered, IsSearchedBefore, SearchFinds}
+use Rattle.leveldb_version.specs.Levels.{LiveTable, LevelOrder, IsInRange, IsBounded, table_entries, CanBeAdded, IsSearchedBefore}
 use Rattle.leveldb_version.specs.Paths.{current_path, log_path}
 use Rattle.leveldb_version.specs.Store.{HasEdits, HasNoStore, HasTable, HasTables, IsManaged, IsManagedBy, IsStore, IsStoreTable, LastNumbersFit, OneTableReading, SameContents, SameEntries}
-use Rattle.leveldb_version.specs.StoreSteps.{AddsOnce, EditKeeps, EditsRefine, HasBytes, HasNextCurrent, IsAboveLogs, IsAllKept, IsCuttable, IsCutStore, IsKept, IsManifestOpen, IsNew, IsPartOf, IsSafeFor, IsUnnamed, IsUnread, IsWritable, KeepsHistory, LeavesAlone, Risk, SameButNextFile, SwapsTables, SwitchesLog, TablesAreKept}
+use Rattle.leveldb_version.specs.StoreSteps.{AddsOnce, EditKeeps, EditsRefine, HasBytes, HasNextCurrent, IsAboveLogs, IsAllKept, IsCuttable, IsCutStore, IsKept, IsManifestOpen, IsNew, IsPartOf, IsSafeFor, IsUnnamed, IsUnread, IsWritable, KeepsHistory, LeavesAlone, MakesFile, Risk, SameButNextFile, SwapsTables, SwitchesLog, TablesAreKept}
 use Rattle.leveldb_version.specs.VersionEdit.{Edit, NewFile, IsEdit}
 use Rattle.leveldb_version.specs.VersionSet.{level_file, live_after}
 
@@ -69,6 +70,13 @@ module _ (store : List ℕ) (cmp : List ℕ → List ℕ → Ordering)
   SnapshotsRefine = (bound : ℕ) (files : Files) (edits others : List Edit)
       → SameButNextFile (live_after edits) (live_after others) → LastNumbersFit others
       → EditsRefine store cmp IsTableOf bound files edits others
+
+  -- edits that refine others which refine the first ones refine the first ones
+  abbrev pub EditsRefineOnwards : Type 0
+  EditsRefineOnwards = (bound : ℕ) (files : Files) (edits others last : List Edit)
+      → EditsRefine store cmp IsTableOf bound files edits others
+      → EditsRefine store cmp IsTableOf bound files others last
+      → EditsRefine store cmp IsTableOf bound files edits last
 
   -- After an edit the live tables are those that it adds, and those from before that it leaves
   -- alone.
@@ -117,10 +125,15 @@ module _ (store : List ℕ) (cmp : List ℕ → List ℕ → Ordering)
       → IsFileName name n kind → kind ≢ Current → kind ≢ Descriptor → kind ≢ Table → kind ≢ Log
       → IsUnread store files (in_folder store name)
 
-  -- what was unread stays so, whatever becomes of it
+  -- what isn't read stays unread, whatever becomes of it or of another file that isn't read
   abbrev pub UnreadStays : Type 0
-  UnreadStays = (path : List ℕ) (old new : Files) → SameBut path old new
-      → IsUnread store old path → IsUnread store new path
+  UnreadStays = (path other : List ℕ) (old new : Files) → SameBut path old new
+      → IsUnread store old path → IsUnread store old other → IsUnread store new other
+
+  -- where `CURRENT` is missing no manifest is read, whether it is there or not
+  abbrev pub ManifestsAreUnread : Type 0
+  ManifestsAreUnread = (files : Files) → files (current_path store) ≡ None → (name : List ℕ)
+      (n : ℕ) → IsFileName name n Descriptor → IsUnread store files (in_folder store name)
 
   -- what the edits of a kept manifest don't name, as a file that is obsolete
   abbrev pub ObsoleteIsUnread : Type 0
@@ -155,6 +168,15 @@ module _ (store : List ℕ) (cmp : List ℕ → List ℕ → Ordering)
         → MatchesHistory allowed bound contents history
         → IsSafe store (IsStore store cmp IsTableOf) allowed bound (length history) history files
 
+    -- and the files hold each history that the contents match, all of it durable: no number is
+    -- taken past the last one of the contents
+    abbrev pub KeptHolds : Type 0
+    KeptHolds = (files : Files) (contents : Contents)
+        → IsAllKept store cmp IsTableOf files contents → (bound : ℕ) (history : History)
+        → MatchesHistory allowed bound contents history
+        → Holds store (IsStore store cmp IsTableOf) allowed files history contents.last
+        (length history) None
+
     -- the live tables of a safe store are kept: a crash could cut them to another size
     abbrev pub SafeTablesAreKept : Type 0
     SafeTablesAreKept = (files : Files) → HasBytes files → (bound durable : ℕ)
@@ -180,7 +202,8 @@ module _ (store : List ℕ) (cmp : List ℕ → List ℕ → Ordering)
         → Holds store (IsStore store cmp IsTableOf) allowed old history last durable pending
         → Holds store (IsStore store cmp IsTableOf) allowed new history last durable pending
 
-    -- While a batch is appended to the last log, it is pending; after it the history has it.
+    -- While a batch is appended to the last log, it is pending; after it the history has it, and
+    -- the next one may be appended.
     pub record BatchAppends (files : Files) (edits : List Edit)
         (w : IsWritable store files edits) (history : History) (last durable : ℕ)
         (items : List Item) (text : List ℕ) : Type 0 where
@@ -193,6 +216,10 @@ module _ (store : List ℕ) (cmp : List ℕ → List ℕ → Ordering)
           (extended (log_path store w.log.number) (frame_at (length (bytes_of w.log.file)) text)
           files)
           (history ++ placed (last + 1) items ∷ []) (last + length items) durable None
+      pub writable : HasBytes (extended (log_path store w.log.number)
+          (frame_at (length (bytes_of w.log.file)) text) files)
+          → IsWritable store (extended (log_path store w.log.number)
+          (frame_at (length (bytes_of w.log.file)) text) files) edits
 
     -- so a batch may be appended whose numbers fit
     abbrev pub BatchesAppend : Type 0
@@ -221,7 +248,7 @@ module _ (store : List ℕ) (cmp : List ℕ → List ℕ → Ordering)
     abbrev pub NewLogsKeep : Type 0
     NewLogsKeep = (files : Files) (n : ℕ) → n < 2 ^ 64 → IsAboveLogs store files n
         → files (current_path store) ≢ None → files (log_path store n) ≡ None → (bound : ℕ)
-        (now : Files) → BeforeOrAfter (created (log_path store n)) files now
+        (now : Files) → MakesFile (log_path store n) files now
         → KeepsHistory store cmp IsTableOf allowed bound files now
 
     -- so does any change of a file that isn't read: it is made, appended to, synced or deleted
@@ -313,19 +340,7 @@ StepsCompose {E = E} env store reads allowed = (least durable later : ℕ)
 
 -- ---- levels
 
--- a look-up over sources, the newer ones first, finds what all of them have
-abbrev pub SearchesFind : Type 0
-SearchesFind = (sources : List (List Entry)) (s : ℕ) (key : List ℕ) → AreLayered sources
-    → SearchFinds sources s key
-
--- what is found of a key rests on its own entries
-abbrev pub FoundByKey : Type 0
-FoundByKey = (these those : List Entry) (s : ℕ) (key : List ℕ)
-    (found : Option (Option (List ℕ)))
-    → ((entry : Entry) → entry.key ≡ key → Contains these entry ↔ Contains those entry)
-    → FindsNewest these s key found → FindsNewest those s key found
-
--- so tables may be left out whose range lacks the key
+-- tables may be left out whose range lacks the key: what the others find of it all find
 abbrev pub RangesLeaveOut : Type 0
 RangesLeaveOut = (cmp : List ℕ → List ℕ → Ordering) (all some : List LiveTable)
     → ((table : LiveTable) → Contains all table → IsBounded cmp table)

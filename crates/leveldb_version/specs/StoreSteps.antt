@@ -7,7 +7,7 @@ use Rattle.leveldb_base.specs.History.{Entry, History, SameView, AreUpTo, greate
 use Rattle.leveldb_base.specs.KeyTypes.{greatest_sequence}
 use Rattle.leveldb_base.specs.Names.{IsFileName, file_name}
 use Rattle.leveldb_base.specs.Types.{Pair}
-use Rattle.leveldb_env.specs.Env.{File, Files, FilesCrashTo, AreBytes, bytes_of, in_folder}
+use Rattle.leveldb_env.specs.Env.{File, Files, FilesCrashTo, AreBytes, BeforeOrAfter, bytes_of, created, emptied, in_folder}
 use Rattle.leveldb_mem.specs.Log.{End, clean, IsLogFile}
 use Rattle.leveldb_mem.specs.WriteBatch.{Batch}
 use Rattle.leveldb_version.specs.Batches.{Each, IsRecordOf, all_entries}
@@ -103,22 +103,28 @@ module _ (store : List ℕ) (cmp : List ℕ → List ℕ → Ordering)
 
 -- ---- the last log
 
--- the log of this number is the last that is replayed; those before it are kept and end cleanly
+-- The log of this number is replayed, and it is the last one that may have batches: those above it
+-- are empty. All other logs that are replayed are kept.
 pub record IsLastLog (store : List ℕ) (files : Files) (set : FileSet) (number : ℕ) : Type 0 where
   pub replayed : IsReplayed set number
-  pub greatest : (name : List ℕ) (n : ℕ) → IsFileName name n Log → IsReplayed set n
-      → files (in_folder store name) ≢ None → n ≤ number
-  pub kept_before : (name : List ℕ) (n : ℕ) → IsFileName name n Log → IsReplayed set n
+  pub empty_after : (name : List ℕ) (n : ℕ) (other : File) → IsFileName name n Log
+      → IsReplayed set n → number < n → files (in_folder store name) ≡ Some other
+      → bytes_of other ≡ []
+  pub others_kept : (name : List ℕ) (n : ℕ) → IsFileName name n Log → IsReplayed set n
       → name ≢ file_name Log number → IsKept (files (in_folder store name))
-  pub clean_before : (n : ℕ) (other : File) → n < number → IsReplayed set n
-      → files (log_path store n) ≡ Some other
-      → (records : List (List ℕ)) × IsLogFile (bytes_of other) records clean
 
--- the log that is written is the last one, and ends cleanly
+-- each log below this number that is replayed ends cleanly
+abbrev pub AreCleanBefore : List ℕ → Files → FileSet → ℕ → Type 0
+AreCleanBefore store files set number = (n : ℕ) (other : File) → n < number → IsReplayed set n
+    → files (log_path store n) ≡ Some other
+    → (records : List (List ℕ)) × IsLogFile (bytes_of other) records clean
+
+-- the log that is written is the last one, and ends cleanly, as those before it do
 pub record IsLogOpen (store : List ℕ) (files : Files) (set : FileSet) : Type 0 where
   pub number : ℕ
   pub fits : number < 2 ^ 64
   pub last : IsLastLog store files set number
+  pub clean_before : AreCleanBefore store files set number
   pub file : File
   pub there : files (log_path store number) ≡ Some file
   pub records : List (List ℕ)
@@ -140,6 +146,11 @@ pub record IsWritable (store : List ℕ) (files : Files) (edits : List Edit) : T
 abbrev pub IsAboveLogs : List ℕ → Files → ℕ → Type 0
 IsAboveLogs store files n = (name : List ℕ) (k : ℕ) → IsFileName name k Log
     → files (in_folder store name) ≢ None → k < n
+
+-- an empty file is made under this path, whether one that was there would have been kept or not
+abbrev pub MakesFile : List ℕ → Files → Files → Type 0
+MakesFile path old new =
+    BeforeOrAfter (created path) old new ⊎ BeforeOrAfter (emptied path) old new
 
 -- ---- files that aren't read
 
@@ -313,12 +324,15 @@ pub record IsCut (batches : List Batch) (k : ℕ) (old new : Contents) : Type 0 
 
 module _ (store : List ℕ) (cmp : List ℕ → List ℕ → Ordering)
     (IsTableOf : List ℕ → List Pair → Type 0) where
-  -- by these edits the files are a store of which all is kept but the last log
+  -- By these edits the files are a store of which all is kept but the last log. That log is empty,
+  -- or those before it end cleanly.
   pub record IsKeptButLog (files : Files) (edits : List Edit) (number : ℕ) : Type 0 where
     pub contents : Contents
     pub managed : IsManagedBy store cmp IsTableOf files edits contents
     pub tables : TablesAreKept store files (live_after edits)
     pub logs : IsLastLog store files (live_after edits) number
+    pub clean_before : AreCleanBefore store files (live_after edits) number
+        ⊎ ((file : File) → files (log_path store number) ≡ Some file → bytes_of file ≡ [])
 
   -- A store whose manifest and last log may both be cut by a crash. `kept_edits` and `kept_batches`
   -- say how many records of each are kept.

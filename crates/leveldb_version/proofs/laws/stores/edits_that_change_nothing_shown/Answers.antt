@@ -1,6 +1,6 @@
 use Rattle.leveldb_version.proofs.SwapEditLemmas.{swap_keeps}
 use Rattle.leveldb_version.proofs.SwitchEditLemmas.{switch_keeps}
-use Rattle.leveldb_version.proofs.StaysLemmas.{snapshot_refines}
+use Rattle.leveldb_version.proofs.StaysLemmas.{refine_onwards, snapshot_refines}
 use Rattle.leveldb_version.proofs.EditTablesLemmas.{tables_then}
 use Rattle.leveldb_version.proofs.laws.stores.edits_that_change_nothing_shown.Goals as goal
 
@@ -9,5 +9,6 @@ returns g c = record {
   swap = λ store one. swap_keeps store g.F.StoreFormat.cmp g.F.StoreFormat.is_table one;
   switch = λ store one. switch_keeps store g.F.StoreFormat.cmp g.F.StoreFormat.is_table one;
   snapshot = λ store. snapshot_refines store g.F.StoreFormat.cmp g.F.StoreFormat.is_table;
+  onwards = λ store. refine_onwards store g.F.StoreFormat.cmp g.F.StoreFormat.is_table;
   tables = λ store. tables_then store g.F.StoreFormat.cmp g.F.StoreFormat.is_table;
 }
