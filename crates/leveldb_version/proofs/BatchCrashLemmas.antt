@@ -23,7 +23,7 @@ use Rattle.leveldb_version.specs.Batches.{Each, IsRecordOf}
 use Rattle.leveldb_version.specs.Contents.{Contents, Store}
 use Rattle.leveldb_version.specs.Holds.{CarriesPrefix, IsHonest, IsSafe, MatchesHistory}
 use Rattle.leveldb_version.specs.Paths.{current_path, log_path, table_path}
-use Rattle.leveldb_version.specs.Store.{HasEdits, IsManaged, IsManagedBy, IsReplayed, IsStore, ReplayedLog}
+use Rattle.leveldb_version.specs.Store.{HasEdits, IsManaged, IsManagedBy, LogIsReplayed, IsStore, ReplayedLog}
 use Rattle.leveldb_version.specs.StoreSteps.{IsLogOpen, TablesAreKept}
 use Rattle.leveldb_version.specs.VersionSet.{live_after}
 use Rattle.std.proofs.Common.{◌++◌, ◌+◌, ◌<◌, ◌∙◌, ◌∷◌, ◌≡◌, ◌≤◌, ◌⊎◌, Bool, List, None, Some, [], ap, append-nil, append_assoc, arith, drop, false, inl, inr, length, length-append, refl, subst, sym, take, true, ℕ, ⊎_elim}
@@ -150,7 +150,7 @@ module _ (store : List ℕ) (cmp : List ℕ → List ℕ → Ordering)
 
       -- the bytes of the other logs are those that were kept
       other_bytes : (k : ℕ) (name : List ℕ) (number : ℕ) → IsFileName name number Log
-          → IsReplayed (live_after m.edits) number → name ≢ file_name Log log.number
+          → LogIsReplayed (live_after m.edits) number → name ≢ file_name Log log.number
           → SameBytes (files (in_folder store name)) (before k (in_folder store name))
       other_bytes k name number is replayed differ =
           kept_left (files (in_folder store name)) (before k (in_folder store name))
@@ -271,7 +271,7 @@ module _ (store : List ℕ) (cmp : List ℕ → List ℕ → Ordering)
               ∙ sym (ap (option_map bytes_of) log.there)
 
           logs : (name : List ℕ) (number : ℕ) → IsFileName name number Log
-              → IsReplayed (live_after m.edits) number
+              → LogIsReplayed (live_after m.edits) number
               → SameBytes (files (in_folder store name)) (before all_there (in_folder store name))
           logs name number is replayed = by (bytes_eq path (in_folder store name)) refl
             where

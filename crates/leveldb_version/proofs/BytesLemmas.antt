@@ -2,8 +2,8 @@
 use Rattle.leveldb_env.proofs.EnvLemmas.{at_other, at_same}
 use Rattle.leveldb_env.specs.Env.{AreBytes, File, Files, deleted, file_kept, kept_file, longer_file, moved, or_empty, with_file}
 use Rattle.leveldb_version.proofs.SafeLemmas.{some_is}
-use Rattle.leveldb_version.specs.StoreStays.{HasBytesAfter}
-use Rattle.leveldb_version.specs.StoreSteps.{HasBytes}
+use Rattle.leveldb_version.specs.StoreStays.{AppendedAreBytesAfter}
+use Rattle.leveldb_version.specs.StoreSteps.{AppendedAreBytes}
 use Rattle.std.proofs.Common.{◌++◌, ◌∙◌, ◌∷◌, ◌≡◌, Bool, List, None, Option, Some, [], arith, false, refl, subst, suc, sym, true, zero, ℕ}
 use Rattle.std.specs.Cmp.Lexicographic.{bytes_decides}
 use Rattle.std.specs.Option.{option_map}
@@ -46,8 +46,8 @@ fine_none : Fine None
 fine_none f is = absurd cc
 
 -- one file more, or another one
-with_fine : (name : List ℕ) (file : Option File) (files : Files) → HasBytes files → Fine file
-    → HasBytes (with_file name file files)
+with_fine : (name : List ℕ) (file : Option File) (files : Files) → AppendedAreBytes files → Fine file
+    → AppendedAreBytes (with_file name file files)
 with_fine name file files bytes fine other f is = by (bytes_eq name other) refl
   where
     by : (b : Bool) → bytes_eq name other ≡ b → AreBytes f.since
@@ -58,7 +58,7 @@ with_fine name file files bytes fine other f is = by (bytes_eq name other) refl
         is)
     by false e = bytes other f (sym (at_other name file files other e) ∙ is)
 
-pub bytes_stay : (files : Files) → HasBytes files → HasBytesAfter files
+pub bytes_stay : (files : Files) → AppendedAreBytes files → AppendedAreBytesAfter files
 bytes_stay files bytes = record {
   make = λ name.
       with_fine name (or_empty (files name)) files bytes (fine_made (files name) (bytes name));
@@ -73,7 +73,7 @@ bytes_stay files bytes = record {
 }
   where
     moved_bytes : (from to : List ℕ) (file : Option File) → Fine file
-        → HasBytes (moved from to files file)
+        → AppendedAreBytes (moved from to files file)
     moved_bytes from to None fine = bytes
     moved_bytes from to (Some file) fine =
         with_fine to (Some file) (deleted from files) (with_fine from None files bytes fine_none)

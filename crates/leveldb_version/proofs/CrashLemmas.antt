@@ -23,8 +23,8 @@ use Rattle.leveldb_version.specs.Current.{IsCurrentText}
 use Rattle.leveldb_version.specs.Holds.{IsHonest}
 use Rattle.leveldb_version.specs.Levels.{table_entries}
 use Rattle.leveldb_version.specs.Paths.{current_path, log_path, table_path}
-use Rattle.leveldb_version.specs.Store.{IsManagedBy, IsReplayed, ReplayedLog}
-use Rattle.leveldb_version.specs.StoreSteps.{AreCleanBefore, IsCut, IsCutStore, IsCuttable, IsJournalFile, IsKeptButLog}
+use Rattle.leveldb_version.specs.Store.{IsManagedBy, LogIsReplayed, ReplayedLog}
+use Rattle.leveldb_version.specs.StoreSteps.{AreCleanBefore, IsCutTo, IsCutStore, IsCuttable, IsTornJournal, IsKeptButLog}
 use Rattle.leveldb_version.specs.VersionEdit.{Edit, IsEdit}
 use Rattle.leveldb_version.specs.VersionSet.{live_after}
 use Rattle.std.proofs.Common.{◌++◌, ◌<◌, ◌^◌, ◌∙◌, ◌∷◌, ◌≡◌, ◌≤◌, ◌⊎◌, Bool, List, None, Option, Some, [], ap, append-nil, arith, false, inl, inr, length, length-append, refl, subst, suc, sym, take, true, zero, ℕ, ⊎_elim}
@@ -48,7 +48,7 @@ pub record IsJournalLeft (least : ℕ) (written : List (List ℕ)) (left : Optio
   pub read : IsLogFile (bytes_of now) (take count written) end
 
 pub journal_left : (file : File) (kept written : List (List ℕ)) (left : Option File)
-    → IsJournalFile file kept written → FileCrashesTo (Some file) left → Honest (Some file) left
+    → IsTornJournal file kept written → FileCrashesTo (Some file) left → Honest (Some file) left
     → IsJournalLeft (length kept) written left
 journal_left file kept written left j leaves honest =
     let now = kept_file (file.kept ++ leaves.0) in
@@ -143,7 +143,7 @@ module _ (store : List ℕ) (cmp : List ℕ → List ℕ → Ordering)
     at_log = ap (option_map bytes_of) whole_there ∙ ap (λ b. Some b) (append-nil (bytes_of file))
         ∙ sym (ap (option_map bytes_of) there)
 
-    other_bytes : (name : List ℕ) (n : ℕ) → IsFileName name n Log → IsReplayed (live_after edits) n
+    other_bytes : (name : List ℕ) (n : ℕ) → IsFileName name n Log → LogIsReplayed (live_after edits) n
         → SameBytes (files (in_folder store name)) (whole (in_folder store name))
     other_bytes name n is replayed = by (bytes_eq path (in_folder store name)) refl
       where
@@ -234,9 +234,17 @@ module _ (store : List ℕ) (cmp : List ℕ → List ℕ → Ordering)
         → Contains (all_entries batches) later ⊎ (s.contents.last < later.sequence)
     known later c = inl (in_cut k batches later c)
 
+    -- the manifest's last number is what it was
+    same_last : managed.last ≡ s.managed.last
+    same_last = some_is managed.last s.managed.last (sym managed.last_is ∙ s.managed.last_is)
+
     pub cut_store : (c : Contents) × IsManagedBy store cmp IsTableOf left edits c
-        × IsCut batches k s.contents c
-    cut_store = let m =
+        × IsCutTo batches k s.managed.last s.contents c
+    cut_store = let front = before_it store cmp IsTableOf whole left edits s.contents managed number fits
+        s.logs.replayed empty_later same (file_kept file) now clean_earlier whole_there there_now written
+        (take k written) end now_end whole_read read_now batches (take k batches) each
+        (each_take IsRecordOf k written batches each) rises known in
+        let m =
         with_now store cmp IsTableOf whole left edits s.contents managed number fits
         s.logs.replayed empty_later same (file_kept file) now clean_earlier whole_there there_now written
         (take k written) end now_end whole_read read_now
@@ -255,18 +263,15 @@ module _ (store : List ℕ) (cmp : List ℕ → List ℕ → Ordering)
           m,
           record {
             in_tables = table_entries managed.tables;
-            before =
-                before_it store cmp IsTableOf whole left edits s.contents managed number fits
-                s.logs.replayed empty_later same (file_kept file) now clean_earlier whole_there there_now written
-                (take k written) end now_end whole_read read_now batches (take k batches) each
-                (each_take IsRecordOf k written batches each) rises known;
-            last = managed.last;
+            before = front;
             old_entries = ap (λ (c : Contents). c.entries) managed.is
                 ∙ ap (λ bs. table_entries managed.tables ++ all_entries bs) were;
             new_entries = ap (λ bs. table_entries managed.tables ++ all_entries bs) are;
             old_last = ap (λ (c : Contents). c.last) managed.is
-                ∙ ap (λ bs. max managed.last (greatest (all_entries bs))) were;
-            new_last = ap (λ bs. max managed.last (greatest (all_entries bs))) are;
+                ∙ ap (λ bs. max managed.last (greatest (all_entries bs))) were
+                ∙ ap (λ l. max l (greatest (all_entries (front ++ batches)))) same_last;
+            new_last = ap (λ bs. max managed.last (greatest (all_entries bs))) are
+                ∙ ap (λ l. max l (greatest (all_entries (front ++ take k batches)))) same_last;
             store = sym (ap (λ (c : Contents). c.store) managed.is);
           },
         )

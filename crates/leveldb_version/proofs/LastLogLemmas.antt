@@ -17,7 +17,7 @@ use Rattle.leveldb_version.specs.Batches.{AreInOrder, Each, IsRecordOf, all_entr
 use Rattle.leveldb_version.specs.Contents.{Contents, made}
 use Rattle.leveldb_version.specs.Levels.{table_entries}
 use Rattle.leveldb_version.specs.Paths.{log_path, table_path}
-use Rattle.leveldb_version.specs.Store.{FitTogether, HasLog, HasLogs, IsManagedBy, IsReplayed, LogsRise, ReplayedLog, contents_of, log_batches, log_entries}
+use Rattle.leveldb_version.specs.Store.{FitTogether, HasLog, HasLogs, IsManagedBy, LogIsReplayed, LogsRise, ReplayedLog, contents_of, log_batches, log_entries}
 use Rattle.leveldb_version.specs.VersionEdit.{Edit}
 use Rattle.leveldb_version.specs.VersionSet.{live_after}
 use Rattle.std.proofs.Common.{◌++◌, ◌<◌, ◌^◌, ◌∙◌, ◌∷◌, ◌≡◌, ◌≤◌, ◌⊎◌, Bool, List, None, Some, [], ap, append-nil, append_assoc, arith, false, inl, inr, length, refl, subst, sym, true, ℕ, ⊎_elim}
@@ -49,7 +49,7 @@ module _ (store : List ℕ) (cmp : List ℕ → List ℕ → Ordering)
   -- them, and each of their entries was there or is above the last number.
   module _ (old new : Files) (edits : List Edit) (contents : Contents)
       (m : IsManagedBy store cmp IsTableOf old edits contents) (n : ℕ) (fits : n < 2 ^ 64)
-      (replayed : IsReplayed (live_after edits) n)
+      (replayed : LogIsReplayed (live_after edits) n)
       (empty_after : (log : ReplayedLog) → Contains m.logs log → n < log.number → log.size ≡ 0)
       (same : SameBut (log_path store n) old new)
       (was now : File)
@@ -236,7 +236,7 @@ module _ (store : List ℕ) (cmp : List ℕ → List ℕ → Ordering)
 
     -- a log of another number stays as it was
     stays_there : (log : ReplayedLog) → Contains m.logs log → n ≢ log.number
-        → HasLog store new log × IsReplayed (live_after edits) log.number × (log.number < 2 ^ 64)
+        → HasLog store new log × LogIsReplayed (live_after edits) log.number × (log.number < 2 ^ 64)
     stays_there log c differ =
         let h = m.has_logs.each log c in
         let apart = numbers_apart store (file_name Log n)
@@ -264,12 +264,12 @@ module _ (store : List ℕ) (cmp : List ℕ → List ℕ → Ordering)
       where
         each_log : (log : ReplayedLog)
             → Contains earlier log ⊎ ((new_log ≡ log) ⊎ Contains later_logs log)
-            → HasLog store new log × IsReplayed (live_after edits) log.number
+            → HasLog store new log × LogIsReplayed (live_after edits) log.number
             × (log.number < 2 ^ 64)
         each_log log (inl early) = stays_there log (in_old log early)
             (λ e. let l = below_last log early in omega (arith, l, e))
         each_log log (inr (inl e)) = subst
-            (λ (l : ReplayedLog). HasLog store new l × IsReplayed (live_after edits) l.number
+            (λ (l : ReplayedLog). HasLog store new l × LogIsReplayed (live_after edits) l.number
             × (l.number < 2 ^ 64)) e (
               (
                 now,
@@ -324,7 +324,7 @@ module _ (store : List ℕ) (cmp : List ℕ → List ℕ → Ordering)
   -- it has some batches more
   module _ (old new : Files) (edits : List Edit) (contents : Contents)
       (m : IsManagedBy store cmp IsTableOf old edits contents) (n : ℕ) (fits : n < 2 ^ 64)
-      (replayed : IsReplayed (live_after edits) n)
+      (replayed : LogIsReplayed (live_after edits) n)
       (empty_after : (log : ReplayedLog) → Contains m.logs log → n < log.number → log.size ≡ 0)
       (same : SameBut (log_path store n) old new)
       (was now : File)

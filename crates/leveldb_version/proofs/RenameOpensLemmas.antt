@@ -10,7 +10,7 @@ use Rattle.leveldb_mem.specs.Log.{IsLogFile, clean}
 use Rattle.leveldb_version.proofs.ManagedLemmas.{SameFor, kinds_apart, managed_on, same_bytes}
 use Rattle.leveldb_version.specs.Contents.{Contents}
 use Rattle.leveldb_version.specs.Paths.{current_path, table_path}
-use Rattle.leveldb_version.specs.Store.{IsManagedBy}
+use Rattle.leveldb_version.specs.Store.{HasEdits, IsManagedBy}
 use Rattle.leveldb_version.specs.StoreStays.{HasKeptEdits, OpensManifest}
 use Rattle.leveldb_version.specs.StoreSteps.{HasNextCurrent, IsManifestOpen}
 use Rattle.leveldb_version.specs.VersionEdit.{Edit}
@@ -53,35 +53,27 @@ module _ (store : List ℕ) (cmp : List ℕ → List ℕ → Ordering)
     manifest_there = elsewhere h.name h.number Descriptor h.named.0 (λ d. cc) (λ d. cc)
         ∙ h.manifest_there
 
-    kept_edits : HasKeptEdits store moved_files edits
-    kept_edits = record {
-      has_edits = record {
-        current = h.text;
-        current_there = at_same to (Some h.text) (deleted from files);
-        name = h.name;
-        number = h.number;
-        named = h.named;
-        manifest = h.manifest;
-        there = manifest_there;
-        is = h.is;
-      };
-      current = h.text_kept;
-      manifest = h.manifest_kept;
-    }
-
-    open_manifest : h.is.end ≡ clean → IsManifestOpen store moved_files edits
-    open_manifest ends = record {
+    abbrev new_edits : HasEdits store moved_files edits
+    new_edits = record {
       current = h.text;
       current_there = at_same to (Some h.text) (deleted from files);
-      current_kept = h.text_kept;
       name = h.name;
       number = h.number;
       named = h.named;
-      file = h.manifest;
+      manifest = h.manifest;
       there = manifest_there;
-      records = h.is.records;
+      is = h.is;
+    }
+
+    kept_edits : HasKeptEdits store moved_files edits
+    kept_edits =
+        record { has_edits = new_edits; current = h.text_kept; manifest = h.manifest_kept }
+
+    open_manifest : h.is.end ≡ clean → IsManifestOpen store moved_files edits
+    open_manifest ends = record {
+      has_edits = new_edits;
+      current_kept = h.text_kept;
       clean_end = subst (IsLogFile (bytes_of h.manifest) h.is.records) ends h.is.read;
-      each = h.is.each;
     }
 
     same_then : (set : FileSet) → SameFor store set files moved_files

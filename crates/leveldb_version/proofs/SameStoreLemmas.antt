@@ -16,7 +16,7 @@ use Rattle.leveldb_version.specs.Current.{IsCurrentText}
 use Rattle.leveldb_version.specs.Paths.{current_path, log_path, table_path}
 use Rattle.leveldb_version.specs.Store.{HasEdits, IsManagedBy}
 use Rattle.leveldb_version.specs.StoreStays.{IsSameStore}
-use Rattle.leveldb_version.specs.StoreSteps.{HasBytes, IsAboveLogs, IsUnread, MakesFile}
+use Rattle.leveldb_version.specs.StoreSteps.{AppendedAreBytes, IsAboveLogs, IsUnread, MakesFile}
 use Rattle.leveldb_version.specs.VersionEdit.{Edit}
 use Rattle.leveldb_version.specs.VersionSet.{live_after}
 use Rattle.std.proofs.Common.{◌<◌, ◌^◌, ◌∙◌, ◌≡◌, ◌⊎◌, List, None, Some, [], ap, append-nil, inl, inr, refl, subst, sym, ℕ}
@@ -84,7 +84,7 @@ module _ (store : List ℕ) (cmp : List ℕ → List ℕ → Ordering)
       })
 
   pub same_after_unread : (path : List ℕ) (old new : Files) → SameBut path old new
-      → HasBytes old → IsUnread store old path → IsSameStore store cmp IsTableOf old new
+      → AppendedAreBytes old → IsUnread store old path → IsSameStore store cmp IsTableOf old new
   same_after_unread path old new same bytes un = record {
     edits = λ edits e.
         edits_on store cmp IsTableOf path old new edits e same un.not_current

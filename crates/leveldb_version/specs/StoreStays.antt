@@ -8,24 +8,24 @@ use Rattle.leveldb_mem.specs.Log.{clean}
 use Rattle.leveldb_version.specs.Contents.{Contents}
 use Rattle.leveldb_version.specs.Paths.{current_path, log_path}
 use Rattle.leveldb_version.specs.Store.{HasEdits, HasNoStore, IsManagedBy, IsStore, LastNumbersFit, contents_of}
-use Rattle.leveldb_version.specs.StoreSteps.{HasBytes, HasNextCurrent, IsAboveLogs, IsAllKept, IsManifestOpen, IsNew, IsUnread, MakesFile}
+use Rattle.leveldb_version.specs.StoreSteps.{AppendedAreBytes, HasNextCurrent, IsAboveLogs, IsAllKept, IsManifestOpen, IsNew, IsUnread, MakesFile}
 use Rattle.leveldb_version.specs.VersionEdit.{Edit}
 use Rattle.leveldb_version.specs.VersionSet.{live_after}
 
 -- ---- bytes
 
 -- after each call that changes files, what was appended to each file are bytes
-pub record HasBytesAfter (files : Files) : Type 0 where
-  pub make : (name : List ℕ) → HasBytes (created name files)
-  pub empty : (name : List ℕ) → HasBytes (emptied name files)
-  pub append : (name bytes : List ℕ) → AreBytes bytes → HasBytes (extended name bytes files)
-  pub sync : (name : List ℕ) → HasBytes (synced name files)
-  pub rename : (from to : List ℕ) → HasBytes (renamed from to files)
-  pub delete : (name : List ℕ) → HasBytes (deleted name files)
+pub record AppendedAreBytesAfter (files : Files) : Type 0 where
+  pub make : (name : List ℕ) → AppendedAreBytes (created name files)
+  pub empty : (name : List ℕ) → AppendedAreBytes (emptied name files)
+  pub append : (name bytes : List ℕ) → AreBytes bytes → AppendedAreBytes (extended name bytes files)
+  pub sync : (name : List ℕ) → AppendedAreBytes (synced name files)
+  pub rename : (from to : List ℕ) → AppendedAreBytes (renamed from to files)
+  pub delete : (name : List ℕ) → AppendedAreBytes (deleted name files)
 
 -- where they were bytes before, they are bytes after each call
 abbrev pub BytesStay : Type 0
-BytesStay = (files : Files) → HasBytes files → HasBytesAfter files
+BytesStay = (files : Files) → AppendedAreBytes files → AppendedAreBytesAfter files
 
 -- ---- a manifest that is kept
 
@@ -64,7 +64,7 @@ module _ (store : List ℕ) (cmp : List ℕ → List ℕ → Ordering)
 
   -- after any change of a file that isn't read the store is the same
   abbrev pub SameAfterUnread : Type 0
-  SameAfterUnread = (path : List ℕ) (old new : Files) → SameBut path old new → HasBytes old
+  SameAfterUnread = (path : List ℕ) (old new : Files) → SameBut path old new → AppendedAreBytes old
       → IsUnread store old path → IsSameStore old new
 
   -- ---- a new `CURRENT`
@@ -87,7 +87,7 @@ module _ (store : List ℕ) (cmp : List ℕ → List ℕ → Ordering)
 
   -- where it makes the first `CURRENT`, the store is new, and all that is read of it is kept
   abbrev pub FirstCurrentIsKept : Type 0
-  FirstCurrentIsKept = (files : Files) → HasNoStore store cmp IsTableOf files
+  FirstCurrentIsKept = (files : Files) → HasNoStore store files
       → (temp : List ℕ) (edits : List Edit) → HasNextCurrent store files temp edits
       → (n : IsNew (live_after edits)) → LastNumbersFit edits
       → IsAllKept store cmp IsTableOf (renamed (in_folder store temp) (current_path store) files)

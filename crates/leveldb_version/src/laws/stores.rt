@@ -8,7 +8,7 @@ ghost use Rattle.leveldb_env.specs.Env.{Files};
 ghost use Rattle.leveldb_version.specs.Contents.{Contents, Store};
 ghost use Rattle.leveldb_version.specs.HoldsLaws.{CrashesHold, NarrowerHolds, WiderHolds};
 ghost use Rattle.leveldb_version.specs.Store.{IsStore};
-ghost use Rattle.leveldb_version.specs.StoreLaws.{BatchesAppend, BatchesStayWritable, CrashesCutStores, EditAppendsKeep, EditsLeaveTables, EditsRefineOnwards, EditsStayOpen, EmptyBatchesMatch, FirstCurrentKeeps, KeepingHolds, KeptHolds, KeptIsSafe, ManifestsAreUnread, MissingIsUnread, NewLogsKeep, NoStoreIsSafe, NothingMatches, ObsoleteIsUnread, OneStoreReading, OneStoreTable, OthersAreUnread, PartsAreSafe, RenamesKeep, SafeCurrentIsKept, SafeTablesAreKept, SetsMatch, SnapshotsRefine, StepsCompose, SwapsKeep, SwitchesKeep, SyncMakesDurable, SyncsKeep, SyncsStayWritable, TablesAreBounded, UnreadKeeps, UnreadStays};
+ghost use Rattle.leveldb_version.specs.StoreLaws.{BatchesAppend, BatchesStayWritable, CrashesCutStores, EditAppendsKeep, EditsLeaveTables, EditsRefineOnwards, EditsStayOpen, EmptyBatchesMatch, FirstCurrentKeeps, KeepingHolds, KeptHolds, KeptIsSafe, ManifestsAreUnread, MissingIsUnread, NewLogsKeep, NoStoreIsSafe, NothingMatches, ObsoleteIsUnread, OneStoreReading, OneStoreTable, OthersAreUnread, PartsAreSafe, RenamesKeep, SafeCurrentIsKept, SafeTablesAreKept, SetsMatch, FullEditsRefine, StepsCompose, SwapsRefine, SwitchesRefine, SyncMakesDurable, SyncsKeep, SyncsStayWritable, TablesAreBounded, UnreadKeeps, UnreadStays};
 ghost use Rattle.leveldb_version.specs.StoreStays.{BytesStay, FirstCurrentIsKept, ReadByEdits, RenamesOpen, SameAfterNewLogs, SameAfterSyncs, SameAfterUnread};
 
 use leveldb_env::env::Env;
@@ -147,9 +147,9 @@ pub fn edits_keep_histories<F: StoreFormat>()
 /// in place of logs, and a snapshot in place of all before it. What refines other edits refines all
 /// that those refine.
 pub fn edits_that_change_nothing_shown<F: StoreFormat>()
-    ensures swap { (store : List ℕ) → SwapsKeep store F.cmp F.is_table }
-    ensures switch { (store : List ℕ) → SwitchesKeep store F.cmp F.is_table }
-    ensures snapshot { (store : List ℕ) → SnapshotsRefine store F.cmp F.is_table }
+    ensures swap { (store : List ℕ) → SwapsRefine store F.cmp F.is_table }
+    ensures switch { (store : List ℕ) → SwitchesRefine store F.cmp F.is_table }
+    ensures snapshot { (store : List ℕ) → FullEditsRefine store F.cmp F.is_table }
     ensures onwards { (store : List ℕ) → EditsRefineOnwards store F.cmp F.is_table }
     ensures tables { (store : List ℕ) → EditsLeaveTables store F.cmp F.is_table }
 {}
