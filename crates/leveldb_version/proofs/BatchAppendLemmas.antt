@@ -22,7 +22,7 @@ use Rattle.leveldb_version.specs.Batches.{Each, IsRecordOf}
 use Rattle.leveldb_version.specs.Contents.{Contents, Store}
 use Rattle.leveldb_version.specs.Holds.{Carries, Holds, IsSafe, MatchesHistory}
 use Rattle.leveldb_version.specs.Paths.{current_path, log_path}
-use Rattle.leveldb_version.specs.Store.{HasEdits, IsManaged, IsManagedBy, IsReplayed, IsStore, ReplayedLog}
+use Rattle.leveldb_version.specs.Store.{HasEdits, IsManaged, IsManagedBy, LogIsReplayed, IsStore, ReplayedLog}
 use Rattle.leveldb_version.specs.StoreSteps.{IsLogOpen, TablesAreKept}
 use Rattle.leveldb_version.specs.VersionSet.{live_after}
 use Rattle.std.proofs.Common.{◌++◌, ◌+◌, ◌<◌, ◌∙◌, ◌∷◌, ◌≡◌, ◌≤◌, ◌⊎◌, List, None, Some, [], ap, append-nil, append_assoc, arith, false, inl, inr, length, length-append, refl, subst, sym, take, ℕ, ⊎_elim}
@@ -119,20 +119,18 @@ module _ (store : List ℕ) (cmp : List ℕ → List ℕ → Ordering)
 
     -- ---- what the files are then
 
-    most_now : (number : ℕ) → IsReplayed (live_after m.edits) number → (other : ReplayedLog)
-        → Contains m.managed.logs other → other.number ≡ number → number ≤ log.number
-    most_now number replayed other there is =
+    empty_now : (other : ReplayedLog) → Contains m.managed.logs other → log.number < other.number
+        → other.size ≡ 0
+    empty_now other there less =
         let h = m.managed.has_logs.each other there in
-        subst (λ x. x ≤ log.number) is
-        (log.last.greatest (file_name Log other.number) other.number
-        (made_name Log other.number h.2) h.1
-        (λ gone. let never : Some h.0.0 ≡ None = sym h.0.1 ∙ gone in cc))
+        h.0.2.size ∙ ap length (log.last.empty_after (file_name Log other.number) other.number h.0.0
+        (made_name Log other.number h.2) h.1 less h.0.1)
 
     clean_now : (other : ReplayedLog) → Contains m.managed.logs other → other.number < log.number
         → other.end ≡ clean
     clean_now other there less =
         let h = m.managed.has_logs.each other there in
-        let read = log.last.clean_before other.number h.0.0 less h.1 h.0.1 in
+        let read = log.clean_before other.number h.0.0 less h.1 h.0.1 in
         (log_laws.one (bytes_of h.0.0) h.0.2.records read.0 other.end clean h.0.2.read read.1).1
 
     now_edits : (n : ℕ) → HasEdits store (longer n) m.edits
@@ -150,9 +148,10 @@ module _ (store : List ℕ) (cmp : List ℕ → List ℕ → Ordering)
       edits = m.edits;
       has_edits = now_edits n;
       managed = with_more store cmp IsTableOf files (longer n) m.edits contents m.managed
-          log.number log.fits log.last.replayed most_now clean_now
+          log.number log.fits log.last.replayed empty_now
           (SameBut-appending path frame files (longer n) (inr (n, refl))) log.file
-          (longer_file (take n frame) log.file) log.there
+          (longer_file (take n frame) log.file) (λ other c less. inl (clean_now other c less))
+          log.there
           (extended-same path (take n frame) files log.file log.there) log.records
           (log.records ++ text ∷ []) clean end log.clean_end read log.batches
           (batch_of (last + 1) items ∷ []) log.each
@@ -174,9 +173,10 @@ module _ (store : List ℕ) (cmp : List ℕ → List ℕ → Ordering)
       has_edits = now_edits n;
       managed = subst (IsManagedBy store cmp IsTableOf (longer n) m.edits) (with_none contents)
           (with_more store cmp IsTableOf files (longer n) m.edits contents m.managed log.number
-          log.fits log.last.replayed most_now clean_now
+          log.fits log.last.replayed empty_now
           (SameBut-appending path frame files (longer n) (inr (n, refl))) log.file
-          (longer_file (take n frame) log.file) log.there
+          (longer_file (take n frame) log.file) (λ other c less. inl (clean_now other c less))
+          log.there
           (extended-same path (take n frame) files log.file log.there) log.records log.records
           clean end log.clean_end read log.batches [] log.each
           (subst (Each IsRecordOf log.records) (sym (append-nil log.batches)) log.each) tt);

@@ -15,7 +15,7 @@ use Rattle.leveldb_version.proofs.BatchMatchesLemmas.{batch_some, matches_batch}
 use Rattle.leveldb_version.proofs.BatchesLemmas.{each_more, each_take}
 use Rattle.leveldb_version.proofs.KeptLemmas.{edits_left, kept_left}
 use Rattle.leveldb_version.proofs.LastLogLemmas.{with_batches, with_more, with_none}
-use Rattle.leveldb_version.proofs.ManagedLemmas.{SameBytes, found_again, kinds_apart, managed_on}
+use Rattle.leveldb_version.proofs.ManagedLemmas.{IsFoundAgain, SameBytes, found_again, kinds_apart, managed_on}
 use Rattle.leveldb_version.proofs.ManifestLemmas.{bytes_take, edits_on, managed_of}
 use Rattle.leveldb_version.proofs.NumbersLemmas.{placed_greatest}
 use Rattle.leveldb_version.proofs.SafeLemmas.{Honest, front_honest, honest_with, leaves_with}
@@ -23,7 +23,7 @@ use Rattle.leveldb_version.specs.Batches.{Each, IsRecordOf}
 use Rattle.leveldb_version.specs.Contents.{Contents, Store}
 use Rattle.leveldb_version.specs.Holds.{CarriesPrefix, IsHonest, IsSafe, MatchesHistory}
 use Rattle.leveldb_version.specs.Paths.{current_path, log_path, table_path}
-use Rattle.leveldb_version.specs.Store.{HasEdits, IsManaged, IsManagedBy, IsReplayed, IsStore, ReplayedLog}
+use Rattle.leveldb_version.specs.Store.{HasEdits, IsManaged, IsManagedBy, LogIsReplayed, IsStore, ReplayedLog}
 use Rattle.leveldb_version.specs.StoreSteps.{IsLogOpen, TablesAreKept}
 use Rattle.leveldb_version.specs.VersionSet.{live_after}
 use Rattle.std.proofs.Common.{◌++◌, ◌+◌, ◌<◌, ◌∙◌, ◌∷◌, ◌≡◌, ◌≤◌, ◌⊎◌, Bool, List, None, Some, [], ap, append-nil, append_assoc, arith, drop, false, inl, inr, length, length-append, refl, subst, sym, take, true, ℕ, ⊎_elim}
@@ -150,32 +150,40 @@ module _ (store : List ℕ) (cmp : List ℕ → List ℕ → Ordering)
 
       -- the bytes of the other logs are those that were kept
       other_bytes : (k : ℕ) (name : List ℕ) (number : ℕ) → IsFileName name number Log
-          → IsReplayed (live_after m.edits) number → name ≢ file_name Log log.number
+          → LogIsReplayed (live_after m.edits) number → name ≢ file_name Log log.number
           → SameBytes (files (in_folder store name)) (before k (in_folder store name))
       other_bytes k name number is replayed differ =
           kept_left (files (in_folder store name)) (before k (in_folder store name))
-          (log.last.kept_before name number is replayed differ)
+          (log.last.others_kept name number is replayed differ)
           (before_leaves k (in_folder store name))
 
-      was_there : (k : ℕ) (name : List ℕ) (file : File)
-          → before k (in_folder store name) ≡ Some file → files (in_folder store name) ≢ None
-      was_there k name file there gone =
-          absurd
-          (let never : Some file ≡ None = sym there
-          ∙ subst (λ f. FileCrashesTo f (before k (in_folder store name))) gone
-          (before_leaves k (in_folder store name)) in cc)
-
-      greatest_before :
+      -- a log of another number has the bytes that it had
+      found_other :
           (k : ℕ) (c : Contents) (managed : IsManagedBy store cmp IsTableOf (before k) m.edits c)
-          (number : ℕ) → IsReplayed (live_after m.edits) number
-          → (other : ReplayedLog) → Contains managed.logs other → other.number ≡ number
-          → number ≤ log.number
-      greatest_before k c managed number replayed other there is =
+          (other : ReplayedLog) (there : Contains managed.logs other) → other.number ≢ log.number
+          → IsFoundAgain (managed.has_logs.each other there).0.0
+          (files (log_path store other.number))
+      found_other k c managed other there differ =
           let h = managed.has_logs.each other there in
-          subst (λ x. x ≤ log.number) is
-          (log.last.greatest (file_name Log other.number) other.number
-          (made_name Log other.number h.2) h.1
-          (was_there k (file_name Log other.number) h.0.0 h.0.1))
+          let name = file_name Log other.number in
+          let is = made_name Log other.number h.2 in
+          let bytes = other_bytes k name other.number is h.1
+          (λ e. differ
+          (one_reading name other.number log.number Log Log is
+          (subst (λ z. IsFileName z log.number Log) (sym e) named)).0) in
+          found_again (before k (in_folder store name))
+          (files (in_folder store name)) h.0.0 (sym bytes) h.0.1
+
+      empty_before :
+          (k : ℕ) (c : Contents) (managed : IsManagedBy store cmp IsTableOf (before k) m.edits c)
+          (other : ReplayedLog) → Contains managed.logs other → log.number < other.number
+          → other.size ≡ 0
+      empty_before k c managed other there less =
+          let h = managed.has_logs.each other there in
+          let again = found_other k c managed other there (λ e. omega (arith, e, less)) in
+          let none = log.last.empty_after (file_name Log other.number) other.number again.now
+          (made_name Log other.number h.2) h.1 less again.there in
+          h.0.2.size ∙ ap length (sym again.bytes ∙ none)
 
       clean_earlier :
           (k : ℕ) (c : Contents) (managed : IsManagedBy store cmp IsTableOf (before k) m.edits c)
@@ -183,16 +191,8 @@ module _ (store : List ℕ) (cmp : List ℕ → List ℕ → Ordering)
           → other.end ≡ clean
       clean_earlier k c managed other there less =
           let h = managed.has_logs.each other there in
-          let name = file_name Log other.number in
-          let is = made_name Log other.number h.2 in
-          let bytes = other_bytes k name other.number is h.1
-          (λ e. let number =
-          (one_reading name other.number log.number Log Log is
-          (subst (λ z. IsFileName z log.number Log) (sym e) named)).0 in
-          omega (arith, number, less)) in
-          let again = found_again (before k (in_folder store name))
-          (files (in_folder store name)) h.0.0 (sym bytes) h.0.1 in
-          let read = log.last.clean_before other.number again.now less h.1 again.there in
+          let again = found_other k c managed other there (λ e. omega (arith, e, less)) in
+          let read = log.clean_before other.number again.now less h.1 again.there in
           (log_laws.one (bytes_of h.0.0) h.0.2.records read.0 other.end clean h.0.2.read
           (subst (λ b. IsLogFile b read.0 clean) again.bytes read.1)).1
 
@@ -211,8 +211,9 @@ module _ (store : List ℕ) (cmp : List ℕ → List ℕ → Ordering)
           let each = each_take IsRecordOf count log.records log.batches log.each in
           let now = with_more store cmp IsTableOf
           (before k) left m.edits it managed log.number log.fits log.last.replayed
-          (greatest_before k it managed) (clean_earlier k it managed) (before_same k)
-          (cut_file k) found_file (before_there k) found_there (take count log.records)
+          (empty_before k it managed) (before_same k) (cut_file k) found_file
+          (λ other o less. inl (clean_earlier k it managed other o less))
+          (before_there k) found_there (take count log.records)
           (take count log.records) e1 e2
           (subst (λ b. IsLogFile b (take count log.records) e1)
           (sym (append-nil (log.file.kept ++ take k log.file.since))) read) found batches []
@@ -270,7 +271,7 @@ module _ (store : List ℕ) (cmp : List ℕ → List ℕ → Ordering)
               ∙ sym (ap (option_map bytes_of) log.there)
 
           logs : (name : List ℕ) (number : ℕ) → IsFileName name number Log
-              → IsReplayed (live_after m.edits) number
+              → LogIsReplayed (live_after m.edits) number
               → SameBytes (files (in_folder store name)) (before all_there (in_folder store name))
           logs name number is replayed = by (bytes_eq path (in_folder store name)) refl
             where
@@ -292,9 +293,9 @@ module _ (store : List ℕ) (cmp : List ℕ → List ℕ → Ordering)
       all e2 found =
           let now = with_more store cmp IsTableOf
           (before all_there) left m.edits contents whole_before log.number log.fits
-          log.last.replayed (greatest_before all_there contents whole_before)
-          (clean_earlier all_there contents whole_before)
+          log.last.replayed (empty_before all_there contents whole_before)
           (before_same all_there) (cut_file all_there) found_file
+          (λ other o less. inl (clean_earlier all_there contents whole_before other o less))
           (before_there all_there) found_there log.records
           (log.records ++ text ∷ []) clean e2
           (subst (λ b. IsLogFile b log.records clean) (sym all_bytes) log.clean_end) found

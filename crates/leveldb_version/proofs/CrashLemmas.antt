@@ -14,20 +14,21 @@ use Rattle.leveldb_mem.specs.WriteBatch.{Batch}
 use Rattle.leveldb_version.proofs.BatchesLemmas.{each_take}
 use Rattle.leveldb_version.proofs.KeptLemmas.{kept_left}
 use Rattle.leveldb_version.proofs.LastLogLemmas.{batches_now, batches_were, before_it, with_now}
-use Rattle.leveldb_version.proofs.ManagedLemmas.{SameBytes, found_again, kinds_apart, managed_on}
+use Rattle.leveldb_version.proofs.ManagedLemmas.{IsFoundAgain, SameBytes, found_again, kinds_apart, managed_on}
 use Rattle.leveldb_version.proofs.ManifestLemmas.{left_whole}
-use Rattle.leveldb_version.proofs.SafeLemmas.{Honest}
+use Rattle.leveldb_version.proofs.SafeLemmas.{Honest, some_is}
 use Rattle.leveldb_version.specs.Batches.{AreInOrder, Each, IsRecordOf, all_entries, batch_entries}
 use Rattle.leveldb_version.specs.Contents.{Contents}
 use Rattle.leveldb_version.specs.Current.{IsCurrentText}
 use Rattle.leveldb_version.specs.Holds.{IsHonest}
 use Rattle.leveldb_version.specs.Levels.{table_entries}
 use Rattle.leveldb_version.specs.Paths.{current_path, log_path, table_path}
-use Rattle.leveldb_version.specs.Store.{IsManagedBy, IsReplayed, ReplayedLog}
-use Rattle.leveldb_version.specs.StoreSteps.{IsCut, IsCutStore, IsCuttable, IsJournalFile, IsKeptButLog}
+use Rattle.leveldb_version.specs.Store.{IsManagedBy, LogIsReplayed, ReplayedLog}
+use Rattle.leveldb_version.specs.StoreSteps.{AreCleanBefore, IsCutTo, IsCutStore, IsCuttable, IsTornJournal, IsKeptButLog}
 use Rattle.leveldb_version.specs.VersionEdit.{Edit, IsEdit}
 use Rattle.leveldb_version.specs.VersionSet.{live_after}
-use Rattle.std.proofs.Common.{◌++◌, ◌<◌, ◌^◌, ◌∙◌, ◌∷◌, ◌≡◌, ◌≤◌, ◌⊎◌, Bool, List, None, Option, Some, [], ap, append-nil, arith, false, inl, inr, length, refl, subst, suc, sym, take, true, zero, ℕ, ⊎_elim}
+use Rattle.std.proofs.Common.{◌++◌, ◌<◌, ◌^◌, ◌∙◌, ◌∷◌, ◌≡◌, ◌≤◌, ◌⊎◌, Bool, List, None, Option, Some, [], ap, append-nil, arith, false, inl, inr, length, length-append, refl, subst, suc, sym, take, true, zero, ℕ, ⊎_elim}
+use Rattle.std.proofs.lemmas.List.{nil_from_length}
 use Rattle.std.proofs.lemmas.List.Elements.{Contains-append_cases, Contains-append_left, Contains-append_right}
 use Rattle.std.specs.Cmp.Lexicographic.{bytes_decides}
 use Rattle.std.specs.Option.{option_map}
@@ -47,7 +48,7 @@ pub record IsJournalLeft (least : ℕ) (written : List (List ℕ)) (left : Optio
   pub read : IsLogFile (bytes_of now) (take count written) end
 
 pub journal_left : (file : File) (kept written : List (List ℕ)) (left : Option File)
-    → IsJournalFile file kept written → FileCrashesTo (Some file) left → Honest (Some file) left
+    → IsTornJournal file kept written → FileCrashesTo (Some file) left → Honest (Some file) left
     → IsJournalLeft (length kept) written left
 journal_left file kept written left j leaves honest =
     let now = kept_file (file.kept ++ leaves.0) in
@@ -142,7 +143,7 @@ module _ (store : List ℕ) (cmp : List ℕ → List ℕ → Ordering)
     at_log = ap (option_map bytes_of) whole_there ∙ ap (λ b. Some b) (append-nil (bytes_of file))
         ∙ sym (ap (option_map bytes_of) there)
 
-    other_bytes : (name : List ℕ) (n : ℕ) → IsFileName name n Log → IsReplayed (live_after edits) n
+    other_bytes : (name : List ℕ) (n : ℕ) → IsFileName name n Log → LogIsReplayed (live_after edits) n
         → SameBytes (files (in_folder store name)) (whole (in_folder store name))
     other_bytes name n is replayed = by (bytes_eq path (in_folder store name)) refl
       where
@@ -155,7 +156,7 @@ module _ (store : List ℕ) (cmp : List ℕ → List ℕ → Ordering)
             ap (option_map bytes_of)
             (at_other path (Some (file_kept file)) left (in_folder store name) e)
             ∙ kept_left (files (in_folder store name)) (left (in_folder store name))
-            (s.logs.kept_before name n is replayed
+            (s.logs.others_kept name n is replayed
             (λ same_name. let is_it : false ≡ true = sym e
             ∙ (bytes_decides path (in_folder store name)).1
             (ap (in_folder store) (sym same_name)) in cc))
@@ -174,32 +175,50 @@ module _ (store : List ℕ) (cmp : List ℕ → List ℕ → Ordering)
       logs = other_bytes;
     }) s.managed
 
-    most : (n : ℕ) → IsReplayed (live_after edits) n → (log : ReplayedLog)
-        → Contains managed.logs log → log.number ≡ n → n ≤ number
-    most n replayed log c is =
+    -- each log has the bytes that it had
+    found_log : (log : ReplayedLog) (c : Contains managed.logs log)
+        → IsFoundAgain (managed.has_logs.each log c).0.0 (files (log_path store log.number))
+    found_log log c =
         let h = managed.has_logs.each log c in
-        let again = found_again (whole (log_path store log.number))
+        found_again (whole (log_path store log.number))
         (files (log_path store log.number)) h.0.0
         (sym
         (other_bytes (file_name Log log.number) log.number (made_name Log log.number h.2) h.1))
-        h.0.1 in
-        subst (λ x. x ≤ number) is
-        (s.logs.greatest (file_name Log log.number) log.number
-        (made_name Log log.number h.2) h.1
-        (λ gone. let never : Some again.now ≡ None = sym again.there ∙ gone in cc))
+        h.0.1
+
+    empty_later : (log : ReplayedLog) → Contains managed.logs log → number < log.number
+        → log.size ≡ 0
+    empty_later log c less =
+        let h = managed.has_logs.each log c in
+        let again = found_log log c in
+        let none = s.logs.empty_after (file_name Log log.number) log.number again.now
+        (made_name Log log.number h.2) h.1 less again.there in
+        h.0.2.size ∙ ap length (sym again.bytes ∙ none)
+
+    -- what a crash leaves of an empty log is empty
+    now_empty : bytes_of file ≡ [] → bytes_of now ≡ []
+    now_empty none =
+        let l = subst (λ f. FileCrashesTo f (left path)) there (leaves path) in
+        let is = some_is now (kept_file (file.kept ++ l.0)) (sym there_now ∙ l.3) in
+        let size = ap (λ f. length (bytes_of f)) is in
+        let zero_size = ap length none in
+        let one = length-append (file.kept ++ l.0) [] in
+        let two = length-append file.kept l.0 in
+        let three = length-append file.kept file.since in
+        nil_from_length (bytes_of now) (omega (arith, size, zero_size, one, two, three, l.2))
 
     clean_earlier : (log : ReplayedLog) → Contains managed.logs log → log.number < number
-        → log.end ≡ clean
-    clean_earlier log c less =
+        → (log.end ≡ clean) ⊎ (bytes_of now ≡ [])
+    clean_earlier log c less = ⊎_elim
+        (λ (are_clean : AreCleanBefore store files (live_after edits) number).
         let h = managed.has_logs.each log c in
-        let again = found_again (whole (log_path store log.number))
-        (files (log_path store log.number)) h.0.0
-        (sym
-        (other_bytes (file_name Log log.number) log.number (made_name Log log.number h.2) h.1))
-        h.0.1 in
-        let clean_read = s.logs.clean_before log.number again.now less h.1 again.there in
-        (log_laws.one (bytes_of h.0.0) h.0.2.records clean_read.0 log.end clean h.0.2.read
-        (subst (λ b. IsLogFile b clean_read.0 clean) again.bytes clean_read.1)).1
+        let again = found_log log c in
+        let clean_read = are_clean log.number again.now less h.1 again.there in
+        inl (log_laws.one (bytes_of h.0.0) h.0.2.records clean_read.0 log.end clean h.0.2.read
+        (subst (λ b. IsLogFile b clean_read.0 clean) again.bytes clean_read.1)).1)
+        (λ (none : (f : File) → files path ≡ Some f → bytes_of f ≡ []).
+        inr (now_empty (none file there)))
+        s.clean_before
 
     whole_read : IsLogFile (bytes_of (file_kept file)) written end
     whole_read = subst (λ b. IsLogFile b written end) (sym (append-nil (bytes_of file))) read
@@ -215,23 +234,28 @@ module _ (store : List ℕ) (cmp : List ℕ → List ℕ → Ordering)
         → Contains (all_entries batches) later ⊎ (s.contents.last < later.sequence)
     known later c = inl (in_cut k batches later c)
 
+    -- the manifest's last number is what it was
+    same_last : managed.last ≡ s.managed.last
+    same_last = some_is managed.last s.managed.last (sym managed.last_is ∙ s.managed.last_is)
+
     pub cut_store : (c : Contents) × IsManagedBy store cmp IsTableOf left edits c
-        × IsCut batches k s.contents c
-    cut_store = let m =
+        × IsCutTo batches k s.managed.last s.contents c
+    cut_store = let front = before_it store cmp IsTableOf whole left edits s.contents managed number fits
+        s.logs.replayed empty_later same (file_kept file) now clean_earlier whole_there there_now written
+        (take k written) end now_end whole_read read_now batches (take k batches) each
+        (each_take IsRecordOf k written batches each) rises known in
+        let m =
         with_now store cmp IsTableOf whole left edits s.contents managed number fits
-        s.logs.replayed most clean_earlier same
-        (file_kept file) now whole_there there_now written
+        s.logs.replayed empty_later same (file_kept file) now clean_earlier whole_there there_now written
         (take k written) end now_end whole_read read_now
         batches (take k batches) each
         (each_take IsRecordOf k written batches each) rises known in
         let were = batches_were store cmp IsTableOf whole left edits s.contents managed number fits
-        s.logs.replayed most clean_earlier same
-        (file_kept file) now whole_there there_now written
+        s.logs.replayed empty_later same (file_kept file) now clean_earlier whole_there there_now written
         (take k written) end now_end whole_read read_now batches (take k batches) each
         (each_take IsRecordOf k written batches each) rises known in
         let are = batches_now store cmp IsTableOf whole left edits s.contents managed number fits
-        s.logs.replayed most clean_earlier same
-        (file_kept file) now whole_there there_now written
+        s.logs.replayed empty_later same (file_kept file) now clean_earlier whole_there there_now written
         (take k written) end now_end whole_read read_now
         batches (take k batches) each
         (each_take IsRecordOf k written batches each) rises known in (
@@ -239,19 +263,15 @@ module _ (store : List ℕ) (cmp : List ℕ → List ℕ → Ordering)
           m,
           record {
             in_tables = table_entries managed.tables;
-            before =
-                before_it store cmp IsTableOf whole left edits s.contents managed number fits
-                s.logs.replayed most clean_earlier same
-                (file_kept file) now whole_there there_now written
-                (take k written) end now_end whole_read read_now batches (take k batches) each
-                (each_take IsRecordOf k written batches each) rises known;
-            last = managed.last;
+            before = front;
             old_entries = ap (λ (c : Contents). c.entries) managed.is
                 ∙ ap (λ bs. table_entries managed.tables ++ all_entries bs) were;
             new_entries = ap (λ bs. table_entries managed.tables ++ all_entries bs) are;
             old_last = ap (λ (c : Contents). c.last) managed.is
-                ∙ ap (λ bs. max managed.last (greatest (all_entries bs))) were;
-            new_last = ap (λ bs. max managed.last (greatest (all_entries bs))) are;
+                ∙ ap (λ bs. max managed.last (greatest (all_entries bs))) were
+                ∙ ap (λ l. max l (greatest (all_entries (front ++ batches)))) same_last;
+            new_last = ap (λ bs. max managed.last (greatest (all_entries bs))) are
+                ∙ ap (λ l. max l (greatest (all_entries (front ++ take k batches)))) same_last;
             store = sym (ap (λ (c : Contents). c.store) managed.is);
           },
         )

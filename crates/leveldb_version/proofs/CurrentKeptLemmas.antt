@@ -15,7 +15,7 @@ use Rattle.leveldb_version.specs.Contents.{Contents, Store}
 use Rattle.leveldb_version.specs.Holds.{IsHonest, IsSafe}
 use Rattle.leveldb_version.specs.Paths.{IsJournal, current_path}
 use Rattle.leveldb_version.specs.Store.{IsStore}
-use Rattle.leveldb_version.specs.StoreSteps.{HasBytes, IsKept}
+use Rattle.leveldb_version.specs.StoreSteps.{AppendedAreBytes, IsKept}
 use Rattle.std.proofs.Common.{◌++◌, ◌∙◌, ◌∷◌, ◌≡◌, Bool, List, None, Option, Some, [], ap, append-nil, arith, false, inl, inr, length, refl, subst, suc, sym, true, zero, ℕ}
 use Rattle.std.proofs.lemmas.List.{same_from_push}
 use Rattle.std.specs.Cmp.Lexicographic.{bytes_decides}
@@ -59,7 +59,7 @@ module _ (store : List ℕ) (cmp : List ℕ → List ℕ → Ordering)
           (sym (at_other (current_path store) file (all_kept files) name e) ∙ found)
 
   pub safe_current_kept :
-      (files : Files) (bytes : HasBytes files) (allowed : Store → Type 0) (bound durable : ℕ)
+      (files : Files) (bytes : AppendedAreBytes files) (allowed : Store → Type 0) (bound durable : ℕ)
       (history : History)
       → IsSafe store (IsStore store cmp IsTableOf) allowed bound durable history files
       → (current : File) → files (current_path store) ≡ Some current → current.since ≡ []
@@ -106,7 +106,7 @@ module _ (store : List ℕ) (cmp : List ℕ → List ℕ → Ordering)
               (sym (append-nil (current.kept ++ 0 ∷ [])) ∙ text)).1 in
               omega (arith, last)
 
-  pub current_kept : (files : Files) (bytes : HasBytes files) (allowed : Store → Type 0)
+  pub current_kept : (files : Files) (bytes : AppendedAreBytes files) (allowed : Store → Type 0)
       (bound durable : ℕ) (history : History)
       → IsSafe store (IsStore store cmp IsTableOf) allowed bound durable history files
       → IsKept (files (current_path store))

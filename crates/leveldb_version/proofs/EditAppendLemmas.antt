@@ -20,7 +20,7 @@ use Rattle.leveldb_version.specs.Current.{IsCurrentText}
 use Rattle.leveldb_version.specs.Holds.{CarriesPrefix, IsHonest, IsSafe}
 use Rattle.leveldb_version.specs.Paths.{current_path}
 use Rattle.leveldb_version.specs.Store.{IsManagedBy, IsStore}
-use Rattle.leveldb_version.specs.StoreSteps.{EditKeeps, IsManifestOpen}
+use Rattle.leveldb_version.specs.StoreSteps.{EditRefines, IsManifestOpen}
 use Rattle.leveldb_version.specs.VersionEdit.{Edit, IsEdit}
 use Rattle.leveldb_version.specs.VersionSet.{live_after}
 use Rattle.std.proofs.Common.{◌++◌, ◌<◌, ◌∙◌, ◌∷◌, ◌≡◌, ◌≤◌, ◌⊎◌, List, Some, [], ap, append-nil, append_assoc, arith, drop, false, inl, inr, length, length-append, refl, subst, sym, take, true, ℕ, ⊎_elim}
@@ -36,16 +36,16 @@ module _ (store : List ℕ) (cmp : List ℕ → List ℕ → Ordering)
   reads = IsStore store cmp IsTableOf
 
   module _ (files : Files) (edits : List Edit) (m : IsManifestOpen store files edits)
-      (since : AreBytes m.file.since) (allowed : Store → Type 0) (bound durable : ℕ)
+      (since : AreBytes m.has_edits.manifest.since) (allowed : Store → Type 0) (bound durable : ℕ)
       (history : History)
       (safe : IsSafe store reads allowed bound durable history files) (text : List ℕ)
       (some : text ≢ []) (edit : Edit) (is_edit : IsEdit text edit)
-      (keeps : EditKeeps store cmp IsTableOf bound files edits edit) where
+      (keeps : EditRefines store cmp IsTableOf bound files edits edit) where
     abbrev path : List ℕ
-    path = in_folder store m.name
+    path = in_folder store m.has_edits.name
 
     abbrev frame : List ℕ
-    frame = frame_at (length (bytes_of m.file)) text
+    frame = frame_at (length (bytes_of m.has_edits.manifest)) text
 
     abbrev longer : ℕ → Files
     longer n = extended path (take n frame) files
@@ -56,10 +56,10 @@ module _ (store : List ℕ) (cmp : List ℕ → List ℕ → Ordering)
       same = SameBut-appending path frame files (longer n) (inr (n, refl))
 
       abbrev grown : File
-      grown = longer_file (take n frame) m.file
+      grown = longer_file (take n frame) m.has_edits.manifest
 
       there_then : longer n path ≡ Some grown
-      there_then = extended-same path (take n frame) files m.file m.there
+      there_then = extended-same path (take n frame) files m.has_edits.manifest m.has_edits.there
 
       manifest_left : FileCrashesTo (Some grown) (left path)
       manifest_left = subst (λ f. FileCrashesTo f (left path)) there_then (leaves path)
@@ -68,76 +68,76 @@ module _ (store : List ℕ) (cmp : List ℕ → List ℕ → Ordering)
       tail = manifest_left.0
 
       abbrev found_file : File
-      found_file = kept_file (m.file.kept ++ tail)
+      found_file = kept_file (m.has_edits.manifest.kept ++ tail)
 
       found_there : left path ≡ Some found_file
       found_there = manifest_left.3
 
       apart : bytes_eq path (current_path store) ≡ false
-      apart = kinds_apart store m.name (file_name Current 0) m.number 0 Descriptor Current m.named.0
+      apart = kinds_apart store m.has_edits.name (file_name Current 0) m.has_edits.number 0 Descriptor Current m.has_edits.named.0
           (made_name Current 0 refl) (λ e. cc)
 
-      current_left : IsLeftWhole m.current (left (current_path store))
-      current_left = left_whole m.current (left (current_path store)) m.current_kept
+      current_left : IsLeftWhole m.has_edits.current (left (current_path store))
+      current_left = left_whole m.has_edits.current (left (current_path store)) m.current_kept
           (subst (λ f. FileCrashesTo f (left (current_path store)))
-          (same (current_path store) apart ∙ m.current_there) (leaves (current_path store)))
+          (same (current_path store) apart ∙ m.has_edits.current_there) (leaves (current_path store)))
 
-      named_left : IsCurrentText (bytes_of current_left.now) m.name m.number
-      named_left = subst (λ b. IsCurrentText b m.name m.number) (sym current_left.bytes) m.named
+      named_left : IsCurrentText (bytes_of current_left.now) m.has_edits.name m.has_edits.number
+      named_left = subst (λ b. IsCurrentText b m.has_edits.name m.has_edits.number) (sym current_left.bytes) m.has_edits.named
 
       -- what a crash before the append leaves, with the first k of the bytes appended since
       abbrev before : ℕ → Files
-      before k = with_file path (Some (kept_file (m.file.kept ++ take k m.file.since))) left
+      before k = with_file path (Some (kept_file (m.has_edits.manifest.kept ++ take k m.has_edits.manifest.since))) left
 
-      before_there : (k : ℕ) → before k path ≡ Some (kept_file (m.file.kept ++ take k m.file.since))
-      before_there k = at_same path (Some (kept_file (m.file.kept ++ take k m.file.since))) left
+      before_there : (k : ℕ) → before k path ≡ Some (kept_file (m.has_edits.manifest.kept ++ take k m.has_edits.manifest.since))
+      before_there k = at_same path (Some (kept_file (m.has_edits.manifest.kept ++ take k m.has_edits.manifest.since))) left
 
       before_leaves : (k : ℕ) → FilesCrashTo files (before k)
       before_leaves k =
           leaves_with path files (longer n) left
-          (Some (kept_file (m.file.kept ++ take k m.file.since))) same leaves
-          (subst (λ f. FileCrashesTo f (Some (kept_file (m.file.kept ++ take k m.file.since))))
-          (sym m.there) (
-            take k m.file.since,
-            bytes_take k m.file.since since,
-            omega (arith, length-take k m.file.since),
+          (Some (kept_file (m.has_edits.manifest.kept ++ take k m.has_edits.manifest.since))) same leaves
+          (subst (λ f. FileCrashesTo f (Some (kept_file (m.has_edits.manifest.kept ++ take k m.has_edits.manifest.since))))
+          (sym m.has_edits.there) (
+            take k m.has_edits.manifest.since,
+            bytes_take k m.has_edits.manifest.since since,
+            omega (arith, length-take k m.has_edits.manifest.since),
             refl,
           ))
 
       before_honest : (k : ℕ) → IsHonest store files (before k)
       before_honest k =
           honest_with store path files (longer n) left
-          (Some (kept_file (m.file.kept ++ take k m.file.since))) same honest
-          (subst (λ f. Honest f (Some (kept_file (m.file.kept ++ take k m.file.since))))
-          (sym m.there)
-          (front_honest m.file (take k m.file.since) (drop k m.file.since)
-          (sym (take-append-drop k m.file.since))))
+          (Some (kept_file (m.has_edits.manifest.kept ++ take k m.has_edits.manifest.since))) same honest
+          (subst (λ f. Honest f (Some (kept_file (m.has_edits.manifest.kept ++ take k m.has_edits.manifest.since))))
+          (sym m.has_edits.there)
+          (front_honest m.has_edits.manifest (take k m.has_edits.manifest.since) (drop k m.has_edits.manifest.since)
+          (sym (take-append-drop k m.has_edits.manifest.since))))
 
       back : (k : ℕ) (edits : List Edit) (contents : Contents)
           → IsManagedBy store cmp IsTableOf (before k) edits contents
           → IsManagedBy store cmp IsTableOf left edits contents
       back k es contents managed = managed_on store cmp IsTableOf (before k) left es contents
-          (same_for_others store cmp IsTableOf (live_after es) m.name m.number Descriptor
-          (before k) left m.named.0 (λ e. cc) (λ e. cc)
+          (same_for_others store cmp IsTableOf (live_after es) m.has_edits.name m.has_edits.number Descriptor
+          (before k) left m.has_edits.named.0 (λ e. cc) (λ e. cc)
           (λ other away.
           sym (at_other path
-          (Some (kept_file (m.file.kept ++ take k m.file.since))) left other away))) managed
+          (Some (kept_file (m.has_edits.manifest.kept ++ take k m.has_edits.manifest.since))) left other away))) managed
 
       -- the first records are left, without the edit
       fewer : (count k : ℕ) (e1 e2 : End)
-          → IsLogFile (m.file.kept ++ take k m.file.since) (take count m.records) e1
-          → IsLogFile (bytes_of found_file) (take count m.records) e2
+          → IsLogFile (m.has_edits.manifest.kept ++ take k m.has_edits.manifest.since) (take count m.has_edits.is.records) e1
+          → IsLogFile (bytes_of found_file) (take count m.has_edits.is.records) e2
           → CarriesPrefix store reads allowed bound durable history left
       fewer count k e1 e2 read found =
           let c = safe (before k) (before_leaves k) (before_honest k) in
           let by =
-          read_by store cmp IsTableOf m.name m.number current_left.now named_left (before k)
-          (kept_file (m.file.kept ++ take k m.file.since))
-          (take count m.records) e1 c.carries.contents
-          (at_other path (Some (kept_file (m.file.kept ++ take k m.file.since))) left
+          read_by store cmp IsTableOf m.has_edits.name m.has_edits.number current_left.now named_left (before k)
+          (kept_file (m.has_edits.manifest.kept ++ take k m.has_edits.manifest.since))
+          (take count m.has_edits.is.records) e1 c.carries.contents
+          (at_other path (Some (kept_file (m.has_edits.manifest.kept ++ take k m.has_edits.manifest.since))) left
           (current_path store) apart ∙ current_left.there) (before_there k)
-          (subst (λ b. IsLogFile b (take count m.records) e1)
-          (sym (append-nil (m.file.kept ++ take k m.file.since))) read) c.carries.read in
+          (subst (λ b. IsLogFile b (take count m.has_edits.is.records) e1)
+          (sym (append-nil (m.has_edits.manifest.kept ++ take k m.has_edits.manifest.since))) read) c.carries.read in
           record {
             part = c.part;
             prefix = c.prefix;
@@ -146,9 +146,9 @@ module _ (store : List ℕ) (cmp : List ℕ → List ℕ → Ordering)
               read = inr (record {
                 edits = by.edits;
                 has_edits =
-                    has_edits store cmp IsTableOf m.name m.number current_left.now named_left left
+                    has_edits store cmp IsTableOf m.has_edits.name m.has_edits.number current_left.now named_left left
                     found_file
-                    (take count m.records) e2 by.edits current_left.there found_there found by.each;
+                    (take count m.has_edits.is.records) e2 by.edits current_left.there found_there found by.each;
                 managed = back k by.edits c.carries.contents by.managed;
               });
               matches = c.carries.matches;
@@ -156,22 +156,22 @@ module _ (store : List ℕ) (cmp : List ℕ → List ℕ → Ordering)
           }
 
       -- the edit is left too
-      all : (k : ℕ) (e1 e2 : End) → IsLogFile (m.file.kept ++ take k m.file.since) m.records e1
-          → IsLogFile (bytes_of found_file) (m.records ++ text ∷ []) e2
+      all : (k : ℕ) (e1 e2 : End) → IsLogFile (m.has_edits.manifest.kept ++ take k m.has_edits.manifest.since) m.has_edits.is.records e1
+          → IsLogFile (bytes_of found_file) (m.has_edits.is.records ++ text ∷ []) e2
           → CarriesPrefix store reads allowed bound durable history left
       all k e1 e2 read found =
           let c = safe (before k) (before_leaves k) (before_honest k) in
           let by =
-          read_by store cmp IsTableOf m.name m.number current_left.now named_left (before k)
-          (kept_file (m.file.kept ++ take k m.file.since)) m.records e1 c.carries.contents
-          (at_other path (Some (kept_file (m.file.kept ++ take k m.file.since))) left
+          read_by store cmp IsTableOf m.has_edits.name m.has_edits.number current_left.now named_left (before k)
+          (kept_file (m.has_edits.manifest.kept ++ take k m.has_edits.manifest.since)) m.has_edits.is.records e1 c.carries.contents
+          (at_other path (Some (kept_file (m.has_edits.manifest.kept ++ take k m.has_edits.manifest.since))) left
           (current_path store) apart ∙ current_left.there) (before_there k)
-          (subst (λ b. IsLogFile b m.records e1)
-          (sym (append-nil (m.file.kept ++ take k m.file.since))) read) c.carries.read in
+          (subst (λ b. IsLogFile b m.has_edits.is.records e1)
+          (sym (append-nil (m.has_edits.manifest.kept ++ take k m.has_edits.manifest.since))) read) c.carries.read in
           let same_edits : by.edits
           ≡ edits =
           each_one IsEdit
-          (λ t x y p q. one_edit t x y p q) m.records by.edits edits by.each m.each in
+          (λ t x y p q. one_edit t x y p q) m.has_edits.is.records by.edits edits by.each m.has_edits.is.each in
           let now = keeps (before k) c.carries.contents (before_leaves k)
           (before_honest k) c.carries.matches.bounded
           (subst
@@ -185,11 +185,11 @@ module _ (store : List ℕ) (cmp : List ℕ → List ℕ → Ordering)
               read = inr (record {
                 edits = edits ++ edit ∷ [];
                 has_edits =
-                    has_edits store cmp IsTableOf m.name m.number current_left.now named_left left
+                    has_edits store cmp IsTableOf m.has_edits.name m.has_edits.number current_left.now named_left left
                     found_file
-                    (m.records ++ text ∷ []) e2
+                    (m.has_edits.is.records ++ text ∷ []) e2
                     (edits ++ edit ∷ []) current_left.there found_there found
-                    (each_more IsEdit m.records edits text edit m.each is_edit);
+                    (each_more IsEdit m.has_edits.is.records edits text edit m.has_edits.is.each is_edit);
                 managed = back k (edits ++ edit ∷ []) now.0 now.1;
               });
               matches =
@@ -198,55 +198,55 @@ module _ (store : List ℕ) (cmp : List ℕ → List ℕ → Ordering)
             };
           }
 
-      regrouped : bytes_of grown ≡ bytes_of m.file ++ take n frame
-      regrouped = sym (append_assoc m.file.kept m.file.since (take n frame))
+      regrouped : bytes_of grown ≡ bytes_of m.has_edits.manifest ++ take n frame
+      regrouped = sym (append_assoc m.has_edits.manifest.kept m.has_edits.manifest.since (take n frame))
 
       grown_safe : CarriesPrefix store reads allowed bound durable history left
       grown_safe = from
-          (log_laws.torn m.file.kept m.file.since tail first.0 m.records written.0 text n first.1
+          (log_laws.torn m.has_edits.manifest.kept m.has_edits.manifest.since tail first.0 m.has_edits.is.records written.0 text n first.1
           written.1 some first.2 m.clean_end written_read no_longer honest_here)
         where
-          first : (records : List (List ℕ)) × (end : End) × IsLogFile m.file.kept records end
-          first = each_reads true log_block_size 0 m.file.kept usual_size
+          first : (records : List (List ℕ)) × (end : End) × IsLogFile m.has_edits.manifest.kept records end
+          first = each_reads true log_block_size 0 m.has_edits.manifest.kept usual_size
 
           written : (found : List (List ℕ)) × (e : End)
-              × IsLogFile (bytes_of m.file ++ take n frame) found e
-              × ((found ≡ m.records) ⊎ (found ≡ m.records ++ text ∷ []))
-              × (n < length frame → found ≡ m.records)
-          written = log_laws.part (bytes_of m.file) m.records text n some m.clean_end
+              × IsLogFile (bytes_of m.has_edits.manifest ++ take n frame) found e
+              × ((found ≡ m.has_edits.is.records) ⊎ (found ≡ m.has_edits.is.records ++ text ∷ []))
+              × (n < length frame → found ≡ m.has_edits.is.records)
+          written = log_laws.part (bytes_of m.has_edits.manifest) m.has_edits.is.records text n some m.clean_end
 
-          written_read : IsLogFile (m.file.kept ++ m.file.since ++ take n frame) written.0 written.1
+          written_read : IsLogFile (m.has_edits.manifest.kept ++ m.has_edits.manifest.since ++ take n frame) written.0 written.1
           written_read = written.2
 
           no_longer :
-              length (m.file.kept ++ tail) ≤ length (m.file.kept ++ m.file.since ++ take n frame)
+              length (m.has_edits.manifest.kept ++ tail) ≤ length (m.has_edits.manifest.kept ++ m.has_edits.manifest.since ++ take n frame)
           no_longer = let e = ap length regrouped in
               omega (
                 arith,
                 manifest_left.2,
                 e,
-                length-append m.file.kept tail,
-                length-append m.file.kept (m.file.since ++ take n frame),
+                length-append m.has_edits.manifest.kept tail,
+                length-append m.has_edits.manifest.kept (m.has_edits.manifest.since ++ take n frame),
               )
 
           honest_here :
-              HonestTail log_block_size (m.file.kept ++ m.file.since ++ take n frame)
-              (m.file.kept ++ tail)
-          honest_here = subst (λ b. HonestTail log_block_size b (m.file.kept ++ tail)) regrouped
+              HonestTail log_block_size (m.has_edits.manifest.kept ++ m.has_edits.manifest.since ++ take n frame)
+              (m.has_edits.manifest.kept ++ tail)
+          honest_here = subst (λ b. HonestTail log_block_size b (m.has_edits.manifest.kept ++ tail)) regrouped
               (subst (λ b. HonestTail log_block_size (bytes_of grown) b)
-              (append-nil (m.file.kept ++ tail))
+              (append-nil (m.has_edits.manifest.kept ++ tail))
               (honest path grown found_file
-              (inr (m.name, m.number, m.named.0, refl)) there_then found_there))
+              (inr (m.has_edits.name, m.has_edits.number, m.has_edits.named.0, refl)) there_then found_there))
 
-          low_first : length first.0 ≤ length m.records
+          low_first : length first.0 ≤ length m.has_edits.is.records
           low_first = let a =
-              cut_reads true log_block_size 0 m.file.kept m.file.since [] first.0 m.records
-              m.records first.1 clean clean usual_size first.2 m.clean_end
-              (subst (λ b. IsLogFile b m.records clean)
-              (sym (append-nil (m.file.kept ++ m.file.since))) m.clean_end) in
+              cut_reads true log_block_size 0 m.has_edits.manifest.kept m.has_edits.manifest.since [] first.0 m.has_edits.is.records
+              m.has_edits.is.records first.1 clean clean usual_size first.2 m.clean_end
+              (subst (λ b. IsLogFile b m.has_edits.is.records clean)
+              (sym (append-nil (m.has_edits.manifest.kept ++ m.has_edits.manifest.since))) m.clean_end) in
               omega (arith, a.enough, a.there)
 
-          from : (found : List (List ℕ)) × (e : End) × IsLogFile (m.file.kept ++ tail) found e
+          from : (found : List (List ℕ)) × (e : End) × IsLogFile (m.has_edits.manifest.kept ++ tail) found e
               × AreFirst (length first.0) written.0 found
               → CarriesPrefix store reads allowed bound durable history left
           from (found, e, read, some_of) = ⊎_elim none one written.3
@@ -254,48 +254,48 @@ module _ (store : List ℕ) (cmp : List ℕ → List ℕ → Ordering)
               here : (records : List (List ℕ)) → found ≡ records
                   → IsLogFile (bytes_of found_file) records e
               here records same_records =
-                  subst (λ b. IsLogFile b records e) (sym (append-nil (m.file.kept ++ tail)))
-                  (subst (λ rs. IsLogFile (m.file.kept ++ tail) rs e) same_records read)
+                  subst (λ b. IsLogFile b records e) (sym (append-nil (m.has_edits.manifest.kept ++ tail)))
+                  (subst (λ rs. IsLogFile (m.has_edits.manifest.kept ++ tail) rs e) same_records read)
 
-              few : (count : ℕ) → length first.0 ≤ count → count ≤ length m.records
-                  → found ≡ take count m.records
+              few : (count : ℕ) → length first.0 ≤ count → count ≤ length m.has_edits.is.records
+                  → found ≡ take count m.has_edits.is.records
                   → CarriesPrefix store reads allowed bound durable history left
               few count low high is =
-                  let c = log_laws.cut m.file.kept m.file.since first.0 m.records first.1 clean
+                  let c = log_laws.cut m.has_edits.manifest.kept m.has_edits.manifest.since first.0 m.has_edits.is.records first.1 clean
                   count first.2 m.clean_end low high in
-                  fewer count c.0 c.1 e c.2 (here (take count m.records) is)
+                  fewer count c.0 c.1 e c.2 (here (take count m.has_edits.is.records) is)
 
-              whole : length first.0 ≤ length m.records → found ≡ m.records ++ text ∷ []
+              whole : length first.0 ≤ length m.has_edits.is.records → found ≡ m.has_edits.is.records ++ text ∷ []
                   → CarriesPrefix store reads allowed bound durable history left
               whole low is =
-                  let c = log_laws.cut m.file.kept m.file.since first.0 m.records first.1 clean
-                  (length m.records) first.2 m.clean_end low (omega arith) in
+                  let c = log_laws.cut m.has_edits.manifest.kept m.has_edits.manifest.since first.0 m.has_edits.is.records first.1 clean
+                  (length m.has_edits.is.records) first.2 m.clean_end low (omega arith) in
                   all c.0 c.1 e
-                  (subst (λ rs. IsLogFile (m.file.kept ++ take c.0 m.file.since) rs c.1)
-                  (take_all (length m.records) m.records (omega arith)) c.2)
-                  (here (m.records ++ text ∷ []) is)
+                  (subst (λ rs. IsLogFile (m.has_edits.manifest.kept ++ take c.0 m.has_edits.manifest.since) rs c.1)
+                  (take_all (length m.has_edits.is.records) m.has_edits.is.records (omega arith)) c.2)
+                  (here (m.has_edits.is.records ++ text ∷ []) is)
 
-              none : written.0 ≡ m.records
+              none : written.0 ≡ m.has_edits.is.records
                   → CarriesPrefix store reads allowed bound durable history left
               none is =
                   let l = ap length is in
                   few some_of.count some_of.enough (omega (arith, some_of.there, l))
                   (some_of.first ∙ ap (take some_of.count) is)
 
-              one : written.0 ≡ m.records ++ text ∷ []
+              one : written.0 ≡ m.has_edits.is.records ++ text ∷ []
                   → CarriesPrefix store reads allowed bound durable history left
               one is =
                   let l = ap length is in
-                  ⊎_elim (λ (past : length m.records < some_of.count).
+                  ⊎_elim (λ (past : length m.has_edits.is.records < some_of.count).
                   whole low_first
                   (some_of.first ∙ ap (take some_of.count) is
-                  ∙ take_all some_of.count (m.records ++ text ∷ [])
-                  (omega (arith, past, length-append m.records (text ∷ [])))))
-                  (λ (within : some_of.count ≤ length m.records).
+                  ∙ take_all some_of.count (m.has_edits.is.records ++ text ∷ [])
+                  (omega (arith, past, length-append m.has_edits.is.records (text ∷ [])))))
+                  (λ (within : some_of.count ≤ length m.has_edits.is.records).
                   few some_of.count some_of.enough within
                   (some_of.first ∙ ap (take some_of.count) is
-                  ∙ take-append-le some_of.count m.records (text ∷ []) within))
-                  (cases_lt (length m.records) some_of.count)
+                  ∙ take-append-le some_of.count m.has_edits.is.records (text ∷ []) within))
+                  (cases_lt (length m.has_edits.is.records) some_of.count)
 
     -- with any part of the frame the files are safe
     pub append_safe : (now : Files) → PrefixAppended path frame files now

@@ -17,7 +17,7 @@ use Rattle.leveldb_version.specs.Contents.{Contents, Store}
 use Rattle.leveldb_version.specs.Holds.{Carries, MatchesHistory}
 use Rattle.leveldb_version.specs.Paths.{current_path, table_path}
 use Rattle.leveldb_version.specs.Store.{IsManaged, IsManagedBy, IsStore}
-use Rattle.leveldb_version.specs.StoreSteps.{EditKeeps, EditsRefine, HasBytes, IsManifestOpen, Refines}
+use Rattle.leveldb_version.specs.StoreSteps.{EditRefines, EditsRefine, AppendedAreBytes, IsManifestOpen, Refines}
 use Rattle.leveldb_version.specs.VersionEdit.{Edit, IsEdit}
 use Rattle.leveldb_version.specs.VersionSet.{FileSet, live_after}
 use Rattle.std.proofs.Common.{◌++◌, ◌<◌, ◌∙◌, ◌∷◌, ◌≡◌, ◌≤◌, ◌⊎◌, List, Some, [], append_assoc, inl, inr, length, refl, subst, sym, take, ℕ, ⊎_elim}
@@ -28,7 +28,7 @@ module _ (store : List ℕ) (cmp : List ℕ → List ℕ → Ordering)
     (IsTableOf : List ℕ → List Pair → Type 0) where
   -- edits that refine others after each crash do so now
   pub refine_now : (bound : ℕ) (files : Files) (edits others : List Edit) (contents : Contents)
-      → HasBytes files → EditsRefine store cmp IsTableOf bound files edits others
+      → AppendedAreBytes files → EditsRefine store cmp IsTableOf bound files edits others
       → contents.last ≤ bound
       → IsManagedBy store cmp IsTableOf files edits contents
       → (now : Contents) × IsManagedBy store cmp IsTableOf files others now
@@ -62,18 +62,18 @@ module _ (store : List ℕ) (cmp : List ℕ → List ℕ → Ordering)
   reads = IsStore store cmp IsTableOf
 
   module _ (files : Files) (edits : List Edit) (m : IsManifestOpen store files edits)
-      (bytes : HasBytes files) (allowed : Store → Type 0) (bound : ℕ) (history : History)
+      (bytes : AppendedAreBytes files) (allowed : Store → Type 0) (bound : ℕ) (history : History)
       (contents : Contents)
       (managed : IsManagedBy store cmp IsTableOf files edits contents)
       (matches : MatchesHistory allowed bound contents history)
       (text : List ℕ)
       (some : text ≢ []) (edit : Edit) (is_edit : IsEdit text edit)
-      (keeps : EditKeeps store cmp IsTableOf bound files edits edit) where
+      (keeps : EditRefines store cmp IsTableOf bound files edits edit) where
     abbrev path : List ℕ
-    path = in_folder store m.name
+    path = in_folder store m.has_edits.name
 
     abbrev frame : List ℕ
-    frame = frame_at (length (bytes_of m.file)) text
+    frame = frame_at (length (bytes_of m.has_edits.manifest)) text
 
     abbrev longer : ℕ → Files
     longer n = extended path (take n frame) files
@@ -87,15 +87,15 @@ module _ (store : List ℕ) (cmp : List ℕ → List ℕ → Ordering)
     on : (n : ℕ) (es : List Edit) (c : Contents) → IsManagedBy store cmp IsTableOf files es c
         → IsManagedBy store cmp IsTableOf (longer n) es c
     on n es c is = managed_on store cmp IsTableOf files (longer n) es c
-        (same_for_others store cmp IsTableOf (live_after es) m.name m.number Descriptor files
-        (longer n) m.named.0 (λ e. cc) (λ e. cc)
+        (same_for_others store cmp IsTableOf (live_after es) m.has_edits.name m.has_edits.number Descriptor files
+        (longer n) m.has_edits.named.0 (λ e. cc) (λ e. cc)
         (SameBut-appending path frame files (longer n) (inr (n, refl)))) is
 
-    current_there : (n : ℕ) → longer n (current_path store) ≡ Some m.current
+    current_there : (n : ℕ) → longer n (current_path store) ≡ Some m.has_edits.current
     current_there n =
         SameBut-appending path frame files (longer n) (inr (n, refl)) (current_path store)
-        (kinds_apart store m.name (file_name Current 0) m.number 0 Descriptor Current m.named.0
-        (made_name Current 0 refl) (λ e. cc)) ∙ m.current_there
+        (kinds_apart store m.has_edits.name (file_name Current 0) m.has_edits.number 0 Descriptor Current m.has_edits.named.0
+        (made_name Current 0 refl) (λ e. cc)) ∙ m.has_edits.current_there
 
     -- with any part of the frame the files are the store by the old edits, or by these and the new
     -- one
@@ -103,42 +103,42 @@ module _ (store : List ℕ) (cmp : List ℕ → List ℕ → Ordering)
         → IsManaged store cmp IsTableOf (longer n) contents
         ⊎ IsManaged store cmp IsTableOf (longer n) then.0
     is_either n = ⊎_elim
-        (λ (none : part.0 ≡ m.records). inl
+        (λ (none : part.0 ≡ m.has_edits.is.records). inl
         (record {
           edits = edits;
           has_edits =
-              has_edits store cmp IsTableOf m.name m.number m.current m.named (longer n)
-              (longer_file (take n frame) m.file) m.records part.1 edits (current_there n)
-              (extended-same path (take n frame) files m.file m.there)
+              has_edits store cmp IsTableOf m.has_edits.name m.has_edits.number m.has_edits.current m.has_edits.named (longer n)
+              (longer_file (take n frame) m.has_edits.manifest) m.has_edits.is.records part.1 edits (current_there n)
+              (extended-same path (take n frame) files m.has_edits.manifest m.has_edits.there)
               (subst
-              (λ rs. IsLogFile (bytes_of (longer_file (take n frame) m.file)) rs part.1) none read)
-              m.each;
+              (λ rs. IsLogFile (bytes_of (longer_file (take n frame) m.has_edits.manifest)) rs part.1) none read)
+              m.has_edits.is.each;
           managed = on n edits contents managed;
         }))
-        (λ (more : part.0 ≡ m.records ++ text ∷ []). inr
+        (λ (more : part.0 ≡ m.has_edits.is.records ++ text ∷ []). inr
         (record {
           edits = edits ++ edit ∷ [];
           has_edits =
-              has_edits store cmp IsTableOf m.name m.number m.current m.named (longer n)
-              (longer_file (take n frame) m.file) (m.records ++ text ∷ []) part.1
+              has_edits store cmp IsTableOf m.has_edits.name m.has_edits.number m.has_edits.current m.has_edits.named (longer n)
+              (longer_file (take n frame) m.has_edits.manifest) (m.has_edits.is.records ++ text ∷ []) part.1
               (edits ++ edit ∷ []) (current_there n)
-              (extended-same path (take n frame) files m.file m.there)
+              (extended-same path (take n frame) files m.has_edits.manifest m.has_edits.there)
               (subst
-              (λ rs. IsLogFile (bytes_of (longer_file (take n frame) m.file)) rs part.1) more read)
-              (each_more IsEdit m.records edits text edit m.each is_edit);
+              (λ rs. IsLogFile (bytes_of (longer_file (take n frame) m.has_edits.manifest)) rs part.1) more read)
+              (each_more IsEdit m.has_edits.is.records edits text edit m.has_edits.is.each is_edit);
           managed = on n (edits ++ edit ∷ []) then.0 then.1;
         }))
         part.3
       where
         part : (found : List (List ℕ)) × (e : End)
-            × IsLogFile (bytes_of m.file ++ take n frame) found e
-            × ((found ≡ m.records) ⊎ (found ≡ m.records ++ text ∷ []))
-            × (n < length frame → found ≡ m.records)
-        part = log_laws.part (bytes_of m.file) m.records text n some m.clean_end
+            × IsLogFile (bytes_of m.has_edits.manifest ++ take n frame) found e
+            × ((found ≡ m.has_edits.is.records) ⊎ (found ≡ m.has_edits.is.records ++ text ∷ []))
+            × (n < length frame → found ≡ m.has_edits.is.records)
+        part = log_laws.part (bytes_of m.has_edits.manifest) m.has_edits.is.records text n some m.clean_end
 
-        read : IsLogFile (bytes_of (longer_file (take n frame) m.file)) part.0 part.1
+        read : IsLogFile (bytes_of (longer_file (take n frame) m.has_edits.manifest)) part.0 part.1
         read = subst (λ b. IsLogFile b part.0 part.1)
-            (append_assoc m.file.kept m.file.since (take n frame)) part.2
+            (append_assoc m.has_edits.manifest.kept m.has_edits.manifest.since (take n frame)) part.2
 
     -- so they carry what they carried
     pub edit_carries : (now : Files) → PrefixAppended path frame files now
@@ -150,8 +150,8 @@ module _ (store : List ℕ) (cmp : List ℕ → List ℕ → Ordering)
           (record {
             edits = edits;
             has_edits =
-                has_edits store cmp IsTableOf m.name m.number m.current m.named files m.file
-                m.records _ edits m.current_there m.there m.clean_end m.each;
+                has_edits store cmp IsTableOf m.has_edits.name m.has_edits.number m.has_edits.current m.has_edits.named files m.has_edits.manifest
+                m.has_edits.is.records _ edits m.has_edits.current_there m.has_edits.there m.clean_end m.has_edits.is.each;
             managed = managed;
           }));
       matches = matches;

@@ -30,8 +30,8 @@ module _ (store : List ℕ) (cmp : List ℕ → List ℕ → Ordering)
 
   -- ---- no store
 
-  pub no_store_left : (files left : Files) → HasNoStore store cmp IsTableOf files
-      → FilesCrashTo files left → HasNoStore store cmp IsTableOf left
+  pub no_store_left : (files left : Files) → HasNoStore store files
+      → FilesCrashTo files left → HasNoStore store left
   no_store_left files left bare leaves = record {
     no_current = missing_left (files (current_path store)) (left (current_path store))
         (leaves (current_path store)) bare.no_current;
@@ -43,14 +43,14 @@ module _ (store : List ℕ) (cmp : List ℕ → List ℕ → Ordering)
   }
 
   -- where no store is, the contents are none
-  pub no_store_read : (files : Files) (contents : Contents) → HasNoStore store cmp IsTableOf files
+  pub no_store_read : (files : Files) (contents : Contents) → HasNoStore store files
       → reads files contents → contents ≡ no_contents
   no_store_read files contents bare (inl read) = read.1
   no_store_read files contents bare (inr m) = absurd
       (let never : None ≡ Some m.has_edits.current = sym bare.no_current
       ∙ m.has_edits.current_there in cc)
 
-  pub no_store_safe : (files : Files) → HasNoStore store cmp IsTableOf files
+  pub no_store_safe : (files : Files) → HasNoStore store files
       → (allowed : Store → Type 0) (bound : ℕ) (history : History)
       → MatchesHistory allowed bound no_contents history
       → IsSafe store reads allowed bound (length history) history files
@@ -111,7 +111,7 @@ module _ (store : List ℕ) (cmp : List ℕ → List ℕ → Ordering)
 
   -- ---- the rename
 
-  module _ (files : Files) (bare : HasNoStore store cmp IsTableOf files) (temp : List ℕ)
+  module _ (files : Files) (bare : HasNoStore store files) (temp : List ℕ)
       (edits : List Edit) (h : HasNextCurrent store files temp edits)
       (n : IsNew (live_after edits)) (fits : LastNumbersFit edits) where
     abbrev from : List ℕ
@@ -172,6 +172,10 @@ module _ (store : List ℕ) (cmp : List ℕ → List ℕ → Ordering)
         logs = λ other k is_log replayed. subst IsKept (sym (no_log other k is_log)) tt;
       };
     }
+
+    -- all that is read of the new store is kept
+    pub first_current_kept : IsAllKept store cmp IsTableOf (renamed from to files) new
+    first_current_kept = subst (λ f. IsAllKept store cmp IsTableOf f new) (sym moved_is) all
 
     module _ (allowed : Store → Type 0) (may : allowed (made (Some n.comparator)))
         (bound : ℕ) where

@@ -4,7 +4,7 @@ use Rattle.leveldb_env.specs.Env.{AreBytes, File, FileCrashesTo, Files, FilesCra
 use Rattle.leveldb_version.proofs.ManagedLemmas.{SameBytes}
 use Rattle.leveldb_version.proofs.SafeLemmas.{Honest, cut_honest, cut_leaves, cut_off, front_honest}
 use Rattle.leveldb_version.specs.Holds.{IsHonest}
-use Rattle.leveldb_version.specs.StoreSteps.{HasBytes}
+use Rattle.leveldb_version.specs.StoreSteps.{AppendedAreBytes}
 use Rattle.std.proofs.Common.{◌∙◌, ◌≡◌, List, None, Option, Some, [], ap, append-nil, arith, refl, sym, ℕ}
 use Rattle.std.specs.Option.{option_map}
 
@@ -22,7 +22,7 @@ whole_honest file = front_honest file file.since [] (sym (append-nil file.since)
 abbrev pub all_kept : Files → Files
 all_kept files = λ name. option_map file_kept (files name)
 
-pub all_leaves : (files : Files) → HasBytes files → FilesCrashTo files (all_kept files)
+pub all_leaves : (files : Files) → AppendedAreBytes files → FilesCrashTo files (all_kept files)
 all_leaves files bytes name = by (files name) refl
   where
     by : (file : Option File) → files name ≡ file → FileCrashesTo file (option_map file_kept file)

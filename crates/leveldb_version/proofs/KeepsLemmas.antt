@@ -20,13 +20,14 @@ use Rattle.leveldb_version.proofs.ManifestLemmas.{edits_on, managed_of}
 use Rattle.leveldb_version.proofs.NewLogLemmas.{create_log_safe, with_new_log}
 use Rattle.leveldb_version.proofs.RenameLemmas.{rename_carries, renaming_safe}
 use Rattle.leveldb_version.proofs.SafeLemmas.{sync_safe}
+use Rattle.leveldb_version.proofs.SameStoreLemmas.{made_is}
 use Rattle.leveldb_version.proofs.StaysLemmas.{synced_managed, synced_same, unread_managed}
 use Rattle.leveldb_version.proofs.UnreadLemmas.{unread_stays_safe}
 use Rattle.leveldb_version.specs.Contents.{Contents, Store, made}
 use Rattle.leveldb_version.specs.Holds.{Carries, Holds, IsSafe}
 use Rattle.leveldb_version.specs.Paths.{current_path, log_path}
 use Rattle.leveldb_version.specs.Store.{HasEdits, HasNoStore, IsStore, LastNumbersFit}
-use Rattle.leveldb_version.specs.StoreSteps.{EditKeeps, EditsRefine, HasBytes, HasNextCurrent, IsAboveLogs, IsManifestOpen, IsNew, IsUnread, KeepsHistory}
+use Rattle.leveldb_version.specs.StoreSteps.{EditRefines, EditsRefine, AppendedAreBytes, HasNextCurrent, IsAboveLogs, IsManifestOpen, IsNew, IsUnread, KeepsHistory, MakesFile}
 use Rattle.leveldb_version.specs.VersionEdit.{Edit, IsEdit}
 use Rattle.leveldb_version.specs.VersionSet.{live_after}
 
@@ -61,7 +62,7 @@ module _ (store : List ℕ) (cmp : List ℕ → List ℕ → Ordering)
           (synced_same store cmp IsTableOf name files path) gone
 
   unread_read : (path : List ℕ) (old new : Files) (contents : Contents) → SameBut path old new
-      → IsUnread store old path → HasBytes old → reads old contents → reads new contents
+      → IsUnread store old path → AppendedAreBytes old → reads old contents → reads new contents
   unread_read path old new contents same un bytes (inr m) =
       inr (unread_managed store cmp IsTableOf path old new contents same un bytes m)
   unread_read path old new contents same un bytes (inl bare) = ⊎_elim
@@ -140,15 +141,22 @@ module _ (store : List ℕ) (cmp : List ℕ → List ℕ → Ordering)
 
     pub new_log_keeps : (files : Files) (n : ℕ) → n < 2 ^ 64 → IsAboveLogs store files n
         → files (current_path store) ≢ None → files (log_path store n) ≡ None → (bound : ℕ)
-        (now : Files) → BeforeOrAfter (created (log_path store n)) files now
+        (now : Files) → MakesFile (log_path store n) files now
         → KeepsHistory store cmp IsTableOf allowed bound files now
-    new_log_keeps files n fits newest has_current gone bound now passes = record {
+    new_log_keeps files n fits newest has_current gone bound now makes = record {
       now = carried passes;
       crash = λ durable history safe.
           create_log_safe store cmp IsTableOf files n fits newest has_current gone allowed bound
           durable history safe now passes;
     }
       where
+        passes : BeforeOrAfter (created (log_path store n)) files now
+        passes = ⊎_elim
+            (λ (is : now ≡ files). inl is)
+            (λ (is : now ≡ with_file (log_path store n) (Some (kept_file [])) files).
+            inr (is ∙ ap (λ f. with_file (log_path store n) f files) (sym (ap or_empty gone))))
+            (made_is (log_path store n) files now gone makes)
+
         carried : BeforeOrAfter (created (log_path store n)) files now → (history : History)
             → Carries store reads allowed bound history files
             → Carries store reads allowed bound history now
@@ -158,7 +166,7 @@ module _ (store : List ℕ) (cmp : List ℕ → List ℕ → Ordering)
             (carries_as bound files (created (log_path store n) files)
             (new_log_read files n fits newest has_current gone) history c)
 
-    pub unread_keeps : (path : List ℕ) (old new : Files) → SameBut path old new → HasBytes old
+    pub unread_keeps : (path : List ℕ) (old new : Files) → SameBut path old new → AppendedAreBytes old
         → IsUnread store old path → (bound : ℕ)
         → KeepsHistory store cmp IsTableOf allowed bound old new
     unread_keeps path old new same bytes un bound = record {
@@ -170,36 +178,24 @@ module _ (store : List ℕ) (cmp : List ℕ → List ℕ → Ordering)
     }
 
     pub edit_keeps : (files : Files) (edits : List Edit) (m : IsManifestOpen store files edits)
-        → HasBytes files → (text : List ℕ) → text ≢ [] → (edit : Edit) → IsEdit text edit
-        → (bound : ℕ) → EditKeeps store cmp IsTableOf bound files edits edit → (now : Files)
-        → PrefixAppended (in_folder store m.name) (frame_at (length (bytes_of m.file)) text)
+        → AppendedAreBytes files → (text : List ℕ) → text ≢ [] → (edit : Edit) → IsEdit text edit
+        → (bound : ℕ) → EditRefines store cmp IsTableOf bound files edits edit → (now : Files)
+        → PrefixAppended (in_folder store m.has_edits.name) (frame_at (length (bytes_of m.has_edits.manifest)) text)
         files now
         → KeepsHistory store cmp IsTableOf allowed bound files now
     edit_keeps files edits m bytes text some edit is_edit bound keeps now passes = record {
       now = λ history c. edit_carries store cmp IsTableOf files edits m bytes allowed bound
           history c.contents
-          (managed_of store cmp IsTableOf files edits c.contents open_edits c.read) c.matches text
+          (managed_of store cmp IsTableOf files edits c.contents m.has_edits c.read) c.matches text
           some edit is_edit keeps now passes;
       crash = λ durable history safe.
           append_safe store cmp IsTableOf files edits m
-          (bytes (in_folder store m.name) m.file m.there) allowed bound durable history safe text
+          (bytes (in_folder store m.has_edits.name) m.has_edits.manifest m.has_edits.there) allowed bound durable history safe text
           some edit is_edit keeps now passes;
     }
-      where
-        open_edits : HasEdits store files edits
-        open_edits = record {
-          current = m.current;
-          current_there = m.current_there;
-          name = m.name;
-          number = m.number;
-          named = m.named;
-          manifest = m.file;
-          there = m.there;
-          is = record { records = m.records; end = _; read = m.clean_end; each = m.each };
-        }
 
     pub rename_keeps : (files : Files) (edits others : List Edit) → HasEdits store files edits
-        → HasBytes files → (temp : List ℕ) → HasNextCurrent store files temp others
+        → AppendedAreBytes files → (temp : List ℕ) → HasNextCurrent store files temp others
         → (bound : ℕ) → EditsRefine store cmp IsTableOf bound files edits others → (now : Files)
         → BeforeOrAfter (renamed (in_folder store temp) (current_path store)) files now
         → KeepsHistory store cmp IsTableOf allowed bound files now
@@ -211,7 +207,7 @@ module _ (store : List ℕ) (cmp : List ℕ → List ℕ → Ordering)
           refines durable history safe now passes;
     }
 
-    pub first_current_keeps : (files : Files) → HasNoStore store cmp IsTableOf files
+    pub first_current_keeps : (files : Files) → HasNoStore store files
         → (temp : List ℕ) (edits : List Edit) → HasNextCurrent store files temp edits
         → (n : IsNew (live_after edits)) → LastNumbersFit edits → allowed (made (Some n.comparator)) → (bound : ℕ)
         (now : Files)

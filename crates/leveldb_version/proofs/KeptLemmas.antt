@@ -7,13 +7,13 @@ use Rattle.leveldb_version.proofs.ManagedLemmas.{SameBytes, SameFor, managed_on}
 use Rattle.leveldb_version.proofs.ManifestLemmas.{left_whole}
 use Rattle.leveldb_version.specs.Contents.{Contents, Store}
 use Rattle.leveldb_version.specs.Current.{IsCurrentText}
-use Rattle.leveldb_version.specs.Holds.{IsSafe, MatchesHistory}
+use Rattle.leveldb_version.specs.Holds.{Holds, IsSafe, MatchesHistory}
 use Rattle.leveldb_version.specs.Paths.{current_path, table_path}
 use Rattle.leveldb_version.specs.Store.{HasEdits, IsStore}
 use Rattle.leveldb_version.specs.StoreSteps.{AreKept, IsAllKept, IsKept}
 use Rattle.leveldb_version.specs.VersionEdit.{Edit}
 use Rattle.leveldb_version.specs.VersionSet.{FileSet, live_after}
-use Rattle.std.proofs.Common.{◌∙◌, ◌≡◌, List, None, Option, Some, [], ap, arith, inr, length, subst, sym, ℕ}
+use Rattle.std.proofs.Common.{◌+◌, ◌∙◌, ◌≡◌, List, None, Option, Some, [], ap, arith, inl, inr, length, subst, sym, ℕ}
 use Rattle.std.proofs.lemmas.List.{take_all}
 use Rattle.std.specs.Option.{option_map}
 use Rattle.std.specs.declared.cmp.Ordering.{Ordering}
@@ -105,3 +105,24 @@ module _ (store : List ℕ) (cmp : List ℕ → List ℕ → Ordering)
       matches = matches;
     };
   }
+
+  -- so the files hold it, up to the greatest number that their contents know of
+  pub kept_holds :
+      (allowed : Store → Type 0) (bound : ℕ) (history : History) (files : Files)
+      (contents : Contents) → AllKept files contents
+      → MatchesHistory allowed bound contents history
+      → Holds store (IsStore store cmp IsTableOf) allowed files history contents.last
+      (length history) None
+  kept_holds allowed bound history files contents kept t =
+      let matches : MatchesHistory allowed (contents.last + 0) contents history =
+      record {
+        same = t.same;
+        up_to = t.up_to;
+        reached = t.reached;
+        bounded = omega arith;
+        store = t.store;
+      } in
+      record {
+        now = inl (record { contents = contents; read = inr kept.managed; matches = matches });
+        crash = kept_safe allowed (contents.last + 0) history files contents kept matches;
+      }

@@ -1,10 +1,12 @@
--- Tables by levels, and look-ups from newer entries to older ones.
+-- Tables by levels: which may be left out of a look-up, which are older, and which may be added.
 use Rattle.leveldb_base.proofs.HistoryLemmas.{in_cases, in_front, in_none, in_rest}
+use Rattle.leveldb_base.proofs.LayersLemmas.{found_by_key}
+use Rattle.leveldb_base.specs.Entries.{FindsNewest}
 use Rattle.leveldb_base.specs.History.{Entry}
 use Rattle.leveldb_base.specs.KeyTypes.{user_part}
-use Rattle.leveldb_mem.specs.MemTable.{FindsNewest, HasNewest}
+use Rattle.leveldb_base.specs.Layers.{AreLayered, IsOlder}
 use Rattle.leveldb_version.proofs.OneStoreLemmas.{flat_in, in_flat}
-use Rattle.leveldb_version.specs.Levels.{AreDisjoint, AreLayered, CanBeAdded, IsBounded, IsInRange, IsOlder, IsSearchedBefore, LevelOrder, LiveTable, SearchFinds, source_entries, table_entries}
+use Rattle.leveldb_version.specs.Levels.{AreDisjoint, CanBeAdded, IsBounded, IsInRange, IsSearchedBefore, LevelOrder, LiveTable, table_entries}
 use Rattle.leveldb_version.specs.VersionEdit.{NewFile}
 use Rattle.std.proofs.Common.{◌++◌, ◌<◌, ◌∙◌, ◌∷◌, ◌≡◌, ◌≢◌, Bool, List, None, Option, Some, [], add-one, ap, arith, false, inl, inr, length, map, refl, subst, suc, sym, take, true, zero, ℕ, ⊎_elim}
 use Rattle.std.proofs.lemmas.Cmp.{upto}
@@ -16,156 +18,6 @@ use Rattle.std.specs.Ordering.{is_gt, is_lt, ordering_reverse}
 use Rattle.std.specs.Prelude.{◌↔◌, ◌⊎◌, AllPairs, Contains, slice_get, slice_index_or}
 use Rattle.std.specs.declared.cmp.Ordering.{Ordering}
 use Rattle.std.specs.declared.cmp.Ordering.TheVariants.{Equal, Greater, Less}
-
--- ---- sources, one after another
-
-none_more : (xs ys : List Entry) (s : ℕ) (key : List ℕ) → FindsNewest xs s key None
-    → FindsNewest ys s key None → FindsNewest (xs ++ ys) s key None
-none_more xs ys s key f g e c k seen =
-    ⊎_elim (λ d. f e d k seen) (λ d. g e d k seen) (Contains-append_cases xs ys e c)
-
--- entries after some without the key
-skip_front : (xs ys : List Entry) (s : ℕ) (key : List ℕ) (value : Option (List ℕ))
-    → FindsNewest xs s key None → HasNewest ys s key value → HasNewest (xs ++ ys) s key value
-skip_front xs ys s key value none has = record {
-  entry = has.entry;
-  newest = record {
-    there = Contains-append_right xs ys has.entry has.newest.there;
-    seen = has.newest.seen;
-    newest = λ other c k seen. ⊎_elim
-        (λ (d : Contains xs other). absurd (none other d (k ∙ has.key_is) seen))
-        (λ (d : Contains ys other). has.newest.newest other d k seen)
-        (Contains-append_cases xs ys other c);
-  };
-  key_is = has.key_is;
-  value_is = has.value_is;
-  only = λ other newest k. has.only other (record {
-    there = ⊎_elim
-        (λ (d : Contains xs other). absurd (none other d k newest.seen))
-        (λ (d : Contains ys other). d)
-        (Contains-append_cases xs ys other newest.there);
-    seen = newest.seen;
-    newest = λ more c l seen.
-        newest.newest more (Contains-append_right xs ys more c) l seen;
-  }) k;
-}
-
--- entries before older ones
-skip_back : (xs ys : List Entry) (s : ℕ) (key : List ℕ) (value : Option (List ℕ))
-    → IsOlder ys xs → HasNewest xs s key value → HasNewest (xs ++ ys) s key value
-skip_back xs ys s key value older has = record {
-  entry = has.entry;
-  newest = record {
-    there = Contains-append_left xs ys has.entry has.newest.there;
-    seen = has.newest.seen;
-    newest = λ other c k seen. ⊎_elim
-        (λ (d : Contains xs other). has.newest.newest other d k seen)
-        (λ (d : Contains ys other).
-        let below = older other has.entry d has.newest.there k in omega arith)
-        (Contains-append_cases xs ys other c);
-  };
-  key_is = has.key_is;
-  value_is = has.value_is;
-  only = λ other newest k. has.only other (record {
-    there = ⊎_elim
-        (λ (d : Contains xs other). d)
-        (λ (d : Contains ys other).
-        let below = older other has.entry d has.newest.there (k ∙ sym has.key_is) in
-        let above = newest.newest has.entry
-        (Contains-append_left xs ys has.entry has.newest.there) (has.key_is ∙ sym k)
-        has.newest.seen in
-        absurd (omega arith))
-        (Contains-append_cases xs ys other newest.there);
-    seen = newest.seen;
-    newest = λ more c l seen. newest.newest more (Contains-append_left xs ys more c) l seen;
-  }) k;
-}
-
-in_source : (sources : List (List Entry)) (e : Entry) → Contains (source_entries sources) e
-    → (source : List Entry) × Contains sources source × Contains source e
-in_source sources e c = in_flat (λ (source : List Entry). source) sources e c
-
-later_layered : (source : List Entry) (sources : List (List Entry))
-    → AreLayered (source ∷ sources) → AreLayered sources
-later_layered source sources layered i j d l h =
-    layered (suc i) (suc j) d (omega arith) (omega arith)
-
-older_rest : (source : List Entry) (sources : List (List Entry))
-    → AreLayered (source ∷ sources) → IsOlder (source_entries sources) source
-older_rest source sources layered a b c d k =
-    let from = in_source sources a c in
-    let i = from.1.0 in
-    let within : suc i < suc (length sources) = let h = from.1.1 in omega arith in
-    subst (λ (older : List Entry). IsOlder older source) from.1.2
-    (layered zero (suc i) from.0 (omega arith) within) a b from.2 d k
-
-stops_at : (sources : List (List Entry)) (s : ℕ) (key : List ℕ) → AreLayered sources
-    → (i : ℕ) (source : List Entry) (value : Option (List ℕ))
-    → slice_get sources i ≡ Some source
-    → FindsNewest (source_entries (take i sources)) s key None → HasNewest source s key value
-    → HasNewest (source_entries sources) s key value
-stops_at [] s key layered i source value e none has = absurd cc
-stops_at (one ∷ sources) s key layered zero source value e none has =
-    let is : source ≡ one = cc in
-    skip_back one (source_entries sources) s key value (older_rest one sources layered)
-    (subst (λ (x : List Entry). HasNewest x s key value) is has)
-stops_at (one ∷ sources) s key layered (suc i) source value e none has =
-    skip_front one (source_entries sources) s key value
-    (λ x c. none x (Contains-append_left one (source_entries (take i sources)) x c))
-    (stops_at sources s key (later_layered one sources layered) i source value e
-    (λ x c. none x (Contains-append_right one (source_entries (take i sources)) x c)) has)
-
-passes_over : (sources : List (List Entry)) (s : ℕ) (key : List ℕ) (i : ℕ)
-    (source : List Entry) → slice_get sources i ≡ Some source
-    → FindsNewest (source_entries (take i sources)) s key None → FindsNewest source s key None
-    → FindsNewest (source_entries (take (suc i) sources)) s key None
-passes_over [] s key i source e none more = absurd cc
-passes_over (one ∷ sources) s key zero source e none more =
-    let is : source ≡ one = cc in
-    none_more one [] s key (subst (λ (x : List Entry). FindsNewest x s key None) is more)
-    (λ x c k seen. absurd (in_none x c))
-passes_over (one ∷ sources) s key (suc i) source e none more =
-    none_more one (source_entries (take (suc i) sources)) s key
-    (λ x c. none x (Contains-append_left one (source_entries (take i sources)) x c))
-    (passes_over sources s key i source e
-    (λ x c. none x (Contains-append_right one (source_entries (take i sources)) x c)) more)
-
-pub search_finds : (sources : List (List Entry)) (s : ℕ) (key : List ℕ) → AreLayered sources
-    → SearchFinds sources s key
-search_finds sources s key layered = record {
-  starts = λ e c k seen. in_none e c;
-  passes = λ i source e none more.
-      subst (λ n. FindsNewest (source_entries (take n sources)) s key None) (sym (add-one i))
-      (passes_over sources s key i source e none more);
-  stops = λ i source value e none has.
-      stops_at sources s key layered i source value e none has;
-  ends = λ none. subst (λ x. FindsNewest (source_entries x) s key None)
-      (take_all (length sources) sources (omega arith)) none;
-}
-
--- what is found rests on the entries of the key alone
-pub found_by_key : (these those : List Entry) (s : ℕ) (key : List ℕ)
-    (found : Option (Option (List ℕ)))
-    → ((entry : Entry) → entry.key ≡ key → Contains these entry ↔ Contains those entry)
-    → FindsNewest these s key found → FindsNewest those s key found
-found_by_key these those s key None same none =
-    λ entry c k seen. none entry ((same entry k).1 c) k seen
-found_by_key these those s key (Some value) same has = record {
-  entry = has.entry;
-  newest = record {
-    there = (same has.entry has.key_is).0 has.newest.there;
-    seen = has.newest.seen;
-    newest = λ other c k seen.
-        has.newest.newest other ((same other (k ∙ has.key_is)).1 c) k seen;
-  };
-  key_is = has.key_is;
-  value_is = has.value_is;
-  only = λ other newest k. has.only other (record {
-    there = (same other k).1 newest.there;
-    seen = newest.seen;
-    newest = λ more c l seen. newest.newest more ((same more (l ∙ k)).0 c) l seen;
-  }) k;
-}
 
 -- tables whose range lacks the key may be left out
 pub ranges_leave_out : (cmp : List ℕ → List ℕ → Ordering) (all some : List LiveTable)

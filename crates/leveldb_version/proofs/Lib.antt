@@ -38,3 +38,7 @@ pub mod KeepsLemmas
 pub mod WritesLemmas
 pub mod WritableLemmas
 pub mod TablesLemmas
+pub mod HoldsLemmas
+pub mod SameStoreLemmas
+pub mod BytesLemmas
+pub mod RenameOpensLemmas

@@ -5,10 +5,10 @@ use Rattle.leveldb_mem.specs.WriteBatch.{Batch}
 use Rattle.leveldb_version.proofs.NumbersLemmas.{greatest_append, placed_above}
 use Rattle.leveldb_version.specs.Batches.{AreInOrder, all_entries, batch_entries}
 use Rattle.leveldb_version.specs.Store.{LogsRise, ReplayedLog, log_entries}
-use Rattle.std.proofs.Common.{◌++◌, ◌<◌, ◌∙◌, ◌∷◌, ◌≡◌, ◌≤◌, List, [], ap, append-nil, arith, refl, subst, ℕ, ⊎_elim}
+use Rattle.std.proofs.Common.{◌++◌, ◌<◌, ◌∙◌, ◌∷◌, ◌≡◌, ◌≤◌, ◌⊎◌, List, [], ap, append-nil, arith, inl, inr, refl, subst, ℕ, ⊎_elim}
 use Rattle.std.proofs.lemmas.Bool.{cases_lt}
 use Rattle.std.proofs.lemmas.List.Concat.{flat_map-append}
-use Rattle.std.proofs.lemmas.List.Elements.{Contains-append_cases, Contains-append_left, Contains-push, Contains-push_cases}
+use Rattle.std.proofs.lemmas.List.Elements.{Contains-append_cases, Contains-append_left, Contains-append_right, Contains-push, Contains-push_cases}
 use Rattle.std.specs.Prelude.{Contains, flat_map, max}
 
 -- ---- batches
@@ -64,42 +64,106 @@ pub batches_last : (earlier : List ReplayedLog) (log : ReplayedLog)
 batches_last earlier log = flat_map-append (λ (l : ReplayedLog). l.batches) earlier (log ∷ [])
     ∙ ap (λ bs. log_batches earlier ++ bs) (append-nil log.batches)
 
--- rising logs of which this one is the greatest end in it
-pub record EndsIn (logs : List ReplayedLog) (log : ReplayedLog) : Type 0 where
+-- ---- logs around one of them
+
+-- a log of a list, between those before it and those after it
+pub record SplitsAt (logs : List ReplayedLog) (log : ReplayedLog) : Type 0 where
   pub earlier : List ReplayedLog
-  pub parts : logs ≡ earlier ++ log ∷ []
+  pub later : List ReplayedLog
+  pub parts : logs ≡ earlier ++ log ∷ later
 
-nothing_in : (rest : List ReplayedLog) → ((other : ReplayedLog) → Contains rest other → ⊥)
-    → rest ≡ []
-nothing_in [] none = refl
-nothing_in (x ∷ rest) none = absurd (none x (in_front x rest))
-
-pub ends_in : (logs : List ReplayedLog) (log : ReplayedLog) → LogsRise logs → Contains logs log
-    → ((other : ReplayedLog) → Contains logs other → other.number ≤ log.number) → EndsIn logs log
-ends_in [] log rising there most = absurd (in_none log there)
-ends_in (first ∷ logs) log rising there most = ⊎_elim
-    (λ (e : first ≡ log).
-    let none = nothing_in logs
-    (λ other c. let up = rising.0 other c in
-    let low = most other (in_rest first other logs c) in
-    let n = ap (λ (x : ReplayedLog). x.number) e in omega (arith, up, low, n)) in
-    record { earlier = []; parts = λ i. e i ∷ none i })
+pub splits_at : (logs : List ReplayedLog) (log : ReplayedLog) → Contains logs log → SplitsAt logs log
+splits_at [] log there = absurd (in_none log there)
+splits_at (first ∷ logs) log there = ⊎_elim
+    (λ (e : first ≡ log). record { earlier = []; later = logs; parts = ap (λ x. x ∷ logs) e })
     (λ (c : Contains logs log).
-    let rest = ends_in logs log rising.1 c (λ other o. most other (in_rest first other logs o)) in
-    record { earlier = first ∷ rest.earlier; parts = ap (λ ls. first ∷ ls) rest.parts })
+    let rest = splits_at logs log c in
+    record {
+      earlier = first ∷ rest.earlier;
+      later = rest.later;
+      parts = ap (λ ls. first ∷ ls) rest.parts;
+    })
     (in_cases first log logs there)
 
--- the last one is above those before it
-pub last_above : (earlier : List ReplayedLog) (log : ReplayedLog) → LogsRise (earlier ++ log ∷ [])
-    → (other : ReplayedLog) → Contains earlier other → other.number < log.number
-last_above [] log rising other c = absurd (in_none other c)
-last_above (first ∷ earlier) log rising other c = ⊎_elim
+-- which of the three a log is in
+pub in_split : (earlier : List ReplayedLog) (log : ReplayedLog) (later : List ReplayedLog)
+    (other : ReplayedLog) → Contains (earlier ++ log ∷ later) other
+    → Contains earlier other ⊎ ((log ≡ other) ⊎ Contains later other)
+in_split earlier log later other c = ⊎_elim
+    (λ (early : Contains earlier other). inl early)
+    (λ (rest : Contains (log ∷ later) other). inr (in_cases log other later rest))
+    (Contains-append_cases earlier (log ∷ later) other c)
+
+pub split_before : (earlier : List ReplayedLog) (log : ReplayedLog) (later : List ReplayedLog)
+    (other : ReplayedLog) → Contains earlier other → Contains (earlier ++ log ∷ later) other
+split_before earlier log later other c = Contains-append_left earlier (log ∷ later) other c
+
+pub split_at : (earlier : List ReplayedLog) (log : ReplayedLog) (later : List ReplayedLog)
+    → Contains (earlier ++ log ∷ later) log
+split_at earlier log later =
+    Contains-append_right earlier (log ∷ later) log (in_front log later)
+
+pub split_after : (earlier : List ReplayedLog) (log : ReplayedLog) (later : List ReplayedLog)
+    (other : ReplayedLog) → Contains later other → Contains (earlier ++ log ∷ later) other
+split_after earlier log later other c =
+    Contains-append_right earlier (log ∷ later) other (in_rest log other later c)
+
+-- it is above those before it, and below those after it
+pub above_before : (earlier : List ReplayedLog) (log : ReplayedLog) (later : List ReplayedLog)
+    → LogsRise (earlier ++ log ∷ later) → (other : ReplayedLog) → Contains earlier other
+    → other.number < log.number
+above_before [] log later rising other c = absurd (in_none other c)
+above_before (first ∷ earlier) log later rising other c = ⊎_elim
     (λ (e : first ≡ other). subst (λ (x : ReplayedLog). x.number < log.number) e
-    (rising.0 log (Contains-push earlier log)))
-    (λ (rest : Contains earlier other). last_above earlier log rising.1 other rest)
+    (rising.0 log (split_at earlier log later)))
+    (λ (rest : Contains earlier other). above_before earlier log later rising.1 other rest)
     (in_cases first other earlier c)
 
--- one may be in its place, or after it
+pub below_after : (earlier : List ReplayedLog) (log : ReplayedLog) (later : List ReplayedLog)
+    → LogsRise (earlier ++ log ∷ later) → (other : ReplayedLog) → Contains later other
+    → log.number < other.number
+below_after [] log later rising other c = rising.0 other c
+below_after (first ∷ earlier) log later rising other c =
+    below_after earlier log later rising.1 other c
+
+-- another of its number may be in its place
+pub rising_at : (earlier : List ReplayedLog) (log now : ReplayedLog) (later : List ReplayedLog)
+    → log.number ≡ now.number → LogsRise (earlier ++ log ∷ later)
+    → LogsRise (earlier ++ now ∷ later)
+rising_at [] log now later e rising =
+    (λ other c. let up = rising.0 other c in omega (arith, up, e), rising.1)
+rising_at (first ∷ earlier) log now later e rising = (
+  λ other c. ⊎_elim
+      (λ (early : Contains earlier other). rising.0 other
+      (split_before earlier log later other early))
+      (λ (rest : (now ≡ other) ⊎ Contains later other). ⊎_elim
+      (λ (is : now ≡ other).
+      let up = rising.0 log (split_at earlier log later) in
+      let number = ap (λ (x : ReplayedLog). x.number) is in
+      omega (arith, up, e, number))
+      (λ (late : Contains later other). rising.0 other
+      (split_after earlier log later other late)) rest)
+      (in_split earlier now later other c),
+  rising_at earlier log now later e rising.1,
+)
+
+-- where those after it have no batches, all have its own after those before it
+none_later : (later : List ReplayedLog)
+    → ((other : ReplayedLog) → Contains later other → other.batches ≡ [])
+    → log_batches later ≡ []
+none_later [] none = refl
+none_later (log ∷ later) none = ap (λ bs. bs ++ log_batches later) (none log (in_front log later))
+    ∙ none_later later (λ other c. none other (in_rest log other later c))
+
+pub batches_at : (earlier : List ReplayedLog) (log : ReplayedLog) (later : List ReplayedLog)
+    → ((other : ReplayedLog) → Contains later other → other.batches ≡ [])
+    → log_batches (earlier ++ log ∷ later) ≡ log_batches earlier ++ log.batches
+batches_at earlier log later none =
+    flat_map-append (λ (l : ReplayedLog). l.batches) earlier (log ∷ later)
+    ∙ ap (λ bs. log_batches earlier ++ (log.batches ++ bs)) (none_later later none)
+    ∙ ap (λ bs. log_batches earlier ++ bs) (append-nil log.batches)
+
+-- one more may be after them
 pub rising_last : (earlier : List ReplayedLog) (log : ReplayedLog) → LogsRise earlier
     → ((other : ReplayedLog) → Contains earlier other → other.number < log.number)
     → LogsRise (earlier ++ log ∷ [])
@@ -111,14 +175,6 @@ rising_last (first ∷ earlier) log rising above = (
       (above first (in_front first earlier)))
       (Contains-push_cases earlier log later c),
   rising_last earlier log rising.1 (λ other c. above other (in_rest first other earlier c)),
-)
-
-pub rising_front : (earlier : List ReplayedLog) (log : ReplayedLog) → LogsRise (earlier ++ log ∷ [])
-    → LogsRise earlier
-rising_front [] log rising = tt
-rising_front (first ∷ earlier) log rising = (
-  λ later c. rising.0 later (Contains-append_left earlier (log ∷ []) later c),
-  rising_front earlier log rising.1,
 )
 
 -- ---- logs before a number, and from it on

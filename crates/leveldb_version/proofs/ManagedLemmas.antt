@@ -11,7 +11,7 @@ use Rattle.leveldb_version.proofs.SafeLemmas.{some_is}
 use Rattle.leveldb_version.specs.Contents.{Contents}
 use Rattle.leveldb_version.specs.Levels.{LiveTable}
 use Rattle.leveldb_version.specs.Paths.{log_path, table_path}
-use Rattle.leveldb_version.specs.Store.{HasLog, HasTable, HasTables, IsManagedBy, IsReplayed, ReplayedLog}
+use Rattle.leveldb_version.specs.Store.{HasLog, HasTable, HasTables, IsManagedBy, LogIsReplayed, ReplayedLog}
 use Rattle.leveldb_version.specs.VersionEdit.{Edit, NewFile}
 use Rattle.leveldb_version.specs.VersionSet.{FileSet, level_file, live_after}
 use Rattle.std.proofs.Common.{◌<◌, ◌^◌, ◌∙◌, ◌∷◌, ◌≡◌, List, None, Option, Some, ap, false, length, refl, subst, sym, ℕ}
@@ -83,7 +83,7 @@ gone_again (Some file) new same some = λ e. let never : Some file ≡ None = e 
 pub record SameFor (store : List ℕ) (set : FileSet) (old new : Files) : Type 0 where
   pub tables : (file : NewFile) → file.number < 2 ^ 64 → set.file (level_file file) ≡ Some file
       → SameBytes (old (table_path store file.number)) (new (table_path store file.number))
-  pub logs : (name : List ℕ) (n : ℕ) → IsFileName name n Log → IsReplayed set n
+  pub logs : (name : List ℕ) (n : ℕ) → IsFileName name n Log → LogIsReplayed set n
       → SameBytes (old (in_folder store name)) (new (in_folder store name))
 
 module _ (store : List ℕ) (cmp : List ℕ → List ℕ → Ordering)

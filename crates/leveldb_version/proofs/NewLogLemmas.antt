@@ -16,7 +16,7 @@ use Rattle.leveldb_version.specs.Contents.{Contents, Store, made}
 use Rattle.leveldb_version.specs.Holds.{IsHonest, IsSafe}
 use Rattle.leveldb_version.specs.Levels.{table_entries}
 use Rattle.leveldb_version.specs.Paths.{current_path, log_path, table_path}
-use Rattle.leveldb_version.specs.Store.{HasLog, IsManagedBy, IsReplayed, IsStore, ReplayedLog, log_batches}
+use Rattle.leveldb_version.specs.Store.{HasLog, IsManagedBy, LogIsReplayed, IsStore, ReplayedLog, log_batches}
 use Rattle.leveldb_version.specs.StoreSteps.{IsAboveLogs}
 use Rattle.leveldb_version.specs.VersionEdit.{Edit}
 use Rattle.leveldb_version.specs.VersionSet.{FileSet, live_after}
@@ -30,11 +30,11 @@ use Rattle.std.specs.declared.cmp.Ordering.{Ordering}
 
 -- a number is replayed or not
 pub is_replayed : (set : FileSet) (n : ℕ) → IsSome set.log_number
-    → IsReplayed set n ⊎ (IsReplayed set n → ⊥)
+    → LogIsReplayed set n ⊎ (LogIsReplayed set n → ⊥)
 is_replayed set n there = by_log set.log_number refl there
   where
     by_previous : (log : ℕ) → set.log_number ≡ Some log → n < log → (previous : Option ℕ)
-        → set.previous_log ≡ previous → IsReplayed set n ⊎ (IsReplayed set n → ⊥)
+        → set.previous_log ≡ previous → LogIsReplayed set n ⊎ (LogIsReplayed set n → ⊥)
     by_previous log is less None e = inr (λ r. ⊎_elim
         (λ (h : (l : ℕ) × (set.log_number ≡ Some l) × (l ≤ n)). let same : Some log ≡ Some h.0 =
         sym is ∙ h.1 in
@@ -63,7 +63,7 @@ is_replayed set n there = by_log set.log_number refl there
             (cases_lt n p)) (cases_lt p n)
 
     by_log : (log : Option ℕ) → set.log_number ≡ log → IsSome log
-        → IsReplayed set n ⊎ (IsReplayed set n → ⊥)
+        → LogIsReplayed set n ⊎ (LogIsReplayed set n → ⊥)
     by_log None e some = absurd (let never : false ≡ true = some in cc)
     by_log (Some log) e some =
         ⊎_elim (λ (less : n < log). by_previous log e less set.previous_log refl)
@@ -102,7 +102,7 @@ module _ (store : List ℕ) (cmp : List ℕ → List ℕ → Ordering)
     batches_same : log_batches logs ≡ log_batches m.logs
     batches_same = batches_last m.logs (empty_log n) ∙ append-nil (log_batches m.logs)
 
-    with_it : IsReplayed (live_after edits) n → IsManagedBy store cmp IsTableOf new edits contents
+    with_it : LogIsReplayed (live_after edits) n → IsManagedBy store cmp IsTableOf new edits contents
     with_it replayed = record {
       comparator = m.comparator;
       comparator_is = m.comparator_is;
@@ -135,7 +135,7 @@ module _ (store : List ℕ) (cmp : List ℕ → List ℕ → Ordering)
               h.2,
             ))
             (λ (e : empty_log n ≡ log). subst
-            (λ (l : ReplayedLog). HasLog store new l × IsReplayed (live_after edits) l.number
+            (λ (l : ReplayedLog). HasLog store new l × LogIsReplayed (live_after edits) l.number
             × (l.number < 2 ^ 64)) e (
               (
                 kept_file [],
@@ -176,7 +176,7 @@ module _ (store : List ℕ) (cmp : List ℕ → List ℕ → Ordering)
           }) batches_same);
     }
       where
-        all : (name : List ℕ) (k : ℕ) → IsFileName name k Log → IsReplayed (live_after edits) k
+        all : (name : List ℕ) (k : ℕ) → IsFileName name k Log → LogIsReplayed (live_after edits) k
             → new (in_folder store name) ≢ None
             → (name ≡ file_name Log k)
             × ((log : ReplayedLog) × Contains logs log × (log.number ≡ k))
@@ -198,7 +198,7 @@ module _ (store : List ℕ) (cmp : List ℕ → List ℕ → Ordering)
                 (λ gone. some (same (in_folder store name) e ∙ gone)) in
                 (h.0, (h.1.0, Contains-append_left m.logs (empty_log n ∷ []) h.1.0 h.1.1, h.1.2))
 
-    without_it : (IsReplayed (live_after edits) n → ⊥)
+    without_it : (LogIsReplayed (live_after edits) n → ⊥)
         → IsManagedBy store cmp IsTableOf new edits contents
     without_it never = managed_on store cmp IsTableOf left new edits contents (record {
       tables =
@@ -213,7 +213,7 @@ module _ (store : List ℕ) (cmp : List ℕ → List ℕ → Ordering)
           same_bytes (left (in_folder store name)) (new (in_folder store name))
           (same (in_folder store name)
           (numbers_apart store (file_name Log n) name n k Log Log named is
-          (λ e. never (subst (IsReplayed (live_after edits)) (sym e) replayed))));
+          (λ e. never (subst (LogIsReplayed (live_after edits)) (sym e) replayed))));
     }) m
 
     pub with_new_log : IsManagedBy store cmp IsTableOf new edits contents

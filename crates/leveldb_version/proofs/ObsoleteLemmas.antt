@@ -38,18 +38,18 @@ module _ (store : List ℕ) (cmp : List ℕ → List ℕ → Ordering)
   abbrev before : List ℕ → Files → Files → Files
   before path old left = with_file path (cut_off (old path)) left
 
-  pub unread_again : (path : List ℕ) (old new : Files) → SameBut path old new
-      → IsUnread store old path → IsUnread store new path
-  unread_again path old new same un = record {
-    not_current = un.not_current;
+  pub unread_again : (path kept : List ℕ) (old new : Files) → SameBut path old new
+      → IsUnread store old path → IsUnread store old kept → IsUnread store new kept
+  unread_again path kept old new same un stays = record {
+    not_current = stays.not_current;
     not_manifest =
         λ left file name n leaves honest there text.
-        un.not_manifest (before path old left) file name n (was_left left leaves)
+        stays.not_manifest (before path old left) file name n (was_left left leaves)
         (was_honest left honest)
         (at_other path (cut_off (old path)) left (current_path store) un.not_current ∙ there) text;
     unnamed =
         λ left edits leaves honest e.
-        un.unnamed (before path old left) edits (was_left left leaves) (was_honest left honest)
+        stays.unnamed (before path old left) edits (was_left left leaves) (was_honest left honest)
         (edits_on store cmp IsTableOf path left (before path old left) edits e
         (λ other away. at_other path (cut_off (old path)) left other away) un.not_current
         (un.not_manifest (before path old left) e.current e.name e.number (was_left left leaves)
@@ -59,7 +59,7 @@ module _ (store : List ℕ) (cmp : List ℕ → List ℕ → Ordering)
     bare = ⊎_elim
         (λ (there : old (current_path store) ≢ None). inl
         (λ gone. there (sym (same (current_path store) un.not_current) ∙ gone)))
-        (λ apart. inr apart) un.bare;
+        (λ apart. inr apart) stays.bare;
   }
     where
       was_left : (left : Files) → FilesCrashTo new left → FilesCrashTo old (before path old left)

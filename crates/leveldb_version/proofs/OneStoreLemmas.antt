@@ -10,7 +10,7 @@ use Rattle.leveldb_base.specs.Types.{Pair}
 use Rattle.leveldb_base.specs.declared.types.FileType.TheVariants.{Log}
 use Rattle.leveldb_env.specs.Env.{File, Files, bytes_of}
 use Rattle.leveldb_mem.proofs.LawsLemmas.{log_laws}
-use Rattle.leveldb_mem.specs.MemTable.{value_of}
+use Rattle.leveldb_base.specs.Entries.{value_of}
 use Rattle.leveldb_version.proofs.BatchesLemmas.{each_one, one_batches}
 use Rattle.leveldb_version.proofs.ManifestLemmas.{read_by}
 use Rattle.leveldb_version.proofs.SafeLemmas.{some_is}
@@ -19,7 +19,7 @@ use Rattle.leveldb_version.specs.Batches.{Each, IsRecordOf}
 use Rattle.leveldb_version.specs.Contents.{Contents, made}
 use Rattle.leveldb_version.specs.Levels.{LiveTable, table_entries}
 use Rattle.leveldb_version.specs.Paths.{log_path, table_path}
-use Rattle.leveldb_version.specs.Store.{HasLogs, HasTable, HasTables, IsEntryPair, IsLog, IsManagedBy, IsStore, LogsRise, OneTableReading, ReplayedLog, SameContents, log_entries}
+use Rattle.leveldb_version.specs.Store.{HasLogs, HasTable, HasTables, IsInternalPair, IsLog, IsManagedBy, IsStore, LogsRise, OneTableReading, ReplayedLog, SameContents, log_entries}
 use Rattle.leveldb_version.specs.VersionEdit.{Edit, IsEdit}
 use Rattle.leveldb_version.specs.VersionSet.{FileSet, live_after}
 use Rattle.std.proofs.Common.{◌++◌, ◌∙◌, ◌∷◌, ◌≡◌, List, None, Some, [], ap, arith, inl, inr, refl, subst, sym, ℕ, ⊎_elim}
@@ -50,7 +50,7 @@ flat_in f (first ∷ xs) x y c there = ⊎_elim
 
 -- ---- one pair is one entry
 
-pub one_entry : (pair : Pair) (a b : Entry) → IsEntryPair pair a → IsEntryPair pair b → a ≡ b
+pub one_entry : (pair : Pair) (a b : Entry) → IsInternalPair pair a → IsInternalPair pair b → a ≡ b
 one_entry pair a b p q =
     let same : internal_key a.key a.sequence p.kind
     ≡ internal_key b.key b.sequence q.kind = sym p.key ∙ q.key in
@@ -124,8 +124,8 @@ module _ (store : List ℕ) (cmp : List ℕ → List ℕ → Ordering)
       (sym p.there ∙ ap (λ (f : _). files (table_path store f.number)) same ∙ q.there) in
       let pairs = one (bytes_of q.file) p.pairs q.pairs
       (subst (λ f. IsTableOf (bytes_of f) p.pairs) file p.read) q.read in
-      each_one IsEntryPair one_entry q.pairs a.entries b.entries
-      (subst (λ ps. Each IsEntryPair ps a.entries) pairs p.each) q.each
+      each_one IsInternalPair one_entry q.pairs a.entries b.entries
+      (subst (λ ps. Each IsInternalPair ps a.entries) pairs p.each) q.each
 
   pub tables_in : (files : Files) (set : FileSet) (these those : List LiveTable)
       → HasTables store cmp IsTableOf files set these

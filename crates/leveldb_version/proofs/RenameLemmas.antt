@@ -19,7 +19,7 @@ use Rattle.leveldb_version.specs.Current.{IsCurrentText}
 use Rattle.leveldb_version.specs.Holds.{Carries, CarriesPrefix, IsHonest, IsSafe}
 use Rattle.leveldb_version.specs.Paths.{current_path}
 use Rattle.leveldb_version.specs.Store.{HasEdits, IsStore}
-use Rattle.leveldb_version.specs.StoreSteps.{EditsRefine, HasBytes, HasNextCurrent}
+use Rattle.leveldb_version.specs.StoreSteps.{EditsRefine, AppendedAreBytes, HasNextCurrent}
 use Rattle.leveldb_version.specs.VersionEdit.{Edit}
 use Rattle.leveldb_version.specs.VersionSet.{FileSet, live_after}
 use Rattle.std.proofs.Common.{◌∙◌, ◌≡◌, List, None, Some, append-nil, arith, false, inl, inr, refl, subst, sym, ℕ}
@@ -41,7 +41,7 @@ module _ (store : List ℕ) (cmp : List ℕ → List ℕ → Ordering)
 
   -- The store has these edits, and another manifest is ready whose edits refine them.
   module _ (files : Files) (edits : List Edit) (e : HasEdits store files edits)
-      (bytes : HasBytes files) (temp : List ℕ) (others : List Edit)
+      (bytes : AppendedAreBytes files) (temp : List ℕ) (others : List Edit)
       (h : HasNextCurrent store files temp others) (allowed : Store → Type 0) (bound : ℕ)
       (refines : EditsRefine store cmp IsTableOf bound files edits others) where
     abbrev from : List ℕ

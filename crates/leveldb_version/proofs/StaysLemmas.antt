@@ -18,7 +18,7 @@ use Rattle.leveldb_version.specs.Current.{IsCurrentText}
 use Rattle.leveldb_version.specs.Holds.{IsHonest, IsSafe}
 use Rattle.leveldb_version.specs.Paths.{table_path}
 use Rattle.leveldb_version.specs.Store.{HasEdits, IsManaged, IsStore, LastNumbersFit}
-use Rattle.leveldb_version.specs.StoreSteps.{EditsRefine, HasBytes, IsKept, IsUnread, SameButNextFile, TablesAreKept}
+use Rattle.leveldb_version.specs.StoreSteps.{EditsRefine, AppendedAreBytes, IsKept, IsUnread, SameButNextFile, TablesAreKept}
 use Rattle.leveldb_version.specs.VersionEdit.{Edit, NewFile}
 use Rattle.leveldb_version.specs.VersionSet.{level_file, live_after}
 use Rattle.std.proofs.Common.{◌++◌, ◌<◌, ◌^◌, ◌∙◌, ◌≡◌, Bool, List, None, Option, Some, [], ap, append-nil, arith, false, length, length-append, refl, subst, sym, true, ℕ}
@@ -68,7 +68,7 @@ module _ (store : List ℕ) (cmp : List ℕ → List ℕ → Ordering)
   -- ---- a file that isn't read
 
   pub unread_managed : (path : List ℕ) (old new : Files) (contents : Contents)
-      → SameBut path old new → IsUnread store old path → HasBytes old
+      → SameBut path old new → IsUnread store old path → AppendedAreBytes old
       → IsManaged store cmp IsTableOf old contents → IsManaged store cmp IsTableOf new contents
   unread_managed path old new contents same un bytes m =
       let e = m.has_edits in
@@ -91,10 +91,10 @@ module _ (store : List ℕ) (cmp : List ℕ → List ℕ → Ordering)
 
   -- ---- a snapshot of the edits
 
-  pub snapshot_refines : (bound : ℕ) (files : Files) (edits others : List Edit)
+  pub full_edits_refine : (bound : ℕ) (files : Files) (edits others : List Edit)
       → SameButNextFile (live_after edits) (live_after others) → LastNumbersFit others
       → EditsRefine store cmp IsTableOf bound files edits others
-  snapshot_refines bound files edits others s fits left contents leaves honest most m = (
+  full_edits_refine bound files edits others s fits left contents leaves honest most m = (
     contents,
     record {
       comparator = m.comparator;
@@ -136,11 +136,34 @@ module _ (store : List ℕ) (cmp : List ℕ → List ℕ → Ordering)
     },
   )
 
+  -- ---- edits one after another
+
+  pub refine_onwards : (bound : ℕ) (files : Files) (edits others last : List Edit)
+      → EditsRefine store cmp IsTableOf bound files edits others
+      → EditsRefine store cmp IsTableOf bound files others last
+      → EditsRefine store cmp IsTableOf bound files edits last
+  refine_onwards bound files edits others last first second left contents leaves honest most m =
+      let one = first left contents leaves honest most m in
+      let two = second left one.0 leaves honest one.2.bounded one.1 in (
+        two.0,
+        two.1,
+        record {
+          later = omega (arith, one.2.later, two.2.later);
+          bounded = two.2.bounded;
+          store = two.2.store ∙ one.2.store;
+          same = λ t late key value.
+              let a = one.2.same t (omega (arith, late, two.2.later)) key value in
+              let b = two.2.same t late key value in
+              (λ x. a.0 (b.0 x), λ x. b.1 (a.1 x));
+          none_new = λ entry c. one.2.none_new entry (two.2.none_new entry c);
+        },
+      )
+
   -- ---- what is kept
 
   -- The live tables of safe files are kept, since a crash could cut them to another size.
   pub safe_tables_kept :
-      (files : Files) (bytes : HasBytes files) (allowed : Store → Type 0) (bound durable : ℕ)
+      (files : Files) (bytes : AppendedAreBytes files) (allowed : Store → Type 0) (bound durable : ℕ)
       (history : History) (contents : Contents)
       → IsSafe store reads allowed bound durable history files
       → (m : IsManaged store cmp IsTableOf files contents)
@@ -220,7 +243,7 @@ module _ (store : List ℕ) (cmp : List ℕ → List ℕ → Ordering)
               let three = length-append f.kept f.since in
               nil_from_length f.since (omega (arith, size, one, two, three))
 
-  pub tables_kept : (files : Files) (bytes : HasBytes files) (allowed : Store → Type 0)
+  pub tables_kept : (files : Files) (bytes : AppendedAreBytes files) (allowed : Store → Type 0)
       (bound durable : ℕ) (history : History) (contents : Contents)
       → IsSafe store reads allowed bound durable history files
       → (m : IsManaged store cmp IsTableOf files contents)

@@ -15,8 +15,8 @@ use Rattle.leveldb_version.proofs.ViewsLemmas.{append_sets, greatest_most, same_
 use Rattle.leveldb_version.specs.Contents.{Contents}
 use Rattle.leveldb_version.specs.Levels.{LiveTable, table_entries}
 use Rattle.leveldb_version.specs.Paths.{table_path}
-use Rattle.leveldb_version.specs.Store.{HasTables, IsManagedBy, IsReplayed, LastNumbersFit, OneTableReading, SameEntries, contents_of, log_batches, log_entries}
-use Rattle.leveldb_version.specs.StoreSteps.{EditKeeps, LastRises, Refines, SwapsTables, TablesAreKept}
+use Rattle.leveldb_version.specs.Store.{HasTables, IsManagedBy, LogIsReplayed, LastNumbersFit, OneTableReading, SameEntries, contents_of, log_batches, log_entries}
+use Rattle.leveldb_version.specs.StoreSteps.{EditRefines, LastRises, Refines, SwapsTables, TablesAreKept}
 use Rattle.leveldb_version.specs.VersionEdit.{Edit}
 use Rattle.leveldb_version.specs.VersionSet.{FileSet, live_after}
 use Rattle.std.proofs.Common.{◌++◌, ◌∙◌, ◌∷◌, ◌≡◌, ◌≤◌, List, Some, [], ap, arith, inl, inr, refl, subst, sym, ℕ, ⊎_elim}
@@ -26,7 +26,7 @@ use Rattle.std.specs.declared.cmp.Ordering.{Ordering}
 
 -- which logs are replayed goes by two numbers
 pub replayed_by : (old new : FileSet) (n : ℕ) → new.log_number ≡ old.log_number
-    → new.previous_log ≡ old.previous_log → IsReplayed old n → IsReplayed new n
+    → new.previous_log ≡ old.previous_log → LogIsReplayed old n → LogIsReplayed new n
 replayed_by old new n log previous (inl (l, is, le)) = inl (l, log ∙ is, le)
 replayed_by old new n log previous (inr (is, pos)) = inr (previous ∙ is, pos)
 
@@ -57,11 +57,11 @@ module _ (store : List ℕ) (cmp : List ℕ → List ℕ → Ordering)
       kept_left (files (table_path store file.number)) (left (table_path store file.number))
       (kept file live) (leaves (table_path store file.number))) has
 
-  pub swap_keeps : (bound : ℕ) (files : Files) (edits : List Edit) (edit : Edit)
+  pub swap_refines : (bound : ℕ) (files : Files) (edits : List Edit) (edit : Edit)
       → SwapsTables store cmp IsTableOf bound files (live_after edits)
       (live_after (edits ++ edit ∷ []))
-      → EditKeeps store cmp IsTableOf bound files edits edit
-  swap_keeps bound files edits edit s left contents leaves honest most m = (now, managed, refines)
+      → EditRefines store cmp IsTableOf bound files edits edit
+  swap_refines bound files edits edit s left contents leaves honest most m = (now, managed, refines)
     where
       now : Contents
       now = contents_of m.comparator s.after m.logs s.last.last

@@ -18,8 +18,8 @@ use Rattle.leveldb_version.specs.Batches.{AreInOrder, all_entries, batch_entries
 use Rattle.leveldb_version.specs.Contents.{Contents}
 use Rattle.leveldb_version.specs.Levels.{LiveTable, table_entries}
 use Rattle.leveldb_version.specs.Paths.{log_path, table_path}
-use Rattle.leveldb_version.specs.Store.{HasLog, HasTables, IsLog, IsManagedBy, IsReplayed, OneTableReading, ReplayedLog, SameEntries, contents_of, log_batches, log_entries}
-use Rattle.leveldb_version.specs.StoreSteps.{EditKeeps, Refines, SwitchesLog, TablesAreKept}
+use Rattle.leveldb_version.specs.Store.{HasLog, HasTables, IsLog, IsManagedBy, LogIsReplayed, OneTableReading, ReplayedLog, SameEntries, contents_of, log_batches, log_entries}
+use Rattle.leveldb_version.specs.StoreSteps.{EditRefines, Refines, SwitchesLog, TablesAreKept}
 use Rattle.leveldb_version.specs.VersionEdit.{Edit}
 use Rattle.leveldb_version.specs.VersionSet.{FileSet, live_after}
 use Rattle.std.proofs.Common.{◌++◌, ◌∙◌, ◌∷◌, ◌≡◌, ◌≤◌, List, None, Some, [], ap, arith, inl, inr, refl, subst, sym, ℕ, ⊎_elim}
@@ -81,7 +81,7 @@ module _ (store : List ℕ) (cmp : List ℕ → List ℕ → Ordering)
     in_back_too l c =
         subst (λ ls. Contains ls l) (sym p.parts) (Contains-append_right p.front p.back l c)
 
-    from_log : (n : ℕ) → IsReplayed (live_after (edits ++ edit ∷ [])) n → s.log ≤ n
+    from_log : (n : ℕ) → LogIsReplayed (live_after (edits ++ edit ∷ [])) n → s.log ≤ n
     from_log n (inl h) =
         let same : Some s.log ≡ Some h.0 = sym s.new_log ∙ h.1 in
         let e = some_is s.log h.0 same in
@@ -283,11 +283,11 @@ module _ (store : List ℕ) (cmp : List ℕ → List ℕ → Ordering)
           (subst (λ es. Contains (es ++ log_entries p.back) entry) after_are c));
     }
 
-  pub switch_keeps : (bound : ℕ) (files : Files) (edits : List Edit) (edit : Edit)
+  pub switch_refines : (bound : ℕ) (files : Files) (edits : List Edit) (edit : Edit)
       → SwitchesLog store cmp IsTableOf bound files (live_after edits)
       (live_after (edits ++ edit ∷ []))
-      → EditKeeps store cmp IsTableOf bound files edits edit
-  switch_keeps bound files edits edit s left contents leaves honest most m = (
+      → EditRefines store cmp IsTableOf bound files edits edit
+  switch_refines bound files edits edit s left contents leaves honest most m = (
     now bound files edits edit s left contents leaves most m,
     managed bound files edits edit s left contents leaves most m,
     refines bound files edits edit s left contents leaves most m,

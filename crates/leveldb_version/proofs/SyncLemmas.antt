@@ -12,7 +12,7 @@ use Rattle.leveldb_version.proofs.StaysLemmas.{synced_same}
 use Rattle.leveldb_version.specs.Contents.{Contents, Store}
 use Rattle.leveldb_version.specs.Holds.{Holds, MatchesHistory}
 use Rattle.leveldb_version.specs.Paths.{current_path, log_path, table_path}
-use Rattle.leveldb_version.specs.Store.{HasEdits, IsManaged, IsReplayed, IsStore}
+use Rattle.leveldb_version.specs.Store.{HasEdits, IsManaged, LogIsReplayed, IsStore}
 use Rattle.leveldb_version.specs.StoreSteps.{IsAllKept, IsKept, IsLastLog, TablesAreKept}
 use Rattle.leveldb_version.specs.VersionSet.{live_after}
 use Rattle.std.proofs.Common.{◌+◌, ◌<◌, ◌^◌, ◌∙◌, ◌≡◌, Bool, List, None, Option, Some, [], ap, arith, false, inl, inr, length, refl, subst, sym, true, ℕ}
@@ -96,7 +96,7 @@ module _ (store : List ℕ) (cmp : List ℕ → List ℕ → Ordering)
               subst IsKept
               (sym (at_other path (option_map file_kept (files path)) files other d)) is
 
-      log_kept : (name : List ℕ) (n : ℕ) → IsFileName name n Log → IsReplayed (live_after m.edits) n
+      log_kept : (name : List ℕ) (n : ℕ) → IsFileName name n Log → LogIsReplayed (live_after m.edits) n
           → IsKept (synced path files (in_folder store name))
       log_kept name n is replayed = by (bytes_eq path (in_folder store name)) refl
         where
@@ -109,7 +109,7 @@ module _ (store : List ℕ) (cmp : List ℕ → List ℕ → Ordering)
               (kept_is (files path)))
           by false d =
               kept_on (in_folder store name)
-              (last.kept_before name n is replayed
+              (last.others_kept name n is replayed
               (λ same_name. let is_it : false ≡ true = sym d
               ∙ (bytes_decides path (in_folder store name)).1
               (ap (in_folder store) (sym same_name)) in cc))

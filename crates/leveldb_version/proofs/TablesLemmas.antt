@@ -18,7 +18,7 @@ use Rattle.leveldb_table.specs.Table.{DecodesOne, OneTable}
 use Rattle.leveldb_version.proofs.LevelsLemmas.{none_before, reversed}
 use Rattle.leveldb_version.specs.Batches.{Each}
 use Rattle.leveldb_version.specs.Levels.{IsBounded, IsInRange, LiveTable}
-use Rattle.leveldb_version.specs.Store.{HasTable, IsEntryPair, IsStoreTable, OneTableReading, any_user_key}
+use Rattle.leveldb_version.specs.Store.{HasTable, IsInternalPair, IsStoreTable, OneTableReading, any_user_key}
 
 pub one_store_table : (Decodes : ℕ → List ℕ → List ℕ → Type 0)
     (cmp : List ℕ → List ℕ → Ordering) (meaning : List ℕ → Option (List ℕ → List ℕ → Bool))
@@ -129,7 +129,7 @@ module _ (cmp : List ℕ → List ℕ → Ordering) (total : IsTotalOrder cmp) w
       within : (entry : Entry) → Contains table.entries entry
           → IsInRange cmp table.file entry.key
       within entry c =
-          let found = each_in IsEntryPair has.pairs table.entries entry has.each c in
+          let found = each_in IsInternalPair has.pairs table.entries entry has.each c in
           let key : user_part found.0.0 ≡ entry.key = ap user_part found.2.key
           ∙ user_part-internal_key entry.key entry.sequence found.2.kind in
           subst (IsInRange cmp table.file) key (record {

@@ -16,7 +16,7 @@ use Rattle.leveldb_version.specs.Paths.{current_path, table_path}
 use Rattle.leveldb_version.specs.Store.{IsStore}
 use Rattle.leveldb_version.specs.StoreSteps.{IsUnnamed, IsUnread}
 use Rattle.leveldb_version.specs.VersionSet.{FileSet, live_after}
-use Rattle.std.proofs.Common.{◌∙◌, ◌≡◌, ◌⊎◌, List, None, Option, Some, false, inl, inr, refl, sym, ℕ, ⊎_elim}
+use Rattle.std.proofs.Common.{◌∙◌, ◌≡◌, ◌⊎◌, List, None, Option, Some, false, inl, inr, refl, subst, sym, ℕ, ⊎_elim}
 use Rattle.std.specs.Prelude.{◌≢◌}
 use Rattle.std.specs.Str.{bytes_eq}
 use Rattle.std.specs.declared.cmp.Ordering.{Ordering}
@@ -120,3 +120,28 @@ module _ (store : List ℕ) (cmp : List ℕ → List ℕ → Ordering)
         (λ (l : IsFileName other m Log). kinds_apart store name other n m kind Log is l no_log)
         is_other);
   }
+
+  -- where there is no `CURRENT`, a crash leaves none, so no manifest is named
+  pub manifest_unread : (files : Files) → files (current_path store) ≡ None → (name : List ℕ)
+      (n : ℕ) → IsFileName name n Descriptor → IsUnread store files (in_folder store name)
+  manifest_unread files gone name n is = record {
+    not_current =
+        kinds_apart store name (file_name Current 0) n 0 Descriptor Current is
+        (made_name Current 0 refl) (λ d. cc);
+    not_manifest =
+        λ left file other m leaves honest there text. absurd (none_left left leaves file there);
+    unnamed = λ left edits leaves honest e.
+        absurd (none_left left leaves e.current e.current_there);
+    bare = inr (λ other m is_other. ⊎_elim
+        (λ (t : IsFileName other m Table). kinds_apart store name other n m Descriptor Table is t
+        (λ d. cc))
+        (λ (l : IsFileName other m Log). kinds_apart store name other n m Descriptor Log is l
+        (λ d. cc)) is_other);
+  }
+    where
+      none_left : (left : Files) → FilesCrashTo files left → (file : File)
+          → left (current_path store) ≡ Some file → ⊥
+      none_left left leaves file there =
+          let never : None ≡ Some file =
+          sym (subst (λ f. FileCrashesTo f (left (current_path store))) gone
+          (leaves (current_path store))) ∙ there in cc

@@ -22,7 +22,7 @@ use Rattle.leveldb_version.specs.Batches.{Each, IsRecordOf}
 use Rattle.leveldb_version.specs.Contents.{Contents}
 use Rattle.leveldb_version.specs.Paths.{current_path, log_path, table_path}
 use Rattle.leveldb_version.specs.Store.{IsManagedBy}
-use Rattle.leveldb_version.specs.StoreSteps.{HasBytes, IsKept, IsManifestOpen, IsWritable}
+use Rattle.leveldb_version.specs.StoreSteps.{AppendedAreBytes, IsKept, IsManifestOpen, IsWritable}
 use Rattle.leveldb_version.specs.VersionEdit.{Edit, IsEdit, NewFile}
 use Rattle.leveldb_version.specs.VersionSet.{level_file, live_after}
 
@@ -50,16 +50,6 @@ module _ (store : List ℕ) (cmp : List ℕ → List ℕ → Ordering)
         (managed.has_tables.each t.0 t.1).2 in
         kinds_apart store (file_name Log w.log.number) (file_name Table one.number) w.log.number
         one.number Log Table named (made_name Table one.number fits) (λ e. cc)
-
-    was_there : (name : List ℕ) → now (in_folder store name) ≢ None
-        → files (in_folder store name) ≢ None
-    was_there name some = by (bytes_eq path (in_folder store name)) refl
-      where
-        by : (b : Bool) → bytes_eq path (in_folder store name) ≡ b
-            → files (in_folder store name) ≢ None
-        by true e = λ gone. let never : Some w.log.file ≡ None = sym w.log.there
-            ∙ ap files ((bytes_decides path (in_folder store name)).0 e) ∙ gone in cc
-        by false e = λ gone. some (same (in_folder store name) e ∙ gone)
 
     other_name : (name : List ℕ) → name ≢ file_name Log w.log.number
         → bytes_eq path (in_folder store name) ≡ false
@@ -97,17 +87,21 @@ module _ (store : List ℕ) (cmp : List ℕ → List ℕ → Ordering)
         fits = w.log.fits;
         last = record {
           replayed = w.log.last.replayed;
-          greatest = λ name n is replayed some.
-              w.log.last.greatest name n is replayed (was_there name some);
-          kept_before = λ name n is replayed differ.
-              subst IsKept (sym (same (in_folder store name) (other_name name differ)))
-              (w.log.last.kept_before name n is replayed differ);
-          clean_before = λ n other less replayed found. w.log.last.clean_before n other less replayed
-              (sym (same (log_path store n)
-              (numbers_apart store (file_name Log w.log.number) (file_name Log n) w.log.number n
-              Log Log named (made_name Log n (omega (arith, less, w.log.fits)))
+          empty_after = λ name n other is replayed less found.
+              w.log.last.empty_after name n other is replayed less
+              (sym (same (in_folder store name)
+              (numbers_apart store (file_name Log w.log.number) name w.log.number n Log Log named is
               (λ e. omega (arith, less, e)))) ∙ found);
+          others_kept = λ name n is replayed differ.
+              subst IsKept (sym (same (in_folder store name) (other_name name differ)))
+              (w.log.last.others_kept name n is replayed differ);
         };
+        clean_before = λ n other less replayed found.
+            w.log.clean_before n other less replayed
+            (sym (same (log_path store n)
+            (numbers_apart store (file_name Log w.log.number) (file_name Log n) w.log.number n
+            Log Log named (made_name Log n (omega (arith, less, w.log.fits)))
+            (λ e. omega (arith, less, e)))) ∙ found);
         file = file;
         there = there;
         records = records;
@@ -121,7 +115,7 @@ module _ (store : List ℕ) (cmp : List ℕ → List ℕ → Ordering)
   pub append_stays_writable : (files : Files) (edits : List Edit) (contents : Contents)
       → IsManagedBy store cmp IsTableOf files edits contents → (w : IsWritable store files edits)
       → (first : ℕ) (items : List Item) (text : List ℕ) → BatchOf text first items
-      → HasBytes (extended (log_path store w.log.number)
+      → AppendedAreBytes (extended (log_path store w.log.number)
       (frame_at (length (bytes_of w.log.file)) text) files)
       → IsWritable store (extended (log_path store w.log.number)
       (frame_at (length (bytes_of w.log.file)) text) files) edits
@@ -168,29 +162,41 @@ module _ (store : List ℕ) (cmp : List ℕ → List ℕ → Ordering)
 pub edit_stays_open : (store : List ℕ) (files : Files) (edits : List Edit)
     (m : IsManifestOpen store files edits) (text : List ℕ) → text ≢ [] → (edit : Edit)
     → IsEdit text edit
-    → IsManifestOpen store (extended (in_folder store m.name)
-    (frame_at (length (bytes_of m.file)) text) files) (edits ++ edit ∷ [])
+    → IsManifestOpen store (extended (in_folder store m.has_edits.name)
+    (frame_at (length (bytes_of m.has_edits.manifest)) text) files) (edits ++ edit ∷ [])
 edit_stays_open store files edits m text some edit is = record {
-  current = m.current;
-  current_there = SameBut-appending path frame files (extended path frame files)
-      (appended path frame files) (current_path store)
-      (kinds_apart store m.name (file_name Current 0) m.number 0 Descriptor Current m.named.0
-      (made_name Current 0 refl) (λ e. cc)) ∙ m.current_there;
+  has_edits = record {
+    current = m.has_edits.current;
+    current_there = SameBut-appending path frame files (extended path frame files)
+        (appended path frame files) (current_path store)
+        (kinds_apart store m.has_edits.name (file_name Current 0) m.has_edits.number 0 Descriptor
+        Current m.has_edits.named.0 (made_name Current 0 refl) (λ e. cc))
+        ∙ m.has_edits.current_there;
+    name = m.has_edits.name;
+    number = m.has_edits.number;
+    named = m.has_edits.named;
+    manifest = longer_file frame m.has_edits.manifest;
+    there = extended-same path frame files m.has_edits.manifest m.has_edits.there;
+    is = record {
+      records = m.has_edits.is.records ++ text ∷ [];
+      end = clean;
+      read = read;
+      each = each_more IsEdit m.has_edits.is.records edits text edit m.has_edits.is.each is;
+    };
+  };
   current_kept = m.current_kept;
-  name = m.name;
-  number = m.number;
-  named = m.named;
-  file = longer_file frame m.file;
-  there = extended-same path frame files m.file m.there;
-  records = m.records ++ text ∷ [];
-  clean_end = subst (λ b. IsLogFile b (m.records ++ text ∷ []) clean)
-      (append_assoc m.file.kept m.file.since frame)
-      (log_laws.more (bytes_of m.file) m.records text some m.clean_end);
-  each = each_more IsEdit m.records edits text edit m.each is;
+  clean_end = read;
 }
   where
     path : List ℕ
-    path = in_folder store m.name
+    path = in_folder store m.has_edits.name
 
     frame : List ℕ
-    frame = frame_at (length (bytes_of m.file)) text
+    frame = frame_at (length (bytes_of m.has_edits.manifest)) text
+
+    read : IsLogFile (bytes_of (longer_file frame m.has_edits.manifest))
+        (m.has_edits.is.records ++ text ∷ []) clean
+    read = subst (λ b. IsLogFile b (m.has_edits.is.records ++ text ∷ []) clean)
+        (append_assoc m.has_edits.manifest.kept m.has_edits.manifest.since frame)
+        (log_laws.more (bytes_of m.has_edits.manifest) m.has_edits.is.records text some
+        m.clean_end)

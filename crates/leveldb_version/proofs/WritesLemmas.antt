@@ -11,6 +11,7 @@ use Rattle.leveldb_version.proofs.BatchAppendLemmas.{append_holds, whole_holds}
 use Rattle.leveldb_version.proofs.HonestCrashLemmas.{all_cut, all_cut_left, all_cut_honest}
 use Rattle.leveldb_version.proofs.ManifestLemmas.{managed_of}
 use Rattle.leveldb_version.proofs.SyncLemmas.{sync_makes_durable}
+use Rattle.leveldb_version.proofs.WritableLemmas.{append_stays_writable}
 use Rattle.leveldb_version.specs.Contents.{Contents, Store}
 use Rattle.leveldb_version.specs.Holds.{Carries, Holds, IsSafe, MatchesHistory}
 use Rattle.leveldb_version.specs.Paths.{log_path}
@@ -67,6 +68,8 @@ module _ (store : List ℕ) (cmp : List ℕ → List ℕ → Ordering)
       after = whole_holds store cmp IsTableOf files contents managed w.current w.manifest w.tables
           w.log w.bytes allowed last durable history matches safe durable_there items text is_batch
           first_fits all_fit;
+      writable = append_stays_writable store cmp IsTableOf files edits contents managed.managed w
+          (last + 1) items text is_batch;
     }
 
     pub log_sync_holds : Holds store reads allowed (synced (log_path store w.log.number) files)

@@ -2,7 +2,7 @@
 --
 -- `store` is the store's path, `reads files contents` says that the files are a whole store with
 -- these contents, and `allowed` says which store may be there.
-use Rattle.std.specs.Prelude.{◌≡◌, ◌≤◌, ◌+◌, ◌⊎◌, ℕ, List, Option, Some, Contains}
+use Rattle.std.specs.Prelude.{◌≡◌, ◌≤◌, ◌+◌, ◌⊎◌, ℕ, List, length, Option, Some, None, Contains}
 use Rattle.leveldb_base.specs.History.{Entry, History, IsPrefixAtLeast, entries_of, greatest, with_batch, count_of, SameView}
 use Rattle.leveldb_env.specs.Env.{File, Files, FilesCrashTo, bytes_of}
 use Rattle.leveldb_mem.specs.Log.{log_block_size, HonestTail}
@@ -54,3 +54,16 @@ module _ (store : List ℕ) (reads : Files → Contents → Type 0) where
     pub now : Carries allowed (last + count_of pending) history files
         ⊎ Carries allowed (last + count_of pending) (with_batch history pending) files
     pub crash : IsSafe allowed (last + count_of pending) durable (with_batch history pending) files
+
+  -- the files hold a prefix of a history that has at least `durable` batches, all of them durable
+  pub record HoldsPrefix (allowed : Store → Type 0) (files : Files) (history : History)
+      (last durable : ℕ) : Type 0 where
+    pub part : History
+    pub prefix : IsPrefixAtLeast durable history part
+    pub holds : Holds allowed files part last (length part) None
+
+  -- whatever contents are read of the files, now or after an honest crash, this store is there
+  pub record ReadsAre (allowed : Store → Type 0) (files : Files) : Type 0 where
+    pub now : (contents : Contents) → reads files contents → allowed contents.store
+    pub crash : (left : Files) (contents : Contents) → FilesCrashTo files left
+        → IsHonest store files left → reads left contents → allowed contents.store

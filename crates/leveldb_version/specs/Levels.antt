@@ -1,10 +1,11 @@
--- Tables by levels, and a look-up that goes from newer entries to older ones.
-use Rattle.std.specs.Prelude.{◌≡◌, ◌≢◌, ◌<◌, ◌+◌, ◌⊎◌, ℕ, List, None, Some, Option, Contains, AllPairs, flat_map, length, take, slice_get}
+-- Tables by levels, and the order in which a look-up goes through them. What it finds in layers of
+-- entries is said where layers are defined.
+use Rattle.std.specs.Prelude.{◌≡◌, ◌≢◌, ◌<◌, ◌⊎◌, ℕ, List, Contains, flat_map}
 use Rattle.std.specs.declared.cmp.Ordering.{Ordering}
 use Rattle.std.specs.declared.cmp.Ordering.TheVariants.{Less}
 use Rattle.leveldb_base.specs.History.{Entry}
 use Rattle.leveldb_base.specs.KeyTypes.{user_part}
-use Rattle.leveldb_mem.specs.MemTable.{FindsNewest}
+use Rattle.leveldb_base.specs.Layers.{IsOlder}
 use Rattle.leveldb_version.specs.VersionEdit.{NewFile}
 
 -- a live table: its file, as an edit says it, and its entries
@@ -15,11 +16,6 @@ pub record LiveTable : Type 0 where
 -- the entries of tables
 abbrev pub table_entries : List LiveTable → List Entry
 table_entries tables = flat_map (λ table. table.entries) tables
-
--- of a key that both have, each entry of the older is below each of the newer
-abbrev pub IsOlder : List Entry → List Entry → Type 0
-IsOlder older newer = (a b : Entry) → Contains older a → Contains newer b → a.key ≡ b.key
-    → a.sequence < b.sequence
 
 -- ---- the order of levels
 
@@ -68,14 +64,6 @@ module _ (cmp : List ℕ → List ℕ → Ordering) where
 
 -- ---- look-ups
 
--- of two sources the later one is older
-abbrev pub AreLayered : List (List Entry) → Type 0
-AreLayered sources = AllPairs (λ newer older. IsOlder older newer) sources
-
--- the entries of all sources
-abbrev pub source_entries : List (List Entry) → List Entry
-source_entries sources = flat_map (λ source. source) sources
-
 -- The first table is searched before the second: it is in a level above, or it has the greater
 -- number in level 0. In a deeper level files may be searched in any order.
 abbrev pub IsSearchedBefore : LiveTable → LiveTable → Type 0
@@ -83,22 +71,3 @@ IsSearchedBefore a b =
     (a.file.level < b.file.level)
     ⊎ ((a.file.level ≡ 0) × (b.file.level ≡ 0) × (b.file.number < a.file.number))
     ⊎ ((a.file.level ≡ b.file.level) × (0 < a.file.level) × (a.file.number ≢ b.file.number))
-
--- A look-up that goes from source to source, and stops at the first one that has an entry of the
--- key at or below a number, finds what all sources together have.
-pub record SearchFinds (sources : List (List Entry)) (s : ℕ) (key : List ℕ) : Type 0 where
-  -- before the first source nothing is found
-  pub starts : FindsNewest (source_entries (take 0 sources)) s key None
-  -- a source without such an entry is passed
-  pub passes : (i : ℕ) (source : List Entry) → slice_get sources i ≡ Some source
-      → FindsNewest (source_entries (take i sources)) s key None → FindsNewest source s key None
-      → FindsNewest (source_entries (take (i + 1) sources)) s key None
-  -- what the first source with one has is the result
-  pub stops : (i : ℕ) (source : List Entry) (value : Option (List ℕ))
-      → slice_get sources i ≡ Some source
-      → FindsNewest (source_entries (take i sources)) s key None
-      → FindsNewest source s key (Some value)
-      → FindsNewest (source_entries sources) s key (Some value)
-  -- after the last source nothing is there
-  pub ends : FindsNewest (source_entries (take (length sources) sources)) s key None
-      → FindsNewest (source_entries sources) s key None

@@ -10,3 +10,5 @@ pub mod Levels
 pub mod Store
 pub mod StoreSteps
 pub mod StoreLaws
+pub mod HoldsLaws
+pub mod StoreStays

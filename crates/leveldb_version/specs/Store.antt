@@ -6,13 +6,13 @@ use Rattle.std.specs.declared.cmp.Ordering.{Ordering}
 use Rattle.leveldb_base.specs.declared.key_types.ValueType.{ValueType}
 use Rattle.leveldb_base.specs.declared.types.FileType.TheVariants.{Log, Table}
 use Rattle.leveldb_base.specs.Cmp.{internal_accepts}
+use Rattle.leveldb_base.specs.Entries.{value_of}
 use Rattle.leveldb_base.specs.History.{Entry, greatest}
 use Rattle.leveldb_base.specs.KeyTypes.{greatest_sequence, internal_cmp, internal_key, user_part}
 use Rattle.leveldb_base.specs.Names.{IsFileName, file_name}
 use Rattle.leveldb_base.specs.Types.{Pair}
 use Rattle.leveldb_env.specs.Env.{File, Files, bytes_of, in_folder}
 use Rattle.leveldb_mem.specs.Log.{End, bad, IsLogFile}
-use Rattle.leveldb_mem.specs.MemTable.{value_of}
 use Rattle.leveldb_mem.specs.WriteBatch.{Batch}
 use Rattle.leveldb_version.specs.Batches.{Each, IsRecordOf, AreInOrder, all_entries}
 use Rattle.leveldb_version.specs.Contents.{Contents, made, no_contents}
@@ -80,8 +80,8 @@ LastNumbersFit edits = (edit : Edit) (n : ℕ) → Contains edits edit → edit.
 
 -- the manifest says that a log of this number is replayed: its log number, and each one above it;
 -- and the previous log's where that isn't 0
-abbrev pub IsReplayed : FileSet → ℕ → Type 0
-IsReplayed set n = ((log : ℕ) × (set.log_number ≡ Some log) × (log ≤ n))
+abbrev pub LogIsReplayed : FileSet → ℕ → Type 0
+LogIsReplayed set n = ((log : ℕ) × (set.log_number ≡ Some log) × (log ≤ n))
     ⊎ ((set.previous_log ≡ Some n) × (0 < n))
 
 -- a file is this log, read to its first bad end
@@ -118,9 +118,9 @@ HasLog store files log =
 pub record HasLogs (store : List ℕ) (files : Files) (set : FileSet) (logs : List ReplayedLog)
     : Type 0 where
   pub each : (log : ReplayedLog) → Contains logs log
-      → HasLog store files log × IsReplayed set log.number × (log.number < 2 ^ 64)
+      → HasLog store files log × LogIsReplayed set log.number × (log.number < 2 ^ 64)
   -- none is left out, nor is one there under another name of its number
-  pub all : (name : List ℕ) (n : ℕ) → IsFileName name n Log → IsReplayed set n
+  pub all : (name : List ℕ) (n : ℕ) → IsFileName name n Log → LogIsReplayed set n
       → files (in_folder store name) ≢ None
       → (name ≡ file_name Log n)
       × ((log : ReplayedLog) × Contains logs log × (log.number ≡ n))
@@ -130,7 +130,7 @@ pub record HasLogs (store : List ℕ) (files : Files) (set : FileSet) (logs : Li
 
 -- A pair of a table is this entry: the key with its number and kind, and the value. The bytes
 -- beside a deletion's key are ignored.
-pub record IsEntryPair (pair : Pair) (entry : Entry) : Type 0 where
+pub record IsInternalPair (pair : Pair) (entry : Entry) : Type 0 where
   pub kind : ValueType
   pub key : pair.0 ≡ internal_key entry.key entry.sequence kind
   pub value : entry.value ≡ value_of kind pair.1
@@ -158,6 +158,14 @@ IsStoreTable Decodes cmp meaning bytes pairs =
 
 -- ---- the store
 
+-- no store is there: neither `CURRENT` nor a table nor a log
+pub record HasNoStore (store : List ℕ) (files : Files) : Type 0 where
+  pub no_current : files (current_path store) ≡ None
+  pub no_table : (name : List ℕ) (n : ℕ) → IsFileName name n Table
+      → files (in_folder store name) ≡ None
+  pub no_log : (name : List ℕ) (n : ℕ) → IsFileName name n Log
+      → files (in_folder store name) ≡ None
+
 -- `store` is the store's path, `cmp` the order of user keys, and `IsTableOf` says which bytes are a
 -- table of which pairs.
 module _ (store : List ℕ) (cmp : List ℕ → List ℕ → Ordering)
@@ -169,7 +177,7 @@ module _ (store : List ℕ) (cmp : List ℕ → List ℕ → Ordering)
     pub there : files (table_path store table.file.number) ≡ Some file
     pub pairs : List Pair
     pub read : IsTableOf (bytes_of file) pairs
-    pub each : Each IsEntryPair pairs table.entries
+    pub each : Each IsInternalPair pairs table.entries
     pub size : length (bytes_of file) ≡ table.file.size
     pub smallest : IsFirstKey table.file.smallest pairs
     pub largest : IsLastKey table.file.largest pairs
@@ -199,14 +207,6 @@ module _ (store : List ℕ) (cmp : List ℕ → List ℕ → Ordering)
     pub fit : FitTogether cmp tables logs last
     pub is : contents ≡ contents_of comparator tables logs last
 
-  -- no store is there: neither `CURRENT` nor a table nor a log
-  pub record HasNoStore (files : Files) : Type 0 where
-    pub no_current : files (current_path store) ≡ None
-    pub no_table : (name : List ℕ) (n : ℕ) → IsFileName name n Table
-        → files (in_folder store name) ≡ None
-    pub no_log : (name : List ℕ) (n : ℕ) → IsFileName name n Log
-        → files (in_folder store name) ≡ None
-
   -- the files are a store with these contents, by the edits of the manifest that `CURRENT` names
   pub record IsManaged (files : Files) (contents : Contents) : Type 0 where
     pub edits : List Edit
@@ -216,7 +216,7 @@ module _ (store : List ℕ) (cmp : List ℕ → List ℕ → Ordering)
   -- the files are a store with these contents, or none is there
   abbrev pub IsStore : Files → Contents → Type 0
   IsStore files contents =
-      (HasNoStore files × (contents ≡ no_contents)) ⊎ IsManaged files contents
+      (HasNoStore store files × (contents ≡ no_contents)) ⊎ IsManaged files contents
 
 -- ---- the same contents
 

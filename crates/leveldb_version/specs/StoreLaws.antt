@@ -7,6 +7,8 @@ use Rattle.std.specs.Prelude.{◌++◌, ◌+◌, ◌<◌, ◌^◌, ◌↔◌, �
 use Rattle.std.specs.Cmp.{IsTotalOrder}
 use Rattle.std.specs.Str.{bytes_eq}
 use Rattle.std.specs.declared.cmp.Ordering.{Ordering}
+use Rattle.leveldb_base.specs.Entries.{FindsNewest}
+use Rattle.leveldb_base.specs.Layers.{AreLayered}
 use Rattle.leveldb_base.specs.declared.types.FileType.{FileType}
 use Rattle.leveldb_base.specs.declared.types.FileType.TheVariants.{Log, Table, Descriptor, Current}
 use Rattle.leveldb_base.specs.History.{Entry, History, Item, count_of, greatest, placed}
@@ -14,16 +16,15 @@ use Rattle.leveldb_base.specs.KeyTypes.{greatest_sequence, internal_cmp}
 use Rattle.leveldb_base.specs.Names.{IsFileName}
 use Rattle.leveldb_base.specs.Types.{Pair}
 use Rattle.leveldb_env.specs.declared.env.Env.{Ghosts}
-use Rattle.leveldb_env.specs.Env.{File, Files, FilesCrashTo, SameBut, BeforeOrAfter, PrefixAppended, Within, AreBytes, bytes_of, created, extended, in_folder, renamed, synced}
+use Rattle.leveldb_env.specs.Env.{File, Files, FilesCrashTo, SameBut, BeforeOrAfter, PrefixAppended, Within, AreBytes, bytes_of, extended, in_folder, renamed, synced}
 use Rattle.leveldb_mem.specs.Log.{frame_at}
-use Rattle.leveldb_mem.specs.MemTable.{FindsNewest}
 use Rattle.leveldb_mem.specs.WriteBatch.{Batch, BatchOf}
 use Rattle.leveldb_version.specs.Contents.{Contents, Store, made, missing, no_contents}
 use Rattle.leveldb_version.specs.Holds.{IsHonest, MatchesHistory, IsSafe, Holds}
-use Rattle.leveldb_version.specs.Levels.{LiveTable, LevelOrder, IsInRange, IsBounded, table_entries, CanBeAdded, AreLayered, IsSearchedBefore, SearchFinds}
+use Rattle.leveldb_version.specs.Levels.{LiveTable, LevelOrder, IsInRange, IsBounded, table_entries, CanBeAdded, IsSearchedBefore}
 use Rattle.leveldb_version.specs.Paths.{current_path, log_path}
 use Rattle.leveldb_version.specs.Store.{HasEdits, HasNoStore, HasTable, HasTables, IsManaged, IsManagedBy, IsStore, IsStoreTable, LastNumbersFit, OneTableReading, SameContents, SameEntries}
-use Rattle.leveldb_version.specs.StoreSteps.{AddsOnce, EditKeeps, EditsRefine, HasBytes, HasNextCurrent, IsAboveLogs, IsAllKept, IsCuttable, IsCutStore, IsKept, IsManifestOpen, IsNew, IsPartOf, IsSafeFor, IsUnnamed, IsUnread, IsWritable, KeepsHistory, LeavesAlone, Risk, SameButNextFile, SwapsTables, SwitchesLog, TablesAreKept}
+use Rattle.leveldb_version.specs.StoreSteps.{AddsOnce, EditRefines, EditsRefine, AppendedAreBytes, HasNextCurrent, IsAboveLogs, IsAllKept, IsCuttable, IsCutStore, IsKept, IsManifestOpen, IsNew, IsPartOf, IsSafeFor, IsUnnamed, IsUnread, IsWritable, KeepsHistory, LeavesAlone, MakesFile, Risk, SameButNextFile, SwapsTables, SwitchesLog, TablesAreKept}
 use Rattle.leveldb_version.specs.VersionEdit.{Edit, NewFile, IsEdit}
 use Rattle.leveldb_version.specs.VersionSet.{level_file, live_after}
 
@@ -49,26 +50,34 @@ module _ (store : List ℕ) (cmp : List ℕ → List ℕ → Ordering)
   -- ---- edits
 
   -- an edit that swaps tables changes nothing that is shown
-  abbrev pub SwapsKeep : Type 0
-  SwapsKeep = OneTableReading IsTableOf → (bound : ℕ) (files : Files) (edits : List Edit)
+  abbrev pub SwapsRefine : Type 0
+  SwapsRefine = OneTableReading IsTableOf → (bound : ℕ) (files : Files) (edits : List Edit)
       (edit : Edit)
       → SwapsTables store cmp IsTableOf bound files (live_after edits)
       (live_after (edits ++ edit ∷ []))
-      → EditKeeps store cmp IsTableOf bound files edits edit
+      → EditRefines store cmp IsTableOf bound files edits edit
 
-  -- nor does one that has tables in place of logs
-  abbrev pub SwitchesKeep : Type 0
-  SwitchesKeep = OneTableReading IsTableOf → (bound : ℕ) (files : Files) (edits : List Edit)
+  -- an edit that has tables in place of logs changes nothing that is shown
+  abbrev pub SwitchesRefine : Type 0
+  SwitchesRefine = OneTableReading IsTableOf → (bound : ℕ) (files : Files) (edits : List Edit)
       (edit : Edit)
       → SwitchesLog store cmp IsTableOf bound files (live_after edits)
       (live_after (edits ++ edit ∷ []))
-      → EditKeeps store cmp IsTableOf bound files edits edit
+      → EditRefines store cmp IsTableOf bound files edits edit
 
-  -- nor do other edits that leave the same set
-  abbrev pub SnapshotsRefine : Type 0
-  SnapshotsRefine = (bound : ℕ) (files : Files) (edits others : List Edit)
+  -- Other edits that leave the same files and numbers change nothing that is shown, such as the full
+  -- edit with which a new manifest begins.
+  abbrev pub FullEditsRefine : Type 0
+  FullEditsRefine = (bound : ℕ) (files : Files) (edits others : List Edit)
       → SameButNextFile (live_after edits) (live_after others) → LastNumbersFit others
       → EditsRefine store cmp IsTableOf bound files edits others
+
+  -- edits that refine others which refine the first ones refine the first ones
+  abbrev pub EditsRefineOnwards : Type 0
+  EditsRefineOnwards = (bound : ℕ) (files : Files) (edits others last : List Edit)
+      → EditsRefine store cmp IsTableOf bound files edits others
+      → EditsRefine store cmp IsTableOf bound files others last
+      → EditsRefine store cmp IsTableOf bound files edits last
 
   -- After an edit the live tables are those that it adds, and those from before that it leaves
   -- alone.
@@ -91,12 +100,12 @@ module _ (store : List ℕ) (cmp : List ℕ → List ℕ → Ordering)
   BatchesStayWritable = (files : Files) (edits : List Edit) (contents : Contents)
       → IsManagedBy store cmp IsTableOf files edits contents → (w : IsWritable store files edits)
       → (first : ℕ) (items : List Item) (text : List ℕ) → BatchOf text first items
-      → HasBytes (extended (log_path store w.log.number)
+      → AppendedAreBytes (extended (log_path store w.log.number)
       (frame_at (length (bytes_of w.log.file)) text) files)
       → IsWritable store (extended (log_path store w.log.number)
       (frame_at (length (bytes_of w.log.file)) text) files) edits
 
-  -- and so after a sync of the last log
+  -- after a sync of the last log, a batch may be appended
   abbrev pub SyncsStayWritable : Type 0
   SyncsStayWritable = (files : Files) (edits : List Edit) (contents : Contents)
       → IsManagedBy store cmp IsTableOf files edits contents → (w : IsWritable store files edits)
@@ -106,8 +115,8 @@ module _ (store : List ℕ) (cmp : List ℕ → List ℕ → Ordering)
   abbrev pub EditsStayOpen : Type 0
   EditsStayOpen = (files : Files) (edits : List Edit) (m : IsManifestOpen store files edits)
       (text : List ℕ) → text ≢ [] → (edit : Edit) → IsEdit text edit
-      → IsManifestOpen store (extended (in_folder store m.name)
-      (frame_at (length (bytes_of m.file)) text) files) (edits ++ edit ∷ [])
+      → IsManifestOpen store (extended (in_folder store m.has_edits.name)
+      (frame_at (length (bytes_of m.has_edits.manifest)) text) files) (edits ++ edit ∷ [])
 
   -- ---- files that aren't read
 
@@ -117,10 +126,15 @@ module _ (store : List ℕ) (cmp : List ℕ → List ℕ → Ordering)
       → IsFileName name n kind → kind ≢ Current → kind ≢ Descriptor → kind ≢ Table → kind ≢ Log
       → IsUnread store files (in_folder store name)
 
-  -- what was unread stays so, whatever becomes of it
+  -- what isn't read stays unread, whatever becomes of it or of another file that isn't read
   abbrev pub UnreadStays : Type 0
-  UnreadStays = (path : List ℕ) (old new : Files) → SameBut path old new
-      → IsUnread store old path → IsUnread store new path
+  UnreadStays = (path other : List ℕ) (old new : Files) → SameBut path old new
+      → IsUnread store old path → IsUnread store old other → IsUnread store new other
+
+  -- where `CURRENT` is missing no manifest is read, whether it is there or not
+  abbrev pub ManifestsAreUnread : Type 0
+  ManifestsAreUnread = (files : Files) → files (current_path store) ≡ None → (name : List ℕ)
+      (n : ℕ) → IsFileName name n Descriptor → IsUnread store files (in_folder store name)
 
   -- what the edits of a kept manifest don't name, as a file that is obsolete
   abbrev pub ObsoleteIsUnread : Type 0
@@ -131,43 +145,60 @@ module _ (store : List ℕ) (cmp : List ℕ → List ℕ → Ordering)
       → IsUnread store files path
 
   module _ (allowed : Store → Type 0) where
+    -- whatever an honest crash leaves of the files is a store that carries a prefix of the history
+    abbrev pub IsSafeStore : ℕ → ℕ → History → Files → Type 0
+    IsSafeStore = IsSafe store (IsStore store cmp IsTableOf) allowed
+
+    -- the files are a store that holds the history
+    abbrev pub StoreHolds : Files → History → ℕ → ℕ → Option (List Entry) → Type 0
+    StoreHolds = Holds store (IsStore store cmp IsTableOf) allowed
+
     -- what is missing under the name of a table or a manifest, where a store is safe
     abbrev pub MissingIsUnread : Type 0
     MissingIsUnread = (files : Files) (name : List ℕ) (n : ℕ) (kind : FileType)
         → IsFileName name n kind → kind ≢ Current → kind ≢ Log
         → files (in_folder store name) ≡ None → files (current_path store) ≢ None
         → (bound durable : ℕ) (history : History)
-        → IsSafe store (IsStore store cmp IsTableOf) allowed bound durable history files
+        → IsSafeStore bound durable history files
         → IsUnread store files (in_folder store name)
 
     -- ---- what is safe
 
     -- where no store is, a crash leaves none
     abbrev pub NoStoreIsSafe : Type 0
-    NoStoreIsSafe = (files : Files) → HasNoStore store cmp IsTableOf files → (bound : ℕ)
+    NoStoreIsSafe = (files : Files) → HasNoStore store files → (bound : ℕ)
         (history : History) → MatchesHistory allowed bound no_contents history
-        → IsSafe store (IsStore store cmp IsTableOf) allowed bound (length history) history files
+        → IsSafeStore bound (length history) history files
 
     -- where all that is read is kept, a crash leaves all of it
     abbrev pub KeptIsSafe : Type 0
     KeptIsSafe = (files : Files) (contents : Contents)
         → IsAllKept store cmp IsTableOf files contents → (bound : ℕ) (history : History)
         → MatchesHistory allowed bound contents history
-        → IsSafe store (IsStore store cmp IsTableOf) allowed bound (length history) history files
+        → IsSafeStore bound (length history) history files
+
+    -- Where all that is read is kept, the files hold each history that the contents match, all of
+    -- it durable: no number is taken past the last one of the contents.
+    abbrev pub KeptHolds : Type 0
+    KeptHolds = (files : Files) (contents : Contents)
+        → IsAllKept store cmp IsTableOf files contents → (bound : ℕ) (history : History)
+        → MatchesHistory allowed bound contents history
+        → StoreHolds files history contents.last
+        (length history) None
 
     -- the live tables of a safe store are kept: a crash could cut them to another size
     abbrev pub SafeTablesAreKept : Type 0
-    SafeTablesAreKept = (files : Files) → HasBytes files → (bound durable : ℕ)
+    SafeTablesAreKept = (files : Files) → AppendedAreBytes files → (bound durable : ℕ)
         (history : History)
-        → IsSafe store (IsStore store cmp IsTableOf) allowed bound durable history files
+        → IsSafeStore bound durable history files
         → (contents : Contents) (m : IsManaged store cmp IsTableOf files contents)
         → TablesAreKept store files (live_after m.edits)
 
-    -- and so is its `CURRENT`: a crash could leave another byte at its end
+    -- `CURRENT` of a safe store is kept: a crash could leave another byte at its end
     abbrev pub SafeCurrentIsKept : Type 0
-    SafeCurrentIsKept = (files : Files) → HasBytes files → (bound durable : ℕ)
+    SafeCurrentIsKept = (files : Files) → AppendedAreBytes files → (bound durable : ℕ)
         (history : History)
-        → IsSafe store (IsStore store cmp IsTableOf) allowed bound durable history files
+        → IsSafeStore bound durable history files
         → IsKept (files (current_path store))
 
     -- ---- steps
@@ -177,28 +208,33 @@ module _ (store : List ℕ) (cmp : List ℕ → List ℕ → Ordering)
     KeepingHolds = (old new : Files) (history : History) (last durable : ℕ)
         (pending : Option (List Entry))
         → KeepsHistory store cmp IsTableOf allowed (last + count_of pending) old new
-        → Holds store (IsStore store cmp IsTableOf) allowed old history last durable pending
-        → Holds store (IsStore store cmp IsTableOf) allowed new history last durable pending
+        → StoreHolds old history last durable pending
+        → StoreHolds new history last durable pending
 
-    -- While a batch is appended to the last log, it is pending; after it the history has it.
+    -- While a batch is appended to the last log, it is pending; after it the history has it, and
+    -- the next one may be appended.
     pub record BatchAppends (files : Files) (edits : List Edit)
         (w : IsWritable store files edits) (history : History) (last durable : ℕ)
         (items : List Item) (text : List ℕ) : Type 0 where
       pub meanwhile : (now : Files)
           → PrefixAppended (log_path store w.log.number)
           (frame_at (length (bytes_of w.log.file)) text) files now
-          → Holds store (IsStore store cmp IsTableOf) allowed now history last durable
+          → StoreHolds now history last durable
           (Some (placed (last + 1) items))
-      pub after : Holds store (IsStore store cmp IsTableOf) allowed
+      pub after : StoreHolds
           (extended (log_path store w.log.number) (frame_at (length (bytes_of w.log.file)) text)
           files)
           (history ++ placed (last + 1) items ∷ []) (last + length items) durable None
+      pub writable : AppendedAreBytes (extended (log_path store w.log.number)
+          (frame_at (length (bytes_of w.log.file)) text) files)
+          → IsWritable store (extended (log_path store w.log.number)
+          (frame_at (length (bytes_of w.log.file)) text) files) edits
 
-    -- so a batch may be appended whose numbers fit
+    -- a batch whose numbers fit may be appended to the last log
     abbrev pub BatchesAppend : Type 0
     BatchesAppend = (files : Files) (edits : List Edit) (w : IsWritable store files edits)
         (history : History) (last durable : ℕ)
-        → Holds store (IsStore store cmp IsTableOf) allowed files history last durable None
+        → StoreHolds files history last durable None
         → (items : List Item) (text : List ℕ) → BatchOf text (last + 1) items
         → last + 1 ≤ greatest_sequence → last + length items ≤ greatest_sequence
         → BatchAppends files edits w history last durable items text
@@ -207,8 +243,8 @@ module _ (store : List ℕ) (cmp : List ℕ → List ℕ → Ordering)
     abbrev pub SyncMakesDurable : Type 0
     SyncMakesDurable = (files : Files) (edits : List Edit) (w : IsWritable store files edits)
         (history : History) (last durable : ℕ)
-        → Holds store (IsStore store cmp IsTableOf) allowed files history last durable None
-        → Holds store (IsStore store cmp IsTableOf) allowed
+        → StoreHolds files history last durable None
+        → StoreHolds
         (synced (log_path store w.log.number) files) history last (length history) None
 
     -- a sync of any file keeps each history
@@ -217,39 +253,41 @@ module _ (store : List ℕ) (cmp : List ℕ → List ℕ → Ordering)
         → ((file : File) → files name ≡ Some file → AreBytes file.since) → (bound : ℕ)
         → KeepsHistory store cmp IsTableOf allowed bound files (synced name files)
 
-    -- so does a new log whose number is above those of all logs, at each moment
+    -- a new log whose number is above those of all logs keeps each history, at each moment
     abbrev pub NewLogsKeep : Type 0
     NewLogsKeep = (files : Files) (n : ℕ) → n < 2 ^ 64 → IsAboveLogs store files n
         → files (current_path store) ≢ None → files (log_path store n) ≡ None → (bound : ℕ)
-        (now : Files) → BeforeOrAfter (created (log_path store n)) files now
+        (now : Files) → MakesFile (log_path store n) files now
         → KeepsHistory store cmp IsTableOf allowed bound files now
 
-    -- so does any change of a file that isn't read: it is made, appended to, synced or deleted
+    -- any change of a file that isn't read keeps each history: it is made, appended to, synced or
+    -- deleted
     abbrev pub UnreadKeeps : Type 0
-    UnreadKeeps = (path : List ℕ) (old new : Files) → SameBut path old new → HasBytes old
+    UnreadKeeps = (path : List ℕ) (old new : Files) → SameBut path old new → AppendedAreBytes old
         → IsUnread store old path → (bound : ℕ)
         → KeepsHistory store cmp IsTableOf allowed bound old new
 
-    -- so does an edit that is appended to the manifest, at each moment
+    -- an edit that is appended to the manifest keeps each history, at each moment
     abbrev pub EditAppendsKeep : Type 0
     EditAppendsKeep = (files : Files) (edits : List Edit) (m : IsManifestOpen store files edits)
-        → HasBytes files → (text : List ℕ) → text ≢ [] → (edit : Edit) → IsEdit text edit
-        → (bound : ℕ) → EditKeeps store cmp IsTableOf bound files edits edit → (now : Files)
-        → PrefixAppended (in_folder store m.name) (frame_at (length (bytes_of m.file)) text) files
+        → AppendedAreBytes files → (text : List ℕ) → text ≢ [] → (edit : Edit) → IsEdit text edit
+        → (bound : ℕ) → EditRefines store cmp IsTableOf bound files edits edit → (now : Files)
+        → PrefixAppended (in_folder store m.has_edits.name) (frame_at (length (bytes_of m.has_edits.manifest)) text) files
         now
         → KeepsHistory store cmp IsTableOf allowed bound files now
 
-    -- so does the rename that puts another manifest in the place of the one in use, either side
+    -- the rename that puts another manifest in the place of the one in use keeps each history, on
+    -- either side
     abbrev pub RenamesKeep : Type 0
     RenamesKeep = (files : Files) (edits others : List Edit) → HasEdits store files edits
-        → HasBytes files → (temp : List ℕ) → HasNextCurrent store files temp others → (bound : ℕ)
+        → AppendedAreBytes files → (temp : List ℕ) → HasNextCurrent store files temp others → (bound : ℕ)
         → EditsRefine store cmp IsTableOf bound files edits others → (now : Files)
         → BeforeOrAfter (renamed (in_folder store temp) (current_path store)) files now
         → KeepsHistory store cmp IsTableOf allowed bound files now
 
-    -- and so does the rename that makes the first `CURRENT`
+    -- the rename that makes the first `CURRENT` keeps each history, on either side
     abbrev pub FirstCurrentKeeps : Type 0
-    FirstCurrentKeeps = (files : Files) → HasNoStore store cmp IsTableOf files
+    FirstCurrentKeeps = (files : Files) → HasNoStore store files
         → (temp : List ℕ) (edits : List Edit) → HasNextCurrent store files temp edits
         → (n : IsNew (live_after edits)) → LastNumbersFit edits → allowed (made (Some n.comparator)) → (bound : ℕ)
         (now : Files)
@@ -313,19 +351,7 @@ StepsCompose {E = E} env store reads allowed = (least durable later : ℕ)
 
 -- ---- levels
 
--- a look-up over sources, the newer ones first, finds what all of them have
-abbrev pub SearchesFind : Type 0
-SearchesFind = (sources : List (List Entry)) (s : ℕ) (key : List ℕ) → AreLayered sources
-    → SearchFinds sources s key
-
--- what is found of a key rests on its own entries
-abbrev pub FoundByKey : Type 0
-FoundByKey = (these those : List Entry) (s : ℕ) (key : List ℕ)
-    (found : Option (Option (List ℕ)))
-    → ((entry : Entry) → entry.key ≡ key → Contains these entry ↔ Contains those entry)
-    → FindsNewest these s key found → FindsNewest those s key found
-
--- so tables may be left out whose range lacks the key
+-- tables may be left out whose range lacks the key: what the others find of it all find
 abbrev pub RangesLeaveOut : Type 0
 RangesLeaveOut = (cmp : List ℕ → List ℕ → Ordering) (all some : List LiveTable)
     → ((table : LiveTable) → Contains all table → IsBounded cmp table)

@@ -7,7 +7,7 @@ use Rattle.leveldb_base.specs.History.{Entry, History, SameView, AreUpTo, greate
 use Rattle.leveldb_base.specs.KeyTypes.{greatest_sequence}
 use Rattle.leveldb_base.specs.Names.{IsFileName, file_name}
 use Rattle.leveldb_base.specs.Types.{Pair}
-use Rattle.leveldb_env.specs.Env.{File, Files, FilesCrashTo, AreBytes, bytes_of, in_folder}
+use Rattle.leveldb_env.specs.Env.{File, Files, FilesCrashTo, AreBytes, BeforeOrAfter, bytes_of, created, emptied, in_folder}
 use Rattle.leveldb_mem.specs.Log.{End, clean, IsLogFile}
 use Rattle.leveldb_mem.specs.WriteBatch.{Batch}
 use Rattle.leveldb_version.specs.Batches.{Each, IsRecordOf, all_entries}
@@ -16,15 +16,15 @@ use Rattle.leveldb_version.specs.Current.{IsCurrentText}
 use Rattle.leveldb_version.specs.Holds.{Carries, IsHonest, IsSafe}
 use Rattle.leveldb_version.specs.Levels.{LiveTable, LevelOrder, table_entries}
 use Rattle.leveldb_version.specs.Paths.{current_path, log_path, table_path}
-use Rattle.leveldb_version.specs.Store.{HasEdits, HasLog, HasTables, IsManaged, IsManagedBy, IsManifest, IsReplayed, IsStore, ReplayedLog, SameEntries, log_entries}
+use Rattle.leveldb_version.specs.Store.{HasEdits, HasLog, HasTables, IsManaged, IsManagedBy, IsManifest, LogIsReplayed, IsStore, ReplayedLog, SameEntries, log_entries}
 use Rattle.leveldb_version.specs.VersionEdit.{Edit, LevelFile, NewFile, IsEdit}
 use Rattle.leveldb_version.specs.VersionSet.{FileSet, is_same_file, level_file, live_after}
 
 -- ---- what is kept
 
 -- what was appended to each file are bytes
-abbrev pub HasBytes : Files → Type 0
-HasBytes files = (name : List ℕ) (file : File) → files name ≡ Some file → AreBytes file.since
+abbrev pub AppendedAreBytes : Files → Type 0
+AppendedAreBytes files = (name : List ℕ) (file : File) → files name ≡ Some file → AreBytes file.since
 
 -- all bytes of what is there are kept
 abbrev pub IsKept : Option File → Type 0
@@ -39,7 +39,7 @@ TablesAreKept store files set = (file : NewFile) → set.file (level_file file) 
 -- the live tables and the logs that are replayed are kept
 pub record AreKept (store : List ℕ) (set : FileSet) (files : Files) : Type 0 where
   pub tables : TablesAreKept store files set
-  pub logs : (name : List ℕ) (n : ℕ) → IsFileName name n Log → IsReplayed set n
+  pub logs : (name : List ℕ) (n : ℕ) → IsFileName name n Log → LogIsReplayed set n
       → IsKept (files (in_folder store name))
 
 module _ (store : List ℕ) (cmp : List ℕ → List ℕ → Ordering)
@@ -65,17 +65,9 @@ module _ (store : List ℕ) (cmp : List ℕ → List ℕ → Ordering)
 
 -- `CURRENT` is kept and names a manifest, which has these edits and ends cleanly
 pub record IsManifestOpen (store : List ℕ) (files : Files) (edits : List Edit) : Type 0 where
-  pub current : File
-  pub current_there : files (current_path store) ≡ Some current
-  pub current_kept : current.since ≡ []
-  pub name : List ℕ
-  pub number : ℕ
-  pub named : IsCurrentText (bytes_of current) name number
-  pub file : File
-  pub there : files (in_folder store name) ≡ Some file
-  pub records : List (List ℕ)
-  pub clean_end : IsLogFile (bytes_of file) records clean
-  pub each : Each IsEdit records edits
+  pub has_edits : HasEdits store files edits
+  pub current_kept : has_edits.current.since ≡ []
+  pub clean_end : IsLogFile (bytes_of has_edits.manifest) has_edits.is.records clean
 
 -- The new contents show what the old ones show, from their own last number on, which isn't below
 -- the old one, and no entry of them is new.
@@ -97,28 +89,34 @@ module _ (store : List ℕ) (cmp : List ℕ → List ℕ → Ordering)
       → (now : Contents) × IsManagedBy store cmp IsTableOf left others now
       × Refines bound contents now
 
-  -- so one edit more changes nothing that is shown
-  abbrev pub EditKeeps : ℕ → Files → List Edit → Edit → Type 0
-  EditKeeps bound files edits edit = EditsRefine bound files edits (edits ++ edit ∷ [])
+  -- one more edit changes nothing that is shown, whatever an honest crash leaves of these files
+  abbrev pub EditRefines : ℕ → Files → List Edit → Edit → Type 0
+  EditRefines bound files edits edit = EditsRefine bound files edits (edits ++ edit ∷ [])
 
 -- ---- the last log
 
--- the log of this number is the last that is replayed; those before it are kept and end cleanly
+-- The log of this number is replayed, and it is the last one that may have batches: those above it
+-- are empty. All other logs that are replayed are kept.
 pub record IsLastLog (store : List ℕ) (files : Files) (set : FileSet) (number : ℕ) : Type 0 where
-  pub replayed : IsReplayed set number
-  pub greatest : (name : List ℕ) (n : ℕ) → IsFileName name n Log → IsReplayed set n
-      → files (in_folder store name) ≢ None → n ≤ number
-  pub kept_before : (name : List ℕ) (n : ℕ) → IsFileName name n Log → IsReplayed set n
+  pub replayed : LogIsReplayed set number
+  pub empty_after : (name : List ℕ) (n : ℕ) (other : File) → IsFileName name n Log
+      → LogIsReplayed set n → number < n → files (in_folder store name) ≡ Some other
+      → bytes_of other ≡ []
+  pub others_kept : (name : List ℕ) (n : ℕ) → IsFileName name n Log → LogIsReplayed set n
       → name ≢ file_name Log number → IsKept (files (in_folder store name))
-  pub clean_before : (n : ℕ) (other : File) → n < number → IsReplayed set n
-      → files (log_path store n) ≡ Some other
-      → (records : List (List ℕ)) × IsLogFile (bytes_of other) records clean
 
--- the log that is written is the last one, and ends cleanly
+-- each log below this number that is replayed ends cleanly
+abbrev pub AreCleanBefore : List ℕ → Files → FileSet → ℕ → Type 0
+AreCleanBefore store files set number = (n : ℕ) (other : File) → n < number → LogIsReplayed set n
+    → files (log_path store n) ≡ Some other
+    → (records : List (List ℕ)) × IsLogFile (bytes_of other) records clean
+
+-- the log that is written is the last one, and ends cleanly, as those before it do
 pub record IsLogOpen (store : List ℕ) (files : Files) (set : FileSet) : Type 0 where
   pub number : ℕ
   pub fits : number < 2 ^ 64
   pub last : IsLastLog store files set number
+  pub clean_before : AreCleanBefore store files set number
   pub file : File
   pub there : files (log_path store number) ≡ Some file
   pub records : List (List ℕ)
@@ -141,25 +139,30 @@ abbrev pub IsAboveLogs : List ℕ → Files → ℕ → Type 0
 IsAboveLogs store files n = (name : List ℕ) (k : ℕ) → IsFileName name k Log
     → files (in_folder store name) ≢ None → k < n
 
+-- an empty file is made under this path, whether one that was there would have been kept or not
+abbrev pub MakesFile : List ℕ → Files → Files → Type 0
+MakesFile path old new =
+    BeforeOrAfter (created path) old new ⊎ BeforeOrAfter (emptied path) old new
+
 -- ---- files that aren't read
 
 -- no live table and no log that is replayed is under this path
 pub record IsUnnamed (store : List ℕ) (set : FileSet) (path : List ℕ) : Type 0 where
   pub tables : (file : NewFile) → file.number < 2 ^ 64 → set.file (level_file file) ≡ Some file
       → bytes_eq path (table_path store file.number) ≡ false
-  pub logs : (name : List ℕ) (n : ℕ) → IsFileName name n Log → IsReplayed set n
+  pub logs : (name : List ℕ) (n : ℕ) → IsFileName name n Log → LogIsReplayed set n
       → bytes_eq path (in_folder store name) ≡ false
 
 -- Whatever an honest crash leaves of these files, what is under this path isn't read.
 pub record IsUnread (store : List ℕ) (files : Files) (path : List ℕ) : Type 0 where
   -- it isn't `CURRENT`
   pub not_current : bytes_eq path (current_path store) ≡ false
-  -- nor the manifest that `CURRENT` names
+  -- it isn't the manifest that `CURRENT` names
   pub not_manifest : (left : Files) (file : File) (name : List ℕ) (n : ℕ)
       → FilesCrashTo files left → IsHonest store files left
       → left (current_path store) ≡ Some file → IsCurrentText (bytes_of file) name n
       → bytes_eq path (in_folder store name) ≡ false
-  -- nor a live table or a log that is replayed
+  -- it is neither a live table nor a log that is replayed
   pub unnamed : (left : Files) (edits : List Edit) → FilesCrashTo files left
       → IsHonest store files left → HasEdits store left edits
       → IsUnnamed store (live_after edits) path
@@ -253,14 +256,14 @@ module _ (store : List ℕ) (cmp : List ℕ → List ℕ → Ordering)
     pub log : ℕ
     pub new_log : new.log_number ≡ Some log
     pub no_previous : (n : ℕ) → new.previous_log ≡ Some n → 0 < n → ⊥
-    pub still : (n : ℕ) → log ≤ n → IsReplayed old n
+    pub still : (n : ℕ) → log ≤ n → LogIsReplayed old n
     -- the logs below it, which are kept
     pub taken : List ReplayedLog
     pub each_taken : (one : ReplayedLog) → Contains taken one → HasLog store files one
-        × IsReplayed old one.number × (one.number < log) × (one.number < 2 ^ 64)
-    pub all_taken : (n : ℕ) → n < log → IsReplayed old n → files (log_path store n) ≢ None
+        × LogIsReplayed old one.number × (one.number < log) × (one.number < 2 ^ 64)
+    pub all_taken : (n : ℕ) → n < log → LogIsReplayed old n → files (log_path store n) ≢ None
         → (one : ReplayedLog) × Contains taken one × (one.number ≡ n)
-    pub kept : (n : ℕ) → n < log → IsReplayed old n → IsKept (files (log_path store n))
+    pub kept : (n : ℕ) → n < log → LogIsReplayed old n → IsKept (files (log_path store n))
     -- the new tables have exactly their entries, none of them above the last number
     pub wrote : SameEntries (table_entries added) (log_entries taken)
     pub comparator : new.comparator ≡ old.comparator
@@ -291,7 +294,7 @@ pub record HasNextCurrent (store : List ℕ) (files : Files) (temp : List ℕ) (
 
 -- A journal as far as it was written: what its kept bytes are read as, and what all of them are
 -- read as. There are bytes that would complete the record that may have been cut short at its end.
-pub record IsJournalFile (file : File) (kept written : List (List ℕ)) : Type 0 where
+pub record IsTornJournal (file : File) (kept written : List (List ℕ)) : Type 0 where
   pub kept_end : End
   pub kept_read : IsLogFile file.kept kept kept_end
   pub end : End
@@ -300,11 +303,11 @@ pub record IsJournalFile (file : File) (kept written : List (List ℕ)) : Type 0
   pub records : List (List ℕ)
   pub whole : IsLogFile (bytes_of file ++ missing) records clean
 
--- the new contents are the old ones, but that of the last log's batches there are the first k
-pub record IsCut (batches : List Batch) (k : ℕ) (old new : Contents) : Type 0 where
+-- The new contents are the old ones, but that of the last log's batches there are the first k.
+-- `last` is the last number that the manifest says.
+pub record IsCutTo (batches : List Batch) (k last : ℕ) (old new : Contents) : Type 0 where
   pub in_tables : List Entry
   pub before : List Batch
-  pub last : ℕ
   pub old_entries : old.entries ≡ in_tables ++ all_entries (before ++ batches)
   pub new_entries : new.entries ≡ in_tables ++ all_entries (before ++ take k batches)
   pub old_last : old.last ≡ max last (greatest (all_entries (before ++ batches)))
@@ -313,12 +316,15 @@ pub record IsCut (batches : List Batch) (k : ℕ) (old new : Contents) : Type 0 
 
 module _ (store : List ℕ) (cmp : List ℕ → List ℕ → Ordering)
     (IsTableOf : List ℕ → List Pair → Type 0) where
-  -- by these edits the files are a store of which all is kept but the last log
+  -- By these edits the files are a store of which all is kept but the last log. That log is empty,
+  -- or those before it end cleanly.
   pub record IsKeptButLog (files : Files) (edits : List Edit) (number : ℕ) : Type 0 where
     pub contents : Contents
     pub managed : IsManagedBy store cmp IsTableOf files edits contents
     pub tables : TablesAreKept store files (live_after edits)
     pub logs : IsLastLog store files (live_after edits) number
+    pub clean_before : AreCleanBefore store files (live_after edits) number
+        ⊎ ((file : File) → files (log_path store number) ≡ Some file → bytes_of file ≡ [])
 
   -- A store whose manifest and last log may both be cut by a crash. `kept_edits` and `kept_batches`
   -- say how many records of each are kept.
@@ -328,7 +334,7 @@ module _ (store : List ℕ) (cmp : List ℕ → List ℕ → Ordering)
     pub has_edits : HasEdits store files edits
     pub current_kept : has_edits.current.since ≡ []
     pub manifest_kept : List (List ℕ)
-    pub manifest : IsJournalFile has_edits.manifest manifest_kept has_edits.is.records
+    pub manifest : IsTornJournal has_edits.manifest manifest_kept has_edits.is.records
     pub kept_edits_are : kept_edits ≡ length manifest_kept
     -- the last log is a journal of these batches
     pub fits : number < 2 ^ 64
@@ -336,7 +342,7 @@ module _ (store : List ℕ) (cmp : List ℕ → List ℕ → Ordering)
     pub there : files (log_path store number) ≡ Some file
     pub log_kept : List (List ℕ)
     pub log_written : List (List ℕ)
-    pub log : IsJournalFile file log_kept log_written
+    pub log : IsTornJournal file log_kept log_written
     pub kept_batches_are : kept_batches ≡ length log_kept
     pub each_batch : Each IsRecordOf log_written batches
     -- by as many of the edits as a crash may leave the files are a store, of which all else is kept
@@ -357,7 +363,8 @@ module _ (store : List ℕ) (cmp : List ℕ → List ℕ → Ordering)
     pub has_edits : HasEdits store left (take count edits)
     pub contents : Contents
     pub managed : IsManagedBy store cmp IsTableOf left (take count edits) contents
-    pub cut : IsCut batches k (s.each count enough there).contents contents
+    pub cut : IsCutTo batches k (s.each count enough there).managed.last
+        (s.each count enough there).contents contents
 
 -- ---- steps of a call
 

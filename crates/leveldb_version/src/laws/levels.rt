@@ -1,18 +1,17 @@
-//! Laws of tables by levels: what a look-up finds, and which table may be added.
-ghost use Rattle.leveldb_version.specs.StoreLaws.{AddingKeepsOrder, FoundByKey, LevelsAreLayered, RangesLeaveOut, SearchesFind};
+//! Laws of tables by levels: in which order they are searched, which of them may be left out of a
+//! look-up, and which table may be added.
+ghost use Rattle.leveldb_version.specs.StoreLaws.{AddingKeepsOrder, LevelsAreLayered, RangesLeaveOut};
 
-/// A look-up that goes from newer entries to older ones and stops at the first that it finds has
-/// found what all of them give. Tables are in such an order by level and, in level 0, by number.
-pub fn searches_find_the_newest()
-    ensures search { SearchesFind }
-    ensures layers { LevelsAreLayered }
+/// Tables in the order of their levels and, in level 0, with the greater numbers first are layers of
+/// entries, the newer ones first. So a look-up that stops at the first of them that has an entry of
+/// the key finds what all of them have.
+pub fn levels_are_layered()
+    ensures { LevelsAreLayered }
 {}
 
-/// What is found of a key rests on its own entries, so tables may be left out whose range lacks the
-/// key.
+/// Tables whose range lacks a key may be left out of a look-up of it.
 pub fn tables_out_of_range_may_be_left_out()
-    ensures key { FoundByKey }
-    ensures ranges { RangesLeaveOut }
+    ensures { RangesLeaveOut }
 {}
 
 /// A table whose entries are newer than all others of their keys may be added to each level down to

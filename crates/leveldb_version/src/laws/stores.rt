@@ -4,9 +4,12 @@ ghost use Rattle.std.specs.Prelude.{ℕ, List};
 ghost use Rattle.std.specs.declared.cmp.Ordering.{Ordering};
 ghost use Rattle.leveldb_base.specs.Types.{Pair};
 ghost use Rattle.leveldb_env.specs.Compressor.{Codings, Decodes};
-ghost use Rattle.leveldb_version.specs.Contents.{Store};
+ghost use Rattle.leveldb_env.specs.Env.{Files};
+ghost use Rattle.leveldb_version.specs.Contents.{Contents, Store};
+ghost use Rattle.leveldb_version.specs.HoldsLaws.{CrashesHold, NarrowerHolds, WiderHolds};
 ghost use Rattle.leveldb_version.specs.Store.{IsStore};
-ghost use Rattle.leveldb_version.specs.StoreLaws.{BatchesAppend, BatchesStayWritable, CrashesCutStores, EditAppendsKeep, EditsLeaveTables, EditsStayOpen, EmptyBatchesMatch, FirstCurrentKeeps, KeepingHolds, KeptIsSafe, MissingIsUnread, NewLogsKeep, NoStoreIsSafe, NothingMatches, ObsoleteIsUnread, OneStoreReading, OneStoreTable, OthersAreUnread, PartsAreSafe, RenamesKeep, SafeCurrentIsKept, SafeTablesAreKept, SetsMatch, SnapshotsRefine, StepsCompose, SwapsKeep, SwitchesKeep, SyncMakesDurable, SyncsKeep, SyncsStayWritable, TablesAreBounded, UnreadKeeps, UnreadStays};
+ghost use Rattle.leveldb_version.specs.StoreLaws.{BatchesAppend, BatchesStayWritable, CrashesCutStores, EditAppendsKeep, EditsLeaveTables, EditsRefineOnwards, EditsStayOpen, EmptyBatchesMatch, FirstCurrentKeeps, KeepingHolds, KeptHolds, KeptIsSafe, ManifestsAreUnread, MissingIsUnread, NewLogsKeep, NoStoreIsSafe, NothingMatches, ObsoleteIsUnread, OneStoreReading, OneStoreTable, OthersAreUnread, PartsAreSafe, RenamesKeep, SafeCurrentIsKept, SafeTablesAreKept, SetsMatch, FullEditsRefine, StepsCompose, SwapsRefine, SwitchesRefine, SyncMakesDurable, SyncsKeep, SyncsStayWritable, TablesAreBounded, UnreadKeeps, UnreadStays};
+ghost use Rattle.leveldb_version.specs.StoreStays.{BytesStay, FirstCurrentIsKept, ReadByEdits, RenamesOpen, SameAfterNewLogs, SameAfterSyncs, SameAfterUnread};
 
 use leveldb_env::env::Env;
 
@@ -18,6 +21,16 @@ pub trait StoreFormat {
     ghost is_table: { List ℕ → List Pair → Type 0 };
 
     ghost allowed: { Store → Type 0 };
+}
+
+/// What the laws of any reading leave open: which contents are read of files, and two choices of the
+/// stores that may be there.
+pub trait Reading {
+    ghost reads: { Files → Contents → Type 0 };
+
+    ghost allowed: { Store → Type 0 };
+
+    ghost others: { Store → Type 0 };
 }
 
 /// Files are a store with one contents, as a set.
@@ -45,10 +58,21 @@ pub fn crashes_cut_edits_and_batches<F: StoreFormat>()
     ensures { (store : List ℕ) → CrashesCutStores store F.cmp F.is_table }
 {}
 
-/// Where all that is read is kept, or no store is there, a crash takes nothing away.
+/// Where all that is read is kept, or no store is there, a crash takes nothing away. Kept files hold
+/// each history that their contents match, up to the contents' own last number.
 pub fn what_is_kept_is_safe<F: StoreFormat>()
     ensures kept { (store : List ℕ) → KeptIsSafe store F.cmp F.is_table F.allowed }
+    ensures holds { (store : List ℕ) → KeptHolds store F.cmp F.is_table F.allowed }
     ensures none { (store : List ℕ) → NoStoreIsSafe store F.cmp F.is_table F.allowed }
+{}
+
+/// However files are read: an honest crash leaves files that hold a prefix of the history, all of it
+/// durable. What is held where some stores are allowed is held where more are, and where only those
+/// are that can be read.
+pub fn held_histories_carry_over<R: Reading>()
+    ensures crash { (store : List ℕ) → CrashesHold store R.reads R.allowed }
+    ensures wider { (store : List ℕ) → WiderHolds store R.reads R.allowed R.others }
+    ensures narrower { (store : List ℕ) → NarrowerHolds store R.reads R.allowed R.others }
 {}
 
 /// A step that keeps each history keeps what the files hold, whatever that is.
@@ -71,6 +95,27 @@ pub fn logs_and_manifests_stay_open<F: StoreFormat>()
     ensures edit { (store : List ℕ) → EditsStayOpen store F.cmp F.is_table }
 {}
 
+/// A store is read by the edits of its manifest. A sync of any file, a new log and any change of a
+/// file that isn't read leave the same store, by the same edits.
+pub fn steps_leave_the_same_store<F: StoreFormat>()
+    ensures read { (store : List ℕ) → ReadByEdits store F.cmp F.is_table }
+    ensures sync { (store : List ℕ) → SameAfterSyncs store F.cmp F.is_table }
+    ensures log { (store : List ℕ) → SameAfterNewLogs store F.cmp F.is_table }
+    ensures unread { (store : List ℕ) → SameAfterUnread store F.cmp F.is_table }
+{}
+
+/// After the rename onto `CURRENT` the new manifest is kept, and open where it ends cleanly; where it
+/// is the first one, all that is read of the new store is kept.
+pub fn renames_open_manifests<F: StoreFormat>()
+    ensures opened { (store : List ℕ) → RenamesOpen store F.cmp F.is_table }
+    ensures first { (store : List ℕ) → FirstCurrentIsKept store F.cmp F.is_table }
+{}
+
+/// After each call that changes files, what was appended to each file are bytes as before.
+pub fn files_stay_bytes()
+    ensures { BytesStay }
+{}
+
 /// A sync of any file and a new log keep each history, at every moment.
 pub fn syncs_and_new_logs_keep_histories<F: StoreFormat>()
     ensures sync { (store : List ℕ) → SyncsKeep store F.cmp F.is_table F.allowed }
@@ -83,10 +128,11 @@ pub fn unread_files_may_change<F: StoreFormat>()
     ensures stays { (store : List ℕ) → UnreadStays store F.cmp F.is_table }
 {}
 
-/// Files that aren't read: a temporary one, one that is missing yet, one that no edit names any
-/// more.
+/// Files that aren't read: a temporary one, a manifest where `CURRENT` is missing, a file that is
+/// missing itself, one that no edit names any more.
 pub fn which_files_are_unread<F: StoreFormat>()
     ensures others { (store : List ℕ) → OthersAreUnread store F.cmp F.is_table }
+    ensures manifests { (store : List ℕ) → ManifestsAreUnread store F.cmp F.is_table }
     ensures missing { (store : List ℕ) → MissingIsUnread store F.cmp F.is_table F.allowed }
     ensures obsolete { (store : List ℕ) → ObsoleteIsUnread store F.cmp F.is_table }
 {}
@@ -98,11 +144,13 @@ pub fn edits_keep_histories<F: StoreFormat>()
 {}
 
 /// Which edits change nothing that is shown: one that swaps tables for others, one that has tables
-/// in place of logs, and a snapshot in place of all before it.
+/// in place of logs, and a snapshot in place of all before it. What refines other edits refines all
+/// that those refine.
 pub fn edits_that_change_nothing_shown<F: StoreFormat>()
-    ensures swap { (store : List ℕ) → SwapsKeep store F.cmp F.is_table }
-    ensures switch { (store : List ℕ) → SwitchesKeep store F.cmp F.is_table }
-    ensures snapshot { (store : List ℕ) → SnapshotsRefine store F.cmp F.is_table }
+    ensures swap { (store : List ℕ) → SwapsRefine store F.cmp F.is_table }
+    ensures switch { (store : List ℕ) → SwitchesRefine store F.cmp F.is_table }
+    ensures snapshot { (store : List ℕ) → FullEditsRefine store F.cmp F.is_table }
+    ensures onwards { (store : List ℕ) → EditsRefineOnwards store F.cmp F.is_table }
     ensures tables { (store : List ℕ) → EditsLeaveTables store F.cmp F.is_table }
 {}
 
