@@ -23,7 +23,7 @@ use Rattle.leveldb_version.specs.Contents.{Contents, Store, made, missing, no_co
 use Rattle.leveldb_version.specs.Holds.{IsHonest, MatchesHistory, IsSafe, Holds}
 use Rattle.leveldb_version.specs.Levels.{LiveTable, LevelOrder, IsInRange, IsBounded, table_entries, CanBeAdded, IsSearchedBefore}
 use Rattle.leveldb_version.specs.Paths.{current_path, log_path}
-use Rattle.leveldb_version.specs.Store.{HasEdits, HasNoStore, HasTable, HasTables, IsManaged, IsManagedBy, IsStore, IsStoreTable, LastNumbersFit, OneTableReading, SameContents, SameEntries}
+use Rattle.leveldb_version.specs.Store.{HasEdits, HasNoStore, HasTable, HasTables, IsManaged, IsStore, IsStoreTable, LastNumbersFit, OneTableReading, SameContents, SameEntries}
 use Rattle.leveldb_version.specs.StoreSteps.{AddsOnce, EditRefines, EditsRefine, AppendedAreBytes, HasNextCurrent, IsAboveLogs, IsAllKept, IsCuttable, IsCutStore, IsKept, IsManifestOpen, IsNew, IsPartOf, IsSafeFor, IsUnnamed, IsUnread, IsWritable, KeepsHistory, LeavesAlone, MakesFile, Risk, SameButNextFile, SwapsTables, SwitchesLog, TablesAreKept}
 use Rattle.leveldb_version.specs.VersionEdit.{Edit, NewFile, IsEdit}
 use Rattle.leveldb_version.specs.VersionSet.{level_file, live_after}
@@ -97,8 +97,7 @@ module _ (store : List ℕ) (cmp : List ℕ → List ℕ → Ordering)
 
   -- after a batch is appended, another may be
   abbrev pub BatchesStayWritable : Type 0
-  BatchesStayWritable = (files : Files) (edits : List Edit) (contents : Contents)
-      → IsManagedBy store cmp IsTableOf files edits contents → (w : IsWritable store files edits)
+  BatchesStayWritable = (files : Files) (edits : List Edit) (w : IsWritable store files edits)
       → (first : ℕ) (items : List Item) (text : List ℕ) → BatchOf text first items
       → AppendedAreBytes (extended (log_path store w.log.number)
       (frame_at (length (bytes_of w.log.file)) text) files)
@@ -107,8 +106,7 @@ module _ (store : List ℕ) (cmp : List ℕ → List ℕ → Ordering)
 
   -- after a sync of the last log, a batch may be appended
   abbrev pub SyncsStayWritable : Type 0
-  SyncsStayWritable = (files : Files) (edits : List Edit) (contents : Contents)
-      → IsManagedBy store cmp IsTableOf files edits contents → (w : IsWritable store files edits)
+  SyncsStayWritable = (files : Files) (edits : List Edit) (w : IsWritable store files edits)
       → IsWritable store (synced (log_path store w.log.number) files) edits
 
   -- after an edit is appended, the manifest has it, and another may be
