@@ -1,5 +1,5 @@
--- A store stays open for writing: after a batch is appended to the last log, and after a sync of it;
--- and its manifest is open after an edit is appended.
+-- A store stays open for writing: after a batch is appended to the last log, and after a sync of
+-- it; and its manifest is open after an edit is appended.
 use Rattle.std.specs.Prelude.{◌≢◌}
 use Rattle.std.proofs.Common.{◌≡◌, ◌<◌, ◌^◌, inr, ℕ, Bool, List, [], ◌∷◌, ◌++◌, length, true, false, refl, sym, ◌∙◌, subst, arith, append-nil, append_assoc, Some}
 use Rattle.std.specs.Str.{bytes_eq}

@@ -65,8 +65,8 @@ module _ (store : List ℕ) (cmp : List ℕ → List ℕ → Ordering)
       (live_after (edits ++ edit ∷ []))
       → EditRefines store cmp IsTableOf bound files edits edit
 
-  -- Other edits that leave the same files and numbers change nothing that is shown, such as the full
-  -- edit with which a new manifest begins.
+  -- Other edits that leave the same files and numbers change nothing that is shown, such as the
+  -- full edit with which a new manifest begins.
   abbrev pub FullEditsRefine : Type 0
   FullEditsRefine = (bound : ℕ) (files : Files) (edits others : List Edit)
       → SameButNextFile (live_after edits) (live_after others) → LastNumbersFit others
@@ -270,16 +270,16 @@ module _ (store : List ℕ) (cmp : List ℕ → List ℕ → Ordering)
     EditAppendsKeep = (files : Files) (edits : List Edit) (m : IsManifestOpen store files edits)
         → AppendedAreBytes files → (text : List ℕ) → text ≢ [] → (edit : Edit) → IsEdit text edit
         → (bound : ℕ) → EditRefines store cmp IsTableOf bound files edits edit → (now : Files)
-        → PrefixAppended (in_folder store m.has_edits.name) (frame_at (length (bytes_of m.has_edits.manifest)) text) files
-        now
+        → PrefixAppended (in_folder store m.has_edits.name)
+        (frame_at (length (bytes_of m.has_edits.manifest)) text) files now
         → KeepsHistory store cmp IsTableOf allowed bound files now
 
     -- the rename that puts another manifest in the place of the one in use keeps each history, on
     -- either side
     abbrev pub RenamesKeep : Type 0
     RenamesKeep = (files : Files) (edits others : List Edit) → HasEdits store files edits
-        → AppendedAreBytes files → (temp : List ℕ) → HasNextCurrent store files temp others → (bound : ℕ)
-        → EditsRefine store cmp IsTableOf bound files edits others → (now : Files)
+        → AppendedAreBytes files → (temp : List ℕ) → HasNextCurrent store files temp others
+        → (bound : ℕ) → EditsRefine store cmp IsTableOf bound files edits others → (now : Files)
         → BeforeOrAfter (renamed (in_folder store temp) (current_path store)) files now
         → KeepsHistory store cmp IsTableOf allowed bound files now
 
@@ -287,8 +287,8 @@ module _ (store : List ℕ) (cmp : List ℕ → List ℕ → Ordering)
     abbrev pub FirstCurrentKeeps : Type 0
     FirstCurrentKeeps = (files : Files) → HasNoStore store files
         → (temp : List ℕ) (edits : List Edit) → HasNextCurrent store files temp edits
-        → (n : IsNew (live_after edits)) → LastNumbersFit edits → allowed (made (Some n.comparator)) → (bound : ℕ)
-        (now : Files)
+        → (n : IsNew (live_after edits)) → LastNumbersFit edits
+        → allowed (made (Some n.comparator)) → (bound : ℕ) (now : Files)
         → BeforeOrAfter (renamed (in_folder store temp) (current_path store)) files now
         → KeepsHistory store cmp IsTableOf allowed bound files now
 

@@ -24,7 +24,8 @@ use Rattle.leveldb_version.specs.VersionSet.{FileSet, is_same_file, level_file, 
 
 -- what was appended to each file are bytes
 abbrev pub AppendedAreBytes : Files → Type 0
-AppendedAreBytes files = (name : List ℕ) (file : File) → files name ≡ Some file → AreBytes file.since
+AppendedAreBytes files =
+    (name : List ℕ) (file : File) → files name ≡ Some file → AreBytes file.since
 
 -- all bytes of what is there are kept
 abbrev pub IsKept : Option File → Type 0
