@@ -22,7 +22,7 @@ use Rattle.leveldb_version.specs.Batches.{Each, IsRecordOf}
 use Rattle.leveldb_version.specs.Contents.{Contents, Store}
 use Rattle.leveldb_version.specs.Holds.{Carries, Holds, IsSafe, MatchesHistory}
 use Rattle.leveldb_version.specs.Paths.{current_path, log_path}
-use Rattle.leveldb_version.specs.Store.{HasEdits, IsManaged, IsManagedBy, LogIsReplayed, IsStore, ReplayedLog}
+use Rattle.leveldb_version.specs.Store.{HasEdits, IsManaged, IsManagedBy, IsStore, ReplayedLog}
 use Rattle.leveldb_version.specs.StoreSteps.{IsLogOpen, TablesAreKept}
 use Rattle.leveldb_version.specs.VersionSet.{live_after}
 use Rattle.std.proofs.Common.{◌++◌, ◌+◌, ◌<◌, ◌∙◌, ◌∷◌, ◌≡◌, ◌≤◌, ◌⊎◌, List, None, Some, [], ap, append-nil, append_assoc, arith, false, inl, inr, length, length-append, refl, subst, sym, take, ℕ, ⊎_elim}

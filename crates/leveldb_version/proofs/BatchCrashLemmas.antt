@@ -26,7 +26,7 @@ use Rattle.leveldb_version.specs.Paths.{current_path, log_path, table_path}
 use Rattle.leveldb_version.specs.Store.{HasEdits, IsManaged, IsManagedBy, LogIsReplayed, IsStore, ReplayedLog}
 use Rattle.leveldb_version.specs.StoreSteps.{IsLogOpen, TablesAreKept}
 use Rattle.leveldb_version.specs.VersionSet.{live_after}
-use Rattle.std.proofs.Common.{◌++◌, ◌+◌, ◌<◌, ◌∙◌, ◌∷◌, ◌≡◌, ◌≤◌, ◌⊎◌, Bool, List, None, Some, [], ap, append-nil, append_assoc, arith, drop, false, inl, inr, length, length-append, refl, subst, sym, take, true, ℕ, ⊎_elim}
+use Rattle.std.proofs.Common.{◌++◌, ◌+◌, ◌<◌, ◌∙◌, ◌∷◌, ◌≡◌, ◌≤◌, ◌⊎◌, Bool, List, Some, [], ap, append-nil, append_assoc, arith, drop, false, inl, inr, length, length-append, refl, subst, sym, take, true, ℕ, ⊎_elim}
 use Rattle.std.proofs.lemmas.Bool.{cases_lt}
 use Rattle.std.proofs.lemmas.List.{length-take, take-append-drop, take-append-le, take_all}
 use Rattle.std.specs.Cmp.Lexicographic.{bytes_decides}
@@ -261,7 +261,7 @@ module _ (store : List ℕ) (cmp : List ℕ → List ℕ → Ordering)
             tables =
                 λ file fits live.
                 kept_left (files (table_path store file.number))
-                (before all_there (table_path store file.number)) (tables_kept file live)
+                (before all_there (table_path store file.number)) (tables_kept file fits live)
                 (before_leaves all_there (table_path store file.number));
             logs = logs;
           }) m.managed

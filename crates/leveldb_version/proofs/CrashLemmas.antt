@@ -27,7 +27,7 @@ use Rattle.leveldb_version.specs.Store.{IsManagedBy, LogIsReplayed, ReplayedLog}
 use Rattle.leveldb_version.specs.StoreSteps.{AreCleanBefore, IsCutTo, IsCutStore, IsCuttable, IsTornJournal, IsKeptButLog}
 use Rattle.leveldb_version.specs.VersionEdit.{Edit, IsEdit}
 use Rattle.leveldb_version.specs.VersionSet.{live_after}
-use Rattle.std.proofs.Common.{◌++◌, ◌<◌, ◌^◌, ◌∙◌, ◌∷◌, ◌≡◌, ◌≤◌, ◌⊎◌, Bool, List, None, Option, Some, [], ap, append-nil, arith, false, inl, inr, length, length-append, refl, subst, suc, sym, take, true, zero, ℕ, ⊎_elim}
+use Rattle.std.proofs.Common.{◌++◌, ◌<◌, ◌^◌, ◌∙◌, ◌∷◌, ◌≡◌, ◌≤◌, ◌⊎◌, Bool, List, Option, Some, [], ap, append-nil, arith, false, inl, inr, length, length-append, refl, subst, suc, sym, take, true, zero, ℕ, ⊎_elim}
 use Rattle.std.proofs.lemmas.List.{nil_from_length}
 use Rattle.std.proofs.lemmas.List.Elements.{Contains-append_cases, Contains-append_left, Contains-append_right}
 use Rattle.std.specs.Cmp.Lexicographic.{bytes_decides}
@@ -171,7 +171,7 @@ module _ (store : List ℕ) (cmp : List ℕ → List ℕ → Ordering)
           (file_name Table file'.number) number file'.number Log Table named
           (made_name Table file'.number file_fits) (λ e. cc)))
           ∙ kept_left (files (table_path store file'.number)) (left (table_path store file'.number))
-          (s.tables file' live) (leaves (table_path store file'.number));
+          (s.tables file' file_fits live) (leaves (table_path store file'.number));
       logs = other_bytes;
     }) s.managed
 

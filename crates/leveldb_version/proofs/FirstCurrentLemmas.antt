@@ -168,7 +168,7 @@ module _ (store : List ℕ) (cmp : List ℕ → List ℕ → Ordering)
       current = h.text_kept;
       manifest = h.manifest_kept;
       kept = record {
-        tables = λ file live. absurd (n.no_table file live);
+        tables = λ file file_fits live. absurd (n.no_table file live);
         logs = λ other k is_log replayed. subst IsKept (sym (no_log other k is_log)) tt;
       };
     }

@@ -3,8 +3,8 @@ use Rattle.leveldb_base.specs.History.{Entry, History, IsPrefixAtLeast, count_of
 use Rattle.leveldb_env.proofs.EnvLemmas.{FileCrashesTo-kept}
 use Rattle.leveldb_env.specs.Env.{File, FileCrashesTo, Files, FilesCrashTo}
 use Rattle.leveldb_version.specs.Contents.{Contents, Store}
-use Rattle.leveldb_version.specs.Holds.{Carries, CarriesPrefix, Holds, HoldsPrefix, IsHonest, IsSafe, MatchesHistory, ReadsAre}
-use Rattle.std.proofs.Common.{◌++◌, ◌+◌, ◌∙◌, ◌≡◌, ◌≤◌, List, None, Option, Some, arith, inl, inr, length, subst, sym, ℕ, ⊎_elim}
+use Rattle.leveldb_version.specs.Holds.{Carries, Holds, HoldsPrefix, IsHonest, IsSafe, MatchesHistory, ReadsAre}
+use Rattle.std.proofs.Common.{◌++◌, ◌+◌, ◌∙◌, ◌≡◌, List, None, Option, Some, arith, inl, inr, length, subst, sym, ℕ, ⊎_elim}
 use Rattle.std.proofs.lemmas.List.{take_all}
 
 -- a crash of what a crash left leaves the same

@@ -32,7 +32,7 @@ same_left store set files left kept leaves = record {
   tables =
       λ file fits live.
       kept_left (files (table_path store file.number)) (left (table_path store file.number))
-      (kept.tables file live) (leaves (table_path store file.number));
+      (kept.tables file fits live) (leaves (table_path store file.number));
   logs =
       λ name n is replayed.
       kept_left (files (in_folder store name)) (left (in_folder store name))

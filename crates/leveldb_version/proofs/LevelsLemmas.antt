@@ -1,5 +1,5 @@
 -- Tables by levels: which may be left out of a look-up, which are older, and which may be added.
-use Rattle.leveldb_base.proofs.HistoryLemmas.{in_cases, in_front, in_none, in_rest}
+use Rattle.leveldb_base.proofs.HistoryLemmas.{in_cases, in_front, in_rest}
 use Rattle.leveldb_base.proofs.LayersLemmas.{found_by_key}
 use Rattle.leveldb_base.specs.Entries.{FindsNewest}
 use Rattle.leveldb_base.specs.History.{Entry}
@@ -8,14 +8,13 @@ use Rattle.leveldb_base.specs.Layers.{AreLayered, IsOlder}
 use Rattle.leveldb_version.proofs.OneStoreLemmas.{flat_in, in_flat}
 use Rattle.leveldb_version.specs.Levels.{AreDisjoint, CanBeAdded, IsBounded, IsInRange, IsSearchedBefore, LevelOrder, LiveTable, table_entries}
 use Rattle.leveldb_version.specs.VersionEdit.{NewFile}
-use Rattle.std.proofs.Common.{◌++◌, ◌<◌, ◌∙◌, ◌∷◌, ◌≡◌, ◌≢◌, Bool, List, None, Option, Some, [], add-one, ap, arith, false, inl, inr, length, map, refl, subst, suc, sym, take, true, zero, ℕ, ⊎_elim}
+use Rattle.std.proofs.Common.{◌<◌, ◌∙◌, ◌∷◌, ◌≡◌, ◌≢◌, Bool, List, Option, [], ap, arith, false, inl, inr, map, refl, subst, suc, sym, true, zero, ℕ}
 use Rattle.std.proofs.lemmas.Cmp.{upto}
-use Rattle.std.proofs.lemmas.List.{take_all}
-use Rattle.std.proofs.lemmas.List.Elements.{All-map, Contains-append_cases, Contains-append_left, Contains-append_right, Contains-get_or}
+use Rattle.std.proofs.lemmas.List.Elements.{All-map, Contains-get_or}
 use Rattle.std.proofs.lemmas.List.Kept.{AllPairs-cons}
 use Rattle.std.specs.Cmp.{IsTotalOrder}
 use Rattle.std.specs.Ordering.{is_gt, is_lt, ordering_reverse}
-use Rattle.std.specs.Prelude.{◌↔◌, ◌⊎◌, AllPairs, Contains, slice_get, slice_index_or}
+use Rattle.std.specs.Prelude.{◌↔◌, ◌⊎◌, AllPairs, Contains, slice_index_or}
 use Rattle.std.specs.declared.cmp.Ordering.{Ordering}
 use Rattle.std.specs.declared.cmp.Ordering.TheVariants.{Equal, Greater, Less}
 

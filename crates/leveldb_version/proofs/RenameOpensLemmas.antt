@@ -8,16 +8,14 @@ use Rattle.leveldb_env.proofs.EnvLemmas.{at_other, at_same, renamed-there}
 use Rattle.leveldb_env.specs.Env.{Files, bytes_of, deleted, in_folder, renamed, with_file}
 use Rattle.leveldb_mem.specs.Log.{IsLogFile, clean}
 use Rattle.leveldb_version.proofs.ManagedLemmas.{SameFor, kinds_apart, managed_on, same_bytes}
-use Rattle.leveldb_version.specs.Contents.{Contents}
 use Rattle.leveldb_version.specs.Paths.{current_path, table_path}
 use Rattle.leveldb_version.specs.Store.{HasEdits, IsManagedBy}
 use Rattle.leveldb_version.specs.StoreStays.{HasKeptEdits, OpensManifest}
 use Rattle.leveldb_version.specs.StoreSteps.{HasNextCurrent, IsManifestOpen}
 use Rattle.leveldb_version.specs.VersionEdit.{Edit}
 use Rattle.leveldb_version.specs.VersionSet.{FileSet, live_after}
-use Rattle.std.proofs.Common.{◌∙◌, ◌≡◌, List, None, Some, [], false, refl, subst, sym, ℕ}
+use Rattle.std.proofs.Common.{◌∙◌, ◌≡◌, List, None, Some, refl, subst, sym, ℕ}
 use Rattle.std.specs.Prelude.{◌≢◌}
-use Rattle.std.specs.Str.{bytes_eq}
 use Rattle.std.specs.declared.cmp.Ordering.{Ordering}
 
 module _ (store : List ℕ) (cmp : List ℕ → List ℕ → Ordering)

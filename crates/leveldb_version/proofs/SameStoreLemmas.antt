@@ -4,24 +4,22 @@ use Rattle.leveldb_base.specs.Names.{file_name}
 use Rattle.leveldb_base.specs.Types.{Pair}
 use Rattle.leveldb_base.specs.declared.types.FileType.TheVariants.{Current, Descriptor, Log}
 use Rattle.leveldb_env.proofs.EnvLemmas.{at_other}
-use Rattle.leveldb_env.specs.Env.{Files, SameBut, bytes_of, created, emptied, file_kept, in_folder, kept_file, or_empty, synced, with_file}
+use Rattle.leveldb_env.specs.Env.{Files, SameBut, bytes_of, file_kept, in_folder, kept_file, or_empty, synced, with_file}
 use Rattle.leveldb_version.proofs.HonestCrashLemmas.{all_honest, all_kept, all_leaves, all_same}
 use Rattle.leveldb_version.proofs.ManagedLemmas.{kinds_apart, managed_on}
 use Rattle.leveldb_version.proofs.ManifestLemmas.{edits_on, edits_same}
 use Rattle.leveldb_version.proofs.NewLogLemmas.{with_new_log}
 use Rattle.leveldb_version.proofs.StaysLemmas.{synced_same}
 use Rattle.leveldb_version.proofs.UnreadLemmas.{unnamed_on}
-use Rattle.leveldb_version.specs.Contents.{Contents}
 use Rattle.leveldb_version.specs.Current.{IsCurrentText}
-use Rattle.leveldb_version.specs.Paths.{current_path, log_path, table_path}
-use Rattle.leveldb_version.specs.Store.{HasEdits, IsManagedBy}
+use Rattle.leveldb_version.specs.Paths.{log_path, table_path}
+use Rattle.leveldb_version.specs.Store.{HasEdits}
 use Rattle.leveldb_version.specs.StoreStays.{IsSameStore}
 use Rattle.leveldb_version.specs.StoreSteps.{AppendedAreBytes, IsAboveLogs, IsUnread, MakesFile}
 use Rattle.leveldb_version.specs.VersionEdit.{Edit}
 use Rattle.leveldb_version.specs.VersionSet.{live_after}
 use Rattle.std.proofs.Common.{◌<◌, ◌^◌, ◌∙◌, ◌≡◌, ◌⊎◌, List, None, Some, [], ap, append-nil, inl, inr, refl, subst, sym, ℕ}
 use Rattle.std.specs.Option.{option_map}
-use Rattle.std.specs.Str.{bytes_eq}
 use Rattle.std.specs.declared.cmp.Ordering.{Ordering}
 
 -- ---- a file that is made

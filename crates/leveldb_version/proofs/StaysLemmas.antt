@@ -248,8 +248,5 @@ module _ (store : List ℕ) (cmp : List ℕ → List ℕ → Ordering)
       → IsSafe store reads allowed bound durable history files
       → (m : IsManaged store cmp IsTableOf files contents)
       → TablesAreKept store files (live_after m.edits)
-  tables_kept files bytes allowed bound durable history contents safe m file live =
-      let t = m.managed.has_tables.all file live in
-      let fits : file.number < 2 ^ 64 =
-      subst (λ (x : NewFile). x.number < 2 ^ 64) t.2 (m.managed.has_tables.each t.0 t.1).2 in
+  tables_kept files bytes allowed bound durable history contents safe m file fits live =
       safe_tables_kept files bytes allowed bound durable history contents safe m file fits live

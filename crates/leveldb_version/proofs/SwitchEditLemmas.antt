@@ -55,7 +55,7 @@ module _ (store : List ℕ) (cmp : List ℕ → List ℕ → Ordering)
       tables_on store cmp IsTableOf set files left tables
       (λ file fits live.
       kept_left (files (table_path store file.number)) (left (table_path store file.number))
-      (kept file live) (leaves (table_path store file.number))) has
+      (kept file fits live) (leaves (table_path store file.number))) has
 
   module _ (bound : ℕ) (files : Files) (edits : List Edit) (edit : Edit)
       (s :

@@ -66,7 +66,8 @@ module _ (store : List ℕ) (cmp : List ℕ → List ℕ → Ordering)
     current = current_kept;
     manifest = manifest_kept;
     kept = record {
-      tables = λ file live. kept_on (table_path store file.number) (tables file live);
+      tables = λ file file_fits live.
+          kept_on (table_path store file.number) (tables file file_fits live);
       logs = λ name n is replayed. log_kept name n is replayed;
     };
   }

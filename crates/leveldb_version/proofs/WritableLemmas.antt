@@ -1,7 +1,7 @@
--- A store stays open for writing: after a batch is appended to the last log, and after a sync of it;
--- and its manifest is open after an edit is appended.
+-- A store stays open for writing: after a batch is appended to the last log, and after a sync of
+-- it; and its manifest is open after an edit is appended.
 use Rattle.std.specs.Prelude.{◌≢◌}
-use Rattle.std.proofs.Common.{◌≡◌, ◌<◌, ◌^◌, inr, ℕ, Bool, List, [], ◌∷◌, ◌++◌, length, true, false, refl, sym, ◌∙◌, ap, subst, arith, append-nil, append_assoc, Some, None}
+use Rattle.std.proofs.Common.{◌≡◌, ◌<◌, ◌^◌, inr, ℕ, Bool, List, [], ◌∷◌, ◌++◌, length, true, false, refl, sym, ◌∙◌, subst, arith, append-nil, append_assoc, Some}
 use Rattle.std.specs.Str.{bytes_eq}
 use Rattle.std.specs.Cmp.Lexicographic.{bytes_decides}
 use Rattle.std.specs.declared.cmp.Ordering.{Ordering}
@@ -19,19 +19,14 @@ use Rattle.leveldb_version.proofs.BatchMatchesLemmas.{batch_some}
 use Rattle.leveldb_version.proofs.BatchesLemmas.{each_more}
 use Rattle.leveldb_version.proofs.ManagedLemmas.{kinds_apart, numbers_apart, same_name}
 use Rattle.leveldb_version.specs.Batches.{Each, IsRecordOf}
-use Rattle.leveldb_version.specs.Contents.{Contents}
 use Rattle.leveldb_version.specs.Paths.{current_path, log_path, table_path}
-use Rattle.leveldb_version.specs.Store.{IsManagedBy}
 use Rattle.leveldb_version.specs.StoreSteps.{AppendedAreBytes, IsKept, IsManifestOpen, IsWritable}
 use Rattle.leveldb_version.specs.VersionEdit.{Edit, IsEdit, NewFile}
-use Rattle.leveldb_version.specs.VersionSet.{level_file, live_after}
 
 module _ (store : List ℕ) (cmp : List ℕ → List ℕ → Ordering)
     (IsTableOf : List ℕ → List Pair → Type 0) where
   -- the last log has another file, and no other file changes
-  module _ (files now : Files) (edits : List Edit) (contents : Contents)
-      (managed : IsManagedBy store cmp IsTableOf files edits contents)
-      (w : IsWritable store files edits) (same : SameBut (log_path store w.log.number) files now)
+  module _ (files now : Files) (edits : List Edit) (w : IsWritable store files edits) (same : SameBut (log_path store w.log.number) files now)
       (file : File) (there : now (log_path store w.log.number) ≡ Some file)
       (bytes : AreBytes file.since) (records : List (List ℕ))
       (clean_end : IsLogFile (bytes_of file) records clean) (batches : List Batch)
@@ -42,12 +37,9 @@ module _ (store : List ℕ) (cmp : List ℕ → List ℕ → Ordering)
     named : IsFileName (file_name Log w.log.number) w.log.number Log
     named = made_name Log w.log.number w.log.fits
 
-    table_apart : (one : NewFile) → (live_after edits).file (level_file one) ≡ Some one
+    table_apart : (one : NewFile) → one.number < 2 ^ 64
         → bytes_eq path (table_path store one.number) ≡ false
-    table_apart one live =
-        let t = managed.has_tables.all one live in
-        let fits : one.number < 2 ^ 64 = subst (λ (x : NewFile). x.number < 2 ^ 64) t.2
-        (managed.has_tables.each t.0 t.1).2 in
+    table_apart one fits =
         kinds_apart store (file_name Log w.log.number) (file_name Table one.number) w.log.number
         one.number Log Table named (made_name Table one.number fits) (λ e. cc)
 
@@ -80,8 +72,9 @@ module _ (store : List ℕ) (cmp : List ℕ → List ℕ → Ordering)
       };
       current = w.current;
       manifest = w.manifest;
-      tables = λ one live. subst IsKept
-          (sym (same (table_path store one.number) (table_apart one live))) (w.tables one live);
+      tables = λ one fits live. subst IsKept
+          (sym (same (table_path store one.number) (table_apart one fits)))
+          (w.tables one fits live);
       log = record {
         number = w.log.number;
         fits = w.log.fits;
@@ -112,15 +105,14 @@ module _ (store : List ℕ) (cmp : List ℕ → List ℕ → Ordering)
       bytes = bytes;
     }
 
-  pub append_stays_writable : (files : Files) (edits : List Edit) (contents : Contents)
-      → IsManagedBy store cmp IsTableOf files edits contents → (w : IsWritable store files edits)
+  pub append_stays_writable : (files : Files) (edits : List Edit) (w : IsWritable store files edits)
       → (first : ℕ) (items : List Item) (text : List ℕ) → BatchOf text first items
       → AppendedAreBytes (extended (log_path store w.log.number)
       (frame_at (length (bytes_of w.log.file)) text) files)
       → IsWritable store (extended (log_path store w.log.number)
       (frame_at (length (bytes_of w.log.file)) text) files) edits
-  append_stays_writable files edits contents managed w first items text is bytes =
-      writable_with files now edits contents managed w
+  append_stays_writable files edits w first items text is bytes =
+      writable_with files now edits w
       (SameBut-appending path frame files now (appended path frame files))
       (longer_file frame w.log.file) there (bytes path (longer_file frame w.log.file) there)
       (w.log.records ++ text ∷ []) read (w.log.batches ++ batch_of first items ∷ [])
@@ -144,11 +136,10 @@ module _ (store : List ℕ) (cmp : List ℕ → List ℕ → Ordering)
           (log_laws.more (bytes_of w.log.file) w.log.records text
           (batch_some text first items is) w.log.clean_end)
 
-  pub sync_stays_writable : (files : Files) (edits : List Edit) (contents : Contents)
-      → IsManagedBy store cmp IsTableOf files edits contents → (w : IsWritable store files edits)
+  pub sync_stays_writable : (files : Files) (edits : List Edit) (w : IsWritable store files edits)
       → IsWritable store (synced (log_path store w.log.number) files) edits
-  sync_stays_writable files edits contents managed w =
-      writable_with files (synced path files) edits contents managed w
+  sync_stays_writable files edits w =
+      writable_with files (synced path files) edits w
       (SameBut-synced path files (synced path files) (inr refl)) (file_kept w.log.file)
       (synced-same path files w.log.file w.log.there) (λ i. omega arith) w.log.records
       (subst (λ b. IsLogFile b w.log.records clean) (sym (append-nil (bytes_of w.log.file)))

@@ -68,7 +68,7 @@ module _ (store : List ℕ) (cmp : List ℕ → List ℕ → Ordering)
       after = whole_holds store cmp IsTableOf files contents managed w.current w.manifest w.tables
           w.log w.bytes allowed last durable history matches safe durable_there items text is_batch
           first_fits all_fit;
-      writable = append_stays_writable store cmp IsTableOf files edits contents managed.managed w
+      writable = append_stays_writable store cmp IsTableOf files edits w
           (last + 1) items text is_batch;
     }
 

@@ -23,7 +23,7 @@ use Rattle.leveldb_version.specs.Contents.{Contents, Store, made, missing, no_co
 use Rattle.leveldb_version.specs.Holds.{IsHonest, MatchesHistory, IsSafe, Holds}
 use Rattle.leveldb_version.specs.Levels.{LiveTable, LevelOrder, IsInRange, IsBounded, table_entries, CanBeAdded, IsSearchedBefore}
 use Rattle.leveldb_version.specs.Paths.{current_path, log_path}
-use Rattle.leveldb_version.specs.Store.{HasEdits, HasNoStore, HasTable, HasTables, IsManaged, IsManagedBy, IsStore, IsStoreTable, LastNumbersFit, OneTableReading, SameContents, SameEntries}
+use Rattle.leveldb_version.specs.Store.{HasEdits, HasNoStore, HasTable, HasTables, IsManaged, IsStore, IsStoreTable, LastNumbersFit, OneTableReading, SameContents, SameEntries}
 use Rattle.leveldb_version.specs.StoreSteps.{AddsOnce, EditRefines, EditsRefine, AppendedAreBytes, HasNextCurrent, IsAboveLogs, IsAllKept, IsCuttable, IsCutStore, IsKept, IsManifestOpen, IsNew, IsPartOf, IsSafeFor, IsUnnamed, IsUnread, IsWritable, KeepsHistory, LeavesAlone, MakesFile, Risk, SameButNextFile, SwapsTables, SwitchesLog, TablesAreKept}
 use Rattle.leveldb_version.specs.VersionEdit.{Edit, NewFile, IsEdit}
 use Rattle.leveldb_version.specs.VersionSet.{level_file, live_after}
@@ -65,8 +65,8 @@ module _ (store : List ℕ) (cmp : List ℕ → List ℕ → Ordering)
       (live_after (edits ++ edit ∷ []))
       → EditRefines store cmp IsTableOf bound files edits edit
 
-  -- Other edits that leave the same files and numbers change nothing that is shown, such as the full
-  -- edit with which a new manifest begins.
+  -- Other edits that leave the same files and numbers change nothing that is shown, such as the
+  -- full edit with which a new manifest begins.
   abbrev pub FullEditsRefine : Type 0
   FullEditsRefine = (bound : ℕ) (files : Files) (edits others : List Edit)
       → SameButNextFile (live_after edits) (live_after others) → LastNumbersFit others
@@ -97,8 +97,7 @@ module _ (store : List ℕ) (cmp : List ℕ → List ℕ → Ordering)
 
   -- after a batch is appended, another may be
   abbrev pub BatchesStayWritable : Type 0
-  BatchesStayWritable = (files : Files) (edits : List Edit) (contents : Contents)
-      → IsManagedBy store cmp IsTableOf files edits contents → (w : IsWritable store files edits)
+  BatchesStayWritable = (files : Files) (edits : List Edit) (w : IsWritable store files edits)
       → (first : ℕ) (items : List Item) (text : List ℕ) → BatchOf text first items
       → AppendedAreBytes (extended (log_path store w.log.number)
       (frame_at (length (bytes_of w.log.file)) text) files)
@@ -107,8 +106,7 @@ module _ (store : List ℕ) (cmp : List ℕ → List ℕ → Ordering)
 
   -- after a sync of the last log, a batch may be appended
   abbrev pub SyncsStayWritable : Type 0
-  SyncsStayWritable = (files : Files) (edits : List Edit) (contents : Contents)
-      → IsManagedBy store cmp IsTableOf files edits contents → (w : IsWritable store files edits)
+  SyncsStayWritable = (files : Files) (edits : List Edit) (w : IsWritable store files edits)
       → IsWritable store (synced (log_path store w.log.number) files) edits
 
   -- after an edit is appended, the manifest has it, and another may be
@@ -272,16 +270,16 @@ module _ (store : List ℕ) (cmp : List ℕ → List ℕ → Ordering)
     EditAppendsKeep = (files : Files) (edits : List Edit) (m : IsManifestOpen store files edits)
         → AppendedAreBytes files → (text : List ℕ) → text ≢ [] → (edit : Edit) → IsEdit text edit
         → (bound : ℕ) → EditRefines store cmp IsTableOf bound files edits edit → (now : Files)
-        → PrefixAppended (in_folder store m.has_edits.name) (frame_at (length (bytes_of m.has_edits.manifest)) text) files
-        now
+        → PrefixAppended (in_folder store m.has_edits.name)
+        (frame_at (length (bytes_of m.has_edits.manifest)) text) files now
         → KeepsHistory store cmp IsTableOf allowed bound files now
 
     -- the rename that puts another manifest in the place of the one in use keeps each history, on
     -- either side
     abbrev pub RenamesKeep : Type 0
     RenamesKeep = (files : Files) (edits others : List Edit) → HasEdits store files edits
-        → AppendedAreBytes files → (temp : List ℕ) → HasNextCurrent store files temp others → (bound : ℕ)
-        → EditsRefine store cmp IsTableOf bound files edits others → (now : Files)
+        → AppendedAreBytes files → (temp : List ℕ) → HasNextCurrent store files temp others
+        → (bound : ℕ) → EditsRefine store cmp IsTableOf bound files edits others → (now : Files)
         → BeforeOrAfter (renamed (in_folder store temp) (current_path store)) files now
         → KeepsHistory store cmp IsTableOf allowed bound files now
 
@@ -289,8 +287,8 @@ module _ (store : List ℕ) (cmp : List ℕ → List ℕ → Ordering)
     abbrev pub FirstCurrentKeeps : Type 0
     FirstCurrentKeeps = (files : Files) → HasNoStore store files
         → (temp : List ℕ) (edits : List Edit) → HasNextCurrent store files temp edits
-        → (n : IsNew (live_after edits)) → LastNumbersFit edits → allowed (made (Some n.comparator)) → (bound : ℕ)
-        (now : Files)
+        → (n : IsNew (live_after edits)) → LastNumbersFit edits
+        → allowed (made (Some n.comparator)) → (bound : ℕ) (now : Files)
         → BeforeOrAfter (renamed (in_folder store temp) (current_path store)) files now
         → KeepsHistory store cmp IsTableOf allowed bound files now
 

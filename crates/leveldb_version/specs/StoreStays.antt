@@ -1,5 +1,5 @@
--- Which premises of a step are there again after it: that the files are a store by these edits, that
--- its manifest and its last log are open, and that what was appended to each file are bytes.
+-- Which premises of a step are there again after it: that the files are a store by these edits,
+-- that its manifest and its last log are open, and that what was appended to each file are bytes.
 use Rattle.std.specs.Prelude.{◌≡◌, ◌<◌, ◌^◌, ℕ, List, [], None}
 use Rattle.std.specs.declared.cmp.Ordering.{Ordering}
 use Rattle.leveldb_base.specs.Types.{Pair}
@@ -69,8 +69,8 @@ module _ (store : List ℕ) (cmp : List ℕ → List ℕ → Ordering)
 
   -- ---- a new `CURRENT`
 
-  -- After the rename onto `CURRENT` the store has the edits of the new manifest, which is open where
-  -- it ends cleanly, and what was a store by these edits is one now.
+  -- After the rename onto `CURRENT` the store has the edits of the new manifest, which is open
+  -- where it ends cleanly, and what was a store by these edits is one now.
   pub record OpensManifest (files : Files) (temp : List ℕ) (edits : List Edit)
       (h : HasNextCurrent store files temp edits) : Type 0 where
     pub kept : HasKeptEdits store (renamed (in_folder store temp) (current_path store) files) edits

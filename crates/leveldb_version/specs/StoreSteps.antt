@@ -17,14 +17,15 @@ use Rattle.leveldb_version.specs.Holds.{Carries, IsHonest, IsSafe}
 use Rattle.leveldb_version.specs.Levels.{LiveTable, LevelOrder, table_entries}
 use Rattle.leveldb_version.specs.Paths.{current_path, log_path, table_path}
 use Rattle.leveldb_version.specs.Store.{HasEdits, HasLog, HasTables, IsManaged, IsManagedBy, IsManifest, LogIsReplayed, IsStore, ReplayedLog, SameEntries, log_entries}
-use Rattle.leveldb_version.specs.VersionEdit.{Edit, LevelFile, NewFile, IsEdit}
+use Rattle.leveldb_version.specs.VersionEdit.{Edit, LevelFile, NewFile}
 use Rattle.leveldb_version.specs.VersionSet.{FileSet, is_same_file, level_file, live_after}
 
 -- ---- what is kept
 
 -- what was appended to each file are bytes
 abbrev pub AppendedAreBytes : Files → Type 0
-AppendedAreBytes files = (name : List ℕ) (file : File) → files name ≡ Some file → AreBytes file.since
+AppendedAreBytes files =
+    (name : List ℕ) (file : File) → files name ≡ Some file → AreBytes file.since
 
 -- all bytes of what is there are kept
 abbrev pub IsKept : Option File → Type 0
@@ -33,8 +34,8 @@ IsKept (Some file) = file.since ≡ []
 
 -- the live tables are kept
 abbrev pub TablesAreKept : List ℕ → Files → FileSet → Type 0
-TablesAreKept store files set = (file : NewFile) → set.file (level_file file) ≡ Some file
-    → IsKept (files (table_path store file.number))
+TablesAreKept store files set = (file : NewFile) → file.number < 2 ^ 64
+    → set.file (level_file file) ≡ Some file → IsKept (files (table_path store file.number))
 
 -- the live tables and the logs that are replayed are kept
 pub record AreKept (store : List ℕ) (set : FileSet) (files : Files) : Type 0 where

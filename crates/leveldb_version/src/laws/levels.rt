@@ -2,9 +2,9 @@
 //! look-up, and which table may be added.
 ghost use Rattle.leveldb_version.specs.StoreLaws.{AddingKeepsOrder, LevelsAreLayered, RangesLeaveOut};
 
-/// Tables in the order of their levels and, in level 0, with the greater numbers first are layers of
-/// entries, the newer ones first. So a look-up that stops at the first of them that has an entry of
-/// the key finds what all of them have.
+/// Tables in the order of their levels and, in level 0, with the greater numbers first are layers
+/// of entries, the newer ones first. So a look-up that stops at the first of them that has an entry
+/// of the key finds what all of them have.
 pub fn levels_are_layered()
     ensures { LevelsAreLayered }
 {}

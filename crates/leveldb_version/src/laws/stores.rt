@@ -23,8 +23,8 @@ pub trait StoreFormat {
     ghost allowed: { Store → Type 0 };
 }
 
-/// What the laws of any reading leave open: which contents are read of files, and two choices of the
-/// stores that may be there.
+/// What the laws of any reading leave open: which contents are read of files, and two choices of
+/// the stores that may be there.
 pub trait Reading {
     ghost reads: { Files → Contents → Type 0 };
 
@@ -58,17 +58,17 @@ pub fn crashes_cut_edits_and_batches<F: StoreFormat>()
     ensures { (store : List ℕ) → CrashesCutStores store F.cmp F.is_table }
 {}
 
-/// Where all that is read is kept, or no store is there, a crash takes nothing away. Kept files hold
-/// each history that their contents match, up to the contents' own last number.
+/// Where all that is read is kept, or no store is there, a crash takes nothing away. Kept files
+/// hold each history that their contents match, up to the contents' own last number.
 pub fn what_is_kept_is_safe<F: StoreFormat>()
     ensures kept { (store : List ℕ) → KeptIsSafe store F.cmp F.is_table F.allowed }
     ensures holds { (store : List ℕ) → KeptHolds store F.cmp F.is_table F.allowed }
     ensures none { (store : List ℕ) → NoStoreIsSafe store F.cmp F.is_table F.allowed }
 {}
 
-/// However files are read: an honest crash leaves files that hold a prefix of the history, all of it
-/// durable. What is held where some stores are allowed is held where more are, and where only those
-/// are that can be read.
+/// However files are read: an honest crash leaves files that hold a prefix of the history, all of
+/// it durable. What is held where some stores are allowed is held where more are, and where only
+/// those are that can be read.
 pub fn held_histories_carry_over<R: Reading>()
     ensures crash { (store : List ℕ) → CrashesHold store R.reads R.allowed }
     ensures wider { (store : List ℕ) → WiderHolds store R.reads R.allowed R.others }
@@ -87,8 +87,8 @@ pub fn batches_are_appended_and_synced<F: StoreFormat>()
     ensures sync { (store : List ℕ) → SyncMakesDurable store F.cmp F.is_table F.allowed }
 {}
 
-/// After a batch is appended or the last log is synced, the next batch may be appended; after an edit
-/// is appended the manifest has it, and the next one may be.
+/// After a batch is appended or the last log is synced, the next batch may be appended; after an
+/// edit is appended the manifest has it, and the next one may be.
 pub fn logs_and_manifests_stay_open<F: StoreFormat>()
     ensures batch { (store : List ℕ) → BatchesStayWritable store F.cmp F.is_table }
     ensures sync { (store : List ℕ) → SyncsStayWritable store F.cmp F.is_table }
@@ -104,8 +104,8 @@ pub fn steps_leave_the_same_store<F: StoreFormat>()
     ensures unread { (store : List ℕ) → SameAfterUnread store F.cmp F.is_table }
 {}
 
-/// After the rename onto `CURRENT` the new manifest is kept, and open where it ends cleanly; where it
-/// is the first one, all that is read of the new store is kept.
+/// After the rename onto `CURRENT` the new manifest is kept, and open where it ends cleanly; where
+/// it is the first one, all that is read of the new store is kept.
 pub fn renames_open_manifests<F: StoreFormat>()
     ensures opened { (store : List ℕ) → RenamesOpen store F.cmp F.is_table }
     ensures first { (store : List ℕ) → FirstCurrentIsKept store F.cmp F.is_table }
