@@ -1,5 +1,5 @@
 -- Why a write is refused behind its preparation: each failure of the device is counted, and nothing else.
-use Rattle.std.proofs.Common.{◌≡◌, ◌<◌, ◌+◌, inl, inr, ⊎_elim, ℕ, List, refl, sym, ◌∙◌, ap, arith, Option, Some, None, Ok, Err, IsTrue, true, false}
+use Rattle.std.proofs.Common.{◌≡◌, ◌≤◌, ◌<◌, ◌+◌, inl, inr, ⊎_elim, ℕ, List, refl, sym, ◌∙◌, ap, arith, Option, Some, None, Result, Ok, Err, IsTrue, true, false}
 use Rattle.std.specs.Option.{option_map}
 use Rattle.leveldb_base.specs.declared.error.Status.{Status}
 use Rattle.leveldb_base.specs.History.{Item}
@@ -68,6 +68,14 @@ module _ {E C FP F I : Type 0} {D : I → Type 0} (env : Ghosts E F) (engine : E
 
     pub append_counted : env.failures mid ≡ env.failures from
     append_counted = put.cause.ok
+
+    -- time goes on in the append, and in a sync after it
+    pub append_time : (env.observed from).moment ≤ (env.observed mid).moment
+    append_time = put.does.time.later
+
+    pub sync_time : {result : Result (Unit {0}) Status} (after : writing.WriterState) (log_after : F) (to : E) → Flushes (Syncs env) writer (opened mid log) result after (opened to log_after)
+        → (env.observed from).moment ≤ (env.observed to).moment
+    sync_time after log_after to flushed = omega (arith, append_time, flushed.flushed.does.time.later)
 
     pub still_sound : writer.broken ≡ false
     still_sound = ap (λ w. w.broken) adds.writer ∙ sound

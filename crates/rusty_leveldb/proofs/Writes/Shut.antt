@@ -11,10 +11,10 @@ use Rattle.leveldb_mem.specs.Log.Writer.{WriterState}
 use Rattle.rusty_leveldb.specs.declared.db_impl.engine.Mode.{Mode}
 use Rattle.rusty_leveldb.specs.declared.db_impl.engine.Mode.TheVariants.{Open, Broken, Closed}
 use Rattle.rusty_leveldb.specs.declared.db_impl.engine.Engine.{Engine}
-use Rattle.rusty_leveldb.specs.State.{State, broken, closed, Request, write, flush, refused, Refusal}
+use Rattle.rusty_leveldb.specs.State.{State, broken, closed, Request, write, flush, refused, Refusal, close}
 use Rattle.rusty_leveldb.specs.Causes.{Faults, IsClosedRefusal, IsBrokenRefusal}
 use Rattle.rusty_leveldb.specs.Machine.{StepIn}
-use Rattle.rusty_leveldb.specs.Serves.{Reads, Goes, IsLogging, faults_between, refusal_of}
+use Rattle.rusty_leveldb.specs.Serves.{Reads, Goes, faults_between, refusal_of}
 use Rattle.rusty_leveldb.specs.Engine.{scene, Recalls, IsShut, IsHalted, ShutOut, ShutDown, mode_of}
 use Rattle.rusty_leveldb.proofs.Others.{others_still, spared_still}
 use Rattle.rusty_leveldb.proofs.Writes.Moments.{moments_none}
@@ -34,19 +34,28 @@ not_halted mode writer is sound = ⊎_elim (λ (shut : mode ≡ Closed). let nev
 pub halted_then : (mode : Mode) (writer : WriterState) (status : Status) → ShutOut mode status ⊎ ShutDown mode writer status → IsHalted mode writer
 halted_then mode writer status = ⊎_elim (λ out. inl out.0) (λ down. inr down.0)
 
+-- a request that a closed store refuses, and a broken one
+abbrev pub IsRefusedByMode : Request → Type 0
+IsRefusedByMode (write items sync) = Unit {0}
+IsRefusedByMode flush = Unit {0}
+IsRefusedByMode close = Unit {0}
+IsRefusedByMode request = ⊥
+
 module _ (cmp : List ℕ → List ℕ → Ordering) (faults : Faults) (old : State) where
-  closed_step : (request : Request) → IsLogging request → (refusal : Refusal) → IsClosedRefusal refusal → StepIn cmp closed faults old request (refused refusal) old
+  closed_step : (request : Request) → IsRefusedByMode request → (refusal : Refusal) → IsClosedRefusal refusal → StepIn cmp closed faults old request (refused refusal) old
   closed_step (write items sync) logs refusal says = (says, refl)
   closed_step flush logs refusal says = (says, refl)
+  closed_step close logs refusal says = (says, refl)
   closed_step request logs refusal says = absurd logs
 
-  broken_step : (request : Request) → IsLogging request → (refusal : Refusal) → IsBrokenRefusal refusal → StepIn cmp broken faults old request (refused refusal) old
+  broken_step : (request : Request) → IsRefusedByMode request → (refusal : Refusal) → IsBrokenRefusal refusal → StepIn cmp broken faults old request (refused refusal) old
   broken_step (write items sync) logs refusal says = (says, refl)
   broken_step flush logs refusal says = (says, refl)
+  broken_step close logs refusal says = (says, refl)
   broken_step request logs refusal says = absurd logs
 
 module _ {E C FP F I : Type 0} {D : I → Type 0} (env : Ghosts E F) (cmp : List ℕ → List ℕ → Ordering) (store : List ℕ) (engine : Engine E C FP F I D) (at : E) (old : State) (was : Was env store engine at old)
-    (request : Request) (logs : IsLogging request) (status : Status) where
+    (request : Request) (logs : IsRefusedByMode request) (status : Status) where
   abbrev faults : Faults
   faults = faults_between (env.failures at) (env.failures at)
 

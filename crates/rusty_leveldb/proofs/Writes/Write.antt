@@ -8,6 +8,7 @@ use Rattle.leveldb_env.specs.declared.env.Env.{Ghosts}
 use Rattle.leveldb_env.specs.Env.{AreBytes}
 use Rattle.leveldb_env.specs.EnvFile.{opened, Appends, Syncs}
 use Rattle.leveldb_mem.specs.WriteBatch.{Batch, BatchOf, batch_of, with_item}
+use Rattle.leveldb_mem.specs.MemTable.{HasRoom}
 use Rattle.leveldb_mem.specs.Log.Writer.{WriterState, broken_writer, AddsRecord, FailsToAdd, Flushes}
 use Rattle.rusty_leveldb.specs.declared.db_impl.engine.Mode.{Mode}
 use Rattle.rusty_leveldb.specs.declared.db_impl.engine.Mode.TheVariants.{Open, Broken}
@@ -141,6 +142,18 @@ pub last_synced : {E C FP F I : Type 0} {D : I → Type 0} (engine : Engine E C 
     → middle ≡ record engine { recent = recent; log = middle.log; writer = middle.writer; mode = middle.mode } → after ≡ record middle { log = after.log; writer = after.writer; mode = after.mode } → self ≡ after
     → self.recent.last ≡ engine.recent.last
 last_synced engine recent last middle after self rest rest_after self_is = ap (λ m. m.recent.last) self_is ∙ ap (λ m. m.recent.last) rest_after ∙ ap (λ m. m.recent.last) rest ∙ last
+
+-- the room that was made in memory is there still
+pub room_plain : {E C FP F I : Type 0} {D : I → Type 0} (engine : Engine E C FP F I D) (recent : Numbered) (items : List Item) → HasRoom recent.kept items → (middle self : Engine E C FP F I D)
+    → middle ≡ record engine { recent = recent; log = middle.log; writer = middle.writer; mode = middle.mode } → self ≡ middle → HasRoom self.recent.kept items
+room_plain engine recent items room middle self rest self_is =
+    subst (λ r. HasRoom r.kept items) (sym (ap (λ m. m.recent) self_is ∙ ap (λ m. m.recent) rest)) room
+
+pub room_synced : {E C FP F I : Type 0} {D : I → Type 0} (engine : Engine E C FP F I D) (recent : Numbered) (items : List Item) → HasRoom recent.kept items → (middle after self : Engine E C FP F I D)
+    → middle ≡ record engine { recent = recent; log = middle.log; writer = middle.writer; mode = middle.mode } → after ≡ record middle { log = after.log; writer = after.writer; mode = after.mode } → self ≡ after
+    → HasRoom self.recent.kept items
+room_synced engine recent items room middle after self rest rest_after self_is =
+    subst (λ r. HasRoom r.kept items) (sym (ap (λ m. m.recent) self_is ∙ ap (λ m. m.recent) rest_after ∙ ap (λ m. m.recent) rest)) room
 
 -- the options are the engine's
 pub options_plain : {E C FP F I : Type 0} {D : I → Type 0} (engine : Engine E C FP F I D) (recent : Numbered) (middle self : Engine E C FP F I D)
