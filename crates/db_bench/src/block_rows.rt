@@ -3,7 +3,7 @@ ghost use Rattle.std.specs.Prelude.{◌≡◌, ◌<◌, None, length, IfOk, IsTr
 ghost use Rattle.std.specs.declared.cmp.Ordering.TheVariants.{Less};
 ghost use Rattle.leveldb_base.specs.Cmp.{bytewise};
 ghost use Rattle.leveldb_table.specs.Block.{pairs_of};
-ghost use Rattle.leveldb_table.specs.Built.{last_added};
+ghost use Rattle.leveldb_table.specs.BlockBuilder.{last_added};
 
 use crate::keys::{Numbers, Values, key_of};
 use crate::report::{Outcome, Run, Tally, Timer};

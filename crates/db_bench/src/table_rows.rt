@@ -31,8 +31,7 @@ type Blocks = BlockCache<DefaultCmp>;
 
 // Builds the table of the pairs of the first numbers.
 fn build_table(alloc: Global, options: &Choices, values: &Values, ops: u64) -> Result<Vec<u8>> {
-    let mut bytes = Vec::new(alloc);
-    let mut builder = TableBuilder::new_raw(alloc, options, &mut bytes);
+    let mut builder = TableBuilder::new_raw(alloc, options, Vec::new(alloc));
     let mut last = [0; 16];
     for number in 0..ops {
         let key = key_of(number);
@@ -42,7 +41,8 @@ fn build_table(alloc: Global, options: &Choices, values: &Values, ops: u64) -> R
         builder.add(&options.compressor_list, &key, values.value_of(number))?;
         last = key;
     }
-    builder.finish(&options.compressor_list)?;
+    let (bytes, size) = builder.finish(&options.compressor_list);
+    size?;
     Ok(bytes)
 }
 

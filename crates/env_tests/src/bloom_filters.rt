@@ -38,11 +38,12 @@ fn slow_hash(key: &[u8]) -> u32 {
     hash
 }
 
-// How many bytes of bits filters have. No two of these numbers have a common factor, and their product is above 2^29:
-// two hashes with the same bit in a filter of each length are the same.
+// How many bytes of bits filters have. No two of these numbers have a common factor, and their
+// product is above 2^29: two hashes with the same bit in a filter of each length are the same.
 const LENGTHS: [u8; 5] = [55, 59, 61, 63, 64];
 
-// Whether this is the key's hash: filters of one probe, in which the bit of this hash alone is set, match the key.
+// Whether this is the key's hash: filters of one probe, in which the bit of this hash alone is set,
+// match the key.
 fn has_hash(key: &[u8], hash: u32) -> bool {
     let policy = BloomPolicy::new(10);
     let mut found = true;
@@ -58,7 +59,7 @@ fn has_hash(key: &[u8], hash: u32) -> bool {
     found
 }
 
-// Whether so many bits of the key are set in these bytes, each found by its number.
+// Whether `count` bits of the key are set in these bytes, each found by its number.
 fn slow_match(key: &[u8], bytes: &[u8], count: u8) -> bool {
     let hash = u64::from(slow_hash(key));
     let delta = hash * 0x8000 % 0x1_0000_0000 + hash / 0x2_0000;
@@ -120,17 +121,23 @@ fn keys_match_a_known_filter(rt: HostRuntime) {
     assert!(rt; !policy.key_may_match(b"ab00cd00ac", &FILTER));
 }
 
-// Asserts that a filter of the four keys has their bits, and of each beginning of the keys matches those with bits there.
-fn assert_bits(rt: &impl Abort, policy: BloomPolicy, filter: &[u8]) {
+// Whether a filter has the bits of the key.
+fn has_bits(key: &[u8], filter: &[u8]) -> bool {
     let Some((count, bits)) = filter.split_last() else {
-        panic!(rt; "no count");
+        return false;
     };
+    slow_match(key, bits, *count)
+}
+
+// Asserts that a filter of the four keys has their bits, and of each prefix of the keys matches
+// those with bits there.
+fn assert_bits(rt: &impl Abort, policy: BloomPolicy, filter: &[u8]) {
     for key in &EACH_KEY {
-        assert!(rt; slow_match(key, bits, *count));
+        assert!(rt; has_bits(key, filter));
     }
     for len in 0..KEYS.len() + 1 {
         let key = &KEYS[..len];
-        assert!(rt; policy.key_may_match(key, filter) == slow_match(key, bits, *count));
+        assert!(rt; policy.key_may_match(key, filter) == has_bits(key, filter));
     }
 }
 
@@ -173,14 +180,27 @@ fn filter_of_no_keys(rt: HostRuntime) -> Result<()> {
     Ok(())
 }
 
+// Offsets that are past the end, or that fall, cut what there is: here the keys `abc`, the empty
+// key and `bc`.
+#[test]
+fn filter_by_offsets_that_fall(rt: HostRuntime) -> Result<()> {
+    let policy = BloomPolicy::new(12);
+    let filter = policy.create_filter(rt.alloc(), b"abc", &[0, 9, 1])?;
+    let same = policy.create_filter(rt.alloc(), b"abcbc", &[0, 3, 3])?;
+    assert!(rt; filter.as_slice() == same.as_slice());
+    assert!(rt; policy.key_may_match(b"abc", &filter));
+    assert!(rt; policy.key_may_match(b"bc", &filter));
+    Ok(())
+}
+
+// Bits a key, and the offsets of keys that have 2^32 bits or more together.
+const TOO_LARGE: [(u32, &[usize]); 2] = [(0xffff_ffff, &[0]), (0x5555_5555, &[0, 0, 0, 0])];
+
 #[test]
 fn filters_of_more_than_32_bits(rt: HostRuntime) -> Result<()> {
-    for (bits_per_key, offsets) in [(u32::MAX, &[0][..]), (u32::MAX / 3, &[0, 0, 0, 0][..])] {
-        let answer = BloomPolicy::new(bits_per_key).create_filter(rt.alloc(), b"abc", offsets);
-        assert!(rt;
-            failed_with(answer, StatusCode::NotSupported)?,
-            "{bits_per_key}"
-        );
+    for (bits_per_key, offsets) in &TOO_LARGE {
+        let answer = BloomPolicy::new(*bits_per_key).create_filter(rt.alloc(), b"abc", offsets);
+        assert!(rt; failed_with(answer, StatusCode::NotSupported)?);
     }
     Ok(())
 }

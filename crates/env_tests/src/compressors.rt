@@ -1,7 +1,7 @@
 //! Compressors, and lists of them.
 ghost use Rattle.std.specs.Prelude.{◌≡◌, ◌+◌, ◌%◌, ◌⊎◌, Some, false, map, IfOk, IfErr};
 ghost use Rattle.leveldb_base.specs.Error.{IsOutOfMemory};
-ghost use Rattle.leveldb_env.specs.Coders.{RefusesWith};
+ghost use Rattle.leveldb_env.specs.Compressor.{IsEncodeError};
 
 use leveldb_base::error::{Result, Status, StatusCode};
 use leveldb_env::compressor::{Compressor, CompressorId, CompressorList, NoneCompressor};
@@ -18,7 +18,12 @@ impl CompressorId for Shift {
 }
 
 impl Compressor for Shift {
-    ghost coding = { λ _. record { decoded = λ stored. Some (map (λ byte. (byte + 255) % 256) stored); refuses = λ code. false } };
+    ghost coding = { λ _. record {
+      decoded = λ stored. Some (map
+          (λ byte. (byte + 255) % 256) stored);
+      encode_fails = λ block code. false;
+      decode_fails = λ stored code. false;
+    } };
 
     fn encode(&self, alloc: Global, block: Vec<u8>) -> Result<Vec<u8>> {
         let mut stored = Vec::new(alloc);
@@ -37,13 +42,16 @@ impl Compressor for Shift {
     }
 }
 
-// A block that is stored and read again, by any compressor. An error is the compressor's, or out of memory.
-fn read_again<C: Compressor>(coder: C, alloc: Global, block: Vec<u8>) -> Result<Vec<u8>>
+// A block that is stored and read again, by any compressor. An error is that of encoding this very
+// block, or out of memory.
+fn read_again<C: Compressor>(compressor: C, alloc: Global, block: Vec<u8>) -> Result<Vec<u8>>
     ensures same { IfOk result (λ read. read.items ≡ block.items) }
-    ensures cause { IfErr result (λ status. IsOutOfMemory status ⊎ RefusesWith (C.coding coder) status) }
+    ensures cause { IfErr result
+        (λ status. IsOutOfMemory status
+        ⊎ IsEncodeError (C.coding compressor) block.items status) }
 {
-    let stored = coder.encode(alloc, block)?;
-    coder.decode(alloc, stored)
+    let stored = compressor.encode(alloc, block)?;
+    compressor.decode(alloc, stored)
 }
 
 // Whether a block is stored as these bytes.
@@ -139,7 +147,8 @@ const UNSET: [(u8, &str); 2] = [
     (255, "invalid compression id `255`"),
 ];
 
-// Whether a call failed since an id is unset, with this text. That there is none means that there was no memory for it.
+// Whether a call failed since an id is unset, with this text. That there is none means that there
+// was no memory for it.
 fn is_unset(answer: Result<Vec<u8>>, text: &str) -> Result<bool> {
     match answer {
         Ok(_) => Ok(false),

@@ -120,7 +120,8 @@ fn push_children<E: Env>(
     Ok(())
 }
 
-/// The names of a disk in order: those outside folders that the tests' calls have, and all in their folders.
+/// The names of a disk in order: those outside folders that the tests' calls have, and all in their
+/// folders.
 pub fn names_of<E: Env>(env: &mut E, alloc: Global) -> Result<Vec<String>> {
     let mut names = Vec::new(alloc);
     push_names(&mut names, env, alloc)?;
@@ -140,7 +141,8 @@ pub fn show_file(text: &mut Vec<u8>, name: &str, kept: &[u8], more: &[u8]) -> Re
     Ok(())
 }
 
-/// A handle for this name, opened on another disk: whether the name is there on the tested one is left open.
+/// A handle for this name, opened on another disk: whether the name is there on the tested one is
+/// left open.
 pub fn handle_of(alloc: Global, name: &str) -> Result<MemHandle> {
     let mut other = MemEnv::new(alloc);
     other.open_writable_file(name)

@@ -1,17 +1,16 @@
-//! Any sink and any source at work: what a caller knows of the vector, slice or file behind them.
+//! Any sink and any source at work: what a caller knows of the vector, slice or file that they
+//! write or read.
 ghost use Rattle.std.specs.Prelude.{◌≡◌, ◌≢◌, ◌⊎◌, ◌++◌, false, ℕ, List, All, IfOk, IfErr, OnOk, IsTrue};
 ghost use Rattle.std.specs.Str.{bytes_eq};
-ghost use Rattle.leveldb_env.specs.Disk.{Files, kept_file};
-ghost use Rattle.leveldb_env.specs.Times.{Since};
-ghost use Rattle.leveldb_env.specs.Runs.{Run};
-ghost use Rattle.leveldb_env.specs.Sinks.{PutsAll, PutsPart};
-ghost use Rattle.leveldb_env.specs.OpenFiles.{opened, Syncs, IsLonger, IsPartlyPut};
+ghost use Rattle.leveldb_env.specs.Env.{Files, kept_file, Since, Run};
+ghost use Rattle.leveldb_env.specs.Sink.{PutsAll, PutsPart};
+ghost use Rattle.leveldb_env.specs.EnvFile.{opened, Syncs, IsLonger, IsPartlyAppended};
 
 use crate::checks::failed_with;
 use crate::disks::no_tails;
 use leveldb_base::error::{Result, Status, StatusCode};
 use leveldb_env::env::source::read_to_end;
-use leveldb_env::env::whole_files::{read_file, replace_file};
+use leveldb_env::env::whole_files::{found, read_file, replace_file};
 use leveldb_env::env::{Env, EnvFile, Sink, Source};
 use leveldb_env::mem_env::{MemEnv, MemHandle};
 use std::alloc::Global;
@@ -19,7 +18,8 @@ use std::process::Abort;
 
 fn put_pair<S: Sink>(sink: &mut S, first: &[u8], second: &[u8]) -> Result<()>
     ensures ok { OnOk result (PutsAll S.puts sink.old (first.now ++ second.now) sink.new) }
-    ensures err { IfErr result (λ status. (bytes : List ℕ) × PutsPart S.puts sink.old bytes status sink.new) }
+    ensures err { IfErr result
+        (λ status. (bytes : List ℕ) × PutsPart S.puts sink.old bytes status sink.new) }
 {
     sink.put_all(first)?;
     sink.put_all(second)
@@ -34,11 +34,11 @@ fn pair(alloc: Global, first: &[u8], second: &[u8]) -> Result<Vec<u8>>
     Ok(all)
 }
 
-fn put_pair_behind(all: &mut Vec<u8>, first: &[u8], second: &[u8]) -> Result<()>
+fn put_pair_after(all: &mut Vec<u8>, first: &[u8], second: &[u8]) -> Result<()>
     ensures { OnOk result (all.new.items ≡ all.old.items ++ (first.now ++ second.now)) }
 {
-    let mut lent = all;
-    put_pair(&mut lent, first, second)
+    let mut borrowed = all;
+    put_pair(&mut borrowed, first, second)
 }
 
 fn put_pair_in_file<E: Env>(
@@ -47,8 +47,12 @@ fn put_pair_in_file<E: Env>(
     first: &[u8],
     second: &[u8],
 ) -> Result<()>
-    ensures ok { OnOk result (IsLonger E.Env (opened env.old file.old) (first.now ++ second.now) (opened env.new file.new)) }
-    ensures err { IfErr result (λ status. (bytes : List ℕ) × IsPartlyPut E.Env (opened env.old file.old) bytes status (opened env.new file.new)) }
+    ensures ok { OnOk result
+        (IsLonger E.Env (opened env.old file.old) (first.now ++ second.now)
+        (opened env.new file.new)) }
+    ensures err { IfErr result
+        (λ status. (bytes : List ℕ)
+        × IsPartlyAppended E.Env (opened env.old file.old) bytes status (opened env.new file.new)) }
 {
     put_pair(&mut EnvFile { env, file }, first, second)
 }
@@ -67,25 +71,39 @@ fn rest_of(alloc: Global, bytes: &[u8]) -> Result<Vec<u8>>
 }
 
 /// A crash at any moment leaves the old file or the new one, where the old one was kept.
-fn replace_kept<E: Env>(env: &mut E, temp: &str, name: &str, bytes: &[u8]) -> Result<()>
+fn replace_kept<E: Env>(
+    alloc: Global,
+    env: &mut E,
+    temp: &str,
+    name: &str,
+    bytes: &[u8],
+) -> Result<()>
     requires { temp.now ≢ name.now }
-    ensures { IsTrue E.tells_disk → (was : List ℕ) → (E.tells env.old).disk.files name.now ≡ Some (kept_file was)
-        → (files left : Files) → Since (E.tells env.new) (E.tells env.old).moment files left
+    ensures { IsTrue E.models_disk → (was : List ℕ)
+        → (E.observed env.old).disk.files name.now ≡ Some (kept_file was)
+        → (files left : Files) → Since (E.observed env.new) (E.observed env.old).moment files left
         → (left name.now ≡ Some (kept_file was)) ⊎ (left name.now ≡ Some (kept_file bytes.now)) }
 {
-    replace_file(env, temp, name, bytes)
+    replace_file(alloc, env, temp, name, bytes)
 }
 
 /// One file after another gets these bytes, each by way of the same temporary file.
-fn replace_each<E: Env>(env: &mut E, temp: &str, names: &[&str], bytes: &[u8]) -> Result<()>
+fn replace_each<E: Env>(
+    alloc: Global,
+    env: &mut E,
+    temp: &str,
+    names: &[&str],
+    bytes: &[u8],
+) -> Result<()>
     requires { All (λ name. temp.now ≢ name.now) names.now }
-    ensures passes { IsTrue E.tells_disk → let first = (E.tells env.old).disk.files in
-        Run (λ files. (other : List ℕ) → bytes_eq temp.now other ≡ false → (files other ≡ first other) ⊎ (files other ≡ Some (kept_file bytes.now)))
-        (E.tells env.old) (E.tells env.new) }
+    ensures passes { IsTrue E.models_disk → let first = (E.observed env.old).disk.files in
+        Run (λ files. (other : List ℕ) → bytes_eq temp.now other ≡ false
+        → (files other ≡ first other) ⊎ (files other ≡ Some (kept_file bytes.now)))
+        (E.observed env.old) (E.observed env.new) }
     ensures counted { OnOk result (E.failures env.new ≡ E.failures env.old) }
 {
     for name in names {
-        replace_file(env, temp, name, bytes)?;
+        replace_file(alloc, env, temp, name, bytes)?;
     }
     Ok(())
 }
@@ -93,7 +111,7 @@ fn replace_each<E: Env>(env: &mut E, temp: &str, names: &[&str], bytes: &[u8]) -
 #[test]
 fn bytes_are_appended(rt: HostRuntime) -> Result<()> {
     let mut all = pair(rt.alloc(), b"ab", b"c")?;
-    put_pair_behind(&mut all, b"", b"de")?;
+    put_pair_after(&mut all, b"", b"de")?;
     assert!(rt; all.as_slice() == b"abcde".as_slice());
     let mut borrowed = &mut all;
     borrowed.flush()?;
@@ -193,7 +211,7 @@ fn pieces_go_into_a_file_and_come_back(rt: HostRuntime) -> Result<()> {
 fn a_file_is_replaced(rt: HostRuntime) -> Result<()> {
     let mut env = MemEnv::new(rt.alloc());
     for text in [b"MANIFEST-000001\n", b"MANIFEST-000005\n"] {
-        replace_kept(&mut env, "db/000001.dbtmp", "db/CURRENT", text)?;
+        replace_kept(rt.alloc(), &mut env, "db/000001.dbtmp", "db/CURRENT", text)?;
         assert!(rt; keeps(&env, rt.alloc(), "db/CURRENT", text)?);
     }
     assert!(rt; !env.exists("db/000001.dbtmp")?);
@@ -203,9 +221,31 @@ fn a_file_is_replaced(rt: HostRuntime) -> Result<()> {
 #[test]
 fn files_are_replaced(rt: HostRuntime) -> Result<()> {
     let mut env = MemEnv::new(rt.alloc());
-    replace_each(&mut env, "tmp", &["a", "b"], b"x")?;
+    replace_each(rt.alloc(), &mut env, "tmp", &["a", "b"], b"x")?;
     assert!(rt; has_bytes(&mut env, rt.alloc(), "b", b"x")?);
-    let answer = read_file(rt.alloc(), &mut env, "tmp");
-    assert!(rt; failed_with(answer, StatusCode::NotFound)?);
+    Ok(())
+}
+
+/// Whether a file that must be there is missing, and the text of the error says which.
+fn is_missing(answer: Result<Vec<u8>>, name: &str) -> bool {
+    match answer {
+        Err(
+            Status {
+                code,
+                err: Some(text),
+            },
+        ) => code == StatusCode::Corruption && text.as_str().ends_with(name),
+        _ => false,
+    }
+}
+
+#[test]
+fn a_missing_file_is_damage(rt: HostRuntime) -> Result<()> {
+    let mut env = MemEnv::new(rt.alloc());
+    let answer = read_file(rt.alloc(), &mut env, "db/000007.ldb");
+    assert!(rt; is_missing(answer, "Corruption: missing file: db/000007.ldb"));
+    found(rt.alloc(), "a", env.lock("a"))?;
+    let refused = found(rt.alloc(), "a", env.lock("a"));
+    assert!(rt; failed_with(refused, StatusCode::LockError)?);
     Ok(())
 }

@@ -1,17 +1,19 @@
 //! Filter blocks built and read, under a policy whose filters show the keys that they were made of.
-ghost use Rattle.std.specs.Prelude.{◌≡◌, ◌≤◌, true, IfOk, OnOk};
-ghost use Rattle.leveldb_env.specs.Filters.{first_offset};
+ghost use Rattle.std.specs.Prelude.{◌≡◌, ◌<◌, ◌≤◌, ◌*◌, ◌/◌, true, [], length, IfOk, IfErr, OnOk, slice_index_or};
+ghost use Rattle.std.specs.List.{concat};
+ghost use Rattle.leveldb_base.specs.Error.{IsOutOfMemory};
+ghost use Rattle.leveldb_env.specs.Filter.{keys_at};
 
 use crate::checks::failed_with;
 use leveldb_base::error::{Result, StatusCode, err};
 use leveldb_env::filter::{BloomPolicy, FilterPolicy};
-use leveldb_env::filter_block::{
-    FilterBlockBuilder, FilterBlockReader, added_keys_pass, filter_blocks_have_one_reading,
-};
+use leveldb_env::filter_block::{FilterBlockBuilder, FilterBlockReader};
+use leveldb_env::laws::{added_keys_pass, filter_blocks_have_one_reading};
 use std::alloc::Global;
 use std::process::Abort;
 
-/// A filter is the keys, one after the other, which are at most `limit` bytes. A longer key is none of them.
+/// A filter is the keys, one after the other, which are at most `limit` bytes. A longer key is none
+/// of them.
 #[derive(Clone, Copy)]
 struct JoinedKeys {
     limit: usize,
@@ -35,11 +37,11 @@ impl FilterPolicy for JoinedKeys {
     }
 
     fn create_filter(&self, alloc: Global, keys: &[u8], key_offsets: &[usize]) -> Result<Vec<u8>> {
-        let joined = &keys[first_of(key_offsets, keys.len())..];
+        let joined = joined_keys(alloc, keys, key_offsets)?;
         if joined.len() > self.limit {
             return err(alloc, StatusCode::NotSupported, "too many keys");
         }
-        Ok(Vec::from_slice(alloc, joined)?)
+        Ok(joined)
     }
 
     fn key_may_match(&self, key: &[u8], filter: &[u8]) -> bool {
@@ -49,20 +51,39 @@ impl FilterPolicy for JoinedKeys {
     ghost finds = { λ _. joined_finds };
 }
 
-fn first_of(offsets: &[usize], end: usize) -> usize
-    ensures { result ≡ first_offset offsets.now end }
+// The bytes from each offset on to the next one, or to the end.
+fn joined_keys(alloc: Global, keys: &[u8], key_offsets: &[usize]) -> Result<Vec<u8>>
+    ensures ok { IfOk result
+        (λ joined. joined.items ≡ concat (keys_at key_offsets.now keys.now)) }
+    ensures cause { IfErr result IsOutOfMemory }
 {
-    match offsets {
-        [first, ..] => *first,
-        [] => end,
+    let mut joined = Vec::new(alloc);
+    for i in 0..key_offsets.len() {
+        joined.extend_from_slice(key_of(keys, key_offsets, i))?;
     }
+    Ok(joined)
+}
+
+// The key of this index.
+fn key_of<'a>(keys: &'a [u8], key_offsets: &[usize], index: usize) -> &'a [u8]
+    requires { index < length key_offsets.now }
+    ensures { result.now ≡ slice_index_or (keys_at key_offsets.now keys.now) index [] }
+{
+    let begin = key_offsets[index].min(keys.len());
+    let end = if index + 1 < key_offsets.len() {
+        key_offsets[index + 1]
+    } else {
+        keys.len()
+    };
+    &keys[begin..end.min(keys.len()).max(begin)]
 }
 
 const POLICY: JoinedKeys = JoinedKeys { limit: 100 };
 
 const LETTERS: &[u8] = b"abcdefghijklmnopqrstuvwxyz";
 
-/// Two blocks of the same four keys, at 0 and at 5000, so that the second of three filters is empty.
+/// Two blocks of the same four keys, at 0 and at 5000, so that the second of three filters is
+/// empty.
 const BLOCK: &[u8] =
     b"abcdefghijklmnopqrstuvwxyzabcdefghijklmnopqrstuvwxyz\0\0\0\0\x1a\0\0\0\x1a\0\0\0\x34\0\0\0\x0b";
 
@@ -75,6 +96,17 @@ fn add_keys<FP: FilterPolicy>(builder: &mut FilterBlockBuilder<FP>) -> Result<()
     builder.add_key(b"mnopqrstuvwxyz")
 }
 
+/// Adds the keys of two blocks, at 0 and at 5000; a third block has the second one's filter.
+fn add_blocks<FP: FilterPolicy>(builder: &mut FilterBlockBuilder<FP>) -> Result<()>
+    requires { length builder.old.filters ≡ 0 }
+{
+    builder.start_block(0)?;
+    add_keys(builder)?;
+    builder.start_block(5000)?;
+    builder.start_block(6143)?;
+    add_keys(builder)
+}
+
 fn reader_of(alloc: Global, bytes: &[u8]) -> Result<FilterBlockReader<JoinedKeys>> {
     FilterBlockReader::new_owned(alloc, POLICY, Vec::from_slice(alloc, bytes)?)
 }
@@ -83,13 +115,18 @@ fn reader_of(alloc: Global, bytes: &[u8]) -> Result<FilterBlockReader<JoinedKeys
 fn built(rt: HostRuntime) -> Result<()> {
     let mut builder = FilterBlockBuilder::new(rt.alloc(), POLICY);
     assert!(rt; builder.filter_name() == "joined");
-    builder.start_block(0)?;
-    add_keys(&mut builder)?;
-    builder.start_block(5000)?;
-    builder.start_block(6143)?;
-    add_keys(&mut builder)?;
+    add_blocks(&mut builder)?;
     assert!(rt; builder.finish()?.as_slice() == BLOCK);
     Ok(())
+}
+
+/// The estimate once a block begins at this offset.
+fn estimate_at(builder: &mut FilterBlockBuilder<JoinedKeys>, offset: usize) -> Result<usize>
+    requires { 2048 * length builder.old.filters ≤ offset }
+    ensures { OnOk result (length builder.new.filters ≡ offset / 2048) }
+{
+    builder.start_block(offset)?;
+    Ok(builder.size_estimate())
 }
 
 /// Keys count once their filter is made.
@@ -97,14 +134,11 @@ fn built(rt: HostRuntime) -> Result<()> {
 fn estimates(rt: HostRuntime) -> Result<()> {
     let mut builder = FilterBlockBuilder::new(rt.alloc(), POLICY);
     assert!(rt; builder.size_estimate() == 5);
-    builder.start_block(0)?;
-    assert!(rt; builder.size_estimate() == 5);
+    assert!(rt; estimate_at(&mut builder, 0)? == 5);
     add_keys(&mut builder)?;
     assert!(rt; builder.size_estimate() == 5);
-    builder.start_block(5000)?;
-    assert!(rt; builder.size_estimate() == 39);
-    builder.start_block(6143)?;
-    assert!(rt; builder.size_estimate() == 39);
+    assert!(rt; estimate_at(&mut builder, 5000)? == 39);
+    assert!(rt; estimate_at(&mut builder, 6143)? == 39);
     Ok(())
 }
 
@@ -204,7 +238,8 @@ fn filters_of(alloc: Global, bytes: &[u8]) -> Result<(usize, bool)> {
     Ok((reader.num(), reader.key_may_match(2048, b"a")))
 }
 
-/// A raised byte of a filter, and of the offset between the last two filters, makes another block. Any other makes none.
+/// A raised byte of a filter, and of the offset between the last two filters, makes another block.
+/// Any other makes none.
 #[test]
 fn each_byte_raised(rt: HostRuntime) -> Result<()> {
     for offset in 0..BLOCK.len() {
@@ -266,7 +301,8 @@ fn found(rt: HostRuntime) -> Result<()> {
     Ok(())
 }
 
-/// The block that LevelDB makes of two blocks with these four keys, at 0 and at 5000, under 32 bits a key.
+/// The block that LevelDB makes of two blocks with these four keys, at 0 and at 5000, under 32 bits
+/// a key.
 const BLOOM_BLOCK: [u8; 51] = [
     234, 195, 25, 155, 61, 141, 173, 140, 221, 28, 222, 92, 220, 112, 234, 227, 22, 234, 195, 25,
     155, 61, 141, 173, 140, 221, 28, 222, 92, 220, 112, 234, 227, 22, 0, 0, 0, 0, 17, 0, 0, 0, 17,

@@ -1,7 +1,6 @@
 //! Filters under any policy, and the policy that makes none.
-ghost use Rattle.std.specs.Prelude.{◌≡◌, ◌≤◌, true, length, All, Contains, IfOk};
-ghost use Rattle.std.specs.List.Sorted.{IsNonDecreasing};
-ghost use Rattle.leveldb_env.specs.Filters.{keys_at};
+ghost use Rattle.std.specs.Prelude.{◌≡◌, true, Contains, IfOk};
+ghost use Rattle.leveldb_env.specs.Filter.{keys_at};
 
 use leveldb_base::error::Result;
 use leveldb_env::filter::{FilterPolicy, NoFilterPolicy};
@@ -15,8 +14,6 @@ fn is_found<FP: FilterPolicy + Drop>(
     key_offsets: &[usize],
     key: &[u8],
 ) -> Result<bool>
-    requires rising { IsNonDecreasing key_offsets.now }
-    requires within { All (λ offset. offset ≤ length keys.now) key_offsets.now }
     requires there { Contains (keys_at key_offsets.now keys.now) key.now }
     ensures { IfOk result (λ found. found ≡ true) }
 {

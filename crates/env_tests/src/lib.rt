@@ -1,4 +1,4 @@
-//! The tests of environments, filters and coders.
+//! The tests of environments, filters and compressors.
 #![tactic(auto)]
 
 #[cfg(test)]
@@ -15,6 +15,8 @@ mod files;
 mod filter_blocks;
 #[cfg(test)]
 mod filters;
+#[cfg(test)]
+mod infologs;
 #[cfg(test)]
 mod internal_filters;
 #[cfg(test)]

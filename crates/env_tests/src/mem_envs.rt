@@ -9,7 +9,8 @@ use leveldb_env::mem_env::{MemEnv, MemHandle};
 use std::alloc::{AllocError, Global};
 use std::process::Abort;
 
-/// Appends a name with what `left`, the disk that a crash leaves, keeps of its file, and what was appended since.
+/// Appends a name with what `left`, the disk that a crash leaves, keeps of its file, and what was
+/// appended since.
 fn show(
     text: &mut Vec<u8>,
     env: &mut MemEnv,
@@ -45,7 +46,9 @@ fn are_shown(env: &mut MemEnv, alloc: Global, files: &[u8]) -> Result<bool> {
 }
 
 /// A call, the code of what it returns, and the files after it.
-const CALLS: [(Call, StatusCode, &str); 22] = [
+type Row = (Call, StatusCode, &'static str);
+
+static CALLS: [Row; 22] = [
     (Call::Mkdir("db"), OK, ""),
     (Call::OpenWritable("db/a"), OK, "db/a= "),
     (Call::Append("db/a", "one"), OK, "db/a=|one "),
@@ -93,19 +96,24 @@ fn run_twice(
     Ok([first, code_of(&run(env, rt.alloc(), call))])
 }
 
-/// A call that is out of memory leaves the files as they were, and is made again; the test then ends with that error.
+/// Makes the call of a row, and asserts its code and the files after it. Returns whether it was out
+/// of memory at first.
+fn assert_call(rt: &(impl Abort + AllocGlobal), env: &mut MemEnv, row: &Row) -> Result<bool> {
+    let (call, code, files) = row;
+    let [first, last] = run_twice(rt, env, *call)?;
+    assert!(rt; last == *code, "the call before {files:?}");
+    assert!(rt; are_shown(env, rt.alloc(), files.as_bytes())?, "{files}");
+    Ok(first == OutOfMemory)
+}
+
+/// A call that is out of memory leaves the files as they were, and is made again; the test then
+/// ends with that error.
 #[test]
 fn calls_are_done_at_once_or_not_at_all(rt: HostRuntime) -> Result<()> {
     let mut env = MemEnv::new(rt.alloc());
     let mut is_out_of_memory = false;
-    for (call, code, files) in &CALLS {
-        let [first, last] = run_twice(&rt, &mut env, *call)?;
-        is_out_of_memory |= first == OutOfMemory;
-        assert!(rt; last == *code, "the call before {files:?}");
-        assert!(rt;
-            are_shown(&mut env, rt.alloc(), files.as_bytes())?,
-            "{files}"
-        );
+    for row in &CALLS {
+        is_out_of_memory |= assert_call(&rt, &mut env, row)?;
     }
     if is_out_of_memory {
         return Err(Status::from(AllocError));
@@ -146,18 +154,19 @@ const PICKED: [(Tails, &str); 5] = [
     (&[("c", "124")], "a=A b= c=C124 "),
 ];
 
+/// Whether a crash that picks these tails leaves these files, the time as it was and no lock.
+fn leaves(env: &MemEnv, alloc: Global, tails: Tails, files: &str) -> Result<bool> {
+    let pick = pick_of(alloc, tails)?;
+    let mut left = env.crashed(alloc, &pick)?;
+    left.lock("a")?;
+    Ok(left.micros()? == 7 && are_shown(&mut left, alloc, files.as_bytes())?)
+}
+
 #[test]
 fn a_crash_leaves_each_tail_that_is_picked(rt: HostRuntime) -> Result<()> {
     let env = torn(rt.alloc())?;
     for (tails, files) in &PICKED {
-        let pick = pick_of(rt.alloc(), tails)?;
-        let mut left = env.crashed(rt.alloc(), &pick)?;
-        assert!(rt;
-            are_shown(&mut left, rt.alloc(), files.as_bytes())?,
-            "{files}"
-        );
-        assert!(rt; left.micros()? == 7);
-        left.lock("a")?;
+        assert!(rt; leaves(&env, rt.alloc(), tails, files)?, "{files}");
     }
     Ok(())
 }
@@ -216,19 +225,23 @@ fn are_names(found: &[String], wanted: &[&str]) -> bool {
     are_equal && found.len() == wanted.len()
 }
 
+/// Whether a folder has these names, in order.
+fn are_listed(env: &mut MemEnv, alloc: Global, folder: &str, names: &[&str]) -> Result<bool> {
+    let mut children = env.children(alloc, folder)?;
+    children.sort()?;
+    Ok(are_names(&children, names))
+}
+
 #[test]
 fn files_are_listed(rt: HostRuntime) -> Result<()> {
     let mut env = MemEnv::new(rt.alloc());
     open_nine(&mut env)?;
-    assert!(rt; env.size_of(LOG)? == 9);
-    assert!(rt; env.exists(LOG)? && !env.exists("db")?);
+    assert!(rt; env.size_of(LOG)? == 9 && env.exists(LOG)? && !env.exists("db")?);
     for name in ["db/CURRENT", "db/deeper/x", "db2/y", "dbz"] {
         env.open_appendable_file(name)?;
     }
-    let mut children = env.children(rt.alloc(), "db")?;
-    children.sort()?;
-    assert!(rt; are_names(&children, &["000003.log", "CURRENT"]));
-    assert!(rt; env.children(rt.alloc(), "none")?.is_empty());
+    assert!(rt; are_listed(&mut env, rt.alloc(), "db", &["000003.log", "CURRENT"])?);
+    assert!(rt; are_listed(&mut env, rt.alloc(), "none", &[])?);
     Ok(())
 }
 

@@ -53,8 +53,8 @@ fn shown(env: &RecordEnv, alloc: Global, moment: u64, after: bool) -> Result<Vec
     Ok(text)
 }
 
-/// Each row is a call, with how it's chosen to fail, its answer's code, the files inside it on either
-/// side, and the files after it.
+/// Each row is a call, with how it's chosen to fail, the code that it returns, the files inside it
+/// on either side, and the files after it.
 type Row = (
     Call,
     Option<bool>,
@@ -129,7 +129,8 @@ fn assert_shown(
     Ok(())
 }
 
-/// Asserts a row's files before its call at `moment`, which are those inside the call on either side, and after it.
+/// Asserts a row's files before its call at `moment`, which are those inside the call on either
+/// side, and after it.
 fn assert_moments(
     rt: &(impl Abort + AllocGlobal),
     env: &RecordEnv,
@@ -176,7 +177,8 @@ const EACH_CALL: [Call; 18] = [
     Call::Micros,
 ];
 
-/// Asserts of a run of all calls that the chosen one and no other returns `IOError`, and that each call is counted.
+/// Asserts of a run of all calls that the chosen one and no other returns `IOError`, and that each
+/// call is counted.
 fn assert_fails(rt: &(impl Abort + AllocGlobal), chosen: usize, done: bool) -> Result<()> {
     let mut env = RecordEnv::new(rt.alloc());
     env.fail(u64::try_from(chosen).unwrap_or(0).saturating_add(1), done);
@@ -218,14 +220,17 @@ fn torn(alloc: Global) -> Result<RecordEnv> {
 /// Moments, the tail of the file that a crash then picks, and the files that it leaves.
 const LEFT: [(u64, &str, &str); 3] = [(7, "x", "a=1x "), (8, "23", "a=123 "), (10, "", "a=1 l= ")];
 
-/// Makes two calls on a disk that a crash left, and asserts what a crash then leaves.
-fn assert_goes_on(rt: &(impl Abort + AllocGlobal), left: &mut RecordEnv) -> Result<()> {
+/// Makes two calls on a disk that a crash left. Returns what a crash then leaves.
+fn go_on(left: &mut RecordEnv, alloc: Global) -> Result<RecordEnv> {
     left.lock("l")?;
-    run(left, rt.alloc(), Call::Append("a", "4"))?;
-    assert!(rt; left.moment() == 4);
-    let crashed = left.disk_at(rt.alloc(), 4, &no_tails(rt.alloc(), false))?;
-    assert!(rt; shown(&crashed, rt.alloc(), 0, false)?.starts_with(b"a=1"));
-    Ok(())
+    run(left, alloc, Call::Append("a", "4"))?;
+    left.disk_at(alloc, 4, &no_tails(alloc, false))
+}
+
+/// Whether a disk that a crash left goes on from moment 0, and a later crash keeps its kept bytes.
+fn goes_on(left: &mut RecordEnv, alloc: Global) -> Result<bool> {
+    let crashed = go_on(left, alloc)?;
+    Ok(left.moment() == 4 && shown(&crashed, alloc, 0, false)?.starts_with(b"a=1"))
 }
 
 #[test]
@@ -236,7 +241,7 @@ fn a_crash_leaves_a_disk_to_go_on_from(rt: HostRuntime) -> Result<()> {
         let mut left = env.disk_at(rt.alloc(), *moment, &pick)?;
         assert!(rt; left.moment() == 0);
         assert_shown(&rt, &left, 0, false, files)?;
-        assert_goes_on(&rt, &mut left)?;
+        assert!(rt; goes_on(&mut left, rt.alloc())?);
     }
     Ok(())
 }

@@ -5,12 +5,15 @@ use Rattle.std.proofs.lemmas.List.Elements.{Contains-append_left, Contains-appen
 use Rattle.std.specs.Str.{bytes_eq}
 use Rattle.std.specs.Cmp.Lexicographic.{bytes_decides}
 use Rattle.std.proofs.lemmas.Bool.{leb-true, leb-false}
-use Rattle.leveldb_base.specs.History.{Entry, RiseAbove, HasValueAt, IsValueAt, IsBeforeAll, AreRising, IsView, OneView, EachHasView, ViewPasses, SharedViewIsSame, AreUpTo, AreAbove, SameWithMore}
+use Rattle.leveldb_base.specs.History.{Entry, RiseAbove, HasValueAt, IsValueAt, IsBeforeAll, AreRising, IsView, OneRisingList, OneView, EachHasView, ViewPasses, SharedViewIsSame, AreUpTo, AreAbove, SameWithMore}
 use Rattle.std.specs.declared.cmp.Ordering.{Ordering}
 use Rattle.std.specs.declared.cmp.Ordering.TheVariants.{Less, Equal, Greater}
-use Rattle.std.specs.Ordering.{ordering_reverse}
+use Rattle.std.specs.Ordering.{ordering_reverse, is_lt}
+use Rattle.std.specs.Cmp.{IsTotalOrder}
 use Rattle.leveldb_base.specs.Cmp.{IsExactOrder, IsPreorderOn}
 use Rattle.leveldb_base.specs.Types.{Pair}
+use Rattle.leveldb_base.specs.View.{pair_for}
+use Rattle.leveldb_base.proofs.OrderLemmas.{both, lt_turn, lt_itself, exact_total}
 
 -- ---- the elements of a list by its first
 
@@ -183,11 +186,6 @@ pub look_from_looks_up : (entries : List Entry) (s : ℕ) (key : List ℕ) → R
 look_from_looks_up entries s key rising = look_onward 0 [] entries s key None (λ entry c. absurd (in_none entry c)) rising (λ value shows. in_none shows.entry shows.newest.there)
 
 -- ---- the view of entries that come one after another, as a function, and that it is the view
-
--- the pair of a key that has a value
-abbrev pub pair_for : List ℕ → Option (List ℕ) → List Pair
-pair_for key None = []
-pair_for key (Some value) = (key, value) ∷ []
 
 -- a pair before the key's stays in front, that of the key goes, and the key's comes before those after it
 abbrev pub turn : Ordering → List ℕ → Option (List ℕ) → Pair → List Pair → List Pair → List Pair
@@ -428,62 +426,59 @@ exact_order accepts cmp all preorder exact = record {
   exact = exact;
 }
 
--- ---- one view
+-- ---- one list, and one view
 
-module _ (cmp : List ℕ → List ℕ → Ordering) (order : IsExactOrder cmp) where
-  not_both : (a b : List ℕ) → cmp a b ≡ Less → cmp b a ≡ Less → ⊥
-  not_both a b l m = let e : Less ≡ Greater = sym l ∙ turned cmp order a b ∙ ap ordering_reverse m in cc
-
-  not_itself : (a : List ℕ) → cmp a a ≡ Less → ⊥
-  not_itself a l = not_both a a l l
-
-  before_each : (key : List ℕ) (pairs : List Pair) (pair : Pair) → IsBeforeAll cmp key pairs → Contains pairs pair → cmp key pair.0 ≡ Less
-  before_each key [] pair all c = absurd (in_none pair c)
-  before_each key (first ∷ pairs) pair all c =
+module _ (cmp : List ℕ → List ℕ → Ordering) where
+  -- what is before all pairs is before each
+  pub each_after : (key : List ℕ) (pairs : List Pair) (q : Pair) → IsBeforeAll cmp key pairs → Contains pairs q → is_lt (cmp key q.0) ≡ true
+  each_after key [] q all c = absurd (in_none q c)
+  each_after key (pair ∷ pairs) q all c =
       ⊎_elim
-      (λ (e : first ≡ pair). ap (λ (p : Pair). cmp key p.0) (sym e) ∙ all.0)
-      (λ (rest : Contains pairs pair). before_each key pairs pair all.1 rest)
-      (in_cases first pair pairs c)
+      (λ (e : pair ≡ q). ap (λ (x : Pair). is_lt (cmp key x.0)) (sym e) ∙ ap is_lt all.0)
+      (λ (rest : Contains pairs q). each_after key pairs q all.1 rest)
+      (in_cases pair q pairs c)
 
-  -- sorted lists of the same pairs are one list
-  one_list : (ps qs : List Pair) → AreRising cmp ps → AreRising cmp qs
-      → ((pair : Pair) → Contains ps pair → Contains qs pair) → ((pair : Pair) → Contains qs pair → Contains ps pair) → ps ≡ qs
+  -- and the other way round
+  pub all_after : (key : List ℕ) (pairs : List Pair) → ((q : Pair) → Contains pairs q → cmp key q.0 ≡ Less) → IsBeforeAll cmp key pairs
+  all_after key [] each = tt
+  all_after key (pair ∷ pairs) each = (each pair (in_front pair pairs), all_after key pairs (λ q c. each q (in_rest pair q pairs c)))
+
+module _ (cmp : List ℕ → List ℕ → Ordering) (total : IsTotalOrder cmp) where
+  -- lists that rise and have the same pairs are one list
+  pub one_list : (ps qs : List Pair) → AreRising cmp ps → AreRising cmp qs
+      → ((q : Pair) → Contains ps q → Contains qs q) → ((q : Pair) → Contains qs q → Contains ps q) → ps ≡ qs
   one_list [] [] rp rq to from = refl
   one_list [] (q ∷ qs) rp rq to from = absurd (in_none q (from q (in_front q qs)))
   one_list (p ∷ ps) [] rp rq to from = absurd (in_none p (to p (in_front p ps)))
   one_list (p ∷ ps) (q ∷ qs) rp rq to from = joined heads (one_list ps qs rp.1 rq.1 to_rest from_rest)
     where
       heads : p ≡ q
-      heads =
-          ⊎_elim
-          (λ (e : q ≡ p). sym e)
-          (λ (there : Contains qs p).
-          ⊎_elim
-          (λ (e : p ≡ q). e)
-          (λ (back : Contains ps q). absurd (not_both q.0 p.0 (before_each q.0 qs p rq.0 there) (before_each p.0 ps q rp.0 back)))
-          (in_cases p q ps (from q (in_front q qs))))
-          (in_cases q p qs (to p (in_front p ps)))
+      heads = by (in_cases q p qs (to p (in_front p ps))) (in_cases p q ps (from q (in_front q qs)))
+        where
+          by : (q ≡ p) ⊎ Contains qs p → (p ≡ q) ⊎ Contains ps q → p ≡ q
+          by (inl e) other = sym e
+          by (inr c) (inl e) = e
+          by (inr c) (inr d) = both (is_lt (cmp p.0 q.0)) (each_after cmp p.0 ps q rp.0 d) (lt_turn total q.0 p.0 (each_after cmp q.0 qs p rq.0 c))
 
-      to_rest : (pair : Pair) → Contains ps pair → Contains qs pair
-      to_rest pair c =
-          ⊎_elim
-          (λ (e : q ≡ pair). absurd (not_itself p.0 (ap (λ (x : Pair). cmp p.0 x.0) (heads ∙ e) ∙ before_each p.0 ps pair rp.0 c)))
-          (λ (rest : Contains qs pair). rest)
-          (in_cases q pair qs (to pair (in_rest p pair ps c)))
+      rest_of : (x y r : Pair) (xs ys : List Pair) → IsBeforeAll cmp x.0 xs → y ≡ x → Contains xs r → (y ≡ r) ⊎ Contains ys r → Contains ys r
+      rest_of x y r xs ys all e c (inr d) = d
+      rest_of x y r xs ys all e c (inl f) = both (is_lt (cmp x.0 x.0)) (ap (λ (z : Pair). is_lt (cmp x.0 z.0)) (sym e ∙ f) ∙ each_after cmp x.0 xs r all c) (lt_itself total x.0)
 
-      from_rest : (pair : Pair) → Contains qs pair → Contains ps pair
-      from_rest pair c =
-          ⊎_elim
-          (λ (e : p ≡ pair). absurd (not_itself q.0 (ap (λ (x : Pair). cmp q.0 x.0) (sym heads ∙ e) ∙ before_each q.0 qs pair rq.0 c)))
-          (λ (rest : Contains ps pair). rest)
-          (in_cases p pair ps (from pair (in_rest q pair qs c)))
+      to_rest : (r : Pair) → Contains ps r → Contains qs r
+      to_rest r c = rest_of p q r ps qs rp.0 (sym heads) c (in_cases q r qs (to r (in_rest p r ps c)))
+
+      from_rest : (r : Pair) → Contains qs r → Contains ps r
+      from_rest r c = rest_of q p r qs ps rq.0 heads c (in_cases p r ps (from r (in_rest q r qs c)))
 
       joined : p ≡ q → ps ≡ qs → p ∷ ps ≡ q ∷ qs
       joined e es = λ i. e i ∷ es i
 
+pub one_rising_list : OneRisingList
+one_rising_list cmp total these those p q same = one_list cmp total these those p q (λ pair. (same pair).0) (λ pair. (same pair).1)
+
 pub one_view : OneView
 one_view cmp order entries s these those v w =
-    one_list cmp order these those v.sorted w.sorted
+    one_list cmp (exact_total order) these those v.sorted w.sorted
     (λ pair c. (w.exactly pair.0 pair.1).1 ((v.exactly pair.0 pair.1).0 c))
     (λ pair c. (v.exactly pair.0 pair.1).1 ((w.exactly pair.0 pair.1).0 c))
 

@@ -3,5 +3,12 @@ pub mod CrcLemmas
 pub mod BlockHandleLemmas
 pub mod KeyTypesLemmas
 pub mod CmpLemmas
+pub mod OrderLemmas
 pub mod HistoryLemmas
+pub mod PositionLemmas
+pub mod EntriesLemmas
+pub mod ViewLemmas
+pub mod ScanLemmas
+pub mod BackwardLemmas
+pub mod LayersLemmas
 pub mod NamesLemmas

@@ -1,5 +1,6 @@
 -- Entries, histories, and the values of keys at a sequence number.
 use Rattle.std.specs.Prelude.{◌≡◌, ◌<◌, ◌≤◌, ◌+◌, ℕ, List, [], ◌∷◌, ◌++◌, length, take, flat_map, max, Option, Some, None, All, ◌↔◌, Contains}
+use Rattle.std.specs.Cmp.{IsTotalOrder}
 use Rattle.std.specs.declared.cmp.Ordering.{Ordering}
 use Rattle.std.specs.declared.cmp.Ordering.TheVariants.{Less}
 use Rattle.leveldb_base.specs.Types.{Pair}
@@ -111,7 +112,13 @@ module _ (cmp : List ℕ → List ℕ → Ordering) where
     pub exactly : (key value : List ℕ)
         → Contains pairs (key, value) ↔ HasValueAt entries s key value
 
--- ---- laws of views
+-- ---- laws of lists and views
+
+-- lists of the same pairs whose keys rise are one list
+abbrev pub OneRisingList : Type 0
+OneRisingList = (cmp : List ℕ → List ℕ → Ordering) → IsTotalOrder cmp
+    → (these those : List Pair) → AreRising cmp these → AreRising cmp those
+    → ((pair : Pair) → Contains these pair ↔ Contains those pair) → these ≡ those
 
 -- two views of one set are equal
 abbrev pub OneView : Type 0

@@ -7,4 +7,8 @@ pub mod KeyTypes
 pub mod Cmp
 pub mod CmpLaws
 pub mod History
+pub mod Entries
+pub mod View
+pub mod Scan
+pub mod Layers
 pub mod Names

@@ -9,7 +9,9 @@ ghost use Rattle.leveldb_base.specs.declared.key_types.ValueType.{ValueType};
 ghost use Rattle.leveldb_base.specs.declared.error.Status.{Status};
 ghost use Rattle.leveldb_base.specs.declared.types.FileType.{FileType};
 ghost use Rattle.leveldb_base.specs.Names.{IsFileName, ReadsName, MayHaveNumber, file_name, file_path};
-ghost use Rattle.leveldb_base.specs.History.{OneView, EachHasView, ViewPasses, SharedViewIsSame, SameWithMore};
+ghost use Rattle.leveldb_base.specs.History.{OneView, EachHasView, ViewPasses, SharedViewIsSame, SameWithMore, OneRisingList};
+
+pub mod entries;
 
 /// The bytes that encode a number are those that are written for it, so equal numbers are equal
 /// bytes.
@@ -138,4 +140,9 @@ pub fn same_sets_have_same_view()
 /// Sets that give the same values still do once the same newer entries are added to both.
 pub fn newer_entries_keep_sameness()
     ensures { SameWithMore }
+{}
+
+/// Lists of the same pairs whose keys rise are one list, in any total order.
+pub fn rising_lists_are_one()
+    ensures { OneRisingList }
 {}

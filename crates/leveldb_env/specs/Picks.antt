@@ -10,8 +10,8 @@ use Rattle.std.specs.Str.{bytes_eq}
 use Rattle.std.specs.declared.alloc.Global.{Global}
 use Rattle.leveldb_base.specs.declared.error.Status.{Status}
 use Rattle.leveldb_base.specs.declared.error.StatusCode.TheVariants.{InvalidArgument}
-use Rattle.leveldb_env.specs.Calls.{NoMemory}
-use Rattle.leveldb_env.specs.Disk.{Files, kept_file, AreBytes, Leaves}
+use Rattle.leveldb_base.specs.Error.{IsOutOfMemory}
+use Rattle.leveldb_env.specs.Env.{Files, kept_file, AreBytes, FilesCrashTo}
 
 -- names, each with the tail that is picked for it
 abbrev pub Tails : Type 0
@@ -25,9 +25,10 @@ tails_of tails = map (λ pick. (string_bytes pick.0, pick.1.items)) tails
 abbrev pub tail_for : Tails → List ℕ → List ℕ
 tail_for tails name = unwrap_or (lookup (bytes_eq name) tails) []
 
--- of each file its kept bytes and behind them the tail picked for it, all kept
+-- of each file its kept bytes and after them the tail picked for it, all kept
 abbrev pub picked : Tails → Files → Files
-picked tails files = λ name. option_map (λ file. kept_file (file.kept ++ tail_for tails name)) (files name)
+picked tails files = λ name. option_map
+    (λ file. kept_file (file.kept ++ tail_for tails name)) (files name)
 
 -- a tail for a file that is there, no longer than what was appended since
 pub record IsTailOf (files : Files) (pick : List ℕ × List ℕ) : Type 0 where
@@ -41,13 +42,16 @@ pub record IsAllowed (files : Files) (tails : Tails) : Type 0 where
 
 -- in order of name what the files have past their kept bytes, where they have any
 pub record ListsTails (files : Files) (tails : Tails) : Type 0 where
-  pub each : (name tail : List ℕ) → Contains tails (name, tail) ↔ IsSomeAnd (files name) (λ file. (file.since ≡ tail) × (0 < length tail))
+  pub each : (name tail : List ℕ) → Contains tails (name, tail)
+      ↔ IsSomeAnd (files name) (λ file. (file.since ≡ tail) × (0 < length tail))
   pub in_order : IsStrictlySortedBy (slice_cmp nat_cmp) (keys_of tails)
 
 -- whatever a crash leaves, it leaves by tails that are allowed
-abbrev pub LeavesByTails : Files → Type 0
-LeavesByTails files = (left : Files) → Leaves files left → (tails : Tails) × IsAllowed files tails × (left ≡ picked tails files)
+abbrev pub CrashesByTails : Files → Type 0
+CrashesByTails files = (left : Files) → FilesCrashTo files left → (tails : Tails)
+    × IsAllowed files tails × (left ≡ picked tails files)
 
--- a choice is refused where no crash leaves it, and else for want of memory alone
-abbrev pub IsRefused : Files → Tails → Status → Type 0
-IsRefused files tails e = (NoMemory e × IsAllowed files tails) ⊎ ((e.code ≡ InvalidArgument) × (IsAllowed files tails → ⊥))
+-- a choice fails where no crash leaves it, and else out of memory alone
+abbrev pub IsChoiceError : Files → Tails → Status → Type 0
+IsChoiceError files tails e = (IsOutOfMemory e × IsAllowed files tails)
+    ⊎ ((e.code ≡ InvalidArgument) × (IsAllowed files tails → ⊥))

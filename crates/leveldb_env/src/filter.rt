@@ -1,7 +1,6 @@
-//! Filters: what tells of most keys that they are in none of the blocks that it was made for.
-ghost use Rattle.std.specs.Prelude.{◌≡◌, ◌<◌, ◌≤◌, ℕ, Bool, true, List, [], length, All, Contains, IfOk, IfErr, OnOk, slice_index_or};
-ghost use Rattle.std.specs.List.Sorted.{IsNonDecreasing};
-ghost use Rattle.leveldb_env.specs.Filters.{keys_at, IsNoFilter};
+//! Filters, which rule out most keys that are in none of the blocks that they were made for.
+ghost use Rattle.std.specs.Prelude.{◌≡◌, ◌<◌, ℕ, Bool, true, List, [], length, Contains, IfOk, IfErr, OnOk, slice_index_or};
+ghost use Rattle.leveldb_env.specs.Filter.{keys_at, IsFilterError};
 
 use leveldb_base::error::Result;
 use std::alloc::Global;
@@ -13,7 +12,7 @@ pub use bloom::BloomPolicy;
 pub use internal::InternalFilterPolicy;
 
 /// How a filter is made for keys, and how a key is looked for in it. A key from which a filter was
-/// made matches it; of another key the answer is open.
+/// made matches it; of another key it is left open.
 pub trait FilterPolicy {
     ghost name: { Self → List ℕ };
 
@@ -30,21 +29,23 @@ pub trait FilterPolicy {
     fn name(&self) -> &'static str
         ensures { result.now ≡ name self.now };
 
-    /// A filter for keys that stand one after another, each from its offset on to the next one or
-    /// to the end. `NotSupported` where the filter is too large.
+    /// A filter for keys that are stored one after another, each from its offset on to the next one
+    /// or to the end; a key is empty where the next offset isn't after its own. `NotSupported`
+    /// where the filter is too large.
     fn create_filter(&self, alloc: Global, keys: &[u8], key_offsets: &[usize]) -> Result<Vec<u8>>
-        requires rising { IsNonDecreasing key_offsets.now }
-        requires within { All (λ offset. offset ≤ length keys.now) key_offsets.now }
-        ensures ok { IfOk result (λ filter. filter.items ≡ filter_for self.now (keys_at key_offsets.now keys.now)) }
+        ensures ok { IfOk result
+            (λ filter. filter.items ≡ filter_for self.now (keys_at key_offsets.now keys.now)) }
         ensures fits { OnOk result (too_large self.now (keys_at key_offsets.now keys.now) → ⊥) }
-        ensures cause { IfErr result (IsNoFilter (too_large self.now (keys_at key_offsets.now keys.now))) };
+        ensures cause { IfErr result
+            (IsFilterError (too_large self.now (keys_at key_offsets.now keys.now))) };
 
     /// Whether the key may be one of those that the filter was made for. It takes no memory.
     fn key_may_match(&self, key: &[u8], filter: &[u8]) -> bool
         ensures { result ≡ matches self.now key.now filter.now };
 
     /// A key from which a filter was made matches it.
-    ghost finds: { (policy : Self) (keys : List (List ℕ)) (key : List ℕ) → Contains keys key → matches policy key (filter_for policy keys) ≡ true };
+    ghost finds: { (policy : Self) (keys : List (List ℕ)) (key : List ℕ) → Contains keys key
+        → matches policy key (filter_for policy keys) ≡ true };
 }
 
 /// A reference to a policy is one too.
@@ -114,18 +115,18 @@ impl FilterPolicy for NoFilterPolicy {
     ghost finds = { λ _ _ _ _. refl };
 }
 
-// The key of this number among those that stand one after another.
+// The key of this index among those that are stored one after another. Offsets that fall, or that
+// are past the end, cut what there is.
 #[inline]
 fn key_at<'a>(keys: &'a [u8], key_offsets: &[usize], index: usize) -> &'a [u8]
-    requires rising { IsNonDecreasing key_offsets.now }
-    requires within { All (λ offset. offset ≤ length keys.now) key_offsets.now }
     requires there { index < length key_offsets.now }
     ensures { result.now ≡ slice_index_or (keys_at key_offsets.now keys.now) index [] }
 {
+    let begin = key_offsets[index].min(keys.len());
     let end = if index + 1 < key_offsets.len() {
         key_offsets[index + 1]
     } else {
         keys.len()
     };
-    &keys[key_offsets[index]..end]
+    &keys[begin..end.min(keys.len()).max(begin)]
 }

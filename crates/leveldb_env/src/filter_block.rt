@@ -1,17 +1,15 @@
 //! Filter blocks: the filters of a table, one for each 2048 bytes of it.
 //!
-//! A filter is made of the keys of the blocks that begin in its 2048 bytes, so the block at an offset has the filter at
-//! `offset / 2048`. The filters stand one behind the other; then come their offsets and the offset of these, four bytes
-//! each, and the byte 11.
+//! A filter is made of the keys of the blocks that begin in its 2048 bytes, so the block at an
+//! offset has the filter at `offset / 2048`. The filters are stored one after another; then come
+//! their offsets and the offset of these, four bytes each, and the byte 11.
 ghost use Rattle.std.specs.Prelude.{◌≡◌, ◌↔◌, ◌⊎◌, ◌+◌, ◌-◌, ◌*◌, ◌/◌, ◌^◌, ◌<◌, ◌≤◌, [], ◌∷◌, ◌++◌, length, flat_map, get_or, replicate, All, IfOk, IfErr, OnOk, OnErr, IsErrAnd, IsTrue, IsOk};
 ghost use Rattle.std.specs.List.{concat};
 ghost use Rattle.leveldb_base.specs.Error.{IsOutOfMemory};
 ghost use Rattle.leveldb_base.specs.Varint.{little};
 ghost use Rattle.leveldb_base.specs.declared.error.StatusCode.TheVariants.{Corruption, NotSupported};
-ghost use Rattle.leveldb_env.specs.FilterBlock.{IsFilterBlock, IsNoFilterBlock, OneReading, OneSpelling, KeepsKeys, passes, filter_of, with_key, started, finished, IsTooLarge, IsNotMade};
-ghost use Rattle.leveldb_env.specs.FilterBlockParts.{places_from, BeginsAt, RiseFrom, Held, Checks};
-ghost use Rattle.leveldb_env.specs.FilterBlockLaws.{Held-prop};
-ghost use Rattle.leveldb_env.specs.Numbers.{numbers_in};
+ghost use Rattle.leveldb_env.specs.FilterBlock.{IsFilterBlock, IsNoFilterBlock, passes, filter_of, with_key, started, finished, IsFilterTooLarge, IsFilterNotMade, places_from, BeginsAt, RiseFrom, HasFiltersEndingAt, FindsFiltersEnd, numbers_in};
+ghost use Rattle.leveldb_env.specs.FilterBlockLaws.{HasFiltersEndingAt-prop};
 
 use crate::filter::FilterPolicy;
 use byteorder::{ByteOrder, LittleEndian};
@@ -40,18 +38,19 @@ pub struct FilterBlockBuilder<FP: FilterPolicy> {
 }
 
 impl<FP: FilterPolicy> Model for FilterBlockBuilder<FP> {
-    ghost use Rattle.leveldb_env.specs.FilterBlock.{Building, building_code};
+    ghost use Rattle.leveldb_env.specs.FilterBlock.{FiltersBuilt, filters_built_code};
 
-    ghost Value = { Building FP };
+    ghost Value = { FiltersBuilt FP };
 
-    ghost coded = { building_code FP.code };
+    ghost coded = { filters_built_code FP.code };
 
     ghost use Rattle.std.specs.Prelude.{◌^◌, ◌<◌, length};
     ghost use Rattle.std.specs.List.{concat};
 
     ghost view = { λ it. record { policy = it.policy; filters = it.filters; keys = it.keys } };
 
-    ghost invariant = { λ it. (length (concat it.filters) < 2 ^ 32) × (length it.filters < 2 ^ 53) };
+    ghost invariant = { λ it. (length (concat it.filters) < 2 ^ 32)
+        × (length it.filters < 2 ^ 53) };
 }
 
 impl<FP: FilterPolicy> FilterBlockBuilder<FP> {
@@ -68,8 +67,8 @@ impl<FP: FilterPolicy> FilterBlockBuilder<FP> {
         }
     }
 
-    /// How many bytes the block would have without a filter of the open keys: those of the filters, four for each
-    /// offset, and five.
+    /// How many bytes the block would have without a filter of the open keys: those of the filters,
+    /// four for each offset, and five.
     pub fn size_estimate(&self) -> usize
         ensures { result ≡ length (concat self.now.filters) + 4 * length self.now.filters + 5 }
     {
@@ -92,19 +91,23 @@ impl<FP: FilterPolicy> FilterBlockBuilder<FP> {
         self.keys.push(key, 1)
     }
 
-    /// Begins a block at `offset`: makes the filters that are missing before its own, the first of them of the keys that
-    /// were added, the others empty.
-    /// `NotSupported` where the policy finds the keys' filter too large, or the filters would have 2^32 bytes or more.
+    /// Begins a block at `offset`: makes the filters that are missing before its own, the first of
+    /// them of the keys that were added, the others empty. `NotSupported` where the policy finds
+    /// the keys' filter too large, or the filters would have 2^32 bytes or more.
     pub fn start_block(&mut self, offset: usize) -> Result<()>
         requires { 2048 * length self.old.filters ≤ offset }
-        ensures ok { OnOk result (self.new ≡ started (FP.filter_for self.old.policy) offset self.old) }
+        ensures ok { OnOk result
+            (self.new ≡ started (FP.filter_for self.old.policy) offset self.old) }
         ensures policy { self.new.policy ≡ self.old.policy }
         ensures open { OnOk result (length self.new.filters ≡ offset / 2048) }
         ensures none { offset / 2048 ≡ length self.old.filters → IsOk result }
-        ensures not_too_large { OnOk result (length self.old.filters < offset / 2048 → IsTooLarge (FP.too_large self.old.policy) (FP.filter_for self.old.policy) self.old.filters self.old.keys → ⊥) }
-        ensures fits { length (concat self.new.filters) < 2 ^ 32 }
+        ensures not_too_large { OnOk result (length self.old.filters < offset / 2048
+            → IsFilterTooLarge (FP.too_large self.old.policy)
+            (FP.filter_for self.old.policy) self.old.filters self.old.keys → ⊥) }
         ensures err { OnErr result (self.new ≡ self.old) }
-        ensures cause { IfErr result (IsNotMade (FP.too_large self.old.policy) (FP.filter_for self.old.policy) self.old.filters self.old.keys) }
+        ensures cause { IfErr result
+            (IsFilterNotMade (FP.too_large self.old.policy)
+            (FP.filter_for self.old.policy) self.old.filters self.old.keys) }
     {
         let missing = offset / FILTER_BASE - self.filters.len();
         if missing == 0 {
@@ -115,14 +118,20 @@ impl<FP: FilterPolicy> FilterBlockBuilder<FP> {
         Ok(())
     }
 
-    /// The block of the filters; keys that are left make one more.
-    /// `NotSupported` where the policy finds their filter too large, or the filters would have 2^32 bytes or more.
+    /// The block of the filters; keys that are left make one more. `NotSupported` where the policy
+    /// finds their filter too large, or the filters would have 2^32 bytes or more.
     pub fn finish(mut self) -> Result<Vec<u8>>
     where
         FP: Drop,
-        ensures ok { IfOk result (λ block. IsFilterBlock block.items (finished (FP.filter_for self.policy) self.filters self.keys)) }
-        ensures not_too_large { OnOk result (IsTooLarge (FP.too_large self.policy) (FP.filter_for self.policy) self.filters self.keys → ⊥) }
-        ensures cause { IfErr result (IsNotMade (FP.too_large self.policy) (FP.filter_for self.policy) self.filters self.keys) }
+        ensures ok { IfOk result
+            (λ block. IsFilterBlock block.items
+            (finished (FP.filter_for self.policy) self.filters self.keys)) }
+        ensures not_too_large { OnOk result
+            (IsFilterTooLarge (FP.too_large self.policy)
+            (FP.filter_for self.policy) self.filters self.keys → ⊥) }
+        ensures cause { IfErr result
+            (IsFilterNotMade (FP.too_large self.policy)
+            (FP.filter_for self.policy) self.filters self.keys) }
     {
         if self.keys.len() > 0 {
             make_filters(&self.policy, &self.keys, &mut self.filters, 1)?;
@@ -131,7 +140,7 @@ impl<FP: FilterPolicy> FilterBlockBuilder<FP> {
     }
 }
 
-// Puts so many filters behind the others: one of the keys, and then empty ones.
+// Appends `count` filters: one of the keys, and then empty ones.
 fn make_filters<FP: FilterPolicy>(
     policy: &FP,
     keys: &Texts,
@@ -140,11 +149,17 @@ fn make_filters<FP: FilterPolicy>(
 ) -> Result<()>
     requires some { 1 ≤ count }
     requires fits { length (concat filters.old) < 2 ^ 32 }
-    ensures ok { OnOk result (filters.new ≡ filters.old ++ filter_of (FP.filter_for policy.now) keys.now ∷ replicate (count - 1) []) }
-    ensures not_too_large { OnOk result (IsTooLarge (FP.too_large policy.now) (FP.filter_for policy.now) filters.old keys.now → ⊥) }
+    ensures ok { OnOk result
+        (filters.new ≡ filters.old ++ filter_of (FP.filter_for policy.now) keys.now ∷ replicate
+        (count - 1) []) }
+    ensures not_too_large { OnOk result
+        (IsFilterTooLarge (FP.too_large policy.now) (FP.filter_for policy.now) filters.old keys.now
+        → ⊥) }
     ensures fits { length (concat filters.new) < 2 ^ 32 }
     ensures err { OnErr result (filters.new ≡ filters.old) }
-    ensures cause { IfErr result (IsNotMade (FP.too_large policy.now) (FP.filter_for policy.now) filters.old keys.now) }
+    ensures cause { IfErr result
+        (IsFilterNotMade (FP.too_large policy.now)
+        (FP.filter_for policy.now) filters.old keys.now) }
 {
     if keys.len() == 0 {
         return filters.push(&[], count);
@@ -180,7 +195,8 @@ fn write_block(filters: Texts) -> Result<Vec<u8>>
 // Puts offsets of four bytes each.
 fn put_offsets(block: &mut Vec<u8>, offsets: &[usize]) -> Result<()>
     requires { All (λ offset. offset < 2 ^ 32) offsets.now }
-    ensures ok { OnOk result (block.new.items ≡ block.old.items ++ flat_map (little 4) offsets.now) }
+    ensures ok { OnOk result
+        (block.new.items ≡ block.old.items ++ flat_map (little 4) offsets.now) }
     ensures memory { IfErr result IsOutOfMemory }
 {
     for offset in offsets {
@@ -209,15 +225,15 @@ pub struct FilterBlockReader<FP: FilterPolicy> {
 
     // where the filters end and their offsets begin
     limit: usize,
-    ghost held: { Held contents limit } by { Held-prop contents limit },
+    ghost held: { HasFiltersEndingAt contents limit } by { HasFiltersEndingAt-prop contents limit },
 }
 
 impl<FP: FilterPolicy> Model for FilterBlockReader<FP> {
-    ghost use Rattle.leveldb_env.specs.FilterBlock.{Reading, reading_code};
+    ghost use Rattle.leveldb_env.specs.FilterBlock.{FiltersRead, filters_read_code};
 
-    ghost Value = { Reading FP };
+    ghost Value = { FiltersRead FP };
 
-    ghost coded = { reading_code FP.code };
+    ghost coded = { filters_read_code FP.code };
 
     ghost view = { λ it. record { policy = it.policy; filters = it.held.0 } };
 }
@@ -228,7 +244,8 @@ impl<FP: FilterPolicy + Drop> FilterBlockReader<FP> {
     pub fn new(alloc: Global, policy: FP, contents: Bytes) -> Result<FilterBlockReader<FP>>
         ensures ok { IfOk result (λ reader. IsFilterBlock contents reader.filters) }
         ensures policy { IfOk result (λ reader. reader.policy ≡ policy) }
-        ensures damage { IsErrAnd result (λ status. status.code ≡ Corruption) → IsNoFilterBlock contents }
+        ensures damage { IsErrAnd result (λ status. status.code ≡ Corruption)
+            → IsNoFilterBlock contents }
         ensures cause { IfErr result (λ status. (status.code ≡ Corruption) ⊎ IsOutOfMemory status) }
     {
         match filters_end(contents.as_slice()) {
@@ -246,7 +263,8 @@ impl<FP: FilterPolicy + Drop> FilterBlockReader<FP> {
     pub fn new_owned(alloc: Global, policy: FP, bytes: Vec<u8>) -> Result<FilterBlockReader<FP>>
         ensures ok { IfOk result (λ reader. IsFilterBlock bytes.items reader.filters) }
         ensures policy { IfOk result (λ reader. reader.policy ≡ policy) }
-        ensures damage { IsErrAnd result (λ status. status.code ≡ Corruption) → IsNoFilterBlock bytes.items }
+        ensures damage { IsErrAnd result (λ status. status.code ≡ Corruption)
+            → IsNoFilterBlock bytes.items }
         ensures cause { IfErr result (λ status. (status.code ≡ Corruption) ⊎ IsOutOfMemory status) }
     {
         FilterBlockReader::new(alloc, policy, Bytes::from_vec(bytes)?)
@@ -261,10 +279,11 @@ impl<FP: FilterPolicy> FilterBlockReader<FP> {
         (self.contents.len() - self.limit - 5) / 4
     }
 
-    /// Whether the key may be in the block at this offset of the table. True where there is no filter for the block. It
-    /// takes no memory.
+    /// Whether the key may be in the block at this offset of the table. True where there is no
+    /// filter for the block. It takes no memory.
     pub fn key_may_match(&self, block_offset: usize, key: &[u8]) -> bool
-        ensures { result ≡ passes (FP.matches self.now.policy) self.now.filters block_offset key.now }
+        ensures { result ≡ passes
+            (FP.matches self.now.policy) self.now.filters block_offset key.now }
     {
         let index = block_offset / FILTER_BASE;
         if index >= self.num() {
@@ -276,7 +295,7 @@ impl<FP: FilterPolicy> FilterBlockReader<FP> {
             .key_may_match(key, &self.contents.as_slice()[begin..end])
     }
 
-    // Where a filter begins, or behind the last one where that ends.
+    // Where a filter begins, or after the last one where that ends.
     fn place(&self, index: usize) -> usize
         requires { index ≤ length self.now.filters }
         ensures { result ≡ get_or (places_from 0 self.now.filters) index 0 }
@@ -285,9 +304,10 @@ impl<FP: FilterPolicy> FilterBlockReader<FP> {
     }
 }
 
-// Where the filters of a block end and their offsets begin; `None` where the bytes are no filter block.
+// Where the filters of a block end and their offsets begin; `None` where the bytes are no filter
+// block.
 fn filters_end(bytes: &[u8]) -> Option<usize>
-    ensures { Checks bytes.now result }
+    ensures { FindsFiltersEnd bytes.now result }
 {
     let tail = bytes.len().checked_sub(5)?;
     let limit = LittleEndian::read_u32(&bytes[tail..]) as usize;
@@ -306,7 +326,8 @@ fn filters_end(bytes: &[u8]) -> Option<usize>
 // Whether numbers of four bytes each begin with 0, and none is below the one before it.
 fn rise_from_zero(bytes: &[u8]) -> bool
     requires { 4 ≤ length bytes.now }
-    ensures { IsTrue result ↔ (BeginsAt 0 (numbers_in bytes.now) × RiseFrom 0 (numbers_in bytes.now)) }
+    ensures { IsTrue result
+        ↔ (BeginsAt 0 (numbers_in bytes.now) × RiseFrom 0 (numbers_in bytes.now)) }
 {
     if LittleEndian::read_u32(bytes) != 0 {
         return false;
@@ -323,15 +344,3 @@ fn rise_from_zero(bytes: &[u8]) -> bool
     }
     true
 }
-
-/// Bytes are a filter block in one way, and filters have one block.
-pub fn filter_blocks_have_one_reading()
-    ensures reading { OneReading }
-    ensures spelling { OneSpelling }
-{}
-
-/// A key that was added for a block passes in the finished filter block at the block's offset: its filter is open when the
-/// block begins, and whatever is added or begun after that, it is kept.
-pub fn added_keys_pass<FP: FilterPolicy>(_policy: &FP)
-    ensures { KeepsKeys FP FP.filter_for FP.matches }
-{}

@@ -1,11 +1,11 @@
 //! An environment in memory.
 ghost use Rattle.std.specs.Prelude.{◌≡◌, ◌⊎◌, ◌<◌, ◌+◌, ◌^◌, true, false, refl, ℕ, List, length, map, codes, Ok, IfOk, IfErr, IfSome, IsErrAnd, OnOk, OnErr, Some, None, IsSome, IsSomeAnd, is_some, string_bytes};
 ghost use Rattle.std.specs.BTreeSet.{contains_text};
-ghost use Rattle.leveldb_base.specs.Error.{status_text, annotated};
-ghost use Rattle.leveldb_env.specs.Disk.{bytes_of, emptied, created, deleted, renamed, extended, synced, without_folder, lock_set, LeavesDisk};
-ghost use Rattle.leveldb_env.specs.Calls.{NoMemory, Lists};
-ghost use Rattle.leveldb_env.specs.Picks.{picked, tails_of, IsAllowed, IsRefused, LeavesByTails};
-ghost use Rattle.leveldb_env.specs.Mem.{Changes, CopiesFrom, IsNoSuchFile, IsNoFileOrMemory, IsAlreadyLocked, IsNotLocked, lock_taken, lock_freed, disk_of, time_of, told_of, handle_name, handle_place, fails_below, never_stood, tells_no_moments};
+ghost use Rattle.leveldb_base.specs.Error.{status_text, annotated, IsOutOfMemory};
+ghost use Rattle.leveldb_env.specs.Env.{bytes_of, emptied, created, deleted, renamed, extended, synced, without_folder, lock_set, DiskCrashesTo, ListsChildren};
+ghost use Rattle.leveldb_env.specs.Picks.{picked, tails_of, IsAllowed, IsChoiceError, CrashesByTails};
+ghost use Rattle.leveldb_env.specs.MemEnv.{ChangesOrFails, CopiesFrom, IsNoSuchFile, IsNoFileOrMemory, IsAlreadyLocked, IsNotLocked, lock_taken, lock_freed, disk_of, time_of, mem_observed, handle_name, handle_offset, IsMovedBy};
+ghost use Rattle.leveldb_env.specs.MemEnvLaws.{mem_failures_below, mem_only_now, mem_counts_now};
 
 pub mod files;
 mod journal;
@@ -13,6 +13,7 @@ pub mod picks;
 mod record;
 
 use crate::env::Env;
+use crate::errors::refuse;
 use files::FileMap;
 use leveldb_base::error::{Result, Status, StatusCode, err};
 pub use picks::Pick;
@@ -20,7 +21,7 @@ pub use record::RecordEnv;
 use std::alloc::{AllocError, Global};
 use std::collections::{BTreeMap, BTreeSet};
 
-/// A disk in memory. Each call is done at once or, where memory is refused, not at all.
+/// A disk in memory. Each call is done at once or, if it is out of memory, not at all.
 #[derive(Drop)]
 pub struct MemEnv {
     alloc: Global,
@@ -33,11 +34,11 @@ pub struct MemEnv {
 #[derive(Drop)]
 pub struct MemHandle {
     name: String,
-    place: usize,
+    offset: usize,
 }
 
 impl MemEnv {
-    /// A disk without a name or a lock, at time 0. No device ever refuses it a call.
+    /// A disk without a name or a lock, at time 0. No device ever fails a call.
     pub fn new(alloc: Global) -> MemEnv
         ensures files { (name : List ℕ) → (disk_of result).files name ≡ None }
         ensures locks { (name : List ℕ) → (disk_of result).locked name ≡ false }
@@ -52,7 +53,7 @@ impl MemEnv {
         }
     }
 
-    /// Sets the time that `micros` answers from now on.
+    /// Sets the time that `micros` returns from now on.
     pub fn set_micros(&mut self, micros: u64)
         ensures time { time_of self.new ≡ micros }
         ensures disk { disk_of self.new ≡ disk_of self.old }
@@ -60,18 +61,22 @@ impl MemEnv {
         self.micros = micros;
     }
 
-    /// The disk that a crash now leaves by this choice: of each file the kept bytes and the tail picked
-    /// for it, then all kept, no lock held, the time as it was. `pick.after` is ignored.
+    /// The disk that a crash now leaves by this choice: of each file the kept bytes and the tail
+    /// picked for it, then all kept, no lock held, the time as it was. `pick.after` is ignored.
     ///
     /// `InvalidArgument` for a name given twice or not there, and for a tail longer than what was
     /// appended since. Each disk that a crash may leave is left by some choice.
     pub fn crashed(&self, alloc: Global, pick: &Pick) -> Result<MemEnv>
-        ensures left { IfOk result (λ left. (disk_of left).files ≡ picked (tails_of pick.now.tails.items) (disk_of self.now).files) }
-        ensures leaves { IfOk result (λ left. LeavesDisk (disk_of self.now) (disk_of left)) }
+        ensures left { IfOk result
+            (λ left. (disk_of left).files ≡ picked (tails_of pick.now.tails.items)
+            (disk_of self.now).files) }
+        ensures leaves { IfOk result (λ left. DiskCrashesTo (disk_of self.now) (disk_of left)) }
         ensures time { IfOk result (λ left. time_of left ≡ time_of self.now) }
-        ensures allowed { OnOk result (IsAllowed (disk_of self.now).files (tails_of pick.now.tails.items)) }
-        ensures refused { IfErr result (IsRefused (disk_of self.now).files (tails_of pick.now.tails.items)) }
-        ensures every { LeavesByTails (disk_of self.now).files }
+        ensures allowed { OnOk result
+            (IsAllowed (disk_of self.now).files (tails_of pick.now.tails.items)) }
+        ensures refused { IfErr result
+            (IsChoiceError (disk_of self.now).files (tails_of pick.now.tails.items)) }
+        ensures every { CrashesByTails (disk_of self.now).files }
     {
         if !picks::is_allowed(&self.files, pick.tails.as_slice()) {
             return err(
@@ -88,15 +93,16 @@ impl MemEnv {
         })
     }
 
-    // Copies bytes of the name's file from a place on to the front of the target.
-    fn copy_at(&self, name: &str, place: usize, target: &mut [u8]) -> Result<usize>
-        ensures copied { IfOk result (λ n. CopiesFrom ((disk_of self.now).files name.now) place n target.old target.new) }
-        ensures end { IfOk result (λ n. place + n < 2 ^ 64) }
+    // Copies bytes of the name's file from an offset on to the front of the target.
+    fn copy_at(&self, name: &str, offset: usize, target: &mut [u8]) -> Result<usize>
+        ensures copied { IfOk result
+            (λ n. CopiesFrom ((disk_of self.now).files name.now) offset n target.old target.new) }
+        ensures end { IfOk result (λ n. offset + n < 2 ^ 64) }
         ensures refused { IfErr result (IsNoSuchFile (disk_of self.now).files name.now) }
         ensures err { OnErr result (target.new ≡ target.old) }
     {
         match self.files.get(name) {
-            Some(file) => Ok(file.read_at(place, target)),
+            Some(file) => Ok(file.read_at(offset, target)),
             None => missing(self.alloc, name),
         }
     }
@@ -106,31 +112,22 @@ impl MemHandle {
     // A handle that begins to read at the file's first byte.
     fn new(alloc: Global, name: &str) -> std::result::Result<MemHandle, AllocError>
         ensures name { IfOk result (λ handle. string_bytes handle.name ≡ name.now) }
-        ensures place { IfOk result (λ handle. handle.place ≡ 0) }
+        ensures offset { IfOk result (λ handle. handle.offset ≡ 0) }
     {
         Ok(MemHandle {
             name: String::from_str(alloc, name)?,
-            place: 0,
+            offset: 0,
         })
     }
-}
-
-// A refusal whose text says what is wrong with which name, where there is memory for it.
-#[cold]
-fn refuse<T>(alloc: Global, code: StatusCode, what: &str, name: &str) -> Result<T>
-    ensures code { IsErrAnd result (λ status. status.code ≡ code) }
-    ensures text { IsErrAnd result (λ status. IfSome status.err (λ text. string_bytes text ≡ status_text code (annotated what.now name.now))) }
-{
-    let Ok(msg) = format!(in alloc; "{what}: {name}") else {
-        return Err(Status { code, err: None });
-    };
-    Err(Status::new(alloc, code, msg.as_str()))
 }
 
 #[cold]
 fn missing<T>(alloc: Global, name: &str) -> Result<T>
     ensures code { IsErrAnd result (λ status. status.code ≡ StatusCode.NotFound) }
-    ensures text { IsErrAnd result (λ status. IfSome status.err (λ text. string_bytes text ≡ status_text StatusCode.NotFound (annotated (codes "no such file") name.now))) }
+    ensures text { IsErrAnd result
+        (λ status. IfSome status.err
+        (λ text. string_bytes text ≡ status_text StatusCode.NotFound
+        (annotated (codes "no such file") name.now))) }
 {
     refuse(alloc, StatusCode::NotFound, "no such file", name)
 }
@@ -140,7 +137,8 @@ fn put_lock(
     alloc: Global,
     name: &str,
 ) -> std::result::Result<(), AllocError>
-    ensures ok { OnOk result (contains_text locks.new ≡ lock_set name.now true (contains_text locks.old)) }
+    ensures ok { OnOk result
+        (contains_text locks.new ≡ lock_set name.now true (contains_text locks.old)) }
     ensures err { OnErr result (contains_text locks.new ≡ contains_text locks.old) }
 {
     locks.insert(String::from_str(alloc, name)?)?;
@@ -158,29 +156,30 @@ fn take_lock(locks: &mut BTreeSet<String>, name: &str) -> bool
 impl Env for MemEnv {
     type File = MemHandle;
 
-    ghost tells_disk = { true };
+    ghost models_disk = { true };
 
-    ghost tells_moments = { false };
+    ghost models_moments = { false };
 
-    ghost tells = { told_of };
+    ghost observed = { mem_observed };
 
     ghost failures = { λ _. 0 };
 
     ghost name_of = { handle_name };
 
-    ghost place_of = { handle_place };
+    ghost offset_of = { handle_offset };
 
-    ghost counts = { fails_below };
+    ghost counts = { mem_failures_below };
 
-    ghost only_now = { never_stood };
+    ghost only_now = { mem_only_now };
 
-    ghost counts_now = { tells_no_moments };
+    ghost counts_now = { mem_counts_now };
 
-    ghost moments_need_disk = { λ told. refl };
+    ghost moments_need_disk = { λ modelled. refl };
 
     fn open_sequential_file(&mut self, name: &str) -> Result<MemHandle>
         ensures still { self.new ≡ self.old }
-        ensures file { IfOk result (λ file. (handle_name file ≡ name.now) × (handle_place file ≡ 0)) }
+        ensures file { IfOk result
+            (λ file. (handle_name file ≡ name.now) × (handle_offset file ≡ 0)) }
         ensures there { OnOk result (IsSome ((disk_of self.old).files name.now)) }
         ensures refused { IfErr result (IsNoFileOrMemory (disk_of self.old).files name.now) }
     {
@@ -192,7 +191,8 @@ impl Env for MemEnv {
 
     fn open_random_access_file(&mut self, name: &str) -> Result<MemHandle>
         ensures still { self.new ≡ self.old }
-        ensures file { IfOk result (λ file. (handle_name file ≡ name.now) × (handle_place file ≡ 0)) }
+        ensures file { IfOk result
+            (λ file. (handle_name file ≡ name.now) × (handle_offset file ≡ 0)) }
         ensures there { OnOk result (IsSome ((disk_of self.old).files name.now)) }
         ensures refused { IfErr result (IsNoFileOrMemory (disk_of self.old).files name.now) }
     {
@@ -200,9 +200,9 @@ impl Env for MemEnv {
     }
 
     fn open_writable_file(&mut self, name: &str) -> Result<MemHandle>
-        ensures changes { Changes (emptied name.now) self.old self.new result }
+        ensures changes { ChangesOrFails (emptied name.now) self.old self.new result }
         ensures file { IfOk result (λ file. handle_name file ≡ name.now) }
-        ensures refused { IfErr result NoMemory }
+        ensures refused { IfErr result IsOutOfMemory }
     {
         let handle = MemHandle::new(self.alloc, name)?;
         files::empty_file(&mut self.files, self.alloc, name)?;
@@ -210,9 +210,9 @@ impl Env for MemEnv {
     }
 
     fn open_appendable_file(&mut self, name: &str) -> Result<MemHandle>
-        ensures changes { Changes (created name.now) self.old self.new result }
+        ensures changes { ChangesOrFails (created name.now) self.old self.new result }
         ensures file { IfOk result (λ file. handle_name file ≡ name.now) }
-        ensures refused { IfErr result NoMemory }
+        ensures refused { IfErr result IsOutOfMemory }
     {
         let handle = MemHandle::new(self.alloc, name)?;
         files::create_file(&mut self.files, self.alloc, name)?;
@@ -221,31 +221,38 @@ impl Env for MemEnv {
 
     fn read(&mut self, file: &mut MemHandle, target: &mut [u8]) -> Result<usize>
         ensures still { self.new ≡ self.old }
-        ensures copied { IfOk result (λ n. CopiesFrom ((disk_of self.old).files (handle_name file.old)) (handle_place file.old) n target.old target.new) }
-        ensures place { IfOk result (λ n. handle_place file.new ≡ handle_place file.old + n) }
-        ensures name { handle_name file.new ≡ handle_name file.old }
-        ensures refused { IfErr result (IsNoSuchFile (disk_of self.old).files (handle_name file.old)) }
+        ensures copied { IfOk result
+            (λ n. CopiesFrom ((disk_of self.old).files (handle_name file.old))
+            (handle_offset file.old) n target.old target.new) }
+        ensures moved { IfOk result (λ n. IsMovedBy n file.old file.new) }
+        ensures refused { IfErr result
+            (IsNoSuchFile (disk_of self.old).files (handle_name file.old)) }
         ensures err { OnErr result ((target.new ≡ target.old) × (file.new ≡ file.old)) }
     {
-        let n = self.copy_at(file.name.as_str(), file.place, target)?;
-        file.place += n;
+        let n = self.copy_at(file.name.as_str(), file.offset, target)?;
+        file.offset += n;
         Ok(n)
     }
 
-    fn read_at(&mut self, file: &MemHandle, place: usize, target: &mut [u8]) -> Result<usize>
+    fn read_at(&mut self, file: &MemHandle, offset: usize, target: &mut [u8]) -> Result<usize>
         ensures still { self.new ≡ self.old }
-        ensures copied { IfOk result (λ n. CopiesFrom ((disk_of self.old).files (handle_name file.now)) place n target.old target.new) }
-        ensures refused { IfErr result (IsNoSuchFile (disk_of self.old).files (handle_name file.now)) }
+        ensures copied { IfOk result
+            (λ n. CopiesFrom ((disk_of self.old).files
+            (handle_name file.now)) offset n target.old target.new) }
+        ensures refused { IfErr result
+            (IsNoSuchFile (disk_of self.old).files (handle_name file.now)) }
         ensures err { OnErr result (target.new ≡ target.old) }
     {
-        self.copy_at(file.name.as_str(), place, target)
+        self.copy_at(file.name.as_str(), offset, target)
     }
 
     fn append(&mut self, file: &mut MemHandle, bytes: &[u8]) -> Result<()>
-        ensures changes { Changes (extended (handle_name file.old) bytes.now) self.old self.new result }
+        ensures changes { ChangesOrFails
+            (extended (handle_name file.old) bytes.now) self.old self.new result }
         ensures file { file.new ≡ file.old }
         ensures there { OnOk result (IsSome ((disk_of self.old).files (handle_name file.old))) }
-        ensures refused { IfErr result (IsNoFileOrMemory (disk_of self.old).files (handle_name file.old)) }
+        ensures refused { IfErr result
+            (IsNoFileOrMemory (disk_of self.old).files (handle_name file.old)) }
     {
         let name = file.name.as_str();
         if files::extend_file(&mut self.files, name, bytes)? {
@@ -255,10 +262,11 @@ impl Env for MemEnv {
     }
 
     fn sync(&mut self, file: &mut MemHandle) -> Result<()>
-        ensures changes { Changes (synced (handle_name file.old)) self.old self.new result }
+        ensures changes { ChangesOrFails (synced (handle_name file.old)) self.old self.new result }
         ensures file { file.new ≡ file.old }
         ensures there { OnOk result (IsSome ((disk_of self.old).files (handle_name file.old))) }
-        ensures refused { IfErr result (IsNoSuchFile (disk_of self.old).files (handle_name file.old)) }
+        ensures refused { IfErr result
+            (IsNoSuchFile (disk_of self.old).files (handle_name file.old)) }
     {
         let name = file.name.as_str();
         if files::sync_file(&mut self.files, name) {
@@ -276,15 +284,19 @@ impl Env for MemEnv {
 
     fn children(&mut self, alloc: Global, folder: &str) -> Result<Vec<String>>
         ensures still { self.new ≡ self.old }
-        ensures answer { IfOk result (λ names. Lists (disk_of self.old).files folder.now (map string_bytes names.items)) }
-        ensures refused { IfErr result NoMemory }
+        ensures answer { IfOk result
+            (λ names. ListsChildren (disk_of self.old).files folder.now
+            (map string_bytes names.items)) }
+        ensures refused { IfErr result IsOutOfMemory }
     {
         Ok(files::list_children(&self.files, alloc, folder)?)
     }
 
     fn size_of(&mut self, name: &str) -> Result<usize>
         ensures still { self.new ≡ self.old }
-        ensures answer { IfOk result (λ n. IsSomeAnd ((disk_of self.old).files name.now) (λ file. n ≡ length (bytes_of file))) }
+        ensures answer { IfOk result
+            (λ n. IsSomeAnd ((disk_of self.old).files name.now)
+            (λ file. n ≡ length (bytes_of file))) }
         ensures refused { IfErr result (IsNoSuchFile (disk_of self.old).files name.now) }
     {
         match self.files.get(name) {
@@ -294,7 +306,7 @@ impl Env for MemEnv {
     }
 
     fn delete(&mut self, name: &str) -> Result<()>
-        ensures changes { Changes (deleted name.now) self.old self.new result }
+        ensures changes { ChangesOrFails (deleted name.now) self.old self.new result }
         ensures there { OnOk result (IsSome ((disk_of self.old).files name.now)) }
         ensures refused { IfErr result (IsNoSuchFile (disk_of self.old).files name.now) }
     {
@@ -312,7 +324,7 @@ impl Env for MemEnv {
     }
 
     fn rmdir(&mut self, folder: &str) -> Result<()>
-        ensures changes { Changes (without_folder folder.now) self.old self.new result }
+        ensures changes { ChangesOrFails (without_folder folder.now) self.old self.new result }
         ensures answer { result ≡ Ok tt }
     {
         files::remove_folder(&mut self.files, folder);
@@ -320,7 +332,7 @@ impl Env for MemEnv {
     }
 
     fn rename(&mut self, from: &str, to: &str) -> Result<()>
-        ensures changes { Changes (renamed from.now to.now) self.old self.new result }
+        ensures changes { ChangesOrFails (renamed from.now to.now) self.old self.new result }
         ensures there { OnOk result (IsSome ((disk_of self.old).files from.now)) }
         ensures refused { IfErr result (IsNoFileOrMemory (disk_of self.old).files from.now) }
     {
@@ -335,7 +347,8 @@ impl Env for MemEnv {
         ensures err { OnErr result (disk_of self.new ≡ disk_of self.old) }
         ensures time { time_of self.new ≡ time_of self.old }
         ensures was_free { OnOk result ((disk_of self.old).locked name.now ≡ false) }
-        ensures refused { IfErr result (λ e. NoMemory e ⊎ IsAlreadyLocked (disk_of self.old).locked name.now e) }
+        ensures refused { IfErr result
+            (λ e. IsOutOfMemory e ⊎ IsAlreadyLocked (disk_of self.old).locked name.now e) }
     {
         if self.locks.contains(name) {
             return refuse(self.alloc, StatusCode::LockError, "already locked", name);

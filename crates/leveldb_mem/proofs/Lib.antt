@@ -1,21 +1,21 @@
-mod Rows
-pub mod WriterSteps
-pub mod Ranges
-pub mod ReaderSteps
-pub mod FragmentSteps
-pub mod NoFragments
-pub mod Takings
-pub mod BehindFiller
-pub mod Leads
-pub mod Joinings
-mod Batches
-mod Entries
-mod Laying
+pub mod FragmentLemmas
+pub mod LogLemmas
+pub mod CrashLemmas
+pub mod LawsLemmas
+mod LogRowLemmas
+mod WriterLemmas
+pub mod ReaderLemmas
+mod TakingLemmas
+mod BeginningLemmas
+mod JoiningLemmas
+pub mod WriteBatchLemmas
+pub mod EntryLemmas
+mod MemTableLemmas
+mod TowersLemmas
+mod PlacedLemmas
+mod PathLemmas
+mod InsertionLemmas
+mod LaidLemmas
 mod Halving
 mod Rising
-mod EntryKeys
-mod Newest
-mod Gaining
-mod Walking
-mod Memories
-mod Inserting
+mod SkipMapLemmas

@@ -46,7 +46,7 @@ module _ (cmp : List ℕ → List ℕ → Ordering) where
   before_from key [] each = tt
   before_from key (pair ∷ pairs) each = (each 0 (omega arith), before_from key pairs (λ i h. each (suc i) (omega arith)))
 
-  -- each key is before those behind it
+  -- each key is before those after it
   pub rising_at : (pairs : List Pair) → AreRising cmp pairs → (i j : ℕ) → i < j → j < length pairs → cmp (key_at pairs i) (key_at pairs j) ≡ Less
   rising_at [] rising i j p q = absurd (omega (arith, q))
   rising_at (pair ∷ pairs) rising i zero p q = absurd (omega (arith, p))
@@ -92,7 +92,7 @@ module _ {accepts : List ℕ → Bool} {cmp : List ℕ → List ℕ → Ordering
       (λ (gt : j < i). absurd (omega arith)) w)
       (cases_order i j)
 
-  -- where a key is neither behind nor Equal to the key at a place, and behind all those before, it fits there
+  -- where a key is neither after the key at an index nor Equal to it, and after all those before, it fits there
   pub fits_at : (key : List ℕ) → accepts key ≡ true → (at : ℕ) → at ≤ length pairs → ((i : ℕ) → i < at → cmp (key_at pairs i) key ≡ Less)
       → (at < length pairs → cmp (key_at pairs at) key ≢ Less) → (at < length pairs → cmp (key_at pairs at) key ≢ Equal) → FitsAt cmp pairs at key
   fits_at key ok at within after here other = record {
@@ -143,10 +143,10 @@ module _ {accepts : List ℕ → Bool} {cmp : List ℕ → List ℕ → Ordering
     alone = fits_alone key ok at fits;
   }
 
-  -- behind the last key is a gap, where that is before this one
-  pub gap_behind : (key : List ℕ) → accepts key ≡ true → (end : ℕ) → end ≡ length pairs → 0 < length pairs → cmp (key_at pairs (length pairs - 1)) key ≡ Less
+  -- after the last key is a gap, where that is before this one
+  pub gap_after : (key : List ℕ) → accepts key ≡ true → (end : ℕ) → end ≡ length pairs → 0 < length pairs → cmp (key_at pairs (length pairs - 1)) key ≡ Less
       → IsGap accepts cmp pairs key end
-  gap_behind key ok end whole some last =
+  gap_after key ok end whole some last =
       let after : (i : ℕ) → i < end → cmp (key_at pairs i) key ≡ Less =
       λ i h. is_less (cmp (key_at pairs i) key) (parted_by_order key ok i (length pairs - 1) (omega (arith, h, whole)) (omega (arith, some)) (ap is_lt last)) in
       fits_gap key ok end (fits_at key ok end (omega (arith, whole)) after (λ h. absurd (omega (arith, h, whole))) (λ h. absurd (omega (arith, h, whole))))
@@ -175,7 +175,7 @@ not_equal Less e h = cc
 not_equal Equal e h = cc
 not_equal Greater e h = cc
 
--- bytes that became a pair at a place
+-- bytes that became a pair at an index
 pub placed_at : (pairs pairs' new : List Pair) (tail key value : List ℕ) (at n : ℕ) → pairs' ≡ pairs → tail ≡ key ++ value → n ≡ length key
     → new ≡ insert pairs' at (take n tail, drop n tail) → new ≡ insert pairs at (key, value)
 placed_at pairs pairs' new tail key value at n same whole size e =

@@ -1,5 +1,9 @@
 -- The record log: records cut into fragments, which lie in blocks of one size.
-use Rattle.std.specs.Prelude.{◌≡◌, ◌≢◌, ℕ, zero, suc, ◌+◌, ◌-◌, ◌%◌, ◌≤◌, Bool, true, false, if◌then◌else◌, nat_lt, nat_le, List, [], ◌∷◌, ◌++◌, length, take, drop, replicate}
+pub mod Writer
+pub mod Reader
+pub mod Taking
+pub mod Files
+use Rattle.std.specs.Prelude.{◌≡◌, ◌≢◌, ℕ, zero, suc, ◌+◌, ◌-◌, ◌%◌, ◌≤◌, Bool, true, false, if◌then◌else◌, nat_lt, nat_le, List, [], ◌∷◌, ◌++◌, length, take, drop, replicate, ◌<◌}
 use Rattle.std.specs.List.{concat}
 use Rattle.leveldb_base.specs.Crc.{crc_of, masked}
 use Rattle.leveldb_base.specs.Varint.{little}
@@ -19,22 +23,26 @@ pub record IsBlockSize (size : ℕ) : Type 0 where
 abbrev pub header_size : ℕ
 header_size = 7
 
--- what stands before a fragment at this place of a block: nothing, or zeros to the block's end where no header fits
+-- what comes before a fragment at this offset of a block: nothing, or zeros to the block's end where no header fits
 abbrev pub filler : ℕ → ℕ → List ℕ
-filler size place = elim (nat_lt (size - place) header_size) [ true ↦ replicate (size - place) 0 | false ↦ [] ]
+filler size offset = elim (nat_lt (size - offset) header_size) [ true ↦ replicate (size - offset) 0 | false ↦ [] ]
 
 -- the most data that the next fragment can have
 abbrev pub room : ℕ → ℕ → ℕ
-room size place = (if nat_lt (size - place) header_size then size else size - place) - header_size
+room size offset = (if nat_lt (size - offset) header_size then size else size - offset) - header_size
 
--- the place in its block behind some bytes
-abbrev pub behind : ℕ → ℕ → List ℕ → ℕ
-behind size place bytes = (place + length bytes) % size
+-- the offset in its block after some bytes
+abbrev pub offset_after : ℕ → ℕ → List ℕ → ℕ
+offset_after size offset bytes = (offset + length bytes) % size
 
 -- a fragment: its type and its data, which is a part of a record
 pub record Fragment : Type 0 where
   pub type : ℕ
   pub part : List ℕ
+
+-- a fragment by its parts
+abbrev pub fragment_of : ℕ → List ℕ → Fragment
+fragment_of type part = record { type = type; part = part }
 
 -- the four bytes that guard a fragment: the masked checksum of its type and its data
 unfoldable pub checksum : Fragment → List ℕ
@@ -45,29 +53,33 @@ abbrev pub IsChecksum : Bool → Fragment → List ℕ → Type 0
 IsChecksum true fragment sum = sum ≡ checksum fragment
 IsChecksum false fragment sum = length sum ≡ 4
 
--- a fragment's bytes behind this checksum
+-- a fragment's bytes after this checksum
 unfoldable pub fragment_bytes : List ℕ → Fragment → List ℕ
 fragment_bytes sum fragment = sum ++ (little 2 (length fragment.part) ++ fragment.type ∷ fragment.part)
 
--- from this place on the bytes are filler and the fragment, which lies within its block
-pub record IsFragment (checked : Bool) (size : ℕ) (fragment : Fragment) (place : ℕ) (bytes : List ℕ) : Type 0 where
+-- from this offset on the bytes are filler and the fragment, which lies within its block
+pub record IsFragment (checked : Bool) (size : ℕ) (fragment : Fragment) (offset : ℕ) (bytes : List ℕ) : Type 0 where
   pub sum : List ℕ
-  pub within : length fragment.part ≤ room size place
+  pub within : length fragment.part ≤ room size offset
   pub summed : IsChecksum checked fragment sum
-  pub bytes_are : bytes ≡ filler size place ++ fragment_bytes sum fragment
+  pub bytes_are : bytes ≡ filler size offset ++ fragment_bytes sum fragment
 
--- from this place on the bytes are a front, and behind it a rest
-pub record Then (size : ℕ) (IsFront IsRest : ℕ → List ℕ → Type 0) (place : ℕ) (bytes : List ℕ) : Type 0 where
+-- no front of the bytes is a fragment
+abbrev pub NoFragment : Bool → ℕ → ℕ → List ℕ → Type 0
+NoFragment checked size offset bytes = (f : Fragment) (front more : List ℕ) → bytes ≡ front ++ more → IsFragment checked size f offset front → ⊥
+
+-- from this offset on the bytes are a front, and after it a rest
+pub record IsFrontAndRest (size : ℕ) (IsFront IsRest : ℕ → List ℕ → Type 0) (offset : ℕ) (bytes : List ℕ) : Type 0 where
   pub front : List ℕ
   pub rest : List ℕ
   pub bytes_are : bytes ≡ front ++ rest
-  pub is_front : IsFront place front
-  pub is_rest : IsRest (behind size place front) rest
+  pub is_front : IsFront offset front
+  pub is_rest : IsRest (offset_after size offset front) rest
 
--- from this place on the bytes are these fragments
+-- from this offset on the bytes are these fragments
 abbrev pub AreFragments : Bool → ℕ → List Fragment → ℕ → List ℕ → Type 0
-AreFragments checked size [] place bytes = bytes ≡ []
-AreFragments checked size (fragment ∷ fragments) place bytes = Then size (IsFragment checked size fragment) (AreFragments checked size fragments) place bytes
+AreFragments checked size [] offset bytes = bytes ≡ []
+AreFragments checked size (fragment ∷ fragments) offset bytes = IsFrontAndRest size (IsFragment checked size fragment) (AreFragments checked size fragments) offset bytes
 
 -- ---- records
 
@@ -83,17 +95,17 @@ abbrev pub fragments_of : Bool → List ℕ → List (List ℕ) → List Fragmen
 fragments_of first part [] = record { type = record_type first true; part = part } ∷ []
 fragments_of first part (next ∷ parts) = record { type = record_type first false; part = part } ∷ fragments_of false next parts
 
--- from this place on the bytes are what is left of a record, from its first part on or from a later one
-pub record IsRemainder (checked : Bool) (size : ℕ) (first : Bool) (text : List ℕ) (place : ℕ) (bytes : List ℕ) : Type 0 where
+-- from this offset on the bytes are what is left of a record, from its first part on or from a later one
+pub record IsRemainder (checked : Bool) (size : ℕ) (first : Bool) (text : List ℕ) (offset : ℕ) (bytes : List ℕ) : Type 0 where
   pub part : List ℕ
   pub parts : List (List ℕ)
   pub text_is : part ++ concat parts ≡ text
-  pub laid : AreFragments checked size (fragments_of first part parts) place bytes
+  pub laid : AreFragments checked size (fragments_of first part parts) offset bytes
 
--- from this place on the bytes are one whole record that isn't empty, however it is cut into parts
-pub record IsRecord (checked : Bool) (size : ℕ) (text : List ℕ) (place : ℕ) (bytes : List ℕ) : Type 0 where
+-- from this offset on the bytes are one whole record that isn't empty, however it is cut into parts
+pub record IsRecord (checked : Bool) (size : ℕ) (text : List ℕ) (offset : ℕ) (bytes : List ℕ) : Type 0 where
   pub some : text ≢ []
-  pub whole : IsRemainder checked size true text place bytes
+  pub whole : IsRemainder checked size true text offset bytes
 
 -- how a log ends: between two records, or in bytes that are no record
 pub data End : Type 0 where
@@ -102,13 +114,13 @@ pub data End : Type 0 where
 
 -- nothing is left, or a rest of which no front is a whole record
 abbrev pub Ends : Bool → ℕ → End → ℕ → List ℕ → Type 0
-Ends checked size clean place rest = rest ≡ []
-Ends checked size bad place rest = (rest ≢ []) × ((text front more : List ℕ) → rest ≡ front ++ more → IsRecord checked size text place front → ⊥)
+Ends checked size clean offset rest = rest ≡ []
+Ends checked size bad offset rest = (rest ≢ []) × ((text front more : List ℕ) → rest ≡ front ++ more → IsRecord checked size text offset front → ⊥)
 
--- from this place on the bytes are these records, and then this end
+-- from this offset on the bytes are these records, and then this end
 abbrev pub LogOf : Bool → ℕ → List (List ℕ) → End → ℕ → List ℕ → Type 0
-LogOf checked size [] end place bytes = Ends checked size end place bytes
-LogOf checked size (text ∷ texts) end place bytes = Then size (IsRecord checked size text) (LogOf checked size texts end) place bytes
+LogOf checked size [] end offset bytes = Ends checked size end offset bytes
+LogOf checked size (text ∷ texts) end offset bytes = IsFrontAndRest size (IsRecord checked size text) (LogOf checked size texts end) offset bytes
 
 -- a whole file of a log: its blocks have the usual size, and checksums are asked for
 abbrev pub IsLogFile : List ℕ → List (List ℕ) → End → Type 0
@@ -118,46 +130,46 @@ IsLogFile bytes records end = LogOf true log_block_size records end 0 bytes
 
 -- each part but the last fills its block, and the last has a byte
 abbrev pub FillBlocks : ℕ → List ℕ → List (List ℕ) → ℕ → Type 0
-FillBlocks size part [] place = part ≢ []
-FillBlocks size part (next ∷ parts) place = (length part ≡ room size place) × FillBlocks size next parts 0
+FillBlocks size part [] offset = part ≢ []
+FillBlocks size part (next ∷ parts) offset = (length part ≡ room size offset) × FillBlocks size next parts 0
 
--- from this place on the bytes are the one framing of what is left of a record
-pub record IsFramedRemainder (size : ℕ) (first : Bool) (text : List ℕ) (place : ℕ) (bytes : List ℕ) : Type 0 where
-  pub whole : IsRemainder true size first text place bytes
-  pub full : FillBlocks size whole.part whole.parts place
+-- from this offset on the bytes are the one framing of what is left of a record
+pub record IsFramedRemainder (size : ℕ) (first : Bool) (text : List ℕ) (offset : ℕ) (bytes : List ℕ) : Type 0 where
+  pub whole : IsRemainder true size first text offset bytes
+  pub full : FillBlocks size whole.part whole.parts offset
 
--- from this place on the bytes are the one framing of a record
+-- from this offset on the bytes are the one framing of a record
 abbrev pub IsFramedRecord : ℕ → List ℕ → ℕ → List ℕ → Type 0
-IsFramedRecord size text place bytes = IsFramedRemainder size true text place bytes
+IsFramedRecord size text offset bytes = IsFramedRemainder size true text offset bytes
 
--- from this place on the bytes are the one framing of these records
+-- from this offset on the bytes are the one framing of these records
 abbrev pub IsFramed : ℕ → List (List ℕ) → ℕ → List ℕ → Type 0
-IsFramed size [] place bytes = bytes ≡ []
-IsFramed size (text ∷ texts) place bytes = Then size (IsFramedRecord size text) (IsFramed size texts) place bytes
+IsFramed size [] offset bytes = bytes ≡ []
+IsFramed size (text ∷ texts) offset bytes = IsFrontAndRest size (IsFramedRecord size text) (IsFramed size texts) offset bytes
 
 -- a fragment with its filler and its checksum
 unfoldable pub fragment_at : ℕ → Fragment → ℕ → List ℕ
-fragment_at size fragment place = filler size place ++ fragment_bytes (checksum fragment) fragment
+fragment_at size fragment offset = filler size offset ++ fragment_bytes (checksum fragment) fragment
 
--- the framing of what is left of a record, in so many fragments at most
+-- the framing of what is left of a record, in `fragments` fragments at most
 abbrev pub framed_within : ℕ → ℕ → Bool → List ℕ → ℕ → List ℕ
-framed_within zero size first text place = []
-framed_within (suc fragments) size first text place =
-    elim (nat_le (length text) (room size place)) [
-      | true ↦ fragment_at size (record { type = record_type first true; part = text }) place
-      | false ↦ fragment_at size (record { type = record_type first false; part = take (room size place) text }) place
-          ++ framed_within fragments size false (drop (room size place) text) 0
+framed_within zero size first text offset = []
+framed_within (suc fragments) size first text offset =
+    elim (nat_le (length text) (room size offset)) [
+      | true ↦ fragment_at size (record { type = record_type first true; part = text }) offset
+      | false ↦ fragment_at size (record { type = record_type first false; part = take (room size offset) text }) offset
+          ++ framed_within fragments size false (drop (room size offset) text) 0
     ]
 
 -- the framing of a record as a function; an empty record has none
 unfoldable pub framed_record : ℕ → List ℕ → ℕ → List ℕ
-framed_record size [] place = []
-framed_record size (byte ∷ text) place = framed_within (suc (suc (length text))) size true (byte ∷ text) place
+framed_record size [] offset = []
+framed_record size (byte ∷ text) offset = framed_within (suc (suc (length text))) size true (byte ∷ text) offset
 
 -- the framing of these records as a function
 abbrev pub framed : ℕ → List (List ℕ) → ℕ → List ℕ
-framed size [] place = []
-framed size (text ∷ texts) place = framed_record size text place ++ framed size texts (behind size place (framed_record size text place))
+framed size [] offset = []
+framed size (text ∷ texts) offset = framed_record size text offset ++ framed size texts (offset_after size offset (framed_record size text offset))
 
 -- what a record adds at this offset of a log's file
 abbrev pub frame_at : ℕ → List ℕ → List ℕ
@@ -165,9 +177,9 @@ frame_at offset text = framed_record log_block_size text (offset % log_block_siz
 
 -- ---- a wrong checksum
 
--- from this place on the bytes are filler and the fragment within its block, behind four bytes that aren't its checksum
-pub record IsDamaged (size : ℕ) (fragment : Fragment) (place : ℕ) (bytes : List ℕ) : Type 0 where
-  pub unchecked : IsFragment false size fragment place bytes
+-- from this offset on the bytes are filler and the fragment within its block, after four bytes that aren't its checksum
+pub record IsDamaged (size : ℕ) (fragment : Fragment) (offset : ℕ) (bytes : List ℕ) : Type 0 where
+  pub unchecked : IsFragment false size fragment offset bytes
   pub wrong : unchecked.sum ≢ checksum fragment
 
 -- the fragments of a record's parts, none of them its last
@@ -175,8 +187,45 @@ abbrev pub begun_of : Bool → List (List ℕ) → List Fragment
 begun_of first [] = []
 begun_of first (part ∷ parts) = record { type = record_type first false; part = part } ∷ begun_of false parts
 
--- from this place on the bytes are parts of a record, none of them its last, and then a fragment of any type with a wrong checksum
-pub record BreaksOff (size : ℕ) (first : Bool) (place : ℕ) (bytes : List ℕ) : Type 0 where
+-- from this offset on the bytes are parts of a record, none of them its last, and then a fragment of any type with a wrong checksum
+pub record BreaksOff (size : ℕ) (first : Bool) (offset : ℕ) (bytes : List ℕ) : Type 0 where
   pub parts : List (List ℕ)
   pub fragment : Fragment
-  pub laid : Then size (AreFragments true size (begun_of first parts)) (IsDamaged size fragment) place bytes
+  pub laid : IsFrontAndRest size (AreFragments true size (begun_of first parts)) (IsDamaged size fragment) offset bytes
+
+-- ---- what a crash leaves
+
+-- as far as both go, the bytes are the same
+pub record Agree (these those : List ℕ) : Type 0 where
+  pub more : List ℕ
+  pub others : List ℕ
+  pub same : these ++ more ≡ those ++ others
+
+-- At this offset of the bytes a fragment began, if only by its first byte: after whole fragments come its filler and a byte at least.
+pub record FragmentBegins (size : ℕ) (bytes : List ℕ) (offset : ℕ) : Type 0 where
+  pub before : List ℕ
+  pub rest : List ℕ
+  pub bytes_are : bytes ≡ before ++ rest
+  pub offset_is : length before ≡ offset
+  pub fragments : List Fragment
+  pub whole : AreFragments true size fragments 0 before
+  pub fragment : Fragment
+  pub written : List ℕ
+  pub is_fragment : IsFragment true size fragment (offset_after size 0 before) written
+  pub agree : Agree rest written
+  pub begun : length (filler size (offset_after size 0 before)) < length rest
+
+-- At this offset are `n` bytes that are filler and a fragment with a right checksum.
+pub record FragmentAt (size : ℕ) (bytes : List ℕ) (offset n : ℕ) : Type 0 where
+  pub before : List ℕ
+  pub found : List ℕ
+  pub rest : List ℕ
+  pub bytes_are : bytes ≡ before ++ (found ++ rest)
+  pub offset_is : length before ≡ offset
+  pub length_is : length found ≡ n
+  pub fragment : Fragment
+  pub is_fragment : IsFragment true size fragment (offset_after size 0 before) found
+
+-- Wherever a fragment of the bytes began and what is left has a fragment with a right checksum, that one is the bytes' own.
+abbrev pub HonestTail : ℕ → List ℕ → List ℕ → Type 0
+HonestTail size bytes left = (offset n : ℕ) → FragmentBegins size bytes offset → FragmentAt size left offset n → take n (drop offset left) ≡ take n (drop offset bytes)

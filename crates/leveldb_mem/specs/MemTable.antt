@@ -1,18 +1,90 @@
--- A memtable's entries, and the memtable keys that stand for them.
-use Rattle.std.specs.Prelude.{◌≡◌, ◌+◌, ◌*◌, ℕ, List, [], length, drop, map, sum_by, slice_get, Option, Some, None, refl}
+-- A memtable: its entries, the room for more, and the memtable keys that encode entries.
+use Rattle.std.specs.Prelude.{◌≡◌, ◌⊎◌, ◌<◌, ◌^◌, ◌≤◌, ◌+◌, ◌↔◌, ℕ, List, [], ◌∷◌, ◌++◌, length, Option, Some, None, Contains, ◌*◌, drop, map, sum_by, slice_get, refl}
 use Rattle.std.specs.Coded.{Coded, code_by, coded×, coded_list, coded_option, coded_ℕ}
-use Rattle.leveldb_base.specs.History.{Entry}
+use Rattle.leveldb_base.specs.Error.{IsOutOfMemory}
+use Rattle.leveldb_base.specs.declared.error.Status.{Status}
+use Rattle.leveldb_base.specs.declared.error.StatusCode.TheVariants.{NotSupported}
+use Rattle.leveldb_base.specs.History.{Item, Entry, IsNewest}
 use Rattle.leveldb_base.specs.KeyTypes.{internal_key, user_part, sequence_part, type_part, memtable_key, inner_key}
 use Rattle.leveldb_base.specs.Varint.{sized}
 use Rattle.leveldb_base.specs.Types.{Pair}
 use Rattle.leveldb_base.specs.declared.key_types.ValueType.{ValueType}
 use Rattle.leveldb_base.specs.declared.key_types.ValueType.TheVariants.{TypeDeletion, TypeValue}
-use Rattle.leveldb_mem.specs.Entries.{Kept}
 
--- a comparator of users' keys, and what is kept
-pub record Memory (C : Type 0) : Type 0 where
+-- ---- sets of entries
+
+-- In this section a list encodes the set of its elements.
+
+-- the last set is the union of the others
+abbrev pub IsUnion : List Entry → List Entry → List Entry → Type 0
+IsUnion old more new = (entry : Entry) → Contains new entry ↔ Contains (old ++ more) entry
+
+-- no entry has this key at this sequence
+abbrev pub IsNewTo : List Entry → ℕ → List ℕ → Type 0
+IsNewTo entries sequence key = (entry : Entry) → Contains entries entry → entry.key ≡ key → entry.sequence ≡ sequence → ⊥
+
+-- each of these is of another key or at another sequence than all entries
+abbrev pub AreNewTo : List Entry → List Entry → Type 0
+AreNewTo entries more = (entry : Entry) → Contains more entry → IsNewTo entries entry.sequence entry.key
+
+-- the key's newest entry at or below s is this value or deletion, and no other entry is as new
+pub record HasNewest (entries : List Entry) (s : ℕ) (key : List ℕ) (value : Option (List ℕ)) : Type 0 where
+  pub entry : Entry
+  pub newest : IsNewest entries s entry
+  pub key_is : entry.key ≡ key
+  pub value_is : entry.value ≡ value
+  pub only : (other : Entry) → IsNewest entries s other → other.key ≡ key → other ≡ entry
+
+-- what is found of a key at a sequence: its newest entry up to there, a value or a deletion; or that it has none
+abbrev pub FindsNewest : List Entry → ℕ → List ℕ → Option (Option (List ℕ)) → Type 0
+FindsNewest entries s key (Some value) = HasNewest entries s key value
+FindsNewest entries s key None = (entry : Entry) → Contains entries entry → entry.key ≡ key → entry.sequence ≤ s → ⊥
+
+-- ---- room
+
+-- how many bytes a value has; a deletion has none
+abbrev pub value_length : Option (List ℕ) → ℕ
+value_length None = 0
+value_length (Some value) = length value
+
+-- how many bytes keys and values have together
+abbrev pub bytes_in : List Item → ℕ
+bytes_in [] = 0
+bytes_in (item ∷ items) = length item.key + value_length item.value + bytes_in items
+
+-- entries, and room for more: for `places` of them, whose keys and values have `bytes` bytes
+pub record Kept : Type 0 where
+  pub entries : List Entry
+  pub places : ℕ
+  pub bytes : ℕ
+
+-- there is room for these
+pub record HasRoom (kept : Kept) (items : List Item) : Type 0 where
+  pub places : length items ≤ kept.places
+  pub bytes : bytes_in items ≤ kept.bytes
+
+-- what there was room for has room still
+abbrev pub KeepsRoom : Kept → Kept → Type 0
+KeepsRoom old new = (items : List Item) → HasRoom old items → HasRoom new items
+
+-- why no memory was taken for an entry: its key and value have more than 2^63 bytes, or memory is out
+abbrev pub FailsToPrepare : Item → Status → Type 0
+FailsToPrepare item status =
+    ((status.code ≡ NotSupported) × (2 ^ 63 < length item.key + value_length item.value)) ⊎ IsOutOfMemory status
+
+-- an entry has come, and took no more than its room
+pub record AddsEntry (old : Kept) (entry : Entry) (new : Kept) : Type 0 where
+  pub gains : IsUnion old.entries (entry ∷ []) new.entries
+  pub places : old.places ≤ new.places + 1
+  pub bytes : old.bytes ≤ new.bytes + length entry.key + value_length entry.value
+
+-- ---- the memtable
+
+-- a comparator of users' keys, what is kept, and the nodes of the entries in the map
+pub record MemTableState (C : Type 0) : Type 0 where
   pub cmp : C
   pub kept : Kept
+  pub nodes : List ℕ
 
 -- an entry, as nested pairs of encodable parts
 abbrev pub entry_code : Coded Entry
@@ -21,11 +93,12 @@ entry_code =
     (λ e. (e.sequence, (e.key, e.value))) (λ p. record { sequence = p.0; key = p.1.0; value = p.1.1 }) (λ _. refl)
 
 -- a memtable, as nested pairs of encodable parts
-abbrev pub memory_code : {C : Type 0} → Coded C → Coded (Memory C)
-memory_code {C} c =
-    code_by (C × (List Entry × (ℕ × ℕ))) (coded× c (coded× (coded_list entry_code) (coded× coded_ℕ coded_ℕ)))
-    (λ m. (m.cmp, (m.kept.entries, (m.kept.places, m.kept.bytes))))
-    (λ p. record { cmp = p.0; kept = record { entries = p.1.0; places = p.1.1.0; bytes = p.1.1.1 } }) (λ _. refl)
+abbrev pub memtable_code : {C : Type 0} → Coded C → Coded (MemTableState C)
+memtable_code {C} c =
+    code_by (C × (List Entry × (List ℕ × (ℕ × ℕ))))
+    (coded× c (coded× (coded_list entry_code) (coded× (coded_list coded_ℕ) (coded× coded_ℕ coded_ℕ))))
+    (λ m. (m.cmp, (m.kept.entries, (m.nodes, (m.kept.places, m.kept.bytes)))))
+    (λ p. record { cmp = p.0; kept = record { entries = p.1.0; places = p.1.1.1.0; bytes = p.1.1.1.1 }; nodes = p.1.1.0 }) (λ _. refl)
 
 -- an entry's number, key and value
 abbrev pub entry_of : ℕ → List ℕ → Option (List ℕ) → Entry
@@ -50,11 +123,11 @@ value_of TypeValue bytes = Some bytes
 unfoldable pub entry_key : Entry → List ℕ
 entry_key entry = memtable_key entry.key entry.sequence (type_of entry.value) (bytes_of_value entry.value)
 
--- the text behind the internal key of a memtable key
+-- the text after the internal key of a memtable key
 abbrev pub inner_value : List ℕ → List ℕ
 inner_value key = inner_key (drop (length (sized (inner_key key))) key)
 
--- the entry that a memtable key stands for
+-- the entry that a memtable key encodes
 unfoldable pub entry_from : List ℕ → Entry
 entry_from key =
     let internal = inner_key key in
@@ -68,10 +141,10 @@ IsEntryPair pair = (pair.0 ≡ entry_key (entry_from pair.0)) × (pair.1 ≡ [])
 abbrev pub entries_in : List Pair → List Entry
 entries_in pairs = map (λ pair. entry_from pair.0) pairs
 
--- what the entry at a place gives a key, or none where it is another key's or there is none
-abbrev pub GivesAt : List Entry → ℕ → List ℕ → Option (Option (List ℕ)) → Type 0
-GivesAt entries at key (Some value) = (sequence : ℕ) × (slice_get entries at ≡ Some (entry_of sequence key value))
-GivesAt entries at key None = (entry : Entry) → slice_get entries at ≡ Some entry → entry.key ≡ key → ⊥
+-- the value or deletion of a key that the entry at an index has, or none where that is another key's or there is no entry
+abbrev pub IsValueAt : List Entry → ℕ → List ℕ → Option (Option (List ℕ)) → Type 0
+IsValueAt entries at key (Some value) = (sequence : ℕ) × (slice_get entries at ≡ Some (entry_of sequence key value))
+IsValueAt entries at key None = (entry : Entry) → slice_get entries at ≡ Some entry → entry.key ≡ key → ⊥
 
 -- the most that an entry's memtable key has beside key and value: two lengths and a tag
 abbrev pub most_beside : ℕ
@@ -85,6 +158,12 @@ memory_of_entries entries = 128 + (64 * length entries + sum_by (λ entry. lengt
 pub record Grows (old : List Entry) (entry : Entry) (new : List Entry) : Type 0 where
   pub count : length new ≡ length old + 1
   pub memory : memory_of_entries new ≡ memory_of_entries old + 64 + length (entry_key entry)
+
+-- these entries more, and as much more memory as counts for each
+pub record GrowsByAll (old more new : List Entry) : Type 0 where
+  pub count : length new ≡ length old + length more
+  pub memory : memory_of_entries new ≡ memory_of_entries old
+      + (64 * length more + sum_by (λ entry. length (entry_key entry)) more)
 
 -- the internal key of an entry with its value; a deletion has the empty one
 abbrev pub internal_pair : Entry → Pair

@@ -1,39 +1,139 @@
--- How the pairs of a map lie in memory: all keys and values in one text, nodes that cut it, and the nodes in order.
-use Rattle.std.specs.Prelude.{◌≡◌, ℕ, ◌+◌, ◌<◌, ◌≤◌, List, length, map, sum_by, slice_range, slice_index_or, All}
+-- How the pairs of a map are stored: all keys and values in one text, and in one list of words the nodes of a skip list.
+-- A node is the offset of its links, one for each height of its tower. In the four words before them are where its key
+-- begins in the text, the lengths of its key and of its value, and the height of its tower. The first node is a head with
+-- all twelve links, which has no pair. A link is the next node of its height, or 0 at the end.
+use Rattle.std.specs.Prelude.{◌≡◌, ◌≢◌, ℕ, zero, suc, ◌+◌, ◌-◌, ◌<◌, ◌≤◌, List, [], ◌∷◌, length, map, filter, nat_eq, nat_lt, sum_by, slice_range, slice_index, replicate, All, if◌then◌else◌}
 use Rattle.leveldb_base.specs.Types.{Pair}
-use Rattle.leveldb_mem.specs.declared.skipmap.placed.Node.{Node}
 
--- pairs, what stands behind them of a pair that is to come, and room: for so many pairs and so many bytes
+-- pairs, what comes after them of a pair that is to come, room for `places` pairs and `bytes` bytes, and the nodes of the
+-- pairs, in their order, among the words
 pub record Placed : Type 0 where
   pub pairs : List Pair
   pub tail : List ℕ
   pub places : ℕ
   pub bytes : ℕ
+  pub order : List ℕ
+  pub words : List ℕ
 
--- the key and the value that a node cuts out
-abbrev pub pair_in : List ℕ → Node → Pair
-pair_in text node = (slice_range text node.start node.middle, slice_range text node.middle node.end)
+-- the first node, which has no pair
+abbrev pub head : ℕ
+head = 4
 
--- a node that cuts nothing
-abbrev pub no_node : Node
-no_node = record { start = 0; middle = 0; end = 0 }
+-- the words of the first node, without links
+abbrev pub head_words : List ℕ
+head_words = 0 ∷ 0 ∷ 0 ∷ 12 ∷ replicate 12 0
 
--- the pairs of the nodes at these places
-abbrev pub pairs_in : List ℕ → List Node → List ℕ → List Pair
-pairs_in text nodes order = map (λ place. pair_in text (slice_index_or nodes place no_node)) order
+-- the most links of a node
+abbrev pub most_height : ℕ
+most_height = 12
+
+-- how many links a node has
+abbrev pub tower : List ℕ → ℕ → ℕ
+tower words node = slice_index words (node - 1)
+
+-- the link of a node at a height
+abbrev pub link : List ℕ → ℕ → ℕ → ℕ
+link words height node = slice_index words (node + height)
+
+-- where the key of a node begins in the text
+abbrev pub key_start : List ℕ → ℕ → ℕ
+key_start words node = slice_index words (node - 4)
+
+-- where it ends and the value begins
+abbrev pub key_end : List ℕ → ℕ → ℕ
+key_end words node = key_start words node + slice_index words (node - 3)
+
+-- where the value ends
+abbrev pub value_end : List ℕ → ℕ → ℕ
+value_end words node = key_end words node + slice_index words (node - 2)
+
+-- the key and the value of a node
+abbrev pub pair_in : List ℕ → List ℕ → ℕ → Pair
+pair_in text words node =
+    (slice_range text (key_start words node) (key_end words node), slice_range text (key_end words node) (value_end words node))
+
+-- the pairs of these nodes
+abbrev pub pairs_in : List ℕ → List ℕ → List ℕ → List Pair
+pairs_in text words nodes = map (pair_in text words) nodes
+
+-- `count` nodes that follow a node at the lowest height
+abbrev pub nodes_after : List ℕ → ℕ → ℕ → List ℕ
+nodes_after words node zero = []
+nodes_after words node (suc count) = link words 0 node ∷ nodes_after words (link words 0 node) count
+
+-- those of these nodes that have a link at the height
+abbrev pub level : List ℕ → ℕ → List ℕ → List ℕ
+level words height nodes = filter (λ node. nat_lt height (tower words node)) nodes
+
+-- the first of these nodes, or 0
+abbrev pub first_of_nodes : List ℕ → ℕ
+first_of_nodes [] = 0
+first_of_nodes (node ∷ nodes) = node
+
+-- the last of these nodes, or the one before them
+abbrev pub last_after : ℕ → List ℕ → ℕ
+last_after node [] = node
+last_after node (next ∷ nodes) = last_after next nodes
+
+-- each of these nodes is linked to the next at the height, and the last to none
+abbrev pub AreLinked : List ℕ → ℕ → List ℕ → Type 0
+AreLinked words height [] = Unit {0}
+AreLinked words height (node ∷ nodes) = (link words height node ≡ first_of_nodes nodes) × AreLinked words height nodes
+
+-- two nodes share no word
+pub record IsApart (words : List ℕ) (a b : ℕ) : Type 0 where
+  pub other : a ≢ b
+  pub before : a < b → a + tower words a + 4 ≤ b
+  pub after : b < a → b + tower words b + 4 ≤ a
+
+-- nor do any two of these
+abbrev pub AreApart : List ℕ → List ℕ → Type 0
+AreApart words [] = Unit {0}
+AreApart words (node ∷ nodes) = All (IsApart words node) nodes × AreApart words nodes
+
+-- the node is within the words and cuts the text before this offset
+pub record IsNode (words : List ℕ) (end node : ℕ) : Type 0 where
+  pub low : 4 ≤ node
+  pub linked : 0 < tower words node
+  pub limited : tower words node ≤ most_height
+  pub within : node + tower words node ≤ length words
+  pub cut : value_end words node ≤ end
+
+-- A skip list with these nodes, in order: at each height those whose towers are high enough are linked.
+pub record IsSkipList (words : List ℕ) (end : ℕ) (nodes : List ℕ) : Type 0 where
+  pub high : tower words head ≡ most_height
+  pub valid : All (IsNode words end) (head ∷ nodes)
+  pub apart : AreApart words (head ∷ nodes)
+  pub levels : (height : ℕ) → height < most_height → AreLinked words height (level words height (head ∷ nodes))
+
+-- at each height the last of the head and these nodes, as which a new node comes in after them
+abbrev pub IsPathTo : List ℕ → List ℕ → ℕ → List ℕ → Type 0
+IsPathTo words path from front =
+    (height : ℕ) → height < from → slice_index path height ≡ last_after head (level words height front)
+
+-- how many nodes are before this one
+abbrev pub rank : List ℕ → ℕ → ℕ
+rank [] node = 0
+rank (first ∷ nodes) node = if nat_eq first node then 0 else suc (rank nodes node)
+
+-- the node is at this index of the list, or is 0 where the list ends before it
+pub record IsAt (nodes : List ℕ) (index node : ℕ) : Type 0 where
+  pub there : index < length nodes → (rank nodes node ≡ index) × (0 < node)
+  pub none : length nodes ≤ index → node ≡ 0
+
+-- the index of the pair that a new node with this path comes to
+abbrev pub place_of : List ℕ → List ℕ → ℕ
+place_of nodes path = rank (head ∷ nodes) (slice_index path 0)
 
 -- how many bytes the keys and values have together
 abbrev pub bytes_of : List Pair → ℕ
 bytes_of pairs = sum_by (λ pair. length pair.0 + length pair.1) pairs
 
--- the node cuts the text before this place
-abbrev pub IsCut : ℕ → Node → Type 0
-IsCut end node = (node.start ≤ node.middle) × (node.middle ≤ node.end) × (node.end ≤ end)
-
--- the pairs fill the text up to its end, in this order
-pub record IsLaid (text : List ℕ) (nodes : List Node) (order : List ℕ) (end : ℕ) : Type 0 where
+-- What a map's pairs are: the head is there before the first node, and the pairs fill the text up to its end.
+pub record IsLaid (text words last : List ℕ) (count end : ℕ) : Type 0 where
   pub within : end ≤ length text
-  pub cut : All (IsCut end) nodes
-  pub ordered : All (λ place. place < length nodes) order
-  pub counted : length order ≡ length nodes
-  pub filled : bytes_of (pairs_in text nodes order) ≡ end
+  pub none : length words ≡ 0 → count ≡ 0
+  pub counted : count ≤ length words
+  pub linked : 0 < length words → IsSkipList words end (nodes_after words head count)
+  pub lasts : IsPathTo words last most_height (nodes_after words head count)
+  pub filled : bytes_of (pairs_in text words (nodes_after words head count)) ≡ end

@@ -1,8 +1,8 @@
--- Places in a list of pairs, by a test of their keys.
+-- Indices in a list of pairs, by a test of their keys.
 use Rattle.std.specs.Prelude.{◌≡◌, ℕ, ◌+◌, ◌<◌, ◌≤◌, Bool, true, List, [], ◌∷◌, if◌then◌else◌, length, slice_index_or}
 use Rattle.leveldb_base.specs.Types.{Pair}
 
--- the key at a place
+-- the key at an index
 abbrev pub key_at : List Pair → ℕ → List ℕ
 key_at pairs i = let pair = slice_index_or pairs i ([], []) in pair.0
 

@@ -1,30 +1,42 @@
 -- A map's pairs, and what comes of an insertion.
-use Rattle.std.specs.Prelude.{◌≡◌, ◌≤◌, ◌+◌, ◌*◌, ℕ, Bool, true, false, List, ◌∷◌, ◌++◌, length, nat_eq, Option, Some, None, All, Contains, refl}
+use Rattle.std.specs.Prelude.{◌≡◌, ◌≤◌, ◌<◌, ◌+◌, ◌*◌, ℕ, Bool, true, false, List, ◌∷◌, ◌++◌, length, nat_eq, Option, Some, None, All, Contains, refl}
 use Rattle.std.specs.List.{insert, starts_with}
+use Rattle.std.specs.Option.{option_map}
 use Rattle.std.specs.Coded.{Coded, code_by, coded×, coded_list, coded_ℕ}
 use Rattle.std.specs.declared.cmp.Ordering.{Ordering}
 use Rattle.std.specs.declared.cmp.Ordering.TheVariants.{Equal}
 use Rattle.leveldb_base.specs.Types.{Pair}
 use Rattle.leveldb_base.specs.History.{AreRising}
-use Rattle.leveldb_mem.specs.Placed.{bytes_of}
+use Rattle.leveldb_mem.specs.Placed.{bytes_of, rank}
 
--- a comparator, the pairs, and room for so many more with so many bytes
+-- a comparator, the pairs with their nodes, and room for `places` more with `bytes` bytes
 pub record Held (C : Type 0) : Type 0 where
   pub cmp : C
   pub pairs : List Pair
+  pub nodes : List ℕ
   pub places : ℕ
   pub bytes : ℕ
 
 -- a map, as nested pairs of encodable parts
 abbrev pub held_code : {C : Type 0} → Coded C → Coded (Held C)
 held_code {C} c =
-    code_by (C × (List Pair × (ℕ × ℕ))) (coded× c (coded× (coded_list (coded× (coded_list coded_ℕ) (coded_list coded_ℕ))) (coded× coded_ℕ coded_ℕ)))
-    (λ m. (m.cmp, (m.pairs, (m.places, m.bytes)))) (λ p. record { cmp = p.0; pairs = p.1.0; places = p.1.1.0; bytes = p.1.1.1 }) (λ _. refl)
+    code_by (C × (List Pair × (List ℕ × (ℕ × ℕ))))
+    (coded× c (coded× (coded_list (coded× (coded_list coded_ℕ) (coded_list coded_ℕ))) (coded× (coded_list coded_ℕ) (coded× coded_ℕ coded_ℕ))))
+    (λ m. (m.cmp, (m.pairs, (m.nodes, (m.places, m.bytes)))))
+    (λ p. record { cmp = p.0; pairs = p.1.0; nodes = p.1.1.0; places = p.1.1.1.0; bytes = p.1.1.1.1 }) (λ _. refl)
 
 -- keys are accepted and rise strictly
 pub record IsSorted (accepts : List ℕ → Bool) (cmp : List ℕ → List ℕ → Ordering) (pairs : List Pair) : Type 0 where
   pub rising : AreRising cmp pairs
   pub accepted : All (λ pair. accepts pair.0 ≡ true) pairs
+
+-- the node of one of the pairs
+abbrev pub HasNode : List ℕ → List Pair → ℕ → Type 0
+HasNode nodes pairs node = rank nodes node < length pairs
+
+-- the index of the pair of a node
+abbrev pub position_of : List ℕ → Option ℕ → Option ℕ
+position_of nodes place = option_map (rank nodes) place
 
 -- the pair has come between the others, which are as they were
 pub record Inserts (old : List Pair) (pair : Pair) (new : List Pair) : Type 0 where
@@ -37,7 +49,7 @@ pub record Inserts (old : List Pair) (pair : Pair) (new : List Pair) : Type 0 wh
 abbrev pub HasKey : (List ℕ → List ℕ → Ordering) → List Pair → List ℕ → Type 0
 HasKey cmp pairs key = (pair : Pair) × Contains pairs pair × (cmp pair.0 key ≡ Equal)
 
--- a place where the key, with any value, comes between the others, and no key is Equal to it
+-- an index at which the key, with any value, comes between the others, and no key is Equal to it
 pub record IsGap (accepts : List ℕ → Bool) (cmp : List ℕ → List ℕ → Ordering) (pairs : List Pair) (key : List ℕ) (at : ℕ) : Type 0 where
   pub within : at ≤ length pairs
   pub sorted : (value : List ℕ) → IsSorted accepts cmp (insert pairs at (key, value))

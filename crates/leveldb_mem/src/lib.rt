@@ -1,8 +1,8 @@
-//! The record log and what lies in memory beside it.
+//! The record log, write batches, and the memtable.
 #![tactic(auto)]
 
+pub mod laws;
 pub mod log;
-pub mod log_laws;
 pub mod memtable;
 pub mod skipmap;
 pub mod write_batch;

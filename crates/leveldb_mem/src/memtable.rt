@@ -1,28 +1,36 @@
 //! The newest entries of a store, in memory.
-ghost use Rattle.std.specs.Prelude.{◌≡◌, ◌⊎◌, ◌+◌, ◌*◌, ◌<◌, ◌≤◌, ◌^◌, ℕ, List, [], ◌∷◌, ◌++◌, length, OnOk, OnErr, IfErr, IsTrue, ◌↔◌, Some, None, map, slice_get, option_copied};
+ghost use Rattle.std.specs.Prelude.{◌≡◌, ◌⊎◌, ◌+◌, ◌*◌, ◌<◌, ◌≤◌, ◌^◌, ℕ, List, [], ◌∷◌, ◌++◌, length};
+ghost use Rattle.std.specs.Prelude.{OnOk, OnErr, IfErr, IsTrue, ◌↔◌, Some, None, map, slice_get};
+ghost use Rattle.std.specs.Prelude.{option_copied};
 ghost use Rattle.std.specs.Bool.{OnTrue, OnFalse};
-ghost use Rattle.std.specs.Option.{option_map};
+ghost use Rattle.std.specs.Option.{option_map, ForSome};
 ghost use Rattle.leveldb_base.specs.Error.{IsOutOfMemory};
 ghost use Rattle.leveldb_base.specs.declared.error.StatusCode.TheVariants.{AlreadyExists};
 ghost use Rattle.leveldb_base.specs.History.{placed, greatest, AreRising};
-ghost use Rattle.leveldb_base.specs.Varint.{little, varint, sized};
-ghost use Rattle.leveldb_base.specs.KeyTypes.{tag, inner_key, internal_cmp, user_part, sequence_part};
-ghost use Rattle.leveldb_base.specs.Types.{count_before};
-ghost use Rattle.leveldb_mem.specs.Batch.{item_of};
-ghost use Rattle.leveldb_mem.specs.Entries.{Gains, IsNewTo, AreNewTo, FindsNewest, HasRoom, KeepsRoom, Adds, value_length};
-ghost use Rattle.leveldb_mem.specs.MemTable.{entry_of, type_of, bytes_of_value, value_of, entry_key, entry_from, inner_value, internal_pair, memory_of_entries, Grows, GivesAt};
+ghost use Rattle.leveldb_base.specs.Varint.{varint, sized};
+ghost use Rattle.leveldb_base.specs.KeyTypes.{inner_key, internal_cmp, user_part, sequence_part};
+ghost use Rattle.leveldb_base.specs.Types.{position_within, previous_position, seek_position};
+ghost use Rattle.leveldb_mem.specs.WriteBatch.{item_of};
+ghost use Rattle.leveldb_mem.specs.Placed.{rank};
+ghost use Rattle.leveldb_mem.specs.SkipMap.{HasNode, position_of};
+ghost use Rattle.leveldb_mem.specs.MemTable.{IsUnion, IsNewTo, AreNewTo, FindsNewest, HasRoom, KeepsRoom};
+ghost use Rattle.leveldb_mem.specs.MemTable.{AddsEntry, entry_of, type_of, bytes_of_value, value_of};
+ghost use Rattle.leveldb_mem.specs.MemTable.{entry_key, entry_from, inner_value, internal_pair};
+ghost use Rattle.leveldb_mem.specs.MemTable.{memory_of_entries, Grows, GrowsByAll, IsValueAt};
+ghost use Rattle.leveldb_mem.specs.MemTable.{FailsToPrepare, value_length};
 
-use crate::memtable::as_of::{AsOf, user_and_sequence};
+use crate::memtable::as_of::AsOf;
 use crate::memtable::iterator::AtInternalKey;
 use crate::skipmap::SkipMap;
 use crate::write_batch::WriteBatch;
-use byteorder::{ByteOrder, LittleEndian};
 use leveldb_base::cmp::{Cmp, MemtableKeyCmp, UserCmp};
-use leveldb_base::error::{Result, Status, StatusCode, err};
-use leveldb_base::key_types::{LookupKey, UserKey, ValueType, parse_internal_key};
-use leveldb_base::types::SequenceNumber;
+use leveldb_base::error::{Result, StatusCode, err};
+use leveldb_base::key_types::{
+    LookupKey, TAG_LEN, UserKey, ValueType, parse_internal_key, split_sequence, tag_bytes,
+};
+use leveldb_base::types::{LdbIterator, SequenceNumber};
 use leveldb_base::varint::{encode_varint64, get_length_prefixed_slice};
-use std::alloc::{AllocError, Global};
+use std::alloc::Global;
 use std::marker::Model;
 
 mod as_of;
@@ -30,30 +38,40 @@ mod iterator;
 
 pub use iterator::MemtableIterator;
 
-// A memtable key has at most so many bytes beside key and value: two lengths of 10 and a tag of 8.
+// The most bytes that a memtable key has beside key and value: two lengths of 10 and a tag of 8.
 const MOST_BESIDE: usize = 28;
 
-const TAG_LEN: usize = 8;
+// The most bytes that the keys and values have for which memory is taken at once.
+const MAX_BYTES: usize = 1 << 63;
 
-/// Entries, each told by its key and its sequence number, and room for those of a batch.
+/// Entries, each with a key and a sequence number that no other has, and room for those of a batch.
 #[derive(Drop)]
 pub struct MemTable<C: Cmp> {
     map: SkipMap<MemtableKeyCmp<C>>,
 }
 
 impl<C: Cmp> Model for MemTable<C> {
-    ghost use Rattle.leveldb_mem.specs.MemTable.{Memory, memory_code};
+    ghost use Rattle.leveldb_mem.specs.MemTable.{MemTableState, memtable_code};
 
-    ghost Value = { Memory C };
+    ghost Value = { MemTableState C };
 
-    ghost coded = { memory_code C.code };
+    ghost coded = { memtable_code C.code };
 
     ghost use Rattle.std.specs.Prelude.{◌-◌, ◌*◌, ◌≤◌, All};
     ghost use Rattle.leveldb_mem.specs.MemTable.{entries_in, IsEntryPair, most_beside};
 
-    ghost view = { λ it. record { cmp = it.map.cmp.0; kept = record { entries = entries_in it.map.pairs; places = it.map.places; bytes = it.map.bytes - most_beside * it.map.places } } };
+    ghost view = { λ it. record {
+      cmp = it.map.cmp.0;
+      kept = record {
+        entries = entries_in it.map.pairs;
+        places = it.map.places;
+        bytes = it.map.bytes - most_beside * it.map.places;
+      };
+      nodes = it.map.nodes;
+    } };
 
-    ghost invariant = { λ it. All IsEntryPair it.map.pairs × (most_beside * it.map.places ≤ it.map.bytes) };
+    ghost invariant = { λ it. All IsEntryPair it.map.pairs
+        × (most_beside * it.map.places ≤ it.map.bytes) };
 }
 
 impl<C: UserCmp> MemTable<C> {
@@ -67,14 +85,15 @@ impl<C: UserCmp> MemTable<C> {
         }
     }
 
-    /// How many entries there are.
+    /// Returns the number of entries.
     pub fn len(&self) -> usize
         ensures { result ≡ length self.now.kept.entries }
     {
         self.map.len()
     }
 
-    /// What counts as its memory: 128, and for each entry 64 and the length of its memtable key.
+    /// Returns what counts as its memory: 128, and for each entry 64 and the length of its memtable
+    /// key.
     pub fn approx_mem_usage(&self) -> usize
         ensures { result ≡ memory_of_entries self.now.kept.entries }
     {
@@ -93,25 +112,30 @@ impl<C: UserCmp> MemTable<C> {
         self.reserve(batch.count(), batch.contents().len())
     }
 
-    /// Puts an entry for which there is room: a value for the key, or none, which deletes it.
+    /// Inserts an entry for which there is room: a value for the key, or none, which deletes it.
     pub fn add_prepared(&mut self, sequence: SequenceNumber, key: UserKey<'_>, value: Option<&[u8]>)
         requires numbered { sequence < 2 ^ 56 }
         requires room { HasRoom self.old.kept (item_of key.now (option_copied value) ∷ []) }
         requires new { IsNewTo self.old.kept.entries sequence key.now }
         ensures cmp { self.new.cmp ≡ self.old.cmp }
-        ensures adds { Adds self.old.kept (entry_of sequence key.now (option_copied value.entry)) self.new.kept }
-        ensures grows { Grows self.old.kept.entries (entry_of sequence key.now (option_copied value.entry)) self.new.kept.entries }
+        ensures adds { AddsEntry self.old.kept
+            (entry_of sequence key.now (option_copied value.entry)) self.new.kept }
+        ensures grows { Grows self.old.kept.entries
+            (entry_of sequence key.now (option_copied value.entry)) self.new.kept.entries }
     {
         self.put(sequence, key, value);
     }
 
-    /// Puts the changes of a batch for which there is room, the first of them with this number. It takes no memory.
+    /// Inserts the changes of a batch for which there is room, the first of them with this number.
     pub fn insert_prepared(&mut self, first: SequenceNumber, batch: &WriteBatch)
         requires numbered { greatest (placed first batch.now.items) < 2 ^ 56 }
         requires room { HasRoom self.old.kept batch.now.items }
         requires new { AreNewTo self.old.kept.entries (placed first batch.now.items) }
         ensures cmp { self.new.cmp ≡ self.old.cmp }
-        ensures entries { Gains self.old.kept.entries (placed first batch.now.items) self.new.kept.entries }
+        ensures entries { IsUnion self.old.kept.entries (placed first batch.now.items)
+            self.new.kept.entries }
+        ensures grows { GrowsByAll self.old.kept.entries (placed first batch.now.items)
+            self.new.kept.entries }
     {
         let mut sequence = first;
         for (key, value) in batch.iter() {
@@ -120,8 +144,9 @@ impl<C: UserCmp> MemTable<C> {
         }
     }
 
-    /// Puts an entry, and takes the memory for it. A deletion has no value, whatever `value` is.
-    /// `AlreadyExists` where the key has an entry at this sequence.
+    /// Inserts an entry, and takes the memory for it. A deletion has no value, whatever `value` is.
+    /// Returns `AlreadyExists` if the key has an entry at this sequence, and `NotSupported` if key
+    /// and value have more than 2^63 bytes.
     pub fn add(
         &mut self,
         sequence: SequenceNumber,
@@ -132,11 +157,15 @@ impl<C: UserCmp> MemTable<C> {
         requires numbered { sequence < 2 ^ 56 }
         ensures cmp { self.new.cmp ≡ self.old.cmp }
         ensures new { OnOk result (IsNewTo self.old.kept.entries sequence key.now) }
-        ensures ok { OnOk result (Gains self.old.kept.entries (entry_of sequence key.now (value_of kind value.now) ∷ []) self.new.kept.entries) }
-        ensures grows { OnOk result (Grows self.old.kept.entries (entry_of sequence key.now (value_of kind value.now)) self.new.kept.entries) }
+        ensures ok { OnOk result (IsUnion self.old.kept.entries
+            (entry_of sequence key.now (value_of kind value.now) ∷ []) self.new.kept.entries) }
+        ensures grows { OnOk result (Grows self.old.kept.entries
+            (entry_of sequence key.now (value_of kind value.now)) self.new.kept.entries) }
         ensures err { OnErr result (self.new.kept.entries ≡ self.old.kept.entries) }
         ensures room { OnErr result (KeepsRoom self.old.kept self.new.kept) }
-        ensures cause { IfErr result (λ status. ((status.code ≡ AlreadyExists) × (IsNewTo self.old.kept.entries sequence key.now → ⊥)) ⊎ IsOutOfMemory status) }
+        ensures cause { IfErr result (λ status. ((status.code ≡ AlreadyExists)
+            × (IsNewTo self.old.kept.entries sequence key.now → ⊥))
+            ⊎ FailsToPrepare (item_of key.now (value_of kind value.now)) status) }
     {
         let value = given(kind, value);
         self.prepare_entry(key, value)?;
@@ -151,18 +180,22 @@ impl<C: UserCmp> MemTable<C> {
         )
     }
 
-    /// The newest entry of the key at or below the sequence of the look-up key: a value or, inside, none for a deletion.
+    /// Returns the newest entry of the key at or below the sequence of the look-up key: its value,
+    /// or inside none for a deletion.
     pub fn get(&self, key: &LookupKey) -> Option<Option<&[u8]>>
-        ensures { FindsNewest self.now.kept.entries (sequence_part key.now) (user_part key.now) (option_map option_copied result) }
+        ensures { FindsNewest self.now.kept.entries (sequence_part key.now) (user_part key.now)
+            (option_map option_copied result) }
     {
-        let (user, sequence) = user_and_sequence(key.internal_key());
+        let (user, sequence) = split_sequence(key.internal_key());
         self.newest(user, sequence)
     }
 
-    /// The newest entry of the key at or below the sequence, as `get` gives it, without a look-up key.
+    /// Returns the newest entry of the key at or below the sequence, as `get`, without a look-up
+    /// key.
     pub fn newest(&self, key: UserKey<'_>, sequence: SequenceNumber) -> Option<Option<&[u8]>>
         requires { sequence < 2 ^ 56 }
-        ensures { FindsNewest self.now.kept.entries sequence key.now (option_map option_copied result) }
+        ensures { FindsNewest self.now.kept.entries sequence key.now
+            (option_map option_copied result) }
     {
         let cmp = self.map.comparator();
         let probe = AsOf {
@@ -170,34 +203,38 @@ impl<C: UserCmp> MemTable<C> {
             key,
             sequence,
         };
-        let at = self.map.count_by(&probe);
-        self.given_at(at, key)
+        match self.map.first_by(&probe) {
+            None => None,
+            Some(node) => self.given_at(node, key),
+        }
     }
 
-    /// A walk over the internal keys of the entries with their values, which stands at no place.
-    pub fn iter(&self) -> MemtableIterator<'_, C>
-        ensures table { result.table.now ≡ self.now }
-        ensures place { result.place ≡ None }
-        ensures sorted { AreRising (internal_cmp (C.cmp self.now.cmp)) (map internal_pair self.now.kept.entries) }
+    /// A walk over the internal keys of the entries with their values, which has no position yet.
+    pub fn iter<'a>(&'a self) -> MemtableIterator<'a, C>
+        ensures pairs { ⟦<MemtableIterator<'a, C> as LdbIterator>⟧.pairs result
+            ≡ map internal_pair self.now.kept.entries }
+        ensures position { ⟦<MemtableIterator<'a, C> as LdbIterator>⟧.position result ≡ None }
+        ensures order { ⟦<MemtableIterator<'a, C> as LdbIterator>⟧.order result
+            ≡ internal_cmp (C.cmp self.now.cmp) }
+        ensures sorted { AreRising (internal_cmp (C.cmp self.now.cmp))
+            (map internal_pair self.now.kept.entries) }
     {
         // This opens the value's invariant for the clause `sorted`.
         let _ = self.map.iter();
         MemtableIterator {
             table: self,
-            place: None,
+            node: None,
         }
     }
 
-    // What the entry at a place gives the key, if it is the key's.
+    // What the entry of a node gives the key, if it is the key's.
     #[inline]
-    fn given_at(&self, at: usize, key: &[u8]) -> Option<Option<&[u8]>>
-        ensures { GivesAt self.now.kept.entries at key.now (option_map option_copied result) }
+    fn given_at(&self, node: usize, key: &[u8]) -> Option<Option<&[u8]>>
+        requires { HasNode self.now.nodes (map internal_pair self.now.kept.entries) node }
+        ensures { IsValueAt self.now.kept.entries (rank self.now.nodes node) key.now
+            (option_map option_copied result) }
     {
-        let end = self.map.len();
-        if at >= end {
-            return None;
-        }
-        let parts = split_entry(self.map.key(at));
+        let parts = split_entry(self.map.key(node));
         let parsed = parse_internal_key(parts.0);
         if is_same(parsed.2, key) {
             return Some(given(parsed.0, parts.1));
@@ -205,70 +242,111 @@ impl<C: UserCmp> MemTable<C> {
         None
     }
 
-    // How many pairs a walk passes.
-    fn pair_count(&self) -> usize
-        ensures { result ≡ length (map internal_pair self.now.kept.entries) }
+    // The node of the first entry.
+    fn first(&self) -> Option<usize>
+        ensures position { position_of self.now.nodes result
+            ≡ position_within (map internal_pair self.now.kept.entries) 0 }
+        ensures within { ForSome result
+            (HasNode self.now.nodes (map internal_pair self.now.kept.entries)) }
     {
-        self.map.len()
+        self.map.first()
     }
 
-    // How many internal keys are before this one.
-    fn pairs_before(&self, key: &[u8]) -> usize
-        ensures { result ≡ count_before (internal_cmp (C.cmp self.now.cmp)) key.now (map internal_pair self.now.kept.entries) }
+    // The node after another.
+    fn after(&self, node: usize) -> Option<usize>
+        requires { HasNode self.now.nodes (map internal_pair self.now.kept.entries) node }
+        ensures position { position_of self.now.nodes result
+            ≡ position_within (map internal_pair self.now.kept.entries)
+            (rank self.now.nodes node + 1) }
+        ensures within { ForSome result
+            (HasNode self.now.nodes (map internal_pair self.now.kept.entries)) }
+    {
+        self.map.after(node)
+    }
+
+    // The node before another.
+    fn previous(&self, node: usize) -> Option<usize>
+        requires { HasNode self.now.nodes (map internal_pair self.now.kept.entries) node }
+        ensures position { position_of self.now.nodes result
+            ≡ previous_position (Some (rank self.now.nodes node)) }
+        ensures within { ForSome result
+            (HasNode self.now.nodes (map internal_pair self.now.kept.entries)) }
+    {
+        self.map.previous(node)
+    }
+
+    // The node of the first internal key at or after this one.
+    fn first_at(&self, key: &[u8]) -> Option<usize>
+        ensures position { position_of self.now.nodes result
+            ≡ seek_position (internal_cmp (C.cmp self.now.cmp))
+            (map internal_pair self.now.kept.entries) key.now }
+        ensures within { ForSome result
+            (HasNode self.now.nodes (map internal_pair self.now.kept.entries)) }
     {
         let cmp = self.map.comparator();
         let probe = AtInternalKey { cmp: &cmp.0, key };
-        self.map.count_by(&probe)
+        self.map.first_by(&probe)
     }
 
-    // The internal key and the value at a place.
-    fn pair(&self, at: usize) -> (&[u8], &[u8])
-        requires { at < length (map internal_pair self.now.kept.entries) }
-        ensures { slice_get (map internal_pair self.now.kept.entries) at ≡ Some (result.0.now, result.1.now) }
+    // The internal key and the value of a node.
+    fn pair(&self, node: usize) -> (&[u8], &[u8])
+        requires { HasNode self.now.nodes (map internal_pair self.now.kept.entries) node }
+        ensures { slice_get (map internal_pair self.now.kept.entries) (rank self.now.nodes node)
+            ≡ Some (result.0.now, result.1.now) }
     {
-        let key = self.map.key(at);
-        split_entry(key)
+        split_entry(self.map.key(node))
     }
 
     // Takes memory for one entry.
     fn prepare_entry(&mut self, key: &[u8], value: Option<&[u8]>) -> Result<()>
         ensures cmp { self.new.cmp ≡ self.old.cmp }
         ensures entries { self.new.kept.entries ≡ self.old.kept.entries }
-        ensures ok { OnOk result (HasRoom self.new.kept (item_of key.now (option_copied value.entry) ∷ [])) }
+        ensures ok { OnOk result
+            (HasRoom self.new.kept (item_of key.now (option_copied value.entry) ∷ [])) }
         ensures room { KeepsRoom self.old.kept self.new.kept }
-        ensures cause { IfErr result IsOutOfMemory }
+        ensures cause { IfErr result
+            (FailsToPrepare (item_of key.now (option_copied value.entry))) }
     {
-        let bytes = match value {
-            None => key.len(),
-            Some(value) => key.len() + value.len(),
-        };
+        let bytes = byte_count(key, value);
+        if bytes > MAX_BYTES {
+            let alloc = self.map.allocator();
+            return err(
+                alloc,
+                StatusCode::NotSupported,
+                "key and value have at most 2^63 bytes",
+            );
+        }
         self.reserve(1, bytes)
     }
 
-    // Makes room for so many entries, whose keys and values have so many bytes. Room for as many is only added to.
+    // Makes room for `count` entries, whose keys and values have `bytes` bytes. Room for as many is
+    // only added to.
     fn reserve(&mut self, count: u32, bytes: usize) -> Result<()>
+        requires { bytes ≤ 2 ^ 63 }
         ensures cmp { self.new.cmp ≡ self.old.cmp }
         ensures entries { self.new.kept.entries ≡ self.old.kept.entries }
         ensures ok { OnOk result ((count ≤ self.new.kept.places) × (bytes ≤ self.new.kept.bytes)) }
-        ensures room { count ≤ self.old.kept.places → (self.new.kept.places ≡ self.old.kept.places) × (self.old.kept.bytes ≤ self.new.kept.bytes) }
+        ensures room { count ≤ self.old.kept.places
+            → (self.new.kept.places ≡ self.old.kept.places)
+            × (self.old.kept.bytes ≤ self.new.kept.bytes) }
         ensures places { OnErr result (self.new.kept.places ≡ self.old.kept.places) }
         ensures bytes { OnErr result (self.old.kept.bytes ≤ self.new.kept.bytes) }
         ensures cause { IfErr result IsOutOfMemory }
     {
         let places = self.map.places().max(count as usize);
-        let Some(bytes) = bytes.checked_add(MOST_BESIDE * places) else {
-            return Err(Status::from(AllocError));
-        };
-        self.map.reserve(places, bytes)
+        self.map.reserve(places, bytes + MOST_BESIDE * places)
     }
 
-    // Puts an entry for which there is room. It answers whether it did: an entry of this key and number is left.
+    // Inserts an entry for which there is room. Returns whether it did: an entry of this key and
+    // number is left.
     fn put(&mut self, sequence: SequenceNumber, key: &[u8], value: Option<&[u8]>) -> bool
         requires numbered { sequence < 2 ^ 56 }
         requires room { HasRoom self.old.kept (item_of key.now (option_copied value) ∷ []) }
         ensures cmp { self.new.cmp ≡ self.old.cmp }
-        ensures put { OnTrue result (Adds self.old.kept (entry_of sequence key.now (option_copied value.entry)) self.new.kept) }
-        ensures grows { OnTrue result (Grows self.old.kept.entries (entry_of sequence key.now (option_copied value.entry)) self.new.kept.entries) }
+        ensures put { OnTrue result (AddsEntry self.old.kept
+            (entry_of sequence key.now (option_copied value.entry)) self.new.kept) }
+        ensures grows { OnTrue result (Grows self.old.kept.entries
+            (entry_of sequence key.now (option_copied value.entry)) self.new.kept.entries) }
         ensures new { OnTrue result (IsNewTo self.old.kept.entries sequence key.now) }
         ensures left { OnFalse result (self.new.kept.entries ≡ self.old.kept.entries) }
         ensures places { OnFalse result (self.new.kept.places ≡ self.old.kept.places) }
@@ -278,22 +356,32 @@ impl<C: UserCmp> MemTable<C> {
         let parts = type_and_bytes(value);
         let tag = tag_bytes(sequence, parts.0);
         let mut first = [0; 10];
-        let head = spell_length(&mut first, key.len() + TAG_LEN);
+        let head = encode_length(&mut first, key.len() + TAG_LEN);
         let mut second = [0; 10];
-        let size = spell_length(&mut second, parts.1.len());
+        let size = encode_length(&mut second, parts.1.len());
         self.map.put_parts(head, key, &tag, size, parts.1)
     }
 }
 
-// The bytes that spell a length, written into these.
+// The encoding of a length, written into these bytes.
 #[inline]
 #[tactic(auto, using(leveldb_base::proofs::VarintLemmas::varint_lengths))]
-fn spell_length(bytes: &mut [u8], number: usize) -> &[u8]
+fn encode_length(bytes: &mut [u8], number: usize) -> &[u8]
     requires { 10 ≤ length bytes.old }
     ensures { result.now ≡ varint number }
 {
     let used = encode_varint64(bytes, number as u64);
     &bytes[..used]
+}
+
+// The number of bytes of key and value.
+fn byte_count(key: &[u8], value: Option<&[u8]>) -> usize
+    ensures { result ≡ length key.now + value_length (option_copied value.entry) }
+{
+    match value {
+        None => key.len(),
+        Some(value) => key.len() + value.len(),
+    }
 }
 
 // The type of what an entry gives its key, and the bytes of its value; a deletion has none.
@@ -305,16 +393,6 @@ fn type_and_bytes(value: Option<&[u8]>) -> (ValueType, &[u8])
         None => (ValueType::TypeDeletion, &[]),
         Some(bytes) => (ValueType::TypeValue, bytes),
     }
-}
-
-// A sequence number and a type in eight bytes.
-fn tag_bytes(sequence: SequenceNumber, kind: ValueType) -> [u8; TAG_LEN]
-    requires { sequence < 2 ^ 56 }
-    ensures { result ≡ little 8 (tag sequence kind) }
-{
-    let mut bytes = [0; TAG_LEN];
-    LittleEndian::write_u64(&mut bytes, (sequence << 8) | kind as u64);
-    bytes
 }
 
 // The internal key and the value that a memtable key is made of.
@@ -330,7 +408,7 @@ fn split_entry(key: &[u8]) -> (&[u8], &[u8])
     (first.0, second.0)
 }
 
-// The text that stands behind its length in front, and what follows it.
+// The text after its length at the front, and what follows it.
 #[inline]
 fn front_text(bytes: &[u8]) -> (&[u8], &[u8])
     requires { (text : List ℕ) × (rest : List ℕ) × (bytes.now ≡ sized text ++ rest) }

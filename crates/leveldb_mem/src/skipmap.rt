@@ -1,30 +1,44 @@
 //! A map from keys to values in the order of a comparator.
-ghost use Rattle.std.specs.Prelude.{◌≡◌, ◌≢◌, ◌↔◌, ◌⊎◌, ◌+◌, ◌^◌, ◌<◌, ◌≤◌, ◌==◌, true, [], ◌++◌, length, OnOk, OnErr, IfErr, IsErrAnd, Some, None, slice_get};
+ghost use Rattle.std.specs.Prelude.{◌≡◌, ◌≢◌, ◌↔◌, ◌⊎◌, ◌+◌, ◌^◌, ◌<◌, ◌≤◌, ◌==◌, true, [], ◌++◌};
+ghost use Rattle.std.specs.Prelude.{length, OnOk, OnErr, IfErr, IsErrAnd, Some, None, slice_get};
 ghost use Rattle.std.specs.Bool.{OnTrue, OnFalse};
 ghost use Rattle.std.specs.Option.{ForSome};
 ghost use Rattle.leveldb_base.specs.Error.{IsOutOfMemory};
-ghost use Rattle.leveldb_base.specs.declared.error.StatusCode.TheVariants.{InvalidArgument, AlreadyExists};
-ghost use Rattle.leveldb_base.specs.Types.{count_before, seek_position, pair_at};
+ghost use Rattle.leveldb_base.specs.declared.error.StatusCode.TheVariants.{InvalidArgument};
+ghost use Rattle.leveldb_base.specs.declared.error.StatusCode.TheVariants.{AlreadyExists};
+ghost use Rattle.leveldb_base.specs.Types.{seek_position, position_within, previous_position, pair_at};
+ghost use Rattle.leveldb_mem.specs.Placed.{rank};
 ghost use Rattle.leveldb_mem.specs.Searching.{key_at, count_while, IsParted};
-ghost use Rattle.leveldb_mem.specs.SkipMap.{IsSorted, Inserts, HasKey, key_begins, memory_of};
+ghost use Rattle.leveldb_mem.specs.SkipMap.{IsSorted, Inserts, HasKey, HasNode, position_of};
+ghost use Rattle.leveldb_mem.specs.SkipMap.{key_begins, memory_of};
 
-use crate::skipmap::placed::PlacedPairs;
-use crate::skipmap::search::{Probe, count_halving, count_keys_before, find_gap};
+use crate::skipmap::placed::{HEAD, PlacedPairs};
+use crate::skipmap::search::{AtKey, Probe, find_gap, path_before};
+use crate::skipmap::towers::MAX_HEIGHT;
+pub use crate::skipmap::towers::tower_height;
 use leveldb_base::cmp::{Cmp, MemtableKeyCmp};
 use leveldb_base::error::{Result, StatusCode, err};
 use leveldb_base::types::LdbIterator;
+use rand_core::SeedableRng;
+use rand_xoshiro::Xoshiro256PlusPlus;
 use std::alloc::Global;
 use std::marker::Model;
 
 pub(crate) mod placed;
 pub(crate) mod search;
+pub(crate) mod towers;
+
+// What the heights of towers are drawn from, so that they are the same in each run.
+const SEED: u64 = 0xdeadbeef;
 
 /// Pairs whose keys rise strictly. Each of them is accepted by the comparator, and none is empty.
-/// It is a sorted vector of places, so an insertion moves the places behind it.
+/// It is a skip list, so a search, an insertion and a step back take a number of comparisons that
+/// grows with the logarithm of the number of pairs.
 #[derive(Drop)]
 pub struct SkipMap<C: Cmp> {
     cmp: C,
     pairs: PlacedPairs,
+    rng: Xoshiro256PlusPlus,
 }
 
 impl<C: Cmp> Model for SkipMap<C> {
@@ -34,12 +48,20 @@ impl<C: Cmp> Model for SkipMap<C> {
 
     ghost coded = { held_code C.code };
 
-    ghost use Rattle.std.specs.Prelude.{◌≡◌, []};
+    ghost use Rattle.std.specs.Prelude.{◌≡◌, [], length};
     ghost use Rattle.leveldb_mem.specs.SkipMap.{IsSorted};
 
-    ghost view = { λ it. record { cmp = it.cmp; pairs = it.pairs.pairs; places = it.pairs.places; bytes = it.pairs.bytes } };
+    ghost view = { λ it. record {
+      cmp = it.cmp;
+      pairs = it.pairs.pairs;
+      nodes = it.pairs.order;
+      places = it.pairs.places;
+      bytes = it.pairs.bytes;
+    } };
 
-    ghost invariant = { λ it. IsSorted (C.accepts it.cmp) (C.cmp it.cmp) it.pairs.pairs × (it.pairs.tail ≡ []) };
+    ghost invariant = { λ it. IsSorted (C.accepts it.cmp) (C.cmp it.cmp) it.pairs.pairs
+        × (it.pairs.tail ≡ [])
+        × (length it.pairs.order ≡ length it.pairs.pairs) };
 }
 
 impl<C: Cmp> SkipMap<C> {
@@ -52,40 +74,45 @@ impl<C: Cmp> SkipMap<C> {
         SkipMap {
             cmp,
             pairs: PlacedPairs::new(alloc),
+            rng: Xoshiro256PlusPlus::seed_from_u64(SEED),
         }
     }
 
-    /// How many pairs there are.
+    /// Returns the number of pairs.
     pub fn len(&self) -> usize
         ensures { result ≡ length self.now.pairs }
     {
         self.pairs.len()
     }
 
-    /// Whether there are no pairs.
+    /// Returns whether there are no pairs.
     pub fn is_empty(&self) -> bool
         ensures { result ≡ (length self.now.pairs == 0) }
     {
         self.pairs.len() == 0
     }
 
-    /// Whether the first key at or after `key` begins with it.
+    /// Returns whether the first key at or after `key` begins with it.
     pub fn contains(&self, key: &[u8]) -> bool
-        ensures { result ≡ key_begins (pair_at self.now.pairs (seek_position (C.cmp self.now.cmp) self.now.pairs key.now)) key.now }
+        ensures { result ≡ key_begins (pair_at self.now.pairs
+            (seek_position (C.cmp self.now.cmp) self.now.pairs key.now)) key.now }
     {
-        let at = self.keys_before(key);
-        at < self.pairs.len() && self.pairs.key(at).starts_with(key)
+        match self.first_at(key) {
+            None => false,
+            Some(node) => self.pairs.key(node).starts_with(key),
+        }
     }
 
-    /// What counts as the map's memory: 128, and for each pair 64 and the lengths of key and value.
+    /// Returns what counts as the map's memory: 128, and for each pair 64 and the lengths of key and
+    /// value.
     pub fn approx_memory(&self) -> usize
         ensures { result ≡ memory_of self.now.pairs }
     {
         128 + self.pairs.memory()
     }
 
-    /// Puts a copy of the pair at its place.
-    /// `InvalidArgument` for an empty key, `AlreadyExists` for one that is Equal to a key that is there.
+    /// Inserts a copy of the pair. Returns `InvalidArgument` if the key is empty, and
+    /// `AlreadyExists` if it is Equal to a key that is there.
     pub fn insert(&mut self, key: &[u8], value: &[u8]) -> Result<()>
         requires { (key.now ≡ []) ⊎ (C.accepts self.old.cmp key.now ≡ true) }
         ensures cmp { self.new.cmp ≡ self.old.cmp }
@@ -94,83 +121,139 @@ impl<C: Cmp> SkipMap<C> {
         ensures err { OnErr result (self.new.pairs ≡ self.old.pairs) }
         ensures places { OnErr result (self.new.places ≡ self.old.places) }
         ensures bytes { OnErr result (self.old.bytes ≤ self.new.bytes) }
-        ensures empty { IsErrAnd result (λ status. status.code ≡ InvalidArgument) ↔ (key.now ≡ []) }
+        ensures empty { IsErrAnd result (λ status. status.code ≡ InvalidArgument)
+            ↔ (key.now ≡ []) }
         ensures present { IsErrAnd result (λ status. status.code ≡ AlreadyExists)
             ↔ ((key.now ≢ []) × HasKey (C.cmp self.old.cmp) self.old.pairs key.now) }
-        ensures cause { IfErr result (λ status. (status.code ≡ InvalidArgument) ⊎ (status.code ≡ AlreadyExists) ⊎ IsOutOfMemory status) }
+        ensures cause { IfErr result (λ status. (status.code ≡ InvalidArgument)
+            ⊎ (status.code ≡ AlreadyExists) ⊎ IsOutOfMemory status) }
     {
         let alloc = self.pairs.allocator();
         if key.is_empty() {
             return err(alloc, StatusCode::InvalidArgument, "an empty key");
         }
-        let Some(at) = find_gap(&self.cmp, &self.pairs, key) else {
+        let Some(path) = find_gap(&self.cmp, &self.pairs, key) else {
             return err(alloc, StatusCode::AlreadyExists, "the key is there");
         };
         self.pairs.reserve(1, key.len() + value.len())?;
         self.pairs.append(key);
         self.pairs.append(value);
-        self.pairs.place(at, key.len());
+        let height = tower_height(&mut self.rng);
+        self.pairs.place(&path, key.len(), height);
         Ok(())
     }
 
-    /// A walk over the pairs, which stands at no place.
-    pub fn iter(&self) -> SkipMapIter<'_, C>
-        ensures map { result.map.now ≡ self.now }
-        ensures place { result.place ≡ None }
+    /// A walk over the pairs, which has no position yet.
+    pub fn iter<'a>(&'a self) -> SkipMapIter<'a, C>
+        ensures pairs { ⟦<SkipMapIter<'a, C> as LdbIterator>⟧.pairs result ≡ self.now.pairs }
+        ensures position { ⟦<SkipMapIter<'a, C> as LdbIterator>⟧.position result ≡ None }
+        ensures order { ⟦<SkipMapIter<'a, C> as LdbIterator>⟧.order result ≡ C.cmp self.now.cmp }
         ensures sorted { IsSorted (C.accepts self.now.cmp) (C.cmp self.now.cmp) self.now.pairs }
     {
         // This opens the value's invariant for the clause `sorted`.
         let _ = &self.pairs;
         SkipMapIter {
             map: self,
-            place: None,
+            node: None,
         }
     }
 
-    /// How many keys are before this one.
+    /// The node of the first key at or after this one.
     #[inline]
-    pub(crate) fn keys_before(&self, key: &[u8]) -> usize
-        ensures count { result ≡ count_before (C.cmp self.now.cmp) key.now self.now.pairs }
-        ensures sorted { IsSorted (C.accepts self.now.cmp) (C.cmp self.now.cmp) self.now.pairs }
+    pub(crate) fn first_at(&self, key: &[u8]) -> Option<usize>
+        ensures position { position_of self.now.nodes result
+            ≡ seek_position (C.cmp self.now.cmp) self.now.pairs key.now }
+        ensures within { ForSome result (HasNode self.now.nodes self.now.pairs) }
     {
-        count_keys_before(&self.cmp, &self.pairs, key)
+        if self.pairs.len() == 0 {
+            return None;
+        }
+        let path = path_before(&self.cmp, &self.pairs, key);
+        as_node(self.pairs.after(path[0] as usize))
+    }
+
+    /// The first node.
+    #[inline]
+    pub(crate) fn first(&self) -> Option<usize>
+        ensures position { position_of self.now.nodes result ≡ position_within self.now.pairs 0 }
+        ensures within { ForSome result (HasNode self.now.nodes self.now.pairs) }
+    {
+        if self.pairs.len() == 0 {
+            return None;
+        }
+        as_node(self.pairs.after(HEAD))
+    }
+
+    /// The node after another.
+    #[inline]
+    pub(crate) fn after(&self, node: usize) -> Option<usize>
+        requires { HasNode self.now.nodes self.now.pairs node }
+        ensures position { position_of self.now.nodes result
+            ≡ position_within self.now.pairs (rank self.now.nodes node + 1) }
+        ensures within { ForSome result (HasNode self.now.nodes self.now.pairs) }
+    {
+        as_node(self.pairs.after(node))
+    }
+
+    /// The node before another.
+    #[inline]
+    pub(crate) fn previous(&self, node: usize) -> Option<usize>
+        requires { HasNode self.now.nodes self.now.pairs node }
+        ensures position { position_of self.now.nodes result
+            ≡ previous_position (Some (rank self.now.nodes node)) }
+        ensures within { ForSome result (HasNode self.now.nodes self.now.pairs) }
+    {
+        let probe = AtKey {
+            cmp: &self.cmp,
+            key: self.pairs.key(node),
+        };
+        let before = self.pairs.path_to(&probe, MAX_HEIGHT)[0] as usize;
+        if before == HEAD { None } else { Some(before) }
     }
 
     /// The comparator.
     #[inline]
     pub(crate) fn comparator(&self) -> &C
-        ensures { result.now ≡ self.now.cmp }
+        ensures value { result.now ≡ self.now.cmp }
+        ensures sorted { IsSorted (C.accepts self.now.cmp) (C.cmp self.now.cmp) self.now.pairs }
     {
         &self.cmp
     }
 
-    /// How many keys come before something, where these are all the keys that do.
+    /// The node of the first key that doesn't come before something, where all that do are at the
+    /// front.
     #[inline]
-    pub(crate) fn count_by<P: Probe>(&self, probe: &P) -> usize
-        ensures within { result ≤ length self.now.pairs }
-        ensures count { IsParted (P.passes probe.now) self.now.pairs → result ≡ count_while (P.passes probe.now) self.now.pairs }
-        ensures sorted { IsSorted (C.accepts self.now.cmp) (C.cmp self.now.cmp) self.now.pairs }
+    pub(crate) fn first_by<P: Probe>(&self, probe: &P) -> Option<usize>
+        requires { IsParted (P.passes probe.now) self.now.pairs }
+        ensures position { position_of self.now.nodes result
+            ≡ position_within self.now.pairs (count_while (P.passes probe.now) self.now.pairs) }
+        ensures within { ForSome result (HasNode self.now.nodes self.now.pairs) }
     {
-        count_halving(&self.pairs, probe)
+        if self.pairs.len() == 0 {
+            return None;
+        }
+        let path = self.pairs.path_to(probe, MAX_HEIGHT);
+        as_node(self.pairs.after(path[0] as usize))
     }
 
-    /// The key at a place.
+    /// The key of a node.
     #[inline]
-    pub(crate) fn key(&self, at: usize) -> &[u8]
-        requires { at < length self.now.pairs }
-        ensures { result.now ≡ key_at self.now.pairs at }
+    pub(crate) fn key(&self, node: usize) -> &[u8]
+        requires { HasNode self.now.nodes self.now.pairs node }
+        ensures { result.now ≡ key_at self.now.pairs (rank self.now.nodes node) }
     {
-        self.pairs.key(at)
+        self.pairs.key(node)
     }
 
-    // The pair at a place.
+    // The pair of a node.
     #[inline]
     #[tactic(auto, using(std::proofs::lemmas::Option::gets))]
-    fn pair(&self, at: usize) -> (&[u8], &[u8])
-        requires { at < length self.now.pairs }
-        ensures { slice_get self.now.pairs at ≡ Some (result.0.now, result.1.now) }
+    fn pair(&self, node: usize) -> (&[u8], &[u8])
+        requires { HasNode self.now.nodes self.now.pairs node }
+        ensures { slice_get self.now.pairs (rank self.now.nodes node)
+            ≡ Some (result.0.now, result.1.now) }
     {
-        self.pairs.pair(at)
+        self.pairs.pair(node)
     }
 
     pub(crate) fn allocator(&self) -> Global {
@@ -185,7 +268,7 @@ impl<C: Cmp> SkipMap<C> {
         self.pairs.places()
     }
 
-    /// Makes room for so many pairs with so many bytes.
+    /// Makes room for `places` pairs with `bytes` bytes.
     pub(crate) fn reserve(&mut self, places: usize, bytes: usize) -> Result<()>
         ensures cmp { self.new.cmp ≡ self.old.cmp }
         ensures pairs { self.new.pairs ≡ self.old.pairs }
@@ -197,7 +280,8 @@ impl<C: Cmp> SkipMap<C> {
         self.pairs.reserve(places, bytes)
     }
 
-    /// Puts a key, which comes in five parts, at its place, with no value. It answers whether it did: an Equal key is left.
+    /// Inserts a key, which comes in five parts, with no value. Returns whether it did: an Equal key
+    /// is left.
     pub(crate) fn put_parts(&mut self, a: &[u8], b: &[u8], c: &[u8], d: &[u8], e: &[u8]) -> bool
         requires accepted { C.accepts self.old.cmp (a.now ++ b.now ++ c.now ++ d.now ++ e.now) ≡ true }
         requires place { 0 < self.old.places }
@@ -224,8 +308,9 @@ impl<C: Cmp> SkipMap<C> {
                 self.pairs.drop_tail();
                 false
             }
-            Some(at) => {
-                self.pairs.place(at, length);
+            Some(path) => {
+                let height = tower_height(&mut self.rng);
+                self.pairs.place(&path, length, height);
                 true
             }
         }
@@ -243,12 +328,21 @@ impl<C: Cmp> SkipMap<MemtableKeyCmp<C>> {
     }
 }
 
-/// A walk over a map's pairs, which takes no memory and is never refused.
+// The node, or none for 0.
+#[inline]
+fn as_node(node: usize) -> Option<usize>
+    ensures none { node ≡ 0 → result ≡ None }
+    ensures there { 0 < node → result ≡ Some node }
+{
+    if node == 0 { None } else { Some(node) }
+}
+
+/// A walk over a map's pairs, which takes no memory and never fails.
 #[derive(Drop)]
 pub struct SkipMapIter<'a, C: Cmp> {
     map: &'a SkipMap<C>,
-    place: Option<usize>,
-    ghost within: { ForSome place (λ i. i < length map.now.pairs) },
+    node: Option<usize>,
+    ghost within: { ForSome node (HasNode map.now.nodes map.now.pairs) },
 }
 
 impl<'a, C: Cmp> LdbIterator for SkipMapIter<'a, C> {
@@ -256,50 +350,46 @@ impl<'a, C: Cmp> LdbIterator for SkipMapIter<'a, C> {
 
     ghost pairs = { λ it. it.map.now.pairs };
 
-    ghost position = { λ it. it.place };
+    ghost position = { λ it. position_of it.map.now.nodes it.node };
 
     ghost order = { λ it. C.cmp it.map.now.cmp };
 
     ghost fails = { λ _ _ _. ⊥ };
 
     fn advance(&mut self) -> Result<bool> {
-        let end = self.map.len();
-        let next = match self.place {
-            None => 0,
-            Some(i) => i + 1,
+        self.node = match self.node {
+            None => self.map.first(),
+            Some(node) => self.map.after(node),
         };
-        let there = next < end;
-        self.place = if there { Some(next) } else { None };
-        Ok(there)
+        Ok(self.node.is_some())
     }
 
     fn prev(&mut self) -> Result<bool> {
-        self.place = match self.place {
-            Some(i) if i > 0 => Some(i - 1),
-            _ => None,
+        self.node = match self.node {
+            None => None,
+            Some(node) => self.map.previous(node),
         };
-        Ok(self.place.is_some())
+        Ok(self.node.is_some())
     }
 
     fn seek(&mut self, key: &[u8]) -> Result<()> {
-        let at = self.map.keys_before(key);
-        self.place = if at < self.map.len() { Some(at) } else { None };
+        self.node = self.map.first_at(key);
         Ok(())
     }
 
     fn current(&self) -> Option<(&[u8], &[u8])> {
-        match self.place {
+        match self.node {
             None => None,
-            Some(i) => Some(self.map.pair(i)),
+            Some(node) => Some(self.map.pair(node)),
         }
     }
 
     fn reset(&mut self) {
-        self.place = None;
+        self.node = None;
     }
 
     fn valid(&self) -> bool {
-        self.place.is_some()
+        self.node.is_some()
     }
 
     ghost in_range = { λ it. Prim.search rules };

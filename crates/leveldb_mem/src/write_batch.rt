@@ -1,14 +1,23 @@
-//! Write batches: changes of keys that are made together, held as the bytes that stand for them in the log.
-ghost use Rattle.std.specs.Prelude.{◌≡◌, ◌↔◌, ◌⊎◌, ◌+◌, ◌^◌, ◌<◌, ◌≤◌, [], ◌∷◌, ◌++◌, length, take, drop, Some, None, IfOk, OnOk, OnErr, IfErr, IfSome, IsErrAnd, IsTrue, vec_len, vec_capacity, option_copied};
+//! Write batches: changes of keys that are made together. A batch is held as the bytes that encode
+//! it in the log: the number of the first change (8 bytes), the number of changes (4), and the
+//! changes in order. A change is its kind (1 byte) and its key after its length; a put has its value
+//! after its length, too.
+ghost use Rattle.std.specs.Prelude.{◌≡◌, ◌↔◌, ◌⊎◌, ◌+◌, ◌^◌, ◌<◌, ◌≤◌, [], ◌∷◌, ◌++◌, length, take, drop};
+ghost use Rattle.std.specs.Prelude.{Some, None, IfOk, OnOk, OnErr, IfErr, IfSome, IsErrAnd, IsTrue};
+ghost use Rattle.std.specs.Prelude.{vec_len, vec_capacity, option_copied};
 ghost use Rattle.std.specs.Iterator.{YieldsFirstBy, item_count};
 ghost use Rattle.std.specs.Option.{SomeIff};
 ghost use Rattle.leveldb_base.specs.Error.{IsOutOfMemory};
-ghost use Rattle.leveldb_base.specs.declared.error.StatusCode.TheVariants.{InvalidArgument, NotSupported};
+ghost use Rattle.leveldb_base.specs.declared.error.StatusCode.TheVariants.{InvalidArgument};
+ghost use Rattle.leveldb_base.specs.declared.error.StatusCode.TheVariants.{NotSupported};
 ghost use Rattle.leveldb_base.specs.History.{placed, greatest};
 ghost use Rattle.leveldb_base.specs.Varint.{little, sized};
-ghost use Rattle.leveldb_mem.specs.Batch.{item_of, batch_of, with_item, spelling, BatchOf, IsBatch, IsTooLong, AreEntries, CountsEntries, ReadsEntry, lent_item, lent_entry, OneReading, OneSpelling, EachShort, CountFits};
-ghost use Rattle.leveldb_mem.specs.BatchLaws.{IsBatch-prop, AreEntries-prop};
-ghost use Rattle.leveldb_mem.specs.Entries.{Gains, AreNewTo};
+ghost use Rattle.leveldb_mem.specs.WriteBatch.{item_of, batch_of, with_item, AddChangeResult, BatchOf};
+ghost use Rattle.leveldb_mem.specs.WriteBatch.{IsBatch, IsTooLong, AreEntries, CountsEntries};
+ghost use Rattle.leveldb_mem.specs.WriteBatch.{change_encoding, ReadsEntry, borrowed_item};
+ghost use Rattle.leveldb_mem.specs.WriteBatch.{borrowed_entry};
+ghost use Rattle.leveldb_mem.specs.WriteBatchLaws.{IsBatch-prop, AreEntries-prop};
+ghost use Rattle.leveldb_mem.specs.MemTable.{IsUnion, AreNewTo, GrowsByAll};
 
 use crate::memtable::MemTable;
 use byteorder::{ByteOrder, LittleEndian};
@@ -24,7 +33,7 @@ const COUNT_OFFSET: usize = 8;
 
 const HEADER_SIZE: usize = 12;
 
-// A new batch has room for so many bytes: a put of a key of 16 and a value of 100 makes one of 131.
+// The room of a new batch: a put of a key of 16 and a value of 100 makes a batch of 131 bytes.
 const FIRST_CAPACITY: usize = 256;
 
 const MAX_SIZE: usize = 1 << 30;
@@ -33,7 +42,8 @@ const DELETION: u8 = ValueType::TypeDeletion as u8;
 
 const VALUE: u8 = ValueType::TypeValue as u8;
 
-/// Changes in order, and the number of the first of them; each takes the number behind that of the one before.
+/// Changes in order, and the number of the first of them; each has the number after that of the one
+/// before.
 /// A batch has at most 2^30 bytes.
 #[derive(Debug, Drop)]
 pub struct WriteBatch {
@@ -42,7 +52,7 @@ pub struct WriteBatch {
 }
 
 impl Model for WriteBatch {
-    ghost use Rattle.leveldb_mem.specs.Batch.{Batch};
+    ghost use Rattle.leveldb_mem.specs.WriteBatch.{Batch};
 
     ghost Value = { Batch };
 
@@ -60,13 +70,14 @@ impl WriteBatch {
         Ok(WriteBatch { entries })
     }
 
-    /// Makes it the batch that these bytes are.
-    /// `InvalidArgument` where they are none.
+    /// Makes it the batch that these bytes encode. Returns `InvalidArgument` if they encode none.
     pub fn set_contents(&mut self, from: &[u8]) -> Result<()>
         ensures ok { OnOk result (BatchOf from.now self.new.first self.new.items) }
         ensures err { OnErr result (self.new ≡ self.old) }
-        ensures malformed { IsErrAnd result (λ status. status.code ≡ InvalidArgument) ↔ (¬ IsBatch from.now) }
-        ensures cause { IfErr result (λ status. (status.code ≡ InvalidArgument) ⊎ IsOutOfMemory status) }
+        ensures malformed { IsErrAnd result (λ status. status.code ≡ InvalidArgument)
+            ↔ (¬ IsBatch from.now) }
+        ensures cause { IfErr result (λ status.
+            (status.code ≡ InvalidArgument) ⊎ IsOutOfMemory status) }
     {
         if !is_batch(from) {
             let alloc = *self.entries.allocator();
@@ -75,37 +86,31 @@ impl WriteBatch {
         replace(&mut self.entries, from)
     }
 
-    /// Adds the change that gives `key` this value.
-    /// `InvalidArgument` where the batch would be past its limit.
+    /// Adds the change that gives `key` this value. Returns `InvalidArgument` if the batch would be
+    /// past its limit.
     pub fn put(&mut self, key: &[u8], value: &[u8]) -> Result<()>
-        ensures ok { OnOk result (self.new ≡ with_item self.old (item_of key.now (Some value.now))) }
-        ensures err { OnErr result (self.new ≡ self.old) }
-        ensures too_long { IsErrAnd result (λ status. status.code ≡ InvalidArgument)
-            ↔ IsTooLong (with_item self.old (item_of key.now (Some value.now))) }
-        ensures cause { IfErr result (λ status. (status.code ≡ InvalidArgument) ⊎ IsOutOfMemory status) }
+        ensures { AddChangeResult self.old (item_of key.now (Some value.now)) result self.new }
     {
         self.add(key, Some(value))
     }
 
-    /// Adds the change that deletes `key`.
-    /// `InvalidArgument` where the batch would be past its limit.
+    /// Adds the change that deletes `key`. Returns `InvalidArgument` if the batch would be past its
+    /// limit.
     pub fn delete(&mut self, key: &[u8]) -> Result<()>
-        ensures ok { OnOk result (self.new ≡ with_item self.old (item_of key.now None)) }
-        ensures err { OnErr result (self.new ≡ self.old) }
-        ensures too_long { IsErrAnd result (λ status. status.code ≡ InvalidArgument)
-            ↔ IsTooLong (with_item self.old (item_of key.now None)) }
-        ensures cause { IfErr result (λ status. (status.code ≡ InvalidArgument) ⊎ IsOutOfMemory status) }
+        ensures { AddChangeResult self.old (item_of key.now None) result self.new }
     {
         self.add(key, None)
     }
 
     #[inline]
     fn add(&mut self, key: &[u8], value: Option<&[u8]>) -> Result<()>
-        ensures ok { OnOk result (self.new ≡ with_item self.old (item_of key.now (option_copied value.entry))) }
+        ensures ok { OnOk result
+            (self.new ≡ with_item self.old (item_of key.now (option_copied value.entry))) }
         ensures err { OnErr result (self.new ≡ self.old) }
         ensures too_long { IsErrAnd result (λ status. status.code ≡ InvalidArgument)
             ↔ IsTooLong (with_item self.old (item_of key.now (option_copied value.entry))) }
-        ensures cause { IfErr result (λ status. (status.code ≡ InvalidArgument) ⊎ IsOutOfMemory status) }
+        ensures cause { IfErr result (λ status.
+            (status.code ≡ InvalidArgument) ⊎ IsOutOfMemory status) }
     {
         let Some(length) = entry_length(key, value, MAX_SIZE - self.entries.len()) else {
             let alloc = *self.entries.allocator();
@@ -130,7 +135,7 @@ impl WriteBatch {
         self.entries.copy_from_slice(&[0; HEADER_SIZE]);
     }
 
-    /// How many changes there are.
+    /// Returns the number of changes.
     #[inline]
     pub fn count(&self) -> u32
         ensures { result ≡ length self.now.items }
@@ -152,7 +157,7 @@ impl WriteBatch {
         LittleEndian::read_u64(&self.entries)
     }
 
-    /// The changes in order: each key with its value, or with none where it is deleted.
+    /// The changes in order: each key with its value, or with none if it is deleted.
     pub fn iter(&self) -> WriteBatchIter<'_>
         ensures items { result ≡ self.now.items }
         ensures bound { length result < 2 ^ 32 }
@@ -169,8 +174,9 @@ impl WriteBatch {
         self.entries.as_slice()
     }
 
-    /// Puts all changes to the memtable, the first of them with this number; where it is refused, none.
-    /// `NotSupported` where a number is too great.
+    /// Inserts all changes into the memtable, the first of them with this number; after an error,
+    /// none.
+    /// Returns `NotSupported` if a number is too great.
     pub fn insert_into_memtable<C: UserCmp>(
         &self,
         seq: SequenceNumber,
@@ -178,10 +184,15 @@ impl WriteBatch {
     ) -> Result<()>
         requires { AreNewTo memtable.old.kept.entries (placed seq self.now.items) }
         ensures cmp { memtable.new.cmp ≡ memtable.old.cmp }
-        ensures ok { OnOk result (Gains memtable.old.kept.entries (placed seq self.now.items) memtable.new.kept.entries) }
+        ensures ok { OnOk result (IsUnion memtable.old.kept.entries (placed seq self.now.items)
+            memtable.new.kept.entries) }
+        ensures grows { OnOk result (GrowsByAll memtable.old.kept.entries
+            (placed seq self.now.items) memtable.new.kept.entries) }
         ensures err { OnErr result (memtable.new.kept.entries ≡ memtable.old.kept.entries) }
-        ensures too_great { IsErrAnd result (λ status. status.code ≡ NotSupported) ↔ (2 ^ 56 ≤ greatest (placed seq self.now.items)) }
-        ensures cause { IfErr result (λ status. (status.code ≡ NotSupported) ⊎ IsOutOfMemory status) }
+        ensures too_great { IsErrAnd result (λ status. status.code ≡ NotSupported)
+            ↔ (2 ^ 56 ≤ greatest (placed seq self.now.items)) }
+        ensures cause { IfErr result (λ status.
+            (status.code ≡ NotSupported) ⊎ IsOutOfMemory status) }
     {
         if u64::from(self.count()) > (MAX_SEQUENCE_NUMBER + 1).saturating_sub(seq) {
             let alloc = *self.entries.allocator();
@@ -205,7 +216,7 @@ impl WriteBatch {
     }
 }
 
-/// The changes of a batch that are left to walk over, lent from it.
+/// The changes of a batch that are left to walk over, borrowed from it.
 #[derive(Debug, Drop)]
 pub struct WriteBatchIter<'a> {
     entries: &'a [u8],
@@ -224,7 +235,7 @@ impl<'a> Model for WriteBatchIter<'a> {
 impl<'a> Iterator for WriteBatchIter<'a> {
     type Item = (&'a [u8], Option<&'a [u8]>);
 
-    ghost next_gives = { YieldsFirstBy lent_item (λ left. left) };
+    ghost next_gives = { YieldsFirstBy borrowed_item (λ left. left) };
 
     ghost remaining = { item_count (λ left. left) };
 
@@ -236,7 +247,7 @@ impl<'a> Iterator for WriteBatchIter<'a> {
     }
 }
 
-// Puts these bytes in place of the others.
+// Replaces the bytes by these.
 fn replace(entries: &mut Vec<u8>, bytes: &[u8]) -> Result<()>
     ensures ok { OnOk result (entries.new.items ≡ bytes.now) }
     ensures err { OnErr result (entries.new.items ≡ entries.old.items) }
@@ -256,7 +267,7 @@ fn write_count(bytes: &mut [u8], count: u32)
     LittleEndian::write_u32(&mut bytes[COUNT_OFFSET..], count);
 }
 
-// How many bytes the text takes behind its length, where it is within the limit.
+// The number of bytes of the text and its length, if it is within the limit.
 #[inline]
 #[tactic(auto, using(leveldb_base::proofs::VarintLemmas::varint_lengths))]
 fn sized_length(text: &[u8]) -> Option<usize>
@@ -269,12 +280,13 @@ fn sized_length(text: &[u8]) -> Option<usize>
     Some(varint_length(text.len() as u64) + text.len())
 }
 
-// How many bytes the entry takes, where there is room for it.
+// The number of bytes of the entry, if there is room for it.
 #[inline]
 #[tactic(auto, using(leveldb_base::proofs::VarintLemmas::varint_lengths))]
 fn entry_length(key: &[u8], value: Option<&[u8]>, room: usize) -> Option<usize>
     requires { room ≤ 2 ^ 30 }
-    ensures { let size = length (spelling key.now (option_copied value.entry)) in SomeIff result (size ≤ room) size }
+    ensures { let size = length (change_encoding key.now (option_copied value.entry)) in
+        SomeIff result (size ≤ room) size }
 {
     let key_length = sized_length(key)?;
     let length = match value {
@@ -287,7 +299,7 @@ fn entry_length(key: &[u8], value: Option<&[u8]>, room: usize) -> Option<usize>
     Some(length)
 }
 
-// Puts the kind of an entry, and its key behind its length.
+// Appends the kind of an entry, and its key after its length.
 #[inline]
 #[tactic(auto, using(leveldb_base::proofs::VarintLemmas::varint_lengths))]
 fn put_key(entries: &mut Vec<u8>, kind: u8, key: &[u8])
@@ -301,7 +313,7 @@ fn put_key(entries: &mut Vec<u8>, kind: u8, key: &[u8])
     entries.extend_from_slice(key).unwrap();
 }
 
-// Puts a value behind its length.
+// Appends a value after its length.
 #[inline]
 #[tactic(auto, using(leveldb_base::proofs::VarintLemmas::varint_lengths))]
 fn put_value(entries: &mut Vec<u8>, value: &[u8])
@@ -314,11 +326,13 @@ fn put_value(entries: &mut Vec<u8>, value: &[u8])
     entries.extend_from_slice(value).unwrap();
 }
 
-// Puts an entry behind the others.
+// Appends an entry.
 #[inline]
 fn put_entry(entries: &mut Vec<u8>, key: &[u8], value: Option<&[u8]>)
-    requires { vec_len entries.old + length (spelling key.now (option_copied value)) ≤ vec_capacity entries.old }
-    ensures { entries.new.items ≡ entries.old.items ++ spelling key.now (option_copied value.entry) }
+    requires { vec_len entries.old + length (change_encoding key.now (option_copied value))
+        ≤ vec_capacity entries.old }
+    ensures { entries.new.items
+        ≡ entries.old.items ++ change_encoding key.now (option_copied value.entry) }
 {
     match value {
         None => put_key(entries, DELETION, key),
@@ -331,7 +345,7 @@ fn put_entry(entries: &mut Vec<u8>, key: &[u8], value: Option<&[u8]>)
 
 // The entry at the front, and what follows it.
 fn take_entry(bytes: &[u8]) -> Option<((&[u8], Option<&[u8]>), &[u8])>
-    ensures { ReadsEntry bytes.now (lent_entry result) }
+    ensures { ReadsEntry bytes.now (borrowed_entry result) }
 {
     let (kind, rest) = bytes.split_first()?;
     let (key, rest) = get_length_prefixed_slice(rest)?;
@@ -345,7 +359,7 @@ fn take_entry(bytes: &[u8]) -> Option<((&[u8], Option<&[u8]>), &[u8])>
     }
 }
 
-// How many entries the bytes are, where they are entries.
+// The number of entries that the bytes encode, if they encode entries.
 fn count_entries(bytes: &[u8]) -> Option<usize>
     ensures { CountsEntries bytes.now result }
 {
@@ -368,16 +382,3 @@ fn is_batch(bytes: &[u8]) -> bool
     let count = LittleEndian::read_u32(&bytes[COUNT_OFFSET..]);
     count_entries(&bytes[HEADER_SIZE..]) == Some(count as usize)
 }
-
-/// Bytes are a batch in one way, and a batch has one spelling: encoded again at its own number, what was read is the
-/// bytes that were read.
-pub fn batches_are_their_bytes()
-    ensures reading { OneReading }
-    ensures spelling { OneSpelling }
-{}
-
-/// The limit of a batch's bytes limits each key and each value, and how many changes there are.
-pub fn batches_are_limited()
-    ensures texts { EachShort }
-    ensures count { CountFits }
-{}

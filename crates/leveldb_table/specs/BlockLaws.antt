@@ -1,33 +1,49 @@
--- A block has one reading, and what is known of entries that stand one behind the other.
-use Rattle.std.proofs.Common.{◌≡◌, ℕ, ◌+◌, ◌*◌, ◌^◌, ◌<◌, ◌≤◌, Bool, true, false, nat_eq, if◌then◌else◌, List, [], ◌∷◌, ◌++◌, length, flat_map}
-use Rattle.std.proofs.Common.{Option, None, Some, refl, sym, ◌∙◌, ap, arith, append_assoc, length-append}
+-- A block has one reading, and a position in it is one of its pairs. This is in specs/ since ghost
+-- fields cite it.
+use Rattle.std.proofs.Common.{◌≡◌, ℕ, ◌+◌, ◌*◌, ◌^◌, ◌<◌, ◌≤◌, Bool, true, false, if◌then◌else◌, List, [], ◌∷◌, ◌++◌, length, flat_map, Option, None, Some, refl, sym, ◌∙◌, ap, arith, append_assoc, length-append}
 use Rattle.std.proofs.Props.{props}
 use Rattle.std.proofs.lemmas.Bool.Decides.{nat_tests}
 use Rattle.std.specs.declared.cmp.Ordering.{Ordering}
+use Rattle.std.specs.Prelude.{slice_range}
+use Rattle.std.proofs.lemmas.Option.{slice_get_within}
 use mathlib.Core.HLevel.{Σ_prop_path}
-use Rattle.leveldb_base.specs.Types.{Pair}
+use Rattle.leveldb_base.specs.Types.{Pair, IsPosition}
 use Rattle.leveldb_base.specs.Varint.{little, varint}
 use Rattle.leveldb_base.proofs.VarintLemmas.{apart, apart_right, one_number, length-varint-pos}
-use Rattle.leveldb_env.specs.NumberLaws.{length-fours, one_fixed, one_numbers}
-use Rattle.leveldb_table.specs.Block.{Entry, spelling, entry_bytes, key_of, pairs_of, SharesFrom, AreEntries, RiseBehind, points_from, restart_points, block_bytes, IsSpelled, IsHeld, Held}
+use Rattle.leveldb_env.proofs.FilterBlockLemmas.{length-fours}
+use Rattle.leveldb_env.specs.FilterBlockLaws.{one_fixed, one_numbers}
+use Rattle.leveldb_table.specs.BlockCheck.{begins, points_after}
+use Rattle.leveldb_table.specs.Block.{BlockEntry, parts_bytes, entry_bytes, key_of, pairs_of, SharesFrom, AreEntries, RiseAfter, points_from, restart_points, block_bytes, HasEntries, AreEntriesEndingAt, HasEntriesEndingAt}
+use Rattle.leveldb_table.specs.BlockWalk.{entries_before, IsSpot, IsWithin, position_of}
+use Rattle.leveldb_table.specs.declared.block.walk.Spot.{Spot}
 
 -- ---- one entry
 
-length-spelling : (shared : ℕ) (rest value : List ℕ) → 3 + length rest + length value ≤ length (spelling shared rest value)
-length-spelling shared rest value =
-    omega (arith, length-varint-pos shared, length-varint-pos (length rest), length-varint-pos (length value), length-append {A = ℕ})
+length-parts_bytes : (shared : ℕ) (rest value : List ℕ)
+    → 3 + length rest + length value ≤ length (parts_bytes shared rest value)
+length-parts_bytes shared rest value =
+    omega (
+      arith,
+      length-varint-pos shared,
+      length-varint-pos (length rest),
+      length-varint-pos (length value),
+      length-append {A = ℕ},
+    )
 
 -- an entry has three lengths at least
-pub length-entry_bytes-ge : (entry : Entry) → 3 + length entry.rest + length entry.value ≤ length (entry_bytes entry)
+pub length-entry_bytes-ge : (entry : BlockEntry)
+    → 3 + length entry.rest + length entry.value ≤ length (entry_bytes entry)
 unfolding entry_bytes
-length-entry_bytes-ge entry = length-spelling entry.shared entry.rest entry.value
+length-entry_bytes-ge entry = length-parts_bytes entry.shared entry.rest entry.value
 
 -- an entry's parts, with what follows
-pub spread : (shared : ℕ) (rest value x : List ℕ) → spelling shared rest value ++ x ≡ varint shared ++ (varint (length rest) ++ (varint (length value) ++ (rest ++ (value ++ x))))
+pub spread : (shared : ℕ) (rest value x : List ℕ) → parts_bytes shared rest value ++ x
+    ≡ varint shared ++ (varint (length rest) ++ (varint (length value) ++ (rest ++ (value ++ x))))
 spread shared rest value x = simp append_assoc
 
-pub one_spelling : (s t : ℕ) (r q v w x y : List ℕ) → spelling s r v ++ x ≡ spelling t q w ++ y → (s ≡ t) × (r ≡ q) × (v ≡ w) × (x ≡ y)
-one_spelling s t r q v w x y e =
+pub one_parts_bytes : (s t : ℕ) (r q v w x y : List ℕ)
+    → parts_bytes s r v ++ x ≡ parts_bytes t q w ++ y → (s ≡ t) × (r ≡ q) × (v ≡ w) × (x ≡ y)
+one_parts_bytes s t r q v w x y e =
     let one = one_number s t _ _ (sym (spread s r v x) ∙ e ∙ spread t q w y) in
     let two = one_number (length r) (length q) _ _ one.1 in
     let three = one_number (length v) (length w) _ _ two.1 in
@@ -36,125 +52,189 @@ one_spelling s t r q v w x y e =
     (one.0, four.0, five.0, five.1)
 
 -- an entry at the front of a text, and what follows
-pub one_entry : (a b : Entry) (x y : List ℕ) → entry_bytes a ++ x ≡ entry_bytes b ++ y → (a.shared ≡ b.shared) × (a.rest ≡ b.rest) × (a.value ≡ b.value) × (x ≡ y)
+pub one_entry : (a b : BlockEntry) (x y : List ℕ) → entry_bytes a ++ x ≡ entry_bytes b ++ y
+    → (a.shared ≡ b.shared) × (a.rest ≡ b.rest) × (a.value ≡ b.value) × (x ≡ y)
 unfolding entry_bytes
-one_entry a b x y e = one_spelling a.shared b.shared a.rest b.rest a.value b.value x y e
+one_entry a b x y e = one_parts_bytes a.shared b.shared a.rest b.rest a.value b.value x y e
 
--- an entry of these parts
-abbrev pub entry_of : Bool → ℕ → List ℕ → List ℕ → Entry
-entry_of restart shared rest value = record { restart = restart; shared = shared; rest = rest; value = value }
-
-pub same_parts : (a b : Entry) → a.restart ≡ b.restart → a.shared ≡ b.shared → a.rest ≡ b.rest → a.value ≡ b.value → a ≡ b
+pub same_parts : (a b : BlockEntry) → a.restart ≡ b.restart → a.shared ≡ b.shared → a.rest ≡ b.rest
+    → a.value ≡ b.value → a ≡ b
 same_parts a b e f g h =
-    let made : Bool → ℕ → List ℕ → List ℕ → Entry = λ k l m n. record { restart = k; shared = l; rest = m; value = n } in
-    ap (λ z. made z a.shared a.rest a.value) e ∙ ap (λ z. made b.restart z a.rest a.value) f ∙ ap (λ z. made b.restart b.shared z a.value) g ∙ ap (λ z. made b.restart b.shared b.rest z) h
+    let made : Bool → ℕ → List ℕ → List ℕ
+    → BlockEntry = λ k l m n. record { restart = k; shared = l; rest = m; value = n } in
+    ap (λ z. made z a.shared a.rest a.value) e ∙ ap (λ z. made b.restart z a.rest a.value) f
+    ∙ ap (λ z. made b.restart b.shared z a.value) g
+    ∙ ap (λ z. made b.restart b.shared b.rest z) h
 
 -- ---- restart points
 
--- whether the first of these points is this offset
-abbrev pub begins : ℕ → List ℕ → Bool
-begins offset [] = false
-begins offset (point ∷ points) = nat_eq point offset
-
--- the points that are left behind an entry
-abbrev pub points_after : Bool → List ℕ → List ℕ
-points_after true [] = []
-points_after true (point ∷ points) = points
-points_after false points = points
-
-begins_if : (b : Bool) (offset point : ℕ) (points : List ℕ) → offset < point → begins offset points ≡ false → begins offset (if b then point ∷ points else points) ≡ false
+begins_if : (b : Bool) (offset point : ℕ) (points : List ℕ) → offset < point
+    → begins offset points ≡ false → begins offset (if b then point ∷ points else points) ≡ false
 begins_if true offset point points h e = grind (arith, nat_tests)
 begins_if false offset point points h e = e
 
-begins_later : (offset later : ℕ) (entries : List Entry) → offset < later → begins offset (points_from later entries) ≡ false
+begins_later : (offset later : ℕ) (entries : List BlockEntry) → offset < later
+    → begins offset (points_from later entries) ≡ false
 begins_later offset later [] h = refl
 begins_later offset later (entry ∷ entries) h =
-    begins_if entry.restart offset later (points_from (later + length (entry_bytes entry)) entries) h
+    begins_if entry.restart offset later
+    (points_from (later + length (entry_bytes entry)) entries) h
     (begins_later offset (later + length (entry_bytes entry)) entries (omega (arith, h)))
 
-begins_here : (b : Bool) (offset : ℕ) (points : List ℕ) → begins offset points ≡ false → begins offset (if b then offset ∷ points else points) ≡ b
+begins_here : (b : Bool) (offset : ℕ) (points : List ℕ) → begins offset points ≡ false
+    → begins offset (if b then offset ∷ points else points) ≡ b
 begins_here true offset points e = grind (arith, nat_tests)
 begins_here false offset points e = e
 
--- the points tell whether the first entry is one
-pub restart_told : (offset : ℕ) (entry : Entry) (entries : List Entry) → begins offset (points_from offset (entry ∷ entries)) ≡ entry.restart
-restart_told offset entry entries =
+-- the points say whether the first entry is one
+pub restart_known : (offset : ℕ) (entry : BlockEntry) (entries : List BlockEntry)
+    → begins offset (points_from offset (entry ∷ entries)) ≡ entry.restart
+restart_known offset entry entries =
     begins_here entry.restart offset (points_from (offset + length (entry_bytes entry)) entries)
-    (begins_later offset (offset + length (entry_bytes entry)) entries (omega (arith, length-entry_bytes-ge entry)))
+    (begins_later offset (offset + length (entry_bytes entry)) entries
+    (omega (arith, length-entry_bytes-ge entry)))
 
-after_here : (b : Bool) (offset : ℕ) (points : List ℕ) → points_after b (if b then offset ∷ points else points) ≡ points
+after_here : (b : Bool) (offset : ℕ) (points : List ℕ)
+    → points_after b (if b then offset ∷ points else points) ≡ points
 after_here true offset points = refl
 after_here false offset points = refl
 
--- the points that are left are those of the entries behind
-pub points_left : (offset : ℕ) (entry : Entry) (entries : List Entry)
-    → points_after entry.restart (points_from offset (entry ∷ entries)) ≡ points_from (offset + length (entry_bytes entry)) entries
-points_left offset entry entries = after_here entry.restart offset (points_from (offset + length (entry_bytes entry)) entries)
+-- the points that are left are those of the entries after
+pub points_left : (offset : ℕ) (entry : BlockEntry) (entries : List BlockEntry)
+    → points_after entry.restart (points_from offset (entry ∷ entries))
+    ≡ points_from (offset + length (entry_bytes entry)) entries
+points_left offset entry entries =
+    after_here entry.restart offset (points_from (offset + length (entry_bytes entry)) entries)
 
 -- entries have one reading
-one_list : (offset at : ℕ) (xs ys : List Entry) → offset ≡ at → flat_map entry_bytes xs ≡ flat_map entry_bytes ys → points_from offset xs ≡ points_from at ys → xs ≡ ys
+one_list : (offset at : ℕ) (xs ys : List BlockEntry) → offset ≡ at
+    → flat_map entry_bytes xs ≡ flat_map entry_bytes ys → points_from offset xs ≡ points_from at ys
+    → xs ≡ ys
 one_list offset at [] [] o e p = refl
 one_list offset at [] (y ∷ ys) o e p =
-    absurd (omega (arith, ap length e, length-append (entry_bytes y) (flat_map entry_bytes ys), length-entry_bytes-ge y))
+    absurd (omega (
+      arith,
+      ap length e,
+      length-append (entry_bytes y) (flat_map entry_bytes ys),
+      length-entry_bytes-ge y,
+    ))
 one_list offset at (x ∷ xs) [] o e p =
-    absurd (omega (arith, ap length e, length-append (entry_bytes x) (flat_map entry_bytes xs), length-entry_bytes-ge x))
+    absurd (omega (
+      arith,
+      ap length e,
+      length-append (entry_bytes x) (flat_map entry_bytes xs),
+      length-entry_bytes-ge x,
+    ))
 one_list offset at (x ∷ xs) (y ∷ ys) o e p =
     let parts = one_entry x y (flat_map entry_bytes xs) (flat_map entry_bytes ys) e in
-    let restart = sym (restart_told offset x xs) ∙ ap (λ z. begins z (points_from offset (x ∷ xs))) o ∙ ap (begins at) p ∙ restart_told at y ys in
+    let restart = sym (restart_known offset x xs) ∙ ap (λ z.
+    begins z (points_from offset (x ∷ xs))) o ∙ ap (begins at) p ∙ restart_known at y ys in
     let first = same_parts x y restart parts.0 parts.1 parts.2 in
-    let left = sym (points_left offset x xs) ∙ ap (λ z. points_after z (points_from offset (x ∷ xs))) restart ∙ ap (points_after y.restart) p ∙ points_left at y ys in
-    let behind = ap (λ z. length (entry_bytes z)) first in
-    ap (λ z. z ∷ xs) first ∙ ap (λ z. y ∷ z) (one_list (offset + length (entry_bytes x)) (at + length (entry_bytes y)) xs ys (omega (arith, o, behind)) parts.3 left)
+    let left = sym (points_left offset x xs) ∙ ap (λ z. points_after z
+    (points_from offset (x ∷ xs))) restart ∙ ap (points_after y.restart) p
+    ∙ points_left at y ys in
+    let after = ap (λ z. length (entry_bytes z)) first in
+    ap (λ z. z ∷ xs) first ∙ ap (λ z. y ∷ z) (one_list (offset + length (entry_bytes x))
+    (at + length (entry_bytes y)) xs ys (omega (arith, o, after)) parts.3 left)
 
 -- the same bytes and restart points are the same entries
-pub one_whole : (xs ys : List Entry) → flat_map entry_bytes xs ≡ flat_map entry_bytes ys → restart_points xs ≡ restart_points ys → xs ≡ ys
+pub one_whole : (xs ys : List BlockEntry) → flat_map entry_bytes xs ≡ flat_map entry_bytes ys
+    → restart_points xs ≡ restart_points ys → xs ≡ ys
 one_whole [] [] e p = refl
 one_whole [] (y ∷ ys) e p =
-    absurd (omega (arith, ap length e, length-append (entry_bytes y) (flat_map entry_bytes ys), length-entry_bytes-ge y))
+    absurd (omega (
+      arith,
+      ap length e,
+      length-append (entry_bytes y) (flat_map entry_bytes ys),
+      length-entry_bytes-ge y,
+    ))
 one_whole (x ∷ xs) [] e p =
-    absurd (omega (arith, ap length e, length-append (entry_bytes x) (flat_map entry_bytes xs), length-entry_bytes-ge x))
+    absurd (omega (
+      arith,
+      ap length e,
+      length-append (entry_bytes x) (flat_map entry_bytes xs),
+      length-entry_bytes-ge x,
+    ))
 one_whole (x ∷ xs) (y ∷ ys) e p = one_list 0 0 (x ∷ xs) (y ∷ ys) refl e p
 
 -- the three parts of a block
-pub three_parts : (a b x y c d : List ℕ) (m n : ℕ) → m < 2 ^ 32 → n < 2 ^ 32 → length x ≡ 4 * m → length y ≡ 4 * n
+pub three_parts : (a b x y c d : List ℕ) (m n : ℕ) → m < 2 ^ 32 → n < 2 ^ 32 → length x ≡ 4 * m
+    → length y ≡ 4 * n
     → a ++ (x ++ little 4 m) ≡ b ++ (y ++ little 4 n) → (a ≡ b) × (x ≡ y) × (m ≡ n)
 three_parts a b x y c d m n hm hn lx ly e =
-    let last = apart_right (a ++ x) (b ++ y) (little 4 m) (little 4 n) refl (append_assoc a x (little 4 m) ∙ e ∙ sym (append_assoc b y (little 4 n))) in
+    let last = apart_right (a ++ x) (b ++ y) (little 4 m) (little 4 n) refl
+    (append_assoc a x (little 4 m) ∙ e ∙ sym (append_assoc b y (little 4 n))) in
     let count = (one_fixed m n [] [] hm hn (ap (λ z. z ++ []) last.1)).0 in
     let front = apart_right a b x y (omega (arith, lx, ly, count)) last.0 in
     (front.0, front.1, count)
 
 -- a block has one reading
-pub one_block : {cmp : List ℕ → List ℕ → Ordering} {bytes : List ℕ} {xs ys : List Entry} → IsSpelled cmp bytes xs → IsSpelled cmp bytes ys → xs ≡ ys
+pub one_block : {cmp : List ℕ → List ℕ → Ordering} {bytes : List ℕ} {xs ys : List BlockEntry}
+    → HasEntries cmp bytes xs → HasEntries cmp bytes ys → xs ≡ ys
 unfolding block_bytes
 one_block {cmp} {bytes} {xs} {ys} f g =
-    let parts = three_parts (flat_map entry_bytes xs) (flat_map entry_bytes ys) (flat_map (little 4) (restart_points xs)) (flat_map (little 4) (restart_points ys)) [] []
-    (length (restart_points xs)) (length (restart_points ys)) f.count_fits g.count_fits (length-fours (restart_points xs)) (length-fours (restart_points ys)) (sym f.spelled ∙ g.spelled) in
-    one_whole xs ys parts.0 (one_numbers (restart_points xs) (restart_points ys) f.points_fit g.points_fit parts.1)
+    let parts = three_parts (flat_map entry_bytes xs) (flat_map entry_bytes ys)
+    (flat_map (little 4) (restart_points xs)) (flat_map (little 4) (restart_points ys)) [] []
+    (length (restart_points xs)) (length (restart_points ys)) f.count_fits g.count_fits
+    (length-fours (restart_points xs)) (length-fours (restart_points ys))
+    (sym f.encoded ∙ g.encoded) in
+    one_whole xs ys parts.0
+    (one_numbers (restart_points xs) (restart_points ys) f.points_fit g.points_fit parts.1)
 
 -- ---- one proof
 
-SharesFrom-prop : (last : Option (List ℕ)) (entry : Entry) → IsProp (SharesFrom last entry)
+SharesFrom-prop : (last : Option (List ℕ)) (entry : BlockEntry) → IsProp (SharesFrom last entry)
 SharesFrom-prop None entry = hlevel props
 SharesFrom-prop (Some last) entry = hlevel props
 
 -- and in one way
-pub AreEntries-prop : (last : Option (List ℕ)) (entries : List Entry) → IsProp (AreEntries last entries)
+pub AreEntries-prop : (last : Option (List ℕ)) (entries : List BlockEntry)
+    → IsProp (AreEntries last entries)
 AreEntries-prop last [] = hlevel props
-AreEntries-prop last (entry ∷ entries) = hlevel (props, SharesFrom-prop last entry, AreEntries-prop (Some (key_of last entry)) entries)
+AreEntries-prop last (entry ∷ entries) =
+    hlevel (props, SharesFrom-prop last entry, AreEntries-prop (Some (key_of last entry)) entries)
 
-pub RiseBehind-prop : (cmp : List ℕ → List ℕ → Ordering) (last : Option (List ℕ)) (pairs : List Pair) → IsProp (RiseBehind cmp last pairs)
-RiseBehind-prop cmp last [] = hlevel props
-RiseBehind-prop cmp None (pair ∷ pairs) = RiseBehind-prop cmp (Some pair.0) pairs
-RiseBehind-prop cmp (Some last) (pair ∷ pairs) = hlevel (props, RiseBehind-prop cmp (Some pair.0) pairs)
+pub RiseAfter-prop : (cmp : List ℕ → List ℕ → Ordering) (last : Option (List ℕ))
+    (pairs : List Pair) → IsProp (RiseAfter cmp last pairs)
+RiseAfter-prop cmp last [] = hlevel props
+RiseAfter-prop cmp None (pair ∷ pairs) = RiseAfter-prop cmp (Some pair.0) pairs
+RiseAfter-prop cmp (Some last) (pair ∷ pairs) =
+    hlevel (props, RiseAfter-prop cmp (Some pair.0) pairs)
 
-IsSpelled-prop : (cmp : List ℕ → List ℕ → Ordering) (bytes : List ℕ) (entries : List Entry) → IsProp (IsSpelled cmp bytes entries)
-IsSpelled-prop cmp bytes entries = hlevel (props, AreEntries-prop None entries, RiseBehind-prop cmp None (pairs_of None entries))
+HasEntries-prop : (cmp : List ℕ → List ℕ → Ordering) (bytes : List ℕ) (entries : List BlockEntry)
+    → IsProp (HasEntries cmp bytes entries)
+HasEntries-prop cmp bytes entries =
+    hlevel (props, AreEntries-prop None entries, RiseAfter-prop cmp None (pairs_of None entries))
 
-IsHeld-prop : (accepts : List ℕ → Bool) (cmp : List ℕ → List ℕ → Ordering) (bytes : List ℕ) (limit : ℕ) (accepted : Bool) (entries : List Entry)
-    → IsProp (IsHeld accepts cmp bytes limit accepted entries)
-IsHeld-prop accepts cmp bytes limit accepted entries = hlevel (props, IsSpelled-prop cmp bytes entries)
+AreEntriesEndingAt-prop : (accepts : List ℕ → Bool) (cmp : List ℕ → List ℕ → Ordering)
+    (bytes : List ℕ) (limit : ℕ) (accepted : Bool) (entries : List BlockEntry)
+    → IsProp (AreEntriesEndingAt accepts cmp bytes limit accepted entries)
+AreEntriesEndingAt-prop accepts cmp bytes limit accepted entries =
+    hlevel (props, HasEntries-prop cmp bytes entries)
 
 -- a block is held in one way
-pub Held-prop : (accepts : List ℕ → Bool) (cmp : List ℕ → List ℕ → Ordering) (bytes : List ℕ) (limit : ℕ) (accepted : Bool) → IsProp (Held accepts cmp bytes limit accepted)
-Held-prop accepts cmp bytes limit accepted = λ u v. Σ_prop_path (IsHeld-prop accepts cmp bytes limit accepted) (one_block u.1.spelled v.1.spelled)
+pub HasEntriesEndingAt-prop : (accepts : List ℕ → Bool) (cmp : List ℕ → List ℕ → Ordering)
+    (bytes : List ℕ) (limit : ℕ) (accepted : Bool)
+    → IsProp (HasEntriesEndingAt accepts cmp bytes limit accepted)
+HasEntriesEndingAt-prop accepts cmp bytes limit accepted =
+    λ u v. Σ_prop_path (AreEntriesEndingAt-prop accepts cmp bytes limit accepted)
+    (one_block u.1.encoded v.1.encoded)
+
+-- A position in a block is one in one way, and is a position of its pairs.
+
+IsSpot-prop : (bytes : List ℕ) (entries : List BlockEntry) (key : List ℕ) (spot : Spot)
+    → IsProp (IsSpot bytes entries key spot)
+IsSpot-prop bytes entries key spot = hlevel props
+
+pub IsWithin-prop : (bytes : List ℕ) (entries : List BlockEntry) (key : List ℕ)
+    (spot : Option Spot) → IsProp (IsWithin bytes entries key spot)
+IsWithin-prop bytes entries key None = hlevel props
+IsWithin-prop bytes entries key (Some spot) = IsSpot-prop bytes entries key spot
+
+pub IsWithin-position : (bytes : List ℕ) (entries : List BlockEntry) (key : List ℕ)
+    (spot : Option Spot) → IsWithin bytes entries key spot
+    → IsPosition (pairs_of None entries) (position_of entries spot)
+IsWithin-position bytes entries key None h = tt
+IsWithin-position bytes entries key (Some spot) h =
+    slice_get_within (pairs_of None entries) (entries_before spot.start entries)
+    (key, slice_range bytes spot.value spot.next) h.pair

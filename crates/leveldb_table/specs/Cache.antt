@@ -20,8 +20,14 @@ module _ {T : Type 0} where
 
   -- the pair of a key that was looked for comes first, where there is one
   abbrev pub looked_for : List ℕ → List (List ℕ × T) → List (List ℕ × T)
-  looked_for key pairs = elim (value_of key pairs) [ None ↦ pairs | Some value ↦ (key, value) ∷ others key pairs ]
+  looked_for key pairs =
+      elim (value_of key pairs) [ None ↦ pairs | Some value ↦ (key, value) ∷ others key pairs ]
 
-  -- a pair that was put comes first; behind it stand the others, and where its key is new, as many as there is room for
+  -- a pair that was put comes first; after it are the others, and where its key is new, as many as
+  -- there is room for
   abbrev pub put_first : ℕ → List ℕ → T → List (List ℕ × T) → List (List ℕ × T)
-  put_first capacity key value pairs = (key, value) ∷ elim (value_of key pairs) [ None ↦ take (capacity - 1) pairs | Some old ↦ others key pairs ]
+  put_first capacity key value pairs =
+      (key, value) ∷ elim (value_of key pairs) [
+        | None ↦ take (capacity - 1) pairs
+        | Some old ↦ others key pairs
+      ]

@@ -2,8 +2,8 @@
 ghost use Rattle.std.specs.Prelude.{◌≡◌, ◌⊎◌, None, IfOk, IfErr, IsErrAnd};
 ghost use Rattle.leveldb_base.specs.Error.{IsOutOfMemory};
 ghost use Rattle.leveldb_base.specs.declared.error.StatusCode.TheVariants.{Corruption};
-ghost use Rattle.leveldb_table.specs.Block.{Held, IsBlock, IsNoBlock, pairs_of};
-ghost use Rattle.leveldb_table.specs.BlockLaws.{Held-prop};
+ghost use Rattle.leveldb_table.specs.Block.{HasEntriesEndingAt, IsBlock, IsNoBlock, pairs_of};
+ghost use Rattle.leveldb_table.specs.BlockLaws.{HasEntriesEndingAt-prop};
 
 use bytes::Bytes;
 use check::{check_parts, entries_end};
@@ -36,18 +36,23 @@ pub struct Block<C: Cmp> {
 
     // whether it is known that the comparator accepts all keys
     accepted: bool,
-    pub ghost held: { Held (C.accepts cmp) (C.cmp cmp) contents limit accepted } by { Held-prop (C.accepts cmp) (C.cmp cmp) contents limit accepted },
+    pub ghost entries: { HasEntriesEndingAt (C.accepts cmp)
+        (C.cmp cmp) contents limit accepted } by { HasEntriesEndingAt-prop (C.accepts cmp)
+            (C.cmp cmp) contents limit accepted },
 }
 
 impl<C: Cmp + Drop> Block<C> {
     /// The block that these bytes are under `cmp`.
     /// `Corruption` where they are none.
     pub fn new(alloc: Global, cmp: C, contents: BlockContents) -> Result<Block<C>>
-        ensures ok { IfOk result (λ block. IsBlock (C.cmp cmp) contents (pairs_of None block.held.0)) }
+        ensures ok { IfOk result
+            (λ block. IsBlock (C.cmp cmp) contents (pairs_of None block.entries.0)) }
         ensures same_contents { IfOk result (λ block. block.contents ≡ contents) }
         ensures same_order { IfOk result (λ block. block.cmp ≡ cmp) }
-        ensures damage { IsErrAnd result (λ status. status.code ≡ Corruption) → IsNoBlock (C.cmp cmp) contents }
-        ensures cause { IfErr result (λ status. (status.code ≡ Corruption) ⊎ IsOutOfMemory status) }
+        ensures damage { IsErrAnd result (λ status. status.code ≡ Corruption)
+            → IsNoBlock (C.cmp cmp) contents }
+        ensures cause { IfErr result
+            (λ status. (status.code ≡ Corruption) ⊎ IsOutOfMemory status) }
     {
         let bytes = contents.as_slice();
         let Some(limit) = entries_end(bytes) else {
@@ -64,10 +69,10 @@ impl<C: Cmp + Drop> Block<C> {
         }
     }
 
-    /// A walk over the block's pairs, at no place.
+    /// A walk over the block's pairs, at no position.
     pub fn iter(&self, alloc: Global) -> BlockIter<'_, C>
         ensures block { result.block.now ≡ self.entry.now }
-        ensures place { result.core.spot ≡ None }
+        ensures position { result.core.spot ≡ None }
     {
         BlockIter::new(alloc, self)
     }

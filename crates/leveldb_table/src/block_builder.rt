@@ -3,9 +3,9 @@ ghost use Rattle.std.specs.Prelude.{◌≡◌, ◌↔◌, ◌⊎◌, ℕ, ◌+�
 ghost use Rattle.leveldb_base.specs.Error.{IsOutOfMemory};
 ghost use Rattle.leveldb_base.specs.Varint.{little, varint};
 ghost use Rattle.leveldb_base.specs.declared.error.StatusCode.TheVariants.{NotSupported};
-ghost use Rattle.leveldb_table.specs.Block.{IsBlock, IsSpelled, KeysRise, pairs_of, spelling};
-ghost use Rattle.leveldb_table.specs.Built.{AreSpaced, last_added, shared_front, entry_behind, block_made, IsMade, IsTooLarge, Built, estimate, points_more};
-ghost use Rattle.leveldb_table.specs.BuiltLaws.{Built-prop};
+ghost use Rattle.leveldb_table.specs.Block.{IsBlock, HasEntries, KeysRise, pairs_of, parts_bytes};
+ghost use Rattle.leveldb_table.specs.BlockBuilder.{AreSpaced, last_added, shared_len, entry_after, block_made, IsMade, IsEntryTooLarge, HasEntriesBuilt, estimate, points_more};
+ghost use Rattle.leveldb_table.specs.BlockBuilderLaws.{HasEntriesBuilt-prop};
 
 use crate::block::BlockContents;
 use byteorder::{ByteOrder, LittleEndian};
@@ -23,19 +23,21 @@ pub struct BlockBuilder<C: Cmp> {
     interval: usize,
     buffer: Vec<u8>,
 
-    // the restart points behind the first
+    // the restart points after the first
     points: Vec<u32>,
     last_key: Vec<u8>,
     count: usize,
 
     // whether the first restart point is set
     begun: bool,
-    pub ghost built: { Built (C.cmp cmp) interval buffer.items points.items last_key.items count begun } by { Built-prop (C.cmp cmp) interval buffer.items points.items last_key.items count begun },
+    pub ghost built: { HasEntriesBuilt (C.cmp cmp) interval buffer.items points.items
+        last_key.items count begun } by { HasEntriesBuilt-prop
+            (C.cmp cmp) interval buffer.items points.items last_key.items count begun },
 }
 
 impl<C: Cmp> BlockBuilder<C> {
-    /// A builder under the options' comparator and restart interval, with the first restart point set.
-    /// An interval of 0 counts as 1.
+    /// A builder under the options' comparator and restart interval, with the first restart point
+    /// set. An interval of 0 counts as 1.
     pub fn new<FP>(alloc: Global, options: &Options<C, FP>) -> BlockBuilder<C>
     where
         C: Copy,
@@ -47,7 +49,7 @@ impl<C: Cmp> BlockBuilder<C> {
         BlockBuilder::spaced(alloc, options.cmp, options.block_restart_interval.max(1))
     }
 
-    // A builder under this order, with a restart point every so many entries.
+    // A builder under this order, with a restart point every `interval` entries.
     pub(crate) fn spaced(alloc: Global, cmp: C, interval: usize) -> BlockBuilder<C>
         requires { 1 ≤ interval }
         ensures none { result.built.0 ≡ [] }
@@ -66,7 +68,7 @@ impl<C: Cmp> BlockBuilder<C> {
         }
     }
 
-    // A builder of the same kind, with no pairs, and with room for so many bytes of entries.
+    // A builder of the same kind, with no pairs, and with room for `room` bytes of entries.
     pub(crate) fn fresh(&self, room: usize) -> Result<BlockBuilder<C>>
     where
         C: Copy,
@@ -118,7 +120,8 @@ impl<C: Cmp> BlockBuilder<C> {
         self.last_key.as_slice()
     }
 
-    /// How many bytes the block would have: those of the entries, four for each restart point that is set, and four.
+    /// How many bytes the block would have: those of the entries, four for each restart point that
+    /// is set, and four.
     pub fn size_estimate(&self) -> usize
         ensures { result ≡ estimate self.now.built.0 self.now.begun }
     {
@@ -126,7 +129,8 @@ impl<C: Cmp> BlockBuilder<C> {
         self.buffer.len() + 4 * points + 4
     }
 
-    /// Takes all pairs out, and the first restart point too, which the next `add` or `finish` sets again.
+    /// Takes all pairs out, and the first restart point too, which the next `add` or `finish` sets
+    /// again.
     pub fn reset(&mut self)
         ensures none { self.new.built.0 ≡ [] }
         ensures begun { self.new.begun ≡ false }
@@ -140,19 +144,24 @@ impl<C: Cmp> BlockBuilder<C> {
         self.begun = false;
     }
 
-    /// Adds a pair whose key is after all others.
-    /// `NotSupported` where the entry would begin at an offset, or have a length, of more than 32 bits.
+    /// Adds a pair whose key is after all others. `NotSupported` where the entry would begin at an
+    /// offset, or have a length, of more than 32 bits.
     pub fn add(&mut self, key: &[u8], value: &[u8]) -> Result<()>
-        requires { KeysRise (C.cmp self.old.cmp) (pairs_of None self.old.built.0 ++ (key.now, value.now) ∷ []) }
-        ensures ok { OnOk result (pairs_of None self.new.built.0 ≡ pairs_of None self.old.built.0 ++ (key.now, value.now) ∷ []) }
-        ensures entry { OnOk result (self.new.built.0 ≡ self.old.built.0 ++ entry_behind self.old.interval self.old.built.0 key.now value.now ∷ []) }
+        requires { KeysRise (C.cmp self.old.cmp)
+            (pairs_of None self.old.built.0 ++ (key.now, value.now) ∷ []) }
+        ensures ok { OnOk result (pairs_of None self.new.built.0
+            ≡ pairs_of None self.old.built.0 ++ (key.now, value.now) ∷ []) }
+        ensures entry { OnOk result (self.new.built.0 ≡ self.old.built.0
+            ++ entry_after self.old.interval self.old.built.0 key.now value.now ∷ []) }
         ensures begun { OnOk result (self.new.begun ≡ true) }
         ensures err { OnErr result (self.new.built.0 ≡ self.old.built.0) }
         ensures still { OnErr result (self.new.begun ≡ self.old.begun) }
         ensures order { self.new.cmp ≡ self.old.cmp }
         ensures interval { self.new.interval ≡ self.old.interval }
-        ensures too_large { IsErrAnd result (λ status. status.code ≡ NotSupported) ↔ IsTooLarge self.old.built.0 key.now value.now }
-        ensures cause { IfErr result (λ status. (status.code ≡ NotSupported) ⊎ IsOutOfMemory status) }
+        ensures too_large { IsErrAnd result (λ status. status.code ≡ NotSupported)
+            ↔ IsEntryTooLarge self.old.built.0 key.now value.now }
+        ensures cause { IfErr result
+            (λ status. (status.code ≡ NotSupported) ⊎ IsOutOfMemory status) }
     {
         if !fits(self.buffer.len(), key, value) {
             let alloc = *self.buffer.allocator();
@@ -181,9 +190,12 @@ impl<C: Cmp> BlockBuilder<C> {
     pub fn finish(self) -> Result<BlockContents>
     where
         C: Drop,
-        ensures ok { IfOk result (λ contents. IsBlock (C.cmp self.cmp) contents (pairs_of None self.built.0)) }
-        ensures spelled { IfOk result (λ contents. IsSpelled (C.cmp self.cmp) contents self.built.0) }
-        ensures exact { IfOk result (λ contents. contents ≡ block_made self.interval (pairs_of None self.built.0)) }
+        ensures ok { IfOk result
+            (λ contents. IsBlock (C.cmp self.cmp) contents (pairs_of None self.built.0)) }
+        ensures encoded { IfOk result
+            (λ contents. HasEntries (C.cmp self.cmp) contents self.built.0) }
+        ensures exact { IfOk result
+            (λ contents. contents ≡ block_made self.interval (pairs_of None self.built.0)) }
         ensures size { IfOk result (λ contents. length contents ≡ estimate self.built.0 true) }
         ensures spaced { AreSpaced self.interval 0 self.built.0 }
         ensures memory { IfErr result IsOutOfMemory }
@@ -195,8 +207,10 @@ impl<C: Cmp> BlockBuilder<C> {
     pub(crate) fn into_bytes(self) -> Result<Vec<u8>>
     where
         C: Drop,
-        ensures ok { IfOk result (λ block. IsMade (C.cmp self.cmp) self.interval (pairs_of None self.built.0) block.items) }
-        ensures spelled { IfOk result (λ block. IsSpelled (C.cmp self.cmp) block.items self.built.0) }
+        ensures ok { IfOk result (λ block. IsMade (C.cmp self.cmp) self.interval
+            (pairs_of None self.built.0) block.items) }
+        ensures encoded { IfOk result
+            (λ block. HasEntries (C.cmp self.cmp) block.items self.built.0) }
         ensures size { IfOk result (λ block. length block.items ≡ estimate self.built.0 true) }
         ensures memory { IfErr result IsOutOfMemory }
     {
@@ -209,7 +223,8 @@ impl<C: Cmp> BlockBuilder<C> {
 // Whether offset and lengths have 32 bits.
 #[inline]
 fn fits(offset: usize, key: &[u8], value: &[u8]) -> bool
-    ensures { IsTrue result ↔ ((offset < 2 ^ 32) × (length key.now < 2 ^ 32) × (length value.now < 2 ^ 32)) }
+    ensures { IsTrue result
+        ↔ ((offset < 2 ^ 32) × (length key.now < 2 ^ 32) × (length value.now < 2 ^ 32)) }
 {
     let limit = 1 << 32;
     offset < limit && key.len() < limit && value.len() < limit
@@ -221,7 +236,7 @@ fn shared_with(last: &[u8], key: &[u8], restart: bool) -> usize
     ensures within_key { result ≤ length key.now }
     ensures same { take result last.now ≡ take result key.now }
     ensures none { restart ≡ true → result ≡ 0 }
-    ensures longest { restart ≡ false → result ≡ shared_front last.now key.now }
+    ensures longest { restart ≡ false → result ≡ shared_len last.now key.now }
 {
     if restart {
         return 0;
@@ -235,26 +250,29 @@ fn shared_with(last: &[u8], key: &[u8], restart: bool) -> usize
     longest
 }
 
-// Puts a restart point behind the others, where the entry at the offset has one and isn't the first.
+// Puts a restart point after the others, where the entry at the offset has one and isn't the
+// first.
 fn put_point(points: &mut Vec<u32>, restart: bool, count: usize, offset: usize)
     requires fits { offset < 2 ^ 32 }
     requires room { vec_len points.old + 1 ≤ vec_capacity points.old }
     ensures first { count ≡ 0 → points.new.items ≡ points.old.items }
-    ensures others { 0 < count → points.new.items ≡ points.old.items ++ points_more restart offset }
+    ensures others { 0 < count
+        → points.new.items ≡ points.old.items ++ points_more restart offset }
 {
     if restart && count > 0 {
         points.push(offset as u32).unwrap();
     }
 }
 
-// Writes an entry's three lengths at the front, and answers how many bytes that took.
+// Writes an entry's three lengths at the front, and returns how many bytes that took.
 #[inline]
 #[tactic(auto, using(leveldb_base::proofs::VarintLemmas::varint_lengths))]
 fn encode_lengths(dst: &mut [u8], shared: usize, rest: usize, value: usize) -> usize
     requires { 30 ≤ length dst.old }
     ensures used { result ≡ length (varint shared ++ (varint rest ++ varint value)) }
     ensures short { result ≤ 30 }
-    ensures written { dst.new ≡ (varint shared ++ (varint rest ++ varint value)) ++ drop result dst.old }
+    ensures written { dst.new
+        ≡ (varint shared ++ (varint rest ++ varint value)) ++ drop result dst.old }
 {
     let first = encode_varint64(dst, shared as u64);
     let second = first + encode_varint64(&mut dst[first..], rest as u64);
@@ -263,8 +281,9 @@ fn encode_lengths(dst: &mut [u8], shared: usize, rest: usize, value: usize) -> u
 
 // Puts an entry.
 fn put_entry(buffer: &mut Vec<u8>, shared: usize, rest: &[u8], value: &[u8])
-    requires { vec_len buffer.old + length (spelling shared rest.now value.now) ≤ vec_capacity buffer.old }
-    ensures { buffer.new.items ≡ buffer.old.items ++ spelling shared rest.now value.now }
+    requires { vec_len buffer.old + length (parts_bytes shared rest.now value.now)
+        ≤ vec_capacity buffer.old }
+    ensures { buffer.new.items ≡ buffer.old.items ++ parts_bytes shared rest.now value.now }
 {
     let mut head = [0; 30];
     let used = encode_lengths(&mut head, shared, rest.len(), value.len());
@@ -288,7 +307,9 @@ fn put_number(buffer: &mut Vec<u8>, n: u32) -> Result<()>
 // Puts the restart points, the first before the others, and how many there are.
 fn put_points(buffer: &mut Vec<u8>, points: &Vec<u32>) -> Result<()>
     requires { length points.now.items + 1 < 2 ^ 32 }
-    ensures ok { OnOk result (buffer.new.items ≡ buffer.old.items ++ (flat_map (little 4) (0 ∷ points.now.items) ++ little 4 (length points.now.items + 1))) }
+    ensures ok { OnOk result (buffer.new.items ≡ buffer.old.items
+        ++
+        (flat_map (little 4) (0 ∷ points.now.items) ++ little 4 (length points.now.items + 1))) }
     ensures memory { IfErr result IsOutOfMemory }
 {
     buffer.reserve(4 * points.len() + 8)?;

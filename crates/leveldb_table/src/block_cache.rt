@@ -1,6 +1,6 @@
 //! Blocks of tables kept in memory.
-ghost use Rattle.std.specs.Prelude.{◌≡◌, ◌<◌, ◌^◌, ℕ};
-ghost use Rattle.leveldb_table.specs.TableCached.{cache_key, NewHoldNone, StayNumbered, StayHeld};
+ghost use Rattle.std.specs.Prelude.{◌≡◌, ◌<◌};
+ghost use Rattle.leveldb_table.specs.BlockCache.{cache_key};
 
 use crate::block::Block;
 use crate::cache::{Cache, CacheID, CacheKey};
@@ -25,16 +25,3 @@ pub fn cache_key(id: CacheID, offset: usize) -> CacheKey
     let [i, j, k, l, m, n, o, p] = (offset as u64).to_le_bytes();
     [a, b, c, d, e, f, g, h, i, j, k, l, m, n, o, p]
 }
-
-/// Numbers of 64 bits are told from their key.
-pub fn blocks_are_told_apart()
-    ensures { (id offset other place : ℕ) → id < 2 ^ 64 → offset < 2 ^ 64 → other < 2 ^ 64 → place < 2 ^ 64 → cache_key id offset ≡ cache_key other place → (id ≡ other) × (offset ≡ place) }
-{}
-
-/// Under a number that a cache has not given yet it holds nothing, so a table that gets the next number finds no other
-/// table's blocks there; and what a table gathers afterwards leaves that so, and what is held under each other number.
-pub fn new_tables_hold_none<C: Cmp>()
-    ensures none { NewHoldNone C.Cmp }
-    ensures numbered { StayNumbered C.Cmp }
-    ensures held { StayHeld C.Cmp }
-{}

@@ -1,4 +1,5 @@
-//! Caches: values under keys of 16 bytes, as many as there is room for, of which the least recently used goes first.
+//! Caches: values under keys of 16 bytes, as many as there is room for, of which the least
+//! recently used goes first.
 ghost use Rattle.std.specs.Prelude.{◌≡◌, ◌↔◌, ◌+◌, ◌^◌, ◌<◌, ◌≤◌, [], length, Some, nat_eq, IfOk, IfErr, OnErr, OnOk, IsErrAnd, option_copied};
 ghost use Rattle.std.specs.List.{IsDistinct};
 ghost use Rattle.std.specs.Str.{bytes_eq};
@@ -16,7 +17,7 @@ use std::num::NonZeroUsize;
 /// What a value is found by: the number of a cache's user and its own number.
 pub type CacheKey = [u8; 16];
 
-/// A number by which one user of a cache tells its keys from those of others.
+/// A number by which one user of a cache says its keys from those of others.
 pub type CacheID = u64;
 
 /// Values under keys, the one that was used last first.
@@ -33,17 +34,19 @@ impl<T: Drop> Model for Cache<T> {
 
     ghost Value = { Cached T };
 
-    ghost view = { λ it. record { pairs = it.recent.entries; capacity = it.recent.cap; given = it.id } };
+    ghost view = { λ it.
+        record { pairs = it.recent.entries; capacity = it.recent.cap; given = it.id } };
 }
 
 impl<T: Drop> Cache<T> {
     ghost use Rattle.std.specs.Borrow.{sem};
-    ghost use Rattle.leveldb_table.specs.CacheLends.{EndsLookedFor};
+    ghost use Rattle.leveldb_table.specs.CacheBorrow.{EndsLookedFor};
 
-    /// A cache with room for so many values.
+    /// A cache with room for `capacity` values.
     pub fn new(alloc: Global, capacity: usize) -> Result<Cache<T>>
         requires { 0 < capacity }
-        ensures ok { IfOk result (λ cache. cache ≡ record { pairs = []; capacity = capacity; given = 0 }) }
+        ensures ok { IfOk result
+            (λ cache. cache ≡ record { pairs = []; capacity = capacity; given = 0 }) }
         ensures memory { IfErr result IsOutOfMemory }
     {
         let capacity = NonZeroUsize::new(capacity).unwrap();
@@ -57,7 +60,8 @@ impl<T: Drop> Cache<T> {
         ensures next { IfOk result (λ id. id ≡ self.old.given + 1) }
         ensures given { IfOk result (λ id. self.new ≡ record self.old { given = id }) }
         ensures err { OnErr result (self.new ≡ self.old) }
-        ensures used_up { IsErrAnd result (λ status. status.code ≡ NotSupported) ↔ (self.old.given + 1 ≡ 2 ^ 64) }
+        ensures used_up { IsErrAnd result (λ status. status.code ≡ NotSupported)
+            ↔ (self.old.given + 1 ≡ 2 ^ 64) }
         ensures cause { IfErr result (λ status. status.code ≡ NotSupported) }
     {
         let Some(id) = self.id.checked_add(1) else {
@@ -84,10 +88,11 @@ impl<T: Drop> Cache<T> {
         self.recent.cap().get()
     }
 
-    /// Puts a value under a key, in place of the one that was there. It counts as used.
+    /// Puts a value under a key, instead of the one that was there. It counts as used.
     /// Where the key is new and there is no room, the value goes that was used least recently.
     pub fn insert(&mut self, key: &CacheKey, elem: T) -> Result<()>
-        ensures ok { OnOk result (self.new ≡ record self.old { pairs = put_first self.old.capacity key.now elem self.old.pairs }) }
+        ensures ok { OnOk result (self.new ≡ record self.old
+            { pairs = put_first self.old.capacity key.now elem self.old.pairs }) }
         ensures err { OnErr result (self.new ≡ self.old) }
         ensures memory { IfErr result IsOutOfMemory }
     {

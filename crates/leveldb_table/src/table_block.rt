@@ -1,10 +1,11 @@
 //! Blocks read from a table's file, each with its trailer.
 ghost use Rattle.std.specs.Prelude.{◌≡◌, ◌⊎◌, ◌≤◌, ◌<◌, ◌+◌, ◌^◌, ℕ, length, take, drop, List, None, IfOk, IfSome, IfNone, IsErrAnd};
 ghost use Rattle.leveldb_base.specs.declared.error.StatusCode.TheVariants.{InvalidArgument};
-ghost use Rattle.leveldb_env.specs.Coders.{Decodes};
+ghost use Rattle.leveldb_env.specs.Compressor.{Decodes};
+ghost use Rattle.leveldb_env.specs.Env.{ReadsFrom};
 ghost use Rattle.leveldb_env.specs.FilterBlock.{IsFilterBlock};
 ghost use Rattle.leveldb_table.specs.Table.{StoresAt, HasBlockAt, with_trailer};
-ghost use Rattle.leveldb_table.specs.TableReads.{EndsBefore, StoresNothing, HasNoFilters, LacksBlock, Reads, Whatever, IsDamaged, IsLacking};
+ghost use Rattle.leveldb_table.specs.TableBlock.{EndsBefore, StoresNothing, HasNoFilters, LacksBlock, ReadsFile, ForBytesOf, IsDamaged, IsLackError};
 
 use crate::block::Block;
 use crate::table_builder::{TABLE_BLOCK_COMPRESS_LEN, TRAILER};
@@ -13,38 +14,45 @@ use leveldb_base::blockhandle::BlockHandle;
 use leveldb_base::cmp::Cmp;
 use leveldb_base::crc::{crc32, mask_crc};
 use leveldb_base::error::{Result, StatusCode, err};
-use leveldb_env::compressor::{Coders, Compressor, CompressorList};
+use leveldb_env::compressor::{Compressor, CompressorList, Compressors};
 use leveldb_env::env::Env;
 use leveldb_env::filter::FilterPolicy;
 use leveldb_env::filter_block::FilterBlockReader;
 use std::alloc::Global;
 
-// So much room is made at first, or less for a smaller block, and then as much again as came, where that is more.
+// So much room is made at first, or less for a smaller block, and then as much again as came,
+// where that is more.
 const STEP: usize = 1 << 16;
 
 /// The block that a file has at a handle. Where a read is short, it goes on until all bytes came.
-/// `Corruption` for a handle past the file's end, a wrong checksum and bytes that are no block; `NotSupported` for an id
-/// without a coder; a code of the coder's own, and no other, where it refuses the stored bytes.
+/// `Corruption` for a handle past the file's end, a wrong checksum and bytes that are no block;
+/// `NotSupported` for an id without a compressor; a code of the compressor's own, and no other,
+/// where it fails for the stored bytes.
 pub fn read_table_block<E: Env, C: Cmp + Drop>(
     alloc: Global,
     cmp: C,
     env: &mut E,
     file: &E::File,
-    coders: &CompressorList,
+    compressors: &CompressorList,
     location: BlockHandle,
 ) -> Result<Block<C>>
-    ensures reads { Reads E.Env (IsLacking E.Env (⟦<CompressorList as Coders>⟧.codings coders.now) (λ bytes. LacksBlock (⟦<CompressorList as Coders>⟧.codings coders.now) (C.cmp cmp) bytes location) env.old file.now) env.old file.now env.new result }
-    ensures ok { IfOk result (λ block. Whatever E.Env env.old file.now (λ bytes. HasBlockAt (Decodes (⟦<CompressorList as Coders>⟧.codings coders.now)) bytes location block.contents)) }
+    ensures reads { let codings = ⟦<CompressorList as Compressors>⟧.codings compressors.now in
+        ReadsFile E.Env (IsLackError E.Env codings (λ bytes.
+        LacksBlock codings (C.cmp cmp) bytes location) env.old file.now) env.old env.new
+        result }
+    ensures ok { IfOk result (λ block. ForBytesOf E.Env env.old file.now
+        (λ bytes. HasBlockAt (Decodes (⟦<CompressorList as Compressors>⟧.codings compressors.now))
+        bytes location block.contents)) }
     ensures order { IfOk result (λ block. block.cmp ≡ cmp) }
 {
     let (id, stored) = read_stored(alloc, env, file, location)?;
-    let block = coders.get(alloc, id)?.decode(alloc, stored)?;
+    let block = compressors.get(alloc, id)?.decode(alloc, stored)?;
     Block::new(alloc, cmp, Bytes::from_vec(block)?)
 }
 
-/// The filters that a file has at a handle.
-/// `InvalidArgument` where the handle's size is 0, which stands for no filters. `Corruption` for a handle past the file's
-/// end, a wrong checksum, and what is no filter block or not stored as it is.
+/// The filters that a file has at a handle. `InvalidArgument` where the handle's size is 0, which
+/// is no filters. `Corruption` for a handle past the file's end, a wrong checksum, and what is no
+/// filter block or not stored as it is.
 pub fn read_filter_block<E: Env, FP: FilterPolicy + Drop>(
     alloc: Global,
     policy: FP,
@@ -52,8 +60,12 @@ pub fn read_filter_block<E: Env, FP: FilterPolicy + Drop>(
     file: &E::File,
     location: BlockHandle,
 ) -> Result<FilterBlockReader<FP>>
-    ensures reads { Reads E.Env (λ status. ((status.code ≡ InvalidArgument) × (location.size ≡ 0)) ⊎ IsDamaged E.Env (λ bytes. HasNoFilters bytes location) env.old file.now status) env.old file.now env.new result }
-    ensures ok { IfOk result (λ reader. Whatever E.Env env.old file.now (λ bytes. (text : List ℕ) × StoresAt bytes location 0 text × IsFilterBlock text reader.filters)) }
+    ensures reads { ReadsFile E.Env (λ status. ((status.code ≡ InvalidArgument)
+        × (location.size ≡ 0)) ⊎ IsDamaged E.Env (λ bytes. HasNoFilters bytes location) env.old
+        file.now status) env.old env.new result }
+    ensures ok { IfOk result (λ reader. ForBytesOf E.Env env.old file.now
+        (λ bytes. (text : List ℕ) × StoresAt bytes location 0 text
+        × IsFilterBlock text reader.filters)) }
     ensures policy { IfOk result (λ reader. reader.policy ≡ policy) }
     ensures none { location.size ≡ 0 → IsErrAnd result (λ status. status.code ≡ InvalidArgument) }
 {
@@ -71,15 +83,17 @@ pub fn read_filter_block<E: Env, FP: FilterPolicy + Drop>(
     FilterBlockReader::new_owned(alloc, policy, stored)
 }
 
-// The stored bytes at a handle, and the id behind them.
+// The stored bytes at a handle, and the id after them.
 fn read_stored<E: Env>(
     alloc: Global,
     env: &mut E,
     file: &E::File,
     location: BlockHandle,
 ) -> Result<(u8, Vec<u8>)>
-    ensures reads { Reads E.Env (IsDamaged E.Env (λ bytes. StoresNothing bytes location) env.old file.now) env.old file.now env.new result }
-    ensures ok { IfOk result (λ found. Whatever E.Env env.old file.now (λ bytes. StoresAt bytes location found.0 found.1.items)) }
+    ensures reads { ReadsFile E.Env (IsDamaged E.Env (λ bytes. StoresNothing bytes location)
+        env.old file.now) env.old env.new result }
+    ensures ok { IfOk result (λ found. ForBytesOf E.Env env.old file.now
+        (λ bytes. StoresAt bytes location found.0 found.1.items)) }
 {
     let (offset, size) = (location.offset(), location.size());
     let Some(total) = size.checked_add(TRAILER) else {
@@ -97,11 +111,12 @@ fn read_stored<E: Env>(
     Ok((id, stored))
 }
 
-// The id behind so many stored bytes, where the checksum behind it is right.
+// The id after `size` stored bytes, where the checksum after it is right.
 fn checked_id(bytes: &[u8], size: usize) -> Option<u8>
     requires { length bytes.now ≡ size + 5 }
     ensures some { IfSome result (λ id. bytes.now ≡ with_trailer id (take size bytes.now)) }
-    ensures none { IfNone result ((id : ℕ) (stored : List ℕ) → length stored ≡ size → bytes.now ≡ with_trailer id stored → ⊥) }
+    ensures none { IfNone result ((id : ℕ) (stored : List ℕ) → length stored ≡ size
+        → bytes.now ≡ with_trailer id stored → ⊥) }
 {
     let (stored, sum) = bytes.split_at(size + TABLE_BLOCK_COMPRESS_LEN);
     let right = mask_crc(crc32(stored)).to_le_bytes();
@@ -111,32 +126,60 @@ fn checked_id(bytes: &[u8], size: usize) -> Option<u8>
     Some(stored[size])
 }
 
-/// So many bytes of a file from a place on; `Corruption` where the file ends before. It takes no more memory than twice
-/// what the file gave, and a step.
+/// `size` bytes of a file from `offset` on; `Corruption` where the file ends before. It takes no
+/// more memory than twice what the file gave, and a step.
 pub(crate) fn read_bytes<E: Env>(
     alloc: Global,
     env: &mut E,
     file: &E::File,
-    place: usize,
+    offset: usize,
     size: usize,
 ) -> Result<Vec<u8>>
-    ensures reads { Reads E.Env (IsDamaged E.Env (λ bytes. EndsBefore bytes place size) env.old file.now) env.old file.now env.new result }
-    ensures ok { IfOk result (λ read. Whatever E.Env env.old file.now (λ bytes. read.items ≡ take size (drop place bytes))) }
+    ensures reads { ReadsFile E.Env (IsDamaged E.Env (λ bytes. EndsBefore bytes offset size)
+        env.old file.now) env.old env.new result }
+    ensures ok { IfOk result (λ read. ForBytesOf E.Env env.old file.now
+        (λ bytes. read.items ≡ take size (drop offset bytes))) }
     ensures size { IfOk result (λ read. length read.items ≡ size) }
 {
     let mut read = Vec::new(alloc);
     while read.len() < size {
-        let Some(next) = place.checked_add(read.len()) else {
+        let Some(next) = offset.checked_add(read.len()) else {
             return err(alloc, StatusCode::Corruption, "a block is past the file");
         };
         let known = read.len();
         let more = (size - known).min(known.max(STEP));
         read.resize(known + more, 0)?;
-        let came = env.read_at(file, next, &mut read[known..])?;
+        let came = read_some(alloc, env, file, next, &mut read[known..])?;
         if came == 0 {
             return err(alloc, StatusCode::Corruption, "a block is past the file");
         }
         read.truncate(known + came);
     }
     Ok(read)
+}
+
+// Reads some bytes of a file from `offset` on, as the environment does; a file that is missing is
+// damage.
+fn read_some<E: Env>(
+    alloc: Global,
+    env: &mut E,
+    file: &E::File,
+    offset: usize,
+    target: &mut [u8],
+) -> Result<usize>
+    ensures reads { ReadsFile E.Env (IsDamaged E.Env (λ _. ⊥) env.old file.now)
+        env.old env.new result }
+    ensures fits { IfOk result (λ count. count ≤ length target.new) }
+    ensures bytes { IfOk result (λ count. ForBytesOf E.Env env.old file.now
+        (ReadsFrom offset count target.new)) }
+{
+    match env.read_at(file, offset, target) {
+        Ok(count) => Ok(count),
+        Err(status) => {
+            if status.code == StatusCode::NotFound {
+                return err(alloc, StatusCode::Corruption, "a table's file is missing");
+            }
+            Err(status)
+        }
+    }
 }

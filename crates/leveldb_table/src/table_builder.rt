@@ -1,17 +1,17 @@
 //! Table builders, and the parts of a table's file that they share with its readers.
-ghost use Rattle.std.specs.Prelude.{◌≡◌, ◌+◌, ◌-◌, ◌^◌, ◌<◌, ◌++◌, ◌∷◌, ◌⊎◌, ◌≢◌, [], List, None, max, true, false, min, IfOk, IfErr, OnOk, OnErr, IsErrAnd};
+ghost use Rattle.std.specs.Prelude.{◌≡◌, ◌↔◌, ◌+◌, ◌-◌, ◌^◌, ◌<◌, ◌++◌, ◌∷◌, ◌⊎◌, ◌≢◌, [], List, None, max, true, false, min, IfOk, IfErr, OnOk, OnErr, IsErrAnd, IsTrue};
 ghost use Rattle.std.specs.declared.cmp.Ordering.TheVariants.{Less};
-ghost use Rattle.leveldb_env.specs.Coders.{Codings, IsUnset};
-ghost use Rattle.leveldb_table.specs.TableEnds.{IsRefusedFinish, StopsUnset};
+ghost use Rattle.leveldb_env.specs.Compressor.{Codings, IsUnset};
+ghost use Rattle.leveldb_table.specs.TableBuilderFinish.{PutsRest, IsFinishError, StopsUnset};
 ghost use Rattle.leveldb_base.specs.Error.{IsOutOfMemory};
-ghost use Rattle.leveldb_table.specs.TableStages.{with_pair};
-ghost use Rattle.leveldb_table.specs.TableAdds.{ClosesBlock, TriesOpen, IsRefusedAdd};
-ghost use Rattle.leveldb_table.specs.TableBuilding.{stage, last_of, order_of, policy_of, KeepsChoices, IsBegun, IsBroken, IsBuilt, IsFull, table_estimate, Adds, Finishes};
+ghost use Rattle.leveldb_table.specs.TableBuilderStage.{with_pair};
+ghost use Rattle.leveldb_table.specs.TableBuilderAdd.{ClosesBlock, TriesOpen, IsAddError};
+ghost use Rattle.leveldb_table.specs.TableBuilder.{stage, last_of, order_of, policy_of, KeepsChoices, IsBegun, IsBroken, IsBuiltTable, IsFull, table_estimate, AddsPair, FinishesTable};
 
 use crate::table_builder::builder_core::BuilderCore;
 use leveldb_base::cmp::{Cmp, InternalKeyCmp, UserCmp};
 use leveldb_base::error::Result;
-use leveldb_env::compressor::{Coders, CompressorList};
+use leveldb_env::compressor::{CompressorList, Compressors};
 use leveldb_env::env::Sink;
 use leveldb_env::filter::{FilterPolicy, InternalFilterPolicy, NoFilterPolicy};
 use leveldb_env::options::Options;
@@ -20,23 +20,22 @@ use std::alloc::Global;
 pub mod builder_core;
 mod footer;
 mod put_block;
-mod user_laws;
 
 pub use footer::{
     FOOTER_LENGTH, FULL_FOOTER_LENGTH, Footer, MAGIC_FOOTER_ENCODED, MAGIC_FOOTER_NUMBER,
 };
-pub use user_laws::{internal_keys_are_separated, raw_keys_are_separated};
 
-/// How many bytes the coder's id behind a block has.
+/// How many bytes the compressor's id after a block has.
 pub const TABLE_BLOCK_COMPRESS_LEN: usize = 1;
 
-/// How many bytes the checksum behind a block has.
+/// How many bytes the checksum after a block has.
 pub const TABLE_BLOCK_CKSUM_LEN: usize = 4;
 
-/// How many bytes the trailer behind a block has: the coder's id and the checksum.
+/// How many bytes the trailer after a block has: the compressor's id and the checksum.
 pub(crate) const TRAILER: usize = TABLE_BLOCK_COMPRESS_LEN + TABLE_BLOCK_CKSUM_LEN;
 
-/// A builder with the sink that its table goes to. The calls that store blocks are given the coders.
+/// A builder with the sink that its table moves to. The calls that store blocks are given the
+/// compressors.
 #[derive(Drop)]
 pub struct TableBuilder<Dst: Sink, C: Cmp, FP: FilterPolicy> {
     pub core: BuilderCore<C, FP>,
@@ -44,20 +43,24 @@ pub struct TableBuilder<Dst: Sink, C: Cmp, FP: FilterPolicy> {
 }
 
 impl<Dst: Sink, C: UserCmp + Copy, FP: FilterPolicy + Copy> TableBuilder<Dst, C, FP> {
-    /// A builder for internal keys, under the options' order and policy of users' keys. It takes no memory.
+    /// A builder for internal keys, under the options' order and policy of users' keys. It takes
+    /// no memory.
     pub fn new(
         alloc: Global,
         options: &Options<C, FP>,
         dst: Dst,
     ) -> TableBuilder<Dst, InternalKeyCmp<C>, InternalFilterPolicy<FP>>
-        ensures begun { let Order = ⟦<InternalKeyCmp<C> as Cmp>⟧ in (codings : Codings) → IsBegun codings Order.accepts Order.cmp Order.shortest_sep ⟦<InternalFilterPolicy<FP> as FilterPolicy>⟧.matches result.core [] [] }
+        ensures begun { let Order = ⟦<InternalKeyCmp<C> as Cmp>⟧ in (codings : Codings)
+            → IsBegun codings Order.accepts Order.cmp Order.shortest_sep
+            ⟦<InternalFilterPolicy<FP> as FilterPolicy>⟧.matches result.core [] [] }
         ensures unbroken { result.core.broken ≡ false }
         ensures none { result.core.count ≡ 0 }
         ensures order { order_of result.core ≡ record { 0 = options.now.cmp } }
         ensures policy { policy_of result.core ≡ options.now.filter_policy }
-        ensures coder { result.core.compressor ≡ options.now.compressor }
+        ensures compressor { result.core.compressor ≡ options.now.compressor }
         ensures size { result.core.block_size ≡ options.now.block_size }
-        ensures interval { (result.core.block.interval ≡ max 1 options.now.block_restart_interval) × (result.core.index.interval ≡ max 1 options.now.block_restart_interval) }
+        ensures interval { (result.core.block.interval ≡ max 1 options.now.block_restart_interval)
+            × (result.core.index.interval ≡ max 1 options.now.block_restart_interval) }
         ensures dst { result.dst ≡ dst }
     {
         TableBuilder {
@@ -71,19 +74,23 @@ impl<Dst: Sink, C: UserCmp + Copy, FP: FilterPolicy + Copy> TableBuilder<Dst, C,
         }
     }
 
-    /// A builder for internal keys, under the options' order of users' keys, without filters. It takes no memory.
+    /// A builder for internal keys, under the options' order of users' keys, without filters. It
+    /// takes no memory.
     pub fn new_no_filter(
         alloc: Global,
         options: &Options<C, FP>,
         dst: Dst,
     ) -> TableBuilder<Dst, InternalKeyCmp<C>, NoFilterPolicy>
-        ensures begun { let Order = ⟦<InternalKeyCmp<C> as Cmp>⟧ in (codings : Codings) → IsBegun codings Order.accepts Order.cmp Order.shortest_sep ⟦<NoFilterPolicy as FilterPolicy>⟧.matches result.core [] [] }
+        ensures begun { let Order = ⟦<InternalKeyCmp<C> as Cmp>⟧ in (codings : Codings)
+            → IsBegun codings Order.accepts Order.cmp Order.shortest_sep
+            ⟦<NoFilterPolicy as FilterPolicy>⟧.matches result.core [] [] }
         ensures unbroken { result.core.broken ≡ false }
         ensures none { result.core.count ≡ 0 }
         ensures order { order_of result.core ≡ record { 0 = options.now.cmp } }
-        ensures coder { result.core.compressor ≡ options.now.compressor }
+        ensures compressor { result.core.compressor ≡ options.now.compressor }
         ensures size { result.core.block_size ≡ options.now.block_size }
-        ensures interval { (result.core.block.interval ≡ max 1 options.now.block_restart_interval) × (result.core.index.interval ≡ max 1 options.now.block_restart_interval) }
+        ensures interval { (result.core.block.interval ≡ max 1 options.now.block_restart_interval)
+            × (result.core.index.interval ≡ max 1 options.now.block_restart_interval) }
         ensures dst { result.dst ≡ dst }
     {
         TableBuilder {
@@ -101,14 +108,16 @@ impl<Dst: Sink, C: UserCmp + Copy, FP: FilterPolicy + Copy> TableBuilder<Dst, C,
 impl<Dst: Sink, C: Cmp + Copy, FP: FilterPolicy + Copy> TableBuilder<Dst, C, FP> {
     /// A builder under the options' order and policy as they are. It takes no memory.
     pub fn new_raw(alloc: Global, options: &Options<C, FP>, dst: Dst) -> TableBuilder<Dst, C, FP>
-        ensures begun { (codings : Codings) → IsBegun codings C.accepts C.cmp C.shortest_sep FP.matches result.core [] [] }
+        ensures begun { (codings : Codings)
+            → IsBegun codings C.accepts C.cmp C.shortest_sep FP.matches result.core [] [] }
         ensures unbroken { result.core.broken ≡ false }
         ensures none { result.core.count ≡ 0 }
         ensures order { order_of result.core ≡ options.now.cmp }
         ensures policy { policy_of result.core ≡ options.now.filter_policy }
-        ensures coder { result.core.compressor ≡ options.now.compressor }
+        ensures compressor { result.core.compressor ≡ options.now.compressor }
         ensures size { result.core.block_size ≡ options.now.block_size }
-        ensures interval { (result.core.block.interval ≡ max 1 options.now.block_restart_interval) × (result.core.index.interval ≡ max 1 options.now.block_restart_interval) }
+        ensures interval { (result.core.block.interval ≡ max 1 options.now.block_restart_interval)
+            × (result.core.index.interval ≡ max 1 options.now.block_restart_interval) }
         ensures dst { result.dst ≡ dst }
     {
         TableBuilder {
@@ -124,66 +133,107 @@ impl<Dst: Sink, C: Cmp + Copy, FP: FilterPolicy + Copy> TableBuilder<Dst, C, FP>
         self.core.entries()
     }
 
-    /// About how many bytes the table would have if it were finished now: those that were put, the open block, the
-    /// filters, the index and the footer.
+    /// About how many bytes the table would have if it were finished now: those that were put, the
+    /// open block, the filters, the index and the footer.
     pub fn size_estimate(&self) -> usize
         ensures { result ≡ min (table_estimate self.now.core) (2 ^ 64 - 1) }
     {
         self.core.size_estimate()
     }
 
-    /// Adds a pair whose key is after all others. An open block that has more bytes than the options' `block_size` is
-    /// written before, stored by the coder of the options' id.
-    /// `NotSupported` where the id has no coder, or a length, an offset or a filter is too large for the format; want of
-    /// memory, and what the coder or the sink refuses, is passed on. After any refusal each call but `entries` and
-    /// `size_estimate` is refused with `IOError`.
-    pub fn add(&mut self, coders: &CompressorList, key: &[u8], value: &[u8]) -> Result<()>
-        requires accepted { self.old.core.broken ≡ false → C.accepts (order_of self.old.core) key.now ≡ true }
-        requires rising { self.old.core.broken ≡ false → 0 < self.old.core.count → C.cmp (order_of self.old.core) (last_of self.old.core) key.now ≡ Less }
-        ensures ok { OnOk result (Adds Dst.puts
-            (IsBegun (⟦<CompressorList as Coders>⟧.codings coders.now) C.accepts C.cmp C.shortest_sep FP.matches self.old.core)
-            (IsBegun (⟦<CompressorList as Coders>⟧.codings coders.now) C.accepts C.cmp C.shortest_sep FP.matches self.new.core)
-            self.old.dst (key.now, value.now) self.new.dst) }
-        ensures full { OnOk result (IsFull self.old.core → (stage self.new.core).open_pairs ≡ (key.now, value.now) ∷ []) }
-        ensures closed { OnOk result (IsFull self.old.core → ClosesBlock (⟦<CompressorList as Coders>⟧.codings coders.now) self.old.core Dst.puts (key.now, value.now) self.new.core self.old.dst self.new.dst) }
-        ensures room { OnOk result ((IsFull self.old.core → ⊥) → (stage self.new.core ≡ with_pair (key.now, value.now) (stage self.old.core)) × (self.new.dst ≡ self.old.dst)) }
+    /// The key that was added last, empty where none was. A builder that is broken may have none.
+    pub fn last_key(&self) -> &[u8]
+        ensures { result.now ≡ last_of self.now.core }
+    {
+        self.core.last_key()
+    }
+
+    /// Whether the key is after the last one, as `add` requires, or the first.
+    pub fn follows(&self, key: &[u8]) -> bool
+        ensures { IsTrue result ↔ (0 < self.now.core.count
+            → C.cmp (order_of self.now.core) (last_of self.now.core) key.now ≡ Less) }
+    {
+        self.core.follows(key)
+    }
+
+    /// Adds a pair whose key is after all others. An open block that has more bytes than the
+    /// options' `block_size` is written before, stored by the compressor of the options' id.
+    /// `NotSupported` where the id has no compressor, or a length, an offset or a filter is too
+    /// large for the format; running out of memory, and the errors of the compressor and the sink,
+    /// are passed on. After an error each call but `entries` and `size_estimate` fails with
+    /// `IOError`.
+    pub fn add(&mut self, compressors: &CompressorList, key: &[u8], value: &[u8]) -> Result<()>
+        requires accepted { self.old.core.broken ≡ false
+            → C.accepts (order_of self.old.core) key.now ≡ true }
+        requires rising { self.old.core.broken ≡ false → 0 < self.old.core.count
+            → C.cmp (order_of self.old.core) (last_of self.old.core) key.now ≡ Less }
+        ensures ok { let codings = ⟦<CompressorList as Compressors>⟧.codings compressors.now in
+            OnOk result (AddsPair Dst.puts (IsBegun codings C.accepts C.cmp C.shortest_sep
+            FP.matches self.old.core) (IsBegun codings C.accepts C.cmp C.shortest_sep FP.matches
+            self.new.core) self.old.dst (key.now, value.now) self.new.dst) }
+        ensures full { OnOk result (IsFull self.old.core → (stage self.new.core).open_pairs
+            ≡ (key.now, value.now) ∷ []) }
+        ensures closed { OnOk result (IsFull self.old.core → ClosesBlock
+            (⟦<CompressorList as Compressors>⟧.codings compressors.now) self.old.core Dst.puts
+            (key.now, value.now) self.new.core self.old.dst self.new.dst) }
+        ensures room { OnOk result ((IsFull self.old.core → ⊥)
+            → (stage self.new.core ≡ with_pair (key.now, value.now) (stage self.old.core))
+            × (self.new.dst ≡ self.old.dst)) }
         ensures last { OnOk result (last_of self.new.core ≡ key.now) }
         ensures count { OnOk result (self.new.core.count ≡ self.old.core.count + 1) }
-        ensures unbroken { OnOk result ((self.old.core.broken ≡ false) × (self.new.core.broken ≡ false)) }
+        ensures unbroken { OnOk result
+            ((self.old.core.broken ≡ false) × (self.new.core.broken ≡ false)) }
         ensures choices { KeepsChoices self.old.core self.new.core }
         ensures refused { OnErr result (self.new.core.broken ≡ true) }
         ensures still { OnErr result (self.new.core.count ≡ self.old.core.count) }
-        ensures cause { IfErr result (λ status. IsRefusedAdd (⟦<CompressorList as Coders>⟧.codings coders.now) self.old.core Dst.puts (key.now, value.now) self.old.dst status self.new.dst) }
-        ensures unset { self.old.core.broken ≡ false → IsFull self.old.core → ⟦<CompressorList as Coders>⟧.codings coders.now self.old.core.compressor ≡ None
-            → IsErrAnd result (λ status. IsUnset self.old.core.compressor status ⊎ IsOutOfMemory status) × (self.new.dst ≡ self.old.dst) }
-        ensures sink { OnErr result (TriesOpen (⟦<CompressorList as Coders>⟧.codings coders.now) self.old.core Dst.puts self.old.dst self.new.dst) }
-        ensures broken { self.old.core.broken ≡ true → IsErrAnd result IsBroken × (self.new.dst ≡ self.old.dst) }
+        ensures cause { IfErr result (λ status. IsAddError (⟦<CompressorList as Compressors>⟧.codings compressors.now) self.old.core Dst.puts
+            (key.now, value.now) self.old.dst status self.new.dst) }
+        ensures unset { self.old.core.broken ≡ false → IsFull self.old.core
+            → ⟦<CompressorList as Compressors>⟧.codings compressors.now self.old.core.compressor
+            ≡ None → IsErrAnd result (λ status. IsUnset self.old.core.compressor status
+            ⊎ IsOutOfMemory status) × (self.new.dst ≡ self.old.dst) }
+        ensures sink { OnErr result (TriesOpen (⟦<CompressorList as Compressors>⟧.codings
+            compressors.now) self.old.core Dst.puts self.old.dst self.new.dst) }
+        ensures broken { self.old.core.broken ≡ true
+            → IsErrAnd result IsBroken × (self.new.dst ≡ self.old.dst) }
         ensures unchanged { self.old.core.broken ≡ true → self.new.core ≡ self.old.core }
     {
-        self.core.add(&mut self.dst, coders, key, value)
+        self.core.add(&mut self.dst, compressors, key, value)
     }
 
-    /// Writes what is left of the table: the open block, the filters, the metaindex, the index and the footer, and flushes
-    /// the sink. Answers how many bytes the table has.
-    /// The sink is let go, so the clauses say no more of it than that there was one behind these puts: where the sink is to
-    /// be named afterwards, call the core, which is lent it.
-    /// Refused as `add` is, and where the sink refuses to be flushed.
-    pub fn finish(self, coders: &CompressorList) -> Result<usize>
-    where
-        Dst: Drop,
-        ensures ok { IfOk result (λ size. (after : Dst) × Finishes Dst.puts Dst.flushes (IsBegun (⟦<CompressorList as Coders>⟧.codings coders.now) C.accepts C.cmp C.shortest_sep FP.matches self.core)
-            (IsBuilt (⟦<CompressorList as Coders>⟧.codings coders.now) (C.accepts (order_of self.core)) (C.cmp (order_of self.core)) (C.shortest_sep (order_of self.core)) (C.short_succ (order_of self.core))
-            (FP.matches (policy_of self.core)) (FP.filter_for (policy_of self.core)) self.core.compressor (FP.name (policy_of self.core)) self.core.block.interval self.core.index.interval)
-            self.dst size after) }
-        ensures unbroken { OnOk result (self.core.broken ≡ false) }
-        ensures cause { IfErr result (λ status. (after : Dst) × IsRefusedFinish (⟦<CompressorList as Coders>⟧.codings coders.now) self.core Dst.puts Dst.flushes self.dst status after) }
-        ensures unset_rest { self.core.broken ≡ false → (stage self.core).open_pairs ≡ [] → ⟦<CompressorList as Coders>⟧.codings coders.now self.core.compressor ≡ None
-            → IsErrAnd result (λ status. (after : Dst) × StopsUnset (FP.too_large (policy_of self.core)) (FP.filter_for (policy_of self.core)) self.core.compressor (FP.name (policy_of self.core)) (stage self.core) Dst.puts self.dst status after) }
-        ensures unset { self.core.broken ≡ false → (stage self.core).open_pairs ≢ [] → ⟦<CompressorList as Coders>⟧.codings coders.now self.core.compressor ≡ None
-            → IsErrAnd result (λ status. IsUnset self.core.compressor status ⊎ IsOutOfMemory status) }
-        ensures broken { self.core.broken ≡ true → IsErrAnd result IsBroken }
+    /// Writes what is left of the table: the open block, the filters, the metaindex, the index and
+    /// the footer, and flushes the sink. Returns the sink, and how many bytes the table has. Fails
+    /// as `add` does, and where the sink can't be flushed.
+    pub fn finish(self, compressors: &CompressorList) -> (Dst, Result<usize>)
+        ensures ok { let codings = ⟦<CompressorList as Compressors>⟧.codings compressors.now in
+            IfOk result.1 (λ size. FinishesTable Dst.puts Dst.flushes
+            (IsBegun codings C.accepts C.cmp C.shortest_sep FP.matches self.core)
+            (IsBuiltTable codings (C.accepts (order_of self.core)) (C.cmp (order_of self.core))
+            (C.shortest_sep (order_of self.core)) (C.short_succ (order_of self.core))
+            (FP.matches (policy_of self.core)) (FP.filter_for (policy_of self.core))
+            self.core.compressor (FP.name (policy_of self.core)) self.core.block.interval
+            self.core.index.interval) self.dst size result.0) }
+        ensures pieces { IfOk result.1 (λ size. PutsRest
+            (⟦<CompressorList as Compressors>⟧.codings compressors.now) self.core Dst.puts
+            Dst.flushes self.dst size result.0) }
+        ensures unbroken { OnOk result.1 (self.core.broken ≡ false) }
+        ensures cause { IfErr result.1 (λ status. IsFinishError
+            (⟦<CompressorList as Compressors>⟧.codings compressors.now) self.core Dst.puts
+            Dst.flushes self.dst status result.0) }
+        ensures unset_rest { self.core.broken ≡ false → (stage self.core).open_pairs ≡ []
+            → ⟦<CompressorList as Compressors>⟧.codings compressors.now self.core.compressor ≡ None
+            → IsErrAnd result.1 (λ status. StopsUnset (FP.too_large (policy_of self.core))
+            (FP.filter_for (policy_of self.core)) self.core.compressor
+            (FP.name (policy_of self.core)) (stage self.core) Dst.puts self.dst status result.0) }
+        ensures unset { self.core.broken ≡ false → (stage self.core).open_pairs ≢ []
+            → ⟦<CompressorList as Compressors>⟧.codings compressors.now self.core.compressor ≡ None
+            → IsErrAnd result.1 (λ status. IsUnset self.core.compressor status
+            ⊎ IsOutOfMemory status) × (result.0 ≡ self.dst) }
+        ensures broken { self.core.broken ≡ true → IsErrAnd result.1 IsBroken
+            × (result.0 ≡ self.dst) }
     {
         let TableBuilder { core, mut dst } = self;
-        core.finish(&mut dst, coders)
+        let size = core.finish(&mut dst, compressors);
+        (dst, size)
     }
 }

@@ -5,12 +5,12 @@ ghost use Rattle.leveldb_base.specs.BlockHandle.{Handle, handle_bytes, HandleFit
 ghost use Rattle.leveldb_base.specs.Types.{Pair};
 ghost use Rattle.leveldb_base.specs.Error.{IsOutOfMemory};
 ghost use Rattle.leveldb_base.specs.declared.error.StatusCode.TheVariants.{Corruption, NotSupported};
-ghost use Rattle.leveldb_env.specs.Coders.{Codings, Decodes};
+ghost use Rattle.leveldb_env.specs.Compressor.{Codings, Decodes};
 ghost use Rattle.leveldb_table.specs.Block.{IsBlock, pairs_of};
 ghost use Rattle.leveldb_table.specs.Table.{Part, HasBlockAt, index_pair, filter_key, offset_for};
 ghost use Rattle.leveldb_table.specs.Cache.{looked_for};
-ghost use Rattle.leveldb_table.specs.TableCached.{HoldsOf, IsOf, Gathers, IsHeldAt, cache_key};
-ghost use Rattle.leveldb_table.specs.TableReads.{LacksBlock, NamesNone, Reads, Has, Whatever, IsLacking};
+ghost use Rattle.leveldb_table.specs.BlockCache.{HoldsOnlyOf, IsBlockOfFile, GainsBlocks, IsCachedAt, cache_key};
+ghost use Rattle.leveldb_table.specs.TableBlock.{LacksBlock, NamesNone, ReadsFile, FileHas, ForBytesOf, IsLackError};
 
 use crate::block::Block;
 use crate::block_cache::{BlockCache, CachedBlock, cache_key};
@@ -22,7 +22,7 @@ use leveldb_base::blockhandle::BlockHandle;
 use leveldb_base::cmp::{Cmp, DefaultCmp, InternalKeyCmp, UserCmp};
 use leveldb_base::error::{Result, StatusCode, err};
 use leveldb_base::types::LdbIterator;
-use leveldb_env::compressor::{Coders, CompressorList};
+use leveldb_env::compressor::{CompressorList, Compressors};
 use leveldb_env::env::Env;
 use leveldb_env::filter::{FilterPolicy, InternalFilterPolicy};
 use leveldb_env::filter_block::FilterBlockReader;
@@ -31,15 +31,10 @@ use open::{read_filters, read_footer};
 use std::alloc::Global;
 
 mod iter;
-mod laws;
 mod open;
 mod walk;
 
 pub use iter::TableIterator;
-pub use laws::{
-    internal_keys_stand_together, opened_tables_are_theirs, raw_keys_stand_together,
-    refused_keys_are_not_there, tables_can_be_opened, tables_have_one_list,
-};
 pub use walk::TableCore;
 
 /// An open table: its file, its index, and its filters where it has some under the policy's name.
@@ -48,7 +43,7 @@ pub struct Table<E: Env, C: Cmp, FP: FilterPolicy> {
     cmp: C,
     file: E::File,
 
-    // by which its blocks are told from others in a cache
+    // which is in the keys of its blocks in a cache
     id: CacheID,
     footer: Footer,
     index: Block<C>,
@@ -61,12 +56,13 @@ impl<E: Env, C: UserCmp + Copy + Drop, FP: FilterPolicy + Copy + Drop> Table<
     InternalFilterPolicy<FP>,
 > {
     ghost use Rattle.leveldb_base.specs.KeyTypes.{internal_cmp};
-    ghost use Rattle.leveldb_table.specs.TableReading.{Opens, OpensNot, LacksPart, lines_of, filters_of};
+    ghost use Rattle.leveldb_table.specs.TableReader.{OpensAs, CannotOpen, LacksPart, lines_of, filters_of};
 
-    /// Opens the table of internal keys whose footer ends at `size` in a file, its length where the file is one table, under
-    /// the options' order of users' keys and their filter policy. It gets a number of its own for its blocks in the cache.
-    /// `Corruption` where the file is no table; the causes of `read_table_block`; `NotSupported` where the cache's numbers
-    /// are used up.
+    /// Opens the table of internal keys whose footer ends at `size` in a file, its length where
+    /// the file is one table, under the options' order of users' keys and their filter policy. It
+    /// gets a number of its own for its blocks in the cache. `Corruption` where the file is no
+    /// table; the causes of `read_table_block`; `NotSupported` where the cache's numbers are used
+    /// up.
     pub fn new(
         alloc: Global,
         options: &Options<C, FP>,
@@ -75,14 +71,27 @@ impl<E: Env, C: UserCmp + Copy + Drop, FP: FilterPolicy + Copy + Drop> Table<
         file: E::File,
         size: usize,
     ) -> Result<Table<E, InternalKeyCmp<C>, InternalFilterPolicy<FP>>>
-        ensures reads { Reads E.Env (λ status. ((status.code ≡ NotSupported) × (cache.old.given + 1 ≡ 2 ^ 64)) ⊎
-            IsLacking E.Env (⟦<CompressorList as Coders>⟧.codings options.now.compressor_list) (λ bytes status. OpensNot (⟦<CompressorList as Coders>⟧.codings options.now.compressor_list) (internal_cmp (C.cmp options.now.cmp)) (filter_key (FP.name options.now.filter_policy)) bytes size × LacksPart (⟦<CompressorList as Coders>⟧.codings options.now.compressor_list) (internal_cmp (C.cmp options.now.cmp)) (filter_key (FP.name options.now.filter_policy)) bytes size status) env.old file status) env.old file env.new result }
-        ensures ok { IfOk result (λ table. Whatever E.Env env.old file (λ bytes.
-            Opens (⟦<CompressorList as Coders>⟧.codings options.now.compressor_list) (internal_cmp (C.cmp options.now.cmp)) (filter_key (FP.name options.now.filter_policy)) bytes size (lines_of table) table.footer.meta_index table.footer.index (filters_of table))) }
+        ensures reads { let codings = ⟦<CompressorList as Compressors>⟧.codings
+            options.now.compressor_list in ReadsFile E.Env (λ status.
+            ((status.code ≡ NotSupported) × (cache.old.given + 1 ≡ 2 ^ 64))
+            ⊎ IsLackError E.Env codings (λ bytes status. CannotOpen codings
+            (internal_cmp (C.cmp options.now.cmp))
+            (filter_key (FP.name options.now.filter_policy)) bytes size
+            × LacksPart codings (internal_cmp (C.cmp options.now.cmp))
+            (filter_key (FP.name options.now.filter_policy)) bytes size status) env.old file
+            status) env.old env.new result }
+        ensures ok { IfOk result (λ table. ForBytesOf E.Env env.old file
+            (λ bytes. OpensAs (⟦<CompressorList as Compressors>⟧.codings
+            options.now.compressor_list) (internal_cmp (C.cmp options.now.cmp))
+            (filter_key (FP.name options.now.filter_policy)) bytes size
+            (lines_of table) table.footer.meta_index table.footer.index (filters_of table))) }
         ensures file { IfOk result (λ table. table.file ≡ file) }
-        ensures order { IfOk result (λ table. (table.cmp ≡ record { 0 = options.now.cmp }) × (table.index.cmp ≡ record { 0 = options.now.cmp })) }
-        ensures policy { IfOk result (λ table. IfSome table.filters (λ reader. reader.policy ≡ options.now.filter_policy)) }
-        ensures id { IfOk result (λ table. (table.id ≡ cache.old.given + 1) × (cache.new ≡ record cache.old { given = table.id })) }
+        ensures order { IfOk result (λ table. (table.cmp ≡ record { 0 = options.now.cmp })
+            × (table.index.cmp ≡ record { 0 = options.now.cmp })) }
+        ensures policy { IfOk result (λ table. IfSome table.filters
+            (λ reader. reader.policy ≡ options.now.filter_policy)) }
+        ensures id { IfOk result (λ table. (table.id ≡ cache.old.given + 1)
+            × (cache.new ≡ record cache.old { given = table.id })) }
         ensures err { OnErr result (cache.new ≡ cache.old) }
     {
         Table::open(
@@ -99,32 +108,48 @@ impl<E: Env, C: UserCmp + Copy + Drop, FP: FilterPolicy + Copy + Drop> Table<
 }
 
 impl<E: Env, C: Cmp + Copy + Drop, FP: FilterPolicy + Drop> Table<E, C, FP> {
-    ghost use Rattle.leveldb_table.specs.TableReading.{Opens, OpensNot, LacksPart, lines_of, filters_of};
+    ghost use Rattle.leveldb_table.specs.TableReader.{OpensAs, CannotOpen, LacksPart, lines_of, filters_of};
 
-    /// Opens the table whose footer ends at `size` in a file, under this order and this policy as they are.
+    /// Opens the table whose footer ends at `size` in a file, under this order and this policy as
+    /// they are.
     pub fn open(
         alloc: Global,
         cmp: C,
         policy: FP,
-        coders: &CompressorList,
+        compressors: &CompressorList,
         env: &mut E,
         cache: &mut BlockCache<C>,
         file: E::File,
         size: usize,
     ) -> Result<Table<E, C, FP>>
-        ensures reads { Reads E.Env (λ status. ((status.code ≡ NotSupported) × (cache.old.given + 1 ≡ 2 ^ 64)) ⊎
-            IsLacking E.Env (⟦<CompressorList as Coders>⟧.codings coders.now) (λ bytes status. OpensNot (⟦<CompressorList as Coders>⟧.codings coders.now) (C.cmp cmp) (filter_key (FP.name policy)) bytes size × LacksPart (⟦<CompressorList as Coders>⟧.codings coders.now) (C.cmp cmp) (filter_key (FP.name policy)) bytes size status) env.old file status) env.old file env.new result }
-        ensures ok { IfOk result (λ table. Whatever E.Env env.old file (λ bytes.
-            Opens (⟦<CompressorList as Coders>⟧.codings coders.now) (C.cmp cmp) (filter_key (FP.name policy)) bytes size (lines_of table) table.footer.meta_index table.footer.index (filters_of table))) }
+        ensures reads { let codings = ⟦<CompressorList as Compressors>⟧.codings compressors.now in
+            ReadsFile E.Env (λ status. ((status.code ≡ NotSupported)
+            × (cache.old.given + 1 ≡ 2 ^ 64)) ⊎ IsLackError E.Env codings
+            (λ bytes status. CannotOpen codings (C.cmp cmp) (filter_key (FP.name policy)) bytes
+            size × LacksPart codings (C.cmp cmp) (filter_key (FP.name policy)) bytes size status)
+            env.old file status) env.old env.new result }
+        ensures ok { IfOk result (λ table. ForBytesOf E.Env env.old file
+            (λ bytes. OpensAs (⟦<CompressorList as Compressors>⟧.codings compressors.now)
+            (C.cmp cmp) (filter_key (FP.name policy)) bytes size
+            (lines_of table) table.footer.meta_index table.footer.index (filters_of table))) }
         ensures file { IfOk result (λ table. table.file ≡ file) }
         ensures order { IfOk result (λ table. (table.cmp ≡ cmp) × (table.index.cmp ≡ cmp)) }
-        ensures policy { IfOk result (λ table. IfSome table.filters (λ reader. reader.policy ≡ policy)) }
-        ensures id { IfOk result (λ table. (table.id ≡ cache.old.given + 1) × (cache.new ≡ record cache.old { given = table.id })) }
+        ensures policy { IfOk result
+            (λ table. IfSome table.filters (λ reader. reader.policy ≡ policy)) }
+        ensures id { IfOk result (λ table. (table.id ≡ cache.old.given + 1)
+            × (cache.new ≡ record cache.old { given = table.id })) }
         ensures err { OnErr result (cache.new ≡ cache.old) }
     {
         let footer = read_footer(alloc, env, &file, size)?;
-        let index = read_table_block(alloc, cmp, env, &file, coders, footer.index)?;
-        let metas = read_table_block(alloc, DefaultCmp, env, &file, coders, footer.meta_index)?;
+        let index = read_table_block(alloc, cmp, env, &file, compressors, footer.index)?;
+        let metas = read_table_block(
+            alloc,
+            DefaultCmp,
+            env,
+            &file,
+            compressors,
+            footer.meta_index,
+        )?;
         let filters = read_filters(alloc, policy, env, &file, &metas)?;
         let id = cache.new_cache_id()?;
         Ok(Table {
@@ -139,16 +164,20 @@ impl<E: Env, C: Cmp + Copy + Drop, FP: FilterPolicy + Drop> Table<E, C, FP> {
 }
 
 impl<E: Env, C: Cmp + Copy + Drop, FP: FilterPolicy> Table<E, C, FP> {
-    ghost use Rattle.leveldb_table.specs.Table.{AreAccepted};
-    ghost use Rattle.leveldb_table.specs.TableReading.{HasParts, AllFit, IsOffsetBy, found_in, key_line, lines_of, lets};
-    ghost use Rattle.leveldb_table.specs.TableMoves.{LooksUpIn, Finds};
+    ghost use Rattle.leveldb_table.specs.TableReader.{HasParts, HandlesFit, IsOffsetBy, found_in, key_line, lines_of, lets};
+    ghost use Rattle.leveldb_table.specs.TableReaderMoves.{LookUpInTable, FindsPair};
 
     /// The offset of the block that would hold the key, and past the last that of the metaindex.
     /// `Corruption` where the index's line for the key names no handle.
     pub fn approx_offset_of(&self, alloc: Global, key: &[u8]) -> Result<usize>
-        ensures ok { (parts : List Part) → lines_of self.now ≡ map index_pair parts → AllFit parts → IfOk result (λ offset. offset ≡ offset_for (C.cmp self.now.index.cmp) key.now parts self.now.footer.meta_index) }
-        ensures line { IfOk result (IsOffsetBy (key_line (C.cmp self.now.index.cmp) key.now (lines_of self.now)) self.now.footer.meta_index.offset) }
-        ensures cause { IfErr result (λ status. IsOutOfMemory status ⊎ ((status.code ≡ Corruption) × NamesNone (key_line (C.cmp self.now.index.cmp) key.now (lines_of self.now)))) }
+        ensures ok { (parts : List Part) → lines_of self.now ≡ map index_pair parts
+            → HandlesFit parts → IfOk result (λ offset. offset
+            ≡ offset_for (C.cmp self.now.index.cmp) key.now parts self.now.footer.meta_index) }
+        ensures line { IfOk result (IsOffsetBy (key_line (C.cmp self.now.index.cmp) key.now
+            (lines_of self.now)) self.now.footer.meta_index.offset) }
+        ensures cause { IfErr result (λ status. IsOutOfMemory status
+            ⊎ ((status.code ≡ Corruption) × NamesNone (key_line (C.cmp self.now.index.cmp) key.now
+            (lines_of self.now)))) }
     {
         let mut lines = self.index.iter(alloc);
         lines.seek(key)?;
@@ -158,31 +187,47 @@ impl<E: Env, C: Cmp + Copy + Drop, FP: FilterPolicy> Table<E, C, FP> {
         Ok(whole_handle(alloc, value)?.offset())
     }
 
-    /// The first pair at or after the key, or none where the filters refuse the key at the block that the index names for it,
-    /// or no such pair is there. The key is copied, and the value's bytes are shared with their block.
+    /// The first pair at or after the key, or none where the filters rule out the key at the block
+    /// that the index names for it, or no such pair is there. The key is copied, and the value's
+    /// bytes are shared with their block.
     pub fn get(
         &self,
         alloc: Global,
         env: &mut E,
         cache: &mut BlockCache<C>,
-        coders: &CompressorList,
+        compressors: &CompressorList,
         key: &[u8],
     ) -> Result<Option<(Bytes, Bytes)>>
-        ensures reads { Reads E.Env (IsLacking E.Env (⟦<CompressorList as Coders>⟧.codings coders.now) (λ bytes status. ((parts : List Part) → lines_of self.now ≡ map index_pair parts → C.cmp self.now.index.cmp ≡ C.cmp self.now.cmp
-            → HasParts (⟦<CompressorList as Coders>⟧.codings coders.now) (C.cmp self.now.cmp) bytes parts → AreAccepted (C.accepts self.now.cmp) parts → C.accepts self.now.cmp key.now ≡ true
-            → HoldsOf (⟦<CompressorList as Coders>⟧.codings coders.now) (C.cmp self.now.cmp) self.now.id bytes cache.old → ⊥)
-            × (HoldsOf (⟦<CompressorList as Coders>⟧.codings coders.now) (C.cmp self.now.cmp) self.now.id bytes cache.old → LooksUpIn (⟦<CompressorList as Coders>⟧.codings coders.now) FP.matches self.now key.now bytes (Err status))) env.old self.now.file) env.old self.now.file env.new result }
-        ensures ok { Whatever E.Env env.old self.now.file (λ bytes. (parts : List Part) → lines_of self.now ≡ map index_pair parts → C.cmp self.now.index.cmp ≡ C.cmp self.now.cmp
-            → HasParts (⟦<CompressorList as Coders>⟧.codings coders.now) (C.cmp self.now.cmp) bytes parts → AreAccepted (C.accepts self.now.cmp) parts → C.accepts self.now.cmp key.now ≡ true
-            → HoldsOf (⟦<CompressorList as Coders>⟧.codings coders.now) (C.cmp self.now.cmp) self.now.id bytes cache.old
-            → IfOk result (λ found. found ≡ found_in (C.cmp self.now.cmp) (lets FP.matches self.now) key.now parts)) }
-        ensures finds { Whatever E.Env env.old self.now.file (λ bytes.
-            HoldsOf (⟦<CompressorList as Coders>⟧.codings coders.now) (C.cmp self.now.cmp) self.now.id bytes cache.old
-            → IfOk result (Finds (⟦<CompressorList as Coders>⟧.codings coders.now) FP.matches self.now key.now bytes)) }
-        ensures gathers { Gathers self.now.id (λ offset held. Whatever E.Env env.old self.now.file (λ bytes. IsOf (⟦<CompressorList as Coders>⟧.codings coders.now) (C.cmp self.now.cmp) bytes offset held)) cache.old cache.new }
+        ensures reads { let codings = ⟦<CompressorList as Compressors>⟧.codings compressors.now in
+            ReadsFile E.Env (IsLackError E.Env codings (λ bytes status.
+            ((parts : List Part) → lines_of self.now ≡ map index_pair parts
+            → C.cmp self.now.index.cmp ≡ C.cmp self.now.cmp
+            → HasParts codings (C.accepts self.now.cmp) (C.cmp self.now.cmp) bytes parts
+            → C.accepts self.now.cmp key.now ≡ true
+            → HoldsOnlyOf codings (C.cmp self.now.cmp) self.now.id bytes cache.old → ⊥)
+            × (HoldsOnlyOf codings (C.cmp self.now.cmp) self.now.id bytes cache.old
+            → LookUpInTable codings FP.matches self.now key.now bytes (Err status))) env.old
+            self.now.file) env.old env.new result }
+        ensures ok { let codings = ⟦<CompressorList as Compressors>⟧.codings compressors.now in
+            ForBytesOf E.Env env.old self.now.file
+            (λ bytes. (parts : List Part) → lines_of self.now ≡ map index_pair parts
+            → C.cmp self.now.index.cmp ≡ C.cmp self.now.cmp
+            → HasParts codings (C.accepts self.now.cmp) (C.cmp self.now.cmp) bytes parts
+            → C.accepts self.now.cmp key.now ≡ true
+            → HoldsOnlyOf codings (C.cmp self.now.cmp) self.now.id bytes cache.old
+            → IfOk result (λ found. found ≡ found_in (C.cmp self.now.cmp)
+            (lets FP.matches self.now) key.now parts)) }
+        ensures finds { let codings = ⟦<CompressorList as Compressors>⟧.codings compressors.now in
+            ForBytesOf E.Env env.old self.now.file
+            (λ bytes. HoldsOnlyOf codings (C.cmp self.now.cmp) self.now.id bytes cache.old
+            → IfOk result (FindsPair codings FP.matches self.now key.now bytes)) }
+        ensures gathers { GainsBlocks self.now.id (λ offset held.
+            ForBytesOf E.Env env.old self.now.file
+            (λ bytes. IsBlockOfFile (⟦<CompressorList as Compressors>⟧.codings compressors.now)
+            (C.cmp self.now.cmp) bytes offset held)) cache.old cache.new }
     {
         let mut core = TableCore::new(alloc, self)?;
-        if core.seek_let(self, env, cache, coders, key)? {
+        if core.seek_let(self, env, cache, compressors, key)? {
             return core.into_pair();
         }
         Ok(None)
@@ -204,18 +249,26 @@ impl<E: Env, C: Cmp + Copy + Drop, FP: FilterPolicy> Table<E, C, FP> {
         alloc: Global,
         env: &mut E,
         cache: &mut BlockCache<C>,
-        coders: &CompressorList,
+        compressors: &CompressorList,
         handle: BlockHandle,
     ) -> Result<Block<C>>
-        ensures reads { Reads E.Env (IsLacking E.Env (⟦<CompressorList as Coders>⟧.codings coders.now) (λ bytes. LacksBlock (⟦<CompressorList as Coders>⟧.codings coders.now) (C.cmp self.now.cmp) bytes handle) env.old self.now.file) env.old self.now.file env.new result }
-        ensures ok { IfOk result (λ block. Whatever E.Env env.old self.now.file (λ bytes. HoldsOf (⟦<CompressorList as Coders>⟧.codings coders.now) (C.cmp self.now.cmp) self.now.id bytes cache.old
-            → HasBlockAt (Decodes (⟦<CompressorList as Coders>⟧.codings coders.now)) bytes handle block.contents × (C.cmp block.cmp ≡ C.cmp self.now.cmp))) }
-        ensures gathers { Gathers self.now.id (λ offset held. Whatever E.Env env.old self.now.file (λ bytes. IsOf (⟦<CompressorList as Coders>⟧.codings coders.now) (C.cmp self.now.cmp) bytes offset held)) cache.old cache.new }
+        ensures reads { let codings = ⟦<CompressorList as Compressors>⟧.codings compressors.now in
+            ReadsFile E.Env (IsLackError E.Env codings (λ bytes.
+            LacksBlock codings (C.cmp self.now.cmp) bytes handle) env.old self.now.file) env.old env.new result }
+        ensures ok { let codings = ⟦<CompressorList as Compressors>⟧.codings compressors.now in
+            IfOk result (λ block. ForBytesOf E.Env env.old self.now.file
+            (λ bytes. HoldsOnlyOf codings (C.cmp self.now.cmp) self.now.id bytes cache.old
+            → HasBlockAt (Decodes codings) bytes handle block.contents
+            × (C.cmp block.cmp ≡ C.cmp self.now.cmp))) }
+        ensures gathers { GainsBlocks self.now.id (λ offset held.
+            ForBytesOf E.Env env.old self.now.file
+            (λ bytes. IsBlockOfFile (⟦<CompressorList as Compressors>⟧.codings compressors.now)
+            (C.cmp self.now.cmp) bytes offset held)) cache.old cache.new }
     {
         if let Some(found) = self.cached_block(cache, handle)? {
             return Ok(found);
         }
-        let block = read_table_block(alloc, self.cmp, env, &self.file, coders, handle)?;
+        let block = read_table_block(alloc, self.cmp, env, &self.file, compressors, handle)?;
         let copy = block.clone()?;
         cache.insert(
             &cache_key(self.id, handle.offset()),
@@ -227,14 +280,19 @@ impl<E: Env, C: Cmp + Copy + Drop, FP: FilterPolicy> Table<E, C, FP> {
         Ok(block)
     }
 
-    // The block that the cache has at a handle, where it has one of the handle's size. It counts as used.
+    // The block that the cache has at a handle, where it has one of the handle's size. It counts
+    // as used.
     fn cached_block(
         &self,
         cache: &mut BlockCache<C>,
         handle: BlockHandle,
     ) -> Result<Option<Block<C>>>
-        ensures ok { IfOk result (λ found. IfSome found (IsHeldAt self.now.id handle cache.old)) }
-        ensures cache { cache.new ≡ record cache.old { pairs = looked_for (cache_key self.now.id handle.offset) cache.old.pairs } }
+        ensures ok { IfOk result
+            (λ found. IfSome found (IsCachedAt self.now.id handle cache.old)) }
+        ensures cache { cache.new ≡ record cache.old {
+          pairs =
+              looked_for (cache_key self.now.id handle.offset) cache.old.pairs;
+        } }
         ensures memory { IfErr result IsOutOfMemory }
     {
         let Some(held) = cache.get(&cache_key(self.id, handle.offset())) else {
@@ -247,10 +305,11 @@ impl<E: Env, C: Cmp + Copy + Drop, FP: FilterPolicy> Table<E, C, FP> {
     }
 }
 
-// The handle that these bytes spell, and nothing else.
+// The handle that these bytes encode, and nothing else.
 fn whole_handle(alloc: Global, bytes: &[u8]) -> Result<BlockHandle>
     ensures ok { IfOk result (λ handle. HandleFits handle × (bytes.now ≡ handle_bytes handle)) }
-    ensures err { IfErr result (λ status. (status.code ≡ Corruption) × ((handle : Handle) → HandleFits handle → bytes.now ≡ handle_bytes handle → ⊥)) }
+    ensures err { IfErr result (λ status. (status.code ≡ Corruption)
+        × ((handle : Handle) → HandleFits handle → bytes.now ≡ handle_bytes handle → ⊥)) }
 {
     match BlockHandle::decode(bytes) {
         Some((handle, used)) if used == bytes.len() => Ok(handle),

@@ -2,3 +2,13 @@ pub mod VersionEdit
 pub mod Fields
 pub mod Current
 pub mod VersionSet
+pub mod Contents
+pub mod Paths
+pub mod Holds
+pub mod Batches
+pub mod Levels
+pub mod Store
+pub mod StoreSteps
+pub mod StoreLaws
+pub mod HoldsLaws
+pub mod StoreStays

@@ -7,6 +7,9 @@ ghost use Rattle.leveldb_version.specs.VersionEdit.{Edit, NewFile, IsEdit, IsEnc
 ghost use Rattle.leveldb_version.specs.Current.{IsCurrentText, current_text};
 ghost use Rattle.leveldb_version.specs.VersionSet.{Applied, IsLive, ListsFiles, IsFullEdit, SameFiles, SameNumbers, HasNumbers, live_after, live_at, level_file, live_files, full_edit};
 
+pub mod levels;
+pub mod stores;
+
 /// The same bytes are one edit only, and what is written for an edit is that edit. So decoding what
 /// was encoded gives the edit back, but for the seeks that its new files may take.
 pub fn edits_are_their_bytes()

@@ -8,6 +8,8 @@ mod logs;
 #[cfg(test)]
 mod memtables;
 #[cfg(test)]
+mod skipmap_orders;
+#[cfg(test)]
 mod skipmaps;
 #[cfg(test)]
 mod write_batches;

@@ -73,12 +73,15 @@ fn assert_corruption<R: Source>(rt: &impl Abort, reader: &mut LogReader<R>, reco
 struct Slow<'a> {
     rest: &'a [u8],
     most: usize,
+    // The most bytes that a read asked for.
+    asked: usize,
 }
 
 impl Source for Slow<'_> {
     ghost gives = { λ old room result new. Unit {0} };
 
     fn read_some(&mut self, target: &mut [u8]) -> Result<usize> {
+        self.asked = self.asked.max(target.len());
         let count = self.rest.len().min(target.len()).min(self.most);
         let (first, others) = self.rest.split_at(count);
         target[..count].copy_from_slice(first);
@@ -176,10 +179,32 @@ fn pieces_of_any_length(rt: HostRuntime) -> Result<()> {
     let log = small_log(&rt)?;
     let mut record = Vec::new(rt.alloc());
     for most in 1..10 {
-        let source = Slow { rest: &log, most };
+        let source = Slow {
+            rest: &log,
+            most,
+            asked: 0,
+        };
         let mut reader = LogReader::sized(rt.alloc(), source, true, 17);
         assert_all_read(&rt, &mut reader, &mut record, &READ)?;
     }
+    Ok(())
+}
+
+#[test]
+fn four_kilobytes_a_read(rt: HostRuntime) -> Result<()> {
+    let long = vec![in rt.alloc(); 7u8; 40000]?;
+    let mut writer = LogWriter::new(rt.alloc(), Vec::new(rt.alloc()));
+    writer.add_record(&long)?;
+    writer.add_record(b"x")?;
+    let source = Slow {
+        rest: &writer.sink,
+        most: usize::MAX,
+        asked: 0,
+    };
+    let mut reader = LogReader::new(rt.alloc(), source, true);
+    let mut record = Vec::new(rt.alloc());
+    assert_all_read(&rt, &mut reader, &mut record, &[&long, b"x", b""])?;
+    assert!(rt; reader.source.asked == 4096);
     Ok(())
 }
 

@@ -221,7 +221,7 @@ fn takes_a_batch_whole(rt: HostRuntime) -> Result<()> {
     insert_changes(&rt, &batch, &mut table)
 }
 
-/// A memtable with the five changes alone, placed at a number, and what the call returned.
+/// A memtable with the five changes alone, numbered from `first` on, and what the call returned.
 fn placed_at(alloc: Global, first: SequenceNumber) -> Result<(MemTable<DefaultCmp>, Result<()>)> {
     let batch = five_changes(alloc)?;
     let mut table = MemTable::new(alloc, DefaultCmp);
@@ -306,7 +306,7 @@ fn assert_rows(rt: &impl Abort, table: &MemTable<DefaultCmp>, rows: &[Row]) {
     }
 }
 
-/// What puts a value, or the deletion that stands for none.
+/// The kind and the bytes of a value, or of a deletion.
 fn type_and_bytes(value: Option<&[u8]>) -> (ValueType, &[u8]) {
     match value {
         None => (ValueType::TypeDeletion, &[]),

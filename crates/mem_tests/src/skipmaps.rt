@@ -63,27 +63,6 @@ fn present_and_empty_keys_are_not_inserted(rt: HostRuntime) -> Result<()> {
     Ok(())
 }
 
-/// A failed insertion leaves the map as it was, and can be made again.
-fn insert_twice(rt: &impl Abort, map: &mut SkipMap<DefaultCmp>, key: &[u8; 3]) -> Result<()> {
-    let before = (map.len(), map.approx_memory());
-    let first = map.insert(key, b"def");
-    if first.is_err() {
-        assert!(rt; (map.len(), map.approx_memory()) == before && !map.contains(key));
-        map.insert(key, b"def")?;
-        assert!(rt; map.contains(key));
-    }
-    first
-}
-
-#[test]
-fn inserts_again_after_a_failure(rt: HostRuntime) -> Result<()> {
-    let mut map = SkipMap::new(rt.alloc(), DefaultCmp);
-    for i in 0..26u8 {
-        insert_twice(&rt, &mut map, &[b'a', b'b', b'a' + 7 * i % 26])?;
-    }
-    Ok(())
-}
-
 // Moves to the key that is `count` keys after the first.
 fn go_to<C: Cmp>(it: &mut SkipMapIter<'_, C>, count: u8) -> Result<()> {
     it.seek_to_first()?;
@@ -101,6 +80,37 @@ fn turn_at<C: Cmp>(it: &mut SkipMapIter<'_, C>, count: u8) -> Result<([Option<u8
     let before = letter(it);
     let is_after = it.advance()?;
     Ok(([here, before, letter(it)], [is_before, is_after]))
+}
+
+/// The letters of a turn at each of 26 positions. A walk past the last key begins again.
+fn turns(map: &SkipMap<DefaultCmp>) -> Result<[[Option<u8>; 3]; 26]> {
+    let mut it = map.iter();
+    let mut letters = [[None; 3]; 26];
+    for n in 0..26u8 {
+        letters[n as usize] = turn_at(&mut it, n)?.0;
+    }
+    Ok(letters)
+}
+
+/// A failed insertion leaves the map as it was, and can be made again.
+fn insert_twice(rt: &impl Abort, map: &mut SkipMap<DefaultCmp>, key: &[u8; 3]) -> Result<()> {
+    let before = (map.len(), map.approx_memory(), turns(map)?);
+    let first = map.insert(key, b"def");
+    if first.is_err() {
+        assert!(rt; (map.len(), map.approx_memory(), turns(map)?) == before && !map.contains(key));
+        map.insert(key, b"def")?;
+        assert!(rt; map.contains(key));
+    }
+    first
+}
+
+#[test]
+fn inserts_again_after_a_failure(rt: HostRuntime) -> Result<()> {
+    let mut map = SkipMap::new(rt.alloc(), DefaultCmp);
+    for i in 0..26u8 {
+        insert_twice(&rt, &mut map, &[b'a', b'b', b'a' + 7 * i % 26])?;
+    }
+    Ok(())
 }
 
 #[test]

@@ -38,7 +38,7 @@ none_given old new same = ap (drop (length old)) same ∙ drop-length old
 -- a run, whether it went through or not
 pub has_run : {E F : Type 0} (env : Ghosts E F) (folder : List ℕ) (commands : List Command) (from to : E) (old new : List Reply) (create : Bool) (ended : Result (Unit {0}) Status) → create ≡ true
     → PlaysAlways DefaultCmp ℕ env bytewise folder from create commands (drop (length old) new) ended to
-    → (IsTrue env.tells_disk → NeverOpens folder create (env.tells from).disk → (new ≡ old) × IsUnopened env folder create from ended to)
+    → (IsTrue env.models_disk → NeverOpens folder create (env.observed from).disk → (new ≡ old) × IsUnopened env folder create from ended to)
     → ((IsStoreName folder → ⊥) → (to ≡ from) × (new ≡ old) × OnOk ended ⊥)
     → (given : List Reply) × (ended : Result (Unit {0}) Status) × HasRun env folder commands from given ended to
 has_run env folder commands from to old new create ended creates plays unopened misnamed = (
@@ -46,8 +46,8 @@ has_run env folder commands from to old new create ended creates plays unopened 
   ended,
   (
     subst (λ (b : Bool). PlaysAlways DefaultCmp ℕ env bytewise folder from b commands (drop (length old) new) ended to) creates plays,
-    subst (λ (b : Bool). IsTrue env.tells_disk → NeverOpens folder b (env.tells from).disk → (drop (length old) new ≡ []) × IsUnopened env folder b from ended to) creates
-        (λ tells never. let u = unopened tells never in (none_given old new u.0, u.1)),
+    subst (λ (b : Bool). IsTrue env.models_disk → NeverOpens folder b (env.observed from).disk → (drop (length old) new ≡ []) × IsUnopened env folder b from ended to) creates
+        (λ modelled never. let u = unopened modelled never in (none_given old new u.0, u.1)),
     λ no. let m = misnamed no in (m.0, none_given old new m.1, m.2),
   ),
 )
@@ -58,7 +58,7 @@ pub played : {E F : Type 0} (env : Ghosts E F) (folder : List ℕ) (commands : L
     → PlaysAlways DefaultCmp ℕ env bytewise folder from create commands (drop (length old) new) (Ok ended) to
     → ((given : List Reply) × (new ≡ old ++ given) × (length given ≡ length commands))
     → OnOk r (Appends held holds (reply_lines told))
-    → (IsTrue env.tells_disk → NeverOpens folder create (env.tells from).disk → (new ≡ old) × IsUnopened env folder create from (Ok ended) to)
+    → (IsTrue env.models_disk → NeverOpens folder create (env.observed from).disk → (new ≡ old) × IsUnopened env folder create from (Ok ended) to)
     → ((IsStoreName folder → ⊥) → (to ≡ from) × (new ≡ old) × OnOk {E = Status} (Ok ended) ⊥)
     → OnOk r (IsPlayed env folder commands from to held holds)
 played env folder commands from to held holds old new told create ended (Err status) none creates same plays behind appends unopened misnamed = tt
@@ -67,10 +67,10 @@ played env folder commands from to held holds old new told create ended (Ok done
     let replies : drop (length old) new ≡ given = ap (drop (length old)) behind.1 ∙ drop-append_seam old given in
     let P : List Reply → Type 0 = λ list. PlaysAlways DefaultCmp ℕ env bytewise folder from create commands list (Ok tt) to in
     let Q : Bool → Type 0 = λ b. PlaysAlways DefaultCmp ℕ env bytewise folder from b commands given (Ok tt) to in
-    let R : Bool → Type 0 = λ b. IsTrue env.tells_disk → NeverOpens folder b (env.tells from).disk → (given ≡ []) × IsUnopened env folder b from (Ok tt) to in
+    let R : Bool → Type 0 = λ b. IsTrue env.models_disk → NeverOpens folder b (env.observed from).disk → (given ≡ []) × IsUnopened env folder b from (Ok tt) to in
     let T : List Reply → Type 0 = λ list. Appends held holds (reply_lines list) in (
       given,
       behind.2,
-      (subst Q creates (subst P replies plays), subst R creates (λ tells never. absurd (unopened tells never).1), λ no. absurd (misnamed no).2),
+      (subst Q creates (subst P replies plays), subst R creates (λ modelled never. absurd (unopened modelled never).1), λ no. absurd (misnamed no).2),
       subst T (same ∙ behind.1 ∙ ap (λ (list : List Reply). list ++ given) none) appends,
     )

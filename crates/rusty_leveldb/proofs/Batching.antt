@@ -10,9 +10,9 @@ use Rattle.leveldb_base.specs.declared.error.StatusCode.TheVariants.{InvalidArgu
 use Rattle.leveldb_base.specs.Error.{IsOutOfMemory, text_of}
 use Rattle.leveldb_base.specs.History.{Item}
 use Rattle.leveldb_env.specs.declared.env.Env.{Ghosts}
-use Rattle.leveldb_env.specs.Disk.{Disk}
-use Rattle.leveldb_mem.specs.Batch.{Batch, with_item, entry_bytes, batch_bytes, IsTooLong}
-use Rattle.leveldb_mem.specs.BatchLaws.{length-batch_bytes}
+use Rattle.leveldb_env.specs.Env.{Disk}
+use Rattle.leveldb_mem.specs.WriteBatch.{Batch, with_item, entry_bytes, batch_bytes, IsTooLong}
+use Rattle.leveldb_mem.proofs.WriteBatchLemmas.{length-batch_bytes}
 use Rattle.rusty_leveldb.specs.declared.db_impl.engine.Engine.{Engine}
 use Rattle.rusty_leveldb.specs.declared.shell.commands.Item as item
 use Rattle.rusty_leveldb.specs.Shell.{change_of}
@@ -53,14 +53,14 @@ module _ {E C FP F I : Type 0} {D : I → Type 0} (env : Ghosts E F) (cmp : List
     new = old;
     represents = represents;
     step = record { later = omega arith; step = subst (λ mode. StepIn cmp mode faults old (write items sync) (refused (refusal_of status)) old) (sym (is_open store disk old represents.memory_is)) (⊎_elim for_memory for_length why) };
-    moments = moments_none store (write items sync) old (env.tells at) represents.disk_is;
-    files = spared_still (write items sync) (refused (refusal_of status)) old old (env.tells at).disk.files;
-    others = others_still store (env.tells at).disk;
+    moments = moments_none store (write items sync) old (env.observed at) represents.disk_is;
+    files = spared_still (write items sync) (refused (refusal_of status)) old old (env.observed at).disk.files;
+    others = others_still store (env.observed at).disk;
     beside = λ opens_not path differs. refl;
   }
     where
       disk : Disk
-      disk = (env.tells at).disk
+      disk = (env.observed at).disk
 
       faults : Faults
       faults = faults_between (env.failures at) (env.failures at)

@@ -4,12 +4,11 @@
 -- begins a new run.
 use Rattle.std.proofs.Common.{◌≡◌, ℕ, Bool, true, false, cond, List, Some, refl, sym, ◌∙◌, ap, subst}
 use Rattle.std.specs.Str.{bytes_eq}
-use Rattle.leveldb_env.specs.Disk.{Files, bytes_of, LeavesFile, Leaves}
-use Rattle.leveldb_mem.specs.Log.{log_block_size}
-use Rattle.leveldb_mem.specs.Honest.{HonestTail}
+use Rattle.leveldb_env.specs.Env.{Files, bytes_of, FileCrashesTo, FilesCrashTo}
+use Rattle.leveldb_mem.specs.Log.{log_block_size, HonestTail}
 use Rattle.std.specs.Cmp.Lexicographic.{bytes_decides}
-use Rattle.rusty_leveldb.specs.Contents.{Contents}
-use Rattle.rusty_leveldb.specs.Holds.{IsHonest}
+use Rattle.leveldb_version.specs.Contents.{Contents}
+use Rattle.leveldb_version.specs.Holds.{IsHonest}
 use Rattle.rusty_leveldb.specs.State.{State}
 use Rattle.rusty_leveldb.specs.Machine.{Risk}
 use Rattle.rusty_leveldb.specs.Unread.{Ignores, SameBeside, IsSparedBeside}
@@ -17,17 +16,17 @@ use Rattle.rusty_leveldb.proofs.OneLog.LogFile.{cut, cut_leaves, cut_honest}
 
 module _ (store : List ℕ) (reads : Files → Contents → Type 0) (beside : List ℕ → Bool) where
   -- From what a crash leaves of the later files: what it may leave of the earlier ones, with the unread files cut to their kept bytes.
-  module _ (old files : Files) (same : SameBeside beside old files) (left : Files) (leaves : Leaves files left) where
+  module _ (old files : Files) (same : SameBeside beside old files) (left : Files) (leaves : FilesCrashTo files left) where
     base : Files
     base path = cond (beside path) (cut (old path)) (left path)
 
-    base_leaves : Leaves old base
+    base_leaves : FilesCrashTo old base
     unfolding base
     base_leaves path = by (beside path) refl
       where
-        by : (b : Bool) → beside path ≡ b → LeavesFile (old path) (cond b (cut (old path)) (left path))
+        by : (b : Bool) → beside path ≡ b → FileCrashesTo (old path) (cond b (cut (old path)) (left path))
         by true is = cut_leaves (old path)
-        by false is = subst (λ f. LeavesFile f (left path)) (same path is) (leaves path)
+        by false is = subst (λ f. FileCrashesTo f (left path)) (same path is) (leaves path)
 
     left_same : SameBeside beside base left
     unfolding base
@@ -44,24 +43,18 @@ module _ (store : List ℕ) (reads : Files → Contents → Type 0) (beside : Li
   -- the later files are spared as the earlier ones were
   pub ignores_beside : (state : State) (risk : Risk) (old files : Files) → SameBeside beside old files → IsSparedBeside store reads beside state risk old → IsSparedBeside store reads beside state risk files
   ignores_beside state risk old files same is = record {
-    spared = record {
-      carries = λ left leaves honest.
-          let b = base old files same left leaves in
-          let c = is.spared.carries b (base_leaves old files same left leaves) (base_honest old files same left leaves honest) in
-          record {
-            part = c.part;
-            beginning = c.beginning;
-            carries = record {
-              contents = c.carries.contents;
-              read = is.unread b b left c.carries.contents (base_leaves old files same left leaves) (λ path apart. refl) (left_same old files same left leaves) c.carries.read;
-              tells = c.carries.tells;
-            };
+    spared = λ left leaves honest.
+        let b = base old files same left leaves in
+        let c = is.spared b (base_leaves old files same left leaves) (base_honest old files same left leaves honest) in
+        record {
+          part = c.part;
+          prefix = c.prefix;
+          carries = record {
+            contents = c.carries.contents;
+            read = is.unread b b left c.carries.contents (base_leaves old files same left leaves) (λ path apart. refl) (left_same old files same left leaves) c.carries.read;
+            matches = c.carries.matches;
           };
-      stays = λ left contents leaves honest read.
-          let b = base old files same left leaves in
-          is.spared.stays b contents (base_leaves old files same left leaves) (base_honest old files same left leaves honest)
-          (is.unread b left b contents (base_leaves old files same left leaves) (left_same old files same left leaves) (λ path apart. refl) read);
-    };
+        };
     unread = λ left one other contents leaves to_one to_other read.
         let b = base old files same left leaves in
         is.unread b one other contents (base_leaves old files same left leaves)

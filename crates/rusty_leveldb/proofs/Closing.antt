@@ -6,26 +6,25 @@ use Rattle.leveldb_base.specs.declared.error.Status.{Status}
 use Rattle.leveldb_base.specs.Error.{text_of}
 use Rattle.leveldb_base.specs.History.{entries_of, SameView}
 use Rattle.leveldb_env.specs.declared.env.Env.{Ghosts}
-use Rattle.leveldb_env.specs.Disk.{File, Disk, lock_set, synced, same}
-use Rattle.leveldb_env.specs.Times.{Told}
-use Rattle.leveldb_env.specs.Calls.{Does, Still, Relocks, HasCause, IsGone}
-use Rattle.leveldb_env.specs.Runs.{Run, call}
-use Rattle.leveldb_env.specs.FileLaws.{SameBut, SameBut-synced, bytes_eq-same, bytes_eq-apart}
-use Rattle.leveldb_env.specs.OpenFiles.{opened, Syncs}
-use Rattle.leveldb_mem.specs.Writing.{Flushes}
+use Rattle.leveldb_env.specs.Env.{File, Disk, lock_set, synced, same, Observed, ChangesFiles, FilesUnchanged, ChangesLocks, HasCause, IsGone, Run, SameBut}
+use Rattle.leveldb_env.proofs.EnvLemmas.{call, SameBut-synced, bytes_eq-same, bytes_eq-apart}
+use Rattle.leveldb_env.specs.EnvFile.{opened, Syncs}
+use Rattle.leveldb_mem.specs.Log.Writer.{Flushes}
 use Rattle.rusty_leveldb.specs.declared.db_impl.engine.Mode.{Mode}
 use Rattle.rusty_leveldb.specs.declared.db_impl.engine.Mode.TheVariants.{Open, Broken, Closed}
 use Rattle.rusty_leveldb.specs.declared.db_impl.engine.Engine.{Engine}
-use Rattle.rusty_leveldb.specs.Names.{lock_path}
+use Rattle.leveldb_version.specs.Paths.{lock_path}
 use Rattle.rusty_leveldb.specs.OneLog.{log_path}
 use Rattle.rusty_leveldb.specs.State as machine
 use Rattle.rusty_leveldb.specs.State.{State, Request, close, abandon, Answer, done, refused, open_mode, broken, closed}
 use Rattle.rusty_leveldb.specs.Causes.{Faults, Cause, out_of_memory, device_failed, Comes, ReachesDevice}
 use Rattle.rusty_leveldb.specs.Machine.{StepIn, Responds}
 use Rattle.rusty_leveldb.specs.Serves.{Reads, SameBytes, StandsFor, IsSpared, Represents, done_or, refusal_of, faults_between}
-use Rattle.rusty_leveldb.specs.Engine.{Recalls, WritesOn, mode_of, Answers}
+use Rattle.rusty_leveldb.specs.Engine.{Recalls, WritesOn, mode_of, scene, Answers}
+use Rattle.rusty_leveldb.specs.Recovery.{IsErrorFor}
 use Rattle.rusty_leveldb.proofs.Ended.{broke, ended, broke_still, ended_still, broke_covered, ended_covered}
 use Rattle.rusty_leveldb.proofs.Writes.Stands.{is_open as open_store}
+use Rattle.rusty_leveldb.proofs.Writes.Found.{found_goes}
 use Rattle.rusty_leveldb.proofs.Writes.Moments.{risk_at, moments_none, moments_still, sync_moments, with_none}
 use Rattle.rusty_leveldb.proofs.Others.{beside_but, but_same, others_with, others_but_log, others_still, spared_still, bytes_same, bytes_synced}
 
@@ -35,9 +34,9 @@ none_some : {A : Type 0} {x : A} → None ≡ Some x → ⊥
 none_some e = cc
 
 -- why a sync of a log that is there was refused
-sync_cause : (tells_disk : Bool) (name : List ℕ) (told : Told) (file : File) (before now : ℕ) (old : State) (status : Status) → told.disk.files name ≡ Some file
-    → HasCause {T = Unit {0}} (IsGone tells_disk name told) before now (Err status) → (cause : Cause) × Comes (faults_between before now) old close (refusal_of status) cause
-sync_cause tells_disk name told file before now old status there cause = ⊎_elim
+sync_cause : (models_disk : Bool) (name : List ℕ) (told : Observed) (file : File) (before now : ℕ) (old : State) (status : Status) → told.disk.files name ≡ Some file
+    → HasCause {T = Unit {0}} (IsGone models_disk name told) before now (Err status) → (cause : Cause) × Comes (faults_between before now) old close (refusal_of status) cause
+sync_cause models_disk name told file before now old status there cause = ⊎_elim
     (λ gone. ⊎_elim (λ memory. (out_of_memory, (tt, memory.0, ap text_of memory.1))) (λ missing. absurd (none_some (sym missing.2 ∙ there))) gone)
     (λ counted. (device_failed, (tt, ⊎_elim (λ more. inl (omega arith)) (λ full. inr full.0) counted)))
     cause.cause
@@ -103,30 +102,39 @@ module _ {E C FP F I : Type 0} {D : I → Type 0} (env : Ghosts E F) (cmp : List
       not_closed : (mode : machine.Mode) → mode ≡ open_mode → mode ≡ closed → ⊥
       not_closed mode a b = cc
 
-  -- the sync was refused: the store is broken
-  pub sync_refused : (before after : Engine E C FP F I D) (at now : E) (status : Status) → before.mode ≡ Open → OnlyLog before after → after.mode ≡ Broken
+  -- the log refused the sync: the store is broken
+  log_refused : (before after : Engine E C FP F I D) (at now : E) (status : Status) → before.mode ≡ Open → OnlyLog before after → after.mode ≡ Broken
       → Flushes (Syncs env) before.writer (opened at before.log) (Err status) after.writer (opened now after.log)
       → Answers env cmp (Some before) at close (refused (refusal_of status)) (Some after) now
-  sync_refused before after at now status is_open only is_broken flushed store told old represents =
+  log_refused before after at now status is_open only is_broken flushed store told old represents =
       let syncs = flushed.flushed in
       let mode : old.mode ≡ open_mode = sym represents.memory_is.mode ∙ ap mode_of is_open in
       let writes = represents.memory_is.writes mode in
-      let cause = sync_cause env.tells_disk (env.name_of before.log) (env.tells at) writes.file (env.failures at) (env.failures now) old status (ap (env.tells at).disk.files writes.name ∙ writes.there) syncs.cause in
+      let cause = sync_cause env.models_disk (env.name_of before.log) (env.observed at) writes.file (env.failures at) (env.failures now) old status (ap (env.observed at).disk.files writes.name ∙ writes.there) syncs.cause in
       record {
         new = broke old old.covered;
         represents = record {
-          disk_is = broke_still store (env.tells at).disk (env.tells now).disk old represents.disk_is (syncs.undone told) mode (ap (λ (locked : List ℕ → Bool). locked (lock_path store)) (syncs.locks told) ∙ represents.disk_is.locked);
-          memory_is = recalls_broke store before after (env.tells at).disk (env.tells now).disk old old.covered represents.memory_is mode only is_broken;
+          disk_is = broke_still store (env.observed at).disk (env.observed now).disk old represents.disk_is (syncs.undone told) mode (ap (λ (locked : List ℕ → Bool). locked (lock_path store)) (syncs.locks told) ∙ represents.disk_is.locked);
+          memory_is = recalls_broke store before after (env.observed at).disk (env.observed now).disk old old.covered represents.memory_is mode only is_broken;
         };
         step = record {
           later = syncs.cause.later;
           step = subst (λ m. StepIn cmp m (faults_between (env.failures at) (env.failures now)) old close (refused (refusal_of status)) (broke old old.covered)) (sym mode) (cause.0, cause.1, record { state = refl; covered = inl refl });
         };
         moments = sync_moments env store before at old (open_store env store before at old is_open represents) now told syncs.does;
-        files = record { untouched = λ never. absurd never; refused = λ never. absurd never; stopped = λ not_open takes. absurd (not_open mode); bytes = λ syncing. bytes_same (env.tells at).disk.files (env.tells now).disk.files (syncs.undone told) };
-        others = others_but_log store (env.tells at).disk (env.tells now).disk (but_same (log_path store) (env.tells at).disk.files (env.tells now).disk.files (syncs.undone told)) (syncs.locks told);
-        beside = λ opens_not. beside_but store (env.tells at).disk.files (env.tells now).disk.files (but_same (log_path store) (env.tells at).disk.files (env.tells now).disk.files (syncs.undone told));
+        files = record { untouched = λ never. absurd never; refused = λ never. absurd never; stopped = λ not_open takes. absurd (not_open mode); bytes = λ syncing. bytes_same (env.observed at).disk.files (env.observed now).disk.files (syncs.undone told) };
+        others = others_but_log store (env.observed at).disk (env.observed now).disk (but_same (log_path store) (env.observed at).disk.files (env.observed now).disk.files (syncs.undone told)) (syncs.locks told);
+        beside = λ opens_not. beside_but store (env.observed at).disk.files (env.observed now).disk.files (but_same (log_path store) (env.observed at).disk.files (env.observed now).disk.files (syncs.undone told));
       }
+
+  -- and that is told, or damage where the log is missing
+  pub sync_refused : (before after : Engine E C FP F I D) (at now : E) (status : Status) → before.mode ≡ Open → OnlyLog before after → after.mode ≡ Broken
+      → (raw : Status) × IsErrorFor raw status × Flushes (Syncs env) before.writer (opened at before.log) (Err raw) after.writer (opened now after.log)
+      → Answers env cmp (Some before) at close (refused (refusal_of status)) (Some after) now
+  sync_refused before after at now status is_open only is_broken refusal store told old represents =
+      found_goes store (Recalls env store) cmp (scene env cmp (Some before) at) close (scene env cmp (Some after) now) old (sym represents.memory_is.mode ∙ ap mode_of is_open)
+      (λ s new. (λ step. step, λ responds. responds)) refusal.0 status refusal.1
+      (log_refused before after at now refusal.0 is_open only is_broken refusal.2 store told old represents)
 
   -- an engine that was closed remembers that alone
   recalls_ended : (store : List ℕ) (before after : Engine E C FP F I D) (disk now : Disk) (old : State) (covered : ℕ) (locked : Bool) → Recalls env store before disk old
@@ -142,46 +150,46 @@ module _ {E C FP F I : Type 0} {D : I → Type 0} (env : Ghosts E F) (cmp : List
 
   module _ (before after : Engine E C FP F I D) (at mid now : E) (is_open : before.mode ≡ Open) (only : OnlyLog before after)
       (flushed : Flushes (Syncs env) before.writer (opened at before.log) (Ok tt) after.writer (opened mid after.log)) (lock : List ℕ) (lock_is : lock ≡ string_bytes after.lock) where
-    module _ (told : IsTrue env.tells_disk) (store : List ℕ) (old : State) (represents : Represents store (Reads store) (Recalls env store) (Some before) (env.tells at).disk old)
-        (still : (env.tells now).disk.files ≡ (env.tells mid).disk.files) where
+    module _ (told : IsTrue env.models_disk) (store : List ℕ) (old : State) (represents : Represents store (Reads store) (Recalls env store) (Some before) (env.observed at).disk old)
+        (still : (env.observed now).disk.files ≡ (env.observed mid).disk.files) where
       mode : old.mode ≡ open_mode
       mode = sym represents.memory_is.mode ∙ ap mode_of is_open
 
-      writes : WritesOn env store before (env.tells at).disk
+      writes : WritesOn env store before (env.observed at).disk
       writes = represents.memory_is.writes mode
 
-      all : (env.tells now).disk.files ≡ synced (log_path store) (env.tells at).disk.files
-      all = still ∙ flushed.flushed.does.ok told ∙ ap (λ name. synced name (env.tells at).disk.files) writes.name
+      all : (env.observed now).disk.files ≡ synced (log_path store) (env.observed at).disk.files
+      all = still ∙ flushed.flushed.does.ok told ∙ ap (λ name. synced name (env.observed at).disk.files) writes.name
 
-      but_log : SameBut (log_path store) (env.tells at).disk.files (env.tells now).disk.files
-      but_log = SameBut-synced (log_path store) (env.tells at).disk.files (env.tells now).disk.files (inr all)
+      but_log : SameBut (log_path store) (env.observed at).disk.files (env.observed now).disk.files
+      but_log = SameBut-synced (log_path store) (env.observed at).disk.files (env.observed now).disk.files (inr all)
 
-      synced_bytes : SameBytes (env.tells at).disk.files (env.tells now).disk.files
-      synced_bytes = bytes_synced (log_path store) (env.tells at).disk.files (env.tells now).disk.files all
+      synced_bytes : SameBytes (env.observed at).disk.files (env.observed now).disk.files
+      synced_bytes = bytes_synced (log_path store) (env.observed at).disk.files (env.observed now).disk.files all
 
       same_lock : lock ≡ lock_path store
       same_lock = lock_is ∙ ap (λ (e : Engine E C FP F I D). string_bytes e.lock) only ∙ represents.memory_is.lock
 
       -- broken, with all covered, where the lock is as it was
-      broke_now : (env.tells now).disk.locked ≡ (env.tells mid).disk.locked → StandsFor store (Reads store) (env.tells now).disk (broke old (length old.history))
-      broke_now same_locks = broke_covered store (env.tells at).disk (env.tells now).disk old represents.disk_is writes.file writes.there mode all
+      broke_now : (env.observed now).disk.locked ≡ (env.observed mid).disk.locked → StandsFor store (Reads store) (env.observed now).disk (broke old (length old.history))
+      broke_now same_locks = broke_covered store (env.observed at).disk (env.observed now).disk old represents.disk_is mode all
           (ap (λ (locked : List ℕ → Bool). locked (lock_path store)) (same_locks ∙ flushed.flushed.locks told) ∙ represents.disk_is.locked)
 
       -- closed, with all covered, where the lock is free
-      ended_now : (env.tells now).disk.locked ≡ lock_set lock false (env.tells mid).disk.locked → StandsFor store (Reads store) (env.tells now).disk (ended old (length old.history) false)
-      ended_now relocked = ended_covered store (env.tells at).disk (env.tells now).disk old represents.disk_is writes.file writes.there mode all false
-          (ap (λ (locked : List ℕ → Bool). locked (lock_path store)) relocked ∙ ap (λ l. lock_set l false (env.tells mid).disk.locked (lock_path store)) same_lock ∙ freed (lock_path store) (env.tells mid).disk.locked)
+      ended_now : (env.observed now).disk.locked ≡ lock_set lock false (env.observed mid).disk.locked → StandsFor store (Reads store) (env.observed now).disk (ended old (length old.history) false)
+      ended_now relocked = ended_covered store (env.observed at).disk (env.observed now).disk old represents.disk_is mode all false
+          (ap (λ (locked : List ℕ → Bool). locked (lock_path store)) relocked ∙ ap (λ l. lock_set l false (env.observed mid).disk.locked (lock_path store)) same_lock ∙ freed (lock_path store) (env.observed mid).disk.locked)
 
     -- the moments of both
-    given_back : {result : Result (Unit {0}) Status} (told : IsTrue env.tells_disk) (store : List ℕ) (old : State) (represents : Represents store (Reads store) (Recalls env store) (Some before) (env.tells at).disk old)
-        → Does env.tells_disk same Still (env.tells mid) (env.tells now) result → Run (IsSpared store (Reads store) old (risk_at old.history (old.last + 0))) (env.tells at) (env.tells now)
+    given_back : {result : Result (Unit {0}) Status} (told : IsTrue env.models_disk) (store : List ℕ) (old : State) (represents : Represents store (Reads store) (Recalls env store) (Some before) (env.observed at).disk old)
+        → ChangesFiles env.models_disk same FilesUnchanged (env.observed mid) (env.observed now) result → Run (IsSpared store (Reads store) old (risk_at old.history (old.last + 0))) (env.observed at) (env.observed now)
     given_back told store old represents does =
         let run = sync_moments env store before at old (open_store env store before at old is_open represents) mid told flushed.flushed.does in
         call told run (λ files still. subst (IsSpared store (Reads store) old (risk_at old.history (old.last + 0))) (sym still) run.has) does
 
     -- it was refused: the store is broken
-    pub unlock_refused : (status : Status) → Does {T = Unit {0}} env.tells_disk same Still (env.tells mid) (env.tells now) (Err status)
-        → Relocks {T = Unit {0}} env.tells_disk (lock_set lock false) (env.tells mid) (env.tells now) (Err status) → HasCause {T = Unit {0}} (λ _. ⊥) (env.failures mid) (env.failures now) (Err status)
+    pub unlock_refused : (status : Status) → ChangesFiles {T = Unit {0}} env.models_disk same FilesUnchanged (env.observed mid) (env.observed now) (Err status)
+        → ChangesLocks {T = Unit {0}} env.models_disk (lock_set lock false) (env.observed mid) (env.observed now) (Err status) → HasCause {T = Unit {0}} (λ _. ⊥) (env.failures mid) (env.failures now) (Err status)
         → Answers env cmp (Some before) at close (refused (refusal_of status)) (Some (record after { mode = Broken })) now
     unlock_refused status does relocks caused store told old represents =
         let is = mode told store old represents (does.now told) in
@@ -191,7 +199,7 @@ module _ {E C FP F I : Type 0} {D : I → Type 0} (env : Ghosts E F) (cmp : List
           new = broke old (length old.history);
           represents = record {
             disk_is = broke_now told store old represents (does.now told) (relocks told);
-            memory_is = recalls_broke store before (record after { mode = Broken }) (env.tells at).disk (env.tells now).disk old (length old.history) represents.memory_is is (ap (λ (e : Engine E C FP F I D). record e { mode = Broken }) only) refl;
+            memory_is = recalls_broke store before (record after { mode = Broken }) (env.observed at).disk (env.observed now).disk old (length old.history) represents.memory_is is (ap (λ (e : Engine E C FP F I D). record e { mode = Broken }) only) refl;
           };
           step = record {
             later = omega (arith, caused.later);
@@ -199,13 +207,13 @@ module _ {E C FP F I : Type 0} {D : I → Type 0} (env : Ghosts E F) (cmp : List
           };
           moments = given_back told store old represents does;
           files = record { untouched = λ never. absurd never; refused = λ never. absurd never; stopped = λ not_open takes. absurd (not_open is); bytes = λ syncing. synced_bytes told store old represents (does.now told) };
-          others = others_but_log store (env.tells at).disk (env.tells now).disk (but_log told store old represents (does.now told)) (relocks told ∙ flushed.flushed.locks told);
-          beside = λ opens_not. beside_but store (env.tells at).disk.files (env.tells now).disk.files (but_log told store old represents (does.now told));
+          others = others_but_log store (env.observed at).disk (env.observed now).disk (but_log told store old represents (does.now told)) (relocks told ∙ flushed.flushed.locks told);
+          beside = λ opens_not. beside_but store (env.observed at).disk.files (env.observed now).disk.files (but_log told store old represents (does.now told));
         }
 
     -- it was done: the store is closed
-    pub unlocked : Does {T = Unit {0}} env.tells_disk same Still (env.tells mid) (env.tells now) (Ok tt)
-        → Relocks {T = Unit {0}} env.tells_disk (lock_set lock false) (env.tells mid) (env.tells now) (Ok tt) → HasCause {T = Unit {0}} (λ _. ⊥) (env.failures mid) (env.failures now) (Ok tt)
+    pub unlocked : ChangesFiles {T = Unit {0}} env.models_disk same FilesUnchanged (env.observed mid) (env.observed now) (Ok tt)
+        → ChangesLocks {T = Unit {0}} env.models_disk (lock_set lock false) (env.observed mid) (env.observed now) (Ok tt) → HasCause {T = Unit {0}} (λ _. ⊥) (env.failures mid) (env.failures now) (Ok tt)
         → Answers env cmp (Some before) at close done (Some (record after { mode = Closed })) now
     unlocked does relocks caused store told old represents =
         let is = mode told store old represents (does.now told) in
@@ -214,7 +222,7 @@ module _ {E C FP F I : Type 0} {D : I → Type 0} (env : Ghosts E F) (cmp : List
           new = ended old (length old.history) false;
           represents = record {
             disk_is = ended_now told store old represents (does.now told) (relocks told);
-            memory_is = recalls_ended store before (record after { mode = Closed }) (env.tells at).disk (env.tells now).disk old (length old.history) false represents.memory_is (ap (λ (e : Engine E C FP F I D). record e { mode = Closed }) only) refl;
+            memory_is = recalls_ended store before (record after { mode = Closed }) (env.observed at).disk (env.observed now).disk old (length old.history) false represents.memory_is (ap (λ (e : Engine E C FP F I D). record e { mode = Closed }) only) refl;
           };
           step = record {
             later = omega (arith, caused.later);
@@ -222,11 +230,11 @@ module _ {E C FP F I : Type 0} {D : I → Type 0} (env : Ghosts E F) (cmp : List
           };
           moments = with_none env store before at old (open_store env store before at old is_open represents) now (given_back told store old represents does);
           files = record { untouched = λ never. absurd never; refused = λ never. absurd never; stopped = λ not_open takes. absurd (not_open is); bytes = λ syncing. synced_bytes told store old represents (does.now told) };
-          others = others_with store (env.tells at).disk (env.tells now).disk (but_log told store old represents (does.now told))
+          others = others_with store (env.observed at).disk (env.observed now).disk (but_log told store old represents (does.now told))
               (λ name differs. ap (λ (locked : List ℕ → Bool). locked name) (relocks told)
-              ∙ freed_other lock name (env.tells mid).disk.locked (λ e. differs (e ∙ same_lock told store old represents (does.now told)))
+              ∙ freed_other lock name (env.observed mid).disk.locked (λ e. differs (e ∙ same_lock told store old represents (does.now told)))
               ∙ ap (λ (locked : List ℕ → Bool). locked name) (flushed.flushed.locks told));
-          beside = λ opens_not. beside_but store (env.tells at).disk.files (env.tells now).disk.files (but_log told store old represents (does.now told));
+          beside = λ opens_not. beside_but store (env.observed at).disk.files (env.observed now).disk.files (but_log told store old represents (does.now told));
         }
 
   -- ---- a store that is abandoned
@@ -239,23 +247,23 @@ module _ {E C FP F I : Type 0} {D : I → Type 0} (env : Ghosts E F) (cmp : List
         new = old;
         represents = record { disk_is = represents.disk_is; memory_is = is };
         step = record { later = omega arith; step = subst (λ m. StepIn cmp m (faults_between (env.failures at) (env.failures at)) old abandon done old) (sym is) (refl, refl) };
-        moments = moments_none store abandon old (env.tells at) represents.disk_is;
-        files = spared_still abandon done old old (env.tells at).disk.files;
-        others = others_still store (env.tells at).disk;
+        moments = moments_none store abandon old (env.observed at) represents.disk_is;
+        files = spared_still abandon done old old (env.observed at).disk.files;
+        others = others_still store (env.observed at).disk;
         beside = λ opens_not path apart. refl;
       }
 
   module _ (before : Engine E C FP F I D) (at now : E) (differs : before.mode ≡ Closed → ⊥) (lock : List ℕ) (lock_is : lock ≡ string_bytes before.lock) where
     -- the lock wasn't given back
-    pub abandon_refused : (status : Status) → Does {T = Unit {0}} env.tells_disk same Still (env.tells at) (env.tells now) (Err status)
-        → Relocks {T = Unit {0}} env.tells_disk (lock_set lock false) (env.tells at) (env.tells now) (Err status) → HasCause {T = Unit {0}} (λ _. ⊥) (env.failures at) (env.failures now) (Err status)
+    pub abandon_refused : (status : Status) → ChangesFiles {T = Unit {0}} env.models_disk same FilesUnchanged (env.observed at) (env.observed now) (Err status)
+        → ChangesLocks {T = Unit {0}} env.models_disk (lock_set lock false) (env.observed at) (env.observed now) (Err status) → HasCause {T = Unit {0}} (λ _. ⊥) (env.failures at) (env.failures now) (Err status)
         → Answers env cmp (Some before) at abandon (refused (refusal_of status)) None now
     abandon_refused status does relocks caused store told old represents =
         let cause = unlock_cause (env.failures at) (env.failures at) (env.failures now) old abandon status tt refl caused in
         record {
           new = ended old old.covered old.locked;
           represents = record {
-            disk_is = ended_still store (env.tells at).disk (env.tells now).disk old represents.disk_is (does.now told) old.locked (ap (λ (locked : List ℕ → Bool). locked (lock_path store)) (relocks told) ∙ represents.disk_is.locked);
+            disk_is = ended_still store (env.observed at).disk (env.observed now).disk old represents.disk_is (does.now told) old.locked (ap (λ (locked : List ℕ → Bool). locked (lock_path store)) (relocks told) ∙ represents.disk_is.locked);
             memory_is = refl;
           };
           step = record {
@@ -265,21 +273,21 @@ module _ {E C FP F I : Type 0} {D : I → Type 0} (env : Ghosts E F) (cmp : List
           };
           moments = moments_still store old told represents.disk_is does;
           files = record { untouched = λ touches. does.now told; refused = λ never. absurd never; stopped = λ not_open takes. does.now told; bytes = λ never. absurd never };
-          others = others_but_log store (env.tells at).disk (env.tells now).disk (but_same (log_path store) (env.tells at).disk.files (env.tells now).disk.files (does.now told)) (relocks told);
-          beside = λ opens_not. beside_but store (env.tells at).disk.files (env.tells now).disk.files (but_same (log_path store) (env.tells at).disk.files (env.tells now).disk.files (does.now told));
+          others = others_but_log store (env.observed at).disk (env.observed now).disk (but_same (log_path store) (env.observed at).disk.files (env.observed now).disk.files (does.now told)) (relocks told);
+          beside = λ opens_not. beside_but store (env.observed at).disk.files (env.observed now).disk.files (but_same (log_path store) (env.observed at).disk.files (env.observed now).disk.files (does.now told));
         }
 
     -- the lock is free
-    pub abandoned : Does {T = Unit {0}} env.tells_disk same Still (env.tells at) (env.tells now) (Ok tt)
-        → Relocks {T = Unit {0}} env.tells_disk (lock_set lock false) (env.tells at) (env.tells now) (Ok tt) → HasCause {T = Unit {0}} (λ _. ⊥) (env.failures at) (env.failures now) (Ok tt)
+    pub abandoned : ChangesFiles {T = Unit {0}} env.models_disk same FilesUnchanged (env.observed at) (env.observed now) (Ok tt)
+        → ChangesLocks {T = Unit {0}} env.models_disk (lock_set lock false) (env.observed at) (env.observed now) (Ok tt) → HasCause {T = Unit {0}} (λ _. ⊥) (env.failures at) (env.failures now) (Ok tt)
         → Answers env cmp (Some before) at abandon done None now
     abandoned does relocks caused store told old represents =
         let same_lock : lock ≡ lock_path store = lock_is ∙ represents.memory_is.lock in
         record {
           new = ended old old.covered false;
           represents = record {
-            disk_is = ended_still store (env.tells at).disk (env.tells now).disk old represents.disk_is (does.now told) false
-                (ap (λ (locked : List ℕ → Bool). locked (lock_path store)) (relocks told) ∙ ap (λ l. lock_set l false (env.tells at).disk.locked (lock_path store)) same_lock ∙ freed (lock_path store) (env.tells at).disk.locked);
+            disk_is = ended_still store (env.observed at).disk (env.observed now).disk old represents.disk_is (does.now told) false
+                (ap (λ (locked : List ℕ → Bool). locked (lock_path store)) (relocks told) ∙ ap (λ l. lock_set l false (env.observed at).disk.locked (lock_path store)) same_lock ∙ freed (lock_path store) (env.observed at).disk.locked);
             memory_is = refl;
           };
           step = record {
@@ -289,14 +297,14 @@ module _ {E C FP F I : Type 0} {D : I → Type 0} (env : Ghosts E F) (cmp : List
           };
           moments = moments_still store old told represents.disk_is does;
           files = record { untouched = λ touches. does.now told; refused = λ never. absurd never; stopped = λ not_open takes. does.now told; bytes = λ never. absurd never };
-          others = others_with store (env.tells at).disk (env.tells now).disk (but_same (log_path store) (env.tells at).disk.files (env.tells now).disk.files (does.now told))
-              (λ name apart. ap (λ (locked : List ℕ → Bool). locked name) (relocks told) ∙ freed_other lock name (env.tells at).disk.locked (λ e. apart (e ∙ same_lock)));
-          beside = λ opens_not. beside_but store (env.tells at).disk.files (env.tells now).disk.files (but_same (log_path store) (env.tells at).disk.files (env.tells now).disk.files (does.now told));
+          others = others_with store (env.observed at).disk (env.observed now).disk (but_same (log_path store) (env.observed at).disk.files (env.observed now).disk.files (does.now told))
+              (λ name apart. ap (λ (locked : List ℕ → Bool). locked name) (relocks told) ∙ freed_other lock name (env.observed at).disk.locked (λ e. apart (e ∙ same_lock)));
+          beside = λ opens_not. beside_but store (env.observed at).disk.files (env.observed now).disk.files (but_same (log_path store) (env.observed at).disk.files (env.observed now).disk.files (does.now told));
         }
 
     -- either
-    pub abandon_answers : (result : Result (Unit {0}) Status) → Does env.tells_disk same Still (env.tells at) (env.tells now) result
-        → Relocks env.tells_disk (lock_set lock false) (env.tells at) (env.tells now) result → HasCause (λ _. ⊥) (env.failures at) (env.failures now) result
+    pub abandon_answers : (result : Result (Unit {0}) Status) → ChangesFiles env.models_disk same FilesUnchanged (env.observed at) (env.observed now) result
+        → ChangesLocks env.models_disk (lock_set lock false) (env.observed at) (env.observed now) result → HasCause (λ _. ⊥) (env.failures at) (env.failures now) result
         → Answers env cmp (Some before) at abandon (done_or result) None now
     abandon_answers (Ok nothing) does relocks caused = abandoned does relocks caused
     abandon_answers (Err status) does relocks caused = abandon_refused status does relocks caused

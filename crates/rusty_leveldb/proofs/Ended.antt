@@ -1,17 +1,14 @@
 -- What disk and state are when a store broke at a sync or at its close, or was closed.
-use Rattle.std.proofs.Common.{◌≡◌, ◌≤◌, ◌+◌, ⊎_elim, ℕ, Bool, List, length, refl, sym, ◌∙◌, ap, subst, arith, Some, None}
-use Rattle.leveldb_base.specs.History.{Entry, IsHistory, with_batch, greatest, entries_of, count_of}
+use Rattle.std.proofs.Common.{◌≡◌, ◌≤◌, ◌+◌, ℕ, Bool, List, length, refl, sym, subst, arith, None}
+use Rattle.leveldb_base.specs.History.{IsHistory, with_batch, greatest, entries_of, count_of}
 use Rattle.leveldb_base.proofs.HistoryLemmas.{in_none}
-use Rattle.leveldb_env.specs.Disk.{File, Files, Disk, synced, file_kept}
-use Rattle.leveldb_env.specs.FileLaws.{synced-same}
-use Rattle.rusty_leveldb.specs.Contents.{made}
-use Rattle.rusty_leveldb.specs.Names.{lock_path}
+use Rattle.leveldb_env.specs.Env.{Disk, synced}
+use Rattle.leveldb_version.specs.Paths.{lock_path}
 use Rattle.rusty_leveldb.specs.OneLog.{log_path}
-use Rattle.rusty_leveldb.specs.Holds.{Holds, HasStore, KeepsStore, Carries}
+use Rattle.leveldb_version.specs.Holds.{Holds}
 use Rattle.rusty_leveldb.specs.State.{State, IsState, SuitsMode, open_mode, broken}
 use Rattle.rusty_leveldb.specs.Machine.{closed_state}
 use Rattle.rusty_leveldb.specs.Serves.{Reads, StandsFor}
-use Rattle.rusty_leveldb.proofs.OneLog.Disks.{store_stays, log_is_store}
 use Rattle.rusty_leveldb.proofs.OneLog.Writing.{synced_holds}
 
 -- ---- states
@@ -56,21 +53,13 @@ module _ (store : List ℕ) where
   module _ (disk now : Disk) (old : State) (stands : StandsFor store (Reads store) disk old) where
     -- where the files are as they were
     module _ (same : now.files ≡ disk.files) where
-      still_holds : Holds store (Reads store) now.files old.history old.last old.covered old.pending
-      still_holds = subst (λ files. Holds store (Reads store) files old.history old.last old.covered old.pending) (sym same) stands.holds
-
-      still_has : HasStore store (Reads store) old.store now.files
-      still_has = subst (λ files. HasStore store (Reads store) old.store files) (sym same) stands.has_store
-
-      still_keeps : KeepsStore store (Reads store) old.store now.files
-      still_keeps = subst (λ files. KeepsStore store (Reads store) old.store files) (sym same) stands.keeps
+      still_holds : Holds store (Reads store) (λ there. there ≡ old.store) now.files old.history old.last old.covered old.pending
+      still_holds = subst (λ files. Holds store (Reads store) (λ there. there ≡ old.store) files old.history old.last old.covered old.pending) (sym same) stands.holds
 
       pub broke_still : old.mode ≡ open_mode → now.locked (lock_path store) ≡ old.locked → StandsFor store (Reads store) now (broke old old.covered)
       broke_still opened locked = record {
         is_state = is_broke old old.covered stands.is_state opened stands.is_state.covered;
-        holds = subst (λ batch. Holds store (Reads store) now.files old.history old.last old.covered batch) (when_open old stands.is_state opened).0 still_holds;
-        has_store = still_has;
-        keeps = still_keeps;
+        holds = subst (λ batch. Holds store (Reads store) (λ there. there ≡ old.store) now.files old.history old.last old.covered batch) (when_open old stands.is_state opened).0 still_holds;
         locked = locked;
       }
 
@@ -78,53 +67,25 @@ module _ (store : List ℕ) where
       ended_still locked is = record {
         is_state = is_ended old old.covered locked stands.is_state stands.is_state.covered;
         holds = still_holds;
-        has_store = still_has;
-        keeps = still_keeps;
         locked = is;
       }
 
     -- where the log of an open store was synced
-    module _ (file : File) (there : disk.files (log_path store) ≡ Some file) (opened : old.mode ≡ open_mode) (all : now.files ≡ synced (log_path store) disk.files) where
-      synced_there : now.files (log_path store) ≡ Some (file_kept file)
-      synced_there = ap (λ (files : Files). files (log_path store)) all ∙ synced-same (log_path store) disk.files file there
-
-      covered_holds : Holds store (Reads store) now.files old.history old.last (length old.history) None
+    module _ (opened : old.mode ≡ open_mode) (all : now.files ≡ synced (log_path store) disk.files) where
+      covered_holds : Holds store (Reads store) (λ there. there ≡ old.store) now.files old.history old.last (length old.history) None
       covered_holds = synced_holds store disk.files old.history old.last old.covered
-          (subst (λ batch. Holds store (Reads store) disk.files old.history old.last old.covered batch) (when_open old stands.is_state opened).0 stands.holds) stands.is_state.covered now.files all
-
-      -- the store that is there is a log
-      is_made : old.store ≡ made None
-      is_made = by stands.holds
-        where
-          of : {history : List (List Entry)} {bound : ℕ} → Carries store (Reads store) bound history disk.files → old.store ≡ made None
-          of c = sym (stands.has_store c.contents c.read) ∙ log_is_store store file disk.files there c.contents c.read
-
-          by : Holds store (Reads store) disk.files old.history old.last old.covered old.pending → old.store ≡ made None
-          by holds = ⊎_elim (λ c. of c) (λ c. of c) holds.now
-
-      covered_has : HasStore store (Reads store) old.store now.files
-      covered_has contents read = log_is_store store (file_kept file) now.files synced_there contents read ∙ sym is_made
-
-      covered_keeps : KeepsStore store (Reads store) old.store now.files
-      covered_keeps = ⊎_elim (λ c. by c) (λ c. by c) covered_holds.now
-        where
-          by : {history : List (List Entry)} {bound : ℕ} → Carries store (Reads store) bound history now.files → KeepsStore store (Reads store) old.store now.files
-          by c = store_stays store old.store now.files c.contents c.read (covered_has c.contents c.read)
+          (subst (λ batch. Holds store (Reads store) (λ there. there ≡ old.store) disk.files old.history old.last old.covered batch) (when_open old stands.is_state opened).0 stands.holds) stands.is_state.covered now.files all
 
       pub broke_covered : now.locked (lock_path store) ≡ old.locked → StandsFor store (Reads store) now (broke old (length old.history))
       broke_covered locked = record {
         is_state = is_broke old (length old.history) stands.is_state opened (omega arith);
         holds = covered_holds;
-        has_store = covered_has;
-        keeps = covered_keeps;
         locked = locked;
       }
 
       pub ended_covered : (locked : Bool) → now.locked (lock_path store) ≡ locked → StandsFor store (Reads store) now (ended old (length old.history) locked)
       ended_covered locked is = record {
         is_state = is_ended old (length old.history) locked stands.is_state (omega arith);
-        holds = subst (λ batch. Holds store (Reads store) now.files old.history old.last (length old.history) batch) (sym (when_open old stands.is_state opened).0) covered_holds;
-        has_store = covered_has;
-        keeps = covered_keeps;
+        holds = subst (λ batch. Holds store (Reads store) (λ there. there ≡ old.store) now.files old.history old.last (length old.history) batch) (sym (when_open old stands.is_state opened).0) covered_holds;
         locked = is;
       }

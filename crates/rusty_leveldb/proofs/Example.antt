@@ -4,12 +4,12 @@ use Rattle.std.proofs.lemmas.List.Elements.{All-nil, All-cons}
 use Rattle.std.specs.declared.cmp.Ordering.{Ordering}
 use Rattle.leveldb_base.specs.History.{Entry, HasValueAt}
 use Rattle.leveldb_base.proofs.HistoryLemmas.{in_front}
-use Rattle.rusty_leveldb.specs.Contents.{made}
+use Rattle.leveldb_version.specs.Contents.{made}
 use Rattle.rusty_leveldb.specs.State.{State, Opening, open_store, write, get, done, found, open_mode, closed}
 use Rattle.rusty_leveldb.specs.Causes.{Faults, Misfits, IsLongKey, IsLongBatch}
 use Rattle.rusty_leveldb.specs.Machine.{Step}
 use Rattle.rusty_leveldb.specs.Runs.{Event, StopsAt, Lives, new_state}
-use Rattle.rusty_leveldb.specs.Laws.{SyncedIsFound, told_at, written_and_found}
+use Rattle.rusty_leveldb.specs.Laws.{SyncedCanBeFound, told_at, written_and_found}
 
 not_false : (b : Bool) → IsTrue b → b ≡ false → ⊥
 not_false true t e = absurd (cc)
@@ -53,7 +53,7 @@ module _ (cmp : List ℕ → List ℕ → Ordering) (opening : Opening) (key val
         fits = (fits, compresses);
         free = refl;
         may = create;
-        stays = tt;
+        stays = inr (refl, tt);
         store = tt;
         joins = inl refl;
         reached = omega arith;
@@ -65,7 +65,7 @@ module _ (cmp : List ℕ → List ℕ → Ordering) (opening : Opening) (key val
   }
 
   writes : Step cmp quiet opened (write (record { key = key; value = Some value } ∷ []) true) done written
-  writes = record { later = omega arith; step = (small, record { state = refl; covered = inr refl; synced = λ t. refl }) }
+  writes = record { later = omega arith; step = (small, record { numbers = omega arith; state = refl; covered = inr refl; synced = λ t. refl }) }
 
   opens_again : Step cmp quiet left (open_store opening) done written
   opens_again = record {
@@ -76,7 +76,7 @@ module _ (cmp : List ℕ → List ℕ → Ordering) (opening : Opening) (key val
         fits = (fits, compresses);
         free = refl;
         may = there;
-        stays = refl;
+        stays = inl refl;
         store = tt;
         joins = inl refl;
         reached = omega arith;
@@ -109,7 +109,7 @@ module _ (cmp : List ℕ → List ℕ → Ordering) (opening : Opening) (key val
     failures = 0;
     state = written;
     run = (opened, opens_first, (written, writes, (refl, refl)));
-    crash = (written, finds, (refl, refl), record { beginning = record { count = 1; enough = omega arith; there = omega arith; first = refl }; stays = refl; state = refl });
+    crash = (written, finds, (refl, refl), record { prefix = record { count = 1; enough = omega arith; there = omega arith; first = refl }; stays = refl; state = refl });
   }
 
   lives : Lives cmp 0 new_state (written_and_found opening key value) 0 written
@@ -120,5 +120,5 @@ module _ (cmp : List ℕ → List ℕ → Ordering) (opening : Opening) (key val
     (0, written, (written, opens_again, (written, finds, (refl, refl))), (refl, refl)),
   )
 
-pub synced_is_found : SyncedIsFound
-synced_is_found cmp opening key value short small fits compresses create there = (written cmp opening key value short small fits compresses create there, lives cmp opening key value short small fits compresses create there)
+pub synced_can_be_found : SyncedCanBeFound
+synced_can_be_found cmp opening key value short small fits compresses create there = (written cmp opening key value short small fits compresses create there, lives cmp opening key value short small fits compresses create there)

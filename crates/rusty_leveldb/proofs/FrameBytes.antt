@@ -3,7 +3,7 @@ use Rattle.std.proofs.Common.{◌-◌, ◌<◌, ℕ, zero, suc, Bool, true, fals
 use Rattle.std.specs.Prelude.{replicate}
 use Rattle.std.specs.Int.{byte_at, bytes_low_first}
 use Rattle.leveldb_base.specs.Crc.{crc_of, masked}
-use Rattle.leveldb_env.specs.Disk.{AreBytes}
+use Rattle.leveldb_env.specs.Env.{AreBytes}
 use Rattle.leveldb_mem.specs.Log.{header_size, filler, room, Fragment, record_type, checksum, fragment_bytes, fragment_at, framed_within, framed_record}
 use Rattle.rusty_leveldb.proofs.OneLog.Appending.{bytes_take, bytes_append}
 

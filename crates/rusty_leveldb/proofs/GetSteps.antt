@@ -4,13 +4,12 @@ use Rattle.std.specs.Prelude.{IsErrAnd, Result, Ok, Err}
 use Rattle.std.specs.declared.cmp.Ordering.{Ordering}
 use Rattle.leveldb_base.specs.declared.error.Status.{Status}
 use Rattle.leveldb_base.specs.declared.error.StatusCode.TheVariants.{InvalidArgument}
-use Rattle.leveldb_base.specs.Error.{text_of}
+use Rattle.leveldb_base.specs.Error.{text_of, IsOutOfMemory}
 use Rattle.leveldb_base.specs.History.{Entry, entries_of, IsValueAt, SameView}
 use Rattle.leveldb_env.specs.declared.env.Env.{Ghosts}
-use Rattle.leveldb_env.specs.Disk.{Disk}
-use Rattle.leveldb_env.specs.Calls.{NoMemory}
-use Rattle.leveldb_mem.specs.Batch.{max_length}
-use Rattle.leveldb_mem.specs.Entries.{FindsNewest}
+use Rattle.leveldb_env.specs.Env.{Disk}
+use Rattle.leveldb_mem.specs.WriteBatch.{max_length}
+use Rattle.leveldb_mem.specs.MemTable.{FindsNewest}
 use Rattle.rusty_leveldb.specs.declared.db_impl.engine.Mode.{Mode}
 use Rattle.rusty_leveldb.specs.declared.db_impl.engine.Mode.TheVariants.{Open, Broken, Closed}
 use Rattle.rusty_leveldb.specs.declared.db_impl.engine.Engine.{Engine}
@@ -59,10 +58,10 @@ module _ {E C FP F I : Type 0} {D : I → Type 0} (env : Ghosts E F) (cmp : List
   still answer stays at store told old represents = record {
     new = old;
     represents = represents;
-    step = record { later = omega arith; step = stays store (env.tells at).disk old represents.disk_is.is_state represents.memory_is _ };
-    moments = moments_none store (get None key) old (env.tells at) represents.disk_is;
-    files = spared_still (get None key) answer old old (env.tells at).disk.files;
-    others = others_still store (env.tells at).disk;
+    step = record { later = omega arith; step = stays store (env.observed at).disk old represents.disk_is.is_state represents.memory_is _ };
+    moments = moments_none store (get None key) old (env.observed at) represents.disk_is;
+    files = spared_still (get None key) answer old old (env.observed at).disk.files;
+    others = others_still store (env.observed at).disk;
     beside = λ opens_not path differs. refl;
   }
 
@@ -90,10 +89,10 @@ module _ {E C FP F I : Type 0} {D : I → Type 0} (env : Ghosts E F) (cmp : List
     get_long (Ok value) fails long = absurd fails
     get_long (Err status) code long = long_refused status code long
 
-    starved_refused : (status : Status) → NoMemory status → AnswersStill env cmp engine (get None key) (refused (refusal_of status))
+    starved_refused : (status : Status) → IsOutOfMemory status → AnswersStill env cmp engine (get None key) (refused (refusal_of status))
     starved_refused status (code, none) = in_use (refused (refusal_of status)) usable (λ faults store old is remembers. (out_of_memory, (tt, code, ap text_of none), refl))
 
-    pub get_starved : (result : Result (Option (List ℕ)) Status) → IsErrAnd result NoMemory → AnswersStill env cmp engine (get None key) (found_or result)
+    pub get_starved : (result : Result (Option (List ℕ)) Status) → IsErrAnd result IsOutOfMemory → AnswersStill env cmp engine (get None key) (found_or result)
     get_starved (Ok value) fails = absurd fails
     get_starved (Err status) starved = starved_refused status starved
 

@@ -3,15 +3,15 @@ use Rattle.std.proofs.Common.{◌≡◌, ◌≤◌, ◌<◌, ◌+◌, ◌-◌, �
 use Rattle.std.specs.Prelude.{Contains}
 use Rattle.std.proofs.lemmas.List.Elements.{Contains-append_cases}
 use Rattle.leveldb_base.specs.History.{Item, Entry, placed, greatest, AreUpTo}
-use Rattle.leveldb_mem.specs.Batch.{Batch}
-use Rattle.leveldb_mem.specs.Entries.{Kept, Gains, AreNewTo}
-use Rattle.leveldb_mem.specs.EntryLaws.{new_behind}
+use Rattle.leveldb_mem.specs.WriteBatch.{Batch}
+use Rattle.leveldb_mem.specs.MemTable.{Kept, IsUnion, AreNewTo}
+use Rattle.leveldb_mem.proofs.EntryLemmas.{new_after}
 use Rattle.rusty_leveldb.specs.OneLog.{max_sequence}
 use Rattle.rusty_leveldb.specs.Recent.{Numbered, Follows, Inserts}
 use Rattle.rusty_leveldb.proofs.Histories.{up_to}
 
 -- all are up to the last of them
-pub up_to_more : (last : ℕ) (entries more after : List Entry) (n : ℕ) → AreUpTo last entries → Gains entries more after → last ≤ n → greatest more ≤ n → AreUpTo n after
+pub up_to_more : (last : ℕ) (entries more after : List Entry) (n : ℕ) → AreUpTo last entries → IsUnion entries more after → last ≤ n → greatest more ≤ n → AreUpTo n after
 up_to_more last entries more after n low gains le most entry there =
     ⊎_elim
     (λ (was : Contains entries entry). let a = low entry was in omega (arith, a))
@@ -32,14 +32,14 @@ greatest_none first (item ∷ items) none = absurd (omega arith)
 module _ (batch : Batch) (old : Numbered) (low : AreUpTo old.last old.kept.entries) (fits : old.last ≤ max_sequence) (follows : Follows old.last batch)
     (first count : ℕ) (first_is : first ≡ batch.first) (count_is : count ≡ length batch.items) where
   pub new_entries : AreNewTo old.kept.entries (placed first batch.items)
-  new_entries = new_behind old.last old.kept.entries first batch.items low (omega (arith, follows.above, first_is))
+  new_entries = new_after old.last old.kept.entries first batch.items low (omega (arith, follows.above, first_is))
 
-  module _ (after : Kept) (gains : Gains old.kept.entries (placed first batch.items) after.entries) where
+  module _ (after : Kept) (gains : IsUnion old.kept.entries (placed first batch.items) after.entries) where
     same : placed first batch.items ≡ placed batch.first batch.items
     same = ap (λ n. placed n batch.items) first_is
 
-    gained : Gains old.kept.entries (placed batch.first batch.items) after.entries
-    gained = subst (λ (more : List Entry). Gains old.kept.entries more after.entries) same gains
+    gained : IsUnion old.kept.entries (placed batch.first batch.items) after.entries
+    gained = subst (λ (more : List Entry). IsUnion old.kept.entries more after.entries) same gains
 
     module _ (some : 0 < count) where
       most : greatest (placed batch.first batch.items) ≡ first + (count - 1)

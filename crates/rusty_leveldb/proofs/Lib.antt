@@ -1,4 +1,7 @@
 pub mod Histories
+pub mod MachineLemmas
+pub mod RunsLemmas
+pub mod LawsLemmas
 mod Inserted
 pub mod Readings
 pub mod Bounds

@@ -1,5 +1,5 @@
 -- Lives of a store, one after another: they are one run of the machine if each crash was honest.
-use Rattle.std.proofs.Common.{◌≡◌, ◌<◌, ◌≤◌, ◌+◌, ◌-◌, inl, inr, ℕ, suc, Bool, List, [], ◌∷◌, ◌++◌, refl, sym, ◌∙◌, ap, subst, arith, Option, Some, None, Result, Ok, Err, IsTrue}
+use Rattle.std.proofs.Common.{◌≡◌, ◌<◌, ◌≤◌, ◌+◌, ◌-◌, ℕ, suc, Bool, List, [], ◌∷◌, ◌++◌, refl, sym, ◌∙◌, ap, subst, arith, Option, Some, None, Ok, Err, IsTrue}
 use Rattle.std.specs.Prelude.{◌↔◌, ◌⊎◌, All, map, Vec}
 use Rattle.std.specs.declared.alloc.Global.{Global}
 use Rattle.std.specs.declared.cmp.Ordering.{Ordering}
@@ -11,20 +11,20 @@ use Rattle.leveldb_base.specs.declared.error.StatusCode.TheVariants.{InvalidArgu
 use Rattle.leveldb_env.specs.declared.mem_env.record.RecordEnv.{RecordEnv}
 use Rattle.leveldb_env.specs.declared.mem_env.picks.Pick.{Pick}
 use Rattle.leveldb_env.specs.contracts.mem_env.record.RecordEnvEnv.TheImpl.{ghosts}
-use Rattle.leveldb_env.specs.Calls.{NoMemory}
-use Rattle.leveldb_env.specs.Disk.{Files, kept_file}
+use Rattle.leveldb_base.specs.Error.{IsOutOfMemory}
+use Rattle.leveldb_env.specs.Env.{Files, kept_file}
 use Rattle.leveldb_env.specs.Picks.{picked, tails_of}
-use Rattle.leveldb_env.specs.Record.{told_of, moment_of, failures_of, files_in, files_then, TellsTheSame}
+use Rattle.leveldb_env.specs.Record.{record_observed, moment_of, failures_of, files_in, files_then, SameObserved}
 use Rattle.rusty_leveldb.specs.declared.shell.crash_runs.Report.{Report}
 use Rattle.rusty_leveldb.specs.declared.shell.crash_runs.Life.{Life}
 use Rattle.rusty_leveldb.specs.State.{State, Opening, Request, Answer, closed}
-use Rattle.rusty_leveldb.specs.Holds.{IsHonest}
+use Rattle.leveldb_version.specs.Holds.{IsHonest}
 use Rattle.rusty_leveldb.specs.Runs as machine
 use Rattle.rusty_leveldb.specs.Runs.{Event, events_of, Run, CrashBefore, StopsAt, LifeLeads, Lives, new_state, goes_on, crashes}
 use Rattle.rusty_leveldb.specs.Serves.{Reads, StandsFor, Represents, IsConversation}
 use Rattle.rusty_leveldb.specs.Engine.{Recalls, IsStoreName, IsOpening}
 use Rattle.rusty_leveldb.specs.Shell.{NoCoder}
-use Rattle.rusty_leveldb.specs.Lives.{requests_of, IsLife, IsAlwaysLife, opening_of, ending_of, IsCrash, IsHonestCrash, IsNextDevice, IsReportOf, IsLifeOn, AreReports, AreReportsTo, AreReportsFromNone, IsLifeOf, AreLivesOf, AreOneRun, HasNoCrash, ReportsLives}
+use Rattle.rusty_leveldb.specs.Lives.{requests_of, IsLife, IsAlwaysLife, opening_of, ending_of, IsCrash, IsHonestCrash, IsNextDevice, IsReportOf, IsLifeOn, AreReports, AreReportsFromNone, IsLifeOf, AreLivesOf, AreOneRun, HasNoCrash, ReportsLives}
 use Rattle.rusty_leveldb.proofs.OneLog.LogFile.{front_honest}
 use Rattle.rusty_leveldb.proofs.Bounds.{nothing_stands}
 
@@ -91,12 +91,12 @@ closed_then : (cmp : List ℕ → List ℕ → Ordering) (failures : ℕ) (state
 closed_then cmp failures state [] end last new crash = ap (λ (s : State). s.mode) crash.2.state
 closed_then cmp failures state (next ∷ later) end last new crash = ap (λ (s : State). s.mode) crash.3.state
 
-same_disk : (device from : RecordEnv) → TellsTheSame device from → (told_of from).disk ≡ (told_of device).disk
+same_disk : (device from : RecordEnv) → SameObserved device from → (record_observed from).disk ≡ (record_observed device).disk
 same_disk device from same = λ i. record { files = same.files i; locked = same.locks i }
 
 -- the disk represents a state
 abbrev pub Stands : Type 0 → Type 0 → List ℕ → RecordEnv → State → Type 0
-Stands C FP store device old = Represents store (Reads store) (Recalls {C = C} {FP = FP} {I = Unit {0}} {D = NoCoder} ghosts store) None (told_of device).disk old
+Stands C FP store device old = Represents store (Reads store) (Recalls {C = C} {FP = FP} {I = Unit {0}} {D = NoCoder} ghosts store) None (record_observed device).disk old
 
 opens_so : (store : List ℕ) (fits create : Bool) → (IsTrue fits ↔ IsStoreName store) → IsOpening store create (opening_of fits create)
 opens_so store fits create name_fits = record { create = refl; exists = refl; fits = name_fits; compresses = refl }
@@ -146,7 +146,7 @@ module _ {C FP I : Type 0} {D : I → Type 0} (order : C → List ℕ → List �
     by_end (Some moment) ends follows =
         let crash = follows.crash in
         let at = start + moment in
-        let stops = lived.run.stops at (files_then to at life.pick.after) (told_of next).disk (omega (arith, is.same.moment))
+        let stops = lived.run.stops at (files_then to at life.pick.after) (record_observed next).disk (omega (arith, is.same.moment))
         (record { come = crash.come; stood = crash.stood; leaves = crash.leaves; honest = follows.honest; free = crash.fresh.free }) in
         let stopped = subst (λ n. StopsAt cmp n old lived.run.answered at (failures_of to) lived.run.new stops.0) is.same.failures stops.1 in
         join stops.0
@@ -172,7 +172,7 @@ kept_honest store files left is name was crashed journal same_was same_is =
     front_honest was [] was.since refl was crashed refl (sym (here ∙ ap (option_map (λ file. kept_file (file.kept ++ []))) same_was) ∙ same_is)
 
 honest_next : (store : List ℕ) (start : ℕ) (moment : Option ℕ) (pick : Pick) (to next : RecordEnv) → pick.tails.items ≡ [] → IsNextDevice IsCrash start moment pick to next → IsNextDevice (IsHonestCrash store) start moment pick to next
-honest_next store start None pick to next none follows = follows
+honest_next store _ None pick to next none follows = follows
 honest_next store start (Some moment) pick to next none crash =
     let files = files_then to (start + moment) pick.after in
     record { crash = crash; honest = kept_honest store files (files_in next) (crash.files ∙ ap (λ tails. picked (tails_of tails) files) none) }
@@ -184,7 +184,7 @@ module _ {C FP I : Type 0} {D : I → Type 0} (order : C → List ℕ → List �
   one_run lives reports are cmp fits name_fits orders =
       let first = are.1.first in
       let fresh = are.1.fresh in
-      let stands : StandsFor store (Reads store) (told_of first).disk new_state = nothing_stands store (told_of first).disk (are.1.empty _) (fresh.free _) in
+      let stands : StandsFor store (Reads store) (record_observed first).disk new_state = nothing_stands store (record_observed first).disk (are.1.empty _) (fresh.free _) in
       let all = lives_run order store cmp fits name_fits first lives reports are.0 new_state (record { disk_is = stands; memory_is = refl }) orders are.1.reports_are in
       (all.0, all.1, all.2, all.3, subst (λ n. Lives cmp n new_state all.0 all.2 all.3) fresh.failures all.4)
 
@@ -212,7 +212,7 @@ module _ {C FP I : Type 0} {D : I → Type 0} (order : C → List ℕ → List �
     error = tt;
   }
 
-  pub fails_for : (lives : List (Life C FP I D)) (e : Status) → NoMemory e ⊎ ((e.code ≡ InvalidArgument) × HasNoCrash ghosts order store lives) → ReportsLives ghosts order store lives (Err e)
+  pub fails_for : (lives : List (Life C FP I D)) (e : Status) → IsOutOfMemory e ⊎ ((e.code ≡ InvalidArgument) × HasNoCrash ghosts order store lives) → ReportsLives ghosts order store lives (Err e)
   fails_for lives e cause = record { reports = tt; run = tt; kept = tt; error = cause }
 
 -- the device that comes next, by whether the life has a crash

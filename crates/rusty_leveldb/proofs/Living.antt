@@ -1,5 +1,5 @@
 -- One life of a store: its opening, its commands one after another, and its end.
-use Rattle.std.proofs.Common.{◌≡◌, ◌-◌, ℕ, Bool, List, [], ◌∷◌, ◌++◌, refl, sym, ◌∙◌, ap, subst, Some, None, Ok, Err, IsTrue}
+use Rattle.std.proofs.Common.{◌≡◌, ◌-◌, ℕ, Bool, List, [], ◌∷◌, ◌++◌, sym, ◌∙◌, ap, subst, Some, None, Ok, Err, IsTrue}
 use Rattle.std.specs.Prelude.{map, OnErr}
 use Rattle.std.specs.declared.cmp.Ordering.{Ordering}
 use Rattle.std.proofs.lemmas.List.{map-append}
@@ -29,60 +29,60 @@ module _ {E F I : Type 0} {D : I → Type 0} (C FP : Type 0) (env : Ghosts E F) 
   -- so far the store was opened and these commands were given these replies
   abbrev pub LivesSoFar : E → Bool → List Command → List (ℕ × Reply) → List ℕ → Engine E C FP F I D → E → Type 0
   LivesSoFar from create commands replies given engine to = (opening : Opening) → IsOpening store create opening
-      → (old : State) → Represents store (Reads store) (Recalls {C = C} {FP = FP} {I = I} {D = D} env store) None (env.tells from).disk old
+      → (old : State) → Represents store (Reads store) (Recalls {C = C} {FP = FP} {I = I} {D = D} env store) None (env.observed from).disk old
       → (first : ℕ) × LeadsAt C FP env cmp store from (open_store opening ∷ map request_of commands) (done ∷ map (λ (reply : ℕ × Reply). answer_of reply.1) replies) (first ∷ given) (Some engine) to old
 
-module _ {E F I : Type 0} {D : I → Type 0} (C FP : Type 0) (env : Ghosts E F) (only_now : OnlyNow env) (tells : IsTrue env.tells_disk) (cmp : List ℕ → List ℕ → Ordering) (store : List ℕ) where
+module _ {E F I : Type 0} {D : I → Type 0} (C FP : Type 0) (env : Ghosts E F) (only_now : OnlyNow env) (modelled : IsTrue env.models_disk) (cmp : List ℕ → List ℕ → Ordering) (store : List ℕ) where
   pub lives_first : (from to : E) (create : Bool) (engine : Engine E C FP F I D) → OpensAs C FP env cmp store from create done (Some engine) to → LivesSoFar C FP env cmp store from create [] [] [] engine to
-  lives_first from to create engine opens opening is old represents = ((env.tells to).moment, first_at env only_now cmp store tells from to (Some engine) (open_store opening) done old represents (opens opening is))
+  lives_first from to create engine opens opening is old represents = ((env.observed to).moment, first_at env only_now cmp store modelled from to (Some engine) (open_store opening) done old represents (opens opening is))
 
   pub lives_more : (from mid to : E) (create : Bool) (commands : List Command) (replies : List (ℕ × Reply)) (given : List ℕ) (engine after : Engine E C FP F I D) (command : Command) (told : ℕ) (reply : Reply)
       → LivesSoFar C FP env cmp store from create commands replies given engine mid → Answers env cmp (Some engine) mid (request_of command) (answer_of reply) (Some after) to
-      → LivesSoFar C FP env cmp store from create (commands ++ command ∷ []) (replies ++ (told, reply) ∷ []) (given ++ (env.tells to).moment ∷ []) after to
+      → LivesSoFar C FP env cmp store from create (commands ++ command ∷ []) (replies ++ (told, reply) ∷ []) (given ++ (env.observed to).moment ∷ []) after to
   lives_more from mid to create commands replies given engine after command told reply lives answers_so opening is old represents =
       let led = lives opening is old represents in
-      let next = next_one env only_now cmp store tells None from mid to (open_store opening ∷ map request_of commands) (done ∷ map (λ (r : ℕ × Reply). answer_of r.1) replies) (led.0 ∷ given) (Some engine) (Some after)
+      let next = next_one env only_now cmp store modelled None from mid to (open_store opening ∷ map request_of commands) (done ∷ map (λ (r : ℕ × Reply). answer_of r.1) replies) (led.0 ∷ given) (Some engine) (Some after)
       (request_of command) (answer_of reply) old led.1 (answers_so store) in (
         led.0,
-        subst (λ as'. LeadsAt C FP env cmp store from (open_store opening ∷ map request_of (commands ++ command ∷ [])) (done ∷ as') (led.0 ∷ (given ++ (env.tells to).moment ∷ [])) (Some after) to old)
+        subst (λ as'. LeadsAt C FP env cmp store from (open_store opening ∷ map request_of (commands ++ command ∷ [])) (done ∷ as') (led.0 ∷ (given ++ (env.observed to).moment ∷ [])) (Some after) to old)
             (sym (map-append (λ (r : ℕ × Reply). answer_of r.1) replies ((told, reply) ∷ [])))
-            (subst (λ rs. LeadsAt C FP env cmp store from (open_store opening ∷ rs) (done ∷ (map (λ (r : ℕ × Reply). answer_of r.1) replies ++ answer_of reply ∷ [])) (led.0 ∷ (given ++ (env.tells to).moment ∷ [])) (Some after) to old)
+            (subst (λ rs. LeadsAt C FP env cmp store from (open_store opening ∷ rs) (done ∷ (map (λ (r : ℕ × Reply). answer_of r.1) replies ++ answer_of reply ∷ [])) (led.0 ∷ (given ++ (env.observed to).moment ∷ [])) (Some after) to old)
             (sym (map-append request_of commands (command ∷ []))) next),
       )
 
   -- the life ends
   pub lives_end : (from mid to : E) (create : Bool) (commands : List Command) (given : List ℕ) (engine : Engine E C FP F I D) (ending : Answer) (report : Report) → report.opened ≡ Ok tt
-      → Given (env.tells from).moment report.replies.items given → LivesSoFar C FP env cmp store from create commands report.replies.items given engine mid → Answers env cmp (Some engine) mid abandon ending None to
+      → Given (env.observed from).moment report.replies.items given → LivesSoFar C FP env cmp store from create commands report.replies.items given engine mid → Answers env cmp (Some engine) mid abandon ending None to
       → IsAlwaysLife C FP env cmp store from create commands report to
   lives_end from mid to create commands given engine ending report opened told lives answers_so opening is old represents =
-      let led = lives opening is old (no_other (env.tells from).disk old represents) in
-      let start = (env.tells from).moment in
+      let led = lives opening is old (no_other (env.observed from).disk old represents) in
+      let start = (env.observed from).moment in
       let replies = report.replies.items in
-      let next = next_one env only_now cmp store tells None from mid to (open_store opening ∷ map request_of commands) (done ∷ map (λ (r : ℕ × Reply). answer_of r.1) replies) (led.0 ∷ given) (Some engine) None
+      let next = next_one env only_now cmp store modelled None from mid to (open_store opening ∷ map request_of commands) (done ∷ map (λ (r : ℕ × Reply). answer_of r.1) replies) (led.0 ∷ given) (Some engine) None
       abandon ending old led.1 (answers_so store) in
       record {
         answers = done ∷ (map (λ (r : ℕ × Reply). answer_of r.1) replies ++ ending ∷ []);
-        moments = led.0 ∷ (given ++ (env.tells to).moment ∷ []);
+        moments = led.0 ∷ (given ++ (env.observed to).moment ∷ []);
         reported = record {
           first = led.0 - start;
-          last = (env.tells to).moment - start;
+          last = (env.observed to).moment - start;
           ending = ending;
           answers_are = ap (λ o. answers_of o replies ending) (sym opened);
-          moments_are = ap (λ ms. (led.0 - start) ∷ ms) (map-append (λ m. m - start) given ((env.tells to).moment ∷ []) ∙ ap (λ ms. ms ++ ((env.tells to).moment - start) ∷ []) (sym told))
-              ∙ ap (λ o. moments_of o replies (led.0 - start) ((env.tells to).moment - start)) (sym opened);
+          moments_are = ap (λ ms. (led.0 - start) ∷ ms) (map-append (λ m. m - start) given ((env.observed to).moment ∷ []) ∙ ap (λ ms. ms ++ ((env.observed to).moment - start) ∷ []) (sym told))
+              ∙ ap (λ o. moments_of o replies (led.0 - start) ((env.observed to).moment - start)) (sym opened);
           no_replies = subst (λ o. OnErr o (replies ≡ [])) (sym opened) tt;
         };
-        run = subst (λ o. LeadsAt C FP {I = Unit {0}} {D = NoCoder} env cmp store from (requests_of opening commands o) (done ∷ (map (λ (r : ℕ × Reply). answer_of r.1) replies ++ ending ∷ [])) (led.0 ∷ (given ++ (env.tells to).moment ∷ [])) None to old) (sym opened)
+        run = subst (λ o. LeadsAt C FP {I = Unit {0}} {D = NoCoder} env cmp store from (requests_of opening commands o) (done ∷ (map (λ (r : ℕ × Reply). answer_of r.1) replies ++ ending ∷ [])) (led.0 ∷ (given ++ (env.observed to).moment ∷ [])) None to old) (sym opened)
             (at_none C FP env only_now cmp store from (open_store opening ∷ (map request_of commands ++ abandon ∷ [])) (done ∷ (map (λ (r : ℕ × Reply). answer_of r.1) replies ++ ending ∷ []))
-            (led.0 ∷ (given ++ (env.tells to).moment ∷ [])) to old next);
+            (led.0 ∷ (given ++ (env.observed to).moment ∷ [])) to old next);
       }
 
   -- the store wasn't opened
   pub not_lived : (options : Options C FP I D) (from to : E) (create : Bool) (commands : List Command) (report : Report) (status : Status) → report.opened ≡ Err status → report.replies.items ≡ []
       → OpensAs C FP env cmp store from create (refused (refusal_of status)) (no_engine options) to → IsAlwaysLife C FP env cmp store from create commands report to
   not_lived options from to create commands report status opened none opens opening is old represents =
-      let start = (env.tells from).moment in
-      let last = (env.tells to).moment in
+      let start = (env.observed from).moment in
+      let last = (env.observed to).moment in
       record {
         answers = refused (refusal_of status) ∷ [];
         moments = last ∷ [];
@@ -96,5 +96,5 @@ module _ {E F I : Type 0} {D : I → Type 0} (C FP : Type 0) (env : Ghosts E F) 
         };
         run = subst (λ o. LeadsAt C FP {I = Unit {0}} {D = NoCoder} env cmp store from (requests_of opening commands o) (refused (refusal_of status) ∷ []) (last ∷ []) None to old) (sym opened)
             (at_none C FP env only_now cmp store from (open_store opening ∷ []) (refused (refusal_of status) ∷ []) (last ∷ []) to old
-            (first_at env only_now cmp store tells from to (no_engine options) (open_store opening) (refused (refusal_of status)) old (no_other (env.tells from).disk old represents) (opens opening is)));
+            (first_at env only_now cmp store modelled from to (no_engine options) (open_store opening) (refused (refusal_of status)) old (no_other (env.observed from).disk old represents) (opens opening is)));
       }

@@ -5,19 +5,18 @@
 use Rattle.std.proofs.Common.{◌≡◌, ◌≤◌, ℕ, zero, suc, List, [], ◌∷◌, ◌++◌, length, take, refl, sym, ◌∙◌, ap, subst, arith}
 use Rattle.std.proofs.lemmas.List.{length-take}
 use Rattle.leveldb_base.specs.History.{Entry, History, IsPrefixAtLeast}
-use Rattle.leveldb_env.specs.Disk.{Files, Disk}
-use Rattle.leveldb_env.specs.Times.{Told, Since}
-use Rattle.leveldb_env.specs.Runs.{Run, Run-mono, Run-trans, since_start}
-use Rattle.rusty_leveldb.specs.Contents.{Store, missing, made, Contents, Stays}
-use Rattle.rusty_leveldb.specs.Holds.{IsHonest, CarriesBeginning}
+use Rattle.leveldb_env.specs.Env.{Files, Disk, Observed, Since, Run}
+use Rattle.leveldb_env.proofs.EnvLemmas.{Run-mono, Run-trans, since_start}
+use Rattle.leveldb_version.specs.Contents.{Store, Contents}
+use Rattle.leveldb_version.specs.Holds.{IsHonest, CarriesPrefix}
 use Rattle.rusty_leveldb.specs.State.{State}
-use Rattle.rusty_leveldb.specs.Machine.{Risk, risk_between}
+use Rattle.rusty_leveldb.specs.Machine.{StaysOr, Risk, risk_between}
 use Rattle.rusty_leveldb.specs.Serves.{StandsFor, IsSpared}
-use Rattle.rusty_leveldb.proofs.Bounds.{carries_more}
+use Rattle.rusty_leveldb.proofs.Bounds.{carries_more, carries_allow}
 
 -- ---- a greater risk
 
--- the history of the one is a beginning of the other's, and so is its bound
+-- the history of the one is a prefix of the other's, and so is its bound
 pub record Grows (risk more : Risk) : Type 0 where
   pub count : ℕ
   pub there : count ≤ length more.history
@@ -31,16 +30,16 @@ take_twice (suc n) (suc k) [] few = refl
 take_twice (suc n) (suc k) (x ∷ xs) few = ap (λ ys. x ∷ ys) (take_twice n k xs (omega (arith, few)))
 
 -- with no batch more
-pub grows_same : (history : History) (bound more : ℕ) → bound ≤ more → Grows (record { history = history; bound = bound }) (record { history = history; bound = more })
-grows_same history bound more most = record { count = length history; there = omega arith; first = sym (whole history); bound = most }
+pub grows_same : (risk : Risk) (more : ℕ) → risk.bound ≤ more → Grows risk (record risk { bound = more })
+grows_same risk more most = record { count = length risk.history; there = omega arith; first = sym (whole risk.history); bound = most }
   where
     whole : (xs : History) → take (length xs) xs ≡ xs
     whole [] = refl
     whole (x ∷ xs) = ap (λ ys. x ∷ ys) (whole xs)
 
 -- with one batch more
-pub grows_by : (history : History) (batch : List Entry) (bound more : ℕ) → bound ≤ more → Grows (record { history = history; bound = bound }) (record { history = history ++ batch ∷ []; bound = more })
-grows_by history batch bound more most = record { count = length history; there = longer history; first = front history; bound = most }
+pub grows_by : (risk : Risk) (batch : List Entry) (more : ℕ) → risk.bound ≤ more → Grows risk (record risk { history = risk.history ++ batch ∷ []; bound = more })
+grows_by risk batch more most = record { count = length risk.history; there = longer risk.history; first = front risk.history; bound = most }
   where
     longer : (xs : History) → length xs ≤ length (xs ++ batch ∷ [])
     longer [] = omega arith
@@ -50,18 +49,13 @@ grows_by history batch bound more most = record { count = length history; there 
     front [] = refl
     front (x ∷ xs) = ap (λ ys. x ∷ ys) (front xs)
 
--- as it was, a store stays
-pub stays_as : (s : Store) → Stays s s
-stays_as missing = tt
-stays_as (made name) = refl
+-- the stores that a step may leave are some that the whole call may
+abbrev pub Allows : State → Risk → State → Risk → Type 0
+Allows middle risk old more = (there : Store) → StaysOr risk.opening middle.store there → StaysOr more.opening old.store there
 
-pub stays_then : (s t u : Store) → Stays s t → Stays t u → Stays s u
-stays_then missing t u first second = tt
-stays_then (made name) t u first second = subst (λ x. Stays x u) first second
-
--- a beginning of a beginning
-beginning_within : (least covered : ℕ) (risk more : Risk) (part : History) → least ≤ covered → Grows risk more → IsPrefixAtLeast covered risk.history part → IsPrefixAtLeast least more.history part
-beginning_within least covered risk more part few grows b =
+-- a prefix of a prefix
+prefix_within : (least covered : ℕ) (risk more : Risk) (part : History) → least ≤ covered → Grows risk more → IsPrefixAtLeast covered risk.history part → IsPrefixAtLeast least more.history part
+prefix_within least covered risk more part few grows b =
     let fits : b.count ≤ length (take grows.count more.history) = subst (λ h. b.count ≤ length h) grows.first b.there in
     let short = length-take grows.count more.history in
     record {
@@ -73,31 +67,28 @@ beginning_within least covered risk more part few grows b =
 
 module _ (store : List ℕ) (reads : Files → Contents → Type 0) where
   -- what is spared in a later step is spared in the whole call
-  pub spared_more : (old middle : State) (risk more : Risk) → old.covered ≤ middle.covered → Stays old.store middle.store → Grows risk more
+  pub spared_more : (old middle : State) (risk more : Risk) → old.covered ≤ middle.covered → Allows middle risk old more → Grows risk more
       → (files : Files) → IsSpared store reads middle risk files → IsSpared store reads old more files
-  spared_more old middle risk more few stays grows files spared = record {
-    carries = λ left leaves honest.
-        let c = spared.carries left leaves honest in
-        record {
-          part = c.part;
-          beginning = beginning_within old.covered middle.covered risk more c.part few grows c.beginning;
-          carries = carries_more store reads risk.bound more.bound grows.bound c.part left c.carries;
-        };
-    stays = λ left contents leaves honest read. stays_then old.store middle.store contents.store stays (spared.stays left contents leaves honest read);
-  }
+  spared_more old middle risk more few allows grows files spared left leaves honest =
+      let c = spared left leaves honest in
+      record {
+        part = c.part;
+        prefix = prefix_within old.covered middle.covered risk more c.part few grows c.prefix;
+        carries = carries_more store reads risk.bound more.bound grows.bound c.part left (carries_allow store reads risk.bound c.part left allows c.carries);
+      }
 
   -- One step after another: the first is spared with the state in which the call began, the second with the one between them.
-  pub steps_join : {first mid now : Told} (old middle : State) (risk more : Risk) → old.covered ≤ middle.covered → Stays old.store middle.store → Grows risk more
+  pub steps_join : {first mid now : Observed} (old middle : State) (risk more : Risk) → old.covered ≤ middle.covered → Allows old risk old more → Allows middle more old more → Grows risk more
       → Run (IsSpared store reads old risk) first mid → Run (IsSpared store reads middle more) mid now → Run (IsSpared store reads old more) first now
-  steps_join old middle risk more few stays grows before after = Run-trans
-      (Run-mono (spared_more old old risk more (omega arith) (stays_as old.store) grows) before)
-      (spared_more old middle more more few stays (grows_same more.history more.bound more.bound (omega arith))) after
+  steps_join old middle risk more few first then grows before after = Run-trans
+      (Run-mono (spared_more old old risk more (omega arith) first grows) before)
+      (spared_more old middle more more few then (grows_same more more.bound (omega arith))) after
 
   -- between two calls
   pub spared_now : (disk : Disk) (state : State) → StandsFor store reads disk state → IsSpared store reads state (risk_between state) disk.files
-  spared_now disk state stands = record { carries = stands.holds.crash; stays = stands.keeps }
+  spared_now disk state stands = stands.holds.crash
 
-  -- Each honest disk that a crash leaves since the call began carries a beginning of what is at risk, with all that was covered then.
-  pub spared_since : {first now : Told} (old : State) (risk : Risk) → Run (IsSpared store reads old risk) first now → ((files : Files) → now.stood now.moment files → files ≡ now.disk.files)
-      → (files left : Files) → Since now first.moment files left → IsHonest store files left → CarriesBeginning store reads risk.bound old.covered risk.history left
-  spared_since old risk run only files left since honest = (since_start run only since.0 files since.1 since.2 since.3).carries left since.4 honest
+  -- Each honest disk that a crash leaves since the call began carries a prefix of what is at risk, with all that was covered then.
+  pub spared_since : {first now : Observed} (old : State) (risk : Risk) → Run (IsSpared store reads old risk) first now → ((files : Files) → now.at_moment now.moment files → files ≡ now.disk.files)
+      → (files left : Files) → Since now first.moment files left → IsHonest store files left → CarriesPrefix store reads (StaysOr risk.opening old.store) risk.bound old.covered risk.history left
+  spared_since old risk run only files left since honest = since_start run only since.0 files since.1 since.2 since.3 left since.4 honest

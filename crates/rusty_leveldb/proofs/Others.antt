@@ -5,12 +5,11 @@ use Rattle.std.specs.Option.{option_map}
 use Rattle.std.specs.Str.{bytes_eq}
 use Rattle.std.specs.Cmp.Lexicographic.{bytes_decides}
 use Rattle.std.proofs.lemmas.List.{append_cancel_left}
-use Rattle.leveldb_env.specs.Disk.{File, Files, Disk, bytes_of, or_empty, file_kept, created, synced}
-use Rattle.leveldb_env.specs.Calls.{EitherSide}
-use Rattle.leveldb_env.specs.FileLaws.{SameBut, SameBut-created, bytes_eq-apart, at_same, at_other}
+use Rattle.leveldb_env.specs.Env.{File, Files, Disk, bytes_of, or_empty, file_kept, created, synced, BeforeOrAfter, SameBut}
+use Rattle.leveldb_env.proofs.EnvLemmas.{SameBut-created, bytes_eq-apart, at_same, at_other}
 use Rattle.leveldb_env.specs.WholeFiles.{Replacing}
 use Rattle.rusty_leveldb.specs.OneLog.{log_path, temp_path}
-use Rattle.rusty_leveldb.specs.Names.{lock_path}
+use Rattle.leveldb_version.specs.Paths.{lock_path}
 use Rattle.rusty_leveldb.specs.State.{State, Request, Answer}
 use Rattle.rusty_leveldb.specs.Serves.{SameBytes, SparesFiles, IsKeptOrMade, SparesOthers}
 use Rattle.rusty_leveldb.specs.Recovery.{ChangesLogAlone}
@@ -33,7 +32,7 @@ apart : (name path : List ℕ) → path ≢ name → bytes_eq name path ≡ fals
 apart name path differs = bytes_eq-apart name path (λ e. differs (sym e))
 
 -- where all files but the lock's are as they were, the log is
-pub log_kept : (store : List ℕ) (old files : Files) → EitherSide (created (lock_path store)) old files → files (log_path store) ≡ old (log_path store)
+pub log_kept : (store : List ℕ) (old files : Files) → BeforeOrAfter (created (lock_path store)) old files → files (log_path store) ≡ old (log_path store)
 log_kept store old files passes = SameBut-created (lock_path store) old files passes (log_path store) (bytes_eq-apart (lock_path store) (log_path store) (lock_not_log store))
 
 -- ---- a file that is kept or made
@@ -71,7 +70,7 @@ module _ (store : List ℕ) (old new : Disk) where
   others_but_log but locks = others_with but (λ path differs. ap (λ (locked : List ℕ → Bool). locked path) locks)
 
   -- the lock's file may have been made
-  pub others_made : EitherSide (created (lock_path store)) old.files new.files → ((path : List ℕ) → path ≢ lock_path store → new.locked path ≡ old.locked path) → SparesOthers store old new
+  pub others_made : BeforeOrAfter (created (lock_path store)) old.files new.files → ((path : List ℕ) → path ≢ lock_path store → new.locked path ≡ old.locked path) → SparesOthers store old new
   others_made passes locks = record {
     files = λ path log temp lock. SameBut-created (lock_path store) old.files new.files passes path (apart (lock_path store) path lock);
     lock_file = ⊎_elim (λ same. inl (ap (λ (f : Files). f (lock_path store)) same))

@@ -1,5 +1,5 @@
 -- Runs of commands, one request after another.
-use Rattle.std.proofs.Common.{◌≡◌, ◌<◌, ◌≤◌, ◌+◌, inl, inr, ⊎_elim, ℕ, suc, Bool, false, List, [], ◌∷◌, ◌++◌, length, take, append-nil, append_assoc, refl, sym, ◌∙◌, ap, subst, arith, Option, Some, None, Result, Ok, Err, IsTrue}
+use Rattle.std.proofs.Common.{◌≡◌, ◌<◌, ◌≤◌, ◌+◌, inl, inr, ⊎_elim, ℕ, suc, Bool, List, [], ◌∷◌, ◌++◌, length, take, append-nil, append_assoc, refl, sym, ◌∙◌, ap, subst, arith, Option, Some, None, Result, Ok, Err, IsTrue}
 use Rattle.std.specs.Prelude.{map, OnErr, All}
 use Rattle.std.proofs.lemmas.Bool.{cases_lt}
 use Rattle.std.proofs.Math.ListN.{get_or}
@@ -8,14 +8,14 @@ use Rattle.std.proofs.lemmas.List.{map-append, take_more}
 use Rattle.std.proofs.lemmas.List.Elements.{All-nil, All-cons, All-append}
 use Rattle.leveldb_base.specs.declared.error.Status.{Status}
 use Rattle.leveldb_env.specs.declared.env.Env.{Ghosts}
-use Rattle.leveldb_env.specs.Disk.{Files, Disk, Leaves}
+use Rattle.leveldb_env.specs.Env.{Files, Disk, FilesCrashTo}
 use Rattle.leveldb_env.specs.declared.options.Options.{Options}
 use Rattle.rusty_leveldb.specs.declared.db_impl.engine.Engine.{Engine}
 use Rattle.rusty_leveldb.specs.declared.shell.commands.Command.{Command}
 use Rattle.rusty_leveldb.specs.declared.shell.commands.Reply.{Reply}
-use Rattle.rusty_leveldb.specs.Contents.{Contents}
+use Rattle.leveldb_version.specs.Contents.{Contents}
 use Rattle.rusty_leveldb.specs.State.{State, Opening, Request, open_store, abandon, Answer, done, refused}
-use Rattle.rusty_leveldb.specs.Holds.{IsHonest}
+use Rattle.leveldb_version.specs.Holds.{IsHonest}
 use Rattle.rusty_leveldb.specs.Machine.{Step, Crashes, risk_between}
 use Rattle.rusty_leveldb.specs.Runs.{Event, events_of, Run, CrashBefore, StopsAt, faults_of}
 use Rattle.rusty_leveldb.specs.Serves.{Reads, StandsFor, Represents, Goes, Runs, IsHonestlyLeft, IsConversation, done_or, refusal_of}
@@ -89,19 +89,19 @@ stops_more cmp before moment mid old new last then answered at event early some 
 
 -- an environment's files at this moment are no others
 abbrev pub OnlyNow : {E F : Type 0} → Ghosts E F → Type 0
-OnlyNow {E = E} env = (e : E) (files : Files) → (env.tells e).stood (env.tells e).moment files → files ≡ (env.tells e).disk.files
+OnlyNow {E = E} env = (e : E) (files : Files) → (env.observed e).at_moment (env.observed e).moment files → files ≡ (env.observed e).disk.files
 
 module _ {E F : Type 0} (env : Ghosts E F) (only_now : OnlyNow env) (store : List ℕ) where
   -- a crash at the end
-  crash_now : (at : E) (old : State) → StandsFor store (Reads store) (env.tells at).disk old → (moment : ℕ) (files : Files) (left : Disk) → moment ≡ (env.tells at).moment → IsHonestlyLeft store (env.tells at) moment files left
+  crash_now : (at : E) (old : State) → StandsFor store (Reads store) (env.observed at).disk old → (moment : ℕ) (files : Files) (left : Disk) → moment ≡ (env.observed at).moment → IsHonestlyLeft store (env.observed at) moment files left
       → (then : State) × Crashes old (risk_between old) then × StandsFor store (Reads store) left then
   crash_now at old stands moment files left is crash =
-      let same = only_now at files (subst (λ n. (env.tells at).stood n files) is crash.stood) in
-      crash_between store old (env.tells at).disk left stands (record { files = subst (λ f. Leaves f left.files) same crash.leaves; free = crash.free }) (subst (λ f. IsHonest store f left.files) same crash.honest)
+      let same = only_now at files (subst (λ n. (env.observed at).at_moment n files) is crash.stood) in
+      crash_between store old (env.observed at).disk left stands (record { files = subst (λ f. FilesCrashTo f left.files) same crash.leaves; free = crash.free }) (subst (λ f. IsHonest store f left.files) same crash.honest)
 
-module _ {E F C FP I : Type 0} {D : I → Type 0} (env : Ghosts E F) (only_now : OnlyNow env) (cmp : List ℕ → List ℕ → Ordering) (store : List ℕ) (tells : IsTrue env.tells_disk) where
+module _ {E F C FP I : Type 0} {D : I → Type 0} (env : Ghosts E F) (only_now : OnlyNow env) (cmp : List ℕ → List ℕ → Ordering) (store : List ℕ) (modelled : IsTrue env.models_disk) where
   -- nothing was asked yet
-  no_requests : (from : E) (engine : Option (Engine E C FP F I D)) (old : State) → Represents store (Reads store) (Recalls {C = C} {FP = FP} {I = I} {D = D} env store) engine (env.tells from).disk old
+  no_requests : (from : E) (engine : Option (Engine E C FP F I D)) (old : State) → Represents store (Reads store) (Recalls {C = C} {FP = FP} {I = I} {D = D} env store) engine (env.observed from).disk old
       → Runs store (Reads store) (Recalls env store) cmp (scene env cmp engine from) [] [] [] (scene env cmp engine from) old
   no_requests from engine old is = record {
     answered = [];
@@ -109,7 +109,7 @@ module _ {E F C FP I : Type 0} {D : I → Type 0} (env : Ghosts E F) (only_now :
     new = old;
     run = (refl, refl);
     represents = is;
-    others = others_still store (env.tells from).disk;
+    others = others_still store (env.observed from).disk;
     ends = λ moment low. (λ all. low, λ most. All-nil (λ (one : ℕ × Event). one.0 ≤ moment));
     stops = λ moment files left low crash.
         let c = crash_now env only_now store from old is.disk_is moment files left (omega (arith, low, crash.come)) crash in (
@@ -132,28 +132,28 @@ module _ {E F C FP I : Type 0} {D : I → Type 0} (env : Ghosts E F) (only_now :
   -- one request more
   pub next_one : (before : Option (Engine E C FP F I D)) (from mid to : E) (requests : List Request) (answers : List Answer) (moments : List ℕ) (engine after : Option (Engine E C FP F I D)) (request : Request) (answer : Answer) (old : State)
       → Runs store (Reads store) (Recalls env store) cmp (scene env cmp before from) requests answers moments (scene env cmp engine mid) old → AnswersAs env cmp store engine mid request answer after to
-      → Runs store (Reads store) (Recalls env store) cmp (scene env cmp before from) (requests ++ request ∷ []) (answers ++ answer ∷ []) (moments ++ (env.tells to).moment ∷ []) (scene env cmp after to) old
+      → Runs store (Reads store) (Recalls env store) cmp (scene env cmp before from) (requests ++ request ∷ []) (answers ++ answer ∷ []) (moments ++ (env.observed to).moment ∷ []) (scene env cmp after to) old
   next_one before from mid to requests answers moments engine after request answer old led answers_so = record {
     answered = led.answered ++ now ∷ [];
-    asked = conversation_more requests answers moments led.answered request answer (env.failures to) (env.tells to).moment led.asked;
+    asked = conversation_more requests answers moments led.answered request answer (env.failures to) (env.observed to).moment led.asked;
     new = goes.new;
     run = run_now;
     represents = goes.represents;
-    others = others_then store (env.tells from).disk (env.tells mid).disk (env.tells to).disk led.others goes.others;
+    others = others_then store (env.observed from).disk (env.observed mid).disk (env.observed to).disk led.others goes.others;
     ends = λ moment low. (
       λ all. All-last (λ (one : ℕ × Event). one.0 ≤ moment) led.answered now all,
       λ most. by_now moment low most,
     );
     stops = λ moment files left low crash. ⊎_elim
-        (λ (early : moment < (env.tells mid).moment).
+        (λ (early : moment < (env.observed mid).moment).
         let s = led.stops moment files left low (record { come = omega arith; stood = goes.moments.time.before moment files early crash.stood; leaves = crash.leaves; honest = crash.honest; free = crash.free }) in (
           s.0,
-          stops_more cmp (env.failures from) moment (env.failures mid) old led.new goes.new s.0 led.answered (env.tells to).moment now.1 (omega (arith, early, goes.moments.time.later))
+          stops_more cmp (env.failures from) moment (env.failures mid) old led.new goes.new s.0 led.answered (env.observed to).moment now.1 (omega (arith, early, goes.moments.time.later))
               (λ all. let past = (led.ends moment low).0 all in absurd (omega (arith, early, past))) goes.step s.1,
           s.2,
         ))
-        (λ (late : (env.tells mid).moment ≤ moment). ⊎_elim
-        (λ (inside : moment < (env.tells to).moment).
+        (λ (late : (env.observed mid).moment ≤ moment). ⊎_elim
+        (λ (inside : moment < (env.observed to).moment).
         let c = crash_inside store led.new goes.new request files left led.represents.disk_is.is_state goes.represents.disk_is.is_state (goes.moments.time.meanwhile moment files late inside crash.stood) crash.leaves crash.honest crash.free in (
           c.0,
           record {
@@ -169,7 +169,7 @@ module _ {E F C FP I : Type 0} {D : I → Type 0} (env : Ghosts E F) (only_now :
           },
           c.2,
         ))
-        (λ (end : (env.tells to).moment ≤ moment).
+        (λ (end : (env.observed to).moment ≤ moment).
         let c = crash_now env only_now store to goes.new goes.represents.disk_is moment files left (omega (arith, end, crash.come)) crash in (
           c.0,
           record {
@@ -184,14 +184,14 @@ module _ {E F C FP I : Type 0} {D : I → Type 0} (env : Ghosts E F) (only_now :
             crash = (refl, refl, c.1);
           },
           c.2,
-        )) (cases_lt moment (env.tells to).moment)) (cases_lt moment (env.tells mid).moment);
+        )) (cases_lt moment (env.observed to).moment)) (cases_lt moment (env.observed mid).moment);
   }
     where
       goes : Goes store (Reads store) (Recalls env store) cmp (scene env cmp engine mid) request answer (scene env cmp after to) led.new
-      goes = answers_so tells led.new led.represents
+      goes = answers_so modelled led.new led.represents
 
       now : ℕ × Event
-      now = ((env.tells to).moment, event_of request answer (env.failures to))
+      now = ((env.observed to).moment, event_of request answer (env.failures to))
 
       all_events : events_of (led.answered ++ now ∷ []) ≡ events_of led.answered ++ event_of request answer (env.failures to) ∷ []
       all_events = map-append (λ (o : ℕ × Event). o.1) led.answered (now ∷ [])
@@ -200,24 +200,24 @@ module _ {E F C FP I : Type 0} {D : I → Type 0} (env : Ghosts E F) (only_now :
       run_now = subst (λ es. Run cmp (env.failures from) old es (env.failures to) goes.new) (sym all_events)
           (run_more cmp (env.failures from) (env.failures mid) old led.new goes.new (events_of led.answered) (event_of request answer (env.failures to)) led.run goes.step)
 
-      by_now : (moment : ℕ) → (env.tells from).moment ≤ moment → (env.tells to).moment ≤ moment → All (λ (one : ℕ × Event). one.0 ≤ moment) (led.answered ++ now ∷ [])
+      by_now : (moment : ℕ) → (env.observed from).moment ≤ moment → (env.observed to).moment ≤ moment → All (λ (one : ℕ × Event). one.0 ≤ moment) (led.answered ++ now ∷ [])
       by_now moment low most = All-append (λ (one : ℕ × Event). one.0 ≤ moment) led.answered (now ∷ []) ((led.ends moment low).1 (omega (arith, most, goes.moments.time.later)))
           (All-cons (λ (one : ℕ × Event). one.0 ≤ moment) now [] most (All-nil (λ (one : ℕ × Event). one.0 ≤ moment)))
 
   pub one_more : (from mid to : E) (requests : List Request) (answers : List Answer) (engine after : Option (Engine E C FP F I D)) (request : Request) (answer : Answer) (old : State)
       → Leads C FP env cmp store from requests answers engine mid old → Answers env cmp engine mid request answer after to
       → Leads C FP env cmp store from (requests ++ request ∷ []) (answers ++ answer ∷ []) after to old
-  one_more from mid to requests answers engine after request answer old led answers_so = (led.0 ++ (env.tells to).moment ∷ [], next_one None from mid to requests answers led.0 engine after request answer old led.1 (answers_so store))
+  one_more from mid to requests answers engine after request answer old led answers_so = (led.0 ++ (env.observed to).moment ∷ [], next_one None from mid to requests answers led.0 engine after request answer old led.1 (answers_so store))
 
   pub first_at : (from to : E) (after : Option (Engine E C FP F I D)) (request : Request) (answer : Answer) (old : State)
-      → Represents store (Reads store) (Recalls {C = C} {FP = FP} {I = I} {D = D} env store) None (env.tells from).disk old → AnswersAs env cmp store None from request answer after to
-      → LeadsAt C FP env cmp store from (request ∷ []) (answer ∷ []) ((env.tells to).moment ∷ []) after to old
+      → Represents store (Reads store) (Recalls {C = C} {FP = FP} {I = I} {D = D} env store) None (env.observed from).disk old → AnswersAs env cmp store None from request answer after to
+      → LeadsAt C FP env cmp store from (request ∷ []) (answer ∷ []) ((env.observed to).moment ∷ []) after to old
   first_at from to after request answer old is answers_so = next_one None from from to [] [] [] None after request answer old (no_requests from None old is) answers_so
 
   pub first_one : (from to : E) (after : Option (Engine E C FP F I D)) (request : Request) (answer : Answer) (old : State)
-      → Represents store (Reads store) (Recalls {C = C} {FP = FP} {I = I} {D = D} env store) None (env.tells from).disk old → AnswersAs env cmp store None from request answer after to
+      → Represents store (Reads store) (Recalls {C = C} {FP = FP} {I = I} {D = D} env store) None (env.observed from).disk old → AnswersAs env cmp store None from request answer after to
       → Leads C FP env cmp store from (request ∷ []) (answer ∷ []) after to old
-  first_one from to after request answer old is answers_so = ((env.tells to).moment ∷ [], first_at from to after request answer old is answers_so)
+  first_one from to after request answer old is answers_so = ((env.observed to).moment ∷ [], first_at from to after request answer old is answers_so)
 
 -- the same in an order that is the same
 pub in_order : {E F C FP I : Type 0} {D : I → Type 0} {env : Ghosts E F} {this that : List ℕ → List ℕ → Ordering} {before after : Option (Engine E C FP F I D)} {from to : E} {request : Request} {answer : Answer}
@@ -241,8 +241,8 @@ no_other disk state represents = record { disk_is = represents.disk_is; memory_i
 module _ {E F I : Type 0} {D : I → Type 0} (C FP : Type 0) (env : Ghosts E F) (cmp : List ℕ → List ℕ → Ordering) (store : List ℕ) where
   -- so far the store was opened and these commands were given these replies, from every state that the disk stood for
   abbrev pub PlaysSoFar : E → Bool → List Command → List Reply → Engine E C FP F I D → E → Type 0
-  PlaysSoFar from create_if_missing commands given engine to = IsTrue env.tells_disk → (opening : Opening) → IsOpening store create_if_missing opening
-      → (old : State) → Represents store (Reads store) (Recalls {C = C} {FP = FP} {I = I} {D = D} env store) None (env.tells from).disk old
+  PlaysSoFar from create_if_missing commands given engine to = IsTrue env.models_disk → (opening : Opening) → IsOpening store create_if_missing opening
+      → (old : State) → Represents store (Reads store) (Recalls {C = C} {FP = FP} {I = I} {D = D} env store) None (env.observed from).disk old
       → Leads C FP env cmp store from (open_store opening ∷ map request_of commands) (done ∷ map answer_of given) (Some engine) to old
 
   -- what an opening of the store answers
@@ -258,7 +258,7 @@ module _ {E F I : Type 0} {D : I → Type 0} (C FP : Type 0) (env : Ghosts E F) 
     asked = led.asked;
     new = led.new;
     run = led.run;
-    represents = no_other (env.tells to).disk led.new led.represents;
+    represents = no_other (env.observed to).disk led.new led.represents;
     others = led.others;
     ends = led.ends;
     stops = led.stops;
@@ -269,24 +269,24 @@ module _ {E F I : Type 0} {D : I → Type 0} (C FP : Type 0) (env : Ghosts E F) 
   leads_to_none from requests answers to old led = (led.0, at_none from requests answers led.0 to old led.1)
 
   pub play_first : (from to : E) (create_if_missing : Bool) (engine : Engine E C FP F I D) → OpensAs C FP env cmp store from create_if_missing done (Some engine) to → PlaysSoFar C FP env cmp store from create_if_missing [] [] engine to
-  play_first from to create_if_missing engine opens tells opening is old represents = first_one env only_now cmp store tells from to (Some engine) (open_store opening) done old represents (opens opening is)
+  play_first from to create_if_missing engine opens modelled opening is old represents = first_one env only_now cmp store modelled from to (Some engine) (open_store opening) done old represents (opens opening is)
 
   pub play_more : (from mid to : E) (create_if_missing : Bool) (commands : List Command) (given : List Reply) (engine after : Engine E C FP F I D) (command : Command) (reply : Reply)
       → PlaysSoFar C FP env cmp store from create_if_missing commands given engine mid → Answers env cmp (Some engine) mid (request_of command) (answer_of reply) (Some after) to
       → PlaysSoFar C FP env cmp store from create_if_missing (commands ++ command ∷ []) (given ++ reply ∷ []) after to
-  play_more from mid to create_if_missing commands given engine after command reply plays answers_so tells opening is old represents =
-      let led = one_more env only_now cmp store tells from mid to (open_store opening ∷ map request_of commands) (done ∷ map answer_of given) (Some engine) (Some after) (request_of command) (answer_of reply) old
-      (plays tells opening is old represents) answers_so in
+  play_more from mid to create_if_missing commands given engine after command reply plays answers_so modelled opening is old represents =
+      let led = one_more env only_now cmp store modelled from mid to (open_store opening ∷ map request_of commands) (done ∷ map answer_of given) (Some engine) (Some after) (request_of command) (answer_of reply) old
+      (plays modelled opening is old represents) answers_so in
       subst (λ as'. Leads C FP env cmp store from (open_store opening ∷ map request_of (commands ++ command ∷ [])) (done ∷ as') (Some after) to old) (sym (map-append answer_of given (reply ∷ [])))
       (subst (λ rs. Leads C FP env cmp store from (open_store opening ∷ rs) (done ∷ (map answer_of given ++ answer_of reply ∷ [])) (Some after) to old) (sym (map-append request_of commands (command ∷ []))) led)
 
   pub play_end : (from mid to : E) (create_if_missing : Bool) (commands : List Command) (given : List Reply) (engine : Engine E C FP F I D) (result : Result (Unit {0}) Status)
       → PlaysSoFar C FP env cmp store from create_if_missing commands given engine mid → Answers env cmp (Some engine) mid abandon (done_or result) None to
       → PlaysAlways C FP env cmp store from create_if_missing commands given result to
-  play_end from mid to create_if_missing commands given engine result plays answers_so tells opening is old represents = by_result result
+  play_end from mid to create_if_missing commands given engine result plays answers_so modelled opening is old represents = by_result result
       (leads_to_none from (open_store opening ∷ (map request_of commands ++ abandon ∷ [])) (done ∷ (map answer_of given ++ done_or result ∷ [])) to old
-      (one_more env only_now cmp store tells from mid to (open_store opening ∷ map request_of commands) (done ∷ map answer_of given) (Some engine) None abandon (done_or result) old
-      (plays tells opening is old (no_other (env.tells from).disk old represents)) answers_so))
+      (one_more env only_now cmp store modelled from mid to (open_store opening ∷ map request_of commands) (done ∷ map answer_of given) (Some engine) None abandon (done_or result) old
+      (plays modelled opening is old (no_other (env.observed from).disk old represents)) answers_so))
     where
       by_result : (result : Result (Unit {0}) Status) → LeadsThrough C FP env cmp store from opening commands given (done_or result) to old → Plays C FP env cmp store from opening commands given result to old
       by_result (Ok ended) led = led
@@ -294,11 +294,11 @@ module _ {E F I : Type 0} {D : I → Type 0} (C FP : Type 0) (env : Ghosts E F) 
 
   pub not_opened : (options : Options C FP I D) (from to : E) (create_if_missing : Bool) (commands : List Command) (given : List Reply) (status : Status) → given ≡ []
       → OpensAs C FP env cmp store from create_if_missing (refused (refusal_of status)) (no_engine options) to → PlaysAlways C FP env cmp store from create_if_missing commands given (Err status) to
-  not_opened options from to create_if_missing commands given status none opens tells opening is old represents =
+  not_opened options from to create_if_missing commands given status none opens modelled opening is old represents =
       inr (inl (
         none,
         leads_to_none from (open_store opening ∷ []) (refused (refusal_of status) ∷ []) to old
-            (first_one env only_now cmp store tells from to (no_engine options) (open_store opening) (refused (refusal_of status)) old (no_other (env.tells from).disk old represents) (opens opening is)),
+            (first_one env only_now cmp store modelled from to (no_engine options) (open_store opening) (refused (refusal_of status)) old (no_other (env.observed from).disk old represents) (opens opening is)),
       ))
 
 -- a command behind those that were answered

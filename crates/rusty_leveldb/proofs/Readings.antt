@@ -1,10 +1,10 @@
 -- A log of a store has one reading.
 use Rattle.std.proofs.Common.{◌≡◌, ℕ, zero, suc, List, [], ◌∷◌, ◌++◌, take, refl, sym, ◌∙◌, ap, subst, Option, Some, None}
-use Rattle.leveldb_env.specs.Disk.{File, bytes_of}
-use Rattle.leveldb_mem.specs.Batch.{Batch}
-use Rattle.leveldb_mem.specs.BatchLaws.{BatchOf-one}
-use Rattle.leveldb_mem.specs.LogLaws.{log_laws}
-use Rattle.rusty_leveldb.specs.Contents.{Contents}
+use Rattle.leveldb_env.specs.Env.{File, bytes_of}
+use Rattle.leveldb_mem.specs.WriteBatch.{Batch}
+use Rattle.leveldb_mem.specs.WriteBatchLaws.{BatchOf-one}
+use Rattle.leveldb_mem.proofs.LawsLemmas.{log_laws}
+use Rattle.leveldb_version.specs.Contents.{Contents}
 use Rattle.rusty_leveldb.specs.OneLog.{Each, IsRecordOf, IsLogOf, IsRead, contents_of}
 use Rattle.rusty_leveldb.specs.Laws.{OneReading}
 

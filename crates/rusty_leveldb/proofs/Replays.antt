@@ -7,9 +7,9 @@ use Rattle.leveldb_base.specs.declared.error.StatusCode.TheVariants.{Corruption}
 use Rattle.leveldb_base.specs.Error.{IsOutOfMemory}
 use Rattle.std.proofs.lemmas.List.Elements.{Contains-append_left, Contains-append_right, Contains-append_cases}
 use Rattle.leveldb_base.specs.History.{Item, Entry, placed, greatest}
-use Rattle.leveldb_mem.specs.Batch.{Batch, IsBatch}
-use Rattle.leveldb_mem.specs.BatchLaws.{BatchOf-one}
-use Rattle.leveldb_mem.specs.Entries.{Gains}
+use Rattle.leveldb_mem.specs.WriteBatch.{Batch, IsBatch}
+use Rattle.leveldb_mem.specs.WriteBatchLaws.{BatchOf-one}
+use Rattle.leveldb_mem.specs.MemTable.{IsUnion}
 use Rattle.rusty_leveldb.specs.OneLog.{Each, IsRecordOf, AreInOrder, entries_in, all_entries, max_sequence}
 use Rattle.rusty_leveldb.specs.Recent.{Numbered, Follows, Inserts}
 use Rattle.rusty_leveldb.specs.Replay.{AreBatches, IsReplayed, IsDamaged}
@@ -82,7 +82,7 @@ each_follows front text rest recent batch was is are =
 -- ---- one record more
 
 -- entries that are those of a list, and more
-just_more : (kept : List Entry) (all : List Entry) (more : List Entry) (new : List Entry) → ((entry : Entry) → Contains kept entry ↔ Contains all entry) → Gains kept more new → (entry : Entry) → Contains new entry ↔ Contains (all ++ more) entry
+just_more : (kept : List Entry) (all : List Entry) (more : List Entry) (new : List Entry) → ((entry : Entry) → Contains kept entry ↔ Contains all entry) → IsUnion kept more new → (entry : Entry) → Contains new entry ↔ Contains (all ++ more) entry
 just_more kept all more new just gains entry = (
   λ c. ⊎_elim
       (λ (old : Contains kept entry). Contains-append_left all more entry ((just entry).0 old))
@@ -106,7 +106,7 @@ replayed_more records text batch old mid new was is follows entries last inserts
   };
   just = subst (λ es. (entry : Entry) → Contains new.kept.entries entry ↔ Contains es entry) (sym more)
       (just_more old.kept.entries (all_entries was.read.batches) (entries_in batch) new.kept.entries was.just
-      (subst (λ es. Gains es (entries_in batch) new.kept.entries) entries inserts.gains));
+      (subst (λ es. IsUnion es (entries_in batch) new.kept.entries) entries inserts.gains));
   last = inserts.last ∙ ap (λ n. max n (greatest (entries_in batch))) (last ∙ was.last) ∙ sym (greatest_append (all_entries was.read.batches) (entries_in batch)) ∙ ap greatest (sym more);
 }
   where

@@ -2,6 +2,7 @@
 pub mod Stands
 pub mod Moments
 pub mod Shut
+pub mod Found
 pub mod Flush
 pub mod Batches
 pub mod Append

@@ -3,8 +3,8 @@ use Rattle.std.specs.Prelude.{◌≡◌, ◌≢◌, ◌<◌, ◌≤◌, ◌+◌,
 use Rattle.leveldb_base.specs.declared.error.StatusCode.{StatusCode}
 use Rattle.leveldb_base.specs.declared.error.StatusCode.TheVariants.{OutOfMemory, LockError, InvalidArgument, AlreadyExists, NotSupported, IOError}
 use Rattle.leveldb_base.specs.History.{Item}
-use Rattle.leveldb_mem.specs.Batch.{batch_bytes, max_length}
-use Rattle.rusty_leveldb.specs.Contents.{Store, missing, made}
+use Rattle.leveldb_mem.specs.WriteBatch.{batch_bytes, max_length}
+use Rattle.leveldb_version.specs.Contents.{Store, missing, made}
 use Rattle.rusty_leveldb.specs.OneLog.{max_sequence}
 use Rattle.rusty_leveldb.specs.State.{State, Opening, Snapshot, Refusal, Request, open_store, write, get, walk, get_snapshot, release_snapshot, compact_range, abandon, Move, seek, reset}
 

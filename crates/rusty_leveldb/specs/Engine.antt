@@ -5,16 +5,15 @@ use Rattle.leveldb_base.specs.declared.error.Status.{Status}
 use Rattle.leveldb_base.specs.declared.error.StatusCode.TheVariants.{InvalidArgument, NotSupported, Corruption, IOError, LockError}
 use Rattle.leveldb_base.specs.History.{Item, Entry, entries_of, greatest, SameView}
 use Rattle.leveldb_env.specs.declared.env.Env.{Ghosts}
-use Rattle.leveldb_env.specs.Disk.{File, Disk, bytes_of, AreBytes}
-use Rattle.leveldb_env.specs.Times.{Told}
-use Rattle.leveldb_env.specs.Calls.{NoMemory, IsGone}
+use Rattle.leveldb_env.specs.Env.{File, Disk, bytes_of, AreBytes, Observed}
+use Rattle.leveldb_base.specs.Error.{IsOutOfMemory}
 use Rattle.leveldb_env.specs.declared.options.Options.{Options}
 use Rattle.leveldb_mem.specs.Log.{log_block_size, clean, IsLogFile}
-use Rattle.leveldb_mem.specs.Writing.{Writing, IsBroken}
+use Rattle.leveldb_mem.specs.Log.Writer.{WriterState, IsBroken}
 use Rattle.rusty_leveldb.specs.declared.db_impl.engine.Mode.{Mode}
 use Rattle.rusty_leveldb.specs.declared.db_impl.engine.Mode.TheVariants.{Open, Broken, Closed}
 use Rattle.rusty_leveldb.specs.declared.db_impl.engine.Engine.{Engine}
-use Rattle.rusty_leveldb.specs.Names.{lock_path}
+use Rattle.leveldb_version.specs.Paths.{lock_path}
 use Rattle.rusty_leveldb.specs.OneLog.{log_path}
 use Rattle.rusty_leveldb.specs.Recent.{AreUsedUp}
 use Rattle.rusty_leveldb.specs.State as machine
@@ -27,11 +26,11 @@ abbrev pub IsShut : Mode → Type 0
 IsShut mode = mode ≡ Closed
 
 -- it broke, or the writer of its log did: every call that writes is refused
-abbrev pub IsStuck : Mode → Writing → Type 0
+abbrev pub IsStuck : Mode → WriterState → Type 0
 IsStuck mode writer = (mode ≡ Broken) ⊎ IsTrue writer.broken
 
 -- it is closed, or it broke: every call that writes is refused
-abbrev pub IsHalted : Mode → Writing → Type 0
+abbrev pub IsHalted : Mode → WriterState → Type 0
 IsHalted mode writer = IsShut mode ⊎ IsStuck mode writer
 
 -- the machine's mode
@@ -49,7 +48,7 @@ module _ {E C FP F I : Type 0} {D : I → Type 0} (env : Ghosts E F) (store : Li
     pub records : List (List ℕ)
     pub ends : IsLogFile (bytes_of file) records clean
     pub name : env.name_of engine.log ≡ log_path store
-    pub writer : engine.writer ≡ record { size = log_block_size; place = length (bytes_of file) % log_block_size; broken = false }
+    pub writer : engine.writer ≡ record { size = log_block_size; offset = length (bytes_of file) % log_block_size; broken = false }
 
   -- memory shows what the history shows, from its end on, and no entry of it is past that end
   pub record Remembers (engine : Engine E C FP F I D) (state : State) : Type 0 where
@@ -68,7 +67,7 @@ module _ {E C FP F I : Type 0} {D : I → Type 0} (env : Ghosts E F) (store : Li
 
 -- where the environment's disk is observed, its moment doesn't fall
 abbrev pub TimeGoesOn : {E F : Type 0} → Ghosts E F → E → E → Type 0
-TimeGoesOn env from to = IsTrue env.tells_disk → (env.tells from).moment ≤ (env.tells to).moment
+TimeGoesOn env from to = IsTrue env.models_disk → (env.observed from).moment ≤ (env.observed to).moment
 
 -- no engine of these options
 abbrev pub no_engine : {E C FP F I : Type 0} {D : I → Type 0} → Options C FP I D → Option (Engine E C FP F I D)
@@ -77,11 +76,11 @@ no_engine options = None
 module _ {E C FP F I : Type 0} {D : I → Type 0} (env : Ghosts E F) (cmp : List ℕ → List ℕ → Ordering) where
   -- what stands around a call
   abbrev pub scene : Option (Engine E C FP F I D) → E → Scene (Engine E C FP F I D)
-  scene memory at = (memory, env.tells at, env.failures at)
+  scene memory at = (memory, env.observed at, env.failures at)
 
   -- where the disk is told, the call is a step of the machine, for the store under this name
   abbrev pub AnswersAs : List ℕ → Option (Engine E C FP F I D) → E → Request → Answer → Option (Engine E C FP F I D) → E → Type 0
-  AnswersAs store before from request answer after to = IsTrue env.tells_disk → Serves store (Reads store) (Recalls env store) cmp (scene before from) request answer (scene after to)
+  AnswersAs store before from request answer after to = IsTrue env.models_disk → Serves store (Reads store) (Recalls env store) cmp (scene before from) request answer (scene after to)
 
   -- the same, whatever store engine and disk stand for
   abbrev pub Answers : Option (Engine E C FP F I D) → E → Request → Answer → Option (Engine E C FP F I D) → E → Type 0
@@ -98,34 +97,39 @@ abbrev pub ShutOut : Mode → Status → Type 0
 ShutOut mode e = IsShut mode × (e.code ≡ InvalidArgument)
 
 -- the store broke earlier
-abbrev pub ShutDown : Mode → Writing → Status → Type 0
+abbrev pub ShutDown : Mode → WriterState → Status → Type 0
 ShutDown mode writer e = IsStuck mode writer × IsBroken e
 
 -- one of the two, and of a closed store the first
-abbrev pub HaltedBy : Mode → Writing → Status → Type 0
+abbrev pub HaltedBy : Mode → WriterState → Status → Type 0
 HaltedBy mode writer e = (ShutOut mode e ⊎ ShutDown mode writer e) × (e.code ≡ IOError → IsShut mode → ⊥)
 
 module _ {E C FP F I : Type 0} {D : I → Type 0} (env : Ghosts E F) where
-  -- an append to the log and a sync of it: for want of memory, or where a told disk has lost the log's name
-  abbrev pub LogExcused : Engine E C FP F I D → E → Status → Type 0
-  LogExcused engine at e = IsGone env.tells_disk (env.name_of engine.log) (env.tells at) e
+  -- an append to the log or a sync of it: out of memory, or a disk that is observed has lost the log, which is
+  -- damage and isn't counted
+  abbrev pub LogExcused : Engine E C FP F I D → E → E → Status → Type 0
+  LogExcused engine at now e = IsOutOfMemory e
+      ⊎ ((e.code ≡ Corruption) × IsTrue env.models_disk
+      × ((env.observed at).disk.files (env.name_of engine.log) ≡ None)
+      × (env.failures now ≡ env.failures at))
 
   -- why a write may fail where the device didn't: the store is closed or broken, the batch is too long, no numbers are left, or the log vanished
-  abbrev pub WriteExcused : Engine E C FP F I D → E → List Item → Status → Type 0
-  WriteExcused engine at items e = ShutOut engine.mode e ⊎ ShutDown engine.mode engine.writer e
-      ⊎ ((e.code ≡ InvalidArgument) × IsLongBatch items) ⊎ ((e.code ≡ NotSupported) × AreUsedUp engine.recent.last (length items)) ⊎ LogExcused engine at e
+  abbrev pub WriteExcused : Engine E C FP F I D → E → E → List Item → Status → Type 0
+  WriteExcused engine at now items e = ShutOut engine.mode e ⊎ ShutDown engine.mode engine.writer e
+      ⊎ ((e.code ≡ InvalidArgument) × IsLongBatch items) ⊎ ((e.code ≡ NotSupported) × AreUsedUp engine.recent.last (length items)) ⊎ LogExcused engine at now e
 
   -- why a flush may fail where the device didn't: the store is closed or broken, or the log vanished
-  abbrev pub SyncExcused : Engine E C FP F I D → E → Status → Type 0
-  SyncExcused engine at e = ShutOut engine.mode e ⊎ ShutDown engine.mode engine.writer e ⊎ LogExcused engine at e
+  abbrev pub SyncExcused : Engine E C FP F I D → E → E → Status → Type 0
+  SyncExcused engine at now e = ShutOut engine.mode e ⊎ ShutDown engine.mode engine.writer e
+      ⊎ LogExcused engine at now e
 
   -- as a sync, where nothing was counted: giving back the lock may be refused with the same code, and that is counted
   abbrev pub CloseExcused : Engine E C FP F I D → E → E → Status → Type 0
-  CloseExcused engine at now e = SyncExcused engine at e × (env.failures now ≡ env.failures at)
+  CloseExcused engine at now e = SyncExcused engine at now e × (env.failures now ≡ env.failures at)
 
 -- why a look-up may fail: the store is closed, the key is too long, or memory ran out
 abbrev pub GetExcused : Mode → List ℕ → Status → Type 0
-GetExcused mode key e = ShutOut mode e ⊎ ((e.code ≡ InvalidArgument) × IsLongKey key) ⊎ NoMemory e
+GetExcused mode key e = ShutOut mode e ⊎ ((e.code ≡ InvalidArgument) × IsLongKey key) ⊎ IsOutOfMemory e
 
 -- ---- opening
 
@@ -141,9 +145,9 @@ pub record IsOpening (name : List ℕ) (create_if_missing : Bool) (opening : Ope
   pub compresses : opening.compresses ≡ true
 
 -- why an opening may be refused with no failure of the device: damage, where nothing can be read of the files
-abbrev pub OpenExcused : Bool → List ℕ → Bool → Told → Status → Type 0
-OpenExcused tells_disk name create_if_missing told e = NoMemory e
+abbrev pub OpenExcused : Bool → List ℕ → Bool → Observed → Status → Type 0
+OpenExcused models_disk name create_if_missing told e = IsOutOfMemory e
     ⊎ ((e.code ≡ InvalidArgument) × (IsStoreName name → ⊥))
-    ⊎ ((e.code ≡ InvalidArgument) × (create_if_missing ≡ false) × (IsTrue tells_disk → told.disk.files (log_path name) ≡ None))
-    ⊎ ((e.code ≡ LockError) × (IsTrue tells_disk → told.disk.locked (lock_path name) ≡ true))
-    ⊎ ((e.code ≡ Corruption) × (IsTrue tells_disk → IsUnreadable (Reads name) told.disk.files))
+    ⊎ ((e.code ≡ InvalidArgument) × (create_if_missing ≡ false) × (IsTrue models_disk → told.disk.files (log_path name) ≡ None))
+    ⊎ ((e.code ≡ LockError) × (IsTrue models_disk → told.disk.locked (lock_path name) ≡ true))
+    ⊎ ((e.code ≡ Corruption) × (IsTrue models_disk → IsUnreadable (Reads name) told.disk.files))

@@ -1,7 +1,4 @@
-pub mod Names
-pub mod Contents
 pub mod OneLog
-pub mod Holds
 pub mod State
 pub mod Unread
 pub mod Causes

@@ -8,16 +8,16 @@ use Rattle.leveldb_base.specs.declared.error.StatusCode.TheVariants.{InvalidArgu
 use Rattle.leveldb_env.specs.declared.env.Env.{Ghosts}
 use Rattle.leveldb_env.specs.declared.mem_env.record.RecordEnv.{RecordEnv}
 use Rattle.leveldb_env.specs.declared.mem_env.picks.Pick.{Pick}
-use Rattle.leveldb_env.specs.Calls.{NoMemory}
-use Rattle.leveldb_env.specs.Disk.{Leaves}
+use Rattle.leveldb_base.specs.Error.{IsOutOfMemory}
+use Rattle.leveldb_env.specs.Env.{FilesCrashTo}
 use Rattle.leveldb_env.specs.Picks.{picked, tails_of}
-use Rattle.leveldb_env.specs.Record.{told_of, moment_of, fails_in, fails_done, files_in, files_then, CanLeave, TellsTheSame, IsFresh}
+use Rattle.leveldb_env.specs.Record.{record_observed, moment_of, fails_in, fails_done, files_in, files_then, CanCrashTo, SameObserved, IsFresh}
 use Rattle.rusty_leveldb.specs.declared.shell.commands.Command.{Command}
 use Rattle.rusty_leveldb.specs.declared.shell.commands.Reply.{Reply}
 use Rattle.rusty_leveldb.specs.declared.shell.crash_runs.Report.{Report}
 use Rattle.rusty_leveldb.specs.declared.shell.crash_runs.Life.{Life}
 use Rattle.rusty_leveldb.specs.State.{State, Opening, Request, open_store, abandon, Answer, done, refused}
-use Rattle.rusty_leveldb.specs.Holds.{IsHonest}
+use Rattle.leveldb_version.specs.Holds.{IsHonest}
 use Rattle.rusty_leveldb.specs.Runs as machine
 use Rattle.rusty_leveldb.specs.Runs.{Ending, goes_on, crashes, Lives, new_state}
 use Rattle.rusty_leveldb.specs.Serves.{Reads, Represents, IsConversation, refusal_of}
@@ -55,13 +55,13 @@ module _ {E F : Type 0} (C FP : Type 0) (env : Ghosts E F) (cmp : List ℕ → L
   pub record IsLife (from : E) (opening : Opening) (commands : List Command) (report : Report) (to : E) (old : State) : Type 0 where
     pub answers : List Answer
     pub moments : List ℕ
-    pub reported : IsReportOf report answers (map (λ moment. moment - (env.tells from).moment) moments)
+    pub reported : IsReportOf report answers (map (λ moment. moment - (env.observed from).moment) moments)
     pub run : LeadsAt C FP {I = Unit {0}} {D = NoCoder} env cmp store from (requests_of opening commands report.opened) answers moments None to old
 
   -- the same from every state that the disk represents
   abbrev pub IsAlwaysLife : E → Bool → List Command → Report → E → Type 0
   IsAlwaysLife from create_if_missing commands report to = (opening : Opening) → IsOpening store create_if_missing opening
-      → (old : State) → Represents store (Reads store) (Recalls {C = C} {FP = FP} {I = Unit {0}} {D = NoCoder} env store) None (env.tells from).disk old
+      → (old : State) → Represents store (Reads store) (Recalls {C = C} {FP = FP} {I = Unit {0}} {D = NoCoder} env store) None (env.observed from).disk old
       → IsLife from opening commands report to old
 
 -- ---- what follows a life
@@ -69,8 +69,8 @@ module _ {E F : Type 0} (C FP : Type 0) (env : Ghosts E F) (cmp : List ℕ → L
 -- what a crash at this moment, which has come, leaves of a device by this pick
 pub record IsCrash (device : RecordEnv) (moment : ℕ) (pick : Pick) (left : RecordEnv) : Type 0 where
   pub come : moment ≤ moment_of device
-  pub stood : (told_of device).stood moment (files_then device moment pick.after)
-  pub leaves : Leaves (files_then device moment pick.after) (files_in left)
+  pub stood : (record_observed device).at_moment moment (files_then device moment pick.after)
+  pub leaves : FilesCrashTo (files_then device moment pick.after) (files_in left)
   pub files : files_in left ≡ picked (tails_of pick.tails.items) (files_then device moment pick.after)
   pub fresh : IsFresh left
 
@@ -99,7 +99,7 @@ module _ {C FP F I : Type 0} {D : I → Type 0} (env : Ghosts RecordEnv F) (orde
   -- the report of one life on this device, where the call that the life names was chosen to fail, 0 being none
   pub record IsLifeOn (device : RecordEnv) (life : Life C FP I D) (report : Report) (to : RecordEnv) : Type 0 where
     pub from : RecordEnv
-    pub same : TellsTheSame device from
+    pub same : SameObserved device from
     pub failing : (fails_in from, fails_done from) ≡ unwrap_or life.fail (0, false)
     pub life_is : IsAlwaysLife C FP env (order life.options.cmp) store from life.options.create_if_missing life.commands.items report to
 
@@ -155,7 +155,7 @@ module _ {C FP F I : Type 0} {D : I → Type 0} (env : Ghosts RecordEnv F) (orde
     pub life_is : IsLifeOn device life report to
     pub moment : ℕ
     pub crashes : life.moment ≡ Some moment
-    pub none : CanLeave to (moment_of device + moment) life.pick.after (tails_of life.pick.tails.items) → ⊥
+    pub none : CanCrashTo to (moment_of device + moment) life.pick.after (tails_of life.pick.tails.items) → ⊥
 
   -- what `lives` returns
   pub record ReportsLives (lives : List (Life C FP I D)) (result : Result (Vec Report Global) Status) : Type 0 where
@@ -166,4 +166,4 @@ module _ {C FP F I : Type 0} {D : I → Type 0} (env : Ghosts RecordEnv F) (orde
     -- each crash is honest that leaves the kept bytes alone
     pub kept : IfOk result (λ reports. All (λ life. life.pick.tails.items ≡ []) lives → AreReportsFromNone (IsHonestCrash store) lives reports.items)
     -- it fails out of memory, or with `InvalidArgument` for a crash that can't be
-    pub error : IfErr result (λ e. NoMemory e ⊎ ((e.code ≡ InvalidArgument) × HasNoCrash lives))
+    pub error : IfErr result (λ e. IsOutOfMemory e ⊎ ((e.code ≡ InvalidArgument) × HasNoCrash lives))

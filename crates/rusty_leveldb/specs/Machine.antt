@@ -1,9 +1,10 @@
 -- The store as a machine: which answer a request may have in a state, and in which state the store then is.
-use Rattle.std.specs.Prelude.{◌≡◌, ◌≤◌, ◌+◌, ◌-◌, ◌^◌, ◌⊎◌, ℕ, Bool, true, false, List, [], ◌∷◌, ◌++◌, length, Option, Some, None, Contains, IsTrue}
+use Rattle.std.specs.Prelude.{◌≡◌, ◌≤◌, ◌+◌, ◌-◌, ◌^◌, ◌⊎◌, ℕ, Bool, true, false, List, [], ◌∷◌, ◌++◌, length, max, Option, Some, None, Contains, IsTrue}
 use Rattle.std.specs.declared.cmp.Ordering.{Ordering}
 use Rattle.leveldb_base.specs.History.{Item, Entry, History, placed, entries_of, greatest, with_batch, count_of, IsPrefixAtLeast, IsValueAt, IsView}
 use Rattle.leveldb_base.specs.Types.{Pair, position_within, next_position, previous_position, seek_position, pair_at}
-use Rattle.rusty_leveldb.specs.Contents.{Store, missing, made, Stays}
+use Rattle.leveldb_version.specs.Contents.{Store, missing, made}
+use Rattle.rusty_leveldb.specs.OneLog.{max_sequence}
 use Rattle.rusty_leveldb.specs.State.{Mode, open_mode, broken, closed, Snapshot, Opening, State, Move, seek_to_first, advance, prev, seek, reset, Request, open_store, write, get, walk, get_snapshot, release_snapshot, flush, compact_range, close, abandon, Refusal, Landing, stands_on, nowhere, move_refused, Answer, done, found, walked, snapshot, refused}
 use Rattle.rusty_leveldb.specs.Causes.{Faults, Cause, out_of_memory, device_failed, lock_is_held, bad_operand, store_exists, Misfits, MoveMisfits, Comes, MoveComes, IsClosedRefusal, IsBrokenRefusal}
 
@@ -22,9 +23,15 @@ pub record Keeps (old new : State) : Type 0 where
 abbrev pub batch_of : State → List Item → List Entry
 batch_of old items = placed (old.last + 1) items
 
--- a batch stands at the end of the history, and all is covered where that was asked for
+-- A batch whose numbers fit is at the end of the history, and all is covered where that was asked for. Of an
+-- empty batch the first number has to fit, too.
 pub record Writes (old : State) (items : List Item) (sync : Bool) (new : State) : Type 0 where
-  pub state : new ≡ record old { history = old.history ++ batch_of old items ∷ []; last = old.last + length items; covered = new.covered }
+  pub numbers : old.last + max 1 (length items) ≤ max_sequence
+  pub state : new ≡ record old {
+    history = old.history ++ batch_of old items ∷ [];
+    last = old.last + length items;
+    covered = new.covered;
+  }
   pub covered : MayCover old.covered old.history new.covered ⊎ (new.covered ≡ length new.history)
   pub synced : IsTrue sync → new.covered ≡ length new.history
 
@@ -70,6 +77,11 @@ IsStoreOf opening missing = ⊥
 IsStoreOf opening (made None) = Unit {0}
 IsStoreOf opening (made (Some name)) = name ≡ opening.comparator
 
+-- The store is as it was; or it was missing and is now one of the opening's, if an opening is at work.
+abbrev pub StaysOr : Option Opening → Store → Store → Type 0
+StaysOr None old now = now ≡ old
+StaysOr (Some opening) old now = (now ≡ old) ⊎ ((old ≡ missing) × IsStoreOf opening now)
+
 -- a store may be opened so: a missing one is to be made, and one that is there may be there
 abbrev pub MayOpen : Opening → Store → Type 0
 MayOpen opening missing = IsTrue opening.create_if_missing
@@ -80,7 +92,7 @@ pub record Opens (old : State) (opening : Opening) (new : State) : Type 0 where
   pub fits : IsTrue opening.fits × IsTrue opening.compresses
   pub free : old.locked ≡ false
   pub may : MayOpen opening old.store
-  pub stays : Stays old.store new.store
+  pub stays : StaysOr (Some opening) old.store new.store
   pub store : IsStoreOf opening new.store
   pub joins : (new.history ≡ old.history) ⊎ (new.history ≡ with_batch old.history old.pending)
   pub reached : greatest (entries_of new.history) ≤ new.last
@@ -111,10 +123,10 @@ IsEarly store_exists = Unit {0}
 IsEarly cause = ⊥
 
 -- Not opened: but for what is covered, and a store that was made meanwhile, all is as before. The lock is given back.
-pub record StaysClosed (old : State) (faults : Faults) (cause : Cause) (new : State) : Type 0 where
+pub record StaysClosed (old : State) (opening : Opening) (faults : Faults) (cause : Cause) (new : State) : Type 0 where
   pub state : new ≡ record old { covered = new.covered; locked = new.locked; store = new.store }
   pub covered : MayCover old.covered old.history new.covered
-  pub stays : Stays old.store new.store
+  pub stays : StaysOr (Some opening) old.store new.store
   pub early : IsEarly cause → new.store ≡ old.store
   pub lock : (new.locked ≡ old.locked) ⊎ ((new.locked ≡ true) × UnlockFailed faults cause)
 
@@ -193,7 +205,7 @@ module _ (cmp : List ℕ → List ℕ → Ordering) where
 
   -- refused for this cause in a mode that allows it; a failed sync is what refuses a flush by the device
   abbrev pub Refuses : Faults → State → Request → Cause → State → Type 0
-  Refuses faults old (open_store opening) cause new = StaysClosed old faults cause new
+  Refuses faults old (open_store opening) cause new = StaysClosed old opening faults cause new
   Refuses faults old (write items sync) cause new = KeepsOrBreaks faults old cause (Some (batch_of old items)) new
   Refuses faults old flush device_failed new = Breaks old None new
   Refuses faults old flush cause new = KeepsOrBreaks faults old cause None new
@@ -231,25 +243,33 @@ module _ (cmp : List ℕ → List ℕ → Ordering) where
 
 -- ---- a crash
 
--- a history of which a crash may leave a beginning, and a number that nothing left may pass
+-- what a crash may leave: a prefix of this history, numbers up to this bound, and a store that an opening makes
 pub record Risk : Type 0 where
   pub history : History
   pub bound : ℕ
+  -- the opening that is at work, if one is
+  pub opening : Option Opening
 
 -- between two requests: the history, and what is pending
 abbrev pub risk_between : State → Risk
-risk_between state = record { history = with_batch state.history state.pending; bound = state.last + count_of state.pending }
+risk_between state = record {
+  history = with_batch state.history state.pending;
+  bound = state.last + count_of state.pending;
+  opening = None;
+}
 
--- At a moment of a request: the history after it, and what is pending then; so a batch is at risk once its append has begun.
--- While a store is opened it is the history before it, since what was pending may yet be found.
+-- At a moment of a request: the history after it, and what is pending then; so a batch is at risk from its
+-- write's first moment on. While a store is opened it is the history before it, since what was pending may yet
+-- be found.
 abbrev pub risk_of : Request → State → State → Risk
-risk_of (open_store opening) old new = risk_between old
+risk_of (open_store opening) old new = record (risk_between old) { opening = Some opening }
 risk_of request old new = risk_between new
 
--- A crash leaves a beginning with all that was covered, whole batches only; all of it is covered from then on.
+-- A crash leaves a prefix with all that was covered, whole batches only, and all of it is covered from then on. It leaves the store that was
+-- there, or one that the opening at work has made.
 pub record Crashes (old : State) (risk : Risk) (new : State) : Type 0 where
-  pub beginning : IsPrefixAtLeast old.covered risk.history new.history
-  pub stays : Stays old.store new.store
+  pub prefix : IsPrefixAtLeast old.covered risk.history new.history
+  pub stays : StaysOr risk.opening old.store new.store
   pub state : new ≡ record {
     history = new.history;
     last = risk.bound;

@@ -1,10 +1,10 @@
 -- A store that is one log.
 use Rattle.std.specs.Prelude.{◌≡◌, ◌<◌, ◌≤◌, ◌-◌, ◌^◌, ℕ, List, [], ◌∷◌, Option, Some, None, flat_map, max, codes}
 use Rattle.leveldb_base.specs.History.{Entry, placed, greatest}
-use Rattle.leveldb_env.specs.Disk.{File, Files, bytes_of, in_folder}
+use Rattle.leveldb_env.specs.Env.{File, Files, bytes_of, in_folder}
 use Rattle.leveldb_mem.specs.Log.{End, IsLogFile}
-use Rattle.leveldb_mem.specs.Batch.{Batch, BatchOf}
-use Rattle.rusty_leveldb.specs.Contents.{Contents, nothing_there, made}
+use Rattle.leveldb_mem.specs.WriteBatch.{Batch, BatchOf}
+use Rattle.leveldb_version.specs.Contents.{Contents, no_contents, made}
 
 -- the greatest sequence that an entry can have
 abbrev pub max_sequence : ℕ
@@ -57,7 +57,7 @@ contents_of batches = record { store = made None; entries = all_entries batches;
 
 -- what is read of the one file, or of none
 abbrev pub IsRead : Option File → Contents → Type 0
-IsRead None contents = contents ≡ nothing_there
+IsRead None contents = contents ≡ no_contents
 IsRead (Some file) contents = (batches : List Batch) × IsLogOf (bytes_of file) batches × (contents ≡ contents_of batches)
 
 -- the store is the log under this name, or is missing with it

@@ -54,7 +54,7 @@ module _ {E F : Type 0} (env : Ghosts E F) where
   -- of a store's, it was refused with no reply. The filter policy is seen as its number of bits a key.
   abbrev pub HasRun : List ℕ → List Command → E → List Reply → Result (Unit {0}) Status → E → Type 0
   HasRun folder commands from given ended to = PlaysAlways DefaultCmp ℕ env bytewise folder from true commands given ended to
-      × (IsTrue env.tells_disk → NeverOpens folder true (env.tells from).disk → (given ≡ []) × IsUnopened env folder true from ended to)
+      × (IsTrue env.models_disk → NeverOpens folder true (env.observed from).disk → (given ≡ []) × IsUnopened env folder true from ended to)
       × ((IsStoreName folder → ⊥) → (to ≡ from) × (given ≡ []) × OnOk ended ⊥)
 
   -- the commands were run in a folder, each was replied to, and the output grew by the replies' lines

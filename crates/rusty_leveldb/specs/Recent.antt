@@ -3,8 +3,8 @@ use Rattle.std.specs.Prelude.{◌≡◌, ◌≤◌, ◌<◌, ◌+◌, ℕ, List,
 use Rattle.std.specs.Option.{option_map}
 use Rattle.std.specs.Borrow.{Bor}
 use Rattle.leveldb_base.specs.History.{placed, greatest}
-use Rattle.leveldb_mem.specs.Batch.{Batch}
-use Rattle.leveldb_mem.specs.Entries.{Kept, Gains}
+use Rattle.leveldb_mem.specs.WriteBatch.{Batch}
+use Rattle.leveldb_mem.specs.MemTable.{Kept, IsUnion}
 use Rattle.rusty_leveldb.specs.OneLog.{max_sequence}
 
 -- what a look-up lends: a value or a deletion, or that there is none
@@ -24,7 +24,7 @@ pub record Follows (last : ℕ) (batch : Batch) : Type 0 where
 
 -- the batch's entries have come, and the last number is the last of them, if it has any
 pub record Inserts (old : Numbered) (batch : Batch) (new : Numbered) : Type 0 where
-  pub gains : Gains old.kept.entries (placed batch.first batch.items) new.kept.entries
+  pub gains : IsUnion old.kept.entries (placed batch.first batch.items) new.kept.entries
   pub last : new.last ≡ max old.last (greatest (placed batch.first batch.items))
 
 -- so many entries don't fit behind the last number, or not even an empty batch's first number does

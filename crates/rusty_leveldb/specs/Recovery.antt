@@ -2,14 +2,13 @@
 use Rattle.std.specs.Prelude.{◌≡◌, ◌≢◌, ◌≤◌, ◌<◌, ◌+◌, ◌-◌, ◌%◌, ◌^◌, ◌⊎◌, ℕ, Bool, true, false, List, [], length, Option, Some, None, Result, Ok, Err, OnOk, IfErr, IsErrAnd, IsTrue}
 use Rattle.leveldb_base.specs.declared.error.Status.{Status}
 use Rattle.leveldb_base.specs.declared.error.StatusCode.TheVariants.{InvalidArgument, NotFound, Corruption}
-use Rattle.leveldb_env.specs.Disk.{File, Files, Disk, bytes_of, kept_file, file_kept, created}
-use Rattle.leveldb_env.specs.Times.{Told}
-use Rattle.leveldb_env.specs.Calls.{EitherSide, NoMemory}
+use Rattle.leveldb_env.specs.Env.{File, Files, Disk, bytes_of, kept_file, file_kept, created, Observed, BeforeOrAfter}
+use Rattle.leveldb_base.specs.Error.{IsOutOfMemory}
 use Rattle.leveldb_mem.specs.Log.{log_block_size, End, clean, IsLogFile, framed}
-use Rattle.leveldb_mem.specs.Writing.{Writing}
-use Rattle.rusty_leveldb.specs.Names.{lock_path}
+use Rattle.leveldb_mem.specs.Log.Writer.{WriterState}
+use Rattle.leveldb_version.specs.Paths.{lock_path}
 use Rattle.rusty_leveldb.specs.OneLog.{log_path, temp_path, IsRead}
-use Rattle.rusty_leveldb.specs.Contents.{Contents}
+use Rattle.leveldb_version.specs.Contents.{Contents}
 use Rattle.rusty_leveldb.specs.Causes.{HasFailed}
 use Rattle.rusty_leveldb.specs.Recent.{Numbered}
 use Rattle.rusty_leveldb.specs.Replay.{IsReplayed}
@@ -67,15 +66,15 @@ FailedBeside excused before now = (excused × (before < now)) ⊎ (before + 2 �
 -- What a refused opening leaves, whatever stands under the store's name. The log is as it was, or has the records that were found there. A
 -- store that is never opened keeps all its files, but that the lock's may be made. Its lock is as it was, or is held where giving it back
 -- was refused, too. What isn't the store's is as it was.
-pub record StaysUnopened (name : List ℕ) (create : Bool) (old new : Told) (before now : ℕ) (e : Status) : Type 0 where
+pub record StaysUnopened (name : List ℕ) (create : Bool) (old new : Observed) (before now : ℕ) (e : Status) : Type 0 where
   pub log : SparesLog create (old.disk.files (log_path name)) (new.disk.files (log_path name))
-  pub untouched : NeverOpens name create old.disk → EitherSide (created (lock_path name)) old.disk.files new.disk.files
+  pub untouched : NeverOpens name create old.disk → BeforeOrAfter (created (lock_path name)) old.disk.files new.disk.files
   pub lock : (new.disk.locked (lock_path name) ≡ old.disk.locked (lock_path name))
       ⊎ ((new.disk.locked (lock_path name) ≡ true) × FailedBeside (OpenExcused true name create old e) before now)
   pub others : SparesOthers name old.disk new.disk
 
 -- The log has the records that were found there, all its bytes kept, and ends cleanly; memory has what they say, and the writer stands at the end.
-pub record IsRecovered (create : Bool) (was now : Option File) (writer : Writing) (recent : Numbered) : Type 0 where
+pub record IsRecovered (create : Bool) (was now : Option File) (writer : WriterState) (recent : Numbered) : Type 0 where
   pub records : List (List ℕ)
   pub end : End
   pub was_found : IsFoundAs create was records end
@@ -84,7 +83,7 @@ pub record IsRecovered (create : Bool) (was now : Option File) (writer : Writing
   pub there : now ≡ Some file
   pub since : file.since ≡ []
   pub read : IsLogFile (bytes_of file) records clean
-  pub stands : writer ≡ record { size = log_block_size; place = length (bytes_of file) % log_block_size; broken = false }
+  pub stands : writer ≡ record { size = log_block_size; offset = length (bytes_of file) % log_block_size; broken = false }
 
 -- ---- refusals
 
@@ -94,6 +93,10 @@ pub record HasCauses {T : Type 0} (Excused : Status → Type 0) (before now : �
   pub ok : OnOk result (now ≡ before)
   pub cause : IfErr result (λ e. Excused e ⊎ HasFailed before now)
 
+-- the same error, but damage for a file that is missing
+abbrev pub IsErrorFor : Status → Status → Type 0
+IsErrorFor raw e = ((raw.code ≢ NotFound) × (e ≡ raw)) ⊎ ((raw.code ≡ NotFound) × (e.code ≡ Corruption))
+
 -- the same answer, but damage for a file that is missing
 abbrev pub IsFoundOr : {T : Type 0} → Result T Status → Result T Status → Type 0
 IsFoundOr (Ok value) result = result ≡ Ok value
@@ -101,12 +104,12 @@ IsFoundOr (Err status) result = ((status.code ≢ NotFound) × (result ≡ Err s
 
 -- want of memory, or damage of a disk that isn't told
 abbrev pub IsUntold : Bool → Status → Type 0
-IsUntold tells_disk e = NoMemory e ⊎ ((e.code ≡ Corruption) × (IsTrue tells_disk → ⊥))
+IsUntold models_disk e = IsOutOfMemory e ⊎ ((e.code ≡ Corruption) × (IsTrue models_disk → ⊥))
 
 -- the log is missing and isn't to be made
 abbrev pub IsNotMade : Bool → Bool → Option File → Status → Type 0
-IsNotMade tells_disk create was e = (e.code ≡ InvalidArgument) × (create ≡ false) × (IsTrue tells_disk → was ≡ None)
+IsNotMade models_disk create was e = (e.code ≡ InvalidArgument) × (create ≡ false) × (IsTrue models_disk → was ≡ None)
 
 -- the log is no list of batches
 abbrev pub IsNoLog : Bool → Option File → Status → Type 0
-IsNoLog tells_disk was e = (e.code ≡ Corruption) × (IsTrue tells_disk → (contents : Contents) → IsRead was contents → ⊥)
+IsNoLog models_disk was e = (e.code ≡ Corruption) × (IsTrue models_disk → (contents : Contents) → IsRead was contents → ⊥)

@@ -3,7 +3,7 @@ use Rattle.std.specs.Prelude.{◌≡◌, ◌↔◌, ℕ, List, Contains}
 use Rattle.leveldb_base.specs.declared.error.Status.{Status}
 use Rattle.leveldb_base.specs.declared.error.StatusCode.TheVariants.{Corruption}
 use Rattle.leveldb_base.specs.History.{Entry, greatest}
-use Rattle.leveldb_mem.specs.Batch.{Batch}
+use Rattle.leveldb_mem.specs.WriteBatch.{Batch}
 use Rattle.rusty_leveldb.specs.OneLog.{Each, IsRecordOf, AreInOrder, all_entries}
 use Rattle.rusty_leveldb.specs.Recent.{Numbered}
 

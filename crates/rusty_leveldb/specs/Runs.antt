@@ -2,7 +2,7 @@
 use Rattle.std.specs.Prelude.{◌≡◌, ◌≤◌, ◌<◌, ℕ, List, [], ◌∷◌, ◌++◌, None, map, All, false}
 use Rattle.std.specs.declared.cmp.Ordering.{Ordering}
 use Rattle.leveldb_base.specs.declared.error.StatusCode.{StatusCode}
-use Rattle.rusty_leveldb.specs.Contents.{missing}
+use Rattle.leveldb_version.specs.Contents.{missing}
 use Rattle.rusty_leveldb.specs.State.{State, Request, Answer, closed}
 use Rattle.rusty_leveldb.specs.Causes.{Faults}
 use Rattle.rusty_leveldb.specs.Machine.{Step, risk_between, risk_of, Crashes}

@@ -6,16 +6,15 @@ use Rattle.std.specs.Option.{option_map}
 use Rattle.std.specs.declared.cmp.Ordering.{Ordering}
 use Rattle.leveldb_base.specs.declared.error.Status.{Status}
 use Rattle.leveldb_base.specs.Error.{text_of}
-use Rattle.leveldb_env.specs.Disk.{File, Files, Disk, Leaves, bytes_of, or_empty}
-use Rattle.leveldb_env.specs.Times.{Told}
-use Rattle.leveldb_env.specs.Runs as calls
-use Rattle.rusty_leveldb.specs.Names.{lock_path}
-use Rattle.rusty_leveldb.specs.Contents.{Contents}
+use Rattle.leveldb_env.specs.Env.{File, Files, Disk, FilesCrashTo, bytes_of, or_empty, Observed}
+use Rattle.leveldb_env.specs.Env as calls
+use Rattle.leveldb_version.specs.Paths.{lock_path}
+use Rattle.leveldb_version.specs.Contents.{Contents}
 use Rattle.rusty_leveldb.specs.OneLog.{IsOneLog, log_path, temp_path}
-use Rattle.rusty_leveldb.specs.Holds.{IsHonest, IsSafe, Holds, HasStore, KeepsStore}
+use Rattle.leveldb_version.specs.Holds.{IsHonest, IsSafe, Holds}
 use Rattle.rusty_leveldb.specs.State.{State, IsState, open_mode, closed, Request, write, get, walk, get_snapshot, release_snapshot, flush, close, abandon, Refusal, Answer, done, found, refused}
 use Rattle.rusty_leveldb.specs.Causes.{Faults, TakesLock}
-use Rattle.rusty_leveldb.specs.Machine.{Step, Risk, risk_of}
+use Rattle.rusty_leveldb.specs.Machine.{Step, StaysOr, Risk, risk_of}
 use Rattle.rusty_leveldb.specs.Runs.{Event, events_of, Run, StopsAt}
 
 -- how the store's files are read
@@ -47,7 +46,7 @@ given_engine (Err status) = None
 
 -- what stands around a call: the engine's memory, where there is one, what the environment tells, and how many of its calls have failed
 abbrev pub Scene : Type 0 → Type 1
-Scene M = Option M × Told × ℕ
+Scene M = Option M × Observed × ℕ
 
 -- the faults of a call in which no coder took part
 abbrev pub faults_between : ℕ → ℕ → Faults
@@ -120,31 +119,29 @@ IsUnreadable reads files = (contents : Contents) → reads files contents → �
 -- ---- crashes
 
 -- these were the files at a moment that has come, and an honest crash at that moment leaves this disk, with no lock held
-pub record IsHonestlyLeft (store : List ℕ) (now : Told) (moment : ℕ) (files : Files) (left : Disk) : Type 0 where
+pub record IsHonestlyLeft (store : List ℕ) (now : Observed) (moment : ℕ) (files : Files) (left : Disk) : Type 0 where
   pub come : moment ≤ now.moment
-  pub stood : now.stood moment files
-  pub leaves : Leaves files left.files
+  pub stood : now.at_moment moment files
+  pub leaves : FilesCrashTo files left.files
   pub honest : IsHonest store files left.files
   pub free : (path : List ℕ) → left.locked path ≡ false
 
 -- ---- the engine's clauses
 
 module _ (store : List ℕ) (reads : Files → Contents → Type 0) where
-  -- the disk stands for a state: it holds the history, and store and lock are as said, the store behind a crash too
+  -- the disk represents a state: it holds the state's store and history, and the lock is as said
   pub record StandsFor (disk : Disk) (state : State) : Type 0 where
     pub is_state : IsState state
-    pub holds : Holds store reads disk.files state.history state.last state.covered state.pending
-    pub has_store : HasStore store reads state.store disk.files
-    pub keeps : KeepsStore store reads state.store disk.files
+    pub holds : Holds store reads (λ now. now ≡ state.store) disk.files state.history state.last state.covered state.pending
     pub locked : disk.locked (lock_path store) ≡ state.locked
 
-  -- a crash now leaves a beginning with at least what was covered before the request, and the store that was there
-  pub record IsSpared (old : State) (risk : Risk) (files : Files) : Type 0 where
-    pub carries : IsSafe store reads risk.bound old.covered risk.history files
-    pub stays : KeepsStore store reads old.store files
+  -- a crash now leaves a prefix of what is at risk, with at least what was covered before the request, and the store that was there or one
+  -- that the opening at work has made
+  abbrev pub IsSpared : State → Risk → Files → Type 0
+  IsSpared old risk files = IsSafe store reads (StaysOr risk.opening old.store) risk.bound old.covered risk.history files
 
   -- the same at each moment of a request, its end among them; what was told of the moments before it stays
-  abbrev pub AtEachMoment : Request → State → State → Told → Told → Type 0
+  abbrev pub AtEachMoment : Request → State → State → Observed → Observed → Type 0
   AtEachMoment request old new before after = calls.Run (IsSpared old (risk_of request old new)) before after
 
   module _ {M : Type 0} (Recalls : M → Disk → State → Type 0) where

@@ -4,8 +4,8 @@ use Rattle.std.specs.declared.cmp.Ordering.{Ordering}
 use Rattle.leveldb_base.specs.declared.error.Status.{Status}
 use Rattle.leveldb_base.specs.History as history
 use Rattle.leveldb_env.specs.declared.env.Env.{Ghosts}
-use Rattle.leveldb_env.specs.Calls.{NoMemory}
-use Rattle.leveldb_mem.specs.Batch.{item_of}
+use Rattle.leveldb_base.specs.Error.{IsOutOfMemory}
+use Rattle.leveldb_mem.specs.WriteBatch.{item_of}
 use Rattle.rusty_leveldb.specs.declared.shell.commands.Command.{Command}
 use Rattle.rusty_leveldb.specs.declared.shell.commands.Command.TheVariants as command
 use Rattle.rusty_leveldb.specs.declared.shell.commands.Item.{Item}
@@ -52,7 +52,7 @@ module _ {E F : Type 0} (C FP : Type 0) {I : Type 0} {D : I → Type 0} (env : G
 
 -- the run was refused, and leaves what a refused opening leaves
 abbrev pub IsUnopened : {E F : Type 0} → Ghosts E F → List ℕ → Bool → E → Result (Unit {0}) Status → E → Type 0
-IsUnopened env name create from ended to = IsErrAnd ended (StaysUnopened name create (env.tells from) (env.tells to) (env.failures from) (env.failures to))
+IsUnopened env name create from ended to = IsErrAnd ended (StaysUnopened name create (env.observed from) (env.observed to) (env.failures from) (env.failures to))
 
 -- no engine stands before the runs below, and none behind them; so it is told of no coder either
 abbrev pub NoCoder : Unit {0} → Type 0
@@ -70,9 +70,9 @@ module _ {E F : Type 0} (C FP : Type 0) (env : Ghosts E F) (cmp : List ℕ → L
   Plays from opening commands given (Err status) to old =
       LeadsThrough from opening commands given (refused (refusal_of status)) to old
       ⊎ ((given ≡ []) × Leads C FP {I = Unit {0}} {D = NoCoder} env cmp store from (open_store opening ∷ []) (refused (refusal_of status) ∷ []) None to old)
-      ⊎ ((given ≡ []) × NoMemory status × (to ≡ from))
+      ⊎ ((given ≡ []) × IsOutOfMemory status × (to ≡ from))
 
   -- the same from every state that the disk stands for, where the disk is told
   abbrev pub PlaysAlways : E → Bool → List Command → List Reply → Result (Unit {0}) Status → E → Type 0
-  PlaysAlways from create_if_missing commands given result to = IsTrue env.tells_disk → (opening : Opening) → IsOpening store create_if_missing opening
-      → (old : State) → Represents store (Reads store) (Recalls {C = C} {FP = FP} {I = Unit {0}} {D = NoCoder} env store) None (env.tells from).disk old → Plays from opening commands given result to old
+  PlaysAlways from create_if_missing commands given result to = IsTrue env.models_disk → (opening : Opening) → IsOpening store create_if_missing opening
+      → (old : State) → Represents store (Reads store) (Recalls {C = C} {FP = FP} {I = Unit {0}} {D = NoCoder} env store) None (env.observed from).disk old → Plays from opening commands given result to old

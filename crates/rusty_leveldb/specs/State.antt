@@ -3,7 +3,7 @@ use Rattle.std.specs.Prelude.{◌≡◌, ◌≤◌, ◌+◌, ℕ, Bool, List, []
 use Rattle.leveldb_base.specs.declared.error.StatusCode.{StatusCode}
 use Rattle.leveldb_base.specs.History.{Item, Entry, History, IsHistory, entries_of, greatest, with_batch, count_of}
 use Rattle.leveldb_base.specs.Types.{Pair}
-use Rattle.rusty_leveldb.specs.Contents.{Store}
+use Rattle.leveldb_version.specs.Contents.{Store}
 
 -- ---- the state
 

@@ -1,9 +1,8 @@
 -- Files that aren't read: what holds of a store's files whatever happens to a file of another name, and a set of names that a reading of the
 -- store doesn't depend on.
 use Rattle.std.specs.Prelude.{◌≡◌, ℕ, Bool, false, List}
-use Rattle.leveldb_env.specs.Disk.{Files, Leaves}
-use Rattle.leveldb_env.specs.FileLaws.{SameBut}
-use Rattle.rusty_leveldb.specs.Contents.{Contents}
+use Rattle.leveldb_env.specs.Env.{Files, FilesCrashTo, SameBut}
+use Rattle.leveldb_version.specs.Contents.{Contents}
 use Rattle.rusty_leveldb.specs.State.{State}
 use Rattle.rusty_leveldb.specs.Machine.{Risk}
 use Rattle.rusty_leveldb.specs.Serves.{IsSpared}
@@ -19,7 +18,7 @@ SameBeside beside old files = (path : List ℕ) → beside path ≡ false → fi
 -- Whatever a crash leaves of these files, and whatever is then under the names in this set, the same contents are read: as of tables before
 -- their edit, obsolete files and temporary ones.
 abbrev pub AreUnread : (Files → Contents → Type 0) → (List ℕ → Bool) → Files → Type 0
-AreUnread reads beside files = (left one other : Files) (contents : Contents) → Leaves files left → SameBeside beside left one → SameBeside beside left other
+AreUnread reads beside files = (left one other : Files) (contents : Contents) → FilesCrashTo files left → SameBeside beside left one → SameBeside beside left other
     → reads one contents → reads other contents
 
 -- what a crash leaves of these files is spared, and the names in this set are unread

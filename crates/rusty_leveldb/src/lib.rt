@@ -17,4 +17,4 @@ pub use leveldb_env::options::Options;
 pub use leveldb_env::{compressor, env, filter, filter_block, mem_env, options};
 pub use leveldb_mem::skipmap::SkipMap;
 pub use leveldb_mem::write_batch::WriteBatch;
-pub use leveldb_mem::{log, log_laws, memtable, skipmap, write_batch};
+pub use leveldb_mem::{laws as log_laws, log, memtable, skipmap, write_batch};

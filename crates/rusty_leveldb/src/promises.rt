@@ -1,37 +1,71 @@
 //! The laws of the store's machine, as contracts of functions that do nothing.
 
-ghost use Rattle.rusty_leveldb.specs.Laws.{OneReading, NothingStands, CrashBetween, CrashInside, CrashSince, RefusalHasCause, SyncedIsFound};
+ghost use Rattle.rusty_leveldb.specs.Laws.{OneReading, NothingStands, CrashBetween, CrashInside, CrashSince, RefusalHasCause, StepFits, CrashFits, CrashInsideFits, LivesFit, DurableStays, SyncedStays, EachAnswerParts, HistoryIsAsked, MoreIsAsked, SyncedIsRead, SyncedCanBeFound};
 
 use leveldb_env::env::Env;
 
-/// What a store's files hold is determined, so a store can't choose what it recovers. And a disk on which no store is yet is one
-/// from which a store's life may begin.
+/// What a store's files hold is determined, so a store can't choose what it recovers. And a disk
+/// on which no store is yet is one from which a store's life may begin.
 pub fn files_have_one_reading()
     ensures one { OneReading }
     ensures none { NothingStands }
 {}
 
-/// Wherever an honest crash comes, between two requests or at a safe moment inside one, what it leaves is a store from which the next life
-/// begins: a beginning of the batches handed on, whole ones only, with all that was covered; and so again if the next life is
-/// cut short.
-pub fn crashes_leave_a_beginning()
+/// Wherever an honest crash comes, between two requests or at a safe moment inside one, it leaves
+/// a store from which the next life begins: a prefix of the batches handed on, whole ones only,
+/// with all that was durable; and so again if the next life is cut short.
+pub fn crashes_leave_a_prefix()
     ensures between { CrashBetween }
     ensures inside { CrashInside }
 {}
 
-/// What the moments of a call say, which are part of each call's contract, over any environment: wherever an honest crash comes since the
-/// call began, inside it or at its end, what is left carries a prefix of the history and the call's pending batch, whole batches only, with all
+/// What the moments of a call say, which are part of each call's contract, over any environment:
+/// wherever an honest crash comes since the call began, inside it or at its end, what is left
+/// carries a prefix of the history and the call's pending batch, whole batches only, with all
 /// that was durable as the call began.
 pub fn crashes_since_entry_leave_a_prefix<E: Env>()
     ensures { CrashSince E.Env }
 {}
 
-/// A refused request has one of the causes, each with its condition, or the store was closed, or it broke earlier.
+/// A refused request has one of the causes, each with its condition, or the store was closed, or
+/// it broke earlier.
 pub fn refusals_have_causes()
     ensures { RefusalHasCause }
 {}
 
-/// The machine's rows can be met: a value that was written with a sync before a crash is found behind it.
-pub fn synced_write_is_found()
-    ensures { SyncedIsFound }
+/// Every step, every crash and so every list of lives leads from a state whose numbers fit
+/// together to one.
+pub fn numbers_always_fit()
+    ensures steps { StepFits }
+    ensures crashes { CrashFits }
+    ensures crashes_inside { CrashInsideFits }
+    ensures lives { LivesFit }
+{}
+
+/// No life loses what was durable: whatever requests and crashes come after a synced write, a
+/// flush or a close that was done, every later history begins with the one as of that answer. And
+/// in a list of lives there is such a state at each answer that came before the crash.
+pub fn durable_batches_stay()
+    ensures durable { DurableStays }
+    ensures synced { SyncedStays }
+    ensures answers { EachAnswerParts }
+{}
+
+/// Nothing is in a history but batches that writes asked for, whole and in the order in which
+/// they were asked for.
+pub fn histories_are_made_of_writes()
+    ensures all { HistoryIsAsked }
+    ensures since { MoreIsAsked }
+{}
+
+/// After a synced write of a value that was done, and no later write of its key, no look-up of
+/// the key, in this life or after any crashes, finds anything but that value.
+pub fn synced_value_is_found()
+    ensures { SyncedIsRead }
+{}
+
+/// The machine's rows can be met: there are lives in which a value that was written with a sync
+/// before a crash is found after it.
+pub fn a_synced_write_can_be_found()
+    ensures { SyncedCanBeFound }
 {}

@@ -1,6 +1,6 @@
 //! What several tests ask, and the pairs, tables and compressor that they share.
 ghost use Rattle.std.specs.Prelude.{◌≡◌, true, OnErr};
-ghost use Rattle.leveldb_table.specs.TableBuilding.{order_of};
+ghost use Rattle.leveldb_table.specs.TableBuilder.{order_of};
 
 use leveldb_base::cmp::{Cmp, DefaultCmp, InternalKeyCmp};
 use leveldb_base::error::{Result, StatusCode};
@@ -39,7 +39,7 @@ pub struct Raised;
 impl Compressor for Raised {
     ghost use Rattle.std.specs.Prelude.{◌+◌, ◌%◌, Some, false, map};
 
-    ghost coding = { λ _. record { decoded = λ stored. Some (map (λ byte. (byte + 255) % 256) stored); refuses = λ code. false } };
+    ghost coding = { λ _. record { decoded = λ stored. Some (map (λ byte. (byte + 255) % 256) stored); encode_fails = λ block code. false; decode_fails = λ stored code. false } };
 
     fn encode(&self, alloc: Global, block: Vec<u8>) -> Result<Vec<u8>> {
         let mut stored = Vec::new(alloc);
@@ -137,13 +137,12 @@ pub fn table_of<FP: FilterPolicy + Copy>(
     options: &Options<DefaultCmp, FP>,
     pairs: &[Given<'_>],
 ) -> Result<Vec<u8>> {
-    let mut table = Vec::new(rt.alloc());
     let compressors = &options.compressor_list;
-    let mut builder = TableBuilder::new_raw(rt.alloc(), options, &mut table);
+    let mut builder = TableBuilder::new_raw(rt.alloc(), options, Vec::new(rt.alloc()));
     add_all(rt, &mut builder, &options.cmp, compressors, pairs)?;
     assert!(rt; builder.entries() == pairs.len());
-    let size = builder.finish(compressors)?;
-    assert!(rt; table.len() == size);
+    let (table, size) = builder.finish(compressors);
+    assert!(rt; table.len() == size?);
     Ok(table)
 }
 
@@ -152,13 +151,12 @@ pub fn internal_table(
     rt: &(impl Abort + AllocGlobal),
     options: &Options<DefaultCmp, BloomPolicy>,
 ) -> Result<Vec<u8>> {
-    let mut table = Vec::new(rt.alloc());
     let compressors = &options.compressor_list;
-    let mut builder = TableBuilder::new(rt.alloc(), options, &mut table);
+    let mut builder = TableBuilder::new(rt.alloc(), options, Vec::new(rt.alloc()));
     let cmp = InternalKeyCmp(options.cmp);
     add_all(rt, &mut builder, &cmp, compressors, &ONE)?;
-    let size = builder.finish(compressors)?;
-    assert!(rt; (size, table.len()) == (177, 177));
+    let (table, size) = builder.finish(compressors);
+    assert!(rt; (size?, table.len()) == (177, 177));
     Ok(table)
 }
 

@@ -22,17 +22,17 @@ fn most(place: usize, target: &[u8]) -> usize
 impl<E: Env> Env for ShortReads<E> {
     type File = E::File;
 
-    ghost tells_disk = { E.tells_disk };
+    ghost models_disk = { E.models_disk };
 
-    ghost tells_moments = { E.tells_moments };
+    ghost models_moments = { E.models_moments };
 
-    ghost tells = { λ it. E.tells it.env };
+    ghost observed = { λ it. E.observed it.env };
 
     ghost failures = { λ it. E.failures it.env };
 
     ghost name_of = { E.name_of };
 
-    ghost place_of = { E.place_of };
+    ghost offset_of = { E.offset_of };
 
     ghost counts = { λ it. E.counts it.env };
 

@@ -24,7 +24,11 @@ impl Compressor for Refusing {
     ghost use Rattle.std.specs.Prelude.{None, true, false};
     ghost use Rattle.leveldb_base.specs.declared.error.StatusCode.TheVariants.{CompressionError};
 
-    ghost coding = { λ _. record { decoded = λ stored. None; refuses = elim [ CompressionError ↦ true | _ ↦ false ] } };
+    ghost coding = { λ _. record {
+      decoded = λ stored. None;
+      encode_fails = λ block. elim [ CompressionError ↦ true | _ ↦ false ];
+      decode_fails = λ stored. elim [ CompressionError ↦ true | _ ↦ false ];
+    } };
 
     fn encode(&self, alloc: Global, _block: Vec<u8>) -> Result<Vec<u8>> {
         err(alloc, StatusCode::CompressionError, "too dense")
@@ -204,12 +208,11 @@ fn count_blocks(
 fn eight_pairs(rt: HostRuntime) -> Result<()> {
     let options = options(3);
     let compressors = &options.compressor_list;
-    let mut table = Vec::new(rt.alloc());
-    let mut builder = TableBuilder::new_raw(rt.alloc(), &options, &mut table);
+    let mut builder = TableBuilder::new_raw(rt.alloc(), &options, Vec::new(rt.alloc()));
     add_all(&rt, &mut builder, &options.cmp, compressors, &EIGHT)?;
     assert!(rt; (builder.entries(), builder.size_estimate()) == (8, 143));
-    assert!(rt; builder.finish(compressors)? == 233);
-    assert!(rt; table.len() == 233);
+    let (table, size) = builder.finish(compressors);
+    assert!(rt; (size?, table.len()) == (233, 233));
     assert!(rt; count_blocks(&rt, &table, &EIGHT)? == 1);
     Ok(())
 }
@@ -282,12 +285,11 @@ fn one_internal_pair(rt: HostRuntime) -> Result<()> {
 fn one_internal_pair_without_filter(rt: HostRuntime) -> Result<()> {
     let options = options(16);
     let compressors = &options.compressor_list;
-    let mut table = Vec::new(rt.alloc());
-    let mut builder = TableBuilder::new_no_filter(rt.alloc(), &options, &mut table);
+    let mut builder = TableBuilder::new_no_filter(rt.alloc(), &options, Vec::new(rt.alloc()));
     let cmp = InternalKeyCmp(options.cmp);
     add_all(&rt, &mut builder, &cmp, compressors, &ONE)?;
-    let size = builder.finish(compressors)?;
-    assert!(rt; (size, table.len()) == (142, 142));
+    let (table, size) = builder.finish(compressors);
+    assert!(rt; (size?, table.len()) == (142, 142));
     let footer = footer_of(&rt, &table);
     assert_metaindex(&rt, &table, &footer.meta_index, (b"filter._", &[26, 9]))
 }
@@ -366,11 +368,11 @@ fn fails_into(
     let mut builder = TableBuilder::new_raw(rt.alloc(), options, sink);
     let added = add_all(rt, &mut builder, &options.cmp, compressors, pairs);
     if added.is_ok() {
-        return failed_saying(builder.finish(compressors), code, text);
+        return failed_saying(builder.finish(compressors).1, code, text);
     }
     let is_right = failed_saying(added, code, text)?;
     let is_added = is_broken(builder.add(compressors, b"z", b""))?;
-    let is_finished = is_broken(builder.finish(compressors))?;
+    let is_finished = is_broken(builder.finish(compressors).1)?;
     Ok(is_right && is_added && is_finished)
 }
 
@@ -424,7 +426,7 @@ fn assert_unset(
     let added = add_all(rt, &mut builder, &options.cmp, compressors, pairs);
     assert!(rt; is_unset(added)?);
     assert!(rt; builder.entries() == 5);
-    assert!(rt; is_broken(builder.finish(compressors))?);
+    assert!(rt; is_broken(builder.finish(compressors).1)?);
     Ok(())
 }
 

@@ -284,10 +284,18 @@ fn unfiltered(block_size: usize) -> Options<DefaultCmp, NoFilterPolicy> {
         cmp: DefaultCmp,
         filter_policy: NoFilterPolicy,
         create_if_missing: defaults.create_if_missing,
+        error_if_exists: defaults.error_if_exists,
+        paranoid_checks: defaults.paranoid_checks,
+        write_buffer_size: defaults.write_buffer_size,
+        max_open_files: defaults.max_open_files,
+        max_file_size: defaults.max_file_size,
+        block_cache_capacity_bytes: defaults.block_cache_capacity_bytes,
         block_size,
         block_restart_interval: 3,
         compressor: defaults.compressor,
         compressor_list: CompressorList::default(),
+        reuse_logs: defaults.reuse_logs,
+        reuse_manifest: defaults.reuse_manifest,
     }
 }
 

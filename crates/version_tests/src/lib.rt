@@ -1,8 +1,10 @@
-//! The tests of version edits and of the names that a version set makes.
+//! The tests of version edits, of the names that a version set makes, and of what small stores hold.
 #![tactic(auto)]
 
 #[cfg(test)]
 mod checks;
+#[cfg(test)]
+mod stores;
 #[cfg(test)]
 mod version_edits;
 #[cfg(test)]

@@ -1,10 +1,11 @@
 //! An open file as a sink and as a source.
-ghost use Rattle.leveldb_env.specs.OpenFiles.{AppendsLent, SyncsLent, ReadsLent};
+ghost use Rattle.leveldb_env.specs.EnvFile.{AppendsBorrowed, SyncsBorrowed, ReadsBorrowed};
 
 use crate::env::{Env, Sink, Source};
 use leveldb_base::error::Result;
 
-/// A file and its environment, lent. A put is one `append`, a flush one `sync`, a read one `read`.
+/// A file and its environment, borrowed. A put is one `append`, a flush one `sync`, a read one
+/// `read`.
 #[derive(Drop)]
 pub struct EnvFile<'a, E: Env> {
     pub env: &'a mut E,
@@ -12,9 +13,9 @@ pub struct EnvFile<'a, E: Env> {
 }
 
 impl<E: Env> Sink for EnvFile<'_, E> {
-    ghost puts = { AppendsLent E.Env };
+    ghost puts = { AppendsBorrowed E.Env };
 
-    ghost flushes = { SyncsLent E.Env };
+    ghost flushes = { SyncsBorrowed E.Env };
 
     fn put_all(&mut self, bytes: &[u8]) -> Result<()> {
         self.env.append(self.file, bytes)
@@ -26,7 +27,7 @@ impl<E: Env> Sink for EnvFile<'_, E> {
 }
 
 impl<E: Env> Source for EnvFile<'_, E> {
-    ghost gives = { ReadsLent E.Env };
+    ghost gives = { ReadsBorrowed E.Env };
 
     fn read_some(&mut self, target: &mut [u8]) -> Result<usize> {
         self.env.read(self.file, target)

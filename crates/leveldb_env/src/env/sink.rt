@@ -1,19 +1,19 @@
 //! Where bytes go: what a log or a table is written to.
 ghost use Rattle.std.specs.Prelude.{ℕ, List, Result};
 ghost use Rattle.leveldb_base.specs.declared.error.Status.{Status};
-ghost use Rattle.leveldb_env.specs.Sinks.{PutsBehind, FlushesNothing, ChangesLent};
+ghost use Rattle.leveldb_env.specs.Sink.{AppendsBytes, FlushesNothing, ChangesBorrowed};
 
 use leveldb_base::error::Result;
 
-/// What takes bytes in order. A refusal passes its `Status` on unchanged.
+/// What takes bytes in order. An error passes its `Status` on unchanged.
 pub trait Sink {
-    /// What a sink is after these bytes were put, by the answer.
+    /// What a sink is after these bytes were put, by the result.
     ghost puts: { Self → List ℕ → Result (Unit {0}) Status → Self → Type 0 };
 
-    /// What a sink is after it was flushed, by the answer.
+    /// What a sink is after it was flushed, by the result.
     ghost flushes: { Self → Result (Unit {0}) Status → Self → Type 0 };
 
-    /// Puts all the bytes. After an Err any beginning of them may stand.
+    /// Puts all the bytes. After an Err any prefix of them may have been put.
     fn put_all(&mut self, bytes: &[u8]) -> Result<()>
         ensures { puts self.old bytes.now result self.new };
 
@@ -22,9 +22,9 @@ pub trait Sink {
         ensures { flushes self.old result self.new };
 }
 
-/// Bytes in memory. A refused put leaves them as they were.
+/// Bytes in memory. A put that fails leaves them as they were.
 impl Sink for Vec<u8> {
-    ghost puts = { λ old bytes result new. PutsBehind old.items bytes result new.items };
+    ghost puts = { λ old bytes result new. AppendsBytes old.items bytes result new.items };
 
     ghost flushes = { λ old result new. FlushesNothing old.items result new.items };
 
@@ -38,11 +38,12 @@ impl Sink for Vec<u8> {
     }
 }
 
-/// A sink that is lent.
+/// A sink that is borrowed.
 impl<S: Sink> Sink for &mut S {
-    ghost puts = { λ old bytes result new. ChangesLent (λ s t. S.puts s bytes result t) old new };
+    ghost puts = { λ old bytes result new. ChangesBorrowed
+        (λ s t. S.puts s bytes result t) old new };
 
-    ghost flushes = { λ old result new. ChangesLent (λ s t. S.flushes s result t) old new };
+    ghost flushes = { λ old result new. ChangesBorrowed (λ s t. S.flushes s result t) old new };
 
     fn put_all(&mut self, bytes: &[u8]) -> Result<()> {
         (**self).put_all(bytes)

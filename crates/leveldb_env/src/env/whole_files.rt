@@ -1,46 +1,79 @@
-//! Files that are read or replaced whole.
+//! Files that are read or replaced whole, and files that must be there.
 ghost use Rattle.std.specs.Prelude.{◌≡◌, ◌≢◌, IsTrue, IfOk, IfErr, IsSomeAnd};
-ghost use Rattle.leveldb_env.specs.Disk.{bytes_of, same};
-ghost use Rattle.leveldb_env.specs.Calls.{Does, Still, SameLocks, HasCause, IsMissing};
-ghost use Rattle.leveldb_env.specs.OpenFiles.{opened, IsReadOut, IsGivenUp};
-ghost use Rattle.leveldb_env.specs.WholeFiles.{replaced, Replacing, IsUntold};
+ghost use Rattle.leveldb_env.specs.Env.{bytes_of, same, ChangesFiles, FilesUnchanged, SameLocks, HasCause};
+ghost use Rattle.leveldb_env.specs.EnvFile.{opened, IsReadOut, IsGivenUp};
+ghost use Rattle.leveldb_env.specs.WholeFiles.{replaced, Replacing, IsFoundOr, IsLost, IsUnobserved};
 
 use crate::env::source::read_to_end;
 use crate::env::{Env, EnvFile};
-use leveldb_base::error::Result;
+use crate::errors::refuse;
+use leveldb_base::error::{Result, StatusCode};
 use std::alloc::Global;
 
-/// All bytes of a file that is there.
-pub fn read_file<E: Env>(alloc: Global, env: &mut E, name: &str) -> Result<Vec<u8>>
-    ensures does { IsTrue E.tells_disk → Does E.tells_disk same Still (E.tells env.old) (E.tells env.new) result }
-    ensures locks { SameLocks E.tells_disk (E.tells env.old) (E.tells env.new) }
-    ensures bytes { IfOk result (λ all. IsTrue E.tells_disk → IsSomeAnd ((E.tells env.old).disk.files name.now) (λ file. all.items ≡ bytes_of file)) }
-    ensures cause { HasCause (IsMissing E.tells_disk name.now (E.tells env.old)) (E.failures env.old) (E.failures env.new) result }
+/// What a call of an environment returned for a file that must be there: the same, but `Corruption`
+/// with the file's name in place of `NotFound`. It can't see whether the device was counted to have
+/// failed, so a caller's clause excuses such an error only where it was not, as `IsLost` does.
+pub fn found<T>(alloc: Global, name: &str, answer: Result<T>) -> Result<T>
+    ensures { IsFoundOr name.now answer result }
 {
-    let mut file = env.open_sequential_file(name)?;
-    read_rest(alloc, env, &mut file)
+    match answer {
+        Err(status) if status.code == StatusCode::NotFound => {
+            refuse(alloc, StatusCode::Corruption, "missing file", name)
+        }
+        other => other,
+    }
 }
 
-// All bytes of an open file from its place on.
+/// All bytes of a file. `Corruption` where it is missing.
+pub fn read_file<E: Env>(alloc: Global, env: &mut E, name: &str) -> Result<Vec<u8>>
+    ensures does { IsTrue E.models_disk
+        → ChangesFiles E.models_disk same FilesUnchanged (E.observed env.old)
+        (E.observed env.new) result }
+    ensures locks { SameLocks E.models_disk (E.observed env.old) (E.observed env.new) }
+    ensures bytes { IfOk result
+        (λ all. IsTrue E.models_disk
+        → IsSomeAnd ((E.observed env.old).disk.files name.now)
+        (λ file. all.items ≡ bytes_of file)) }
+    ensures cause { HasCause (IsLost E.models_disk name.now (E.observed env.old)
+        (E.failures env.old) (E.failures env.new))
+        (E.failures env.old) (E.failures env.new) result }
+{
+    let mut file = found(alloc, name, env.open_sequential_file(name))?;
+    found(alloc, name, read_rest(alloc, env, &mut file))
+}
+
+// All bytes of an open file from its offset on.
 fn read_rest<E: Env>(alloc: Global, env: &mut E, file: &mut E::File) -> Result<Vec<u8>>
-    ensures ok { IfOk result (λ all. IsReadOut E.Env (opened env.old file.old) all.items (opened env.new file.new)) }
-    ensures err { IfErr result (λ status. IsGivenUp E.Env (opened env.old file.old) status (opened env.new file.new)) }
+    ensures ok { IfOk result
+        (λ all. IsReadOut E.Env (opened env.old file.old) all.items (opened env.new file.new)) }
+    ensures err { IfErr result
+        (λ status. IsGivenUp E.Env (opened env.old file.old) status (opened env.new file.new)) }
 {
     read_to_end(alloc, &mut EnvFile { env, file })
 }
 
-/// Puts these bytes under a name, in place of what is there, by way of a temporary file: it is
-/// made, synced and then renamed. After an Err the temporary file may stand.
-pub fn replace_file<E: Env>(env: &mut E, temp: &str, name: &str, bytes: &[u8]) -> Result<()>
+/// Puts these bytes under a name, where they replace what is there, by way of a temporary file: it
+/// is made, synced and then renamed. `Corruption` where it is missing once it was made. After an
+/// Err the temporary file may be there.
+pub fn replace_file<E: Env>(
+    alloc: Global,
+    env: &mut E,
+    temp: &str,
+    name: &str,
+    bytes: &[u8],
+) -> Result<()>
     requires { temp.now ≢ name.now }
-    ensures does { IsTrue E.tells_disk
-        → Does E.tells_disk (replaced temp.now name.now bytes.now) (Replacing temp.now name.now bytes.now)
-        (E.tells env.old) (E.tells env.new) result }
-    ensures locks { SameLocks E.tells_disk (E.tells env.old) (E.tells env.new) }
-    ensures cause { HasCause (IsUntold E.tells_disk (E.failures env.old) (E.failures env.new)) (E.failures env.old) (E.failures env.new) result }
+    ensures does { IsTrue E.models_disk
+        → ChangesFiles E.models_disk (replaced temp.now name.now bytes.now)
+        (Replacing temp.now name.now bytes.now)
+        (E.observed env.old) (E.observed env.new) result }
+    ensures locks { SameLocks E.models_disk (E.observed env.old) (E.observed env.new) }
+    ensures cause { HasCause (IsUnobserved E.models_disk temp.now
+        (E.failures env.old) (E.failures env.new))
+        (E.failures env.old) (E.failures env.new) result }
 {
     let mut file = env.open_writable_file(temp)?;
-    env.append(&mut file, bytes)?;
-    env.sync(&mut file)?;
-    env.rename(temp, name)
+    found(alloc, temp, env.append(&mut file, bytes))?;
+    found(alloc, temp, env.sync(&mut file))?;
+    found(alloc, temp, env.rename(temp, name))
 }

@@ -1,12 +1,12 @@
 //! Bloom filters: each key sets some bits, and a key of which all are set may be one of those.
 //!
-//! A filter is its bits, eight a byte from the lowest on, and in one more byte how many of them stand for a key.
-ghost use Rattle.std.specs.Prelude.{◌≡◌, ◌==◌, ◌||◌, false, ◌*◌, ◌^◌, ◌<◌, ◌≤◌, ℕ, List, IfOk, IfErr, All, MatchOption, length, fold, slice_index};
+//! A filter is its bits, eight a byte from the lowest on, and in one more byte how many of them a
+//! key has.
+ghost use Rattle.std.specs.Prelude.{◌≡◌, ◌==◌, ◌||◌, false, ◌*◌, ◌^◌, ◌<◌, ◌≤◌, ℕ, MatchOption, length, fold, slice_index};
 ghost use Rattle.std.specs.List.{list_all, list_any};
-ghost use Rattle.std.specs.List.Sorted.{IsNonDecreasing};
 ghost use Rattle.byteorder.specs.Endian.{little_number};
-ghost use Rattle.leveldb_env.specs.Filters.{keys_at};
-ghost use Rattle.leveldb_env.specs.Bloom.{mixed, hash_behind, bloom_hash, probe_count, probes, has_bit, bits_len, is_probe, bits_of, count_in, tells_nothing};
+ghost use Rattle.leveldb_env.specs.Filter.{keys_at};
+ghost use Rattle.leveldb_env.specs.Bloom.{mixed, bloom_hash, probe_count, probes, has_bit, bits_len, is_probe, bits_of, count_in, matches_all};
 
 use crate::filter::{FilterPolicy, key_at};
 use leveldb_base::error::{Result, StatusCode, err};
@@ -20,10 +20,10 @@ const FACTOR: u32 = 0xc6a4_a793;
 // A filter with more probes a key is none that this policy reads.
 const MAX_PROBES: u8 = 30;
 
-// 32 bits can't number the bits of so many bytes.
+// 32 bits can't number the bits of this many bytes.
 const TOO_LONG: usize = 1 << 29;
 
-/// LevelDB's filters, of so many bits a key. Clauses see the policy as that number.
+/// LevelDB's filters, of `bits_per_key` bits a key. Clauses see the policy as that number.
 #[derive(Clone, Copy, Debug)]
 pub struct BloomPolicy {
     bits_per_key: u32,
@@ -38,7 +38,8 @@ impl Model for BloomPolicy {
 }
 
 impl BloomPolicy {
-    /// Filters of so many bits a key. With ten, one key in a hundred matches a filter that it isn't in.
+    /// Filters of `bits_per_key` bits a key. With ten, one key in a hundred matches a filter that
+    /// it isn't in.
     pub fn new(bits_per_key: u32) -> BloomPolicy
         ensures { result ≡ bits_per_key }
     {
@@ -48,14 +49,14 @@ impl BloomPolicy {
 
 impl FilterPolicy for BloomPolicy {
     ghost use Rattle.std.specs.Prelude.{codes};
-    ghost use Rattle.leveldb_env.specs.Bloom.{bloom_filter, bloom_matches, IsTooLarge};
-    ghost use Rattle.leveldb_env.specs.BloomLaws.{bloom_finds};
+    ghost use Rattle.leveldb_env.specs.Bloom.{bloom_filter, bloom_matches, HasTooManyBits};
+    ghost use Rattle.leveldb_env.specs.FilterLaws.{bloom_finds};
 
     ghost name = { λ _. codes "leveldb.BuiltinBloomFilter2" };
 
     ghost filter_for = { bloom_filter };
 
-    ghost too_large = { IsTooLarge };
+    ghost too_large = { HasTooManyBits };
 
     ghost matches = { λ _. bloom_matches };
 
@@ -80,15 +81,16 @@ impl FilterPolicy for BloomPolicy {
     }
 
     fn key_may_match(&self, key: &[u8], filter: &[u8]) -> bool {
-        tells_nothing(filter) || has_probes(filter, key)
+        matches_all(filter) || has_probes(filter, key)
     }
 
     ghost finds = { bloom_finds };
 }
 
-// How many bytes so many keys take, where 32 bits can number their bits.
+// How many bytes the bits of `keys` keys take, where 32 bits can number them.
 fn checked_bits_len(bits_per_key: u32, keys: usize) -> Option<usize>
-    ensures { MatchOption result (2 ^ 32 ≤ 8 * bits_len bits_per_key keys) (λ len. (len ≡ bits_len bits_per_key keys) × (8 * len < 2 ^ 32)) }
+    ensures { MatchOption result (2 ^ 32 ≤ 8 * bits_len bits_per_key keys)
+        (λ len. (len ≡ bits_len bits_per_key keys) × (8 * len < 2 ^ 32)) }
 {
     let bits = keys.checked_mul(bits_per_key as usize)?;
     let len = bits.max(64).div_ceil(8);
@@ -105,9 +107,10 @@ fn probe_count(bits_per_key: u32) -> u8
 fn set_keys(bytes: &mut [u8], count: u8, keys: &[u8], key_offsets: &[usize])
     requires some { 0 < length bytes.old }
     requires fits { 8 * length bytes.old < 2 ^ 32 }
-    requires rising { IsNonDecreasing key_offsets.now }
-    requires within { All (λ offset. offset ≤ length keys.now) key_offsets.now }
-    ensures bits { (bit : ℕ) → has_bit bytes.new bit ≡ (has_bit bytes.old bit || is_probe (8 * length bytes.old) count (keys_at key_offsets.now keys.now) bit) }
+    ensures bits { (bit : ℕ)
+        → has_bit bytes.new bit ≡
+        (has_bit bytes.old bit || is_probe (8 * length bytes.old) count
+        (keys_at key_offsets.now keys.now) bit) }
     ensures bytes { (k : ℕ) → slice_index bytes.new k < 256 }
 {
     for i in 0..key_offsets.len() {
@@ -119,7 +122,8 @@ fn set_keys(bytes: &mut [u8], count: u8, keys: &[u8], key_offsets: &[usize])
 fn set_probes(bytes: &mut [u8], count: u8, key: &[u8])
     requires some { 0 < length bytes.old }
     requires fits { 8 * length bytes.old < 2 ^ 32 }
-    ensures { (bit : ℕ) → has_bit bytes.new bit ≡ (has_bit bytes.old bit || list_any (λ probe. probe == bit) (probes (8 * length bytes.old) count key.now)) }
+    ensures { (bit : ℕ) → has_bit bytes.new bit ≡ (has_bit bytes.old bit || list_any
+        (λ probe. probe == bit) (probes (8 * length bytes.old) count key.now)) }
 {
     let bits = 8 * bytes.len() as u32;
     let mut probe = bloom_hash(key);
@@ -139,8 +143,8 @@ fn set_bit(bytes: &mut [u8], bit: u32)
 }
 
 // Whether a filter lets every key pass.
-fn tells_nothing(filter: &[u8]) -> bool
-    ensures { result ≡ tells_nothing filter.now }
+fn matches_all(filter: &[u8]) -> bool
+    ensures { result ≡ matches_all filter.now }
 {
     let len = filter.len().saturating_sub(1);
     len == 0 || filter[len] > MAX_PROBES || len >= TOO_LONG
@@ -148,8 +152,9 @@ fn tells_nothing(filter: &[u8]) -> bool
 
 // Whether each bit of the key is set.
 fn has_probes(filter: &[u8], key: &[u8]) -> bool
-    requires { tells_nothing filter.now ≡ false }
-    ensures { result ≡ list_all (has_bit filter.now) (probes (bits_of filter.now) (count_in filter.now) key.now) }
+    requires { matches_all filter.now ≡ false }
+    ensures { result ≡ list_all (has_bit filter.now)
+        (probes (bits_of filter.now) (count_in filter.now) key.now) }
 {
     let len = filter.len() - 1;
     let bits = 8 * len as u32;
@@ -170,7 +175,7 @@ fn bloom_hash(key: &[u8]) -> u32
 {
     let len = (key.len() % (1 << 32)) as u32;
     let (words, rest) = key.as_chunks::<4>();
-    let hash = behind_words(SEED ^ len.wrapping_mul(FACTOR), words);
+    let hash = hash_words(SEED ^ len.wrapping_mul(FACTOR), words);
     if rest.is_empty() {
         return hash;
     }
@@ -179,7 +184,7 @@ fn bloom_hash(key: &[u8]) -> u32
     mixed(24, hash, word)
 }
 
-fn behind_words(mut hash: u32, words: &[[u8; 4]]) -> u32
+fn hash_words(mut hash: u32, words: &[[u8; 4]]) -> u32
     ensures { result ≡ fold (λ hash word. mixed 16 hash (little_number 4 word)) hash words.now }
 {
     for word in words {

@@ -1,9 +1,8 @@
 //! Filters of internal keys, into which the users' keys alone go.
-ghost use Rattle.std.specs.Prelude.{◌≡◌, ◌≤◌, ℕ, List, IfOk, IfErr, All, length, map};
-ghost use Rattle.std.specs.List.Sorted.{IsNonDecreasing};
+ghost use Rattle.std.specs.Prelude.{◌≡◌, IfOk, IfErr, map};
 ghost use Rattle.leveldb_base.specs.KeyTypes.{user_part};
 ghost use Rattle.leveldb_base.specs.Error.{IsOutOfMemory};
-ghost use Rattle.leveldb_env.specs.Filters.{keys_at};
+ghost use Rattle.leveldb_env.specs.Filter.{keys_at};
 
 use crate::filter::{FilterPolicy, key_at};
 use leveldb_base::error::Result;
@@ -11,8 +10,9 @@ use leveldb_base::key_types::{InternalKey, UserKey};
 use std::alloc::Global;
 use std::marker::Model;
 
-/// A policy for users' keys, put to internal keys: the eight bytes of the tag are cut off each. A key of fewer bytes
-/// has no user's key, and is taken as empty. Clauses see it as the policy for users' keys.
+/// A policy for users' keys, put to internal keys: the eight bytes of the tag are cut off each. A
+/// key of fewer bytes has no user's key, and is taken as empty. Clauses see it as the policy for
+/// users' keys.
 #[derive(Clone, Copy, Debug, Drop)]
 pub struct InternalFilterPolicy<FP> {
     internal: FP,
@@ -36,7 +36,7 @@ impl<FP> InternalFilterPolicy<FP> {
 }
 
 impl<FP: FilterPolicy> FilterPolicy for InternalFilterPolicy<FP> {
-    ghost use Rattle.leveldb_env.specs.InternalFilters.{cut_keys_find};
+    ghost use Rattle.leveldb_env.specs.FilterLaws.{cut_keys_find};
 
     ghost name = { λ inner. FP.name inner };
 
@@ -59,10 +59,11 @@ impl<FP: FilterPolicy> FilterPolicy for InternalFilterPolicy<FP> {
         self.internal.key_may_match(user_key(key), filter)
     }
 
-    ghost finds = { λ inner. cut_keys_find (FP.filter_for inner) (FP.matches inner) (FP.finds inner) };
+    ghost finds = { λ inner. cut_keys_find (FP.filter_for inner) (FP.matches inner)
+        (FP.finds inner) };
 }
 
-// An internal key's tag has so many bytes.
+// The number of bytes of an internal key's tag.
 const TAG_LEN: usize = 8;
 
 #[inline]
@@ -74,11 +75,9 @@ fn user_key(key: InternalKey<'_>) -> UserKey<'_>
 
 // The users' keys, one after another, and where each begins.
 fn user_keys(alloc: Global, keys: &[u8], key_offsets: &[usize]) -> Result<(Vec<u8>, Vec<usize>)>
-    requires rising { IsNonDecreasing key_offsets.now }
-    requires within { All (λ offset. offset ≤ length keys.now) key_offsets.now }
-    ensures keys { IfOk result (λ made. keys_at made.1.items made.0.items ≡ map user_part (keys_at key_offsets.now keys.now)) }
-    ensures rising { IfOk result (λ made. IsNonDecreasing made.1.items) }
-    ensures within { IfOk result (λ made. All (λ offset. offset ≤ length made.0.items) made.1.items) }
+    ensures keys { IfOk result
+        (λ made. keys_at made.1.items made.0.items ≡ map user_part
+        (keys_at key_offsets.now keys.now)) }
     ensures cause { IfErr result IsOutOfMemory }
 {
     let mut users = Vec::with_capacity(alloc, keys.len())?;

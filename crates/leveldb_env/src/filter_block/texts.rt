@@ -1,4 +1,4 @@
-//! Texts one behind the other in one vector, so that all of them can be lent at once.
+//! Texts one after another in one vector, so that all of them can be borrowed at once.
 ghost use Rattle.std.specs.Prelude.{◌≡◌, ◌-◌, ◌≤◌, [], ◌∷◌, ◌++◌, length, replicate, OnOk, OnErr, IfErr};
 ghost use Rattle.std.specs.List.{concat};
 ghost use Rattle.leveldb_base.specs.Error.{IsOutOfMemory};
@@ -19,14 +19,15 @@ pub(crate) struct Texts {
 
 impl Model for Texts {
     ghost use Rattle.std.specs.Prelude.{ℕ, List};
-    ghost use Rattle.leveldb_env.specs.Filters.{keys_at};
-    ghost use Rattle.leveldb_env.specs.FilterBlockParts.{AreTexts};
+    ghost use Rattle.leveldb_env.specs.Filter.{keys_at};
+    ghost use Rattle.leveldb_env.specs.FilterBlock.{AreTexts};
 
     ghost Value = { List (List ℕ) };
 
     ghost view = { λ it. keys_at it.offsets.items it.bytes.items };
 
-    ghost invariant = { λ it. AreTexts it.bytes.items it.offsets.items (keys_at it.offsets.items it.bytes.items) };
+    ghost invariant = { λ it. AreTexts it.bytes.items it.offsets.items
+        (keys_at it.offsets.items it.bytes.items) };
 }
 
 impl Texts {
@@ -67,7 +68,7 @@ impl Texts {
         self.offsets.as_slice()
     }
 
-    /// Puts so many texts behind the others: this one, and then empty ones.
+    /// Appends `count` texts: this one, and then empty ones.
     pub(crate) fn push(&mut self, text: &[u8], count: usize) -> Result<()>
         requires { 1 ≤ count }
         ensures ok { OnOk result (self.new ≡ self.old ++ text.now ∷ replicate (count - 1) []) }

@@ -1,10 +1,8 @@
 //! Files in memory, and what the calls of an environment make of a map of them by name.
 ghost use Rattle.std.specs.Prelude.{◌≡◌, ◌<◌, ◌+◌, ◌^◌, false, [], ◌++◌, length, min, drop, is_some, map, OnOk, OnErr, IfOk, IsSome, string_bytes};
 ghost use Rattle.std.specs.Option.{option_copied};
-ghost use Rattle.leveldb_env.specs.Disk.{bytes_of, kept_file, longer_file, file_kept, with_file, emptied, created, deleted, renamed, extended, synced, without_folder};
-ghost use Rattle.leveldb_env.specs.Calls.{Lists};
-ghost use Rattle.leveldb_env.specs.Folders.{child_under, child_in};
-ghost use Rattle.leveldb_env.specs.Mem.{files_of, copied_over};
+ghost use Rattle.leveldb_env.specs.Env.{bytes_of, kept_file, longer_file, file_kept, with_file, emptied, created, deleted, renamed, extended, synced, without_folder, ListsChildren};
+ghost use Rattle.leveldb_env.specs.MemEnv.{child_under, child_in, files_of, copied_over};
 
 use std::alloc::{AllocError, Global};
 use std::collections::BTreeMap;
@@ -19,11 +17,14 @@ pub struct MemFile {
 
 impl Model for MemFile {
     ghost use Rattle.std.specs.Prelude.{◌≤◌, length, take, drop};
-    ghost use Rattle.leveldb_env.specs.Disk.{File};
+    ghost use Rattle.leveldb_env.specs.Env.{File};
 
     ghost Value = { File };
 
-    ghost view = { λ file. record { kept = take file.kept file.bytes.items; since = drop file.kept file.bytes.items } };
+    ghost view = { λ file. record {
+      kept = take file.kept file.bytes.items;
+      since = drop file.kept file.bytes.items;
+    } };
 
     ghost invariant = { λ file. file.kept ≤ length file.bytes.items };
 }
@@ -53,22 +54,24 @@ impl MemFile {
         self.bytes.len() - self.kept
     }
 
-    /// Copies its bytes from a place on over the front of the target, as far as both go. How many came is answered.
-    pub fn read_at(&self, place: usize, target: &mut [u8]) -> usize
-        ensures count { result ≡ min (length target.old) (length (drop place (bytes_of self.now))) }
-        ensures copied { target.new ≡ copied_over (drop place (bytes_of self.now)) target.old }
-        ensures end { place + result < 2 ^ 64 }
+    /// Copies its bytes from an offset on over the front of the target, as far as both go. Returns
+    /// how many came.
+    pub fn read_at(&self, offset: usize, target: &mut [u8]) -> usize
+        ensures count { result
+            ≡ min (length target.old) (length (drop offset (bytes_of self.now))) }
+        ensures copied { target.new ≡ copied_over (drop offset (bytes_of self.now)) target.old }
+        ensures end { offset + result < 2 ^ 64 }
     {
-        if place >= self.bytes.len() {
+        if offset >= self.bytes.len() {
             return 0;
         }
-        let rest = &self.bytes[place..];
+        let rest = &self.bytes[offset..];
         let n = target.len().min(rest.len());
         target[..n].copy_from_slice(&rest[..n]);
         n
     }
 
-    /// Puts bytes behind its own.
+    /// Appends bytes.
     pub fn append(&mut self, bytes: &[u8]) -> Result<(), AllocError>
         ensures ok { OnOk result (self.new ≡ longer_file bytes.now self.old) }
         ensures err { OnErr result (self.new ≡ self.old) }
@@ -90,7 +93,7 @@ impl MemFile {
         &self.bytes[self.kept..]
     }
 
-    /// The file that a crash leaves: the kept bytes and behind them this tail, all kept.
+    /// The file that a crash leaves: the kept bytes and after them this tail, all kept.
     pub fn left(&self, alloc: Global, tail: &[u8]) -> Result<MemFile, AllocError>
         ensures { IfOk result (λ left. left ≡ kept_file (self.now.kept ++ tail.now)) }
     {
@@ -123,14 +126,15 @@ pub fn copy_files(files: &FileMap) -> Result<FileMap, AllocError>
     files.clone()
 }
 
-/// Puts a file under the name, in place of what stood there.
+/// Puts a file under the name, where it replaces what was there.
 pub fn put_file(
     files: &mut FileMap,
     alloc: Global,
     name: &str,
     file: MemFile,
 ) -> Result<(), AllocError>
-    ensures ok { OnOk result (files_of files.new ≡ with_file name.now (Some file) (files_of files.old)) }
+    ensures ok { OnOk result
+        (files_of files.new ≡ with_file name.now (Some file) (files_of files.old)) }
     ensures err { OnErr result (files_of files.new ≡ files_of files.old) }
 {
     let key = String::from_str(alloc, name)?;
@@ -157,10 +161,11 @@ pub fn create_file(files: &mut FileMap, alloc: Global, name: &str) -> Result<(),
     empty_file(files, alloc, name)
 }
 
-/// Puts bytes behind those of the name's file. Whether the name is there is answered.
+/// Appends bytes to the name's file. Returns whether the name is there.
 pub fn extend_file(files: &mut FileMap, name: &str, bytes: &[u8]) -> Result<bool, AllocError>
     ensures there { IfOk result (λ there. there ≡ is_some (files_of files.old name.now)) }
-    ensures ok { OnOk result (files_of files.new ≡ extended name.now bytes.now (files_of files.old)) }
+    ensures ok { OnOk result
+        (files_of files.new ≡ extended name.now bytes.now (files_of files.old)) }
     ensures missing { result ≡ Ok false → files_of files.new ≡ files_of files.old }
     ensures err { OnErr result (files_of files.new ≡ files_of files.old) }
 {
@@ -171,7 +176,7 @@ pub fn extend_file(files: &mut FileMap, name: &str, bytes: &[u8]) -> Result<bool
     Ok(true)
 }
 
-/// Makes a crash keep all bytes of the name's file. Whether the name is there is answered.
+/// Makes a crash keep all bytes of the name's file. Returns whether the name is there.
 pub fn sync_file(files: &mut FileMap, name: &str) -> bool
     ensures there { result ≡ is_some (files_of files.old name.now) }
     ensures synced { files_of files.new ≡ synced name.now (files_of files.old) }
@@ -184,7 +189,7 @@ pub fn sync_file(files: &mut FileMap, name: &str) -> bool
     true
 }
 
-/// Takes a name and its file away. Whether the name was there is answered.
+/// Removes a name and its file. Returns whether the name was there.
 pub fn delete_file(files: &mut FileMap, name: &str) -> bool
     ensures there { result ≡ is_some (files_of files.old name.now) }
     ensures deleted { files_of files.new ≡ deleted name.now (files_of files.old) }
@@ -193,7 +198,8 @@ pub fn delete_file(files: &mut FileMap, name: &str) -> bool
     files.remove(name).is_some()
 }
 
-/// Gives a file another name, in place of what stood there. Whether the old name was there is answered.
+/// Gives a file another name, where it replaces what was there. Returns whether the old name was
+/// there.
 pub fn rename_file(
     files: &mut FileMap,
     alloc: Global,
@@ -218,7 +224,7 @@ pub fn rename_file(
     Ok(true)
 }
 
-// Puts a file in place of the one that stands under the name.
+// Replaces the file that the name has.
 fn replace_file(files: &mut FileMap, name: &str, file: MemFile)
     requires { IsSome (files_of files.old name.now) }
     ensures { files_of files.new ≡ with_file name.now (Some file) (files_of files.old) }
@@ -228,21 +234,21 @@ fn replace_file(files: &mut FileMap, name: &str, file: MemFile)
     }
 }
 
-/// Takes away each name under the folder.
+/// Removes each name under the folder.
 pub fn remove_folder(files: &mut FileMap, folder: &str)
     ensures { files_of files.new ≡ without_folder folder.now (files_of files.old) }
 {
     files.retain(|name, _file| child_of(folder, name.as_str()).is_none());
 }
 
-// What stands behind the folder and its `/`, of a name that is under it.
+// The part after the folder and its `/`, of a name that is under it.
 fn child_of<'a>(folder: &str, name: &'a str) -> Option<&'a str>
     ensures { option_copied result ≡ child_under folder.now name.now }
 {
     name.strip_prefix(folder)?.strip_prefix('/')
 }
 
-// What stands behind the folder and its `/`, of a name in the folder itself.
+// The part after the folder and its `/`, of a name in the folder itself.
 fn direct_child<'a>(folder: &str, name: &'a str) -> Option<&'a str>
     ensures { option_copied result ≡ child_in folder.now name.now }
 {
@@ -252,13 +258,14 @@ fn direct_child<'a>(folder: &str, name: &'a str) -> Option<&'a str>
     }
 }
 
-/// Of the names under the folder the part behind its `/`, where that has no other `/`.
+/// Of the names under the folder the part after its `/`, where that has no other `/`.
 pub fn list_children(
     files: &FileMap,
     alloc: Global,
     folder: &str,
 ) -> Result<Vec<String>, AllocError>
-    ensures { IfOk result (λ names. Lists (files_of files.now) folder.now (map string_bytes names.items)) }
+    ensures { IfOk result
+        (λ names. ListsChildren (files_of files.now) folder.now (map string_bytes names.items)) }
 {
     let mut children = Vec::new(alloc);
     for name in files.keys() {

@@ -1,10 +1,9 @@
-//! Files in memory, with a journal that tells what they were at each moment of a run of calls.
-ghost use Rattle.std.specs.Prelude.{◌≡◌, ◌+◌, ◌*◌, ◌<◌, ◌^◌, ◌&&◌, ◌||◌, true, false, Bool, ℕ, List, OnOk, OnErr, IfOk, Ok, None, vec_len, vec_capacity, nat_le};
+//! Files in memory, with a journal of what they were at each moment of a run of calls.
+ghost use Rattle.std.specs.Prelude.{◌≡◌, ◌+◌, ◌*◌, ◌<◌, ◌^◌, ◌&&◌, ◌||◌, true, false, ℕ, List, OnOk, IfOk, Ok, None, vec_len, vec_capacity, nat_le};
 ghost use Rattle.std.specs.Option.{option_copied};
-ghost use Rattle.leveldb_env.specs.Disk.{same};
-ghost use Rattle.leveldb_env.specs.Calls.{EitherSide, Still};
-ghost use Rattle.leveldb_env.specs.Journal.{asked, noted, name_in, may_stand, is_append, finds, files_at, call_behind, after, where_done, files_after, are_within};
-ghost use Rattle.leveldb_env.specs.Mem.{files_of};
+ghost use Rattle.leveldb_env.specs.Env.{same, BeforeOrAfter, FilesUnchanged};
+ghost use Rattle.leveldb_env.specs.Journal.{requested, noted, name_in, may_be_made, is_append, files_at, call_after, after, where_done, files_after, are_within, MakesChange};
+ghost use Rattle.leveldb_env.specs.MemEnv.{files_of};
 
 use super::files;
 use super::files::FileMap;
@@ -24,13 +23,13 @@ pub enum Change<N, B> {
 }
 
 /// A change as a call asks for it.
-pub type Asked<'a> = Change<&'a str, &'a [u8]>;
+pub type Requested<'a> = Change<&'a str, &'a [u8]>;
 
 /// A change as the journal keeps it.
 pub type Noted = Change<String, Vec<u8>>;
 
 /// The name of the file that a change is of.
-pub fn name_in<'a>(change: &Asked<'a>) -> &'a str
+pub fn name_in<'a>(change: &Requested<'a>) -> &'a str
     ensures { result.now ≡ name_in change.now }
 {
     match change {
@@ -44,24 +43,21 @@ pub fn name_in<'a>(change: &Asked<'a>) -> &'a str
     }
 }
 
-/// Whether a change may stand though its call is refused or cut off: all but a sync.
-pub fn may_stand(change: &Asked<'_>) -> bool
-    ensures { result ≡ may_stand change.now }
+/// Whether a change may be made though its call fails or is cut off: all but a sync.
+pub fn may_be_made(change: &Requested<'_>) -> bool
+    ensures { result ≡ may_be_made change.now }
 {
     !matches!(change, Change::Synced(_))
 }
 
-// Makes a change of the files where it is done. Whether the name that it needs is there is answered.
+// Makes a change of the files where it is done. Returns whether the name that it needs is there.
 fn make_change(
     files: &mut FileMap,
     alloc: Global,
-    change: &Asked<'_>,
+    change: &Requested<'_>,
     done: bool,
 ) -> Result<bool, AllocError>
-    ensures there { IfOk result (λ there. done ≡ true → there ≡ finds change.now (files_of files.old)) }
-    ensures ok { OnOk result (files_of files.new ≡ where_done done (asked change.now) (files_of files.old)) }
-    ensures missing { result ≡ Ok false → files_of files.new ≡ files_of files.old }
-    ensures err { OnErr result (files_of files.new ≡ files_of files.old) }
+    ensures { MakesChange change.now done (files_of files.old) result (files_of files.new) }
 {
     if !done {
         return Ok(true);
@@ -79,9 +75,9 @@ fn make_change(
 }
 
 // The change with names and bytes of its own.
-fn note_change(alloc: Global, change: &Asked<'_>) -> Result<Noted, AllocError>
-    ensures change { IfOk result (λ own. noted own ≡ asked change.now) }
-    ensures may { IfOk result (λ own. may_stand own ≡ may_stand change.now) }
+fn note_change(alloc: Global, change: &Requested<'_>) -> Result<Noted, AllocError>
+    ensures change { IfOk result (λ own. noted own ≡ requested change.now) }
+    ensures may { IfOk result (λ own. may_be_made own ≡ may_be_made change.now) }
 {
     Ok(match change {
         Change::Emptied(name) => Change::Emptied(String::from_str(alloc, name)?),
@@ -101,7 +97,7 @@ fn note_change(alloc: Global, change: &Asked<'_>) -> Result<Noted, AllocError>
 // The number of the first call that isn't counted.
 const UNCOUNTED: u64 = 1 << 62;
 
-/// The call of this number, counted from 1, asked for a change, which stands where it is done.
+/// The call of this number, counted from 1, asked for a change, which was made where it is done.
 #[derive(Drop)]
 pub struct Call {
     number: u64,
@@ -122,7 +118,7 @@ pub struct Journal {
 }
 
 impl Journal {
-    ghost use Rattle.leveldb_env.specs.Record.{stood_in, Passed};
+    ghost use Rattle.leveldb_env.specs.Record.{files_were, Passed};
 
     /// No file, and no call made.
     pub fn new(alloc: Global) -> Journal
@@ -152,30 +148,34 @@ impl Journal {
 
     /// The files at a moment, on this side of a change in flight; an append in flight is whole.
     pub fn files_at(&self, alloc: Global, moment: u64, side: bool) -> Result<FileMap, AllocError>
-        ensures { IfOk result (λ files. files_of files ≡ files_at (files_of self.now.first) self.now.calls.items moment side) }
+        ensures { IfOk result
+            (λ files. files_of files ≡ files_at
+            (files_of self.now.first) self.now.calls.items moment side) }
     {
         let mut files = self.files_after(alloc, moment / 2)?;
         if moment % 2 == 0 {
             return Ok(files);
         }
-        if let Some(call) = self.call_behind(moment / 2) {
-            let change = lend_change(&call.change);
-            make_change(&mut files, alloc, &change, stands_inside(&change, side))?;
+        if let Some(call) = self.call_after(moment / 2) {
+            let change = borrow_change(&call.change);
+            make_change(&mut files, alloc, &change, is_made_inside(&change, side))?;
         }
         Ok(files)
     }
 
-    // The call behind the first n, if it asked for a change.
-    fn call_behind(&self, n: u64) -> Option<&Call>
+    // The call after the first n, if it asked for a change.
+    fn call_after(&self, n: u64) -> Option<&Call>
         requires { n + 1 < 2 ^ 64 }
-        ensures { option_copied result ≡ call_behind self.now.calls.items n }
+        ensures { option_copied result ≡ call_after self.now.calls.items n }
     {
         self.calls.iter().find(|call| call.number == n + 1)
     }
 
     // The files after the first n calls.
     fn files_after(&self, alloc: Global, n: u64) -> Result<FileMap, AllocError>
-        ensures { IfOk result (λ files. files_of files ≡ files_after (files_of self.now.first) self.now.calls.items n) }
+        ensures { IfOk result
+            (λ files. files_of files ≡ files_after
+            (files_of self.now.first) self.now.calls.items n) }
     {
         let mut files = files::copy_files(&self.first)?;
         for call in &self.calls {
@@ -210,27 +210,30 @@ impl Journal {
         requires { self.old.count + 1 < 2 ^ 62 }
         ensures counted { self.new.count ≡ self.old.count + 1 }
         ensures files { self.new.files ≡ self.old.files }
-        ensures time { Passed (Still (files_of self.old.files)) self.old self.new }
+        ensures time { Passed (FilesUnchanged (files_of self.old.files)) self.old self.new }
     {
         self.count += 1;
     }
 
-    /// Counts a call that asks for a change, and makes it where it is done. Whether the name that it
-    /// needs is there is answered. A refusal changes no file and isn't one of the calls that asked.
+    /// Counts a call that asks for a change, and makes it where it is done. Returns whether the
+    /// name that it needs is there. An error changes no file, and the call isn't one of those that
+    /// asked.
     pub fn make(
         &mut self,
         alloc: Global,
-        change: &Asked<'_>,
+        change: &Requested<'_>,
         done: bool,
     ) -> Result<bool, AllocError>
         requires { self.old.count + 1 < 2 ^ 62 }
         ensures counted { self.new.count ≡ self.old.count + 1 }
-        ensures there { IfOk result (λ there. done ≡ true → there ≡ finds change.now (files_of self.old.files)) }
-        ensures ok { OnOk result (files_of self.new.files ≡ where_done done (asked change.now) (files_of self.old.files)) }
-        ensures missing { result ≡ Ok false → files_of self.new.files ≡ files_of self.old.files }
-        ensures err { OnErr result (files_of self.new.files ≡ files_of self.old.files) }
-        ensures time { Passed (EitherSide (asked change.now) (files_of self.old.files)) self.old self.new }
-        ensures inside { OnOk result (stood_in self.new (2 * self.old.count + 1) (where_done (may_stand change.now) (asked change.now) (files_of self.old.files))) }
+        ensures makes { MakesChange change.now done
+            (files_of self.old.files) result (files_of self.new.files) }
+        ensures time { Passed
+            (BeforeOrAfter (requested change.now) (files_of self.old.files)) self.old self.new }
+        ensures inside { OnOk result
+            (files_were self.new (2 * self.old.count + 1)
+            (where_done (may_be_made change.now) (requested change.now)
+            (files_of self.old.files))) }
     {
         self.count += 1;
         let noted_change = take_memory(&mut self.calls, alloc, change)?;
@@ -245,10 +248,10 @@ impl Journal {
     }
 }
 
-// The same change, with its names and bytes lent.
-fn lend_change(change: &Noted) -> Asked<'_>
-    ensures change { asked result ≡ noted change.now }
-    ensures may { may_stand result ≡ may_stand change.now }
+// The same change, with its names and bytes borrowed.
+fn borrow_change(change: &Noted) -> Requested<'_>
+    ensures change { requested result ≡ noted change.now }
+    ensures may { may_be_made result ≡ may_be_made change.now }
     ensures append { is_append result ≡ is_append change.now }
 {
     match change {
@@ -264,18 +267,19 @@ fn lend_change(change: &Noted) -> Asked<'_>
 
 // Makes the change of a call once more, where it was done and is among the first n.
 fn replay_call(files: &mut FileMap, alloc: Global, call: &Call, n: u64) -> Result<(), AllocError>
-    ensures { OnOk result (files_of files.new ≡ where_done (nat_le call.now.number n) (λ files. after files call.now) (files_of files.old)) }
+    ensures { OnOk result (files_of files.new ≡ where_done (nat_le call.now.number n)
+        (λ files. after files call.now) (files_of files.old)) }
 {
     if call.number > n {
         return Ok(());
     }
-    make_change(files, alloc, &lend_change(&call.change), call.done)?;
+    make_change(files, alloc, &borrow_change(&call.change), call.done)?;
     Ok(())
 }
 
-// Whether a change in flight stands on this side: an append does, a sync doesn't.
-fn stands_inside(change: &Asked<'_>, side: bool) -> bool
-    ensures { result ≡ ((side || is_append change.now) && may_stand change.now) }
+// Whether a change in flight is made on this side: an append is, a sync isn't.
+fn is_made_inside(change: &Requested<'_>, side: bool) -> bool
+    ensures { result ≡ ((side || is_append change.now) && may_be_made change.now) }
 {
     match change {
         Change::Extended(_name, _bytes) => true,
@@ -288,10 +292,10 @@ fn stands_inside(change: &Asked<'_>, side: bool) -> bool
 fn take_memory(
     calls: &mut Vec<Call>,
     alloc: Global,
-    change: &Asked<'_>,
+    change: &Requested<'_>,
 ) -> Result<Noted, AllocError>
-    ensures change { IfOk result (λ own. noted own ≡ asked change.now) }
-    ensures may { IfOk result (λ own. may_stand own ≡ may_stand change.now) }
+    ensures change { IfOk result (λ own. noted own ≡ requested change.now) }
+    ensures may { IfOk result (λ own. may_be_made own ≡ may_be_made change.now) }
     ensures room { OnOk result (vec_len calls.new < vec_capacity calls.new) }
     ensures calls { calls.new.items ≡ calls.old.items }
 {

@@ -3,7 +3,7 @@ ghost use Rattle.std.specs.Prelude.{◌≡◌, ◌↔◌, IfOk, IsTrue};
 ghost use Rattle.std.specs.Map.{lookup};
 ghost use Rattle.std.specs.Option.{option_copied};
 ghost use Rattle.std.specs.Str.{bytes_eq};
-ghost use Rattle.leveldb_env.specs.Mem.{files_of};
+ghost use Rattle.leveldb_env.specs.MemEnv.{files_of};
 ghost use Rattle.leveldb_env.specs.Picks.{IsAllowed, IsTailOf, ListsTails, picked, tail_for, tails_of};
 
 use crate::mem_env::files::{FileMap, put_file};
@@ -15,7 +15,7 @@ use std::collections::BTreeMap;
 pub struct Pick {
     /// For named files the bytes that follow the kept ones. Other files keep none.
     pub tails: Vec<(String, Vec<u8>)>,
-    /// Whether the side after a name change in flight stands. It is ignored where none is in flight.
+    /// Whether a name change in flight is made. It is ignored where none is in flight.
     pub after: bool,
 }
 
@@ -66,7 +66,8 @@ pub fn left_files(
     alloc: Global,
     tails: &[(String, Vec<u8>)],
 ) -> Result<FileMap, AllocError>
-    ensures { IfOk result (λ left. files_of left ≡ picked (tails_of tails.now) (files_of files.now)) }
+    ensures { IfOk result
+        (λ left. files_of left ≡ picked (tails_of tails.now) (files_of files.now)) }
 {
     let mut left = BTreeMap::new(alloc);
     for (name, file) in files.iter() {

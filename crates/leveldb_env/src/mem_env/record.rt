@@ -1,16 +1,17 @@
-//! A disk in memory that tells what its files were at each moment.
-ghost use Rattle.std.specs.Prelude.{◌≡◌, ◌<◌, ◌+◌, ◌-◌, ◌^◌, ◌==◌, ◌&&◌, ◌||◌, min, true, false, Bool, ℕ, List, None, Some, if◌then◌else◌, not, IsErr, IsErrAnd, OnOk};
+//! A disk in memory that records what its files were at each moment.
+ghost use Rattle.std.specs.Prelude.{◌≡◌, ◌<◌, ◌+◌, ◌-◌, ◌^◌, ◌==◌, ◌&&◌, ◌||◌, true, false, Bool, ℕ, List, None, Some, if◌then◌else◌, not, IsErr, IsErrAnd, OnOk};
 
 use crate::env::Env;
-use crate::mem_env::journal::{Asked, Change, Journal, may_stand, name_in};
-use crate::mem_env::{MemHandle, Pick, files, missing, picks, put_lock, refuse, take_lock};
+use crate::errors::refuse;
+use crate::mem_env::journal::{Change, Journal, Requested, may_be_made, name_in};
+use crate::mem_env::{MemHandle, Pick, files, missing, picks, put_lock, take_lock};
 use leveldb_base::error::{Result, Status, StatusCode, err};
 use std::alloc::{AllocError, Global};
 use std::collections::BTreeSet;
 
 /// A disk in memory that counts its calls and keeps a journal of those that ask for a change. A
-/// call that is chosen before is refused, with its change made or not. Calls past the first 2^62 - 1
-/// are refused, not counted and change nothing.
+/// call that is chosen before fails, with its change made or not. Calls past the first 2^62 - 1
+/// fail, are not counted and change nothing.
 #[derive(Drop)]
 pub struct RecordEnv {
     alloc: Global,
@@ -27,13 +28,13 @@ const STILL_TO_COME: &str = "that moment is still to come";
 const NO_CRASH_LEAVES: &str = "no crash leaves these tails";
 
 impl RecordEnv {
-    ghost use Rattle.std.specs.Prelude.{◌⊎◌, ◌≤◌, nat_eq, IfOk, IfErr, OnErr};
-    ghost use Rattle.leveldb_env.specs.Mem.{CopiesFrom, IsNoSuchFile};
-    ghost use Rattle.leveldb_env.specs.Calls.{NoMemory};
-    ghost use Rattle.leveldb_env.specs.Disk.{Files, Leaves};
-    ghost use Rattle.leveldb_env.specs.Picks.{ListsTails, picked, tails_of};
-    ghost use Rattle.leveldb_env.specs.Journal.{asked, finds, may_stand, IsNotMade};
-    ghost use Rattle.leveldb_env.specs.Record.{told_of, files_in, locked_in, moment_of, failures_of, fails_in, fails_done, TellsTheSame, is_past, is_chosen, one_more, SameButFailures, Turns, Looks, Asks, files_then, CanLeave, LeavesByChoice, IsFresh};
+    ghost use Rattle.std.specs.Prelude.{◌⊎◌, ◌≤◌, IfOk, IfErr, OnErr};
+    ghost use Rattle.leveldb_env.specs.MemEnv.{CopiesFrom, IsNoSuchFile};
+    ghost use Rattle.leveldb_base.specs.Error.{IsOutOfMemory};
+    ghost use Rattle.leveldb_env.specs.Env.{Files};
+    ghost use Rattle.leveldb_env.specs.Picks.{ListsTails, tails_of};
+    ghost use Rattle.leveldb_env.specs.Journal.{requested, finds_file, may_be_made, IsChangeError};
+    ghost use Rattle.leveldb_env.specs.Record.{record_observed, files_in, locked_in, moment_of, failures_of, fails_in, fails_done, SameObserved, is_past, one_more_failure, SameButFailures, CountsCall, ChangesNoFile, RequestsChange, files_then, CanCrashTo, CrashesByChoice, IsCrash, IsFresh};
 
     /// A disk without a name or a lock, at moment 0. No call is chosen to fail.
     pub fn new(alloc: Global) -> RecordEnv
@@ -57,25 +58,29 @@ impl RecordEnv {
         self.journal.moment()
     }
 
-    /// Chooses the nth call from now, 1 being the next, to answer `IOError`; with `done` its change
-    /// stands all the same, but for a sync. 0 chooses none. A new choice replaces an earlier one.
+    /// Chooses the nth call from now, 1 being the next, to return `IOError`; with `done` its change
+    /// is made all the same, but for a sync. 0 chooses none. A new choice replaces an earlier one.
     pub fn fail(&mut self, nth: u64, done: bool)
         ensures nth { fails_in self.new ≡ nth }
         ensures done { fails_done self.new ≡ done }
-        ensures same { TellsTheSame self.old self.new }
+        ensures same { SameObserved self.old self.new }
     {
         self.fails_in = nth;
         self.fails_done = done;
     }
 
     /// In order of name what the files at a moment have past their kept bytes, where they have any.
-    /// `after` says which side of a name change in flight they are on; an append in flight is whole.
+    /// `after` says which side of a name change in flight they are on; an append in flight is
+    /// whole.
     ///
     /// `InvalidArgument` for a moment that is still to come.
     pub fn tails(&self, alloc: Global, moment: u64, after: bool) -> Result<Vec<(String, Vec<u8>)>>
-        ensures tails { IfOk result (λ tails. ListsTails (files_then self.now moment after) (tails_of tails.items)) }
+        ensures tails { IfOk result
+            (λ tails. ListsTails (files_then self.now moment after) (tails_of tails.items)) }
         ensures come { OnOk result (moment ≤ moment_of self.now) }
-        ensures refused { IfErr result (λ e. NoMemory e ⊎ ((e.code ≡ StatusCode.InvalidArgument) × (moment_of self.now < moment))) }
+        ensures refused { IfErr result
+            (λ e. IsOutOfMemory e
+            ⊎ ((e.code ≡ StatusCode.InvalidArgument) × (moment_of self.now < moment))) }
     {
         if moment > self.moment() {
             return err(alloc, StatusCode::InvalidArgument, STILL_TO_COME);
@@ -85,18 +90,20 @@ impl RecordEnv {
     }
 
     /// The disk that a crash at a moment leaves by this choice: of each file the kept bytes and the
-    /// tail picked for it, then all kept. It begins at moment 0, with no name locked and no call chosen.
+    /// tail picked for it, then all kept. It begins at moment 0, with no name locked and no call
+    /// chosen.
     ///
-    /// `InvalidArgument` for a moment that is still to come, for a name given twice or not there, and
-    /// for a tail that is too long. Each disk that a crash may leave is left by some choice.
+    /// `InvalidArgument` for a moment that is still to come, for a name given twice or not there,
+    /// and for a tail that is too long. Each disk that a crash may leave is left by some choice.
     pub fn disk_at(&self, alloc: Global, moment: u64, pick: &Pick) -> Result<RecordEnv>
-        ensures left { IfOk result (λ left. files_in left ≡ picked (tails_of pick.now.tails.items) (files_then self.now moment pick.now.after)) }
-        ensures leaves { IfOk result (λ left. Leaves (files_then self.now moment pick.now.after) (files_in left)) }
-        ensures fresh { IfOk result IsFresh }
-        ensures stood { (told_of self.now).stood moment (files_then self.now moment pick.now.after) }
-        ensures allowed { OnOk result (CanLeave self.now moment pick.now.after (tails_of pick.now.tails.items)) }
-        ensures refused { IfErr result (λ e. NoMemory e ⊎ ((e.code ≡ StatusCode.InvalidArgument) × (CanLeave self.now moment pick.now.after (tails_of pick.now.tails.items) → ⊥))) }
-        ensures every { LeavesByChoice self.now moment }
+        ensures left { IfOk result (IsCrash self.now moment pick.now) }
+        ensures sides { (side : Bool)
+            → (record_observed self.now).at_moment moment (files_then self.now moment side) }
+        ensures refused { IfErr result
+            (λ e. IsOutOfMemory e
+            ⊎ ((e.code ≡ StatusCode.InvalidArgument)
+            × (CanCrashTo self.now moment pick.now.after (tails_of pick.now.tails.items) → ⊥))) }
+        ensures every { CrashesByChoice self.now moment }
     {
         if moment > self.moment() {
             return err(alloc, StatusCode::InvalidArgument, STILL_TO_COME);
@@ -116,15 +123,16 @@ impl RecordEnv {
         })
     }
 
-    // Copies bytes of the name's file from a place on to the front of the target.
-    fn copy_at(&self, name: &str, place: usize, target: &mut [u8]) -> Result<usize>
-        ensures copied { IfOk result (λ n. CopiesFrom (files_in self.now name.now) place n target.old target.new) }
-        ensures end { IfOk result (λ n. place + n < 2 ^ 64) }
+    // Copies bytes of the name's file from an offset on to the front of the target.
+    fn copy_at(&self, name: &str, offset: usize, target: &mut [u8]) -> Result<usize>
+        ensures copied { IfOk result
+            (λ n. CopiesFrom (files_in self.now name.now) offset n target.old target.new) }
+        ensures end { IfOk result (λ n. offset + n < 2 ^ 64) }
         ensures refused { IfErr result (IsNoSuchFile (files_in self.now) name.now) }
         ensures err { OnErr result (target.new ≡ target.old) }
     {
         match self.journal.files().get(name) {
-            Some(file) => Ok(file.read_at(place, target)),
+            Some(file) => Ok(file.read_at(offset, target)),
             None => missing(self.alloc, name),
         }
     }
@@ -132,7 +140,9 @@ impl RecordEnv {
     // Whether the next call is the chosen one; none where it isn't counted.
     fn turn(&mut self) -> Option<bool>
         ensures turn { result ≡ (if is_past self.old then None else Some (self.old.fails_in == 1)) }
-        ensures next { self.new ≡ record self.old { fails_in = if is_past self.old then self.old.fails_in else self.old.fails_in - 1 } }
+        ensures next { self.new ≡ record self.old {
+          fails_in = if is_past self.old then self.old.fails_in else self.old.fails_in - 1;
+        } }
     {
         if self.journal.is_full() {
             return None;
@@ -142,11 +152,11 @@ impl RecordEnv {
         Some(chosen)
     }
 
-    // The refusal of the device, counted.
+    // The failure of the device, counted.
     #[cold]
     fn refuse_call<T>(&mut self) -> Result<T>
         ensures code { IsErrAnd result (λ e. e.code ≡ StatusCode.IOError) }
-        ensures count { failures_of self.new ≡ one_more (failures_of self.old) }
+        ensures count { failures_of self.new ≡ one_more_failure (failures_of self.old) }
         ensures same { SameButFailures self.old self.new }
     {
         self.failures = self.failures.saturating_add(1);
@@ -155,9 +165,9 @@ impl RecordEnv {
 
     // A call that asks for no change.
     fn look(&mut self) -> Result<()>
-        ensures looks { Looks self.old self.new }
+        ensures looks { ChangesNoFile self.old self.new }
         ensures files { self.new.journal.files ≡ self.old.journal.files }
-        ensures turns { Turns (λ _. ⊥) self.old self.new result }
+        ensures turns { CountsCall (λ _. ⊥) self.old self.new result }
         ensures locks { self.new.locks ≡ self.old.locks }
     {
         let Some(chosen) = self.turn() else {
@@ -170,11 +180,12 @@ impl RecordEnv {
         Ok(())
     }
 
-    // A call that finds no memory for what it is to answer.
+    // A call that finds no memory for what it is to return.
     #[cold]
     fn find_no_memory<T>(&mut self) -> Result<T>
-        ensures asks { (change : Files → Files) (may : Bool) → Asks change may self.old self.new result }
-        ensures turns { Turns NoMemory self.old self.new result }
+        ensures asks { (change : Files → Files) (may : Bool)
+            → RequestsChange change may self.old self.new result }
+        ensures turns { CountsCall IsOutOfMemory self.old self.new result }
         ensures locks { self.new.locks ≡ self.old.locks }
         ensures err { IsErr result }
     {
@@ -185,18 +196,21 @@ impl RecordEnv {
         Err(Status::from(AllocError))
     }
 
-    // Whether a call's change is made: not where it's the chosen one, but if it's to stand all the same.
-    fn is_made(&self, chosen: bool, change: &Asked<'_>) -> bool
-        ensures { result ≡ (not chosen || (may_stand change.now && self.now.fails_done)) }
+    // Whether a call's change is made: not where it's the chosen one, unless it's to be made all
+    // the same.
+    fn is_made(&self, chosen: bool, change: &Requested<'_>) -> bool
+        ensures { result ≡ (not chosen || (may_be_made change.now && self.now.fails_done)) }
     {
-        !chosen || (may_stand(change) && self.fails_done)
+        !chosen || (may_be_made(change) && self.fails_done)
     }
 
     // A call that asks for a change.
-    fn ask(&mut self, change: &Asked<'_>) -> Result<()>
-        ensures asks { Asks (asked change.now) (may_stand change.now) self.old self.new result }
-        ensures turns { Turns (IsNotMade change.now (files_in self.old)) self.old self.new result }
-        ensures there { OnOk result (finds change.now (files_in self.old) ≡ true) }
+    fn ask(&mut self, change: &Requested<'_>) -> Result<()>
+        ensures asks { RequestsChange (requested change.now)
+            (may_be_made change.now) self.old self.new result }
+        ensures turns { CountsCall
+            (IsChangeError change.now (files_in self.old)) self.old self.new result }
+        ensures there { OnOk result (finds_file change.now (files_in self.old) ≡ true) }
         ensures locks { self.new.locks ≡ self.old.locks }
     {
         let Some(chosen) = self.turn() else {
@@ -216,39 +230,41 @@ impl RecordEnv {
 
 impl Env for RecordEnv {
     ghost use Rattle.std.specs.Prelude.{◌⊎◌, refl, is_ok, is_some, length, map, string_bytes, Ok, Result, IfOk, IfErr, IsSome, IsSomeAnd, OnErr};
-    ghost use Rattle.leveldb_env.specs.Calls.{NoMemory, Lists};
-    ghost use Rattle.leveldb_env.specs.Disk.{bytes_of, emptied, created, deleted, renamed, extended, synced, without_folder, lock_set};
-    ghost use Rattle.leveldb_env.specs.Mem.{CopiesFrom, IsNoFileOrMemory, IsNoSuchFile, IsAlreadyLocked, IsNotLocked, handle_name, handle_place};
-    ghost use Rattle.leveldb_env.specs.Record.{told_of, files_in, locked_in, moment_of, failures_of, Turns, Looks, Asks};
-    ghost use Rattle.leveldb_env.specs.RecordLaws.{stands_alone, stands_now, fails_below};
+    ghost use Rattle.leveldb_base.specs.Error.{IsOutOfMemory};
+    ghost use Rattle.leveldb_env.specs.Env.{ListsChildren, bytes_of, emptied, created, deleted, renamed, extended, synced, without_folder, lock_set};
+    ghost use Rattle.leveldb_env.specs.MemEnv.{CopiesFrom, IsNoFileOrMemory, IsNoSuchFile, IsAlreadyLocked, IsNotLocked, handle_name, handle_offset, IsMovedBy};
+    ghost use Rattle.leveldb_env.specs.Record.{record_observed, files_in, locked_in, moment_of, failures_of, CountsCall, ChangesNoFile, RequestsChange};
+    ghost use Rattle.leveldb_env.specs.MemEnvLaws.{record_only_now, record_counts_now, record_failures_below};
 
     type File = MemHandle;
 
-    ghost tells_disk = { true };
+    ghost models_disk = { true };
 
-    ghost tells_moments = { true };
+    ghost models_moments = { true };
 
-    ghost tells = { told_of };
+    ghost observed = { record_observed };
 
     ghost failures = { failures_of };
 
     ghost name_of = { handle_name };
 
-    ghost place_of = { handle_place };
+    ghost offset_of = { handle_offset };
 
-    ghost counts = { fails_below };
+    ghost counts = { record_failures_below };
 
-    ghost only_now = { stands_alone };
+    ghost only_now = { record_only_now };
 
-    ghost counts_now = { stands_now };
+    ghost counts_now = { record_counts_now };
 
-    ghost moments_need_disk = { λ told. refl };
+    ghost moments_need_disk = { λ modelled. refl };
 
     fn open_sequential_file(&mut self, name: &str) -> Result<MemHandle>
-        ensures looks { Looks self.old self.new }
-        ensures turns { Turns (IsNoFileOrMemory (files_in self.old) name.now) self.old self.new result }
+        ensures looks { ChangesNoFile self.old self.new }
+        ensures turns { CountsCall
+            (IsNoFileOrMemory (files_in self.old) name.now) self.old self.new result }
         ensures locks { locked_in self.new ≡ locked_in self.old }
-        ensures file { IfOk result (λ file. (handle_name file ≡ name.now) × (handle_place file ≡ 0)) }
+        ensures file { IfOk result
+            (λ file. (handle_name file ≡ name.now) × (handle_offset file ≡ 0)) }
         ensures there { OnOk result (IsSome (files_in self.old name.now)) }
     {
         self.look()?;
@@ -259,18 +275,20 @@ impl Env for RecordEnv {
     }
 
     fn open_random_access_file(&mut self, name: &str) -> Result<MemHandle>
-        ensures looks { Looks self.old self.new }
-        ensures turns { Turns (IsNoFileOrMemory (files_in self.old) name.now) self.old self.new result }
+        ensures looks { ChangesNoFile self.old self.new }
+        ensures turns { CountsCall
+            (IsNoFileOrMemory (files_in self.old) name.now) self.old self.new result }
         ensures locks { locked_in self.new ≡ locked_in self.old }
-        ensures file { IfOk result (λ file. (handle_name file ≡ name.now) × (handle_place file ≡ 0)) }
+        ensures file { IfOk result
+            (λ file. (handle_name file ≡ name.now) × (handle_offset file ≡ 0)) }
         ensures there { OnOk result (IsSome (files_in self.old name.now)) }
     {
         self.open_sequential_file(name)
     }
 
     fn open_writable_file(&mut self, name: &str) -> Result<MemHandle>
-        ensures asks { Asks (emptied name.now) true self.old self.new result }
-        ensures turns { Turns NoMemory self.old self.new result }
+        ensures asks { RequestsChange (emptied name.now) true self.old self.new result }
+        ensures turns { CountsCall IsOutOfMemory self.old self.new result }
         ensures locks { locked_in self.new ≡ locked_in self.old }
         ensures file { IfOk result (λ file. handle_name file ≡ name.now) }
     {
@@ -282,8 +300,8 @@ impl Env for RecordEnv {
     }
 
     fn open_appendable_file(&mut self, name: &str) -> Result<MemHandle>
-        ensures asks { Asks (created name.now) true self.old self.new result }
-        ensures turns { Turns NoMemory self.old self.new result }
+        ensures asks { RequestsChange (created name.now) true self.old self.new result }
+        ensures turns { CountsCall IsOutOfMemory self.old self.new result }
         ensures locks { locked_in self.new ≡ locked_in self.old }
         ensures file { IfOk result (λ file. handle_name file ≡ name.now) }
     {
@@ -295,34 +313,41 @@ impl Env for RecordEnv {
     }
 
     fn read(&mut self, file: &mut MemHandle, target: &mut [u8]) -> Result<usize>
-        ensures looks { Looks self.old self.new }
-        ensures turns { Turns (IsNoSuchFile (files_in self.old) (handle_name file.old)) self.old self.new result }
+        ensures looks { ChangesNoFile self.old self.new }
+        ensures turns { CountsCall
+            (IsNoSuchFile (files_in self.old) (handle_name file.old)) self.old self.new result }
         ensures locks { locked_in self.new ≡ locked_in self.old }
-        ensures copied { IfOk result (λ n. CopiesFrom (files_in self.old (handle_name file.old)) (handle_place file.old) n target.old target.new) }
-        ensures place { IfOk result (λ n. handle_place file.new ≡ handle_place file.old + n) }
-        ensures name { handle_name file.new ≡ handle_name file.old }
+        ensures copied { IfOk result
+            (λ n. CopiesFrom (files_in self.old (handle_name file.old))
+            (handle_offset file.old) n target.old target.new) }
+        ensures moved { IfOk result (λ n. IsMovedBy n file.old file.new) }
         ensures err { OnErr result ((target.new ≡ target.old) × (file.new ≡ file.old)) }
     {
         self.look()?;
-        let n = self.copy_at(file.name.as_str(), file.place, target)?;
-        file.place += n;
+        let n = self.copy_at(file.name.as_str(), file.offset, target)?;
+        file.offset += n;
         Ok(n)
     }
 
-    fn read_at(&mut self, file: &MemHandle, place: usize, target: &mut [u8]) -> Result<usize>
-        ensures looks { Looks self.old self.new }
-        ensures turns { Turns (IsNoSuchFile (files_in self.old) (handle_name file.now)) self.old self.new result }
+    fn read_at(&mut self, file: &MemHandle, offset: usize, target: &mut [u8]) -> Result<usize>
+        ensures looks { ChangesNoFile self.old self.new }
+        ensures turns { CountsCall
+            (IsNoSuchFile (files_in self.old) (handle_name file.now)) self.old self.new result }
         ensures locks { locked_in self.new ≡ locked_in self.old }
-        ensures copied { IfOk result (λ n. CopiesFrom (files_in self.old (handle_name file.now)) place n target.old target.new) }
+        ensures copied { IfOk result
+            (λ n. CopiesFrom (files_in self.old
+            (handle_name file.now)) offset n target.old target.new) }
         ensures err { OnErr result (target.new ≡ target.old) }
     {
         self.look()?;
-        self.copy_at(file.name.as_str(), place, target)
+        self.copy_at(file.name.as_str(), offset, target)
     }
 
     fn append(&mut self, file: &mut MemHandle, bytes: &[u8]) -> Result<()>
-        ensures asks { Asks (extended (handle_name file.old) bytes.now) true self.old self.new result }
-        ensures turns { Turns (IsNoFileOrMemory (files_in self.old) (handle_name file.old)) self.old self.new result }
+        ensures asks { RequestsChange
+            (extended (handle_name file.old) bytes.now) true self.old self.new result }
+        ensures turns { CountsCall
+            (IsNoFileOrMemory (files_in self.old) (handle_name file.old)) self.old self.new result }
         ensures locks { locked_in self.new ≡ locked_in self.old }
         ensures there { OnOk result (IsSome (files_in self.old (handle_name file.old))) }
         ensures file { file.new ≡ file.old }
@@ -331,8 +356,10 @@ impl Env for RecordEnv {
     }
 
     fn sync(&mut self, file: &mut MemHandle) -> Result<()>
-        ensures asks { Asks (synced (handle_name file.old)) false self.old self.new result }
-        ensures turns { Turns (IsNoFileOrMemory (files_in self.old) (handle_name file.old)) self.old self.new result }
+        ensures asks { RequestsChange
+            (synced (handle_name file.old)) false self.old self.new result }
+        ensures turns { CountsCall
+            (IsNoFileOrMemory (files_in self.old) (handle_name file.old)) self.old self.new result }
         ensures locks { locked_in self.new ≡ locked_in self.old }
         ensures there { OnOk result (IsSome (files_in self.old (handle_name file.old))) }
         ensures file { file.new ≡ file.old }
@@ -341,8 +368,8 @@ impl Env for RecordEnv {
     }
 
     fn exists(&mut self, name: &str) -> Result<bool>
-        ensures looks { Looks self.old self.new }
-        ensures turns { Turns (λ _. ⊥) self.old self.new result }
+        ensures looks { ChangesNoFile self.old self.new }
+        ensures turns { CountsCall (λ _. ⊥) self.old self.new result }
         ensures locks { locked_in self.new ≡ locked_in self.old }
         ensures answer { IfOk result (λ there. there ≡ is_some (files_in self.old name.now)) }
     {
@@ -351,20 +378,23 @@ impl Env for RecordEnv {
     }
 
     fn children(&mut self, alloc: Global, folder: &str) -> Result<Vec<String>>
-        ensures looks { Looks self.old self.new }
-        ensures turns { Turns NoMemory self.old self.new result }
+        ensures looks { ChangesNoFile self.old self.new }
+        ensures turns { CountsCall IsOutOfMemory self.old self.new result }
         ensures locks { locked_in self.new ≡ locked_in self.old }
-        ensures answer { IfOk result (λ names. Lists (files_in self.old) folder.now (map string_bytes names.items)) }
+        ensures answer { IfOk result
+            (λ names. ListsChildren (files_in self.old) folder.now (map string_bytes names.items)) }
     {
         self.look()?;
         Ok(files::list_children(self.journal.files(), alloc, folder)?)
     }
 
     fn size_of(&mut self, name: &str) -> Result<usize>
-        ensures looks { Looks self.old self.new }
-        ensures turns { Turns (IsNoSuchFile (files_in self.old) name.now) self.old self.new result }
+        ensures looks { ChangesNoFile self.old self.new }
+        ensures turns { CountsCall
+            (IsNoSuchFile (files_in self.old) name.now) self.old self.new result }
         ensures locks { locked_in self.new ≡ locked_in self.old }
-        ensures answer { IfOk result (λ n. IsSomeAnd (files_in self.old name.now) (λ file. n ≡ length (bytes_of file))) }
+        ensures answer { IfOk result
+            (λ n. IsSomeAnd (files_in self.old name.now) (λ file. n ≡ length (bytes_of file))) }
     {
         self.look()?;
         match self.journal.files().get(name) {
@@ -374,8 +404,9 @@ impl Env for RecordEnv {
     }
 
     fn delete(&mut self, name: &str) -> Result<()>
-        ensures asks { Asks (deleted name.now) true self.old self.new result }
-        ensures turns { Turns (IsNoFileOrMemory (files_in self.old) name.now) self.old self.new result }
+        ensures asks { RequestsChange (deleted name.now) true self.old self.new result }
+        ensures turns { CountsCall
+            (IsNoFileOrMemory (files_in self.old) name.now) self.old self.new result }
         ensures locks { locked_in self.new ≡ locked_in self.old }
         ensures there { OnOk result (IsSome (files_in self.old name.now)) }
     {
@@ -383,24 +414,25 @@ impl Env for RecordEnv {
     }
 
     fn mkdir(&mut self, _folder: &str) -> Result<()>
-        ensures looks { Looks self.old self.new }
-        ensures turns { Turns (λ _. ⊥) self.old self.new result }
+        ensures looks { ChangesNoFile self.old self.new }
+        ensures turns { CountsCall (λ _. ⊥) self.old self.new result }
         ensures locks { locked_in self.new ≡ locked_in self.old }
     {
         self.look()
     }
 
     fn rmdir(&mut self, folder: &str) -> Result<()>
-        ensures asks { Asks (without_folder folder.now) true self.old self.new result }
-        ensures turns { Turns NoMemory self.old self.new result }
+        ensures asks { RequestsChange (without_folder folder.now) true self.old self.new result }
+        ensures turns { CountsCall IsOutOfMemory self.old self.new result }
         ensures locks { locked_in self.new ≡ locked_in self.old }
     {
         self.ask(&Change::Cleared(folder))
     }
 
     fn rename(&mut self, from: &str, to: &str) -> Result<()>
-        ensures asks { Asks (renamed from.now to.now) true self.old self.new result }
-        ensures turns { Turns (IsNoFileOrMemory (files_in self.old) from.now) self.old self.new result }
+        ensures asks { RequestsChange (renamed from.now to.now) true self.old self.new result }
+        ensures turns { CountsCall
+            (IsNoFileOrMemory (files_in self.old) from.now) self.old self.new result }
         ensures locks { locked_in self.new ≡ locked_in self.old }
         ensures there { OnOk result (IsSome (files_in self.old from.now)) }
     {
@@ -408,10 +440,15 @@ impl Env for RecordEnv {
     }
 
     fn lock(&mut self, name: &str) -> Result<()>
-        ensures asks { locked_in self.old name.now ≡ false → Asks (created name.now) true self.old self.new result }
-        ensures looks { locked_in self.old name.now ≡ true → Looks self.old self.new }
-        ensures turns { Turns (λ e. NoMemory e ⊎ IsAlreadyLocked (locked_in self.old) name.now e) self.old self.new result }
-        ensures locks { locked_in self.new ≡ (if is_ok result then lock_set name.now true (locked_in self.old) else locked_in self.old) }
+        ensures asks { locked_in self.old name.now ≡ false
+            → RequestsChange (created name.now) true self.old self.new result }
+        ensures looks { locked_in self.old name.now ≡ true → ChangesNoFile self.old self.new }
+        ensures turns { CountsCall
+            (λ e. IsOutOfMemory e
+            ⊎ IsAlreadyLocked (locked_in self.old) name.now e) self.old self.new result }
+        ensures locks { locked_in self.new ≡
+            (if is_ok result then lock_set name.now true
+            (locked_in self.old) else locked_in self.old) }
         ensures was_free { OnOk result (locked_in self.old name.now ≡ false) }
     {
         if self.locks.contains(name) {
@@ -429,9 +466,12 @@ impl Env for RecordEnv {
     }
 
     fn unlock(&mut self, name: &str) -> Result<()>
-        ensures looks { Looks self.old self.new }
-        ensures turns { Turns (IsNotLocked (locked_in self.old) name.now) self.old self.new result }
-        ensures locks { locked_in self.new ≡ (if is_ok result then lock_set name.now false (locked_in self.old) else locked_in self.old) }
+        ensures looks { ChangesNoFile self.old self.new }
+        ensures turns { CountsCall
+            (IsNotLocked (locked_in self.old) name.now) self.old self.new result }
+        ensures locks { locked_in self.new ≡
+            (if is_ok result then lock_set name.now false
+            (locked_in self.old) else locked_in self.old) }
         ensures was_locked { OnOk result (locked_in self.old name.now ≡ true) }
     {
         self.look()?;
@@ -445,8 +485,8 @@ impl Env for RecordEnv {
     }
 
     fn micros(&mut self) -> Result<u64>
-        ensures looks { Looks self.old self.new }
-        ensures turns { Turns (λ _. ⊥) self.old self.new result }
+        ensures looks { ChangesNoFile self.old self.new }
+        ensures turns { CountsCall (λ _. ⊥) self.old self.new result }
         ensures locks { locked_in self.new ≡ locked_in self.old }
         ensures answer { IfOk result (λ time. time ≡ moment_of self.new) }
     {

@@ -1,12 +1,11 @@
 //! The reader of a log: it joins fragments to records.
-ghost use Rattle.std.specs.Prelude.{◌≡◌, ◌≢◌, ◌↔◌, ℕ, ◌+◌, ◌-◌, ◌*◌, ◌%◌, ◌≤◌, ◌<◌, true, false, [], take, drop, length, slice_index, slice_range, vec_len, IfOk, OnOk, IfErr, IfSome, IsErrAnd, IsTrue, MatchOption, List, All, Ok, string_bytes, map, if◌then◌else◌};
-ghost use Rattle.leveldb_base.specs.Error.{status_text};
+ghost use Rattle.std.specs.Prelude.{◌≡◌, ◌≢◌, ◌↔◌, ℕ, ◌+◌, ◌-◌, ◌*◌, ◌%◌, ◌≤◌, ◌<◌, true, false, [], take, drop, length, slice_index, slice_range, vec_len, List, IfOk, OnOk, IfErr, IfSome, IsErrAnd, IsTrue, MatchOption, All, string_bytes, map, if◌then◌else◌};
+ghost use Rattle.leveldb_base.specs.Error.{status_text, IsOutOfMemory};
 ghost use Rattle.leveldb_base.specs.declared.error.StatusCode.TheVariants.{Corruption};
-ghost use Rattle.leveldb_env.specs.Sources.{GivesSome, GivesAll, GivesUp};
-ghost use Rattle.leveldb_env.specs.Calls.{NoMemory};
+ghost use Rattle.leveldb_env.specs.Source.{GivesSome, GivesAll, GivesUp};
 ghost use Rattle.leveldb_mem.specs.Log.{IsBlockSize, log_block_size, clean, bad, LogOf};
-ghost use Rattle.leveldb_mem.specs.Reading.{Comes, Shows, Finds, FindsRecord, FindsEnd, IsDamage, Refuses};
-ghost use Rattle.leveldb_mem.specs.ReadingSteps.{told_length, HasRightChecksum, Passes, Takes, SkipsFiller};
+ghost use Rattle.leveldb_mem.specs.Log.Reader.{IsUnreadThenGiven, HoldsOfRest, FindsNext, IsDamage, ReadResult, new_reader};
+ghost use Rattle.leveldb_mem.specs.Log.Taking.{declared_length, HasRightChecksum, PassesFragment, TakesNext, SkipsFiller};
 
 use super::{BLOCK_SIZE, HEADER_SIZE, type_of};
 use leveldb_base::crc::{crc32, mask_crc};
@@ -15,6 +14,9 @@ use leveldb_env::env::Source;
 use std::alloc::Global;
 use std::marker::Model;
 
+// The most bytes that are asked of a source at a time.
+const PIECE_SIZE: usize = 4096;
+
 /// What a reader finds in its log.
 #[derive(Clone, Copy, Debug, PartialEq, Eq)]
 pub enum Found {
@@ -22,7 +24,8 @@ pub enum Found {
     Record,
     /// The end of the log, between two records.
     End,
-    /// A fragment with a wrong checksum, which was passed. What follows it can be read as a log of its own.
+    /// A fragment with a wrong checksum, which was passed. What follows it can be read as a log of
+    /// its own.
     WrongChecksum,
     /// No record, for this cause.
     Damage(&'static str),
@@ -41,7 +44,7 @@ enum Taken {
     Damage(&'static str),
 }
 
-/// What a reader knows of its log, without the source that the log comes from: each call is given that.
+/// What a reader knows of its log, without the source of the log: each call is given that.
 /// It holds one block at most.
 #[derive(Drop)]
 pub struct ReaderCore {
@@ -56,34 +59,34 @@ pub struct ReaderCore {
 
 impl Model for ReaderCore {
     ghost use Rattle.std.specs.Prelude.{slice_range, vec_len};
-    ghost use Rattle.leveldb_mem.specs.Reading.{Reading};
-    ghost use Rattle.leveldb_mem.specs.ReaderKept.{IsKept};
+    ghost use Rattle.leveldb_mem.specs.Log.Reader.{ReaderState, IsReaderBuffer};
 
-    ghost Value = { Reading };
+    ghost Value = { ReaderState };
 
     ghost view = { λ core. record {
       checked = core.check_crcs;
       size = core.block_size;
-      place = core.used;
+      offset = core.used;
       unread = slice_range core.block.items core.used core.filled;
       failed = core.failed;
     } };
 
-    ghost invariant = { λ core. IsKept core.block_size core.used core.filled (vec_len core.block) };
+    ghost invariant = { λ core.
+        IsReaderBuffer core.block_size core.used core.filled (vec_len core.block) };
 }
 
 impl ReaderCore {
-    /// For a log from its beginning on. Where checksums aren't asked for, any is taken as right.
+    /// For a log from its start on. Without `check_crcs` any checksum is taken as right.
     pub fn new(alloc: Global, check_crcs: bool) -> ReaderCore
-        ensures { result ≡ record { checked = check_crcs; size = log_block_size; place = 0; unread = []; failed = false } }
+        ensures { result ≡ new_reader check_crcs log_block_size }
     {
         ReaderCore::sized(alloc, check_crcs, BLOCK_SIZE)
     }
 
-    /// The same, for blocks of so many bytes.
+    /// The same, for blocks of `block_size` bytes.
     pub fn sized(alloc: Global, check_crcs: bool, block_size: usize) -> ReaderCore
         requires { IsBlockSize block_size }
-        ensures { result ≡ record { checked = check_crcs; size = block_size; place = 0; unread = []; failed = false } }
+        ensures { result ≡ new_reader check_crcs block_size }
     {
         ReaderCore {
             check_crcs,
@@ -98,47 +101,60 @@ impl ReaderCore {
     // The bytes that are still to be read.
     fn unread(&self) -> &[u8]
         ensures value { result.now ≡ self.now.unread }
-        ensures within { length result.now ≤ self.now.size - self.now.place }
+        ensures within { length result.now ≤ self.now.size - self.now.offset }
     {
         &self.block[self.used..self.filled]
     }
 
     // How many bytes are left of the block.
     fn space(&self) -> usize
-        ensures left { result ≡ self.now.size - self.now.place }
+        ensures left { result ≡ self.now.size - self.now.offset }
         ensures size { IsBlockSize self.now.size }
-        ensures inside { self.now.place < self.now.size }
+        ensures inside { self.now.offset < self.now.size }
         ensures within { length self.now.unread ≤ result }
     {
         self.block_size - self.used
     }
 
-    // Reads on until so many bytes are to be read or the source is at its end. Whether they are there is answered.
+    // Reads on, if fewer than `count` bytes are unread, until as many are or the source is at its
+    // end. Returns whether they are.
     fn fill<S: Source>(&mut self, source: &mut S, count: usize) -> Result<bool>
-        requires { self.old.place + count ≤ self.old.size }
-        ensures reader { IfOk result (λ there. self.new ≡ record self.old { unread = self.new.unread }) }
+        requires { self.old.offset + count ≤ self.old.size }
+        ensures reader { IfOk result (λ there.
+            self.new ≡ record self.old { unread = self.new.unread }) }
         ensures there { IfOk result (λ there. there ≡ true
-            → Comes (GivesSome S.gives) self.old.unread source.old self.new.unread source.new × (count ≤ length self.new.unread)) }
+            → IsUnreadThenGiven (GivesSome S.gives) self.old.unread source.old
+            self.new.unread source.new
+            × (count ≤ length self.new.unread)) }
         ensures short { IfOk result (λ there. there ≡ false
-            → Comes (GivesAll S.gives) self.old.unread source.old self.new.unread source.new × (length self.new.unread < count)) }
+            → IsUnreadThenGiven (GivesAll S.gives) self.old.unread source.old
+            self.new.unread source.new
+            × (length self.new.unread < count)) }
         ensures err { IfErr result (λ status. GivesUp S.gives source.old status source.new) }
     {
+        if count <= self.filled - self.used {
+            return Ok(true);
+        }
         make_long(&mut self.block, self.block_size)?;
         let needed = self.used + count;
         self.filled = draw(source, &mut self.block, self.filled, needed)?;
         Ok(needed <= self.filled)
     }
 
-    /// Reads what comes next, a record into the target. Where no record comes, the target holds some bytes of one, or none.
+    /// Reads what comes next, a record into the target. If no record comes, the target holds some
+    /// bytes of one, or none.
     ///
-    /// Damage of another kind than a wrong checksum, a refused read of the source and want of memory fail the reader:
-    /// every later call is `Corruption`.
+    /// Damage other than a wrong checksum, a read of the source that fails and memory that runs out
+    /// fail the reader: every later call is `Corruption`.
     pub fn next_record<S: Source>(&mut self, source: &mut S, target: &mut Vec<u8>) -> Result<Found>
-        ensures found { IfOk result (λ found. Finds S.gives found self.old source.old target.new.items self.new source.new) }
+        ensures found { IfOk result (λ found. FindsNext S.gives found self.old source.old
+            target.new.items self.new source.new) }
         ensures damage { IfOk result (λ found. IsDamage found → self.new.failed ≡ true) }
         ensures err { self.old.failed ≡ false
-            → IfErr result (λ status. GivesUp S.gives source.old status source.new × (self.new.failed ≡ true)) }
-        ensures failed { self.old.failed ≡ true → IsErrAnd result (λ status. status.code ≡ Corruption)
+            → IfErr result (λ status. GivesUp S.gives source.old status source.new
+            × (self.new.failed ≡ true)) }
+        ensures failed { self.old.failed ≡ true
+            → IsErrAnd result (λ status. status.code ≡ Corruption)
             × (self.new ≡ self.old) × (source.new ≡ source.old) }
         ensures cleared { self.old.failed ≡ true → target.new.items ≡ [] }
     {
@@ -159,27 +175,25 @@ impl ReaderCore {
         }
     }
 
-    /// Reads the next record into the target, and answers its length; 0 where the log ends between two records.
+    /// Reads the next record into the target and returns its length; 0 if the log ends between two
+    /// records. After an error the target is empty.
     ///
-    /// Any damage is `Corruption`. Behind a wrong checksum the next call goes on, as at a log of its own. Other damage, a
-    /// refused read of the source and want of memory fail the reader: every later call is `Corruption`.
+    /// Any damage is `Corruption`. After a wrong checksum the next call goes on, as in a log of its
+    /// own. Other damage, a read of the source that fails and memory that runs out fail the reader:
+    /// every later call is `Corruption`.
     pub fn read<S: Source>(&mut self, source: &mut S, target: &mut Vec<u8>) -> Result<usize>
-        ensures count { IfOk result (λ count. count ≡ length target.new.items) }
-        ensures record { IfOk result (λ count. 0 < count
-            → FindsRecord S.gives self.old source.old target.new.items self.new source.new) }
-        ensures end { result ≡ Ok 0 → FindsEnd S.gives self.old source.old self.new source.new }
-        ensures err { self.old.failed ≡ false
-            → IfErr result (λ status. Refuses S.gives self.old source.old status self.new source.new) }
-        ensures failed { self.old.failed ≡ true → IsErrAnd result (λ status. status.code ≡ Corruption)
-            × (self.new ≡ self.old) × (source.new ≡ source.old) }
-        ensures cleared { self.old.failed ≡ true → target.new.items ≡ [] }
+        ensures { ReadResult S.gives self.old source.old result target.new.items
+            self.new source.new }
     {
-        match self.next_record(source, target)? {
-            Found::Record => Ok(target.len()),
-            Found::End => Ok(0),
-            Found::WrongChecksum => self.corruption("Invalid Checksum"),
-            Found::Damage(cause) => self.corruption(cause),
-        }
+        let failed = match self.next_record(source, target) {
+            Ok(Found::Record) => return Ok(target.len()),
+            Ok(Found::End) => return Ok(0),
+            Ok(Found::WrongChecksum) => self.corruption("Invalid Checksum"),
+            Ok(Found::Damage(cause)) => self.corruption(cause),
+            Err(status) => Err(status),
+        };
+        target.clear();
+        failed
     }
 
     fn corruption<T>(&self, cause: &str) -> Result<T>
@@ -194,8 +208,9 @@ impl ReaderCore {
     fn take_record<S: Source>(&mut self, source: &mut S, target: &mut Vec<u8>) -> Result<Found>
         requires empty { target.old.items ≡ [] }
         requires block { IsBlockSize self.old.size }
-        requires inside { self.old.place < self.old.size }
-        ensures ok { IfOk result (λ found. Finds S.gives found self.old source.old target.new.items self.new source.new) }
+        requires inside { self.old.offset < self.old.size }
+        ensures ok { IfOk result (λ found. FindsNext S.gives found self.old source.old
+            target.new.items self.new source.new) }
         ensures err { IfErr result (λ status. GivesUp S.gives source.old status source.new) }
     {
         let mut first = true;
@@ -224,10 +239,11 @@ impl ReaderCore {
         })
     }
 
-    // Takes what comes next. The data of a fragment is put behind what the target holds.
+    // Takes what comes next. The data of a fragment is appended to the target.
     fn take_fragment<S: Source>(&mut self, source: &mut S, target: &mut Vec<u8>) -> Result<Taken>
         ensures ok { IfOk result (λ taken.
-            Takes S.gives taken self.old source.old target.old.items self.new source.new target.new.items) }
+            TakesNext S.gives taken self.old source.old target.old.items
+            self.new source.new target.new.items) }
         ensures err { IfErr result (λ status. GivesUp S.gives source.old status source.new) }
     {
         if self.space() >= HEADER_SIZE {
@@ -237,16 +253,18 @@ impl ReaderCore {
             return Ok(stop);
         }
         match self.take_in_block(source, target)? {
-            Taken::End => Ok(Taken::Damage("no fragment behind filler")),
+            Taken::End => Ok(Taken::Damage("no fragment after filler")),
             taken => Ok(taken),
         }
     }
 
-    // Passes the zeros at the block's end, or answers what comes in their place.
+    // Passes the zeros at the block's end, or returns what comes in their place.
     fn skip_filler<S: Source>(&mut self, source: &mut S) -> Result<Option<Taken>>
-        requires { self.old.size - self.old.place < 7 }
-        ensures ok { IfOk result (λ stop. MatchOption stop (SkipsFiller S.gives self.old source.old self.new source.new)
-            (λ taken. (text : List ℕ) → Takes S.gives taken self.old source.old text self.new source.new text)) }
+        requires { self.old.size - self.old.offset < 7 }
+        ensures ok { IfOk result (λ stop. MatchOption stop
+            (SkipsFiller S.gives self.old source.old self.new source.new)
+            (λ taken. (text : List ℕ)
+            → TakesNext S.gives taken self.old source.old text self.new source.new text)) }
         ensures err { IfErr result (λ status. GivesUp S.gives source.old status source.new) }
     {
         let space = self.space();
@@ -260,11 +278,12 @@ impl ReaderCore {
         Ok(None)
     }
 
-    // The same where a header fits into the block.
+    // The same if a header fits into the block.
     fn take_in_block<S: Source>(&mut self, source: &mut S, target: &mut Vec<u8>) -> Result<Taken>
-        requires { 7 ≤ self.old.size - self.old.place }
+        requires { 7 ≤ self.old.size - self.old.offset }
         ensures ok { IfOk result (λ taken.
-            Takes S.gives taken self.old source.old target.old.items self.new source.new target.new.items) }
+            TakesNext S.gives taken self.old source.old target.old.items
+            self.new source.new target.new.items) }
         ensures err { IfErr result (λ status. GivesUp S.gives source.old status source.new) }
     {
         if !self.fill(source, HEADER_SIZE)? {
@@ -292,16 +311,18 @@ impl ReaderCore {
         }
     }
 
-    // Passes the fragment with so much data that stands at the front. Where its checksum is taken, its data is put behind
-    // what the target holds.
+    // Passes the fragment at the front, whose data has `count` bytes. If its checksum is taken, its
+    // data is appended to the target.
     fn pass_fragment(&mut self, target: &mut Vec<u8>, count: usize) -> Result<Taken>
-        requires header { 7 ≤ self.old.size - self.old.place }
-        requires told { count ≡ told_length self.old.unread }
-        requires bytes { slice_index self.old.unread 4 < 256 × (slice_index self.old.unread 5 < 256) }
-        requires within { self.old.place + (7 + count) ≤ self.old.size }
+        requires header { 7 ≤ self.old.size - self.old.offset }
+        requires stated { count ≡ declared_length self.old.unread }
+        requires bytes { slice_index self.old.unread 4 < 256
+            × (slice_index self.old.unread 5 < 256) }
+        requires within { self.old.offset + (7 + count) ≤ self.old.size }
         requires there { 7 + count ≤ length self.old.unread }
-        ensures ok { IfOk result (λ taken. Passes taken self.old target.old.items self.new target.new.items) }
-        ensures memory { IfErr result NoMemory }
+        ensures ok { IfOk result (λ taken.
+            PassesFragment taken self.old target.old.items self.new target.new.items) }
+        ensures memory { IfErr result IsOutOfMemory }
     {
         let (fragment, _) = self.unread().split_at(HEADER_SIZE + count);
         if self.check_crcs && !has_right_checksum(fragment) {
@@ -314,11 +335,14 @@ impl ReaderCore {
         Ok(Taken::Part(kind))
     }
 
-    // Goes on behind so many bytes.
+    // Goes on after `count` bytes.
     fn advance(&mut self, count: usize)
         requires there { count ≤ length self.old.unread }
-        requires within { self.old.place + count ≤ self.old.size }
-        ensures { self.new ≡ record self.old { place = (self.old.place + count) % self.old.size; unread = drop count self.old.unread } }
+        requires within { self.old.offset + count ≤ self.old.size }
+        ensures { self.new ≡ record self.old {
+          offset = (self.old.offset + count) % self.old.size;
+          unread = drop count self.old.unread;
+        } }
     {
         self.used += count;
         if self.used == self.block_size {
@@ -338,13 +362,13 @@ fn is_zeros(bytes: &[u8]) -> bool
 #[inline]
 fn data_length(header: &[u8]) -> usize
     requires { 7 ≤ length header.now }
-    ensures told { result ≡ told_length header.now }
+    ensures stated { result ≡ declared_length header.now }
     ensures bytes { slice_index header.now 4 < 256 × (slice_index header.now 5 < 256) }
 {
     usize::from(header[4]) + 256 * usize::from(header[5])
 }
 
-// Why a fragment of this type has no place where it stands.
+// Why a fragment of this type can't come here.
 fn misplaced(kind: u8) -> &'static str {
     match kind {
         1 | 2 => "record inside another",
@@ -362,13 +386,14 @@ fn has_right_checksum(fragment: &[u8]) -> bool
     fragment[..4] == sum[..]
 }
 
-// Makes the bytes so many, if they are fewer.
+// Makes the bytes `size` many, if they are fewer.
 fn make_long(bytes: &mut Vec<u8>, size: usize) -> Result<()>
     requires { vec_len bytes.old ≤ size }
     ensures long { OnOk result (vec_len bytes.new ≡ size) }
-    ensures kept { (n : ℕ) → n ≤ vec_len bytes.old → take n bytes.new.items ≡ take n bytes.old.items }
+    ensures kept { (n : ℕ) → n ≤ vec_len bytes.old
+        → take n bytes.new.items ≡ take n bytes.old.items }
     ensures most { vec_len bytes.old ≤ vec_len bytes.new × (vec_len bytes.new ≤ size) }
-    ensures memory { IfErr result NoMemory }
+    ensures memory { IfErr result IsOutOfMemory }
 {
     if bytes.len() < size {
         bytes.resize(size, 0)?;
@@ -376,8 +401,8 @@ fn make_long(bytes: &mut Vec<u8>, size: usize) -> Result<()>
     Ok(())
 }
 
-// Reads behind the first bytes of the target until so many are there or the source is at its end.
-// How many are there is answered.
+// Reads into the target, after the `there` bytes that it has, until it has `needed` or the source
+// is at its end. Returns how many it has.
 fn draw<S: Source>(source: &mut S, target: &mut [u8], there: usize, needed: usize) -> Result<usize>
     requires there { there ≤ length target.old }
     requires fits { needed ≤ length target.old }
@@ -391,7 +416,8 @@ fn draw<S: Source>(source: &mut S, target: &mut [u8], there: usize, needed: usiz
 {
     let mut count = there;
     while count < needed {
-        let more = source.read_some(&mut target[count..])?;
+        let size = PIECE_SIZE.min(target.len() - count);
+        let more = source.read_some(&mut target[count..count + size])?;
         if more == 0 {
             return Ok(count);
         }
@@ -408,9 +434,9 @@ pub struct LogReader<R: Source> {
 }
 
 impl<R: Source> LogReader<R> {
-    /// For a log from its beginning on. Where checksums aren't asked for, any is taken as right.
+    /// For a log from its start on. Without `check_crcs` any checksum is taken as right.
     pub fn new(alloc: Global, source: R, check_crcs: bool) -> LogReader<R>
-        ensures core { result.core ≡ record { checked = check_crcs; size = log_block_size; place = 0; unread = []; failed = false } }
+        ensures core { result.core ≡ new_reader check_crcs log_block_size }
         ensures source { result.source ≡ source }
     {
         LogReader {
@@ -419,10 +445,10 @@ impl<R: Source> LogReader<R> {
         }
     }
 
-    /// The same, for blocks of so many bytes.
+    /// The same, for blocks of `block_size` bytes.
     pub fn sized(alloc: Global, source: R, check_crcs: bool, block_size: usize) -> LogReader<R>
         requires { IsBlockSize block_size }
-        ensures core { result.core ≡ record { checked = check_crcs; size = block_size; place = 0; unread = []; failed = false } }
+        ensures core { result.core ≡ new_reader check_crcs block_size }
         ensures source { result.source ≡ source }
     {
         LogReader {
@@ -431,32 +457,26 @@ impl<R: Source> LogReader<R> {
         }
     }
 
-    /// Reads the next record into the target, and answers its length; 0 where the log ends between two records.
-    /// Of refusals `ReaderCore::read` tells more.
+    /// Reads the next record into the target and returns its length; 0 if the log ends between two
+    /// records. After an error the target is empty. `ReaderCore::read` says more of errors.
     pub fn read(&mut self, target: &mut Vec<u8>) -> Result<usize>
-        ensures count { IfOk result (λ count. count ≡ length target.new.items) }
-        ensures record { IfOk result (λ count. 0 < count
-            → FindsRecord R.gives self.old.core self.old.source target.new.items self.new.core self.new.source) }
-        ensures end { result ≡ Ok 0 → FindsEnd R.gives self.old.core self.old.source self.new.core self.new.source }
-        ensures err { self.old.core.failed ≡ false
-            → IfErr result (λ status. Refuses R.gives self.old.core self.old.source status self.new.core self.new.source) }
-        ensures failed { self.old.core.failed ≡ true → IsErrAnd result (λ status. status.code ≡ Corruption)
-            × (self.new.core ≡ self.old.core) × (self.new.source ≡ self.old.source) }
-        ensures cleared { self.old.core.failed ≡ true → target.new.items ≡ [] }
+        ensures { ReadResult R.gives self.old.core self.old.source result target.new.items
+            self.new.core self.new.source }
     {
         self.core.read(&mut self.source, target)
     }
 }
 
-/// The records of all that a source still gives, as a log from its beginning on, and whether it ends between two of them.
-/// Behind other ends nothing more is read.
+/// The records of all that a source still gives, as a log from its start on, and whether it ends
+/// between two of them. After other ends nothing more is read.
 pub fn read_records<S: Source>(
     alloc: Global,
     source: &mut S,
     check_crcs: bool,
 ) -> Result<(Vec<Vec<u8>>, bool)>
-    ensures log { IfOk result (λ found. Shows S.gives
-        (LogOf check_crcs log_block_size (map (λ v. v.items) found.0.items) (if found.1 then clean else bad) 0) [] source.old source.new) }
+    ensures log { IfOk result (λ found. HoldsOfRest S.gives
+        (LogOf check_crcs log_block_size (map (λ v. v.items) found.0.items)
+        (if found.1 then clean else bad) 0) [] source.old source.new) }
     ensures err { IfErr result (λ status. GivesUp S.gives source.old status source.new) }
 {
     let mut core = ReaderCore::new(alloc, check_crcs);

@@ -1,9 +1,8 @@
-//! The writer of a log: it frames records and hands each on in one put.
-ghost use Rattle.std.specs.Prelude.{◌≡◌, ◌≢◌, ◌%◌, ◌<◌, ◌≤◌, ◌++◌, true, false, [], length, OnOk, IfOk, IfErr, IsErrAnd};
+//! The writer of a log: it frames records and puts each into its sink in one piece.
+ghost use Rattle.std.specs.Prelude.{◌≡◌, ◌≢◌, ◌%◌, ◌<◌, ◌≤◌, ◌++◌, true, false, [], length, OnOk, IfErr};
 ghost use Rattle.leveldb_base.specs.Error.{IsOutOfMemory};
-ghost use Rattle.leveldb_mem.specs.Log.{IsBlockSize, log_block_size, filler, room, checksum, fragment_bytes, fragment_at, framed_record};
-ghost use Rattle.leveldb_mem.specs.LogLaws.Fragments.{fragment_of};
-ghost use Rattle.leveldb_mem.specs.Writing.{IsBroken, Adds, Keeps, Refuses, Flushes};
+ghost use Rattle.leveldb_mem.specs.Log.{IsBlockSize, log_block_size, filler, room, checksum, fragment_bytes, fragment_at, framed_record, fragment_of};
+ghost use Rattle.leveldb_mem.specs.Log.Writer.{IsBroken, AddRecordResult, FlushResult, new_writer};
 
 use super::{BLOCK_SIZE, HEADER_SIZE, type_of};
 use leveldb_base::crc::{digest, mask_crc};
@@ -16,7 +15,7 @@ use std::marker::Model;
 #[derive(Drop)]
 pub struct WriterCore {
     block_size: usize,
-    place: usize,
+    offset: usize,
     broken: bool,
     // The framing of one record.
     frame: Vec<u8>,
@@ -25,67 +24,65 @@ pub struct WriterCore {
 impl Model for WriterCore {
     ghost use Rattle.std.specs.Prelude.{◌<◌};
     ghost use Rattle.leveldb_mem.specs.Log.{IsBlockSize};
-    ghost use Rattle.leveldb_mem.specs.Writing.{Writing};
+    ghost use Rattle.leveldb_mem.specs.Log.Writer.{WriterState};
 
-    ghost Value = { Writing };
+    ghost Value = { WriterState };
 
-    ghost view = { λ core. record { size = core.block_size; place = core.place; broken = core.broken } };
+    ghost view = { λ core.
+        record { size = core.block_size; offset = core.offset; broken = core.broken } };
 
-    ghost invariant = { λ core. IsBlockSize core.block_size × (core.place < core.block_size) };
+    ghost invariant = { λ core. IsBlockSize core.block_size × (core.offset < core.block_size) };
 }
 
 impl WriterCore {
     /// For a log that begins with what is written.
     pub fn new(alloc: Global) -> WriterCore
-        ensures { result ≡ record { size = log_block_size; place = 0; broken = false } }
+        ensures { result ≡ new_writer log_block_size 0 }
     {
         WriterCore::new_with_off(alloc, 0)
     }
 
     /// For a log that has `off` bytes.
     pub fn new_with_off(alloc: Global, off: usize) -> WriterCore
-        ensures { result ≡ record { size = log_block_size; place = off % log_block_size; broken = false } }
+        ensures { result ≡ new_writer log_block_size (off % log_block_size) }
     {
         WriterCore {
             block_size: BLOCK_SIZE,
-            place: off % BLOCK_SIZE,
+            offset: off % BLOCK_SIZE,
             broken: false,
             frame: Vec::new(alloc),
         }
     }
 
-    /// For a log that begins with what is written, in blocks of so many bytes.
+    /// For a log that begins with what is written, in blocks of `block_size` bytes.
     pub fn sized(alloc: Global, block_size: usize) -> WriterCore
         requires { IsBlockSize block_size }
-        ensures { result ≡ record { size = block_size; place = 0; broken = false } }
+        ensures { result ≡ new_writer block_size 0 }
     {
         WriterCore {
             block_size,
-            place: 0,
+            offset: 0,
             broken: false,
             frame: Vec::new(alloc),
         }
     }
 
-    /// Frames a record and puts it into the sink. How many bytes the framing has is answered.
-    /// An empty record puts nothing.
+    /// Frames a record and puts it into the sink. Returns the length of the framing.
+    /// An empty record puts nothing. After an error of the sink every call is `IOError`.
     pub fn add_record<S: Sink>(&mut self, sink: &mut S, text: &[u8]) -> Result<usize>
-        ensures ok { IfOk result (λ count. Adds S.puts self.old sink.old text.now count self.new sink.new) }
-        ensures err { self.old.broken ≡ false
-            → IfErr result (λ status. Refuses S.puts self.old sink.old text.now status self.new sink.new) }
-        ensures broken { self.old.broken ≡ true → IsErrAnd result IsBroken × Keeps self.old sink.old self.new sink.new }
+        ensures { AddRecordResult S.puts self.old sink.old text.now result self.new sink.new }
     {
         self.check_unbroken()?;
         if text.is_empty() {
             return Ok(0);
         }
         self.frame.clear();
-        put_framing(&mut self.frame, self.block_size, self.place, text)?;
+        put_framing(&mut self.frame, self.block_size, self.offset, text)?;
         let count = self.frame.len();
-        let place = (self.place + count) % self.block_size;
+        let offset = (self.offset + count) % self.block_size;
         match sink.put_all(&self.frame) {
             Ok(()) => {
-                self.place = place;
+                self.offset = offset;
                 Ok(count)
             }
             Err(status) => {
@@ -97,8 +94,7 @@ impl WriterCore {
 
     /// Flushes the sink.
     pub fn flush<S: Sink>(&mut self, sink: &mut S) -> Result<()>
-        ensures usable { self.old.broken ≡ false → Flushes S.flushes self.old sink.old result self.new sink.new }
-        ensures broken { self.old.broken ≡ true → IsErrAnd result IsBroken × Keeps self.old sink.old self.new sink.new }
+        ensures { FlushResult S.flushes self.old sink.old result self.new sink.new }
     {
         self.check_unbroken()?;
         let flushed = sink.flush();
@@ -108,7 +104,7 @@ impl WriterCore {
         flushed
     }
 
-    /// Whether the sink has refused a call.
+    /// Returns whether a call of the sink has failed.
     pub fn is_broken(&self) -> bool
         ensures { result ≡ self.now.broken }
     {
@@ -130,55 +126,57 @@ impl WriterCore {
     }
 }
 
-// Puts the framing of a record at this place behind what is there.
-fn put_framing(dst: &mut Vec<u8>, block_size: usize, place: usize, text: &[u8]) -> Result<()>
+// Appends the framing of a record at this offset.
+fn put_framing(dst: &mut Vec<u8>, block_size: usize, offset: usize, text: &[u8]) -> Result<()>
     requires size { IsBlockSize block_size }
-    requires inside { place < block_size }
+    requires inside { offset < block_size }
     requires some { text.now ≢ [] }
-    ensures ok { OnOk result (dst.new.items ≡ dst.old.items ++ framed_record block_size text.now place) }
+    ensures ok { OnOk result
+        (dst.new.items ≡ dst.old.items ++ framed_record block_size text.now offset) }
     ensures memory { IfErr result IsOutOfMemory }
 {
-    let mut place = place;
+    let mut offset = offset;
     let mut first = true;
     let mut rest = text;
-    while rest.len() > room(block_size, place) {
-        let (part, others) = rest.split_at(room(block_size, place));
-        put_fragment(dst, block_size, place, type_of(first, false), part)?;
-        place = 0;
+    while rest.len() > room(block_size, offset) {
+        let (part, others) = rest.split_at(room(block_size, offset));
+        put_fragment(dst, block_size, offset, type_of(first, false), part)?;
+        offset = 0;
         first = false;
         rest = others;
     }
-    put_fragment(dst, block_size, place, type_of(first, true), rest)
+    put_fragment(dst, block_size, offset, type_of(first, true), rest)
 }
 
-// Puts filler, where the fragment needs it, and the fragment behind what is there.
+// Appends filler, where the fragment needs it, and the fragment.
 fn put_fragment(
     dst: &mut Vec<u8>,
     block_size: usize,
-    place: usize,
+    offset: usize,
     kind: u8,
     part: &[u8],
 ) -> Result<()>
     requires size { IsBlockSize block_size }
-    requires inside { place < block_size }
-    requires fits { length part.now ≤ room block_size place }
-    ensures ok { OnOk result (dst.new.items ≡ dst.old.items ++ fragment_at block_size (fragment_of kind part.now) place) }
+    requires inside { offset < block_size }
+    requires fits { length part.now ≤ room block_size offset }
+    ensures ok { OnOk result (dst.new.items
+        ≡ dst.old.items ++ fragment_at block_size (fragment_of kind part.now) offset) }
     ensures memory { IfErr result IsOutOfMemory }
 {
-    put_filler(dst, block_size, place)?;
+    put_filler(dst, block_size, offset)?;
     dst.extend_from_slice(&header_of(kind, part))?;
     dst.extend_from_slice(part)?;
     Ok(())
 }
 
-// Puts zeros up to the block's end where no header fits.
-fn put_filler(dst: &mut Vec<u8>, block_size: usize, place: usize) -> Result<()>
+// Appends zeros up to the block's end where no header fits.
+fn put_filler(dst: &mut Vec<u8>, block_size: usize, offset: usize) -> Result<()>
     requires size { IsBlockSize block_size }
-    requires inside { place < block_size }
-    ensures ok { OnOk result (dst.new.items ≡ dst.old.items ++ filler block_size place) }
+    requires inside { offset < block_size }
+    ensures ok { OnOk result (dst.new.items ≡ dst.old.items ++ filler block_size offset) }
     ensures memory { IfErr result IsOutOfMemory }
 {
-    let space = block_size - place;
+    let space = block_size - offset;
     if space < HEADER_SIZE {
         dst.extend_from_slice(&[0; HEADER_SIZE][..space])?;
     }
@@ -188,7 +186,8 @@ fn put_filler(dst: &mut Vec<u8>, block_size: usize, place: usize) -> Result<()>
 // The header of a fragment.
 fn header_of(kind: u8, part: &[u8]) -> [u8; HEADER_SIZE]
     requires { length part.now < 65536 }
-    ensures { result ++ part.now ≡ fragment_bytes (checksum (fragment_of kind part.now)) (fragment_of kind part.now) }
+    ensures { let fragment = fragment_of kind part.now in
+        result ++ part.now ≡ fragment_bytes (checksum fragment) fragment }
 {
     let mut digest = digest();
     digest.update(&[kind]);
@@ -200,12 +199,12 @@ fn header_of(kind: u8, part: &[u8]) -> [u8; HEADER_SIZE]
 
 // The most data that the next fragment can have.
 #[inline]
-fn room(block_size: usize, place: usize) -> usize
+fn room(block_size: usize, offset: usize) -> usize
     requires size { IsBlockSize block_size }
-    requires inside { place < block_size }
-    ensures { result ≡ room block_size place }
+    requires inside { offset < block_size }
+    ensures { result ≡ room block_size offset }
 {
-    let space = block_size - place;
+    let space = block_size - offset;
     if space < HEADER_SIZE {
         block_size - HEADER_SIZE
     } else {
@@ -223,7 +222,7 @@ pub struct LogWriter<W: Sink> {
 impl<W: Sink> LogWriter<W> {
     /// For a log that begins with what is written.
     pub fn new(alloc: Global, sink: W) -> LogWriter<W>
-        ensures core { result.core ≡ record { size = log_block_size; place = 0; broken = false } }
+        ensures core { result.core ≡ new_writer log_block_size 0 }
         ensures sink { result.sink ≡ sink }
     {
         LogWriter {
@@ -234,7 +233,7 @@ impl<W: Sink> LogWriter<W> {
 
     /// For a log that has `off` bytes.
     pub fn new_with_off(alloc: Global, sink: W, off: usize) -> LogWriter<W>
-        ensures core { result.core ≡ record { size = log_block_size; place = off % log_block_size; broken = false } }
+        ensures core { result.core ≡ new_writer log_block_size (off % log_block_size) }
         ensures sink { result.sink ≡ sink }
     {
         LogWriter {
@@ -243,10 +242,10 @@ impl<W: Sink> LogWriter<W> {
         }
     }
 
-    /// For a log that begins with what is written, in blocks of so many bytes.
+    /// For a log that begins with what is written, in blocks of `block_size` bytes.
     pub fn sized(alloc: Global, sink: W, block_size: usize) -> LogWriter<W>
         requires { IsBlockSize block_size }
-        ensures core { result.core ≡ record { size = block_size; place = 0; broken = false } }
+        ensures core { result.core ≡ new_writer block_size 0 }
         ensures sink { result.sink ≡ sink }
     {
         LogWriter {
@@ -255,25 +254,19 @@ impl<W: Sink> LogWriter<W> {
         }
     }
 
-    /// Frames a record and puts it into the sink. How many bytes the framing has is answered.
-    /// An empty record puts nothing.
+    /// Frames a record and puts it into the sink. Returns the length of the framing.
+    /// An empty record puts nothing. After an error of the sink every call is `IOError`.
     pub fn add_record(&mut self, text: &[u8]) -> Result<usize>
-        ensures ok { IfOk result
-            (λ count. Adds W.puts self.old.core self.old.sink text.now count self.new.core self.new.sink) }
-        ensures err { self.old.core.broken ≡ false → IfErr result
-            (λ status. Refuses W.puts self.old.core self.old.sink text.now status self.new.core self.new.sink) }
-        ensures broken { self.old.core.broken ≡ true
-            → IsErrAnd result IsBroken × Keeps self.old.core self.old.sink self.new.core self.new.sink }
+        ensures { AddRecordResult W.puts self.old.core self.old.sink text.now
+            result self.new.core self.new.sink }
     {
         self.core.add_record(&mut self.sink, text)
     }
 
     /// Flushes the sink.
     pub fn flush(&mut self) -> Result<()>
-        ensures usable { self.old.core.broken ≡ false
-            → Flushes W.flushes self.old.core self.old.sink result self.new.core self.new.sink }
-        ensures broken { self.old.core.broken ≡ true
-            → IsErrAnd result IsBroken × Keeps self.old.core self.old.sink self.new.core self.new.sink }
+        ensures { FlushResult W.flushes self.old.core self.old.sink
+            result self.new.core self.new.sink }
     {
         self.core.flush(&mut self.sink)
     }

@@ -1,17 +1,17 @@
 //! A walk over the entries of a memtable.
-ghost use Rattle.std.specs.Prelude.{◌≡◌, ◌<◌, length, map};
+ghost use Rattle.std.specs.Prelude.{map};
 ghost use Rattle.std.specs.Ordering.{is_lt};
 ghost use Rattle.std.specs.Option.{ForSome};
 ghost use Rattle.leveldb_base.specs.KeyTypes.{inner_key, internal_cmp};
+ghost use Rattle.leveldb_mem.specs.SkipMap.{HasNode, position_of};
 ghost use Rattle.leveldb_mem.specs.MemTable.{internal_pair};
 
 use crate::memtable::MemTable;
 use crate::skipmap::search::Probe;
 use leveldb_base::cmp::{Cmp, UserCmp};
 use leveldb_base::error::Result;
-use leveldb_base::key_types::{InternalKey, cmp_internal_key};
+use leveldb_base::key_types::{InternalKey, cmp_internal_key, front_key};
 use leveldb_base::types::LdbIterator;
-use leveldb_base::varint::get_length_prefixed_slice;
 
 /// An internal key among memtable keys.
 #[derive(Drop)]
@@ -21,21 +21,23 @@ pub(crate) struct AtInternalKey<'a, C> {
 }
 
 impl<'a, C: Cmp> Probe for AtInternalKey<'a, C> {
-    ghost passes = { λ it key. is_lt (internal_cmp (C.cmp it.cmp.now) (inner_key key) it.key.now) };
+    ghost passes = { λ it key.
+        is_lt (internal_cmp (C.cmp it.cmp.now) (inner_key key) it.key.now) };
 
     #[inline]
-    fn is_behind(&self, key: &[u8]) -> bool {
-        cmp_internal_key(self.cmp, inner_text(key), self.key).is_lt()
+    fn is_after(&self, key: &[u8]) -> bool {
+        cmp_internal_key(self.cmp, front_key(key), self.key).is_lt()
     }
 }
 
-/// A walk over internal keys with their values, deletions among them with the empty value, which takes no memory and is
-/// never refused.
+/// A walk over internal keys with their values, deletions among them with the empty value, which
+/// takes no memory and never fails.
 #[derive(Drop)]
 pub struct MemtableIterator<'a, C: Cmp> {
     pub(crate) table: &'a MemTable<C>,
-    pub(crate) place: Option<usize>,
-    ghost within: { ForSome place (λ i. i < length (map internal_pair table.now.kept.entries)) },
+    pub(crate) node: Option<usize>,
+    ghost within: { ForSome node
+        (HasNode table.now.nodes (map internal_pair table.now.kept.entries)) },
 }
 
 impl<'a, C: UserCmp> LdbIterator for MemtableIterator<'a, C> {
@@ -43,63 +45,47 @@ impl<'a, C: UserCmp> LdbIterator for MemtableIterator<'a, C> {
 
     ghost pairs = { λ it. map internal_pair it.table.now.kept.entries };
 
-    ghost position = { λ it. it.place };
+    ghost position = { λ it. position_of it.table.now.nodes it.node };
 
     ghost order = { λ it. internal_cmp (C.cmp it.table.now.cmp) };
 
     ghost fails = { λ _ _ _. ⊥ };
 
     fn advance(&mut self) -> Result<bool> {
-        let end = self.table.pair_count();
-        let next = match self.place {
-            None => 0,
-            Some(i) => i + 1,
+        self.node = match self.node {
+            None => self.table.first(),
+            Some(node) => self.table.after(node),
         };
-        let there = next < end;
-        self.place = if there { Some(next) } else { None };
-        Ok(there)
+        Ok(self.node.is_some())
     }
 
     fn prev(&mut self) -> Result<bool> {
-        self.place = match self.place {
-            Some(i) if i > 0 => Some(i - 1),
-            _ => None,
+        self.node = match self.node {
+            None => None,
+            Some(node) => self.table.previous(node),
         };
-        Ok(self.place.is_some())
+        Ok(self.node.is_some())
     }
 
     fn seek(&mut self, key: &[u8]) -> Result<()> {
-        let at = self.table.pairs_before(key);
-        let end = self.table.pair_count();
-        self.place = if at < end { Some(at) } else { None };
+        self.node = self.table.first_at(key);
         Ok(())
     }
 
     fn current(&self) -> Option<(&[u8], &[u8])> {
-        match self.place {
+        match self.node {
             None => None,
-            Some(i) => Some(self.table.pair(i)),
+            Some(node) => Some(self.table.pair(node)),
         }
     }
 
     fn reset(&mut self) {
-        self.place = None;
+        self.node = None;
     }
 
     fn valid(&self) -> bool {
-        self.place.is_some()
+        self.node.is_some()
     }
 
     ghost in_range = { λ it. Prim.search rules };
-}
-
-// The text behind its length in front, or the empty text where none stands there.
-#[inline]
-pub(crate) fn inner_text(key: &[u8]) -> &[u8]
-    ensures { result.now ≡ inner_key key.now }
-{
-    match get_length_prefixed_slice(key) {
-        Some(texts) => texts.0,
-        None => &key[..0],
-    }
 }

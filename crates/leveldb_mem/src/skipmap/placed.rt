@@ -1,33 +1,42 @@
-//! Pairs of a key and a value in an order that is chosen at each insertion. Keys and values lie in one vector.
-ghost use Rattle.std.specs.Prelude.{◌≡◌, ◌+◌, ◌*◌, ◌^◌, ◌<◌, ◌≤◌, [], ◌++◌, length, take, drop, slice_index_or, OnOk, OnErr, IfErr};
+//! Pairs of a key and a value in a skip list, each after a path that is chosen at its insertion.
+ghost use Rattle.std.specs.Prelude.{◌≡◌, ◌+◌, ◌*◌, ◌^◌, ◌<◌, ◌≤◌, ◌⊎◌, ℕ, List, [], ◌∷◌, ◌++◌, length};
+ghost use Rattle.std.specs.Prelude.{take, drop, slice_index, slice_index_or, vec_len, vec_capacity};
+ghost use Rattle.std.specs.Prelude.{OnOk, OnErr, IfErr};
 ghost use Rattle.std.specs.List.{insert};
 ghost use Rattle.leveldb_base.specs.Error.{IsOutOfMemory};
-ghost use Rattle.leveldb_mem.specs.Placed.{bytes_of};
-ghost use Rattle.leveldb_mem.specs.Searching.{key_at};
+ghost use Rattle.leveldb_mem.specs.Placed.{head, head_words, rank, place_of, IsAt, IsPathTo, bytes_of};
+ghost use Rattle.leveldb_mem.specs.Searching.{key_at, count_while, IsParted};
 
+use crate::skipmap::search::Probe;
+use crate::skipmap::towers::{LINKS_AT, MAX_HEIGHT, MAX_WORDS, keep_last, link_node, node_words};
 use leveldb_base::error::{Result, Status};
 use std::alloc::{AllocError, Global};
 use std::marker::Model;
 
-// There are no more pairs than numbers of 32 bits.
-const MAX_PAIRS: usize = 1 << 32;
+/// The node before the first pair's.
+pub(crate) const HEAD: usize = LINKS_AT;
 
-// Where in the text a key starts, where it ends and its value starts, and where that ends.
-#[derive(Clone, Copy, Debug)]
-struct Node {
-    start: usize,
-    middle: usize,
-    end: usize,
-}
+/// The words of a head, with no links.
+const HEAD_WORDS: [u32; MAX_WORDS] = [0, 0, 0, 12, 0, 0, 0, 0, 0, 0, 0, 0, 0, 0, 0, 0];
 
-/// Pairs in order. `text` up to `end` is their keys and values, and behind that stands what there is of a pair to come.
+/// There are no more words, and no more bytes, than numbers of 32 bits.
+const LIMIT: usize = u32::MAX as usize;
+
+/// At each height the last node before some position.
+pub(crate) type Path = [u32; MAX_HEIGHT];
+
+/// Pairs in order. `text` up to `end` is their keys and values, and after that comes what there is
+/// of a pair to come. `words` are the nodes, with the head as the first, and `last` the last of
+/// them at each height.
 #[derive(Debug, Drop)]
 pub(crate) struct PlacedPairs {
     text: Vec<u8>,
-    nodes: Vec<Node>,
-    order: Vec<u32>,
+    words: Vec<u32>,
+    last: Path,
+    count: usize,
     end: usize,
     places: usize,
+    room: usize,
 }
 
 impl Model for PlacedPairs {
@@ -35,28 +44,41 @@ impl Model for PlacedPairs {
 
     ghost Value = { Placed };
 
-    ghost use Rattle.std.specs.Prelude.{◌≡◌, ◌+◌, ◌-◌, ◌^◌, ◌≤◌, drop, vec_len, vec_capacity};
-    ghost use Rattle.leveldb_mem.specs.Placed.{pairs_in, IsLaid};
+    ghost use Rattle.std.specs.Prelude.{◌≡◌, ◌+◌, ◌*◌, ◌^◌, ◌<◌, ◌≤◌, drop, vec_len, vec_capacity};
+    ghost use Rattle.leveldb_mem.specs.Placed.{head, pairs_in, nodes_after, IsLaid};
 
-    ghost view = { λ it. record { pairs = pairs_in it.text.items it.nodes.items it.order.items; tail = drop it.end it.text.items; places = it.places; bytes = vec_capacity it.text - vec_len it.text } };
+    ghost view = { λ it. record {
+      pairs = pairs_in it.text.items it.words.items (nodes_after it.words.items head it.count);
+      tail = drop it.end it.text.items;
+      places = it.places;
+      bytes = it.room;
+      order = nodes_after it.words.items head it.count;
+      words = it.words.items;
+    } };
 
-    ghost invariant = { λ it. IsLaid it.text.items it.nodes.items it.order.items it.end
-        × (vec_len it.nodes + it.places ≤ vec_capacity it.nodes) × (vec_len it.order + it.places ≤ vec_capacity it.order)
-        × (vec_len it.nodes + it.places ≤ 2 ^ 32) };
+    ghost invariant = { λ it. IsLaid it.text.items it.words.items it.last it.count it.end
+        × (0 < it.places → 0 < vec_len it.words)
+        × (vec_len it.words + 16 * it.places ≤ vec_capacity it.words)
+        × (vec_len it.words + 16 * it.places < 2 ^ 32)
+        × (vec_len it.text + it.room ≤ vec_capacity it.text)
+        × (vec_len it.text + it.room < 2 ^ 32) };
 }
 
 impl PlacedPairs {
     pub(crate) fn new(alloc: Global) -> PlacedPairs
         ensures pairs { result.pairs ≡ [] }
+        ensures order { result.order ≡ [] }
         ensures tail { result.tail ≡ [] }
         ensures places { result.places ≡ 0 }
     {
         PlacedPairs {
             text: Vec::new(alloc),
-            nodes: Vec::new(alloc),
-            order: Vec::new(alloc),
+            words: Vec::new(alloc),
+            last: [HEAD as u32; MAX_HEIGHT],
+            count: 0,
             end: 0,
             places: 0,
+            room: 0,
         }
     }
 
@@ -66,32 +88,87 @@ impl PlacedPairs {
 
     #[inline]
     pub(crate) fn len(&self) -> usize
-        ensures { result ≡ length self.now.pairs }
+        ensures value { result ≡ length self.now.pairs }
+        ensures nodes { length self.now.order ≡ length self.now.pairs }
     {
-        self.order.len()
+        self.count
     }
 
-    /// The key at a place.
+    /// The key of a node.
     #[inline]
-    pub(crate) fn key(&self, at: usize) -> &[u8]
-        requires { at < length self.now.pairs }
-        ensures { result.now ≡ key_at self.now.pairs at }
+    pub(crate) fn key(&self, node: usize) -> &[u8]
+        requires { rank self.now.order node < length self.now.order }
+        ensures value { result.now ≡ key_at self.now.pairs (rank self.now.order node) }
+        ensures nodes { length self.now.order ≡ length self.now.pairs }
     {
-        let node = self.nodes[self.order[at] as usize];
-        &self.text[node.start..node.middle]
+        let start = self.words[node - 4] as usize;
+        let length = self.words[node - 3] as usize;
+        &self.text[start..start + length]
     }
 
-    /// The pair at a place.
+    /// The pair of a node.
     #[inline]
-    pub(crate) fn pair(&self, at: usize) -> (&[u8], &[u8])
-        requires { at < length self.now.pairs }
-        ensures { (result.0.now, result.1.now) ≡ slice_index_or self.now.pairs at ([], []) }
+    pub(crate) fn pair(&self, node: usize) -> (&[u8], &[u8])
+        requires { rank self.now.order node < length self.now.order }
+        ensures value { (result.0.now, result.1.now)
+            ≡ slice_index_or self.now.pairs (rank self.now.order node) ([], []) }
+        ensures nodes { length self.now.order ≡ length self.now.pairs }
     {
-        let node = self.nodes[self.order[at] as usize];
-        (
-            &self.text[node.start..node.middle],
-            &self.text[node.middle..node.end],
-        )
+        let start = self.words[node - 4] as usize;
+        let middle = start + self.words[node - 3] as usize;
+        let end = middle + self.words[node - 2] as usize;
+        (&self.text[start..middle], &self.text[middle..end])
+    }
+
+    /// The node after the head or another node, or 0.
+    #[inline]
+    pub(crate) fn after(&self, node: usize) -> usize
+        requires some { 0 < length self.now.order }
+        requires node { rank (head ∷ self.now.order) node ≤ length self.now.order }
+        ensures at { IsAt self.now.order (rank (head ∷ self.now.order) node) result }
+        ensures later { rank self.now.order node < length self.now.order
+            → rank (head ∷ self.now.order) node ≡ rank self.now.order node + 1 }
+        ensures nodes { length self.now.order ≡ length self.now.pairs }
+    {
+        self.words[node] as usize
+    }
+
+    /// The path to the position after the pairs that come before something. It goes from the head
+    /// along each height, from the highest of these down.
+    #[inline]
+    pub(crate) fn path_to<P: Probe>(&self, probe: &P, from: usize) -> Path
+        requires some { 0 < length self.now.order }
+        requires from { (0 < from) × (from ≤ 12) }
+        requires parted { (from ≡ 1) ⊎ IsParted (P.passes probe.now) self.now.pairs }
+        ensures path { IsPathTo self.now.words result from
+            (take (count_while (P.passes probe.now) self.now.pairs) self.now.order) }
+        ensures place { place_of self.now.order result
+            ≡ count_while (P.passes probe.now) self.now.pairs }
+        ensures nodes { length self.now.order ≡ length self.now.pairs }
+    {
+        let mut path = [HEAD as u32; MAX_HEIGHT];
+        let mut node = HEAD;
+        let mut height = from;
+        'descent: while height > 0 {
+            let next = self.words[node + (height - 1)] as usize;
+            if next != 0 && probe.is_after(self.key(next)) {
+                node = next;
+            } else {
+                height -= 1;
+                path[height] = node as u32;
+            }
+        }
+        path
+    }
+
+    /// The path to the position after all pairs.
+    #[inline]
+    pub(crate) fn path_to_end(&self) -> Path
+        ensures path { IsPathTo self.now.words result 12
+            (take (length self.now.pairs) self.now.order) }
+        ensures place { place_of self.now.order result ≡ length self.now.pairs }
+    {
+        self.last
     }
 
     /// For how many pairs there is room.
@@ -102,38 +179,47 @@ impl PlacedPairs {
         self.places
     }
 
-    /// Makes room for so many pairs and so many bytes. More than 2^32 pairs are refused as want of memory.
+    /// Makes room for `places` pairs and `bytes` bytes. It fails as out of memory where 32 bits can't
+    /// number them.
     pub(crate) fn reserve(&mut self, places: usize, bytes: usize) -> Result<()>
         ensures pairs { self.new.pairs ≡ self.old.pairs }
+        ensures order { self.new.order ≡ self.old.order }
+        ensures paths { (path : List ℕ) (at : ℕ)
+            → IsPathTo self.old.words path 12 (take at self.old.order)
+            → IsPathTo self.new.words path 12 (take at self.new.order) }
         ensures tail { self.new.tail ≡ self.old.tail }
         ensures ok { OnOk result ((self.new.places ≡ places) × (bytes ≤ self.new.bytes)) }
         ensures err { OnErr result (self.new.places ≡ self.old.places) }
         ensures bytes { self.old.bytes ≤ self.new.bytes }
         ensures cause { IfErr result IsOutOfMemory }
     {
-        if places > MAX_PAIRS - self.nodes.len() {
+        if places >= (LIMIT - self.words.len()) / MAX_WORDS || bytes > LIMIT - self.text.len() {
             return Err(Status::from(AllocError));
         }
-        self.nodes.reserve(places)?;
-        self.order.reserve(places)?;
+        self.words.reserve(MAX_WORDS * (places + 1))?;
         self.text.reserve(bytes)?;
+        place_head(&mut self.words);
         self.places = places;
+        self.room = self.room.max(bytes);
         Ok(())
     }
 
-    /// Puts bytes behind all others.
+    /// Puts bytes after all others.
     #[inline]
     pub(crate) fn append(&mut self, part: &[u8])
         requires { length part.now ≤ self.old.bytes }
         ensures pairs { self.new.pairs ≡ self.old.pairs }
+        ensures order { self.new.order ≡ self.old.order }
+        ensures words { self.new.words ≡ self.old.words }
         ensures tail { self.new.tail ≡ self.old.tail ++ part.now }
         ensures places { self.new.places ≡ self.old.places }
         ensures bytes { self.old.bytes ≤ self.new.bytes + length part.now }
     {
         self.text.extend_from_slice(part).unwrap();
+        self.room -= part.len();
     }
 
-    /// What stands behind the pairs.
+    /// What comes after the pairs.
     #[inline]
     pub(crate) fn tail(&self) -> &[u8]
         ensures { result.now ≡ self.now.tail }
@@ -141,36 +227,53 @@ impl PlacedPairs {
         &self.text[self.end..]
     }
 
-    /// Takes away what stands behind the pairs.
+    /// Takes away what comes after the pairs.
     pub(crate) fn drop_tail(&mut self)
         ensures pairs { self.new.pairs ≡ self.old.pairs }
+        ensures order { self.new.order ≡ self.old.order }
         ensures tail { self.new.tail ≡ [] }
         ensures places { self.new.places ≡ self.old.places }
         ensures bytes { self.old.bytes + length self.old.tail ≤ self.new.bytes }
     {
+        self.room += self.text.len() - self.end;
         self.text.truncate(self.end);
     }
 
-    /// Makes what stands behind the pairs a pair at this place, with a key of so many bytes.
+    /// Makes what comes after the pairs a pair at the end of a path, with a key of `key_length`
+    /// bytes and a tower of this height.
     #[inline]
-    pub(crate) fn place(&mut self, at: usize, key_length: usize)
-        requires at { at ≤ length self.old.pairs }
+    pub(crate) fn place(&mut self, path: &Path, key_length: usize, height: usize)
+        requires at { place_of self.old.order path.now ≤ length self.old.pairs }
+        requires path { IsPathTo self.old.words path.now 12
+            (take (place_of self.old.order path.now) self.old.order) }
+        requires height { (0 < height) × (height ≤ 12) }
         requires key { key_length ≤ length self.old.tail }
         requires room { 0 < self.old.places }
-        ensures pairs { self.new.pairs ≡ insert self.old.pairs at (take key_length self.old.tail, drop key_length self.old.tail) }
+        ensures pairs { self.new.pairs ≡ insert self.old.pairs (place_of self.old.order path.now)
+            (take key_length self.old.tail, drop key_length self.old.tail) }
+        ensures nodes { length self.new.order ≡ length self.new.pairs }
         ensures tail { self.new.tail ≡ [] }
         ensures places { self.new.places + 1 ≡ self.old.places }
         ensures bytes { self.new.bytes ≡ self.old.bytes }
     {
-        let node = Node {
-            start: self.end,
-            middle: self.end + key_length,
-            end: self.text.len(),
-        };
-        let number = self.nodes.len() as u32;
-        self.nodes.push(node).unwrap();
-        self.order.insert(at, number).unwrap();
-        self.end = node.end;
+        let end = self.text.len();
+        let value_length = end - self.end - key_length;
+        let record = node_words(
+            &self.words,
+            path,
+            self.end as u32,
+            key_length as u32,
+            value_length as u32,
+            height as u32,
+        );
+        let node = (self.words.len() + LINKS_AT) as u32;
+        self.words
+            .extend_from_slice(&record[..LINKS_AT + height])
+            .unwrap();
+        link_node(&mut self.words, path, node, height);
+        keep_last(&mut self.last, &self.words, node, height);
+        self.count += 1;
+        self.end = end;
         self.places -= 1;
     }
 
@@ -179,6 +282,18 @@ impl PlacedPairs {
         ensures value { result ≡ 64 * length self.now.pairs + bytes_of self.now.pairs }
         ensures bound { result + 128 < 2 ^ 64 }
     {
-        64 * self.order.len() + self.end
+        64 * self.count + self.end
+    }
+}
+
+// Puts the words of a head where there are none.
+fn place_head(words: &mut Vec<u32>)
+    requires { vec_len words.old + 16 ≤ vec_capacity words.old }
+    ensures first { vec_len words.old ≡ 0 → words.new.items ≡ head_words }
+    ensures others { 0 < vec_len words.old → words.new.items ≡ words.old.items }
+    ensures capacity { vec_capacity words.old ≤ vec_capacity words.new }
+{
+    if words.is_empty() {
+        words.extend_from_slice(&HEAD_WORDS).unwrap();
     }
 }

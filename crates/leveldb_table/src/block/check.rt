@@ -1,10 +1,9 @@
 //! The check of a block's bytes, in one pass.
 ghost use Rattle.std.specs.Prelude.{◌≡◌, ◌↔◌, All, ◌+◌, ◌*◌, ◌<◌, ◌≤◌, true, length, MatchOption, IsSome, List, [], ◌∷◌, ◌++◌, take, IfOk, OnOk, IfErr, IsTrue};
 ghost use Rattle.leveldb_base.specs.Error.{IsOutOfMemory};
-ghost use Rattle.leveldb_env.specs.Numbers.{numbers_in};
-ghost use Rattle.leveldb_table.specs.Block.{key_of, SharesFrom, RiseBehind};
-ghost use Rattle.leveldb_table.specs.BlockLaws.{begins, points_after};
-ghost use Rattle.leveldb_table.specs.Reading.{entry_in, key_before, CanFollow, count_at_end, Checks};
+ghost use Rattle.leveldb_env.specs.FilterBlock.{numbers_in};
+ghost use Rattle.leveldb_table.specs.Block.{key_of, SharesFrom, RiseAfter};
+ghost use Rattle.leveldb_table.specs.BlockCheck.{begins, points_after, entry_in, key_before, CanFollow, count_at_end, FindsEntries};
 
 use crate::block::entry::{EntryParts, begins_at, take_entry};
 use byteorder::{ByteOrder, LittleEndian};
@@ -28,7 +27,8 @@ fn shares_within(first: bool, restart: bool, key: &[u8], entry: &EntryParts<'_>)
 // Whether the next key is after the one before it.
 #[inline]
 fn rises<C: Cmp>(cmp: &C, first: bool, key: &[u8], next: &[u8]) -> bool
-    ensures { IsTrue result ↔ RiseBehind (C.cmp cmp.now) (key_before first key.now) ((next.now, []) ∷ []) }
+    ensures { IsTrue result
+        ↔ RiseAfter (C.cmp cmp.now) (key_before first key.now) ((next.now, []) ∷ []) }
 {
     first || cmp.cmp(key, next).is_lt()
 }
@@ -41,9 +41,9 @@ fn accepts_too<C: Cmp>(cmp: &C, accepted: bool, key: &[u8]) -> bool
     accepted && cmp.accepts(key)
 }
 
-// The restart points that are left behind an entry, which begins at the first of them or not.
+// The restart points that are left after an entry, which begins at the first of them or not.
 #[inline]
-fn points_behind(points: &[u8], restart: bool) -> &[u8]
+fn skip_point(points: &[u8], restart: bool) -> &[u8]
     requires { restart ≡ true → 4 ≤ length points.now }
     ensures { numbers_in result.now ≡ points_after restart (numbers_in points.now) }
 {
@@ -51,9 +51,11 @@ fn points_behind(points: &[u8], restart: bool) -> &[u8]
 }
 
 // What the restart points tell of a block without entries.
-fn answer_empty(points: &[u8]) -> Option<bool>
-    ensures some { IsSome result → (begins 0 (numbers_in points.now) ≡ true) × (length points.now < 8) }
-    ensures none { begins 0 (numbers_in points.now) ≡ true → length points.now < 8 → IsSome result }
+fn check_empty(points: &[u8]) -> Option<bool>
+    ensures some { IsSome result
+        → (begins 0 (numbers_in points.now) ≡ true) × (length points.now < 8) }
+    ensures none { begins 0 (numbers_in points.now) ≡ true → length points.now < 8
+        → IsSome result }
 {
     if begins_at(points, 0) && points.len() < 8 {
         Some(true)
@@ -65,7 +67,8 @@ fn answer_empty(points: &[u8]) -> Option<bool>
 // Makes it the entry's key.
 #[inline]
 fn put_key(next: &mut Vec<u8>, key: &[u8], entry: &EntryParts<'_>) -> Result<()>
-    ensures ok { OnOk result (next.new.items ≡ take entry.now.shared key.now ++ entry.now.rest.now) }
+    ensures ok { OnOk result
+        (next.new.items ≡ take entry.now.shared key.now ++ entry.now.rest.now) }
     ensures memory { IfErr result IsOutOfMemory }
 {
     let shared = entry.shared.min(key.len());
@@ -75,7 +78,7 @@ fn put_key(next: &mut Vec<u8>, key: &[u8], entry: &EntryParts<'_>) -> Result<()>
     Ok(())
 }
 
-// Puts the entry's key together, and tells whether the entry may stand behind the key before it.
+// Puts the entry's key together, and says whether the entry may be after the key before it.
 fn put_next<C: Cmp>(
     cmp: &C,
     first: bool,
@@ -84,8 +87,10 @@ fn put_next<C: Cmp>(
     entry: &EntryParts<'_>,
     next: &mut Vec<u8>,
 ) -> Result<bool>
-    ensures follows { IfOk result (λ follows. IsTrue follows ↔ CanFollow (C.cmp cmp.now) (key_before first key.now) (entry_in restart entry.now)) }
-    ensures key { IfOk result (λ follows. follows ≡ true → next.new.items ≡ key_of (key_before first key.now) (entry_in restart entry.now)) }
+    ensures follows { IfOk result (λ follows. IsTrue follows
+        ↔ CanFollow (C.cmp cmp.now) (key_before first key.now) (entry_in restart entry.now)) }
+    ensures key { IfOk result (λ follows. follows ≡ true → next.new.items
+        ≡ key_of (key_before first key.now) (entry_in restart entry.now)) }
     ensures memory { IfErr result IsOutOfMemory }
 {
     if !shares_within(first, restart, key, entry) {
@@ -95,29 +100,32 @@ fn put_next<C: Cmp>(
     Ok(rises(cmp, first, key, next.as_slice()))
 }
 
-/// Where the entries of a block end and its restart points begin; `None` where it is too short for those that it counts.
+/// Where the entries of a block end and its restart points begin; `None` where it is too short for
+/// those that it counts.
 pub(crate) fn entries_end(bytes: &[u8]) -> Option<usize>
     ensures bytes { All (λ byte. byte < 256) bytes.now }
-    ensures place { MatchOption result (length bytes.now < 4 * count_at_end bytes.now + 4) (λ limit. limit + (4 * count_at_end bytes.now + 4) ≡ length bytes.now) }
+    ensures limit { MatchOption result (length bytes.now < 4 * count_at_end bytes.now + 4)
+        (λ limit. limit + (4 * count_at_end bytes.now + 4) ≡ length bytes.now) }
 {
     let points_end = bytes.len().checked_sub(4)?;
     let count = LittleEndian::read_u32(&bytes[points_end..]);
     points_end.checked_sub(4 * count as usize)
 }
 
-/// Looks at the entries and the restart points of a block. `None` where they are none; else whether `cmp` accepts all
-/// their keys.
+/// Looks at the entries and the restart points of a block. `None` where they are none; else
+/// whether `cmp` accepts all their keys.
 pub(crate) fn check_parts<C: Cmp>(
     alloc: Global,
     cmp: &C,
     entries: &[u8],
     points: &[u8],
 ) -> Result<Option<bool>>
-    ensures answer { IfOk result (Checks (C.accepts cmp.now) (C.cmp cmp.now) entries.now (numbers_in points.now)) }
+    ensures found { IfOk result
+        (FindsEntries (C.accepts cmp.now) (C.cmp cmp.now) entries.now (numbers_in points.now)) }
     ensures memory { IfErr result IsOutOfMemory }
 {
     if entries.is_empty() {
-        return Ok(answer_empty(points));
+        return Ok(check_empty(points));
     }
     let mut key = Vec::new(alloc);
     let mut next = Vec::new(alloc);
@@ -126,7 +134,7 @@ pub(crate) fn check_parts<C: Cmp>(
     let mut first = true;
     let mut accepted = true;
     while !left.is_empty() {
-        let Some((entry, behind)) = take_entry(left) else {
+        let Some((entry, after)) = take_entry(left) else {
             return Ok(None);
         };
         let restart = begins_at(points_left, entries.len() - left.len());
@@ -136,8 +144,8 @@ pub(crate) fn check_parts<C: Cmp>(
         accepted = accepts_too(cmp, accepted, next.as_slice());
         mem::swap(&mut key, &mut next);
         first = false;
-        left = behind;
-        points_left = points_behind(points_left, restart);
+        left = after;
+        points_left = skip_point(points_left, restart);
     }
     if points_left.len() >= 4 {
         return Ok(None);

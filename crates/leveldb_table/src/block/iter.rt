@@ -2,8 +2,8 @@
 ghost use Rattle.std.specs.Prelude.{◌≡◌, None, OnOk, OnErr, IfErr};
 ghost use Rattle.leveldb_base.specs.Error.{IsOutOfMemory};
 ghost use Rattle.leveldb_table.specs.Block.{pairs_of};
-ghost use Rattle.leveldb_table.specs.Walk.{IsWithin, place_of, last_place};
-ghost use Rattle.leveldb_table.specs.WalkLaws.{IsWithin-prop, IsWithin-place};
+ghost use Rattle.leveldb_table.specs.BlockWalk.{IsWithin, position_of, last_position};
+ghost use Rattle.leveldb_table.specs.BlockLaws.{IsWithin-prop, IsWithin-position};
 
 use crate::block::{Block, BlockCore};
 use leveldb_base::cmp::Cmp;
@@ -11,19 +11,21 @@ use leveldb_base::error::Result;
 use leveldb_base::types::LdbIterator;
 use std::alloc::Global;
 
-/// A walk over a block's pairs, lent from it.
+/// A walk over a block's pairs, borrowed from it.
 #[derive(Drop)]
 pub struct BlockIter<'a, C: Cmp> {
     block: &'a Block<C>,
     core: BlockCore,
-    pub ghost within: { IsWithin block.now.contents block.now.held.0 core.key.items core.spot } by { IsWithin-prop block.now.contents block.now.held.0 core.key.items core.spot },
+    pub ghost within: { IsWithin block.now.contents block.now.entries.0 core.key.items
+        core.spot } by { IsWithin-prop block.now.contents block.now.entries.0 core.key.items
+            core.spot },
 }
 
 impl<'a, C: Cmp> BlockIter<'a, C> {
-    /// A walk over the block's pairs, at no place.
+    /// A walk over the block's pairs, at no position.
     pub fn new(alloc: Global, block: &'a Block<C>) -> BlockIter<'a, C>
         ensures block { result.block.now ≡ block.entry.now }
-        ensures place { result.core.spot ≡ None }
+        ensures position { result.core.spot ≡ None }
     {
         BlockIter {
             block,
@@ -31,11 +33,13 @@ impl<'a, C: Cmp> BlockIter<'a, C> {
         }
     }
 
-    /// Goes to the last pair, or to no place in an empty block.
+    /// Moves to the last pair, or to no position in an empty block.
     pub fn seek_to_last(&mut self) -> Result<()>
         ensures block { self.new.block.now ≡ self.old.block.now }
-        ensures ok { OnOk result (place_of self.new.block.now.held.0 self.new.core.spot ≡ last_place (pairs_of None self.old.block.now.held.0)) }
-        ensures err { OnErr result (place_of self.new.block.now.held.0 self.new.core.spot ≡ None) }
+        ensures ok { OnOk result (position_of self.new.block.now.entries.0 self.new.core.spot
+            ≡ last_position (pairs_of None self.old.block.now.entries.0)) }
+        ensures err { OnErr result
+            (position_of self.new.block.now.entries.0 self.new.core.spot ≡ None) }
         ensures cause { IfErr result IsOutOfMemory }
     {
         self.core.seek_to_last(self.block)
@@ -43,9 +47,9 @@ impl<'a, C: Cmp> BlockIter<'a, C> {
 }
 
 impl<'a, C: Cmp> LdbIterator for BlockIter<'a, C> {
-    ghost pairs = { λ it. pairs_of None it.block.now.held.0 };
+    ghost pairs = { λ it. pairs_of None it.block.now.entries.0 };
 
-    ghost position = { λ it. place_of it.block.now.held.0 it.core.spot };
+    ghost position = { λ it. position_of it.block.now.entries.0 it.core.spot };
 
     ghost order = { λ it. C.cmp it.block.now.cmp };
 
@@ -75,5 +79,6 @@ impl<'a, C: Cmp> LdbIterator for BlockIter<'a, C> {
         self.core.valid()
     }
 
-    ghost in_range = { λ it. IsWithin-place it.block.now.contents it.block.now.held.0 it.core.key.items it.core.spot it.within };
+    ghost in_range = { λ it. IsWithin-position it.block.now.contents it.block.now.entries.0
+        it.core.key.items it.core.spot it.within };
 }

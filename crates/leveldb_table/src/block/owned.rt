@@ -3,8 +3,8 @@ ghost use Rattle.std.specs.Prelude.{◌≡◌, None, Some, IfOk, IfErr, OnOk, On
 ghost use Rattle.leveldb_base.specs.Types.{next_position, previous_position, seek_position, pair_at};
 ghost use Rattle.leveldb_base.specs.Error.{IsOutOfMemory};
 ghost use Rattle.leveldb_table.specs.Block.{pairs_of};
-ghost use Rattle.leveldb_table.specs.Walk.{IsWithin, place_of, last_place};
-ghost use Rattle.leveldb_table.specs.WalkLaws.{IsWithin-prop, IsWithin-place};
+ghost use Rattle.leveldb_table.specs.BlockWalk.{IsWithin, position_of, last_position};
+ghost use Rattle.leveldb_table.specs.BlockLaws.{IsWithin-prop, IsWithin-position};
 
 use crate::block::{Block, BlockCore};
 use bytes::Bytes;
@@ -18,14 +18,14 @@ use std::alloc::Global;
 pub struct BlockWalk<C: Cmp> {
     block: Block<C>,
     core: BlockCore,
-    pub ghost within: { IsWithin block.contents block.held.0 core.key.items core.spot } by { IsWithin-prop block.contents block.held.0 core.key.items core.spot },
+    pub ghost within: { IsWithin block.contents block.entries.0 core.key.items core.spot } by { IsWithin-prop block.contents block.entries.0 core.key.items core.spot },
 }
 
 impl<C: Cmp> BlockWalk<C> {
-    /// A walk over the block's pairs, at no place.
+    /// A walk over the block's pairs, at no position.
     pub fn new(alloc: Global, block: Block<C>) -> BlockWalk<C>
         ensures block { result.block ≡ block }
-        ensures place { result.core.spot ≡ None }
+        ensures position { result.core.spot ≡ None }
     {
         BlockWalk {
             block,
@@ -40,21 +40,25 @@ impl<C: Cmp> BlockWalk<C> {
         &self.block
     }
 
-    /// Goes to the last pair, or to no place in an empty block.
+    /// Moves to the last pair, or to no position in an empty block.
     pub fn seek_to_last(&mut self) -> Result<()>
         ensures block { self.new.block ≡ self.old.block }
-        ensures ok { OnOk result (place_of self.new.block.held.0 self.new.core.spot ≡ last_place (pairs_of None self.old.block.held.0)) }
-        ensures err { OnErr result (place_of self.new.block.held.0 self.new.core.spot ≡ None) }
+        ensures ok { OnOk result (position_of self.new.block.entries.0 self.new.core.spot
+            ≡ last_position (pairs_of None self.old.block.entries.0)) }
+        ensures err { OnErr result
+            (position_of self.new.block.entries.0 self.new.core.spot ≡ None) }
         ensures cause { IfErr result IsOutOfMemory }
     {
         self.core.seek_to_last(&self.block)
     }
 
-    /// The pair on which it stands: the key's bytes become the answer's, and the value's are shared with the block.
+    /// The pair at which it is: the key's bytes become the result's, and the value's are shared
+    /// with the block.
     pub fn into_pair(self) -> Result<Option<(Bytes, Bytes)>>
     where
         C: Drop,
-        ensures ok { IfOk result (λ pair. pair ≡ pair_at (pairs_of None self.block.held.0) (place_of self.block.held.0 self.core.spot)) }
+        ensures ok { IfOk result (λ pair. pair ≡ pair_at (pairs_of None self.block.entries.0)
+            (position_of self.block.entries.0 self.core.spot)) }
         ensures cause { IfErr result IsOutOfMemory }
     {
         self.core.into_pair(&self.block)
@@ -62,9 +66,9 @@ impl<C: Cmp> BlockWalk<C> {
 }
 
 impl<C: Cmp> LdbIterator for BlockWalk<C> {
-    ghost pairs = { λ it. pairs_of None it.block.held.0 };
+    ghost pairs = { λ it. pairs_of None it.block.entries.0 };
 
-    ghost position = { λ it. place_of it.block.held.0 it.core.spot };
+    ghost position = { λ it. position_of it.block.entries.0 it.core.spot };
 
     ghost order = { λ it. C.cmp it.block.cmp };
 
@@ -72,9 +76,13 @@ impl<C: Cmp> LdbIterator for BlockWalk<C> {
 
     fn advance(&mut self) -> Result<bool>
         ensures block { self.new.block ≡ self.old.block }
-        ensures ok { OnOk result (place_of self.new.block.held.0 self.new.core.spot ≡ next_position (pairs_of None self.old.block.held.0) (place_of self.old.block.held.0 self.old.core.spot)) }
-        ensures answer { IfOk result (λ there. there ≡ is_some (place_of self.new.block.held.0 self.new.core.spot)) }
-        ensures err { OnErr result (place_of self.new.block.held.0 self.new.core.spot ≡ None) }
+        ensures ok { OnOk result (position_of self.new.block.entries.0 self.new.core.spot
+            ≡ next_position (pairs_of None self.old.block.entries.0)
+            (position_of self.old.block.entries.0 self.old.core.spot)) }
+        ensures there { IfOk result
+            (λ there. there ≡ is_some (position_of self.new.block.entries.0 self.new.core.spot)) }
+        ensures err { OnErr result
+            (position_of self.new.block.entries.0 self.new.core.spot ≡ None) }
         ensures cause { IfErr result IsOutOfMemory }
     {
         self.core.advance(&self.block)
@@ -82,9 +90,12 @@ impl<C: Cmp> LdbIterator for BlockWalk<C> {
 
     fn prev(&mut self) -> Result<bool>
         ensures block { self.new.block ≡ self.old.block }
-        ensures ok { OnOk result (place_of self.new.block.held.0 self.new.core.spot ≡ previous_position (place_of self.old.block.held.0 self.old.core.spot)) }
-        ensures answer { IfOk result (λ there. there ≡ is_some (place_of self.new.block.held.0 self.new.core.spot)) }
-        ensures err { OnErr result (place_of self.new.block.held.0 self.new.core.spot ≡ None) }
+        ensures ok { OnOk result (position_of self.new.block.entries.0 self.new.core.spot
+            ≡ previous_position (position_of self.old.block.entries.0 self.old.core.spot)) }
+        ensures there { IfOk result
+            (λ there. there ≡ is_some (position_of self.new.block.entries.0 self.new.core.spot)) }
+        ensures err { OnErr result
+            (position_of self.new.block.entries.0 self.new.core.spot ≡ None) }
         ensures cause { IfErr result IsOutOfMemory }
     {
         self.core.prev(&self.block)
@@ -92,8 +103,11 @@ impl<C: Cmp> LdbIterator for BlockWalk<C> {
 
     fn seek(&mut self, key: &[u8]) -> Result<()>
         ensures block { self.new.block ≡ self.old.block }
-        ensures ok { OnOk result (place_of self.new.block.held.0 self.new.core.spot ≡ seek_position (C.cmp self.old.block.cmp) (pairs_of None self.old.block.held.0) key.now) }
-        ensures err { OnErr result (place_of self.new.block.held.0 self.new.core.spot ≡ None) }
+        ensures ok { OnOk result (position_of self.new.block.entries.0 self.new.core.spot
+            ≡ seek_position (C.cmp self.old.block.cmp)
+            (pairs_of None self.old.block.entries.0) key.now) }
+        ensures err { OnErr result
+            (position_of self.new.block.entries.0 self.new.core.spot ≡ None) }
         ensures cause { IfErr result IsOutOfMemory }
     {
         self.core.seek(&self.block, key)
@@ -105,7 +119,7 @@ impl<C: Cmp> LdbIterator for BlockWalk<C> {
 
     fn reset(&mut self)
         ensures block { self.new.block ≡ self.old.block }
-        ensures no_place { place_of self.new.block.held.0 self.new.core.spot ≡ None }
+        ensures no_position { position_of self.new.block.entries.0 self.new.core.spot ≡ None }
     {
         self.core.reset();
     }
@@ -114,5 +128,6 @@ impl<C: Cmp> LdbIterator for BlockWalk<C> {
         self.core.valid()
     }
 
-    ghost in_range = { λ it. IsWithin-place it.block.contents it.block.held.0 it.core.key.items it.core.spot it.within };
+    ghost in_range = { λ it. IsWithin-position it.block.contents it.block.entries.0
+        it.core.key.items it.core.spot it.within };
 }

@@ -1,7 +1,7 @@
 //! The restart points of a block, and the halving over them.
 ghost use Rattle.std.specs.Prelude.{◌≡◌, ◌<◌, length, slice_index};
 ghost use Rattle.leveldb_table.specs.Block.{restart_points};
-ghost use Rattle.leveldb_table.specs.Walk.{IsPoint, HasKeyAt, StartsBy};
+ghost use Rattle.leveldb_table.specs.BlockWalk.{IsRestartPoint, HasKeyAt, CanSeekFrom};
 
 use crate::block::Block;
 use crate::block::entry::take_entry;
@@ -12,7 +12,7 @@ impl<C: Cmp> Block<C> {
     // How many restart points there are.
     #[inline]
     fn point_count(&self) -> usize
-        ensures { result ≡ length (restart_points self.now.held.0) }
+        ensures { result ≡ length (restart_points self.now.entries.0) }
     {
         (self.contents.len() - 4 - self.limit) / 4
     }
@@ -20,8 +20,8 @@ impl<C: Cmp> Block<C> {
     // The offset of a restart point.
     #[inline]
     fn point(&self, index: usize) -> usize
-        requires { index < length (restart_points self.now.held.0) }
-        ensures { result ≡ slice_index (restart_points self.now.held.0) index }
+        requires { index < length (restart_points self.now.entries.0) }
+        ensures { result ≡ slice_index (restart_points self.now.entries.0) index }
     {
         LittleEndian::read_u32(&self.contents.as_slice()[self.limit + 4 * index..]) as usize
     }
@@ -29,9 +29,10 @@ impl<C: Cmp> Block<C> {
     // The key at a restart point.
     #[inline]
     fn point_key(&self, index: usize) -> &[u8]
-        requires some { 0 < length self.now.held.0 }
-        requires index { index < length (restart_points self.now.held.0) }
-        ensures { HasKeyAt self.now.held.0 (slice_index (restart_points self.now.held.0) index) result.now }
+        requires some { 0 < length self.now.entries.0 }
+        requires index { index < length (restart_points self.now.entries.0) }
+        ensures { HasKeyAt self.now.entries.0
+            (slice_index (restart_points self.now.entries.0) index) result.now }
     {
         let start = self.point(index);
         let (entry, _) = take_entry(&self.contents.as_slice()[start..self.limit]).unwrap();
@@ -40,7 +41,7 @@ impl<C: Cmp> Block<C> {
 
     /// The last restart point.
     pub(crate) fn last_point(&self) -> usize
-        ensures { IsPoint self.now.held.0 result }
+        ensures { IsRestartPoint self.now.entries.0 result }
     {
         self.point(self.point_count() - 1)
     }
@@ -48,7 +49,7 @@ impl<C: Cmp> Block<C> {
     /// The last restart point before `offset`.
     pub(crate) fn point_before(&self, offset: usize) -> usize
         requires { 0 < offset }
-        ensures point { IsPoint self.now.held.0 result }
+        ensures point { IsRestartPoint self.now.entries.0 result }
         ensures before { result < offset }
     {
         let mut left = 0;
@@ -66,8 +67,8 @@ impl<C: Cmp> Block<C> {
 
     /// The last restart point whose key is before `key`, or the first.
     pub(crate) fn point_before_key(&self, key: &[u8]) -> usize
-        ensures point { IsPoint self.now.held.0 result }
-        ensures before { StartsBy (C.cmp self.now.cmp) self.now.held.0 key.now result }
+        ensures point { IsRestartPoint self.now.entries.0 result }
+        ensures before { CanSeekFrom (C.cmp self.now.cmp) self.now.entries.0 key.now result }
     {
         if !self.accepted || !self.cmp.accepts(key) {
             return 0;

@@ -3,7 +3,7 @@ ghost use Rattle.std.specs.Prelude.{◌≡◌, ℕ, ◌<◌, ◌≤◌, length, 
 ghost use Rattle.leveldb_base.specs.Types.{next_position, previous_position, seek_position, position_within, pair_at, pair_of};
 ghost use Rattle.leveldb_base.specs.Error.{IsOutOfMemory};
 ghost use Rattle.leveldb_table.specs.Block.{pairs_of};
-ghost use Rattle.leveldb_table.specs.Walk.{last_place, start_of, IsPoint, Loads, IsWithin, place_of, StandsBetween, StandsBefore};
+ghost use Rattle.leveldb_table.specs.BlockWalk.{last_position, start_of, IsRestartPoint, CanLoad, IsWithin, position_of, IsEntryBetween, IsEntryEndingAt};
 
 use crate::block::Block;
 use crate::block::entry::take_entry;
@@ -12,7 +12,8 @@ use leveldb_base::cmp::Cmp;
 use leveldb_base::error::Result;
 use std::alloc::Global;
 
-/// Where an entry lies among a block's bytes: its first, the first of its value, and the first behind it.
+/// Where an entry lies among a block's bytes: its first, the first of its value, and the first
+/// after it.
 #[derive(Clone, Copy, Debug)]
 pub struct Spot {
     start: usize,
@@ -20,7 +21,7 @@ pub struct Spot {
     next: usize,
 }
 
-// Where the entry behind the spot begins, the first entry being behind none.
+// Where the entry after the spot begins, the first entry being after none.
 #[inline]
 fn next_start(spot: Option<Spot>) -> usize
     ensures { MatchOption spot (result ≡ 0) (λ there. result ≡ there.next) }
@@ -42,7 +43,8 @@ fn here_start(spot: Option<Spot>) -> usize
     }
 }
 
-/// A place in a block, or none. It keeps no borrow: each call is given the block, always the same one.
+/// A position in a block, or none. It keeps no borrow: each call is given the block, always the
+/// same one.
 #[derive(Debug, Drop)]
 pub struct BlockCore {
     // the key of the entry there
@@ -51,7 +53,7 @@ pub struct BlockCore {
 }
 
 impl BlockCore {
-    /// At no place.
+    /// At no position.
     pub fn new(alloc: Global) -> BlockCore
         ensures { result.spot ≡ None }
     {
@@ -61,11 +63,12 @@ impl BlockCore {
         }
     }
 
-    // Goes to the entry that begins at `start`, and answers where it ends.
+    // Moves to the entry that begins at `start`, and returns where it ends.
     #[inline]
     fn load<C: Cmp>(&mut self, block: &Block<C>, start: usize) -> Result<usize>
-        requires { Loads block.now.held.0 self.old.key.items start }
-        ensures ok { IfOk result (λ next. StandsBetween block.now.contents block.now.held.0 self.new.key.items self.new.spot start next) }
+        requires { CanLoad block.now.entries.0 self.old.key.items start }
+        ensures ok { IfOk result (λ next. IsEntryBetween block.now.contents block.now.entries.0
+            self.new.key.items self.new.spot start next) }
         ensures err { OnErr result (self.new.spot ≡ None) }
         ensures cause { IfErr result IsOutOfMemory }
     {
@@ -84,10 +87,12 @@ impl BlockCore {
 
     // Goes from the entry at a restart point to the one that ends at `stop`.
     fn walk<C: Cmp>(&mut self, block: &Block<C>, point: usize, stop: usize) -> Result<()>
-        requires point { IsPoint block.now.held.0 point }
+        requires point { IsRestartPoint block.now.entries.0 point }
         requires before { point < stop }
-        requires stop { (i : ℕ) × (i ≤ length block.now.held.0) × (stop ≡ start_of block.now.held.0 i) }
-        ensures ok { OnOk result (StandsBefore block.now.contents block.now.held.0 self.new.key.items self.new.spot stop) }
+        requires stop { (i : ℕ) × (i ≤ length block.now.entries.0)
+            × (stop ≡ start_of block.now.entries.0 i) }
+        ensures ok { OnOk result (IsEntryEndingAt block.now.contents block.now.entries.0
+            self.new.key.items self.new.spot stop) }
         ensures err { OnErr result (self.new.spot ≡ None) }
         ensures cause { IfErr result IsOutOfMemory }
     {
@@ -98,14 +103,19 @@ impl BlockCore {
         Ok(())
     }
 
-    /// Goes to the next pair, from no place to the first, and from the last to no place.
-    /// Answers whether it stands on a pair.
+    /// Moves to the next pair, from no position to the first, and from the last to no position.
+    /// Returns whether it is at a pair.
     pub fn advance<C: Cmp>(&mut self, block: &Block<C>) -> Result<bool>
-        requires { IsWithin block.now.contents block.now.held.0 self.old.key.items self.old.spot }
-        ensures within { IsWithin block.now.contents block.now.held.0 self.new.key.items self.new.spot }
-        ensures ok { OnOk result (place_of block.now.held.0 self.new.spot ≡ next_position (pairs_of None block.now.held.0) (place_of block.now.held.0 self.old.spot)) }
-        ensures answer { IfOk result (λ there. there ≡ is_some (place_of block.now.held.0 self.new.spot)) }
-        ensures err { OnErr result (place_of block.now.held.0 self.new.spot ≡ None) }
+        requires { IsWithin block.now.contents block.now.entries.0 self.old.key.items
+            self.old.spot }
+        ensures within { IsWithin block.now.contents block.now.entries.0 self.new.key.items
+            self.new.spot }
+        ensures ok { OnOk result (position_of block.now.entries.0 self.new.spot
+            ≡ next_position (pairs_of None block.now.entries.0)
+            (position_of block.now.entries.0 self.old.spot)) }
+        ensures there { IfOk result
+            (λ there. there ≡ is_some (position_of block.now.entries.0 self.new.spot)) }
+        ensures err { OnErr result (position_of block.now.entries.0 self.new.spot ≡ None) }
         ensures cause { IfErr result IsOutOfMemory }
     {
         let next = next_start(self.spot);
@@ -117,14 +127,18 @@ impl BlockCore {
         Ok(true)
     }
 
-    /// Goes to the pair before, and from the first or from no place to no place.
-    /// Answers whether it stands on a pair.
+    /// Moves to the pair before, and from the first or from no position to no position.
+    /// Returns whether it is at a pair.
     pub fn prev<C: Cmp>(&mut self, block: &Block<C>) -> Result<bool>
-        requires { IsWithin block.now.contents block.now.held.0 self.old.key.items self.old.spot }
-        ensures within { IsWithin block.now.contents block.now.held.0 self.new.key.items self.new.spot }
-        ensures ok { OnOk result (place_of block.now.held.0 self.new.spot ≡ previous_position (place_of block.now.held.0 self.old.spot)) }
-        ensures answer { IfOk result (λ there. there ≡ is_some (place_of block.now.held.0 self.new.spot)) }
-        ensures err { OnErr result (place_of block.now.held.0 self.new.spot ≡ None) }
+        requires { IsWithin block.now.contents block.now.entries.0 self.old.key.items
+            self.old.spot }
+        ensures within { IsWithin block.now.contents block.now.entries.0 self.new.key.items
+            self.new.spot }
+        ensures ok { OnOk result (position_of block.now.entries.0 self.new.spot
+            ≡ previous_position (position_of block.now.entries.0 self.old.spot)) }
+        ensures there { IfOk result
+            (λ there. there ≡ is_some (position_of block.now.entries.0 self.new.spot)) }
+        ensures err { OnErr result (position_of block.now.entries.0 self.new.spot ≡ None) }
         ensures cause { IfErr result IsOutOfMemory }
     {
         let start = here_start(self.spot);
@@ -136,12 +150,16 @@ impl BlockCore {
         Ok(true)
     }
 
-    /// Goes to the first pair whose key is at or after `key`, or to no place where all keys are before it.
+    /// Moves to the first pair whose key is at or after `key`, or to no position where all keys
+    /// are before it.
     pub fn seek<C: Cmp>(&mut self, block: &Block<C>, key: &[u8]) -> Result<()>
-        requires { IsWithin block.now.contents block.now.held.0 self.old.key.items self.old.spot }
-        ensures within { IsWithin block.now.contents block.now.held.0 self.new.key.items self.new.spot }
-        ensures ok { OnOk result (place_of block.now.held.0 self.new.spot ≡ seek_position (C.cmp block.now.cmp) (pairs_of None block.now.held.0) key.now) }
-        ensures err { OnErr result (place_of block.now.held.0 self.new.spot ≡ None) }
+        requires { IsWithin block.now.contents block.now.entries.0 self.old.key.items
+            self.old.spot }
+        ensures within { IsWithin block.now.contents block.now.entries.0 self.new.key.items
+            self.new.spot }
+        ensures ok { OnOk result (position_of block.now.entries.0 self.new.spot
+            ≡ seek_position (C.cmp block.now.cmp) (pairs_of None block.now.entries.0) key.now) }
+        ensures err { OnErr result (position_of block.now.entries.0 self.new.spot ≡ None) }
         ensures cause { IfErr result IsOutOfMemory }
     {
         let mut next = block.point_before_key(key);
@@ -155,12 +173,15 @@ impl BlockCore {
         Ok(())
     }
 
-    /// Goes to the last pair, or to no place in an empty block.
+    /// Moves to the last pair, or to no position in an empty block.
     pub fn seek_to_last<C: Cmp>(&mut self, block: &Block<C>) -> Result<()>
-        requires { IsWithin block.now.contents block.now.held.0 self.old.key.items self.old.spot }
-        ensures within { IsWithin block.now.contents block.now.held.0 self.new.key.items self.new.spot }
-        ensures ok { OnOk result (place_of block.now.held.0 self.new.spot ≡ last_place (pairs_of None block.now.held.0)) }
-        ensures err { OnErr result (place_of block.now.held.0 self.new.spot ≡ None) }
+        requires { IsWithin block.now.contents block.now.entries.0 self.old.key.items
+            self.old.spot }
+        ensures within { IsWithin block.now.contents block.now.entries.0 self.new.key.items
+            self.new.spot }
+        ensures ok { OnOk result (position_of block.now.entries.0 self.new.spot
+            ≡ last_position (pairs_of None block.now.entries.0)) }
+        ensures err { OnErr result (position_of block.now.entries.0 self.new.spot ≡ None) }
         ensures cause { IfErr result IsOutOfMemory }
     {
         if block.limit == 0 {
@@ -170,24 +191,26 @@ impl BlockCore {
         self.walk(block, block.last_point(), block.limit)
     }
 
-    /// Goes to no place.
+    /// Moves to no position.
     pub fn reset(&mut self)
         ensures { self.new.spot ≡ None }
     {
         self.spot = None;
     }
 
-    /// Whether it stands on a pair.
+    /// Whether it is at a pair.
     pub fn valid(&self) -> bool
         ensures { result ≡ is_some self.now.spot }
     {
         self.spot.is_some()
     }
 
-    /// The key and the value of the pair on which it stands.
+    /// The key and the value of the pair at which it is.
     pub fn current<'a, C: Cmp>(&'a self, block: &'a Block<C>) -> Option<(&'a [u8], &'a [u8])>
-        requires { IsWithin block.now.contents block.now.held.0 self.now.key.items self.now.spot }
-        ensures { pair_of result ≡ pair_at (pairs_of None block.entry.now.held.0) (place_of block.entry.now.held.0 self.entry.now.spot) }
+        requires { IsWithin block.now.contents block.now.entries.0 self.now.key.items
+            self.now.spot }
+        ensures { pair_of result ≡ pair_at (pairs_of None block.entry.now.entries.0)
+            (position_of block.entry.now.entries.0 self.entry.now.spot) }
     {
         let spot = self.spot?;
         Some((
@@ -196,10 +219,12 @@ impl BlockCore {
         ))
     }
 
-    /// The pair on which it stands: the key's bytes become the answer's, and the value's are shared with the block.
+    /// The pair at which it is: the key's bytes become the result's, and the value's are shared
+    /// with the block.
     pub fn into_pair<C: Cmp>(self, block: &Block<C>) -> Result<Option<(Bytes, Bytes)>>
-        requires { IsWithin block.now.contents block.now.held.0 self.key.items self.spot }
-        ensures ok { IfOk result (λ pair. pair ≡ pair_at (pairs_of None block.now.held.0) (place_of block.now.held.0 self.spot)) }
+        requires { IsWithin block.now.contents block.now.entries.0 self.key.items self.spot }
+        ensures ok { IfOk result (λ pair. pair ≡ pair_at (pairs_of None block.now.entries.0)
+            (position_of block.now.entries.0 self.spot)) }
         ensures cause { IfErr result IsOutOfMemory }
     {
         let Some(spot) = self.spot else {

@@ -1,27 +1,27 @@
-//! What a table builder knows of its table, without the sink that the table goes to.
-ghost use Rattle.std.specs.Prelude.{◌≡◌, ◌≢◌, ◌⊎◌, ◌+◌, ◌-◌, ◌^◌, min, ◌<◌, ◌≤◌, ◌++◌, ◌∷◌, [], ℕ, List, Bool, true, false, Option, None, Some, Ok, IfOk, IfErr, IfSome, OnOk, OnErr, IsErr, IsErrAnd, length, codes, max};
+//! What a table builder knows of its table, without the sink that the table moves to.
+ghost use Rattle.std.specs.Prelude.{◌≡◌, ◌≢◌, ◌↔◌, ◌⊎◌, ◌+◌, ◌-◌, ◌^◌, min, ◌<◌, ◌≤◌, ◌++◌, ◌∷◌, [], ℕ, List, Bool, true, false, Option, None, Some, Ok, IfOk, IfErr, IfSome, OnOk, OnErr, IsErr, IsErrAnd, IsTrue, length, codes, max};
 ghost use Rattle.std.specs.declared.cmp.Ordering.TheVariants.{Less, Greater};
 ghost use Rattle.leveldb_base.specs.Cmp.{bytewise};
 ghost use Rattle.leveldb_base.specs.BlockHandle.{Handle, handle_bytes, HandleFits};
 ghost use Rattle.leveldb_base.specs.Types.{Pair};
 ghost use Rattle.leveldb_base.specs.Error.{IsOutOfMemory};
 ghost use Rattle.leveldb_base.specs.declared.error.StatusCode.TheVariants.{NotSupported};
-ghost use Rattle.leveldb_env.specs.Coders.{Codings, Decodes, IsUnset};
+ghost use Rattle.leveldb_env.specs.Compressor.{Codings, Decodes, IsUnset};
 ghost use Rattle.leveldb_table.specs.Block.{KeysRise, pairs_of};
-ghost use Rattle.leveldb_table.specs.Built.{IsMade, IsTooLarge, last_added};
+ghost use Rattle.leveldb_table.specs.BlockBuilder.{IsMade, IsEntryTooLarge, last_added};
 ghost use Rattle.leveldb_table.specs.Footer.{footer_bytes};
 ghost use Rattle.leveldb_table.specs.Table.{filter_key};
-ghost use Rattle.leveldb_table.specs.TablePuts.{IsTooLong, IsNoMetaindex, PutsFooter, StopsAtFooter};
-ghost use Rattle.leveldb_table.specs.TableStages.{IsSound, stage_of};
-ghost use Rattle.leveldb_table.specs.TableStageLaws.{IsSound-prop};
+ghost use Rattle.leveldb_table.specs.PutBlock.{IsTooLong, IsNoMetaindex, PutsFooter, StopsAtFooter};
+ghost use Rattle.leveldb_table.specs.TableBuilderStage.{IsSound, stage_of};
+ghost use Rattle.leveldb_table.specs.TableBuilderLaws.{IsSound-prop};
 
 use super::footer::{FULL_FOOTER_LENGTH, Footer};
-use super::put_block::{put_coded, put_stored};
+use super::put_block::{put_encoded, put_stored};
 use crate::block_builder::BlockBuilder;
 use leveldb_base::blockhandle::BlockHandle;
 use leveldb_base::cmp::{Cmp, DefaultCmp};
 use leveldb_base::error::{Result, StatusCode, err};
-use leveldb_env::compressor::{Coders, CompressorId, CompressorList, NoneCompressor};
+use leveldb_env::compressor::{CompressorId, CompressorList, Compressors, NoneCompressor};
 use leveldb_env::env::Sink;
 use leveldb_env::filter::FilterPolicy;
 use leveldb_env::filter_block::FilterBlockBuilder;
@@ -32,14 +32,14 @@ use std::mem::replace;
 // The room that a new data block has beyond what the last one took.
 const BLOCK_SPARE: usize = 64;
 
-/// What a builder knows of its table, without the sink that the table goes to and the list of coders: each call is given
-/// these. A refused call breaks the builder.
+/// What a builder knows of its table, without the sink that the table moves to and the list of
+/// compressors: each call is given these. A call that fails breaks the builder.
 #[derive(Drop)]
 pub struct BuilderCore<C: Cmp, FP: FilterPolicy> {
     alloc: Global,
     block_size: usize,
 
-    // the id of the coder
+    // the id of the compressor
     compressor: u8,
 
     // the data block that is still open
@@ -54,28 +54,35 @@ pub struct BuilderCore<C: Cmp, FP: FilterPolicy> {
 
     // both blocks have their first restart point
     ghost started: { (block.begun ≡ true) × (index.begun ≡ true) },
-    pub ghost sound: { broken ≡ false → IsSound (C.accepts block.cmp) (C.cmp block.cmp) (C.cmp index.cmp) (stage_of filter offset (pairs_of None index.built.0) (pairs_of None block.built.0) count block.interval index.interval) } by { λ u v. λ i h. IsSound-prop (C.accepts block.cmp) (C.cmp block.cmp) (C.cmp index.cmp) (stage_of filter offset (pairs_of None index.built.0) (pairs_of None block.built.0) count block.interval index.interval) (u h) (v h) i },
+    pub ghost sound: { broken ≡ false → IsSound (C.accepts block.cmp) (C.cmp block.cmp)
+        (C.cmp index.cmp) (stage_of filter offset (pairs_of None index.built.0)
+        (pairs_of None block.built.0) count block.interval index.interval) } by { λ u v. λ i h.
+            IsSound-prop (C.accepts block.cmp) (C.cmp block.cmp) (C.cmp index.cmp)
+            (stage_of filter offset (pairs_of None index.built.0)
+            (pairs_of None block.built.0) count block.interval index.interval) (u h) (v h) i },
 }
 
 impl<C: Cmp + Copy, FP: FilterPolicy> BuilderCore<C, FP> {
     ghost use Rattle.leveldb_table.specs.Table.{filter_key};
-    ghost use Rattle.leveldb_table.specs.TableStages.{Closes, first_key, with_pair};
-    ghost use Rattle.leveldb_table.specs.TableBuilding.{stage, last_of, order_of, policy_of, IsBegun, IsBroken, IsReady, Ready, IsClosable, KeepsChoices, IsBuilt, IsFull, table_estimate, PutsEnd, ClosesLast, MakesRoom, Adds, Finishes};
-    ghost use Rattle.leveldb_table.specs.TableAdds.{ClosesBlock, HasRoom, TriesOpen, IsNotClosed, IsRefusedAdd};
-    ghost use Rattle.leveldb_table.specs.TableEnds.{StopsFromFilters, StopsUnset, ClosesRest, IsLeftOpen, IsRefusedFinish};
+    ghost use Rattle.leveldb_table.specs.TableBuilderStage.{Closes, first_key, with_pair};
+    ghost use Rattle.leveldb_table.specs.TableBuilder.{stage, last_of, order_of, policy_of, IsBegun, IsBroken, IsReady, IsReadyFor, IsClosable, KeepsChoices, IsBuiltTable, IsFull, table_estimate, PutsEnd, ClosesLast, MakesRoom, AddsPair, FinishesTable};
+    ghost use Rattle.leveldb_table.specs.TableBuilderAdd.{ClosesBlock, HasRoom, TriesOpen, IsNotClosed, IsAddError};
+    ghost use Rattle.leveldb_table.specs.TableBuilderFinish.{PutsRest, StopsFromFilters, StopsUnset, ClosesRest, IsLeftOpen, IsFinishError};
 
     /// A builder under the options' order and policy as they are.
     pub fn new(alloc: Global, options: &Options<C, FP>) -> BuilderCore<C, FP>
     where
         FP: Copy,
-        ensures begun { (codings : Codings) → IsBegun codings C.accepts C.cmp C.shortest_sep FP.matches result [] [] }
+        ensures begun { (codings : Codings)
+            → IsBegun codings C.accepts C.cmp C.shortest_sep FP.matches result [] [] }
         ensures unbroken { result.broken ≡ false }
         ensures none { result.count ≡ 0 }
         ensures order { order_of result ≡ options.now.cmp }
         ensures policy { policy_of result ≡ options.now.filter_policy }
-        ensures coder { result.compressor ≡ options.now.compressor }
+        ensures compressor { result.compressor ≡ options.now.compressor }
         ensures size { result.block_size ≡ options.now.block_size }
-        ensures interval { (result.block.interval ≡ max 1 options.now.block_restart_interval) × (result.index.interval ≡ max 1 options.now.block_restart_interval) }
+        ensures interval { (result.block.interval ≡ max 1 options.now.block_restart_interval)
+            × (result.index.interval ≡ max 1 options.now.block_restart_interval) }
     {
         BuilderCore::under(alloc, options.cmp, options.filter_policy, options)
     }
@@ -87,14 +94,16 @@ impl<C: Cmp + Copy, FP: FilterPolicy> BuilderCore<C, FP> {
         policy: FP,
         options: &Options<D, E>,
     ) -> BuilderCore<C, FP>
-        ensures begun { (codings : Codings) → IsBegun codings C.accepts C.cmp C.shortest_sep FP.matches result [] [] }
+        ensures begun { (codings : Codings)
+            → IsBegun codings C.accepts C.cmp C.shortest_sep FP.matches result [] [] }
         ensures unbroken { result.broken ≡ false }
         ensures none { result.count ≡ 0 }
         ensures order { order_of result ≡ cmp }
         ensures policy { policy_of result ≡ policy }
-        ensures coder { result.compressor ≡ options.now.compressor }
+        ensures compressor { result.compressor ≡ options.now.compressor }
         ensures size { result.block_size ≡ options.now.block_size }
-        ensures interval { (result.block.interval ≡ max 1 options.now.block_restart_interval) × (result.index.interval ≡ max 1 options.now.block_restart_interval) }
+        ensures interval { (result.block.interval ≡ max 1 options.now.block_restart_interval)
+            × (result.index.interval ≡ max 1 options.now.block_restart_interval) }
     {
         let interval = options.block_restart_interval.max(1);
         BuilderCore {
@@ -117,8 +126,8 @@ impl<C: Cmp + Copy, FP: FilterPolicy> BuilderCore<C, FP> {
         self.count
     }
 
-    /// About how many bytes the table would have if it were finished now: those that were put, the open block, the
-    /// filters, the index and the footer.
+    /// About how many bytes the table would have if it were finished now: those that were put, the
+    /// open block, the filters, the index and the footer.
     pub fn size_estimate(&self) -> usize
         ensures { result ≡ min (table_estimate self.now) (2 ^ 64 - 1) }
     {
@@ -130,39 +139,65 @@ impl<C: Cmp + Copy, FP: FilterPolicy> BuilderCore<C, FP> {
             .saturating_add(FULL_FOOTER_LENGTH)
     }
 
+    /// The key that was added last, empty where none was. A builder that is broken may have none.
+    pub fn last_key(&self) -> &[u8]
+        ensures { result.now ≡ last_of self.now }
+    {
+        self.block.last_key()
+    }
+
+    /// Whether the key is after the last one, as `add` requires, or the first.
+    pub fn follows(&self, key: &[u8]) -> bool
+        ensures { IsTrue result ↔ (0 < self.now.count
+            → C.cmp (order_of self.now) (last_of self.now) key.now ≡ Less) }
+    {
+        self.count == 0 || self.block.order().cmp(self.last_key(), key).is_lt()
+    }
+
     /// Adds a pair whose key is after all others. An open block that is full is written before.
     pub fn add<S: Sink>(
         &mut self,
         sink: &mut S,
-        coders: &CompressorList,
+        compressors: &CompressorList,
         key: &[u8],
         value: &[u8],
     ) -> Result<()>
-        requires accepted { self.old.broken ≡ false → C.accepts (order_of self.old) key.now ≡ true }
-        requires rising { self.old.broken ≡ false → 0 < self.old.count → C.cmp (order_of self.old) (last_of self.old) key.now ≡ Less }
-        ensures ok { OnOk result (Adds S.puts
-            (IsBegun (⟦<CompressorList as Coders>⟧.codings coders.now) C.accepts C.cmp C.shortest_sep FP.matches self.old)
-            (IsBegun (⟦<CompressorList as Coders>⟧.codings coders.now) C.accepts C.cmp C.shortest_sep FP.matches self.new)
-            sink.old (key.now, value.now) sink.new) }
-        ensures full { OnOk result (IsFull self.old → (stage self.new).open_pairs ≡ (key.now, value.now) ∷ []) }
-        ensures closed { OnOk result (IsFull self.old → ClosesBlock (⟦<CompressorList as Coders>⟧.codings coders.now) self.old S.puts (key.now, value.now) self.new sink.old sink.new) }
-        ensures room { OnOk result ((IsFull self.old → ⊥) → (stage self.new ≡ with_pair (key.now, value.now) (stage self.old)) × (sink.new ≡ sink.old)) }
+        requires accepted { self.old.broken ≡ false
+            → C.accepts (order_of self.old) key.now ≡ true }
+        requires rising { self.old.broken ≡ false → 0 < self.old.count
+            → C.cmp (order_of self.old) (last_of self.old) key.now ≡ Less }
+        ensures ok { let codings = ⟦<CompressorList as Compressors>⟧.codings compressors.now in
+            OnOk result (AddsPair S.puts (IsBegun codings C.accepts C.cmp C.shortest_sep FP.matches
+            self.old) (IsBegun codings C.accepts C.cmp C.shortest_sep FP.matches self.new) sink.old
+            (key.now, value.now) sink.new) }
+        ensures full { OnOk result
+            (IsFull self.old → (stage self.new).open_pairs ≡ (key.now, value.now) ∷ []) }
+        ensures closed { OnOk result (IsFull self.old → ClosesBlock
+            (⟦<CompressorList as Compressors>⟧.codings compressors.now) self.old S.puts
+            (key.now, value.now) self.new sink.old sink.new) }
+        ensures room { OnOk result ((IsFull self.old → ⊥) → (stage self.new
+            ≡ with_pair (key.now, value.now) (stage self.old)) × (sink.new ≡ sink.old)) }
         ensures last { OnOk result (last_of self.new ≡ key.now) }
         ensures count { OnOk result (self.new.count ≡ self.old.count + 1) }
         ensures unbroken { OnOk result ((self.old.broken ≡ false) × (self.new.broken ≡ false)) }
         ensures choices { KeepsChoices self.old self.new }
         ensures refused { OnErr result (self.new.broken ≡ true) }
         ensures still { OnErr result (self.new.count ≡ self.old.count) }
-        ensures cause { IfErr result (λ status. IsRefusedAdd (⟦<CompressorList as Coders>⟧.codings coders.now) self.old S.puts (key.now, value.now) sink.old status sink.new) }
-        ensures unset { self.old.broken ≡ false → IsFull self.old → ⟦<CompressorList as Coders>⟧.codings coders.now self.old.compressor ≡ None
-            → IsErrAnd result (λ status. IsUnset self.old.compressor status ⊎ IsOutOfMemory status) × (sink.new ≡ sink.old) }
-        ensures sink { OnErr result (TriesOpen (⟦<CompressorList as Coders>⟧.codings coders.now) self.old S.puts sink.old sink.new) }
-        ensures broken { self.old.broken ≡ true → IsErrAnd result IsBroken × (sink.new ≡ sink.old) }
+        ensures cause { IfErr result (λ status. IsAddError (⟦<CompressorList as Compressors>⟧.codings compressors.now) self.old S.puts
+            (key.now, value.now) sink.old status sink.new) }
+        ensures unset { self.old.broken ≡ false → IsFull self.old
+            → ⟦<CompressorList as Compressors>⟧.codings compressors.now self.old.compressor ≡ None
+            → IsErrAnd result (λ status. IsUnset self.old.compressor status ⊎ IsOutOfMemory status)
+            × (sink.new ≡ sink.old) }
+        ensures sink { OnErr result (TriesOpen (⟦<CompressorList as Compressors>⟧.codings
+            compressors.now) self.old S.puts sink.old sink.new) }
+        ensures broken { self.old.broken ≡ true
+            → IsErrAnd result IsBroken × (sink.new ≡ sink.old) }
         ensures unchanged { self.old.broken ≡ true → self.new ≡ self.old }
     {
         self.check_unbroken()?;
         self.broken = true;
-        self.make_room(sink, coders, key)?;
+        self.make_room(sink, compressors, key)?;
         self.filter.add_key(key)?;
         self.block.add(key, value)?;
         self.count = one_more(self.alloc, self.count)?;
@@ -170,28 +205,42 @@ impl<C: Cmp + Copy, FP: FilterPolicy> BuilderCore<C, FP> {
         Ok(())
     }
 
-    /// Writes what is left of the table: the open block, the filters, the metaindex, the index and the footer. Answers how
-    /// many bytes the table has.
-    pub fn finish<S: Sink>(mut self, sink: &mut S, coders: &CompressorList) -> Result<usize>
+    /// Writes what is left of the table: the open block, the filters, the metaindex, the index and
+    /// the footer. Returns how many bytes the table has.
+    pub fn finish<S: Sink>(mut self, sink: &mut S, compressors: &CompressorList) -> Result<usize>
     where
         C: Drop,
         FP: Drop,
-        ensures ok { IfOk result (λ size. Finishes S.puts S.flushes (IsBegun (⟦<CompressorList as Coders>⟧.codings coders.now) C.accepts C.cmp C.shortest_sep FP.matches self)
-            (IsBuilt (⟦<CompressorList as Coders>⟧.codings coders.now) (C.accepts (order_of self)) (C.cmp (order_of self)) (C.shortest_sep (order_of self)) (C.short_succ (order_of self))
-            (FP.matches (policy_of self)) (FP.filter_for (policy_of self)) self.compressor (FP.name (policy_of self)) self.block.interval self.index.interval)
+        ensures ok { let codings = ⟦<CompressorList as Compressors>⟧.codings compressors.now in
+            IfOk result (λ size. FinishesTable S.puts S.flushes
+            (IsBegun codings C.accepts C.cmp C.shortest_sep FP.matches self)
+            (IsBuiltTable codings (C.accepts (order_of self)) (C.cmp (order_of self))
+            (C.shortest_sep (order_of self)) (C.short_succ (order_of self))
+            (FP.matches (policy_of self)) (FP.filter_for (policy_of self)) self.compressor
+            (FP.name (policy_of self)) self.block.interval self.index.interval) sink.old size
+            sink.new) }
+        ensures pieces { IfOk result (λ size. PutsRest
+            (⟦<CompressorList as Compressors>⟧.codings compressors.now) self S.puts S.flushes
             sink.old size sink.new) }
         ensures unbroken { OnOk result (self.broken ≡ false) }
-        ensures cause { IfErr result (λ status. IsRefusedFinish (⟦<CompressorList as Coders>⟧.codings coders.now) self S.puts S.flushes sink.old status sink.new) }
-        ensures unset_rest { self.broken ≡ false → (stage self).open_pairs ≡ [] → ⟦<CompressorList as Coders>⟧.codings coders.now self.compressor ≡ None
-            → IsErrAnd result (λ status. StopsUnset (FP.too_large (policy_of self)) (FP.filter_for (policy_of self)) self.compressor (FP.name (policy_of self)) (stage self) S.puts sink.old status sink.new) }
-        ensures unset { self.broken ≡ false → (stage self).open_pairs ≢ [] → ⟦<CompressorList as Coders>⟧.codings coders.now self.compressor ≡ None
-            → IsErrAnd result (λ status. IsUnset self.compressor status ⊎ IsOutOfMemory status) × (sink.new ≡ sink.old) }
+        ensures cause { IfErr result (λ status. IsFinishError
+            (⟦<CompressorList as Compressors>⟧.codings compressors.now) self S.puts S.flushes
+            sink.old status sink.new) }
+        ensures unset_rest { self.broken ≡ false → (stage self).open_pairs ≡ []
+            → ⟦<CompressorList as Compressors>⟧.codings compressors.now self.compressor ≡ None
+            → IsErrAnd result (λ status. StopsUnset (FP.too_large (policy_of self))
+            (FP.filter_for (policy_of self)) self.compressor (FP.name (policy_of self))
+            (stage self) S.puts sink.old status sink.new) }
+        ensures unset { self.broken ≡ false → (stage self).open_pairs ≢ []
+            → ⟦<CompressorList as Compressors>⟧.codings compressors.now self.compressor ≡ None
+            → IsErrAnd result (λ status. IsUnset self.compressor status ⊎ IsOutOfMemory status)
+            × (sink.new ≡ sink.old) }
         ensures broken { self.broken ≡ true → IsErrAnd result IsBroken × (sink.new ≡ sink.old) }
     {
         self.check_unbroken()?;
         self.broken = true;
-        self.close_last(sink, coders)?;
-        self.put_end(sink, coders)
+        self.close_last(sink, compressors)?;
+        self.put_end(sink, compressors)
     }
 
     fn check_unbroken(&self) -> Result<()>
@@ -208,80 +257,98 @@ impl<C: Cmp + Copy, FP: FilterPolicy> BuilderCore<C, FP> {
     fn make_room<S: Sink>(
         &mut self,
         sink: &mut S,
-        coders: &CompressorList,
+        compressors: &CompressorList,
         next: &[u8],
     ) -> Result<()>
         requires broken { self.old.broken ≡ true }
-        requires sound { Ready C.accepts C.cmp self.old next.now }
+        requires sound { IsReadyFor C.accepts C.cmp self.old next.now }
         requires some { (stage self.old).open_pairs ≡ [] → (stage self.old).lines ≡ [] }
-        ensures ok { OnOk result (MakesRoom S.puts
-            (IsBegun (⟦<CompressorList as Coders>⟧.codings coders.now) C.accepts C.cmp C.shortest_sep FP.matches self.old)
-            (Decodes (⟦<CompressorList as Coders>⟧.codings coders.now)) (C.accepts (order_of self.old)) (C.cmp (order_of self.old)) (C.shortest_sep (order_of self.old)) (FP.matches (policy_of self.old))
-            (FP.filter_for (policy_of self.old)) self.old.compressor (stage self.new) next.now sink.old sink.new) }
+        ensures ok { let codings = ⟦<CompressorList as Compressors>⟧.codings compressors.now in
+            OnOk result (MakesRoom S.puts (IsBegun codings C.accepts C.cmp C.shortest_sep
+            FP.matches self.old) (Decodes codings) (C.accepts (order_of self.old))
+            (C.cmp (order_of self.old)) (C.shortest_sep (order_of self.old))
+            (FP.matches (policy_of self.old)) (FP.filter_for (policy_of self.old))
+            self.old.compressor (stage self.new) next.now sink.old sink.new) }
         ensures full { OnOk result (IsFull self.old → (stage self.new).open_pairs ≡ []) }
-        ensures has_room { OnOk result (HasRoom (⟦<CompressorList as Coders>⟧.codings coders.now) self.old S.puts next.now self.new sink.old sink.new) }
-        ensures ready { OnOk result (Ready C.accepts C.cmp self.new next.now) }
+        ensures has_room { OnOk result (HasRoom (⟦<CompressorList as Compressors>⟧.codings
+            compressors.now) self.old S.puts next.now self.new sink.old sink.new) }
+        ensures ready { OnOk result (IsReadyFor C.accepts C.cmp self.new next.now) }
         ensures choices { KeepsChoices self.old self.new }
         ensures count { self.new.count ≡ self.old.count }
         ensures broken { self.new.broken ≡ true }
-        ensures cause { IfErr result (λ status. IsFull self.old × IsNotClosed (⟦<CompressorList as Coders>⟧.codings coders.now) self.old S.puts next.now sink.old status sink.new) }
-        ensures unset { IsFull self.old → ⟦<CompressorList as Coders>⟧.codings coders.now self.old.compressor ≡ None
-            → IsErrAnd result (λ status. IsUnset self.old.compressor status ⊎ IsOutOfMemory status) × (sink.new ≡ sink.old) }
+        ensures cause { IfErr result (λ status. IsFull self.old
+            × IsNotClosed (⟦<CompressorList as Compressors>⟧.codings compressors.now) self.old
+            S.puts next.now sink.old status sink.new) }
+        ensures unset { IsFull self.old → ⟦<CompressorList as Compressors>⟧.codings compressors.now
+            self.old.compressor ≡ None → IsErrAnd result (λ status.
+            IsUnset self.old.compressor status ⊎ IsOutOfMemory status) × (sink.new ≡ sink.old) }
     {
         if self.block.entries() > 0 && self.block.size_estimate() > self.block_size {
-            return self.close_block(sink, coders, next);
+            return self.close_block(sink, compressors, next);
         }
         Ok(())
     }
 
-    // Writes the open block where it has a pair; no key comes behind it.
-    fn close_last<S: Sink>(&mut self, sink: &mut S, coders: &CompressorList) -> Result<()>
+    // Writes the open block where it has a pair; no key comes after it.
+    fn close_last<S: Sink>(&mut self, sink: &mut S, compressors: &CompressorList) -> Result<()>
         requires broken { self.old.broken ≡ true }
         requires sound { IsReady C.accepts C.cmp self.old }
         requires some { (stage self.old).open_pairs ≡ [] → (stage self.old).lines ≡ [] }
-        ensures ok { OnOk result (ClosesLast S.puts
-            (IsBegun (⟦<CompressorList as Coders>⟧.codings coders.now) C.accepts C.cmp C.shortest_sep FP.matches self.old)
-            (Decodes (⟦<CompressorList as Coders>⟧.codings coders.now)) (C.accepts (order_of self.old)) (C.cmp (order_of self.old)) (C.shortest_sep (order_of self.old)) (C.short_succ (order_of self.old))
-            (FP.matches (policy_of self.old)) (FP.filter_for (policy_of self.old)) self.old.compressor (stage self.new) sink.old sink.new) }
+        ensures ok { let codings = ⟦<CompressorList as Compressors>⟧.codings compressors.now in
+            OnOk result (ClosesLast S.puts (IsBegun codings C.accepts C.cmp C.shortest_sep
+            FP.matches self.old) (Decodes codings) (C.accepts (order_of self.old))
+            (C.cmp (order_of self.old)) (C.shortest_sep (order_of self.old))
+            (C.short_succ (order_of self.old)) (FP.matches (policy_of self.old))
+            (FP.filter_for (policy_of self.old)) self.old.compressor
+            (stage self.new) sink.old sink.new) }
         ensures order { OnOk result (C.cmp self.new.index.cmp ≡ C.cmp (order_of self.old)) }
         ensures policy { policy_of self.new ≡ policy_of self.old }
-        ensures coder { self.new.compressor ≡ self.old.compressor }
-        ensures intervals { (self.new.block.interval ≡ self.old.block.interval) × (self.new.index.interval ≡ self.old.index.interval) }
-        ensures rest { OnOk result (ClosesRest (⟦<CompressorList as Coders>⟧.codings coders.now) self.old S.puts (stage self.new) sink.old sink.new) }
-        ensures cause { IfErr result (λ status. IsLeftOpen (⟦<CompressorList as Coders>⟧.codings coders.now) self.old S.puts sink.old status sink.new) }
-        ensures unset { (stage self.old).open_pairs ≢ [] → ⟦<CompressorList as Coders>⟧.codings coders.now self.old.compressor ≡ None
-            → IsErrAnd result (λ status. IsUnset self.old.compressor status ⊎ IsOutOfMemory status) × (sink.new ≡ sink.old) }
+        ensures compressor { self.new.compressor ≡ self.old.compressor }
+        ensures intervals { (self.new.block.interval ≡ self.old.block.interval)
+            × (self.new.index.interval ≡ self.old.index.interval) }
+        ensures rest { OnOk result (ClosesRest (⟦<CompressorList as Compressors>⟧.codings
+            compressors.now) self.old S.puts (stage self.new) sink.old sink.new) }
+        ensures cause { IfErr result (λ status. IsLeftOpen (⟦<CompressorList as Compressors>⟧.codings compressors.now) self.old S.puts sink.old status sink.new) }
+        ensures unset { (stage self.old).open_pairs ≢ []
+            → ⟦<CompressorList as Compressors>⟧.codings compressors.now self.old.compressor ≡ None
+            → IsErrAnd result (λ status. IsUnset self.old.compressor status ⊎ IsOutOfMemory status)
+            × (sink.new ≡ sink.old) }
     {
         if self.block.entries() == 0 {
             return Ok(());
         }
-        let last = self.block.last_key();
+        let last = self.last_key();
         let next = self.block.order().find_short_succ(self.alloc, last)?;
-        self.close_block(sink, coders, &next)
+        self.close_block(sink, compressors, &next)
     }
 
-    // Writes the open block and puts its line into the index; the next key is at or after its last.
+    // Writes the open block and puts its line into the index; the next key is at or after its
+    // last.
     fn close_block<S: Sink>(
         &mut self,
         sink: &mut S,
-        coders: &CompressorList,
+        compressors: &CompressorList,
         next: &[u8],
     ) -> Result<()>
         requires broken { self.old.broken ≡ true }
         requires closable { IsClosable C.accepts C.cmp self.old next.now }
         ensures ok { OnOk result ((bytes : List ℕ) × S.puts sink.old bytes (Ok tt) sink.new
-            × Closes (Decodes (⟦<CompressorList as Coders>⟧.codings coders.now)) (C.cmp (order_of self.old)) (C.shortest_sep (order_of self.old)) (FP.filter_for (policy_of self.old))
-            self.old.compressor next.now (stage self.old) bytes (stage self.new)) }
+            × Closes (Decodes (⟦<CompressorList as Compressors>⟧.codings compressors.now))
+            (C.cmp (order_of self.old)) (C.shortest_sep (order_of self.old))
+            (FP.filter_for (policy_of self.old)) self.old.compressor next.now
+            (stage self.old) bytes (stage self.new)) }
         ensures open_filter { OnOk result (IsReady C.accepts C.cmp self.new) }
         ensures fresh { OnOk result (self.new.block.built.0 ≡ []) }
         ensures choices { KeepsChoices self.old self.new }
         ensures broken { self.new.broken ≡ true }
         ensures count { self.new.count ≡ self.old.count }
-        ensures cause { IfErr result (λ status. IsNotClosed (⟦<CompressorList as Coders>⟧.codings coders.now) self.old S.puts next.now sink.old status sink.new) }
-        ensures unset { ⟦<CompressorList as Coders>⟧.codings coders.now self.old.compressor ≡ None
-            → IsErrAnd result (λ status. IsUnset self.old.compressor status ⊎ IsOutOfMemory status) × (sink.new ≡ sink.old) }
+        ensures cause { IfErr result (λ status. IsNotClosed (⟦<CompressorList as Compressors>⟧.codings compressors.now) self.old S.puts next.now sink.old status
+            sink.new) }
+        ensures unset { ⟦<CompressorList as Compressors>⟧.codings compressors.now
+            self.old.compressor ≡ None → IsErrAnd result (λ status.
+            IsUnset self.old.compressor status ⊎ IsOutOfMemory status) × (sink.new ≡ sink.old) }
     {
-        let last = self.block.last_key();
+        let last = self.last_key();
         let separator = self
             .block
             .order()
@@ -289,10 +356,10 @@ impl<C: Cmp + Copy, FP: FilterPolicy> BuilderCore<C, FP> {
         let room = self.room_for_next();
         let fresh = self.block.fresh(room)?;
         let block = replace(&mut self.block, fresh).into_bytes()?;
-        let placed = put_coded(
+        let placed = put_encoded(
             self.alloc,
             sink,
-            coders,
+            compressors,
             self.compressor,
             self.offset,
             block,
@@ -302,8 +369,9 @@ impl<C: Cmp + Copy, FP: FilterPolicy> BuilderCore<C, FP> {
         self.filter.start_block(self.offset)
     }
 
-    // How many bytes the block behind the open one is given room for: it mostly takes as much as this one, and a little for its last pair and
-    // its trailer; but one large value is no measure of those that follow.
+    // How many bytes the block after the open one is given room for: it mostly takes as much as
+    // this one, and a little for its last pair and its trailer; but one large value is no measure
+    // of those that follow.
     fn room_for_next(&self) -> usize {
         self.block
             .size_estimate()
@@ -311,14 +379,21 @@ impl<C: Cmp + Copy, FP: FilterPolicy> BuilderCore<C, FP> {
             .min(self.block_size.saturating_mul(2))
     }
 
-    // Writes all that comes behind the data blocks.
-    fn put_end<S: Sink>(self, sink: &mut S, coders: &CompressorList) -> Result<usize>
+    // Writes all that comes after the data blocks.
+    fn put_end<S: Sink>(self, sink: &mut S, compressors: &CompressorList) -> Result<usize>
     where
         C: Drop,
         FP: Drop,
-        ensures ok { IfOk result (λ size. PutsEnd S.puts S.flushes (Decodes (⟦<CompressorList as Coders>⟧.codings coders.now)) (C.cmp self.index.cmp) (FP.filter_for (policy_of self)) self.compressor (FP.name (policy_of self)) (stage self) sink.old size sink.new) }
-        ensures cause { IfErr result (λ status. StopsFromFilters (⟦<CompressorList as Coders>⟧.codings coders.now) (C.cmp self.index.cmp) (FP.too_large (policy_of self)) (FP.filter_for (policy_of self)) self.compressor (FP.name (policy_of self)) (stage self) S.puts S.flushes sink.old status sink.new) }
-        ensures unset { ⟦<CompressorList as Coders>⟧.codings coders.now self.compressor ≡ None → IsErr result }
+        ensures ok { IfOk result (λ size. PutsEnd S.puts S.flushes
+            (Decodes (⟦<CompressorList as Compressors>⟧.codings compressors.now))
+            (C.cmp self.index.cmp) (FP.filter_for (policy_of self)) self.compressor
+            (FP.name (policy_of self)) (stage self) sink.old size sink.new) }
+        ensures cause { IfErr result (λ status. StopsFromFilters
+            (⟦<CompressorList as Compressors>⟧.codings compressors.now) (C.cmp self.index.cmp)
+            (FP.too_large (policy_of self)) (FP.filter_for (policy_of self)) self.compressor
+            (FP.name (policy_of self)) (stage self) S.puts S.flushes sink.old status sink.new) }
+        ensures unset { ⟦<CompressorList as Compressors>⟧.codings compressors.now self.compressor
+            ≡ None → IsErr result }
     {
         let BuilderCore {
             alloc,
@@ -331,11 +406,11 @@ impl<C: Cmp + Copy, FP: FilterPolicy> BuilderCore<C, FP> {
         let name = filter.filter_name();
         let filters = put_stored(alloc, sink, NoneCompressor::ID, offset, filter.finish()?)?;
         let meta = metaindex(alloc, index.interval(), name, filters.handle)?;
-        let meta = put_coded(alloc, sink, coders, compressor, filters.end, meta)?;
-        let index = put_coded(
+        let meta = put_encoded(alloc, sink, compressors, compressor, filters.end, meta)?;
+        let index = put_encoded(
             alloc,
             sink,
-            coders,
+            compressors,
             compressor,
             meta.end,
             index.into_bytes()?,
@@ -366,13 +441,16 @@ fn one_more(alloc: Global, count: usize) -> Result<usize>
 
 // Adds a pair with a handle's bytes for its value.
 fn add_handle<C: Cmp>(index: &mut BlockBuilder<C>, key: &[u8], handle: BlockHandle) -> Result<()>
-    requires rise { KeysRise (C.cmp index.old.cmp) (pairs_of None index.old.built.0 ++ (key.now, handle_bytes handle) ∷ []) }
+    requires rise { KeysRise (C.cmp index.old.cmp)
+        (pairs_of None index.old.built.0 ++ (key.now, handle_bytes handle) ∷ []) }
     requires fits { HandleFits handle }
-    ensures ok { OnOk result (pairs_of None index.new.built.0 ≡ pairs_of None index.old.built.0 ++ (key.now, handle_bytes handle) ∷ []) }
+    ensures ok { OnOk result (pairs_of None index.new.built.0
+        ≡ pairs_of None index.old.built.0 ++ (key.now, handle_bytes handle) ∷ []) }
     ensures begun { index.old.begun ≡ true → index.new.begun ≡ true }
     ensures order { index.new.cmp ≡ index.old.cmp }
     ensures interval { index.new.interval ≡ index.old.interval }
-    ensures too_large { IsErrAnd result (λ status. status.code ≡ NotSupported) → IsTooLarge index.old.built.0 key.now (handle_bytes handle) }
+    ensures too_large { IsErrAnd result (λ status. status.code ≡ NotSupported)
+        → IsEntryTooLarge index.old.built.0 key.now (handle_bytes handle) }
     ensures cause { IfErr result (λ status. (status.code ≡ NotSupported) ⊎ IsOutOfMemory status) }
 {
     let mut bytes = [0; 20];
@@ -380,11 +458,12 @@ fn add_handle<C: Cmp>(index: &mut BlockBuilder<C>, key: &[u8], handle: BlockHand
     index.add(key, &bytes[..used])
 }
 
-// The metaindex: under the policy's name where its filters stand.
+// The metaindex: under the policy's name where its filters are.
 fn metaindex(alloc: Global, interval: usize, name: &str, filters: BlockHandle) -> Result<Vec<u8>>
     requires some { 1 ≤ interval }
     requires fits { HandleFits filters }
-    ensures ok { IfOk result (λ block. IsMade bytewise interval ((filter_key name.now, handle_bytes filters) ∷ []) block.items) }
+    ensures ok { IfOk result (λ block. IsMade bytewise interval
+        ((filter_key name.now, handle_bytes filters) ∷ []) block.items) }
     ensures cause { IfErr result (IsNoMetaindex name.now filters) }
 {
     let mut builder = BlockBuilder::spaced(alloc, DefaultCmp, interval);
@@ -393,12 +472,15 @@ fn metaindex(alloc: Global, interval: usize, name: &str, filters: BlockHandle) -
     builder.into_bytes()
 }
 
-// Puts the footer behind the index, which ends at this offset, and flushes the sink. Answers where the footer ends.
+// Puts the footer after the index, which ends at this offset, and flushes the sink. Returns where
+// the footer ends.
 fn put_footer<S: Sink>(alloc: Global, sink: &mut S, offset: usize, footer: Footer) -> Result<usize>
     requires meta { HandleFits footer.meta_index }
     requires index { HandleFits footer.index }
-    ensures ok { IfOk result (λ end. PutsFooter S.puts S.flushes (footer_bytes footer.meta_index footer.index) offset sink.old end sink.new) }
-    ensures cause { IfErr result (λ status. StopsAtFooter S.puts S.flushes (footer_bytes footer.meta_index footer.index) offset sink.old status sink.new) }
+    ensures ok { IfOk result (λ end. PutsFooter S.puts S.flushes
+        (footer_bytes footer.meta_index footer.index) offset sink.old end sink.new) }
+    ensures cause { IfErr result (λ status. StopsAtFooter S.puts S.flushes
+        (footer_bytes footer.meta_index footer.index) offset sink.old status sink.new) }
 {
     let Some(end) = offset.checked_add(FULL_FOOTER_LENGTH) else {
         return err(

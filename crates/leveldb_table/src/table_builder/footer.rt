@@ -1,8 +1,6 @@
-//! The footer, a table's last bytes, which say where its metaindex and its index stand.
-ghost use Rattle.std.specs.Prelude.{◌≡◌, ℕ, ◌+◌, ◌≤◌, List, ◌++◌, Option, Some, length, drop, IsTrue, ◌↔◌, replicate};
-ghost use Rattle.leveldb_base.specs.BlockHandle.{Handle, HandleFits};
-ghost use Rattle.leveldb_base.specs.Varint.{little};
-ghost use Rattle.leveldb_table.specs.Footer.{magic, footer_bytes, ReadsFooter};
+//! The footer, a table's last bytes, which say where its metaindex and its index are.
+ghost use Rattle.std.specs.Prelude.{◌≡◌, ◌+◌, ◌≤◌, ◌++◌, Option, Some, length, drop, IsTrue, ◌↔◌, replicate};
+ghost use Rattle.leveldb_table.specs.Footer.{footer_bytes, ReadsFooter};
 ghost use Rattle.leveldb_table.specs.declared.table_builder.footer.Footer.{Footer};
 
 use leveldb_base::blockhandle::BlockHandle;
@@ -19,7 +17,7 @@ pub const MAGIC_FOOTER_NUMBER: u64 = 0xdb47_7524_8b80_fb57;
 /// The eight bytes of that number, the lowest first.
 pub const MAGIC_FOOTER_ENCODED: [u8; 8] = [0x57, 0xfb, 0x80, 0x8b, 0x24, 0x75, 0x47, 0xdb];
 
-/// Where a table's metaindex and its index stand.
+/// Where a table's metaindex and its index are.
 #[derive(Clone, Debug, Drop)]
 pub struct Footer {
     pub meta_index: BlockHandle,
@@ -34,8 +32,8 @@ impl Footer {
         Footer { meta_index, index }
     }
 
-    /// The footer that these bytes are.
-    /// `None` for anything else, also where the filler isn't zeros or another number of bytes is there.
+    /// The footer that these bytes are. `None` for anything else, also where the filler isn't
+    /// zeros or another number of bytes is there.
     pub fn decode(from: &[u8]) -> Option<Footer>
         ensures { ReadsFooter from.now result }
     {
@@ -73,23 +71,3 @@ fn is_filler(bytes: &[u8]) -> bool
 {
     bytes.iter().all(|byte| *byte == 0)
 }
-
-/// A footer's bytes have one reading.
-#[tactic(auto, using(crate::specs::FooterLaws::one_footer))]
-pub fn footers_have_one_reading()
-    ensures { (meta index other_meta other_index : Handle) → footer_bytes meta index ≡ footer_bytes other_meta other_index → (meta ≡ other_meta) × (index ≡ other_index) }
-{}
-
-/// What was written is read: a reader that keeps the contract of `decode` answers the footer that was put.
-#[tactic(auto, using(crate::specs::FooterLaws::read_footer))]
-pub fn written_footer_is_read()
-    ensures { (footer : Footer) (answer : Option Footer) → HandleFits footer.meta_index → HandleFits footer.index → ReadsFooter (footer_bytes footer.meta_index footer.index) answer → answer ≡ Some footer }
-{}
-
-/// The magic bytes are those of the number, the lowest first, and each footer has 48 bytes.
-#[tactic(auto, using(crate::specs::FooterLaws::footer_lengths))]
-pub fn footers_end_in_the_number()
-    ensures number { little 8 MAGIC_FOOTER_NUMBER ≡ MAGIC_FOOTER_ENCODED }
-    ensures bytes { MAGIC_FOOTER_ENCODED ≡ magic }
-    ensures whole { (meta index : Handle) → HandleFits meta → HandleFits index → length (footer_bytes meta index) ≡ FULL_FOOTER_LENGTH }
-{}

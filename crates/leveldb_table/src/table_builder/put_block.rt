@@ -1,15 +1,15 @@
 //! Blocks put into a table's file, each with its trailer.
 ghost use Rattle.std.specs.Prelude.{◌≡◌, ◌+◌, ◌^◌, ◌<◌, ◌≤◌, ◌++◌, ◌∷◌, [], ℕ, List, None, IfOk, IfErr, IfSome, IfNone, OnOk, IsErrAnd, length};
 ghost use Rattle.leveldb_base.specs.Error.{IsOutOfMemory};
-ghost use Rattle.leveldb_env.specs.Coders.{Decodes, IsUnset};
+ghost use Rattle.leveldb_env.specs.Compressor.{Decodes, IsUnset};
 ghost use Rattle.leveldb_table.specs.Table.{with_trailer};
-ghost use Rattle.leveldb_table.specs.TablePuts.{PutsBlock, IsNotPut, IsRefused, PutsNone};
+ghost use Rattle.leveldb_table.specs.PutBlock.{PutsBlock, IsNotPut, IsPutError, PutsNone};
 
 use super::TRAILER;
 use leveldb_base::blockhandle::BlockHandle;
 use leveldb_base::crc::{crc32, mask_crc};
 use leveldb_base::error::{Result, StatusCode, err};
-use leveldb_env::compressor::{Coders, Compressor, CompressorList};
+use leveldb_env::compressor::{Compressor, CompressorList, Compressors};
 use leveldb_env::env::Sink;
 use std::alloc::Global;
 
@@ -20,23 +20,26 @@ pub struct Placed {
     pub end: usize,
 }
 
-/// Stores a block by the coder of an id, and puts it at the file's end, which is at the offset.
-pub fn put_coded<S: Sink>(
+/// Stores a block by the compressor of an id, and puts it at the file's end, which is at the
+/// offset.
+pub fn put_encoded<S: Sink>(
     alloc: Global,
     sink: &mut S,
-    coders: &CompressorList,
+    compressors: &CompressorList,
     id: u8,
     offset: usize,
     block: Vec<u8>,
 ) -> Result<Placed>
-    ensures ok { IfOk result (λ placed. (stored : List ℕ) × Decodes (⟦<CompressorList as Coders>⟧.codings coders.now) id stored block.items
+    ensures ok { IfOk result (λ placed. (stored : List ℕ) × Decodes
+        (⟦<CompressorList as Compressors>⟧.codings compressors.now) id stored block.items
         × PutsBlock S.puts id stored sink.old offset placed.handle placed.end sink.new) }
     ensures err { IfErr result (λ status. PutsNone S.puts sink.old status sink.new) }
-    ensures cause { IfErr result (λ status. IsNotPut S.puts (⟦<CompressorList as Coders>⟧.codings coders.now) id block.items offset sink.old status sink.new) }
-    ensures unset { ⟦<CompressorList as Coders>⟧.codings coders.now id ≡ None → IsErrAnd result (IsUnset id) × (sink.new ≡ sink.old) }
+    ensures cause { IfErr result (λ status. IsNotPut S.puts (⟦<CompressorList as Compressors>⟧.codings compressors.now) id block.items offset sink.old status sink.new) }
+    ensures unset { ⟦<CompressorList as Compressors>⟧.codings compressors.now id ≡ None
+        → IsErrAnd result (IsUnset id) × (sink.new ≡ sink.old) }
 {
-    let coder = coders.get(alloc, id)?;
-    put_stored(alloc, sink, id, offset, coder.encode(alloc, block)?)
+    let compressor = compressors.get(alloc, id)?;
+    put_stored(alloc, sink, id, offset, compressor.encode(alloc, block)?)
 }
 
 /// Puts a stored block with its trailer at the file's end, which is at the offset, in one put.
@@ -47,8 +50,10 @@ pub fn put_stored<S: Sink>(
     offset: usize,
     stored: Vec<u8>,
 ) -> Result<Placed>
-    ensures ok { IfOk result (λ placed. PutsBlock S.puts id stored.items sink.old offset placed.handle placed.end sink.new) }
-    ensures err { IfErr result (λ status. IsRefused S.puts (with_trailer id stored.items) (offset + length stored.items + 5) sink.old status sink.new) }
+    ensures ok { IfOk result (λ placed. PutsBlock S.puts id stored.items sink.old offset
+        placed.handle placed.end sink.new) }
+    ensures err { IfErr result (λ status. IsPutError S.puts (with_trailer id stored.items)
+        (offset + length stored.items + 5) sink.old status sink.new) }
 {
     let size = stored.len();
     let Some(end) = end_of(offset, size) else {
@@ -75,7 +80,7 @@ fn end_of(offset: usize, size: usize) -> Option<usize>
     offset.checked_add(size)?.checked_add(TRAILER)
 }
 
-// Puts the trailer behind a stored block.
+// Puts the trailer after a stored block.
 fn put_trailer(stored: &mut Vec<u8>, id: u8) -> Result<()>
     ensures ok { OnOk result (stored.new.items ≡ with_trailer id stored.old.items) }
     ensures memory { IfErr result IsOutOfMemory }

@@ -3,19 +3,21 @@ ghost use Rattle.std.specs.Prelude.{◌≡◌, ℕ, List, Option, None, Some, If
 ghost use Rattle.std.specs.declared.cmp.Ordering.{Ordering};
 ghost use Rattle.leveldb_base.specs.Types.{next_position, previous_position, seek_position, position_within, pair_of, pair_at};
 ghost use Rattle.leveldb_base.specs.Error.{IsOutOfMemory};
+ghost use Rattle.leveldb_table.specs.BlockWalk.{last_position};
 ghost use Rattle.leveldb_table.specs.Table.{Part};
 
 use crate::block_cache::BlockCache;
 use crate::table_reader::{Table, TableCore};
 use leveldb_base::cmp::Cmp;
 use leveldb_base::error::Result;
-use leveldb_env::compressor::{Coders, CompressorList};
+use leveldb_env::compressor::{CompressorList, Compressors};
 use leveldb_env::env::Env;
 use leveldb_env::filter::FilterPolicy;
 use std::alloc::Global;
 
-/// A walk over a table's pairs, with the table, the `Env` that has its file and the cache of blocks lent to it. Each move
-/// is given the coders. A refused move leaves no place, and the walk goes on from there.
+/// A walk over a table's pairs, with the table, the `Env` that has its file and the cache of
+/// blocks borrowed. Each move is given the compressors. A move that fails leaves no position, and
+/// the walk goes on from there.
 #[derive(Drop)]
 pub struct TableIterator<'a, E: Env, C: Cmp + Drop, FP: FilterPolicy> {
     pub core: TableCore<C>,
@@ -25,10 +27,10 @@ pub struct TableIterator<'a, E: Env, C: Cmp + Drop, FP: FilterPolicy> {
 }
 
 impl<E: Env, C: Cmp + Copy + Drop, FP: FilterPolicy> Table<E, C, FP> {
-    ghost use Rattle.leveldb_table.specs.TableReading.{lines_of};
-    ghost use Rattle.leveldb_table.specs.TableWalk.{pairs_over};
+    ghost use Rattle.leveldb_table.specs.TableReader.{lines_of};
+    ghost use Rattle.leveldb_table.specs.TableReaderWalk.{pairs_over};
 
-    /// A walk over the table's pairs, at no place.
+    /// A walk over the table's pairs, at no position.
     pub fn iter<'a>(
         &'a self,
         alloc: Global,
@@ -37,9 +39,10 @@ impl<E: Env, C: Cmp + Copy + Drop, FP: FilterPolicy> Table<E, C, FP> {
     ) -> Result<TableIterator<'a, E, C, FP>>
         ensures lines { IfOk result (λ it. pairs_over it.core.index ≡ lines_of self.entry.now) }
         ensures order { IfOk result (λ it. it.core.index.block.cmp ≡ self.entry.now.index.cmp) }
-        ensures place { IfOk result (λ it. it.core.inner ≡ None) }
+        ensures position { IfOk result (λ it. it.core.inner ≡ None) }
         ensures env_reference { IfOk result (λ it. it.env.ghost_name ≡ env.entry.ghost_name) }
-        ensures cache_reference { IfOk result (λ it. it.cache.ghost_name ≡ cache.entry.ghost_name) }
+        ensures cache_reference { IfOk result
+            (λ it. it.cache.ghost_name ≡ cache.entry.ghost_name) }
         ensures table { IfOk result (λ it. it.table.now ≡ self.entry.now) }
         ensures env { IfOk result (λ it. it.env.now ≡ env.entry.now) }
         ensures cache { IfOk result (λ it. it.cache.now ≡ cache.entry.now) }
@@ -55,75 +58,106 @@ impl<E: Env, C: Cmp + Copy + Drop, FP: FilterPolicy> Table<E, C, FP> {
 }
 
 impl<'a, E: Env, C: Cmp + Copy + Drop, FP: FilterPolicy> TableIterator<'a, E, C, FP> {
-    ghost use Rattle.leveldb_table.specs.TableMoves.{Forward, Backward, ToFirst, Sought};
-    ghost use Rattle.leveldb_table.specs.TableReading.{CanSeek, pairs_in};
-    ghost use Rattle.leveldb_table.specs.TableWalk.{Moves, Stands, current_of, inner_place};
+    ghost use Rattle.leveldb_table.specs.TableReaderMoves.{Forward, Backward, ToFirst, ToLast, ToKey};
+    ghost use Rattle.leveldb_table.specs.TableReader.{pairs_in};
+    ghost use Rattle.leveldb_table.specs.TableReaderWalk.{MovesInTable, IsAtPosition, current_of, inner_position};
 
-    /// Goes to the next pair, from no place to the first, and from the last to no place.
-    /// Answers whether it stands on a pair.
-    pub fn advance(&mut self, coders: &CompressorList) -> Result<bool>
-        ensures moves { Moves E.Env (⟦<CompressorList as Coders>⟧.codings coders.now) (C.cmp self.old.table.now.cmp) self.old.table.now.id self.old.table.now.file
-            (λ _. Unit {0}) next_position Forward
-            self.old.env.now self.old.cache.now self.old.core result self.new.env.now self.new.cache.now self.new.core }
+    /// Moves to the next pair, from no position to the first, and from the last to no position.
+    /// Returns whether it is at a pair.
+    pub fn advance(&mut self, compressors: &CompressorList) -> Result<bool>
+        ensures moves { MovesInTable E.Env (⟦<CompressorList as Compressors>⟧.codings
+            compressors.now) (C.accepts self.old.table.now.cmp) (C.cmp self.old.table.now.cmp) self.old.table.now.id
+            self.old.table.now.file (λ _. Unit {0}) next_position Forward self.old.env.now
+            self.old.cache.now self.old.core result self.new.env.now self.new.cache.now
+            self.new.core }
         ensures env_reference { self.new.env.ghost_name ≡ self.old.env.ghost_name }
         ensures cache_reference { self.new.cache.ghost_name ≡ self.old.cache.ghost_name }
         ensures table { self.new.table.now ≡ self.old.table.now }
-        ensures answer { IfOk result (λ there. there ≡ is_some (inner_place self.new.core.inner)) }
+        ensures there { IfOk result
+            (λ there. there ≡ is_some (inner_position self.new.core.inner)) }
     {
-        self.core.advance(self.table, self.env, self.cache, coders)
+        self.core
+            .advance(self.table, self.env, self.cache, compressors)
     }
 
-    /// Goes to the pair before, and from the first or from no place to no place.
-    /// Answers whether it stands on a pair.
-    pub fn prev(&mut self, coders: &CompressorList) -> Result<bool>
-        ensures moves { Moves E.Env (⟦<CompressorList as Coders>⟧.codings coders.now) (C.cmp self.old.table.now.cmp) self.old.table.now.id self.old.table.now.file
-            (λ _. Unit {0}) (λ _. previous_position) Backward
-            self.old.env.now self.old.cache.now self.old.core result self.new.env.now self.new.cache.now self.new.core }
+    /// Moves to the pair before, and from the first or from no position to no position.
+    /// Returns whether it is at a pair.
+    pub fn prev(&mut self, compressors: &CompressorList) -> Result<bool>
+        ensures moves { MovesInTable E.Env (⟦<CompressorList as Compressors>⟧.codings
+            compressors.now) (C.accepts self.old.table.now.cmp) (C.cmp self.old.table.now.cmp) self.old.table.now.id
+            self.old.table.now.file (λ _. Unit {0})
+            (λ _. previous_position) Backward self.old.env.now self.old.cache.now self.old.core
+            result self.new.env.now self.new.cache.now self.new.core }
         ensures env_reference { self.new.env.ghost_name ≡ self.old.env.ghost_name }
         ensures cache_reference { self.new.cache.ghost_name ≡ self.old.cache.ghost_name }
         ensures table { self.new.table.now ≡ self.old.table.now }
-        ensures answer { IfOk result (λ there. there ≡ is_some (inner_place self.new.core.inner)) }
+        ensures there { IfOk result
+            (λ there. there ≡ is_some (inner_position self.new.core.inner)) }
     {
-        self.core.prev(self.table, self.env, self.cache, coders)
+        self.core
+            .prev(self.table, self.env, self.cache, compressors)
     }
 
-    /// Goes to the first pair whose key is at or after `key`, or to no place where all keys are before it.
-    pub fn seek(&mut self, coders: &CompressorList, key: &[u8]) -> Result<()>
-        ensures moves { Moves E.Env (⟦<CompressorList as Coders>⟧.codings coders.now) (C.cmp self.old.table.now.cmp) self.old.table.now.id self.old.table.now.file
-            (CanSeek (C.accepts self.old.table.now.cmp) key.now) (λ pairs _. seek_position (C.cmp self.old.table.now.cmp) pairs key.now) (Sought key.now)
-            self.old.env.now self.old.cache.now self.old.core result self.new.env.now self.new.cache.now self.new.core }
+    /// Moves to the first pair whose key is at or after `key`, or to no position where all keys
+    /// are before it.
+    pub fn seek(&mut self, compressors: &CompressorList, key: &[u8]) -> Result<()>
+        ensures moves { MovesInTable E.Env (⟦<CompressorList as Compressors>⟧.codings
+            compressors.now) (C.accepts self.old.table.now.cmp) (C.cmp self.old.table.now.cmp) self.old.table.now.id
+            self.old.table.now.file (λ _. C.accepts self.old.table.now.cmp key.now ≡ true)
+            (λ pairs _. seek_position (C.cmp self.old.table.now.cmp) pairs key.now)
+            (ToKey key.now) self.old.env.now self.old.cache.now self.old.core result
+            self.new.env.now self.new.cache.now self.new.core }
         ensures env_reference { self.new.env.ghost_name ≡ self.old.env.ghost_name }
         ensures cache_reference { self.new.cache.ghost_name ≡ self.old.cache.ghost_name }
         ensures table { self.new.table.now ≡ self.old.table.now }
     {
         self.core
-            .seek(self.table, self.env, self.cache, coders, key)
+            .seek(self.table, self.env, self.cache, compressors, key)
     }
 
-    /// Goes to the first pair, or to no place in an empty table.
-    pub fn seek_to_first(&mut self, coders: &CompressorList) -> Result<()>
-        ensures moves { Moves E.Env (⟦<CompressorList as Coders>⟧.codings coders.now) (C.cmp self.old.table.now.cmp) self.old.table.now.id self.old.table.now.file
-            (λ _. Unit {0}) (λ pairs _. position_within pairs 0) ToFirst
-            self.old.env.now self.old.cache.now self.old.core result self.new.env.now self.new.cache.now self.new.core }
+    /// Moves to the first pair, or to no position in an empty table.
+    pub fn seek_to_first(&mut self, compressors: &CompressorList) -> Result<()>
+        ensures moves { MovesInTable E.Env (⟦<CompressorList as Compressors>⟧.codings
+            compressors.now) (C.accepts self.old.table.now.cmp) (C.cmp self.old.table.now.cmp) self.old.table.now.id
+            self.old.table.now.file (λ _. Unit {0})
+            (λ pairs _. position_within pairs 0) ToFirst self.old.env.now self.old.cache.now
+            self.old.core result self.new.env.now self.new.cache.now self.new.core }
         ensures env_reference { self.new.env.ghost_name ≡ self.old.env.ghost_name }
         ensures cache_reference { self.new.cache.ghost_name ≡ self.old.cache.ghost_name }
         ensures table { self.new.table.now ≡ self.old.table.now }
     {
         self.core
-            .seek_to_first(self.table, self.env, self.cache, coders)
+            .seek_to_first(self.table, self.env, self.cache, compressors)
     }
 
-    /// The key and the value of the pair on which it stands, lent until the walk moves.
+    /// Moves to the last pair, or to no position in an empty table.
+    pub fn seek_to_last(&mut self, compressors: &CompressorList) -> Result<()>
+        ensures moves { MovesInTable E.Env (⟦<CompressorList as Compressors>⟧.codings
+            compressors.now) (C.accepts self.old.table.now.cmp) (C.cmp self.old.table.now.cmp)
+            self.old.table.now.id self.old.table.now.file (λ _. Unit {0})
+            (λ pairs _. last_position pairs) ToLast self.old.env.now self.old.cache.now
+            self.old.core result self.new.env.now self.new.cache.now self.new.core }
+        ensures env_reference { self.new.env.ghost_name ≡ self.old.env.ghost_name }
+        ensures cache_reference { self.new.cache.ghost_name ≡ self.old.cache.ghost_name }
+        ensures table { self.new.table.now ≡ self.old.table.now }
+    {
+        self.core
+            .seek_to_last(self.table, self.env, self.cache, compressors)
+    }
+
+    /// The key and the value of the pair at which it is, borrowed until the walk moves.
     pub fn current(&self) -> Option<(&[u8], &[u8])>
         ensures pair { pair_of result ≡ current_of self.now.core }
-        ensures place { (cmp : List ℕ → List ℕ → Ordering) (parts : List Part) (place : Option ℕ) → Stands cmp parts self.now.core place → pair_of result ≡ pair_at (pairs_in parts) place }
+        ensures position { (cmp : List ℕ → List ℕ → Ordering) (parts : List Part)
+            (position : Option ℕ) → IsAtPosition cmp parts self.now.core position
+            → pair_of result ≡ pair_at (pairs_in parts) position }
     {
         self.core.current()
     }
 
-    /// Goes to no place.
+    /// Moves to no position.
     pub fn reset(&mut self)
-        ensures place { self.new.core.inner ≡ None }
+        ensures position { self.new.core.inner ≡ None }
         ensures index { self.new.core.index ≡ self.old.core.index }
         ensures env_reference { self.new.env.ghost_name ≡ self.old.env.ghost_name }
         ensures cache_reference { self.new.cache.ghost_name ≡ self.old.cache.ghost_name }
@@ -134,9 +168,9 @@ impl<'a, E: Env, C: Cmp + Copy + Drop, FP: FilterPolicy> TableIterator<'a, E, C,
         self.core.reset();
     }
 
-    /// Whether it stands on a pair.
+    /// Whether it is at a pair.
     pub fn valid(&self) -> bool
-        ensures { result ≡ is_some (inner_place self.now.core.inner) }
+        ensures { result ≡ is_some (inner_position self.now.core.inner) }
     {
         self.core.valid()
     }

@@ -4,8 +4,8 @@ ghost use Rattle.leveldb_base.specs.BlockHandle.{Handle};
 ghost use Rattle.leveldb_base.specs.Error.{IsOutOfMemory};
 ghost use Rattle.leveldb_base.specs.declared.error.StatusCode.TheVariants.{Corruption};
 ghost use Rattle.leveldb_table.specs.Table.{filter_key};
-ghost use Rattle.leveldb_table.specs.TableReading.{EndsIn, HasFiltersBy, SaysHandle, SaysNoHandle, value_under, filters_in};
-ghost use Rattle.leveldb_table.specs.TableReads.{Reads, Whatever, IsDamaged};
+ghost use Rattle.leveldb_table.specs.TableReader.{EndsInFooter, HasFiltersBy, GivesHandle, GivesNoHandle, value_under, filters_in};
+ghost use Rattle.leveldb_table.specs.TableBlock.{ReadsFile, ForBytesOf, IsDamaged};
 
 use super::whole_handle;
 use crate::block::Block;
@@ -20,24 +20,27 @@ use leveldb_env::filter::FilterPolicy;
 use leveldb_env::filter_block::FilterBlockReader;
 use std::alloc::Global;
 
-/// The footer in which so many bytes of a file end.
+/// The footer in which the first `size` bytes of a file end.
 pub fn read_footer<E: Env>(
     alloc: Global,
     env: &mut E,
     file: &E::File,
     size: usize,
 ) -> Result<Footer>
-    ensures reads { Reads E.Env (IsDamaged E.Env (λ bytes. (meta index : Handle) → EndsIn bytes size meta index → ⊥) env.old file.now) env.old file.now env.new result }
-    ensures ok { IfOk result (λ footer. Whatever E.Env env.old file.now (λ bytes. EndsIn bytes size footer.meta_index footer.index)) }
+    ensures reads { ReadsFile E.Env (IsDamaged E.Env (λ bytes. (meta index : Handle)
+        → EndsInFooter bytes size meta index → ⊥) env.old file.now) env.old env.new
+        result }
+    ensures ok { IfOk result (λ footer. ForBytesOf E.Env env.old file.now
+        (λ bytes. EndsInFooter bytes size footer.meta_index footer.index)) }
 {
-    let Some(place) = size.checked_sub(FULL_FOOTER_LENGTH) else {
+    let Some(offset) = size.checked_sub(FULL_FOOTER_LENGTH) else {
         return err(
             alloc,
             StatusCode::Corruption,
             "a file is too short for a table",
         );
     };
-    let bytes = read_bytes(alloc, env, file, place, FULL_FOOTER_LENGTH)?;
+    let bytes = read_bytes(alloc, env, file, offset, FULL_FOOTER_LENGTH)?;
     match Footer::decode(&bytes) {
         Some(footer) => Ok(footer),
         None => err(alloc, StatusCode::Corruption, "a table has a wrong footer"),
@@ -52,8 +55,12 @@ pub fn read_filters<E: Env, FP: FilterPolicy + Drop>(
     file: &E::File,
     metas: &Block<DefaultCmp>,
 ) -> Result<Option<FilterBlockReader<FP>>>
-    ensures reads { Reads E.Env (IsDamaged E.Env (λ bytes. (filters : Option (List (List ℕ))) → HasFiltersBy bytes (value_under (filter_key (FP.name policy)) metas.now) filters → ⊥) env.old file.now) env.old file.now env.new result }
-    ensures ok { IfOk result (λ filters. Whatever E.Env env.old file.now (λ bytes. HasFiltersBy bytes (value_under (filter_key (FP.name policy)) metas.now) (filters_in filters))) }
+    ensures reads { ReadsFile E.Env (IsDamaged E.Env (λ bytes. (filters : Option (List (List ℕ)))
+        → HasFiltersBy bytes (value_under (filter_key (FP.name policy)) metas.now) filters → ⊥)
+        env.old file.now) env.old env.new result }
+    ensures ok { IfOk result (λ filters. ForBytesOf E.Env env.old file.now
+        (λ bytes. HasFiltersBy bytes (value_under (filter_key (FP.name policy)) metas.now)
+        (filters_in filters))) }
     ensures policy { IfOk result (λ filters. IfSome filters (λ reader. reader.policy ≡ policy)) }
 {
     let name = policy.name();
@@ -69,8 +76,9 @@ pub fn read_filters<E: Env, FP: FilterPolicy + Drop>(
 
 // The handle that a metaindex has under a key.
 fn handle_under(alloc: Global, metas: &Block<DefaultCmp>, key: &[u8]) -> Result<Option<BlockHandle>>
-    ensures ok { IfOk result (λ handle. SaysHandle (value_under key.now metas.now) handle) }
-    ensures cause { IfErr result (λ status. IsOutOfMemory status ⊎ ((status.code ≡ Corruption) × SaysNoHandle (value_under key.now metas.now))) }
+    ensures ok { IfOk result (λ handle. GivesHandle (value_under key.now metas.now) handle) }
+    ensures cause { IfErr result (λ status. IsOutOfMemory status
+        ⊎ ((status.code ≡ Corruption) × GivesNoHandle (value_under key.now metas.now))) }
 {
     let mut lines = metas.iter(alloc);
     lines.seek(key)?;

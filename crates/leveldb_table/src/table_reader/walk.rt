@@ -7,10 +7,10 @@ ghost use Rattle.leveldb_base.specs.Types.{next_position, previous_position, see
 ghost use Rattle.leveldb_base.specs.Error.{IsOutOfMemory};
 ghost use Rattle.leveldb_base.specs.declared.error.StatusCode.TheVariants.{Corruption};
 ghost use Rattle.leveldb_table.specs.Table.{Part, HasBlockAt};
-ghost use Rattle.leveldb_table.specs.TableCached.{HoldsOf, IsOf, Gathers};
-ghost use Rattle.leveldb_table.specs.TableEnters.{IsBehind, IsBefore, SeeksTo, LetTo};
-ghost use Rattle.leveldb_table.specs.TableReads.{LacksBlock, LacksLine, Reads, Whatever, IsLacking, IsNamedBy};
-ghost use Rattle.leveldb_table.specs.Walk.{last_place};
+ghost use Rattle.leveldb_table.specs.BlockCache.{HoldsOnlyOf, IsBlockOfFile, GainsBlocks};
+ghost use Rattle.leveldb_table.specs.TableReaderBlocks.{IsAfterLine, IsBeforeBlock, IsKeyPosition, IsLetPosition};
+ghost use Rattle.leveldb_table.specs.TableBlock.{LacksBlock, LacksLine, ReadsFile, ForBytesOf, IsLackError, IsNamedBy};
+ghost use Rattle.leveldb_table.specs.BlockWalk.{last_position};
 
 use crate::block::BlockWalk;
 use crate::block_cache::BlockCache;
@@ -20,36 +20,36 @@ use leveldb_base::blockhandle::BlockHandle;
 use leveldb_base::cmp::Cmp;
 use leveldb_base::error::{Result, StatusCode, err};
 use leveldb_base::types::LdbIterator;
-use leveldb_env::compressor::{Coders, CompressorList};
+use leveldb_env::compressor::{CompressorList, Compressors};
 use leveldb_env::env::Env;
 use leveldb_env::filter::FilterPolicy;
 use std::alloc::Global;
 
-/// A place in a table, or none. Each move is given the table, always the same one, the `Env` that has its file, the cache
-/// of blocks and the coders.
+/// A position in a table, or none. Each move is given the table, always the same one, the `Env`
+/// that has its file, the cache of blocks and the compressors.
 #[derive(Drop)]
 pub struct TableCore<C: Cmp> {
     alloc: Global,
 
-    // at the line of the block where it stands
+    // at the line of the block where it is
     index: BlockWalk<C>,
     inner: Option<BlockWalk<C>>,
 }
 
 impl<C: Cmp + Copy + Drop> TableCore<C> {
-    ghost use Rattle.leveldb_table.specs.TableEnters.{IsBlockAt, IsBlockOf, line_of, Enters};
-    ghost use Rattle.leveldb_table.specs.TableMoves.{Forward, Backward, ToFirst, ToNext, ToPrevious, Sought, LookedUp};
-    ghost use Rattle.leveldb_table.specs.TableReading.{CanSeek, pairs_in, lines_of, lets};
-    ghost use Rattle.leveldb_table.specs.TableWalk.{Moves, Stands, inner_block, inner_place, inner_pairs, current_of, pairs_over, place_over};
+    ghost use Rattle.leveldb_table.specs.TableReaderBlocks.{IsBlockAt, IsBlockOf, line_of, MovesFromLine};
+    ghost use Rattle.leveldb_table.specs.TableReaderMoves.{Forward, Backward, ToFirst, ToLast, ToNextBlock, ToPreviousBlock, ToKey, ToKeyIfLet};
+    ghost use Rattle.leveldb_table.specs.TableReader.{pairs_in, lines_of, lets};
+    ghost use Rattle.leveldb_table.specs.TableReaderWalk.{MovesInTable, IsAtPosition, inner_block, inner_position, inner_pairs, current_of, pairs_over, position_over};
 
-    /// At no place.
+    /// At no position.
     pub fn new<E: Env, FP: FilterPolicy>(
         alloc: Global,
         table: &Table<E, C, FP>,
     ) -> Result<TableCore<C>>
         ensures lines { IfOk result (λ core. pairs_over core.index ≡ lines_of table.now) }
         ensures order { IfOk result (λ core. core.index.block.cmp ≡ table.now.index.cmp) }
-        ensures place { IfOk result (λ core. core.inner ≡ None) }
+        ensures position { IfOk result (λ core. core.inner ≡ None) }
         ensures memory { IfErr result IsOutOfMemory }
     {
         Ok(TableCore {
@@ -59,39 +59,43 @@ impl<C: Cmp + Copy + Drop> TableCore<C> {
         })
     }
 
-    /// Goes to the next pair, from no place to the first, and from the last to no place.
-    /// Answers whether it stands on a pair.
+    /// Moves to the next pair, from no position to the first, and from the last to no position.
+    /// Returns whether it is at a pair.
     pub fn advance<E: Env, FP: FilterPolicy>(
         &mut self,
         table: &Table<E, C, FP>,
         env: &mut E,
         cache: &mut BlockCache<C>,
-        coders: &CompressorList,
+        compressors: &CompressorList,
     ) -> Result<bool>
-        ensures moves { Moves E.Env (⟦<CompressorList as Coders>⟧.codings coders.now) (C.cmp table.now.cmp) table.now.id table.now.file
-            (λ _. Unit {0}) next_position Forward env.old cache.old self.old result env.new cache.new self.new }
-        ensures answer { IfOk result (λ there. there ≡ is_some (inner_place self.new.inner)) }
+        ensures moves { MovesInTable E.Env (⟦<CompressorList as Compressors>⟧.codings
+            compressors.now) (C.accepts table.now.cmp) (C.cmp table.now.cmp) table.now.id table.now.file
+            (λ _. Unit {0}) next_position Forward env.old cache.old self.old result env.new
+            cache.new self.new }
+        ensures there { IfOk result (λ there. there ≡ is_some (inner_position self.new.inner)) }
     {
         if !self.valid() {
             self.index.reset();
         } else if self.step_forward()? {
             return Ok(true);
         }
-        self.to_next_block(table, env, cache, coders)
+        self.to_next_block(table, env, cache, compressors)
     }
 
-    /// Goes to the pair before, and from the first or from no place to no place.
-    /// Answers whether it stands on a pair.
+    /// Moves to the pair before, and from the first or from no position to no position.
+    /// Returns whether it is at a pair.
     pub fn prev<E: Env, FP: FilterPolicy>(
         &mut self,
         table: &Table<E, C, FP>,
         env: &mut E,
         cache: &mut BlockCache<C>,
-        coders: &CompressorList,
+        compressors: &CompressorList,
     ) -> Result<bool>
-        ensures moves { Moves E.Env (⟦<CompressorList as Coders>⟧.codings coders.now) (C.cmp table.now.cmp) table.now.id table.now.file
-            (λ _. Unit {0}) (λ _. previous_position) Backward env.old cache.old self.old result env.new cache.new self.new }
-        ensures answer { IfOk result (λ there. there ≡ is_some (inner_place self.new.inner)) }
+        ensures moves { MovesInTable E.Env (⟦<CompressorList as Compressors>⟧.codings
+            compressors.now) (C.accepts table.now.cmp) (C.cmp table.now.cmp) table.now.id table.now.file (λ _. Unit {0})
+            (λ _. previous_position) Backward env.old cache.old self.old result env.new cache.new
+            self.new }
+        ensures there { IfOk result (λ there. there ≡ is_some (inner_position self.new.inner)) }
     {
         if !self.valid() {
             return Ok(false);
@@ -99,21 +103,24 @@ impl<C: Cmp + Copy + Drop> TableCore<C> {
         if self.step_back()? {
             return Ok(true);
         }
-        self.to_block_before(table, env, cache, coders)
+        self.to_block_before(table, env, cache, compressors)
     }
 
-    /// Goes to the first pair whose key is at or after `key`, or to no place where all keys are before it.
+    /// Moves to the first pair whose key is at or after `key`, or to no position where all keys
+    /// are before it.
     pub fn seek<E: Env, FP: FilterPolicy>(
         &mut self,
         table: &Table<E, C, FP>,
         env: &mut E,
         cache: &mut BlockCache<C>,
-        coders: &CompressorList,
+        compressors: &CompressorList,
         key: &[u8],
     ) -> Result<()>
-        ensures moves { Moves E.Env (⟦<CompressorList as Coders>⟧.codings coders.now) (C.cmp table.now.cmp) table.now.id table.now.file
-            (CanSeek (C.accepts table.now.cmp) key.now) (λ pairs _. seek_position (C.cmp table.now.cmp) pairs key.now) (Sought key.now)
-            env.old cache.old self.old result env.new cache.new self.new }
+        ensures moves { MovesInTable E.Env (⟦<CompressorList as Compressors>⟧.codings
+            compressors.now) (C.accepts table.now.cmp) (C.cmp table.now.cmp) table.now.id table.now.file
+            (λ _. C.accepts table.now.cmp key.now ≡ true)
+            (λ pairs _. seek_position (C.cmp table.now.cmp) pairs key.now)
+            (ToKey key.now) env.old cache.old self.old result env.new cache.new self.new }
     {
         self.inner = None;
         self.index.seek(key)?;
@@ -121,44 +128,65 @@ impl<C: Cmp + Copy + Drop> TableCore<C> {
             return Ok(());
         };
         let handle = whole_handle(self.alloc, value)?;
-        self.enter(table, env, cache, coders, handle, key)
+        self.enter(table, env, cache, compressors, handle, key)
     }
 
-    /// Goes to the first pair, or to no place in an empty table.
+    /// Moves to the first pair, or to no position in an empty table.
     pub fn seek_to_first<E: Env, FP: FilterPolicy>(
         &mut self,
         table: &Table<E, C, FP>,
         env: &mut E,
         cache: &mut BlockCache<C>,
-        coders: &CompressorList,
+        compressors: &CompressorList,
     ) -> Result<()>
-        ensures moves { Moves E.Env (⟦<CompressorList as Coders>⟧.codings coders.now) (C.cmp table.now.cmp) table.now.id table.now.file
-            (λ _. Unit {0}) (λ pairs _. position_within pairs 0) ToFirst env.old cache.old self.old result env.new cache.new self.new }
+        ensures moves { MovesInTable E.Env (⟦<CompressorList as Compressors>⟧.codings
+            compressors.now) (C.accepts table.now.cmp) (C.cmp table.now.cmp) table.now.id table.now.file (λ _. Unit {0})
+            (λ pairs _. position_within pairs 0) ToFirst env.old cache.old self.old result env.new
+            cache.new self.new }
     {
         self.reset();
-        self.advance(table, env, cache, coders)?;
+        self.advance(table, env, cache, compressors)?;
         Ok(())
     }
 
-    /// The key and the value of the pair on which it stands.
+    /// Moves to the last pair, or to no position in an empty table.
+    pub fn seek_to_last<E: Env, FP: FilterPolicy>(
+        &mut self,
+        table: &Table<E, C, FP>,
+        env: &mut E,
+        cache: &mut BlockCache<C>,
+        compressors: &CompressorList,
+    ) -> Result<()>
+        ensures moves { MovesInTable E.Env (⟦<CompressorList as Compressors>⟧.codings
+            compressors.now) (C.accepts table.now.cmp) (C.cmp table.now.cmp) table.now.id
+            table.now.file (λ _. Unit {0}) (λ pairs _. last_position pairs) ToLast env.old
+            cache.old self.old result env.new cache.new self.new }
+    {
+        self.to_last_block(table, env, cache, compressors)?;
+        Ok(())
+    }
+
+    /// The key and the value of the pair at which it is.
     pub fn current(&self) -> Option<(&[u8], &[u8])>
         ensures pair { pair_of result ≡ current_of self.now }
-        ensures place { (cmp : List ℕ → List ℕ → Ordering) (parts : List Part) (place : Option ℕ) → Stands cmp parts self.now place → pair_of result ≡ pair_at (pairs_in parts) place }
+        ensures position { (cmp : List ℕ → List ℕ → Ordering) (parts : List Part)
+            (position : Option ℕ) → IsAtPosition cmp parts self.now position
+            → pair_of result ≡ pair_at (pairs_in parts) position }
     {
         self.inner.as_ref()?.current()
     }
 
-    /// Goes to no place.
+    /// Moves to no position.
     pub fn reset(&mut self)
-        ensures place { self.new.inner ≡ None }
+        ensures position { self.new.inner ≡ None }
         ensures index { self.new.index ≡ self.old.index }
     {
         self.inner = None;
     }
 
-    /// Whether it stands on a pair.
+    /// Whether it is at a pair.
     pub fn valid(&self) -> bool
-        ensures { result ≡ is_some (inner_place self.now.inner) }
+        ensures { result ≡ is_some (inner_position self.now.inner) }
     {
         match &self.inner {
             Some(inner) => inner.valid(),
@@ -166,20 +194,22 @@ impl<C: Cmp + Copy + Drop> TableCore<C> {
         }
     }
 
-    /// Goes to the first pair at or after the key, but to no place where the filters refuse the key at the block that the index
-    /// names for it. Answers whether it stands on a pair.
+    /// Moves to the first pair at or after the key, but to no position where the filters rule out
+    /// the key at the block that the index names for it. Returns whether it is at a pair.
     pub(crate) fn seek_let<E: Env, FP: FilterPolicy>(
         &mut self,
         table: &Table<E, C, FP>,
         env: &mut E,
         cache: &mut BlockCache<C>,
-        coders: &CompressorList,
+        compressors: &CompressorList,
         key: &[u8],
     ) -> Result<bool>
-        ensures enters { Enters E.Env (⟦<CompressorList as Coders>⟧.codings coders.now) (C.cmp table.now.cmp) table.now.id table.now.file
-            (LetTo (C.accepts table.now.cmp) (C.cmp table.now.cmp) (lets FP.matches table.now) key.now) (LookedUp (lets FP.matches table.now) key.now)
+        ensures enters { MovesFromLine E.Env (⟦<CompressorList as Compressors>⟧.codings
+            compressors.now) (C.accepts table.now.cmp) (C.cmp table.now.cmp) table.now.id table.now.file
+            (IsLetPosition (C.accepts table.now.cmp) (C.cmp table.now.cmp)
+            (lets FP.matches table.now) key.now) (ToKeyIfLet (lets FP.matches table.now) key.now)
             env.old cache.old self.old result env.new cache.new self.new }
-        ensures answer { IfOk result (λ there. there ≡ is_some (inner_place self.new.inner)) }
+        ensures there { IfOk result (λ there. there ≡ is_some (inner_position self.new.inner)) }
     {
         self.inner = None;
         self.index.seek(key)?;
@@ -190,11 +220,12 @@ impl<C: Cmp + Copy + Drop> TableCore<C> {
         if !table.lets(handle.offset(), key) {
             return Ok(false);
         }
-        self.enter(table, env, cache, coders, handle, key)?;
+        self.enter(table, env, cache, compressors, handle, key)?;
         Ok(self.valid())
     }
 
-    /// The pair on which it stands: the key's bytes become the answer's, and the value's are shared with the block.
+    /// The pair at which it is: the key's bytes become the result's, and the value's are shared
+    /// with the block.
     pub(crate) fn into_pair(self) -> Result<Option<(Bytes, Bytes)>>
         ensures ok { IfOk result (λ pair. pair ≡ current_of self) }
         ensures cause { IfErr result IsOutOfMemory }
@@ -206,129 +237,180 @@ impl<C: Cmp + Copy + Drop> TableCore<C> {
         }
     }
 
-    // Reads the block at the handle that the index's line names, and goes to its first pair at or after the key, or where
-    // it has none to the first pair of the next block.
+    // Reads the block at the handle that the index's line names, and moves to its first pair at or
+    // after the key, or where it has none to the first pair of the next block.
     fn enter<E: Env, FP: FilterPolicy>(
         &mut self,
         table: &Table<E, C, FP>,
         env: &mut E,
         cache: &mut BlockCache<C>,
-        coders: &CompressorList,
+        compressors: &CompressorList,
         handle: BlockHandle,
         key: &[u8],
     ) -> Result<()>
         requires none { self.old.inner ≡ None }
-        requires line { place_over self.old.index ≡ seek_position (C.cmp self.old.index.block.cmp) (pairs_over self.old.index) key.now }
+        requires line { position_over self.old.index
+            ≡ seek_position (C.cmp self.old.index.block.cmp) (pairs_over self.old.index) key.now }
         requires names { IsNamedBy (line_of self.old) handle }
         requires fits { HandleFits handle }
-        ensures enters { Enters E.Env (⟦<CompressorList as Coders>⟧.codings coders.now) (C.cmp table.now.cmp) table.now.id table.now.file
-            (SeeksTo (C.accepts table.now.cmp) (C.cmp table.now.cmp) key.now) (Sought key.now) env.old cache.old self.old result env.new cache.new self.new }
+        ensures enters { MovesFromLine E.Env (⟦<CompressorList as Compressors>⟧.codings
+            compressors.now) (C.accepts table.now.cmp) (C.cmp table.now.cmp) table.now.id table.now.file
+            (IsKeyPosition (C.accepts table.now.cmp) (C.cmp table.now.cmp) key.now)
+            (ToKey key.now) env.old cache.old self.old result env.new cache.new self.new }
     {
-        self.load(table, env, cache, coders, handle)?;
+        self.load(table, env, cache, compressors, handle)?;
         if self.seek_inside(key)? {
             return Ok(());
         }
-        self.to_next_block(table, env, cache, coders)?;
+        self.to_next_block(table, env, cache, compressors)?;
         Ok(())
     }
 
-    // Goes to the first pair of the next block, or behind the last block to no place.
+    // Moves to the first pair of the next block, or after the last block to no position.
     fn to_next_block<E: Env, FP: FilterPolicy>(
         &mut self,
         table: &Table<E, C, FP>,
         env: &mut E,
         cache: &mut BlockCache<C>,
-        coders: &CompressorList,
+        compressors: &CompressorList,
     ) -> Result<bool>
-        ensures enters { Enters E.Env (⟦<CompressorList as Coders>⟧.codings coders.now) (C.cmp table.now.cmp) table.now.id table.now.file
-            (λ parts place. IsBehind parts (place_over self.old.index) place) ToNext env.old cache.old self.old result env.new cache.new self.new }
-        ensures answer { IfOk result (λ there. there ≡ is_some (inner_place self.new.inner)) }
+        ensures enters { MovesFromLine E.Env (⟦<CompressorList as Compressors>⟧.codings
+            compressors.now) (C.accepts table.now.cmp) (C.cmp table.now.cmp) table.now.id table.now.file
+            (λ parts position. IsAfterLine parts (position_over self.old.index) position)
+            ToNextBlock env.old cache.old self.old result env.new cache.new self.new }
+        ensures there { IfOk result (λ there. there ≡ is_some (inner_position self.new.inner)) }
     {
         self.inner = None;
         if !self.index.advance()? {
             return Ok(false);
         }
-        self.load_line(table, env, cache, coders)?;
+        self.load_line(table, env, cache, compressors)?;
         if !self.step_forward()? {
-            return self.refuse_empty();
+            return self.empty_block_error();
         }
         Ok(true)
     }
 
-    // Goes to the last pair of the block before, or before the first block to no place.
+    // Moves to the last pair of the block before, or before the first block to no position.
     fn to_block_before<E: Env, FP: FilterPolicy>(
         &mut self,
         table: &Table<E, C, FP>,
         env: &mut E,
         cache: &mut BlockCache<C>,
-        coders: &CompressorList,
+        compressors: &CompressorList,
     ) -> Result<bool>
-        ensures enters { Enters E.Env (⟦<CompressorList as Coders>⟧.codings coders.now) (C.cmp table.now.cmp) table.now.id table.now.file
-            (λ parts place. IsBefore parts (place_over self.old.index) place) ToPrevious env.old cache.old self.old result env.new cache.new self.new }
-        ensures answer { IfOk result (λ there. there ≡ is_some (inner_place self.new.inner)) }
+        ensures enters { MovesFromLine E.Env (⟦<CompressorList as Compressors>⟧.codings
+            compressors.now) (C.accepts table.now.cmp) (C.cmp table.now.cmp) table.now.id table.now.file
+            (λ parts position. IsBeforeBlock parts (position_over self.old.index) position)
+            ToPreviousBlock env.old cache.old self.old result env.new cache.new self.new }
+        ensures there { IfOk result (λ there. there ≡ is_some (inner_position self.new.inner)) }
     {
         self.inner = None;
         if !self.index.prev()? {
             return Ok(false);
         }
-        self.load_line(table, env, cache, coders)?;
+        self.load_line(table, env, cache, compressors)?;
         if !self.to_last()? {
-            return self.refuse_empty();
+            return self.empty_block_error();
         }
         Ok(true)
     }
 
-    // Reads the block that the index's line names, and stands at no place of it.
+    // Moves to the last pair of the last block, or without blocks to no position.
+    fn to_last_block<E: Env, FP: FilterPolicy>(
+        &mut self,
+        table: &Table<E, C, FP>,
+        env: &mut E,
+        cache: &mut BlockCache<C>,
+        compressors: &CompressorList,
+    ) -> Result<bool>
+        ensures enters { MovesFromLine E.Env (⟦<CompressorList as Compressors>⟧.codings
+            compressors.now) (C.accepts table.now.cmp) (C.cmp table.now.cmp) table.now.id
+            table.now.file (λ parts position. position ≡ last_position (pairs_in parts)) ToLast
+            env.old cache.old self.old result env.new cache.new self.new }
+    {
+        self.inner = None;
+        self.index.seek_to_last()?;
+        if !self.index.valid() {
+            return Ok(false);
+        }
+        self.load_line(table, env, cache, compressors)?;
+        if self.to_last()? {
+            return Ok(true);
+        }
+        self.empty_block_error()
+    }
+
+    // Reads the block that the index's line names, and is at no position of it.
     fn load_line<E: Env, FP: FilterPolicy>(
         &mut self,
         table: &Table<E, C, FP>,
         env: &mut E,
         cache: &mut BlockCache<C>,
-        coders: &CompressorList,
+        compressors: &CompressorList,
     ) -> Result<()>
         requires { is_some (line_of self.old) ≡ true }
-        ensures reads { Reads E.Env (IsLacking E.Env (⟦<CompressorList as Coders>⟧.codings coders.now) (λ bytes. LacksLine (⟦<CompressorList as Coders>⟧.codings coders.now) (C.cmp table.now.cmp) bytes (line_of self.old)) env.old table.now.file) env.old table.now.file env.new result }
-        ensures block { OnOk result (Whatever E.Env env.old table.now.file (λ bytes. HoldsOf (⟦<CompressorList as Coders>⟧.codings coders.now) (C.cmp table.now.cmp) table.now.id bytes cache.old → IsBlockOf (⟦<CompressorList as Coders>⟧.codings coders.now) (C.cmp table.now.cmp) bytes (line_of self.old) (inner_block self.new.inner))) }
-        ensures place { OnOk result (inner_place self.new.inner ≡ None) }
+        ensures reads { let codings = ⟦<CompressorList as Compressors>⟧.codings compressors.now in
+            ReadsFile E.Env (IsLackError E.Env codings (λ bytes.
+            LacksLine codings (C.cmp table.now.cmp) bytes (line_of self.old)) env.old
+            table.now.file) env.old env.new result }
+        ensures block { let codings = ⟦<CompressorList as Compressors>⟧.codings compressors.now in
+            OnOk result (ForBytesOf E.Env env.old table.now.file
+            (λ bytes. HoldsOnlyOf codings (C.cmp table.now.cmp) table.now.id bytes cache.old
+            → IsBlockOf codings (C.cmp table.now.cmp) bytes (line_of self.old)
+            (inner_block self.new.inner))) }
+        ensures position { OnOk result (inner_position self.new.inner ≡ None) }
         ensures err { OnErr result (self.new.inner ≡ self.old.inner) }
         ensures index { self.new.index ≡ self.old.index }
-        ensures gathers { Gathers table.now.id (λ offset held. Whatever E.Env env.old table.now.file (λ bytes. IsOf (⟦<CompressorList as Coders>⟧.codings coders.now) (C.cmp table.now.cmp) bytes offset held)) cache.old cache.new }
+        ensures gathers { GainsBlocks table.now.id
+            (λ offset held. ForBytesOf E.Env env.old table.now.file
+            (λ bytes. IsBlockOfFile (⟦<CompressorList as Compressors>⟧.codings compressors.now)
+            (C.cmp table.now.cmp) bytes offset held)) cache.old cache.new }
     {
         let Some((_, value)) = self.index.current() else {
             return Ok(());
         };
         let handle = whole_handle(self.alloc, value)?;
-        self.load(table, env, cache, coders, handle)
+        self.load(table, env, cache, compressors, handle)
     }
 
-    // Reads the block at a handle, and stands at no place of it.
+    // Reads the block at a handle, and is at no position of it.
     fn load<E: Env, FP: FilterPolicy>(
         &mut self,
         table: &Table<E, C, FP>,
         env: &mut E,
         cache: &mut BlockCache<C>,
-        coders: &CompressorList,
+        compressors: &CompressorList,
         handle: BlockHandle,
     ) -> Result<()>
-        ensures reads { Reads E.Env (IsLacking E.Env (⟦<CompressorList as Coders>⟧.codings coders.now) (λ bytes. LacksBlock (⟦<CompressorList as Coders>⟧.codings coders.now) (C.cmp table.now.cmp) bytes handle) env.old table.now.file) env.old table.now.file env.new result }
-        ensures block { OnOk result (Whatever E.Env env.old table.now.file (λ bytes. HoldsOf (⟦<CompressorList as Coders>⟧.codings coders.now) (C.cmp table.now.cmp) table.now.id bytes cache.old → IsBlockAt (⟦<CompressorList as Coders>⟧.codings coders.now) (C.cmp table.now.cmp) bytes handle (inner_block self.new.inner))) }
-        ensures place { OnOk result (inner_place self.new.inner ≡ None) }
+        ensures reads { let codings = ⟦<CompressorList as Compressors>⟧.codings compressors.now in
+            ReadsFile E.Env (IsLackError E.Env codings (λ bytes.
+            LacksBlock codings (C.cmp table.now.cmp) bytes handle) env.old table.now.file) env.old env.new result }
+        ensures block { let codings = ⟦<CompressorList as Compressors>⟧.codings compressors.now in
+            OnOk result (ForBytesOf E.Env env.old table.now.file
+            (λ bytes. HoldsOnlyOf codings (C.cmp table.now.cmp) table.now.id bytes cache.old
+            → IsBlockAt codings (C.cmp table.now.cmp) bytes handle (inner_block self.new.inner))) }
+        ensures position { OnOk result (inner_position self.new.inner ≡ None) }
         ensures err { OnErr result (self.new.inner ≡ self.old.inner) }
         ensures index { self.new.index ≡ self.old.index }
-        ensures gathers { Gathers table.now.id (λ offset held. Whatever E.Env env.old table.now.file (λ bytes. IsOf (⟦<CompressorList as Coders>⟧.codings coders.now) (C.cmp table.now.cmp) bytes offset held)) cache.old cache.new }
+        ensures gathers { GainsBlocks table.now.id
+            (λ offset held. ForBytesOf E.Env env.old table.now.file
+            (λ bytes. IsBlockOfFile (⟦<CompressorList as Compressors>⟧.codings compressors.now)
+            (C.cmp table.now.cmp) bytes offset held)) cache.old cache.new }
     {
-        let block = table.read_block(self.alloc, env, cache, coders, handle)?;
+        let block = table.read_block(self.alloc, env, cache, compressors, handle)?;
         self.inner = Some(BlockWalk::new(self.alloc, block));
         Ok(())
     }
 
-    // Goes to the next pair of the block, and behind its last to no place.
+    // Moves to the next pair of the block, and after its last to no position.
     fn step_forward(&mut self) -> Result<bool>
         ensures block { inner_block self.new.inner ≡ inner_block self.old.inner }
         ensures pairs { inner_pairs self.new.inner ≡ inner_pairs self.old.inner }
-        ensures ok { OnOk result (inner_place self.new.inner ≡ next_position (inner_pairs self.old.inner) (inner_place self.old.inner)) }
-        ensures answer { IfOk result (λ there. there ≡ is_some (inner_place self.new.inner)) }
-        ensures err { OnErr result (inner_place self.new.inner ≡ None) }
+        ensures ok { OnOk result (inner_position self.new.inner
+            ≡ next_position (inner_pairs self.old.inner) (inner_position self.old.inner)) }
+        ensures there { IfOk result (λ there. there ≡ is_some (inner_position self.new.inner)) }
+        ensures err { OnErr result (inner_position self.new.inner ≡ None) }
         ensures index { self.new.index ≡ self.old.index }
         ensures memory { IfErr result IsOutOfMemory }
     {
@@ -338,13 +420,14 @@ impl<C: Cmp + Copy + Drop> TableCore<C> {
         }
     }
 
-    // Goes to the pair of the block before, and from its first to no place.
+    // Moves to the pair of the block before, and from its first to no position.
     fn step_back(&mut self) -> Result<bool>
         ensures block { inner_block self.new.inner ≡ inner_block self.old.inner }
         ensures pairs { inner_pairs self.new.inner ≡ inner_pairs self.old.inner }
-        ensures ok { OnOk result (inner_place self.new.inner ≡ previous_position (inner_place self.old.inner)) }
-        ensures answer { IfOk result (λ there. there ≡ is_some (inner_place self.new.inner)) }
-        ensures err { OnErr result (inner_place self.new.inner ≡ None) }
+        ensures ok { OnOk result
+            (inner_position self.new.inner ≡ previous_position (inner_position self.old.inner)) }
+        ensures there { IfOk result (λ there. there ≡ is_some (inner_position self.new.inner)) }
+        ensures err { OnErr result (inner_position self.new.inner ≡ None) }
         ensures index { self.new.index ≡ self.old.index }
         ensures memory { IfErr result IsOutOfMemory }
     {
@@ -354,13 +437,14 @@ impl<C: Cmp + Copy + Drop> TableCore<C> {
         }
     }
 
-    // Goes to the last pair of the block, or to no place in an empty one.
+    // Moves to the last pair of the block, or to no position in an empty one.
     fn to_last(&mut self) -> Result<bool>
         ensures block { inner_block self.new.inner ≡ inner_block self.old.inner }
         ensures pairs { inner_pairs self.new.inner ≡ inner_pairs self.old.inner }
-        ensures ok { OnOk result (inner_place self.new.inner ≡ last_place (inner_pairs self.old.inner)) }
-        ensures answer { IfOk result (λ there. there ≡ is_some (inner_place self.new.inner)) }
-        ensures err { OnErr result (inner_place self.new.inner ≡ None) }
+        ensures ok { OnOk result
+            (inner_position self.new.inner ≡ last_position (inner_pairs self.old.inner)) }
+        ensures there { IfOk result (λ there. there ≡ is_some (inner_position self.new.inner)) }
+        ensures err { OnErr result (inner_position self.new.inner ≡ None) }
         ensures index { self.new.index ≡ self.old.index }
         ensures memory { IfErr result IsOutOfMemory }
     {
@@ -370,13 +454,15 @@ impl<C: Cmp + Copy + Drop> TableCore<C> {
         Ok(self.valid())
     }
 
-    // Goes to the first pair of the block at or after the key, or to no place where all keys are before it.
+    // Moves to the first pair of the block at or after the key, or to no position where all keys
+    // are before it.
     fn seek_inside(&mut self, key: &[u8]) -> Result<bool>
         ensures block { inner_block self.new.inner ≡ inner_block self.old.inner }
         ensures pairs { inner_pairs self.new.inner ≡ inner_pairs self.old.inner }
-        ensures ok { OnOk result (IfSome self.old.inner (λ walk. inner_place self.new.inner ≡ seek_position (C.cmp walk.block.cmp) (pairs_over walk) key.now)) }
-        ensures answer { IfOk result (λ there. there ≡ is_some (inner_place self.new.inner)) }
-        ensures err { OnErr result (inner_place self.new.inner ≡ None) }
+        ensures ok { OnOk result (IfSome self.old.inner (λ walk. inner_position self.new.inner
+            ≡ seek_position (C.cmp walk.block.cmp) (pairs_over walk) key.now)) }
+        ensures there { IfOk result (λ there. there ≡ is_some (inner_position self.new.inner)) }
+        ensures err { OnErr result (inner_position self.new.inner ≡ None) }
         ensures index { self.new.index ≡ self.old.index }
         ensures memory { IfErr result IsOutOfMemory }
     {
@@ -387,7 +473,7 @@ impl<C: Cmp + Copy + Drop> TableCore<C> {
     }
 
     // An empty data block isn't allowed.
-    fn refuse_empty(&self) -> Result<bool>
+    fn empty_block_error(&self) -> Result<bool>
         ensures { IsErrAnd result (λ status. status.code ≡ Corruption) }
     {
         err(

@@ -5,9 +5,10 @@ use Rattle.std.proofs.lemmas.List.Concat.{flat_map-append}
 use Rattle.std.proofs.lemmas.List.Elements.{Contains-append_cases}
 use Rattle.leveldb_base.specs.History.{Item, Entry, History, placed, entries_of, greatest, SameView}
 use Rattle.leveldb_base.proofs.HistoryLemmas.{same_with_more}
-use Rattle.leveldb_mem.specs.Batch.{Batch}
+use Rattle.leveldb_mem.specs.WriteBatch.{Batch}
 use Rattle.rusty_leveldb.specs.OneLog.{AreInOrder, entries_in, all_entries, contents_of, max_sequence}
-use Rattle.rusty_leveldb.specs.Holds.{Tells}
+use Rattle.leveldb_version.specs.Contents.{Store}
+use Rattle.leveldb_version.specs.Holds.{MatchesHistory}
 use Rattle.rusty_leveldb.proofs.Histories.{greatest_append, up_to_greatest, up_to, placed_above, placed_greatest, entries_more}
 
 -- ---- one batch more
@@ -36,7 +37,7 @@ abbrev pub batch_at : ℕ → List Item → Batch
 batch_at first items = record { first = first; items = items }
 
 -- one batch more on both sides
-module _ (last : ℕ) (items : List Item) (batches : List Batch) (history : History) (was : Tells last (contents_of batches) history) (reached : greatest (entries_of history) ≤ last) where
+module _ {allowed : Store → Type 0} (last : ℕ) (items : List Item) (batches : List Batch) (history : History) (was : MatchesHistory allowed last (contents_of batches) history) (reached : greatest (entries_of history) ≤ last) where
   abbrev batch : List Entry
   batch = placed (last + 1) items
 
@@ -46,8 +47,8 @@ module _ (last : ℕ) (items : List Item) (batches : List Batch) (history : Hist
   disk_is : all_entries one_more ≡ all_entries batches ++ batch
   disk_is = all_more batches (batch_at (last + 1) items)
 
-  pub tells_more : Tells (last + length items) (contents_of one_more) (history ++ batch ∷ [])
-  tells_more = record {
+  pub matches_more : MatchesHistory allowed (last + length items) (contents_of one_more) (history ++ batch ∷ [])
+  matches_more = record {
     same = λ t most. both t (same_with_more (all_entries batches) (entries_of history) batch last t (up_to last (all_entries batches) was.bounded) (up_to last (entries_of history) reached)
         (placed_above (last + 1) items last (omega arith)) (was.same t (omega (arith, most, g1))));
     up_to = λ entry c. ⊎_elim
@@ -56,6 +57,7 @@ module _ (last : ℕ) (items : List Item) (batches : List Batch) (history : Hist
         (Contains-append_cases (all_entries batches) batch entry (subst (λ es. Contains es entry) disk_is c));
     reached = omega (arith, g1, g2, was.reached);
     bounded = omega (arith, g2, was.bounded, placed_greatest last items);
+    store = was.store;
   }
     where
       both : (t : ℕ) → SameView (all_entries batches ++ batch) (entries_of history ++ batch) t → SameView (all_entries one_more) (entries_of (history ++ batch ∷ [])) t

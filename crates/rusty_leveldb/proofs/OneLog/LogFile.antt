@@ -5,16 +5,15 @@ use Rattle.std.specs.Str.{bytes_eq}
 use Rattle.std.specs.Cmp.Lexicographic.{bytes_decides}
 use Rattle.leveldb_base.specs.History.{History, IsPrefixAtLeast}
 use Rattle.leveldb_base.specs.Names.{IsNumber}
-use Rattle.leveldb_env.specs.Disk.{File, Files, bytes_of, kept_file, with_file, AreBytes, LeavesFile, Leaves}
-use Rattle.leveldb_env.specs.FileLaws.{at_same, at_other}
-use Rattle.leveldb_mem.specs.Log.{log_block_size, End, IsLogFile}
-use Rattle.leveldb_mem.specs.Honest.{HonestTail}
-use Rattle.leveldb_mem.specs.LogLaws.{cut_is_honest}
-use Rattle.leveldb_mem.specs.Batch.{Batch}
-use Rattle.rusty_leveldb.specs.Contents.{Contents}
+use Rattle.leveldb_env.specs.Env.{File, Files, bytes_of, kept_file, with_file, AreBytes, FileCrashesTo, FilesCrashTo}
+use Rattle.leveldb_env.proofs.EnvLemmas.{at_same, at_other}
+use Rattle.leveldb_mem.specs.Log.{log_block_size, End, IsLogFile, HonestTail}
+use Rattle.leveldb_mem.proofs.LawsLemmas.{cut_is_honest}
+use Rattle.leveldb_mem.specs.WriteBatch.{Batch}
+use Rattle.leveldb_version.specs.Contents.{Store, made, Contents}
 use Rattle.rusty_leveldb.specs.OneLog.{log_path, Each, IsRecordOf, AreInOrder, contents_of, IsRead, IsOneLog}
-use Rattle.rusty_leveldb.specs.Names.{IsJournal}
-use Rattle.rusty_leveldb.specs.Holds.{IsHonest, Tells, Carries, IsSafe}
+use Rattle.leveldb_version.specs.Paths.{IsJournal}
+use Rattle.leveldb_version.specs.Holds.{IsHonest, MatchesHistory, Carries, IsSafe}
 
 -- ---- reading
 
@@ -27,33 +26,49 @@ log_read name files file records end batches there read each order =
 
 -- ---- what a file carries
 
--- the file's contents tell the history
-pub record Carried (bound : ℕ) (history : History) (file : Option File) : Type 0 where
+-- the file's contents match the history
+pub record Carried (allowed : Store → Type 0) (bound : ℕ) (history : History) (file : Option File) : Type 0 where
   pub contents : Contents
   pub read : IsRead file contents
-  pub tells : Tells bound contents history
+  pub matches : MatchesHistory allowed bound contents history
 
--- the file carries a beginning of the history that has at least so many batches
-pub record CarriedBeginning (bound covered : ℕ) (history : History) (file : Option File) : Type 0 where
+-- the file carries a prefix of the history that has at least so many batches
+pub record CarriedPrefix (allowed : Store → Type 0) (bound covered : ℕ) (history : History) (file : Option File) : Type 0 where
   pub part : History
-  pub beginning : IsPrefixAtLeast covered history part
-  pub carried : Carried bound part file
+  pub prefix : IsPrefixAtLeast covered history part
+  pub carried : Carried allowed bound part file
 
 -- a crash left no record that was never written
 abbrev pub Honest : Option File → Option File → Type 0
 Honest file left = (was is : File) → file ≡ Some was → left ≡ Some is → HonestTail log_block_size (bytes_of was) (bytes_of is)
 
--- whatever an honest crash leaves of the file carries such a beginning
-abbrev pub Safe : ℕ → ℕ → History → Option File → Type 0
-Safe bound covered history file = (left : Option File) → LeavesFile file left → Honest file left → CarriedBeginning bound covered history left
+-- whatever an honest crash leaves of the file carries such a prefix
+abbrev pub Safe : (Store → Type 0) → ℕ → ℕ → History → Option File → Type 0
+Safe allowed bound covered history file = (left : Option File) → FileCrashesTo file left → Honest file left → CarriedPrefix allowed bound covered history left
 
 -- a bound that is greater
-pub carried_more : (bound more : ℕ) (history : History) (file : Option File) → bound ≤ more → Carried bound history file → Carried more history file
+pub carried_more : {allowed : Store → Type 0} (bound more : ℕ) (history : History) (file : Option File) → bound ≤ more → Carried allowed bound history file → Carried allowed more history file
 carried_more bound more history file most c = record {
   contents = c.contents;
   read = c.read;
-  tells = record { same = c.tells.same; up_to = c.tells.up_to; reached = c.tells.reached; bounded = omega (arith, c.tells.bounded, most) };
+  matches = record { same = c.matches.same; up_to = c.matches.up_to; reached = c.matches.reached; bounded = omega (arith, c.matches.bounded, most); store = c.matches.store };
 }
+
+-- what is read of a log is a store with no comparator's name
+pub log_store : (file : File) (contents : Contents) → IsRead (Some file) contents → contents.store ≡ made None
+log_store file contents read = ap (λ (c : Contents). c.store) read.2
+
+-- so any that may be there will do
+pub carried_as : {allowed other : Store → Type 0} (bound : ℕ) (history : History) (file : File) → other (made None) → Carried allowed bound history (Some file) → Carried other bound history (Some file)
+carried_as {other = other} bound history file may c = record {
+  contents = c.contents;
+  read = c.read;
+  matches = record { same = c.matches.same; up_to = c.matches.up_to; reached = c.matches.reached; bounded = c.matches.bounded; store = subst other (sym (log_store file c.contents c.read)) may };
+}
+
+-- and one of them may be there
+pub carried_made : {allowed : Store → Type 0} (bound : ℕ) (history : History) (file : File) → Carried allowed bound history (Some file) → allowed (made None)
+carried_made {allowed} bound history file c = subst allowed (log_store file c.contents c.read) c.matches.store
 
 pub some_is : {A : Type 0} (a b : A) → Some a ≡ Some b → a ≡ b
 some_is a b e = ap (λ o. elim o [ Some x ↦ x | None ↦ a ]) e
@@ -68,7 +83,7 @@ cut (Some file) = Some (kept_file (file.kept ++ []))
 no_bytes : AreBytes []
 no_bytes i = omega arith
 
-pub cut_leaves : (file : Option File) → LeavesFile file (cut file)
+pub cut_leaves : (file : Option File) → FileCrashesTo file (cut file)
 cut_leaves None = refl
 cut_leaves (Some file) = ([], no_bytes, omega arith, refl)
 
@@ -95,49 +110,50 @@ module _ (store : List ℕ) where
   abbrev reads : Files → Contents → Type 0
   reads = IsOneLog (log_path store)
 
-  pub carried : (bound : ℕ) (history : History) (files : Files) → Carries store reads bound history files → Carried bound history (files name)
-  carried bound history files c = record { contents = c.contents; read = c.read; tells = c.tells }
-
-  pub carries : (bound : ℕ) (history : History) (files : Files) → Carried bound history (files name) → Carries store reads bound history files
-  carries bound history files c = record { contents = c.contents; read = c.read; tells = c.tells }
-
   -- the log's name is a journal's
   pub is_journal : IsJournal store name
   is_journal = inl (codes "000003.log", 3, (codes "000003", is_three, refl), refl)
 
-  -- where a crash of the log is safe, one of the disk is
-  pub is_safe : (bound covered : ℕ) (history : History) (files : Files) → Safe bound covered history (files name) → IsSafe store reads bound covered history files
-  is_safe bound covered history files safe left leaves honest =
-      let c = safe (left name) (leaves name) (λ was is same_was same_is. honest name was is is_journal same_was same_is) in
-      record { part = c.part; beginning = c.beginning; carries = carries bound c.part left c.carried }
+  module _ {allowed : Store → Type 0} where
+    pub carried : (bound : ℕ) (history : History) (files : Files) → Carries store reads allowed bound history files → Carried allowed bound history (files name)
+    carried bound history files c = record { contents = c.contents; read = c.read; matches = c.matches }
 
-  -- and where one of the disk is, one of the log is
-  pub safe_of : (bound covered : ℕ) (history : History) (files : Files) → IsSafe store reads bound covered history files → Safe bound covered history (files name)
-  safe_of bound covered history files safe left leaves honest =
-      let c = safe others all_leaves all_honest in
-      record { part = c.part; beginning = c.beginning; carried = subst (Carried bound c.part) here (carried bound c.part others c.carries) }
-    where
-      others : Files
-      others = with_file name left (λ other. cut (files other))
+    pub carries : (bound : ℕ) (history : History) (files : Files) → Carried allowed bound history (files name) → Carries store reads allowed bound history files
+    carries bound history files c = record { contents = c.contents; read = c.read; matches = c.matches }
 
-      here : others name ≡ left
-      here = at_same name left (λ other. cut (files other))
+    -- where a crash of the log is safe, one of the disk is
+    pub is_safe : (bound covered : ℕ) (history : History) (files : Files) → Safe allowed bound covered history (files name) → IsSafe store reads allowed bound covered history files
+    is_safe bound covered history files safe left leaves honest =
+        let c = safe (left name) (leaves name) (λ was is same_was same_is. honest name was is is_journal same_was same_is) in
+        record { part = c.part; prefix = c.prefix; carries = carries bound c.part left c.carried }
 
-      elsewhere : (other : List ℕ) → bytes_eq name other ≡ false → others other ≡ cut (files other)
-      elsewhere other apart = at_other name left (λ q. cut (files q)) other apart
+    -- and where one of the disk is, one of the log is
+    pub safe_of : (bound covered : ℕ) (history : History) (files : Files) → IsSafe store reads allowed bound covered history files → Safe allowed bound covered history (files name)
+    safe_of bound covered history files safe left leaves honest =
+        let c = safe others all_leaves all_honest in
+        record { part = c.part; prefix = c.prefix; carried = subst (Carried allowed bound c.part) here (carried bound c.part others c.carries) }
+      where
+        others : Files
+        others = with_file name left (λ other. cut (files other))
 
-      all_leaves : Leaves files others
-      all_leaves other = by_name (bytes_eq name other) refl
-        where
-          by_name : (b : Bool) → bytes_eq name other ≡ b → LeavesFile (files other) (others other)
-          by_name true e = subst (λ q. LeavesFile (files q) (others q)) ((bytes_decides name other).0 e) (subst (LeavesFile (files name)) (sym here) leaves)
-          by_name false e = subst (LeavesFile (files other)) (sym (elsewhere other e)) (cut_leaves (files other))
+        here : others name ≡ left
+        here = at_same name left (λ other. cut (files other))
 
-      all_honest : IsHonest store files others
-      all_honest other was is journal same_was same_is = by_name (bytes_eq name other) refl
-        where
-          by_name : (b : Bool) → bytes_eq name other ≡ b → HonestTail log_block_size (bytes_of was) (bytes_of is)
-          by_name true e =
-              let same = (bytes_decides name other).0 e in
-              honest was is (ap files same ∙ same_was) (sym here ∙ ap others same ∙ same_is)
-          by_name false e = cut_honest (files other) was is same_was (sym (elsewhere other e) ∙ same_is)
+        elsewhere : (other : List ℕ) → bytes_eq name other ≡ false → others other ≡ cut (files other)
+        elsewhere other apart = at_other name left (λ q. cut (files q)) other apart
+
+        all_leaves : FilesCrashTo files others
+        all_leaves other = by_name (bytes_eq name other) refl
+          where
+            by_name : (b : Bool) → bytes_eq name other ≡ b → FileCrashesTo (files other) (others other)
+            by_name true e = subst (λ q. FileCrashesTo (files q) (others q)) ((bytes_decides name other).0 e) (subst (FileCrashesTo (files name)) (sym here) leaves)
+            by_name false e = subst (FileCrashesTo (files other)) (sym (elsewhere other e)) (cut_leaves (files other))
+
+        all_honest : IsHonest store files others
+        all_honest other was is journal same_was same_is = by_name (bytes_eq name other) refl
+          where
+            by_name : (b : Bool) → bytes_eq name other ≡ b → HonestTail log_block_size (bytes_of was) (bytes_of is)
+            by_name true e =
+                let same = (bytes_decides name other).0 e in
+                honest was is (ap files same ∙ same_was) (sym here ∙ ap others same ∙ same_is)
+            by_name false e = cut_honest (files other) was is same_was (sym (elsewhere other e) ∙ same_is)

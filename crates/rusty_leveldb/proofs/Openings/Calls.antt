@@ -4,13 +4,10 @@ use Rattle.std.specs.Prelude.{if◌then◌else◌, IsTrue, OnOk}
 use Rattle.std.specs.Option.{option_map}
 use Rattle.leveldb_base.specs.declared.error.Status.{Status}
 use Rattle.leveldb_base.specs.Error.{IsOutOfMemory}
-use Rattle.leveldb_env.specs.Disk.{File, Files, bytes_of, file_kept, or_empty, created, synced}
-use Rattle.leveldb_env.specs.Times.{Told}
-use Rattle.leveldb_env.specs.Calls.{Does, EitherSide, Still, NoMemory}
-use Rattle.leveldb_env.specs.Runs.{Run, Run-mono, Run-trans}
-use Rattle.leveldb_env.specs.FileLaws.{at_same}
+use Rattle.leveldb_env.specs.Env.{File, Files, bytes_of, file_kept, or_empty, created, synced, Observed, ChangesFiles, BeforeOrAfter, FilesUnchanged, Run}
+use Rattle.leveldb_env.proofs.EnvLemmas.{Run-mono, Run-trans, at_same}
 use Rattle.leveldb_mem.specs.Log.{log_block_size, End, clean, bad}
-use Rattle.leveldb_mem.specs.Writing.{Writing}
+use Rattle.leveldb_mem.specs.Log.Writer.{WriterState}
 use Rattle.rusty_leveldb.specs.Recent.{Numbered}
 use Rattle.rusty_leveldb.specs.Replay.{AreBatches, IsReplayed, IsDamaged}
 use Rattle.rusty_leveldb.specs.Recovery.{IsFoundAs, framed_file, kept_log, IsMadeKept, SparesLog, IsRecovered, HasCauses, IsFoundOr, IsUntold, IsNotMade, IsNoLog}
@@ -29,13 +26,13 @@ kept_of_made None = refl
 kept_of_made (Some file) = refl
 
 -- made where it was missing and synced, all its bytes are kept
-pub opened_there : {U : Type 0} {tells_disk : Bool} {T : Type 0} {log : T} {before made kept : Told} (name named : List ℕ) (now : Files) (answer : Result U Status) (value : U) → IsTrue tells_disk → named ≡ name
-    → Does tells_disk (created name) (EitherSide (created name)) before made (Ok log) → IsFoundOr answer (Ok value) → Does tells_disk (synced named) (EitherSide (synced named)) made kept answer
+pub opened_there : {U : Type 0} {models_disk : Bool} {T : Type 0} {log : T} {before made kept : Observed} (name named : List ℕ) (now : Files) (answer : Result U Status) (value : U) → IsTrue models_disk → named ≡ name
+    → ChangesFiles models_disk (created name) (BeforeOrAfter (created name)) before made (Ok log) → IsFoundOr answer (Ok value) → ChangesFiles models_disk (synced named) (BeforeOrAfter (synced named)) made kept answer
     → now ≡ kept.disk.files → now name ≡ Some (kept_log (before.disk.files name))
-opened_there {before = before} {made = made} {kept = kept} name named now answer value tells same creates found syncs still =
-    let is_ok = subst (λ r. OnOk r (kept.disk.files ≡ synced named made.disk.files)) (found_ok answer value found) (syncs.ok tells) in
+opened_there {before = before} {made = made} {kept = kept} name named now answer value modelled same creates found syncs still =
+    let is_ok = subst (λ r. OnOk r (kept.disk.files ≡ synced named made.disk.files)) (found_ok answer value found) (syncs.ok modelled) in
     let after : kept.disk.files ≡ synced name made.disk.files = subst (λ n. kept.disk.files ≡ synced n made.disk.files) same is_ok in
-    let was : made.disk.files name ≡ or_empty (before.disk.files name) = ap (λ (f : Files). f name) (creates.ok tells) ∙ at_same name (or_empty (before.disk.files name)) before.disk.files in
+    let was : made.disk.files name ≡ or_empty (before.disk.files name) = ap (λ (f : Files). f name) (creates.ok modelled) ∙ at_same name (or_empty (before.disk.files name)) before.disk.files in
     ap (λ (f : Files). f name) (still ∙ after) ∙ at_same name (option_map file_kept (made.disk.files name)) made.disk.files ∙ ap (option_map file_kept) was ∙ kept_of_made (before.disk.files name)
 
 -- ---- the log is recovered
@@ -65,8 +62,8 @@ module _ (create : Bool) (first read mid now : Files) (name path : List ℕ) (te
   open_spares is either = subst (λ p. SparesLog create (first p) (now p)) named (opening_spares create (first name) records is_clean has are (mid name) (now name) (since_first is) either)
 
   -- when it is open
-  pub open_recovers : (size : ℕ) (writer : Writing) (recent : Numbered) → mid name ≡ (if is_clean then read name else Some (framed_file records)) → now name ≡ Some (kept_log (mid name))
-      → size ≡ length (bytes_of (kept_log (mid name))) → writer ≡ record { size = log_block_size; place = size % log_block_size; broken = false } → IsReplayed records recent
+  pub open_recovers : (size : ℕ) (writer : WriterState) (recent : Numbered) → mid name ≡ (if is_clean then read name else Some (framed_file records)) → now name ≡ Some (kept_log (mid name))
+      → size ≡ length (bytes_of (kept_log (mid name))) → writer ≡ record { size = log_block_size; offset = size % log_block_size; broken = false } → IsReplayed records recent
       → IsRecovered create (first path) (now path) writer recent
   open_recovers size writer recent is there sized stands replayed = subst (λ p. IsRecovered create (first p) (now p) writer recent) named
       (opened_recovers create (first name) records is_clean has are (mid name) (now name) size writer recent (since_first is) there sized stands replayed)
@@ -77,10 +74,10 @@ module _ (create : Bool) (first read mid now : Files) (name path : List ℕ) (te
 abbrev pub Sparing : Bool → Option File → List ℕ → Files → Type 0
 Sparing create was path files = SparesLog create was (files path)
 
-pub read_run : (create : Bool) (path : List ℕ) {first read : Told} → Run (Still first.disk.files) first read → Run (Sparing create (first.disk.files path) path) first read
+pub read_run : (create : Bool) (path : List ℕ) {first read : Observed} → Run (FilesUnchanged first.disk.files) first read → Run (Sparing create (first.disk.files path) path) first read
 read_run create path still = Run-mono (λ files same. inl (ap (λ (f : Files). f path) same)) still
 
-module _ (create : Bool) (first read mended now : Told) (name path : List ℕ) (texts records : List (List ℕ)) (is_clean : Bool) (named : name ≡ path) (still : Run (Still first.disk.files) first read) (same : records ≡ texts)
+module _ (create : Bool) (first read mended now : Observed) (name path : List ℕ) (texts records : List (List ℕ)) (is_clean : Bool) (named : name ≡ path) (still : Run (FilesUnchanged first.disk.files) first read) (same : records ≡ texts)
     (found : IsFoundAs create (first.disk.files name) texts (if is_clean then clean else bad)) (are : AreBatches records)
     (mends : Run (λ files. (files name ≡ read.disk.files name) ⊎ ((is_clean ≡ false) × (files name ≡ Some (framed_file records)))) read mended) where
   pub mend_run : Run (Sparing create (first.disk.files path) path) first mended
@@ -93,21 +90,21 @@ module _ (create : Bool) (first read mended now : Told) (name path : List ℕ) (
 
 -- why the log is not recovered
 abbrev pub RecoveryExcused : Bool → Bool → Option File → Status → Type 0
-RecoveryExcused tells_disk create was e = NoMemory e ⊎ IsNotMade tells_disk create was e ⊎ IsNoLog tells_disk was e
+RecoveryExcused models_disk create was e = IsOutOfMemory e ⊎ IsNotMade models_disk create was e ⊎ IsNoLog models_disk was e
 
 -- a reading that is refused
-pub read_refused : {T U : Type 0} (tells_disk create : Bool) (files : Files) {before now : ℕ} {status : Status} (name path : List ℕ) → name ≡ path
-    → HasCauses {T = T} (λ e. IsUntold tells_disk e ⊎ IsNotMade tells_disk create (files name) e) before now (Err status) → HasCauses {T = U} (RecoveryExcused tells_disk create (files path)) before now (Err status)
-read_refused {U = U} tells_disk create files {before = before} {now = now} {status = status} name path named causes =
-    subst (λ p. HasCauses {T = U} (RecoveryExcused tells_disk create (files p)) before now (Err status)) named
+pub read_refused : {T U : Type 0} (models_disk create : Bool) (files : Files) {before now : ℕ} {status : Status} (name path : List ℕ) → name ≡ path
+    → HasCauses {T = T} (λ e. IsUntold models_disk e ⊎ IsNotMade models_disk create (files name) e) before now (Err status) → HasCauses {T = U} (RecoveryExcused models_disk create (files path)) before now (Err status)
+read_refused {U = U} models_disk create files {before = before} {now = now} {status = status} name path named causes =
+    subst (λ p. HasCauses {T = U} (RecoveryExcused models_disk create (files p)) before now (Err status)) named
     (causes_refused (causes_after (Err status) refl
-    (λ e why. ⊎_elim (λ u. ⊎_elim (λ m. inl m) (λ n. inr (inr n)) (untold tells_disk (files name) e u)) (λ n. inr (inl n)) why) causes))
+    (λ e why. ⊎_elim (λ u. ⊎_elim (λ m. inl m) (λ n. inr (inr n)) (untold models_disk (files name) e u)) (λ n. inr (inl n)) why) causes))
 
 -- a replay that is refused
-pub replay_refused : {T : Type 0} (tells_disk create : Bool) (files : Files) {before now : ℕ} {status : Status} (name path : List ℕ) (texts records : List (List ℕ)) (end : End) → name ≡ path → now ≡ before
-    → records ≡ texts → (IsTrue tells_disk → IsFoundAs create (files name) texts end) → IsOutOfMemory status ⊎ IsDamaged records status
-    → HasCauses {T = T} (RecoveryExcused tells_disk create (files path)) before now (Err status)
-replay_refused {T = T} tells_disk create files {before = before} {now = now} {status = status} name path texts records end named counted same found why =
-    subst (λ p. HasCauses {T = T} (RecoveryExcused tells_disk create (files p)) before now (Err status)) named
+pub replay_refused : {T : Type 0} (models_disk create : Bool) (files : Files) {before now : ℕ} {status : Status} (name path : List ℕ) (texts records : List (List ℕ)) (end : End) → name ≡ path → now ≡ before
+    → records ≡ texts → (IsTrue models_disk → IsFoundAs create (files name) texts end) → IsOutOfMemory status ⊎ IsDamaged records status
+    → HasCauses {T = T} (RecoveryExcused models_disk create (files path)) before now (Err status)
+replay_refused {T = T} models_disk create files {before = before} {now = now} {status = status} name path texts records end named counted same found why =
+    subst (λ p. HasCauses {T = T} (RecoveryExcused models_disk create (files p)) before now (Err status)) named
     (excused counted (⊎_elim (λ m. inl m)
-    (λ is. inr (inr (damaged tells_disk create (files name) texts end status found (subst (λ rs. IsDamaged rs status) same is)))) why))
+    (λ is. inr (inr (damaged models_disk create (files name) texts end status found (subst (λ rs. IsDamaged rs status) same is)))) why))

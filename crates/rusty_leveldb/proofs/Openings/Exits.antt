@@ -3,13 +3,12 @@ use Rattle.std.proofs.Common.{◌≡◌, ◌≢◌, ◌⊎◌, ◌<◌, ◌≤�
 use Rattle.std.specs.Prelude.{◌-◌, ◌^◌, IsTrue, if◌then◌else◌, is_ok}
 use Rattle.leveldb_base.specs.declared.error.Status.{Status}
 use Rattle.leveldb_base.specs.declared.error.StatusCode.TheVariants.{Corruption}
-use Rattle.leveldb_env.specs.Disk.{File, Files, Disk, created, lock_set, same}
-use Rattle.leveldb_env.specs.Times.{Told}
-use Rattle.leveldb_mem.specs.Writing.{Writing}
-use Rattle.leveldb_env.specs.Calls.{Does, EitherSide, Still, SameLocks, Relocks, HasCause, NoMemory, IsLocked}
-use Rattle.leveldb_env.specs.FileLaws.{bytes_eq-same, bytes_eq-apart}
+use Rattle.leveldb_env.specs.Env.{File, Files, Disk, created, lock_set, same, Observed, ChangesFiles, BeforeOrAfter, FilesUnchanged, SameLocks, ChangesLocks, HasCause, IsLocked}
+use Rattle.leveldb_mem.specs.Log.Writer.{WriterState}
+use Rattle.leveldb_base.specs.Error.{IsOutOfMemory}
+use Rattle.leveldb_env.proofs.EnvLemmas.{bytes_eq-same, bytes_eq-apart}
 use Rattle.rusty_leveldb.specs.OneLog.{log_path, IsRead}
-use Rattle.rusty_leveldb.specs.Names.{lock_path}
+use Rattle.leveldb_version.specs.Paths.{lock_path}
 use Rattle.rusty_leveldb.specs.Recent.{Numbered}
 use Rattle.rusty_leveldb.specs.Serves.{Reads, IsUnreadable, SparesOthers}
 use Rattle.rusty_leveldb.specs.Engine.{OpenExcused}
@@ -28,7 +27,7 @@ pub record IsStill (from to : Disk) : Type 0 where
 
 -- the lock's file may have been made
 pub record IsNear (name : List ℕ) (from to : Disk) : Type 0 where
-  pub files : EitherSide (created (lock_path name)) from.files to.files
+  pub files : BeforeOrAfter (created (lock_path name)) from.files to.files
   pub locks : to.locked ≡ from.locked
 
 pub near_still : (name : List ℕ) (from to : Disk) → IsStill from to → IsNear name from to
@@ -36,7 +35,7 @@ near_still name from to still = record { files = inl still.files; locks = still.
 
 -- a refusal there
 abbrev pub EarlyExcused : List ℕ → Bool → Disk → Status → Type 0
-EarlyExcused name create from e = NoMemory e ⊎ IsEarlyWhy name create from e
+EarlyExcused name create from e = IsOutOfMemory e ⊎ IsEarlyWhy name create from e
 
 pub given_up_early : (name : List ℕ) (create : Bool) (from to : Disk) (before after : ℕ) (e : Status) {T : Type 0} → IsNear name from to → after < 2 ^ 64 → HasCauses {T = T} (EarlyExcused name create from) before after (Err e)
     → IsGivenUp name create from to before after after e
@@ -52,31 +51,31 @@ given_up_early name create from to before after e near counts causes = record {
 }
 
 -- the folder is made
-pub folder_made : {tells_disk : Bool} {T : Type 0} {result : Result T Status} (from to : Told) → IsTrue tells_disk → Does tells_disk same Still from to result → SameLocks tells_disk from to → IsStill from.disk to.disk
-folder_made from to tells does locks = record { files = does.now tells; locks = locks tells }
+pub folder_made : {models_disk : Bool} {T : Type 0} {result : Result T Status} (from to : Observed) → IsTrue models_disk → ChangesFiles models_disk same FilesUnchanged from to result → SameLocks models_disk from to → IsStill from.disk to.disk
+folder_made from to modelled does locks = record { files = does.now modelled; locks = locks modelled }
 
 -- the lock's file may be made
-lock_made : (name lock : List ℕ) (old made files : Files) → lock ≡ lock_path name → made ≡ old → EitherSide (created lock) made files → EitherSide (created (lock_path name)) old files
-lock_made name lock old made files is still passes = subst (λ f. EitherSide (created (lock_path name)) f files) still (subst (λ l. EitherSide (created l) made files) is passes)
+lock_made : (name lock : List ℕ) (old made files : Files) → lock ≡ lock_path name → made ≡ old → BeforeOrAfter (created lock) made files → BeforeOrAfter (created (lock_path name)) old files
+lock_made name lock old made files is still passes = subst (λ f. BeforeOrAfter (created (lock_path name)) f files) still (subst (λ l. BeforeOrAfter (created l) made files) is passes)
 
 -- the lock is refused
-pub lock_refused : (name lock : List ℕ) {tells_disk : Bool} {T : Type 0} {e : Status} (from made to : Told) → IsTrue tells_disk → lock ≡ lock_path name → IsStill from.disk made.disk
-    → Does {T = T} tells_disk (created lock) (EitherSide (created lock)) made to (Err e) → Relocks {T = T} tells_disk (lock_set lock true) made to (Err e) → IsNear name from.disk to.disk
-lock_refused name lock from made to tells is still does locks = record {
-  files = lock_made name lock from.disk.files made.disk.files to.disk.files is still.files (does.now tells);
-  locks = locks tells ∙ still.locks;
+pub lock_refused : (name lock : List ℕ) {models_disk : Bool} {T : Type 0} {e : Status} (from made to : Observed) → IsTrue models_disk → lock ≡ lock_path name → IsStill from.disk made.disk
+    → ChangesFiles {T = T} models_disk (created lock) (BeforeOrAfter (created lock)) made to (Err e) → ChangesLocks {T = T} models_disk (lock_set lock true) made to (Err e) → IsNear name from.disk to.disk
+lock_refused name lock from made to modelled is still does locks = record {
+  files = lock_made name lock from.disk.files made.disk.files to.disk.files is still.files (does.now modelled);
+  locks = locks modelled ∙ still.locks;
 }
 
-pub lock_excused : (name lock : List ℕ) (create tells_disk : Bool) (from made : Told) (e : Status) → IsTrue tells_disk → lock ≡ lock_path name → IsStill from.disk made.disk → IsLocked tells_disk lock made e
+pub lock_excused : (name lock : List ℕ) (create models_disk : Bool) (from made : Observed) (e : Status) → IsTrue models_disk → lock ≡ lock_path name → IsStill from.disk made.disk → IsLocked models_disk lock made e
     → EarlyExcused name create from.disk e
-lock_excused name lock create tells_disk from made e tells is still why = ⊎_elim (λ m. inl m)
-    (λ held. inr (inr (inr (held.0, sym (ap (λ (l : List ℕ → Bool). l (lock_path name)) still.locks) ∙ subst (λ l. made.disk.locked l ≡ true) is (held.1 tells))))) why
+lock_excused name lock create models_disk from made e modelled is still why = ⊎_elim (λ m. inl m)
+    (λ held. inr (inr (inr (held.0, sym (ap (λ (l : List ℕ → Bool). l (lock_path name)) still.locks) ∙ subst (λ l. made.disk.locked l ≡ true) is (held.1 modelled))))) why
 
 -- ---- under the lock
 
 -- the lock was free and is taken, and all files but the lock's are as they were
 pub record IsTaken (name : List ℕ) (from to : Disk) : Type 0 where
-  pub files : EitherSide (created (lock_path name)) from.files to.files
+  pub files : BeforeOrAfter (created (lock_path name)) from.files to.files
   pub log : to.files (log_path name) ≡ from.files (log_path name)
   pub was_free : from.locked (lock_path name) ≡ false
   pub held : to.locked (lock_path name) ≡ true
@@ -88,11 +87,11 @@ set_same name b locked = ap (λ x. cond x b (locked name)) (bytes_eq-same name)
 set_other : (name : List ℕ) (b : Bool) (locked : List ℕ → Bool) (other : List ℕ) → other ≢ name → lock_set name b locked other ≡ locked other
 set_other name b locked other apart = ap (λ x. cond x b (locked other)) (bytes_eq-apart name other (λ e. apart (sym e)))
 
-pub lock_taken : (name lock : List ℕ) {tells_disk : Bool} {T : Type 0} {value : T} (from made to : Told) → IsTrue tells_disk → lock ≡ lock_path name → IsStill from.disk made.disk
-    → Does tells_disk (created lock) (EitherSide (created lock)) made to (Ok value) → Relocks tells_disk (lock_set lock true) made to (Ok value) → made.disk.locked lock ≡ false → IsTaken name from.disk to.disk
-lock_taken name lock from made to tells is still does locks was_free =
-    let set : to.disk.locked ≡ lock_set (lock_path name) true made.disk.locked = subst (λ l. to.disk.locked ≡ lock_set l true made.disk.locked) is (locks tells) in
-    let files = lock_made name lock from.disk.files made.disk.files to.disk.files is still.files (does.now tells) in
+pub lock_taken : (name lock : List ℕ) {models_disk : Bool} {T : Type 0} {value : T} (from made to : Observed) → IsTrue models_disk → lock ≡ lock_path name → IsStill from.disk made.disk
+    → ChangesFiles models_disk (created lock) (BeforeOrAfter (created lock)) made to (Ok value) → ChangesLocks models_disk (lock_set lock true) made to (Ok value) → made.disk.locked lock ≡ false → IsTaken name from.disk to.disk
+lock_taken name lock from made to modelled is still does locks was_free =
+    let set : to.disk.locked ≡ lock_set (lock_path name) true made.disk.locked = subst (λ l. to.disk.locked ≡ lock_set l true made.disk.locked) is (locks modelled) in
+    let files = lock_made name lock from.disk.files made.disk.files to.disk.files is still.files (does.now modelled) in
     record {
       files = files;
       log = log_kept name from.disk.files to.disk.files files;
@@ -113,7 +112,7 @@ still_taken name from taken to is locks rest = (
 )
 
 -- a store that was opened isn't one that is never opened
-pub may_open : {name : List ℕ} {create : Bool} {from taken : Disk} {now : Option File} {writer : Writing} {recent : Numbered} → IsTaken name from taken → IsRecovered create (taken.files (log_path name)) now writer recent → NeverOpens name create from → ⊥
+pub may_open : {name : List ℕ} {create : Bool} {from taken : Disk} {now : Option File} {writer : WriterState} {recent : Numbered} → IsTaken name from taken → IsRecovered create (taken.files (log_path name)) now writer recent → NeverOpens name create from → ⊥
 may_open {name} {create} {from} {taken} took got = ⊎_elim
     (λ held. let never : true ≡ false = sym held ∙ took.was_free in absurd (cc))
     (λ unusable. usable create (taken.files (log_path name)) got.records got.end got.was_found got.replayed.read (subst (IsUnusable create) (sym took.log) unusable))
@@ -122,7 +121,7 @@ may_open {name} {create} {from} {taken} took got = ⊎_elim
 module _ (name lock : List ℕ) (create : Bool) (from taken kept to : Disk) (before mid after : ℕ) (e : Status) (is : lock ≡ lock_path name) (took : IsTaken name from taken) (locks : kept.locked ≡ taken.locked)
     (log : SparesLog create (taken.files (log_path name)) (kept.files (log_path name))) (rest : ChangesLogAlone name taken.files kept.files)
     (unusable : IsUnusable create (taken.files (log_path name)) → kept.files ≡ taken.files) (files : to.files ≡ kept.files) (counts : after < 2 ^ 64) (ended : mid ≤ after)
-    (tells_disk : Bool) (tells : IsTrue tells_disk) {T : Type 0} (causes : HasCauses {T = T} (RecoveryExcused tells_disk create (taken.files (log_path name))) before mid (Err e)) where
+    (models_disk : Bool) (modelled : IsTrue models_disk) {T : Type 0} (causes : HasCauses {T = T} (RecoveryExcused models_disk create (taken.files (log_path name))) before mid (Err e)) where
   spares : SparesLog create (from.files (log_path name)) (to.files (log_path name))
   spares = subst (λ w. SparesLog create w (to.files (log_path name))) took.log (subst (λ (f : Files). SparesLog create (taken.files (log_path name)) (f (log_path name))) (sym files) log)
 
@@ -131,18 +130,18 @@ module _ (name lock : List ℕ) (create : Bool) (from taken kept to : Disk) (bef
   same_log makes_none gone = ap (λ (f : Files). f (log_path name)) files ∙ ⊎_elim (λ s. s ∙ took.log)
       (λ made. absurd (cc (sym (subst (λ w. IsFoundAs create w made.0 made.1) gone made.2).0 ∙ makes_none))) log
 
-  reasons : NoMemory e ⊎ (IsEarlyWhy name create from e × (to.files (log_path name) ≡ from.files (log_path name))) ⊎ ((e.code ≡ Corruption) × IsUnreadable (Reads name) from.files)
+  reasons : IsOutOfMemory e ⊎ (IsEarlyWhy name create from e × (to.files (log_path name) ≡ from.files (log_path name))) ⊎ ((e.code ≡ Corruption) × IsUnreadable (Reads name) from.files)
       ⊎ (before < mid) ⊎ (before ≡ 2 ^ 64 - 1)
   reasons = ⊎_elim (λ excused. ⊎_elim (λ m. inl m) (λ others. ⊎_elim
-      (λ unmade. inr (inl (inr (inl (unmade.0, unmade.1, sym took.log ∙ unmade.2 tells)), same_log unmade.1 (unmade.2 tells))))
-      (λ damage. inr (inr (inl (damage.0, λ contents read. damage.1 tells contents (subst (λ w. IsRead w contents) (sym took.log) read))))) others) excused)
+      (λ unmade. inr (inl (inr (inl (unmade.0, unmade.1, sym took.log ∙ unmade.2 modelled)), same_log unmade.1 (unmade.2 modelled))))
+      (λ damage. inr (inr (inl (damage.0, λ contents read. damage.1 modelled contents (subst (λ w. IsRead w contents) (sym took.log) read))))) others) excused)
       (λ counted. inr (inr (inr counted))) causes.cause
 
   -- where no store is opened, the lock's file was made at most
-  untouched : NeverOpens name create from → EitherSide (created (lock_path name)) from.files to.files
+  untouched : NeverOpens name create from → BeforeOrAfter (created (lock_path name)) from.files to.files
   untouched = ⊎_elim
       (λ held. let never : true ≡ false = sym held ∙ took.was_free in absurd (cc))
-      (λ was. subst (λ f. EitherSide (created (lock_path name)) from.files f) (sym (files ∙ unusable (subst (IsUnusable create) (sym took.log) was))) took.files)
+      (λ was. subst (λ f. BeforeOrAfter (created (lock_path name)) from.files f) (sym (files ∙ unusable (subst (IsUnusable create) (sym took.log) was))) took.files)
 
   rest_now : ChangesLogAlone name taken.files to.files
   rest_now = alone_then name taken.files kept.files to.files rest (alone_same name kept.files to.files files)
@@ -175,14 +174,14 @@ module _ (name lock : List ℕ) (create : Bool) (from taken kept to : Disk) (bef
       (⊎_elim (λ never. absurd never) (λ counted. ⊎_elim (λ (one : after ≡ mid + 1). inl (omega (arith, one))) (λ full. inr (full.1 ∙ full.0)) counted) cause.cause)
 
 -- the same refusal, whatever the disk tells
-pub late_causes : {T U : Type 0} (name : List ℕ) (create tells_disk : Bool) (from taken : Told) {before start mid after : ℕ} {e : Status} → (IsTrue tells_disk → taken.disk.files (log_path name) ≡ from.disk.files (log_path name))
-    → start ≡ before → mid ≤ after → HasCauses {T = T} (RecoveryExcused tells_disk create (taken.disk.files (log_path name))) start mid (Err e)
-    → HasCauses {T = U} (OpenExcused tells_disk name create from) before after (Err e)
-late_causes name create tells_disk from taken {before = before} {start = start} {mid = mid} {after = after} same_log counted ended causes = record {
+pub late_causes : {T U : Type 0} (name : List ℕ) (create models_disk : Bool) (from taken : Observed) {before start mid after : ℕ} {e : Status} → (IsTrue models_disk → taken.disk.files (log_path name) ≡ from.disk.files (log_path name))
+    → start ≡ before → mid ≤ after → HasCauses {T = T} (RecoveryExcused models_disk create (taken.disk.files (log_path name))) start mid (Err e)
+    → HasCauses {T = U} (OpenExcused models_disk name create from) before after (Err e)
+late_causes name create models_disk from taken {before = before} {start = start} {mid = mid} {after = after} same_log counted ended causes = record {
   later = omega (arith, counted, causes.later, ended);
   ok = tt;
   cause = ⊎_elim (λ excused. inl (⊎_elim (λ m. inl m) (λ others. ⊎_elim
-      (λ unmade. inr (inr (inl (unmade.0, unmade.1, λ tells. sym (same_log tells) ∙ unmade.2 tells))))
-      (λ damage. inr (inr (inr (inr (damage.0, λ tells contents read. damage.1 tells contents (subst (λ w. IsRead w contents) (sym (same_log tells)) read)))))) others) excused))
+      (λ unmade. inr (inr (inl (unmade.0, unmade.1, λ modelled. sym (same_log modelled) ∙ unmade.2 modelled))))
+      (λ damage. inr (inr (inr (inr (damage.0, λ modelled contents read. damage.1 modelled contents (subst (λ w. IsRead w contents) (sym (same_log modelled)) read)))))) others) excused))
       (λ others. inr (⊎_elim (λ (more : start < mid). inl (omega (arith, counted, more, ended))) (λ full. inr (sym counted ∙ full)) others)) causes.cause;
 }

@@ -2,16 +2,16 @@
 use Rattle.std.proofs.Common.{◌≡◌, ◌⊎◌, ◌%◌, inl, inr, ⊎_elim, ℕ, Bool, true, false, List, [], length, refl, sym, ◌∙◌, ap, subst, Option, Some, None, append-nil}
 use Rattle.std.specs.Prelude.{if◌then◌else◌}
 use Rattle.leveldb_base.specs.History.{History}
-use Rattle.leveldb_env.specs.Disk.{File, bytes_of, kept_file, file_kept}
+use Rattle.leveldb_env.specs.Env.{File, bytes_of, kept_file, file_kept}
 use Rattle.leveldb_mem.specs.Log.{log_block_size, End, clean, bad, IsLogFile, framed}
-use Rattle.leveldb_mem.specs.LogLaws.{log_laws}
-use Rattle.leveldb_mem.specs.Writing.{Writing}
-use Rattle.rusty_leveldb.specs.Contents.{Contents, nothing_there}
+use Rattle.leveldb_mem.proofs.LawsLemmas.{log_laws}
+use Rattle.leveldb_mem.specs.Log.Writer.{WriterState}
+use Rattle.leveldb_version.specs.Contents.{Store, made, Contents, no_contents}
 use Rattle.rusty_leveldb.specs.OneLog.{IsRead, contents_of}
 use Rattle.rusty_leveldb.specs.Recent.{Numbered}
 use Rattle.rusty_leveldb.specs.Replay.{AreBatches, IsReplayed}
 use Rattle.rusty_leveldb.specs.Recovery.{IsFoundAs, framed_file, kept_log, IsKeptLog, SparesLog, IsUnusable, IsRecovered}
-use Rattle.rusty_leveldb.proofs.OneLog.LogFile.{Carried}
+use Rattle.rusty_leveldb.proofs.OneLog.LogFile.{Carried, carried_as}
 use Rattle.rusty_leveldb.proofs.OneLog.Kept.{IsKept, created_carries, same_records, no_records, framed_log}
 
 -- ---- a log that is kept
@@ -31,14 +31,14 @@ framed_reads records are = subst (λ b. IsLogFile b records clean) (sym (append-
 pub kept_is_kept : (records : List (List ℕ)) (now : Option File) → IsKeptLog records now → IsKept now
 kept_is_kept records now k = subst IsKept (sym k.there) k.since
 
--- what was carried is carried by a log of the records that were found
-pub carried_over : (create : Bool) (was now : Option File) (records : List (List ℕ)) (end : End) (bound : ℕ) (history : History) → IsFoundAs create was records end → IsKeptLog records now
-    → Carried bound history was → Carried bound history now
-carried_over create None now records end bound history found k c =
+-- what was carried is carried by a log of the records that were found, which is a store
+pub carried_over : {allowed other : Store → Type 0} (create : Bool) (was now : Option File) (records : List (List ℕ)) (end : End) (bound : ℕ) (history : History) → other (made None) → IsFoundAs create was records end
+    → IsKeptLog records now → Carried allowed bound history was → Carried other bound history now
+carried_over {other = other} create None now records end bound history may found k c =
     let none : IsLogFile (bytes_of (kept_file [])) records clean = subst (λ rs. IsLogFile [] rs clean) (sym found.1) no_records in
-    subst (Carried bound history) (sym k.there) (same_records bound history (kept_file []) k.file records clean clean none k.read (created_carries bound history c))
-carried_over create (Some file) now records end bound history found k c =
-    subst (Carried bound history) (sym k.there) (same_records bound history file k.file records end clean found k.read c)
+    subst (Carried other bound history) (sym k.there) (same_records bound history (kept_file []) k.file records clean clean none k.read (created_carries bound history may c))
+carried_over {other = other} create (Some file) now records end bound history may found k c =
+    subst (Carried other bound history) (sym k.there) (same_records bound history file k.file records end clean found k.read (carried_as bound history file may c))
 
 -- the records that were found are batches where the log can be read
 pub found_batches : (create : Bool) (was : Option File) (records : List (List ℕ)) (end : End) (contents : Contents) → IsFoundAs create was records end → IsRead was contents → AreBatches records
@@ -96,8 +96,8 @@ module _ (create : Bool) (was : Option File) (records : List (List ℕ)) (is_cle
       )) either
 
   -- an opened log is recovered
-  pub opened_recovers : (mid now : Option File) (size : ℕ) (writer : Writing) (recent : Numbered) → mid ≡ (if is_clean then was else Some (framed_file records)) → now ≡ Some (kept_log mid)
-      → size ≡ length (bytes_of (kept_log mid)) → writer ≡ record { size = log_block_size; place = size % log_block_size; broken = false } → IsReplayed records recent → IsRecovered create was now writer recent
+  pub opened_recovers : (mid now : Option File) (size : ℕ) (writer : WriterState) (recent : Numbered) → mid ≡ (if is_clean then was else Some (framed_file records)) → now ≡ Some (kept_log mid)
+      → size ≡ length (bytes_of (kept_log mid)) → writer ≡ record { size = log_block_size; offset = size % log_block_size; broken = false } → IsReplayed records recent → IsRecovered create was now writer recent
   opened_recovers mid now size writer recent is there sized stands replayed = record {
     records = records;
     end = if is_clean then clean else bad;
@@ -107,12 +107,12 @@ module _ (create : Bool) (was : Option File) (records : List (List ℕ)) (is_cle
     there = there;
     since = kept_since mid;
     read = mended_reads mid is;
-    stands = stands ∙ ap (λ n. record { size = log_block_size; place = n % log_block_size; broken = false }) sized;
+    stands = stands ∙ ap (λ n. record { size = log_block_size; offset = n % log_block_size; broken = false }) sized;
   }
 
 -- a log of batches isn't unusable
 pub usable : (create : Bool) (was : Option File) (records : List (List ℕ)) (end : End) → IsFoundAs create was records end → AreBatches records → IsUnusable create was → ⊥
-usable create None records end found are = ⊎_elim (λ unread. unread nothing_there refl) (λ unmade. let never : true ≡ false = sym found.0 ∙ unmade.0 in absurd (cc))
+usable create None records end found are = ⊎_elim (λ unread. unread no_contents refl) (λ unmade. let never : true ≡ false = sym found.0 ∙ unmade.0 in absurd (cc))
 usable create (Some file) records end found are = ⊎_elim
     (λ unread. unread (contents_of are.batches) (are.batches, record { records = records; end = end; read = found; each = are.each; order = are.order }, refl))
     (λ unmade. let never : Some file ≡ None = unmade.1 in absurd (cc))

@@ -5,14 +5,12 @@ use Rattle.std.specs.declared.cmp.Ordering.{Ordering}
 use Rattle.leveldb_base.specs.History.{Entry, entries_of, greatest, with_batch, count_of, HasValueAt}
 use Rattle.leveldb_base.proofs.HistoryLemmas.{in_none}
 use Rattle.leveldb_env.specs.declared.env.Env.{Ghosts}
-use Rattle.leveldb_env.specs.Disk.{File, AreBytes}
-use Rattle.leveldb_env.specs.Times.{Told}
-use Rattle.leveldb_env.specs.Runs.{Run}
+use Rattle.leveldb_env.specs.Env.{File, AreBytes, Observed, Run}
 use Rattle.leveldb_mem.specs.Log.{clean}
-use Rattle.rusty_leveldb.specs.Contents.{Store, missing, made, Contents}
+use Rattle.leveldb_version.specs.Contents.{Store, missing, made, Contents}
 use Rattle.rusty_leveldb.specs.OneLog.{log_path, IsRead, all_entries, contents_of}
-use Rattle.rusty_leveldb.specs.Names.{lock_path}
-use Rattle.rusty_leveldb.specs.Holds.{Tells, Carries}
+use Rattle.leveldb_version.specs.Paths.{lock_path}
+use Rattle.leveldb_version.specs.Holds.{MatchesHistory, Carries}
 use Rattle.rusty_leveldb.specs.State.{State, IsState, Opening, open_store, open_mode, done}
 use Rattle.rusty_leveldb.specs.Causes.{Misfits, Disagrees}
 use Rattle.rusty_leveldb.specs.Machine.{MayOpen, Opens, StepIn}
@@ -23,12 +21,12 @@ use Rattle.rusty_leveldb.specs.Recovery.{IsFoundAs, IsKeptLog, IsRecovered}
 use Rattle.rusty_leveldb.proofs.Histories.{history_part}
 use Rattle.rusty_leveldb.proofs.OneLog.LogFile.{carried}
 use Rattle.rusty_leveldb.proofs.Readings.{one_read}
-use Rattle.rusty_leveldb.proofs.OneLog.Disks.{log_is_store, store_stays, kept_holds}
+use Rattle.rusty_leveldb.proofs.OneLog.Disks.{kept_holds}
 use Rattle.rusty_leveldb.proofs.OneLog.Opening as opening
 use Rattle.rusty_leveldb.proofs.Openings.Logs.{carried_over, kept_is_kept}
 use Rattle.rusty_leveldb.proofs.Openings.Calls.{Sparing}
 use Rattle.rusty_leveldb.proofs.Openings.Moments.{opening_moments}
-use Rattle.rusty_leveldb.proofs.Openings.Survives.{some_contents, stays_made}
+use Rattle.rusty_leveldb.proofs.Openings.Survives.{Found, found_in, stays_made}
 
 -- sets of the same entries show the same
 shows_same : (these those : List Entry) (t : ℕ) (key value : List ℕ) → ((entry : Entry) → Contains these entry ↔ Contains those entry) → HasValueAt these t key value → HasValueAt those t key value
@@ -53,12 +51,12 @@ no_bytes : AreBytes []
 no_bytes i = omega arith
 
 module _ {E C FP F I : Type 0} {D : I → Type 0} (env : Ghosts E F) (name : List ℕ) (cmp : List ℕ → List ℕ → Ordering) (opening_is : Opening) (create : Bool) (is : IsOpening name create opening_is) (is_name : IsStoreName name)
-    (from to : Told) (before after : ℕ) (engine : Engine E C FP F I D) (got : IsRecovered create (from.disk.files (log_path name)) (to.disk.files (log_path name)) engine.writer engine.recent)
+    (from to : Observed) (before after : ℕ) (engine : Engine E C FP F I D) (got : IsRecovered create (from.disk.files (log_path name)) (to.disk.files (log_path name)) engine.writer engine.recent)
     (mode : mode_of engine.mode ≡ open_mode) (lock : string_bytes engine.lock ≡ lock_path name) (log : env.name_of engine.log ≡ log_path name)
     (was_free : from.disk.locked (lock_path name) ≡ false) (held : to.disk.locked (lock_path name) ≡ true) (others : SparesOthers name from.disk to.disk)
     (counted : after ≡ before) (passed : Run (Sparing create (from.disk.files (log_path name)) (log_path name)) from to) (old : State) (represents : Represents name (Reads name) (Recalls {E = E} {C = C} {FP = FP} {F = F} {I = I} {D = D} env name) None from.disk old) where
-  found : opening.Found name from.disk.files old.history (old.last + count_of old.pending) old.covered old.pending
-  found = opening.found name from.disk.files old.history old.last old.covered old.pending represents.disk_is.is_state.covered represents.disk_is.holds
+  found : opening.Finds name (λ now. now ≡ old.store) from.disk.files old.history (old.last + count_of old.pending) old.covered old.pending
+  found = opening.opening_finds name from.disk.files old.history old.last old.covered old.pending represents.disk_is.is_state.covered represents.disk_is.holds
 
   kept : IsKeptLog got.records (to.disk.files (log_path name))
   kept = record { file = got.file; there = got.there; since = got.since; read = got.read }
@@ -68,17 +66,17 @@ module _ {E C FP F I : Type 0} {D : I → Type 0} (env : Ghosts E F) (name : Lis
   read_now = subst (λ f. IsRead f (contents_of got.replayed.read.batches)) (sym got.there)
       (got.replayed.read.batches, record { records = got.records; end = clean; read = got.read; each = got.replayed.read.each; order = got.replayed.read.order }, refl)
 
-  tells : Tells (old.last + count_of old.pending) (contents_of got.replayed.read.batches) found.part
-  tells =
-      let c = carried_over create (from.disk.files (log_path name)) (to.disk.files (log_path name)) got.records got.end (old.last + count_of old.pending) found.part got.was_found kept
+  matches : MatchesHistory (λ now. now ≡ made None) (old.last + count_of old.pending) (contents_of got.replayed.read.batches) found.part
+  matches =
+      let c = carried_over create (from.disk.files (log_path name)) (to.disk.files (log_path name)) got.records got.end (old.last + count_of old.pending) found.part refl got.was_found kept
       (carried name (old.last + count_of old.pending) found.part from.disk.files found.carries) in
-      subst (λ x. Tells (old.last + count_of old.pending) x found.part) (one_read (to.disk.files (log_path name)) c.contents (contents_of got.replayed.read.batches) c.read read_now) c.tells
+      subst (λ x. MatchesHistory (λ now. now ≡ made None) (old.last + count_of old.pending) x found.part) (one_read (to.disk.files (log_path name)) c.contents (contents_of got.replayed.read.batches) c.read read_now) c.matches
 
   reached : greatest (entries_of found.part) ≤ engine.recent.last
-  reached = omega (arith, tells.reached, got.replayed.last)
+  reached = omega (arith, matches.reached, got.replayed.last)
 
   bounded : engine.recent.last ≤ old.last + count_of old.pending
-  bounded = omega (arith, tells.bounded, got.replayed.last)
+  bounded = omega (arith, matches.bounded, got.replayed.last)
 
   -- the store is open
   abbrev now : State
@@ -96,7 +94,7 @@ module _ {E C FP F I : Type 0} {D : I → Type 0} (env : Ghosts E F) (name : Lis
 
   now_is_state : IsState now
   now_is_state = record {
-    history = history_part old.covered (with_batch old.history old.pending) found.part represents.disk_is.is_state.history found.beginning;
+    history = history_part old.covered (with_batch old.history old.pending) found.part represents.disk_is.is_state.history found.prefix;
     reached = reached;
     pending = omega (arith, reached);
     covered = omega arith;
@@ -104,32 +102,28 @@ module _ {E C FP F I : Type 0} {D : I → Type 0} (env : Ghosts E F) (name : Lis
     mode = (refl, refl);
   }
 
-  carries_now : Carries name (Reads name) engine.recent.last found.part to.disk.files
+  carries_now : Carries name (Reads name) (λ now. now ≡ made None) engine.recent.last found.part to.disk.files
   carries_now = record {
     contents = contents_of got.replayed.read.batches;
     read = read_now;
-    tells = record { same = tells.same; up_to = tells.up_to; reached = tells.reached; bounded = omega (arith, got.replayed.last) };
+    matches = record { same = matches.same; up_to = matches.up_to; reached = matches.reached; bounded = omega (arith, got.replayed.last); store = refl };
   }
 
   stands : StandsFor name (Reads name) to.disk now
-  stands =
-      let has = log_is_store name got.file to.disk.files got.there in
-      record {
-        is_state = now_is_state;
-        holds = kept_holds name to.disk.files found.part engine.recent.last (kept_is_kept got.records (to.disk.files (log_path name)) kept) carries_now;
-        has_store = has;
-        keeps = store_stays name (made None) to.disk.files (contents_of got.replayed.read.batches) read_now (has (contents_of got.replayed.read.batches) read_now);
-        locked = held;
-      }
+  stands = record {
+    is_state = now_is_state;
+    holds = kept_holds name to.disk.files found.part engine.recent.last (kept_is_kept got.records (to.disk.files (log_path name)) kept) carries_now;
+    locked = held;
+  }
 
   remembers : Remembers env name engine now
   remembers = record {
     last = refl;
     same = λ t most key value. (
-      λ s. (tells.same t most key value).0 (shows_same engine.recent.kept.entries (all_entries got.replayed.read.batches) t key value got.replayed.just s),
-      λ s. shows_same (all_entries got.replayed.read.batches) engine.recent.kept.entries t key value (λ entry. ((got.replayed.just entry).1, (got.replayed.just entry).0)) ((tells.same t most key value).1 s),
+      λ s. (matches.same t most key value).0 (shows_same engine.recent.kept.entries (all_entries got.replayed.read.batches) t key value got.replayed.just s),
+      λ s. shows_same (all_entries got.replayed.read.batches) engine.recent.kept.entries t key value (λ entry. ((got.replayed.just entry).1, (got.replayed.just entry).0)) ((matches.same t most key value).1 s),
     );
-    up_to = λ entry c. tells.up_to entry ((got.replayed.just entry).0 c);
+    up_to = λ entry c. matches.up_to entry ((got.replayed.just entry).0 c);
   }
 
   writes : WritesOn env name engine to.disk
@@ -143,26 +137,26 @@ module _ {E C FP F I : Type 0} {D : I → Type 0} (env : Ghosts E F) (name : Lis
     writer = got.stands;
   }
 
+  -- what was read of the log
+  was : Found from.disk.files name old.store
+  was = found_in name old.store from.disk.files old.history old.last old.covered old.pending represents.disk_is.holds
+
   which : ((old.store ≡ missing) × IsTrue create) ⊎ (old.store ≡ made None)
-  which =
-      let c = some_contents name from.disk.files old.history old.last old.covered old.pending represents.disk_is.holds in
-      store_found create (from.disk.files (log_path name)) got.records got.end old.store got.was_found c.0 c.1 (represents.disk_is.has_store c.0 c.1)
+  which = store_found create (from.disk.files (log_path name)) got.records got.end old.store got.was_found was.contents was.read was.store_is
 
   opens : Opens old opening_is now
-  opens =
-      let c = some_contents name from.disk.files old.history old.last old.covered old.pending represents.disk_is.holds in
-      record {
-        fits = (is.fits.1 is_name, is.compresses);
-        free = sym represents.disk_is.locked ∙ was_free;
-        may = ⊎_elim (λ none. subst (MayOpen opening_is) (sym none.0) (is.create ∙ none.1)) (λ there. subst (MayOpen opening_is) (sym there) is.exists) which;
-        stays = stays_made (from.disk.files (log_path name)) c.0 old.store c.1 (represents.disk_is.has_store c.0 c.1);
-        store = tt;
-        joins = found.which;
-        reached = reached;
-        bounded = bounded;
-        covered = inr refl;
-        state = refl;
-      }
+  opens = record {
+    fits = (is.fits.1 is_name, is.compresses);
+    free = sym represents.disk_is.locked ∙ was_free;
+    may = ⊎_elim (λ none. subst (MayOpen opening_is) (sym none.0) (is.create ∙ none.1)) (λ there. subst (MayOpen opening_is) (sym there) is.exists) which;
+    stays = stays_made opening_is (from.disk.files (log_path name)) was.contents old.store was.read was.store_is;
+    store = tt;
+    joins = found.which;
+    reached = reached;
+    bounded = bounded;
+    covered = inr refl;
+    state = refl;
+  }
 
   misfits : Misfits old (open_store opening_is) → ⊥
   misfits (inl misfit) = let fits : opening_is.fits ≡ true = is.fits.1 is_name in cc
@@ -178,7 +172,7 @@ module _ {E C FP F I : Type 0} {D : I → Type 0} (env : Ghosts E F) (name : Lis
       later = omega (arith, counted);
       step = subst (λ m. StepIn cmp m (faults_between before after) old (open_store opening_is) done now) (sym represents.memory_is) (misfits, opens);
     };
-    moments = opening_moments create name old represents.disk_is passed;
+    moments = opening_moments create name opening_is old represents.disk_is passed;
     files = record { untouched = λ never. absurd never; refused = λ never. absurd never; stopped = λ not_open takes. absurd (takes tt); bytes = λ never. absurd never };
     others = others;
     beside = λ opens_not. absurd (opens_not tt);

@@ -2,8 +2,8 @@
 use Rattle.std.proofs.Common.{◌≡◌, ◌⊎◌, ◌+◌, ◌<◌, ◌∙◌, inl, inr, ⊎_elim, ℕ, Bool, List, sym, arith, Option, Result, Ok, Err}
 use Rattle.std.specs.Prelude.{IsTrue}
 use Rattle.leveldb_base.specs.declared.error.Status.{Status}
-use Rattle.leveldb_env.specs.Disk.{File}
-use Rattle.leveldb_env.specs.Calls.{HasCause, NoMemory}
+use Rattle.leveldb_env.specs.Env.{File, HasCause}
+use Rattle.leveldb_base.specs.Error.{IsOutOfMemory}
 use Rattle.leveldb_mem.specs.Log.{End}
 use Rattle.rusty_leveldb.specs.Replay.{IsDamaged}
 use Rattle.rusty_leveldb.specs.Recovery.{IsFoundAs, HasCauses, IsUntold, IsNoLog}
@@ -36,10 +36,10 @@ pub excused : {T : Type 0} {P : Status → Type 0} {before now : ℕ} {status : 
 excused same p = record { later = omega (arith, same); ok = tt; cause = inl p }
 
 -- damage of the records is damage of the log
-pub damaged : (tells_disk create : Bool) (was : Option File) (records : List (List ℕ)) (end : End) (status : Status) → (IsTrue tells_disk → IsFoundAs create was records end) → IsDamaged records status
-    → IsNoLog tells_disk was status
-damaged tells_disk create was records end status found is = (is.code, λ tells contents read. is.none (found_batches create was records end contents (found tells) read))
+pub damaged : (models_disk create : Bool) (was : Option File) (records : List (List ℕ)) (end : End) (status : Status) → (IsTrue models_disk → IsFoundAs create was records end) → IsDamaged records status
+    → IsNoLog models_disk was status
+damaged models_disk create was records end status found is = (is.code, λ modelled contents read. is.none (found_batches create was records end contents (found modelled) read))
 
 -- a disk that isn't told is no list of batches
-pub untold : (tells_disk : Bool) (was : Option File) (status : Status) → IsUntold tells_disk status → NoMemory status ⊎ IsNoLog tells_disk was status
-untold tells_disk was status is = ⊎_elim (λ m. inl m) (λ u. inr (u.0, λ tells contents read. absurd (u.1 tells))) is
+pub untold : (models_disk : Bool) (was : Option File) (status : Status) → IsUntold models_disk status → IsOutOfMemory status ⊎ IsNoLog models_disk was status
+untold models_disk was status is = ⊎_elim (λ m. inl m) (λ u. inr (u.0, λ modelled contents read. absurd (u.1 modelled))) is

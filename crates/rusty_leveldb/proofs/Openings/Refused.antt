@@ -4,15 +4,12 @@ use Rattle.std.specs.Prelude.{◌-◌, ◌^◌, IsTrue}
 use Rattle.std.specs.declared.cmp.Ordering.{Ordering}
 use Rattle.leveldb_base.specs.declared.error.Status.{Status}
 use Rattle.leveldb_base.specs.declared.error.StatusCode.TheVariants.{InvalidArgument, Corruption, LockError}
-use Rattle.leveldb_base.specs.Error.{text_of}
+use Rattle.leveldb_base.specs.Error.{text_of, IsOutOfMemory}
 use Rattle.leveldb_env.specs.declared.env.Env.{Ghosts}
-use Rattle.leveldb_env.specs.Disk.{File, Disk, created}
-use Rattle.leveldb_env.specs.Times.{Told}
-use Rattle.leveldb_env.specs.Runs.{Run}
-use Rattle.leveldb_env.specs.Calls.{EitherSide, NoMemory}
-use Rattle.rusty_leveldb.specs.Contents.{Store, made, Contents, nothing_there}
+use Rattle.leveldb_env.specs.Env.{File, Disk, created, Observed, Run, BeforeOrAfter}
+use Rattle.leveldb_version.specs.Contents.{Store, made, Contents, no_contents}
 use Rattle.rusty_leveldb.specs.OneLog.{log_path, IsRead}
-use Rattle.rusty_leveldb.specs.Names.{lock_path}
+use Rattle.leveldb_version.specs.Paths.{lock_path}
 use Rattle.rusty_leveldb.specs.State.{State, IsState, IsAtRest, SuitsMode, Opening, open_store, refused}
 use Rattle.rusty_leveldb.specs.Causes.{Cause, Comes, Disagrees, out_of_memory, device_failed, lock_is_held, bad_operand}
 use Rattle.rusty_leveldb.specs.Machine.{IsEarly, UnlockFailed, StepIn}
@@ -21,7 +18,7 @@ use Rattle.rusty_leveldb.specs.Engine.{IsStoreName, IsOpening, OpenExcused, Reca
 use Rattle.rusty_leveldb.specs.Recovery.{SparesLog, NeverOpens, FailedBeside, StaysUnopened}
 use Rattle.rusty_leveldb.proofs.Openings.Calls.{Sparing}
 use Rattle.rusty_leveldb.proofs.Openings.Moments.{opening_moments}
-use Rattle.rusty_leveldb.proofs.Openings.Survives.{Survives, survives_now, survives_same, survives_kept, some_contents}
+use Rattle.rusty_leveldb.proofs.Openings.Survives.{Survives, Found, found_in, survives_now, survives_same, survives_kept}
 
 -- why an opening is refused before anything is made
 abbrev pub IsEarlyWhy : List ℕ → Bool → Disk → Status → Type 0
@@ -32,21 +29,21 @@ IsEarlyWhy name create disk e = ((e.code ≡ InvalidArgument) × (IsStoreName na
 pub record IsGivenUp (name : List ℕ) (create : Bool) (from to : Disk) (before mid after : ℕ) (e : Status) : Type 0 where
   pub log : SparesLog create (from.files (log_path name)) (to.files (log_path name))
   pub lock : (to.locked (lock_path name) ≡ from.locked (lock_path name)) ⊎ ((to.locked (lock_path name) ≡ true) × ((mid < after) ⊎ (after ≡ 2 ^ 64 - 1)))
-  pub untouched : NeverOpens name create from → EitherSide (created (lock_path name)) from.files to.files
+  pub untouched : NeverOpens name create from → BeforeOrAfter (created (lock_path name)) from.files to.files
   pub others : SparesOthers name from to
   pub later : before ≤ mid
   pub ends : mid ≤ after
   pub counts : after < 2 ^ 64
-  pub why : NoMemory e ⊎ (IsEarlyWhy name create from e × (to.files (log_path name) ≡ from.files (log_path name))) ⊎ ((e.code ≡ Corruption) × IsUnreadable (Reads name) from.files)
+  pub why : IsOutOfMemory e ⊎ (IsEarlyWhy name create from e × (to.files (log_path name) ≡ from.files (log_path name))) ⊎ ((e.code ≡ Corruption) × IsUnreadable (Reads name) from.files)
       ⊎ (before < mid) ⊎ (before ≡ 2 ^ 64 - 1)
 
 -- why it was refused, where the device has no part in it
-early_excused : (name : List ℕ) (create : Bool) (from : Told) (e : Status) → IsEarlyWhy name create from.disk e → OpenExcused true name create from e
+early_excused : (name : List ℕ) (create : Bool) (from : Observed) (e : Status) → IsEarlyWhy name create from.disk e → OpenExcused true name create from e
 early_excused name create from e why = ⊎_elim (λ badly. inr (inl badly))
     (λ others. ⊎_elim (λ unmade. inr (inr (inl (unmade.0, unmade.1, λ told. unmade.2)))) (λ held. inr (inr (inr (inl (held.0, λ told. held.1))))) others) why
 
 -- the lock wasn't given back: a failure of its own
-failed_beside : (name : List ℕ) (create : Bool) (from to : Told) (before mid after : ℕ) (e : Status) → IsGivenUp name create from.disk to.disk before mid after e → (mid < after) ⊎ (after ≡ 2 ^ 64 - 1)
+failed_beside : (name : List ℕ) (create : Bool) (from to : Observed) (before mid after : ℕ) (e : Status) → IsGivenUp name create from.disk to.disk before mid after e → (mid < after) ⊎ (after ≡ 2 ^ 64 - 1)
     → FailedBeside (OpenExcused true name create from e) before after
 failed_beside name create from to before mid after e up failed = ⊎_elim (λ (more : mid < after). ⊎_elim (λ memory. excused more (inl memory))
     (λ others. ⊎_elim (λ early. excused more (early_excused name create from e early.0))
@@ -60,7 +57,7 @@ failed_beside name create from to before mid after e up failed = ⊎_elim (λ (m
     device more counted = ⊎_elim (λ (less : before < mid). inr (inl (omega (arith, less, more)))) (λ (full : before ≡ 2 ^ 64 - 1). inr (inr (omega (arith, full, up.later, up.ends, up.counts)))) counted
 
 -- what it leaves
-pub unopened : {name : List ℕ} {create : Bool} {from to : Told} {before mid after : ℕ} {e : Status} → IsGivenUp name create from.disk to.disk before mid after e → StaysUnopened name create from to before after e
+pub unopened : {name : List ℕ} {create : Bool} {from to : Observed} {before mid after : ℕ} {e : Status} → IsGivenUp name create from.disk to.disk before mid after e → StaysUnopened name create from to before after e
 unopened {name} {create} {from} {to} {before} {mid} {after} {e} up = record {
   log = up.log;
   untouched = up.untouched;
@@ -69,8 +66,10 @@ unopened {name} {create} {from} {to} {before} {mid} {after} {e} up = record {
 }
 
 -- a store that is missing disagrees with an opening that makes none
-disagrees : (file : Option File) (there : Store) (opening : Opening) → file ≡ None → opening.create_if_missing ≡ false → ((contents : Contents) → IsRead file contents → contents.store ≡ there) → Disagrees opening there
-disagrees file there opening gone create has = subst (Disagrees opening) (has nothing_there (subst (λ f. IsRead f nothing_there) (sym gone) refl)) create
+disagrees : (file : Option File) (there : Store) (opening : Opening) (contents : Contents) → IsRead file contents → contents.store ≡ there → file ≡ None → opening.create_if_missing ≡ false → Disagrees opening there
+disagrees file there opening contents read is gone create =
+    let none : contents ≡ no_contents = subst (λ f. IsRead f contents) gone read in
+    subst (Disagrees opening) (sym (ap (λ (c : Contents). c.store) none) ∙ is) create
 
 not_true : (b : Bool) → (IsTrue b → ⊥) → b ≡ false
 not_true true never = absurd (never refl)
@@ -85,7 +84,7 @@ unlock_failed before mid after device_failed later ended counts device failed = 
 unlock_failed before mid after other later ended counts device failed = ⊎_elim (λ (more : mid < after). inl (omega (arith, later, more))) (λ full. inr full) failed
 
 module _ {E C FP F I : Type 0} {D : I → Type 0} (env : Ghosts E F) (name : List ℕ) (cmp : List ℕ → List ℕ → Ordering) (opening : Opening) (create : Bool) (is : IsOpening name create opening)
-    (from to : Told) (before mid after : ℕ) (e : Status) (up : IsGivenUp name create from.disk to.disk before mid after e)
+    (from to : Observed) (before mid after : ℕ) (e : Status) (up : IsGivenUp name create from.disk to.disk before mid after e)
     (passed : Run (Sparing create (from.disk.files (log_path name)) (log_path name)) from to) (old : State) (represents : Represents name (Reads name) (Recalls {E = E} {C = C} {FP = FP} {F = F} {I = I} {D = D} env name) None from.disk old) where
   -- the store is closed, and this store is there
   abbrev left : Store → State
@@ -110,12 +109,12 @@ module _ {E C FP F I : Type 0} {D : I → Type 0} (env : Ghosts E F) (name : Lis
   Refuses = Goes name (Reads name) (Recalls {E = E} {C = C} {FP = FP} {F = F} {I = I} {D = D} env name) cmp (None, from, before) (open_store opening) (refused (refusal_of e)) (None, to, after) old
 
   -- refused for this cause
-  goes : (there : Store) → Survives name old there to.disk.files → (cause : Cause) → Comes (faults_between before after) old (open_store opening) (refusal_of e) cause
+  goes : (there : Store) → Survives name opening old there to.disk.files → (cause : Cause) → Comes (faults_between before after) old (open_store opening) (refusal_of e) cause
       → (IsEarly cause → there ≡ old.store) → (cause ≡ device_failed → (before < mid) ⊎ (before ≡ 2 ^ 64 - 1)) → Refuses
   goes there survives cause comes early device = record {
     new = left there;
     represents = record {
-      disk_is = record { is_state = left_is_state there; holds = survives.holds; has_store = survives.has; keeps = survives.keeps; locked = refl };
+      disk_is = record { is_state = left_is_state there; holds = survives.holds; locked = refl };
       memory_is = represents.memory_is;
     };
     step = record {
@@ -132,23 +131,27 @@ module _ {E C FP F I : Type 0} {D : I → Type 0} (env : Ghosts E F) (name : Lis
         },
       );
     };
-    moments = opening_moments create name old represents.disk_is passed;
+    moments = opening_moments create name opening old represents.disk_is passed;
     files = record { untouched = λ never. absurd never; refused = λ never. absurd never; stopped = λ not_open takes. absurd (takes tt); bytes = λ never. absurd never };
     others = up.others;
     beside = λ opens_not. absurd (opens_not tt);
   }
 
   -- what is left of the files
-  left_over : (there : Store) × Survives name old there to.disk.files
-  left_over = ⊎_elim (λ same. (old.store, survives_same name old from.disk.files to.disk.files old.store same (survives_now name old from.disk represents.disk_is)))
-      (λ kept. (made None, survives_kept name old from.disk.files to.disk.files create kept.0 kept.1 kept.2 kept.3 represents.disk_is.is_state.covered (survives_now name old from.disk represents.disk_is))) up.log
+  left_over : (there : Store) × Survives name opening old there to.disk.files
+  left_over = ⊎_elim (λ same. (old.store, survives_same name opening old from.disk.files to.disk.files old.store same (survives_now name opening old from.disk represents.disk_is)))
+      (λ kept. (made None, survives_kept name opening old from.disk.files to.disk.files create kept.0 kept.1 kept.2 kept.3 represents.disk_is.is_state.covered (survives_now name opening old from.disk represents.disk_is))) up.log
+
+  -- what is read of the files
+  read_of : Found from.disk.files name old.store
+  read_of = found_in name old.store from.disk.files old.history old.last old.covered old.pending represents.disk_is.holds
 
   early : IsEarlyWhy name create from.disk e → to.disk.files (log_path name) ≡ from.disk.files (log_path name) → Refuses
   early why same =
-      let was = survives_same name old from.disk.files to.disk.files old.store same (survives_now name old from.disk represents.disk_is) in
+      let was = survives_same name opening old from.disk.files to.disk.files old.store same (survives_now name opening old from.disk represents.disk_is) in
       ⊎_elim (λ badly. goes old.store was bad_operand (badly.0, inl (not_true opening.fits (λ fits. badly.1 (is.fits.0 fits)))) (λ _. refl) (λ never. absurd (cc)))
       (λ others. ⊎_elim
-      (λ not. goes old.store was bad_operand (not.0, inr (disagrees (from.disk.files (log_path name)) old.store opening not.2 (is.create ∙ not.1) represents.disk_is.has_store)) (λ _. refl) (λ never. absurd (cc)))
+      (λ not. goes old.store was bad_operand (not.0, inr (disagrees (from.disk.files (log_path name)) old.store opening read_of.contents read_of.read read_of.store_is not.2 (is.create ∙ not.1))) (λ _. refl) (λ never. absurd (cc)))
       (λ held. goes old.store was lock_is_held (tt, held.0, sym represents.disk_is.locked ∙ held.1) (λ _. refl) (λ never. absurd (cc))) others) why
 
   -- the step
@@ -158,9 +161,7 @@ module _ {E C FP F I : Type 0} {D : I → Type 0} (env : Ghosts E F) (name : Lis
       (λ others. ⊎_elim (λ damage. absurd (unreadable damage.1)) counted others) others) up.why
     where
       unreadable : IsUnreadable (Reads name) from.disk.files → ⊥
-      unreadable none =
-          let c = some_contents name from.disk.files old.history old.last old.covered old.pending represents.disk_is.holds in
-          none c.0 c.1
+      unreadable none = none read_of.contents read_of.read
 
       counted : (before < mid) ⊎ (before ≡ 2 ^ 64 - 1) → Refuses
       counted which = goes left_over.0 left_over.1 device_failed (tt, ⊎_elim (λ (less : before < mid). inl (omega (arith, less, up.ends))) (λ full. inr full) which) (λ never. absurd never) (λ _. which)

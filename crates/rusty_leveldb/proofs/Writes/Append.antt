@@ -1,16 +1,14 @@
 -- An append of a batch's record to the log of an open store: what disk and machine are then.
-use Rattle.std.proofs.Common.{◌≡◌, ◌≤◌, ◌+◌, inl, inr, ℕ, List, [], ◌∷◌, ◌++◌, length, take, refl, sym, ◌∙◌, ap, subst, arith, Some, Bool}
+use Rattle.std.proofs.Common.{◌≡◌, ◌≤◌, ◌+◌, inl, inr, ℕ, List, [], ◌∷◌, ◌++◌, length, refl, sym, ◌∙◌, ap, subst, arith, Some, None, Bool}
 use Rattle.std.specs.declared.cmp.Ordering.{Ordering}
 use Rattle.leveldb_base.specs.declared.error.Status.{Status}
 use Rattle.leveldb_base.specs.Error.{text_of}
 use Rattle.leveldb_base.specs.History.{Item, Entry, History, IsHistory, entries_of, greatest, with_batch}
 use Rattle.leveldb_env.specs.declared.env.Env.{Ghosts}
-use Rattle.leveldb_env.specs.Disk.{File, Files, bytes_of, longer_file, AreBytes}
-use Rattle.leveldb_env.specs.Calls.{Appending}
-use Rattle.leveldb_env.specs.FileLaws.{extended-same, SameBut-appending}
-use Rattle.leveldb_env.specs.Runs.{Run}
+use Rattle.leveldb_env.specs.Env.{bytes_of, AreBytes, PrefixAppended, Run}
+use Rattle.leveldb_env.proofs.EnvLemmas.{SameBut-appending}
 use Rattle.leveldb_mem.specs.Log.{frame_at}
-use Rattle.leveldb_mem.specs.Batch.{BatchOf}
+use Rattle.leveldb_mem.specs.WriteBatch.{BatchOf}
 use Rattle.rusty_leveldb.specs.declared.db_impl.engine.Mode.TheVariants.{Broken}
 use Rattle.rusty_leveldb.specs.declared.db_impl.engine.Engine.{Engine}
 use Rattle.rusty_leveldb.specs.OneLog.{log_path, max_sequence}
@@ -62,10 +60,6 @@ module _ {E C FP F I : Type 0} {D : I → Type 0} (env : Ghosts E F) (store : Li
 
   -- ---- an append that was refused, or whose sync was
 
-  pub passed_file : (files : Files) → Appending name frame (env.tells from).disk.files files → (file : File) × (files name ≡ Some file)
-  passed_file files (inl same) = (was.writes.file, ap (λ (f : Files). f name) same ∙ was.writes.there)
-  passed_file files (inr part) = (longer_file (take part.0 frame) was.writes.file, ap (λ (f : Files). f name) part.1 ∙ extended-same name (take part.0 frame) (env.tells from).disk.files was.writes.file was.writes.there)
-
   module _ (cmp : List ℕ → List ℕ → Ordering) (sync : Bool) (after : Engine E C FP F I D) (to : E) where
     abbrev faults : Faults
     faults = faults_between (env.failures from) (env.failures to)
@@ -78,8 +72,8 @@ module _ {E C FP F I : Type 0} {D : I → Type 0} (env : Ghosts E F) (store : Li
     refuses status (inr device) = (device_failed, (tt, device), inr (tt, breaks))
 
     -- the log refused the append or the sync behind it, so the store is broken with the batch pending
-    pub write_broke : (status : Status) → Run (IsSpared store (Reads store) old (record { history = longer; bound = old.last + length batch })) (env.tells from) (env.tells to) → env.failures from ≤ env.failures to → Fails status (env.failures from) (env.failures to) → Appending name frame (env.tells from).disk.files (env.tells to).disk.files
-        → (env.tells to).disk.locked ≡ (env.tells from).disk.locked → IsStill env store engine after → after.mode ≡ Broken
+    pub write_broke : (status : Status) → Run (IsSpared store (Reads store) old (record { history = longer; bound = old.last + length batch; opening = None })) (env.observed from) (env.observed to) → env.failures from ≤ env.failures to → Fails status (env.failures from) (env.failures to) → PrefixAppended name frame (env.observed from).disk.files (env.observed to).disk.files
+        → (env.observed to).disk.locked ≡ (env.observed from).disk.locked → IsStill env store engine after → after.mode ≡ Broken
         → Goes store (Reads store) (Recalls env store) cmp (scene env cmp (Some engine) from) (write items sync) (refused (refusal_of status)) (scene env cmp (Some after) to) old
     write_broke status moments later why passes locks still mode = record {
       new = new;
@@ -92,8 +86,8 @@ module _ {E C FP F I : Type 0} {D : I → Type 0} (env : Ghosts E F) (store : Li
         stopped = λ not_open takes. absurd (not_open was.mode);
         bytes = λ never. absurd never;
       };
-      others = others_but_log store (env.tells from).disk (env.tells to).disk broke.but locks;
-      beside = λ opens_not. beside_but store (env.tells from).disk.files (env.tells to).disk.files broke.but;
+      others = others_but_log store (env.observed from).disk (env.observed to).disk broke.but locks;
+      beside = λ opens_not. beside_but store (env.observed from).disk.files (env.observed to).disk.files broke.but;
     }
       where
         new : State
@@ -105,10 +99,8 @@ module _ {E C FP F I : Type 0} {D : I → Type 0} (env : Ghosts E F) (store : Li
           mode = mode;
           history = longer_history;
           reached = omega (arith, longer_reached, placed_length (old.last + 1) items);
-          holds = appending_holds store (env.tells from).disk.files was.writes.file was.writes.there was.writes.since old.history old.last old.covered was.holds was.disk_is.is_state.covered was.disk_is.is_state.reached
-              was.writes.records was.writes.ends items bytes next.is_batch next.first_fits next.all_fit (env.tells to).disk.files passes;
-          file = (passed_file (env.tells to).disk.files passes).0;
-          there = (passed_file (env.tells to).disk.files passes).1;
+          holds = appending_holds store (env.observed from).disk.files was.writes.file was.writes.there was.writes.since old.history old.last old.covered was.holds was.disk_is.is_state.covered was.disk_is.is_state.reached
+              was.writes.records was.writes.ends items bytes next.is_batch next.first_fits next.all_fit (env.observed to).disk.files passes;
           locks = locks;
-          but = SameBut-appending name frame (env.tells from).disk.files (env.tells to).disk.files passes;
+          but = SameBut-appending name frame (env.observed from).disk.files (env.observed to).disk.files passes;
         }

@@ -3,7 +3,7 @@ use Rattle.std.proofs.Common.{◌≡◌, ◌+◌, ℕ, zero, suc, List, [], ◌�
 use Rattle.std.specs.Prelude.{Contains, ◌↔◌, max}
 use Rattle.std.specs.Int.{bytes_low_first}
 use Rattle.leveldb_base.specs.History.{Item, Entry, placed, greatest, HasValueAt, SameView}
-use Rattle.leveldb_mem.specs.Batch.{BatchOf, batch_bytes}
+use Rattle.leveldb_mem.specs.WriteBatch.{BatchOf, batch_bytes}
 use Rattle.rusty_leveldb.specs.Causes.{IsLongBatch}
 
 -- the last number behind a batch that takes the next ones
@@ -22,7 +22,7 @@ long_as m n items = omega (arith, length-append {A = ℕ}, bytes_long 0 8 m, byt
 
 -- what is within the limit isn't past it
 pub not_long : (bytes : List ℕ) (first : ℕ) (items : List Item) → BatchOf bytes first items → IsLongBatch items → ⊥
-not_long bytes first items is long = let spelled = ap length is.spelled in let same = long_as 0 first items in let most = is.limited in omega arith
+not_long bytes first items is long = let spelled = ap length is.encoded in let same = long_as 0 first items in let most = is.limited in omega arith
 
 shows_in : (xs ys : List Entry) (s : ℕ) → ((entry : Entry) → Contains xs entry → Contains ys entry) → ((entry : Entry) → Contains ys entry → Contains xs entry)
     → (key value : List ℕ) → HasValueAt xs s key value → HasValueAt ys s key value

@@ -6,20 +6,17 @@ use Rattle.std.specs.declared.cmp.Ordering.{Ordering}
 use Rattle.leveldb_base.specs.History.{Item, Entry, History, IsHistory, entries_of, greatest, with_batch, count_of, SameView, AreUpTo}
 use Rattle.leveldb_base.proofs.HistoryLemmas.{same_with_more}
 use Rattle.leveldb_env.specs.declared.env.Env.{Ghosts}
-use Rattle.leveldb_env.specs.Disk.{File, Files, bytes_of, longer_file, file_kept, extended, synced, AreBytes}
-use Rattle.leveldb_env.specs.Times.{Told}
-use Rattle.leveldb_env.specs.Calls.{EitherSide, Appending}
-use Rattle.leveldb_env.specs.Runs.{Run}
-use Rattle.leveldb_env.specs.FileLaws.{SameBut, SameBut-trans, SameBut-synced, SameBut-appending, extended-same, synced-same, appended}
+use Rattle.leveldb_env.specs.Env.{File, Files, bytes_of, longer_file, file_kept, extended, synced, AreBytes, Observed, BeforeOrAfter, PrefixAppended, Run, SameBut}
+use Rattle.leveldb_env.proofs.EnvLemmas.{SameBut-trans, SameBut-synced, SameBut-appending, extended-same, synced-same, appended}
 use Rattle.leveldb_mem.specs.Log.{log_block_size, clean, IsLogFile}
-use Rattle.leveldb_mem.specs.LogLaws.{log_laws}
-use Rattle.leveldb_mem.specs.Writing.{behind_frame}
-use Rattle.leveldb_mem.specs.Batch.{batch_of}
+use Rattle.leveldb_mem.proofs.LawsLemmas.{log_laws}
+use Rattle.leveldb_mem.specs.Log.Writer.{after_frame}
+use Rattle.leveldb_mem.specs.WriteBatch.{batch_of}
 use Rattle.rusty_leveldb.specs.declared.db_impl.engine.Mode.TheVariants.{Open}
 use Rattle.rusty_leveldb.specs.declared.db_impl.engine.Engine.{Engine}
-use Rattle.rusty_leveldb.specs.Names.{lock_path}
+use Rattle.leveldb_version.specs.Paths.{lock_path}
 use Rattle.rusty_leveldb.specs.OneLog.{log_path}
-use Rattle.rusty_leveldb.specs.Holds.{Holds}
+use Rattle.leveldb_version.specs.Holds.{Holds}
 use Rattle.rusty_leveldb.specs.Recent.{Inserts}
 use Rattle.rusty_leveldb.specs.State.{State, IsState, SuitsMode, write, done}
 use Rattle.rusty_leveldb.specs.Machine.{MayCover, StepIn}
@@ -30,7 +27,7 @@ use Rattle.rusty_leveldb.proofs.Histories.{entries_more, placed_above, up_to_gre
 use Rattle.rusty_leveldb.proofs.OneLog.Appending.{bytes_append, batch_some}
 use Rattle.rusty_leveldb.proofs.OneLog.Writing.{appended_holds, synced_holds}
 use Rattle.rusty_leveldb.proofs.Others.{beside_but, others_but_log}
-use Rattle.rusty_leveldb.proofs.Writes.Stands.{IsStored, stored, IsOpen}
+use Rattle.rusty_leveldb.proofs.Writes.Stands.{IsOpen}
 use Rattle.rusty_leveldb.proofs.Writes.Moments.{risk_behind, append_moments, synced_moments, done_moments}
 use Rattle.rusty_leveldb.proofs.Writes.Batches.{placed_last, not_long, same_set, same_by}
 use Rattle.rusty_leveldb.proofs.Writes.Append.{IsNext, batch, longer, frame, longer_history, longer_reached}
@@ -48,10 +45,10 @@ module _ {E C FP F I : Type 0} {D : I → Type 0} (env : Ghosts E F) (store : Li
 
   -- what the engine has behind the write, and what it left alone
   pub record Added : Type 0 where
-    pub locks : (env.tells to).disk.locked ≡ (env.tells from).disk.locked
+    pub locks : (env.observed to).disk.locked ≡ (env.observed from).disk.locked
     pub lock : after.lock ≡ engine.lock
     pub mode : after.mode ≡ Open
-    pub writer : after.writer ≡ behind_frame engine.writer bytes
+    pub writer : after.writer ≡ after_frame engine.writer bytes
     pub log : env.name_of after.log ≡ env.name_of engine.log
     pub inserts : Inserts engine.recent (batch_of (old.last + 1) items) after.recent
     pub up_to_last : AreUpTo engine.recent.last engine.recent.kept.entries
@@ -59,17 +56,17 @@ module _ {E C FP F I : Type 0} {D : I → Type 0} (env : Ghosts E F) (store : Li
 
   -- the log's file behind the append, and so many batches that are covered
   pub record Wrote (sync : Bool) : Type 0 where
-    pub moments : Run (IsSpared store (Reads store) old (risk_behind env store engine from old was items bytes next)) (env.tells from) (env.tells to)
+    pub moments : Run (IsSpared store (Reads store) old (risk_behind env store engine from old was items bytes next)) (env.observed from) (env.observed to)
     pub covered : ℕ
     pub covers : MayCover old.covered old.history covered ⊎ (covered ≡ length the_longer)
     pub synced_is : IsTrue sync → covered ≡ length the_longer
     pub within : covered ≤ length the_longer
     pub file : File
-    pub there : (env.tells to).disk.files (log_path store) ≡ Some file
+    pub there : (env.observed to).disk.files (log_path store) ≡ Some file
     pub since : AreBytes file.since
     pub bytes_are : bytes_of file ≡ bytes_of was.writes.file ++ the_frame
-    pub holds : Holds store (Reads store) (env.tells to).disk.files the_longer (old.last + length items) covered None
-    pub but : SameBut (log_path store) (env.tells from).disk.files (env.tells to).disk.files
+    pub holds : Holds store (Reads store) (λ there. there ≡ old.store) (env.observed to).disk.files the_longer (old.last + length items) covered None
+    pub but : SameBut (log_path store) (env.observed from).disk.files (env.observed to).disk.files
 
   -- memory has the batch
   shows_more : Inserts engine.recent (batch_of (old.last + 1) items) after.recent → AreUpTo engine.recent.last engine.recent.kept.entries → (t : ℕ) → greatest (entries_of the_longer) ≤ t
@@ -111,25 +108,20 @@ module _ {E C FP F I : Type 0} {D : I → Type 0} (env : Ghosts E F) (store : Li
       mode = subst (λ m. SuitsMode m new) (sym was.mode) (was.none, was.held);
     }
 
-    here : IsStored store old.store (env.tells to).disk.files
-    here = stored store old.store (env.tells to).disk.files wrote.file the_longer (old.last + length items) wrote.covered None was.made_is wrote.there wrote.holds
-
-    stands : StandsFor store (Reads store) (env.tells to).disk new
+    stands : StandsFor store (Reads store) (env.observed to).disk new
     stands = record {
       is_state = is_state;
-      holds = subst (λ p. Holds store (Reads store) (env.tells to).disk.files the_longer (old.last + length items) wrote.covered p) (sym was.none) wrote.holds;
-      has_store = here.has;
-      keeps = here.keeps;
+      holds = subst (λ p. Holds store (Reads store) (λ there. there ≡ old.store) (env.observed to).disk.files the_longer (old.last + length items) wrote.covered p) (sym was.none) wrote.holds;
       locked = ap (λ locked. locked (lock_path store)) added.locks ∙ was.disk_is.locked;
     }
 
-    writer_is : after.writer ≡ record { size = log_block_size; place = length (bytes_of wrote.file) % log_block_size; broken = false }
-    writer_is = added.writer ∙ ap (λ w. behind_frame w bytes) was.writes.writer ∙ ap (λ n. record { size = log_block_size; place = n; broken = false }) place
+    writer_is : after.writer ≡ record { size = log_block_size; offset = length (bytes_of wrote.file) % log_block_size; broken = false }
+    writer_is = added.writer ∙ ap (λ w. after_frame w bytes) was.writes.writer ∙ ap (λ n. record { size = log_block_size; offset = n; broken = false }) place
       where
         place : (length (bytes_of was.writes.file) % log_block_size + length the_frame) % log_block_size ≡ length (bytes_of wrote.file) % log_block_size
         place = let all = ap length wrote.bytes_are ∙ length-append (bytes_of was.writes.file) the_frame in omega arith
 
-    recalls : Recalls env store after (env.tells to).disk new
+    recalls : Recalls env store after (env.observed to).disk new
     recalls = record {
       mode = ap mode_of added.mode ∙ sym was.mode;
       lock = ap (λ lock. string_bytes lock) added.lock ∙ was.lock;
@@ -158,12 +150,12 @@ module _ {E C FP F I : Type 0} {D : I → Type 0} (env : Ghosts E F) (store : Li
       step = record {
         later = omega (arith, added.counted);
         step = subst (λ m. StepIn cmp m (faults_between (env.failures from) (env.failures to)) old (write items sync) done new) (sym was.mode)
-            (not_long bytes (old.last + 1) items next.is_batch, record { state = refl; covered = wrote.covers; synced = wrote.synced_is });
+            (not_long bytes (old.last + 1) items next.is_batch, record { numbers = let first = next.first_fits in let all = next.all_fit in omega arith; state = refl; covered = wrote.covers; synced = wrote.synced_is });
       };
       moments = done_moments env store engine from old was items bytes next wrote.moments;
       files = record { untouched = λ never. absurd never; refused = λ logging is_refused. absurd is_refused; stopped = λ not_open takes. absurd (not_open was.mode); bytes = λ never. absurd never };
-      others = others_but_log store (env.tells from).disk (env.tells to).disk wrote.but added.locks;
-      beside = λ opens_not. beside_but store (env.tells from).disk.files (env.tells to).disk.files wrote.but;
+      others = others_but_log store (env.observed from).disk (env.observed to).disk wrote.but added.locks;
+      beside = λ opens_not. beside_but store (env.observed from).disk.files (env.observed to).disk.files wrote.but;
     }
 
   -- ---- the log's file
@@ -174,12 +166,12 @@ module _ {E C FP F I : Type 0} {D : I → Type 0} (env : Ghosts E F) (store : Li
   one_more : length the_longer ≡ length old.history + 1
   one_more = length-append old.history (the_batch ∷ [])
 
-  but_appended : (files : Files) → files ≡ extended (log_path store) the_frame (env.tells from).disk.files → SameBut (log_path store) (env.tells from).disk.files files
-  but_appended files is = SameBut-appending (log_path store) the_frame (env.tells from).disk.files files
-      (subst (λ f. Appending (log_path store) the_frame (env.tells from).disk.files f) (sym is) (appended (log_path store) the_frame (env.tells from).disk.files))
+  but_appended : (files : Files) → files ≡ extended (log_path store) the_frame (env.observed from).disk.files → SameBut (log_path store) (env.observed from).disk.files files
+  but_appended files is = SameBut-appending (log_path store) the_frame (env.observed from).disk.files files
+      (subst (λ f. PrefixAppended (log_path store) the_frame (env.observed from).disk.files f) (sym is) (appended (log_path store) the_frame (env.observed from).disk.files))
 
   -- where nothing was synced
-  pub unsynced : Run (Appending (log_path store) the_frame (env.tells from).disk.files) (env.tells from) (env.tells to) → (env.tells to).disk.files ≡ extended (log_path store) the_frame (env.tells from).disk.files → Wrote false
+  pub unsynced : Run (PrefixAppended (log_path store) the_frame (env.observed from).disk.files) (env.observed from) (env.observed to) → (env.observed to).disk.files ≡ extended (log_path store) the_frame (env.observed from).disk.files → Wrote false
   unsynced run files = record {
     moments = append_moments env store engine from old was items bytes next run;
     covered = old.covered;
@@ -187,17 +179,17 @@ module _ {E C FP F I : Type 0} {D : I → Type 0} (env : Ghosts E F) (store : Li
     synced_is = λ never. absurd (cc);
     within = let all = was.disk_is.is_state.covered in let more = one_more in omega arith;
     file = grown;
-    there = ap (λ (f : Files). f (log_path store)) files ∙ extended-same (log_path store) the_frame (env.tells from).disk.files was.writes.file was.writes.there;
+    there = ap (λ (f : Files). f (log_path store)) files ∙ extended-same (log_path store) the_frame (env.observed from).disk.files was.writes.file was.writes.there;
     since = bytes_append was.writes.file.since the_frame was.writes.since (frame_bytes log_block_size (length (bytes_of was.writes.file) % log_block_size) bytes next.are);
     bytes_are = sym (append_assoc was.writes.file.kept was.writes.file.since the_frame);
-    holds = appended_holds store (env.tells from).disk.files was.writes.file was.writes.there was.writes.since old.history old.last old.covered was.holds was.disk_is.is_state.covered was.disk_is.is_state.reached
-        was.writes.records was.writes.ends items bytes next.is_batch next.first_fits next.all_fit (env.tells to).disk.files files;
-    but = but_appended (env.tells to).disk.files files;
+    holds = appended_holds store (env.observed from).disk.files was.writes.file was.writes.there was.writes.since old.history old.last old.covered was.holds was.disk_is.is_state.covered was.disk_is.is_state.reached
+        was.writes.records was.writes.ends items bytes next.is_batch next.first_fits next.all_fit (env.observed to).disk.files files;
+    but = but_appended (env.observed to).disk.files files;
   }
 
   -- where the log was synced behind the append
-  pub synced_then : (told : Told) → Run (Appending (log_path store) the_frame (env.tells from).disk.files) (env.tells from) told → told.disk.files ≡ extended (log_path store) the_frame (env.tells from).disk.files
-      → Run (EitherSide (synced (log_path store)) told.disk.files) told (env.tells to) → (env.tells to).disk.files ≡ synced (log_path store) told.disk.files → (sync : Bool) → Wrote sync
+  pub synced_then : (told : Observed) → Run (PrefixAppended (log_path store) the_frame (env.observed from).disk.files) (env.observed from) told → told.disk.files ≡ extended (log_path store) the_frame (env.observed from).disk.files
+      → Run (BeforeOrAfter (synced (log_path store)) told.disk.files) told (env.observed to) → (env.observed to).disk.files ≡ synced (log_path store) told.disk.files → (sync : Bool) → Wrote sync
   synced_then told run first syncing files sync = record {
     moments = synced_moments env store engine from old was items bytes next (append_moments env store engine from old was items bytes next run) first syncing;
     covered = length the_longer;
@@ -208,16 +200,16 @@ module _ {E C FP F I : Type 0} {D : I → Type 0} (env : Ghosts E F) (store : Li
     there = ap (λ (f : Files). f (log_path store)) files ∙ synced-same (log_path store) mid grown mid_there;
     since = λ i. omega arith;
     bytes_are = append-nil (bytes_of grown) ∙ sym (append_assoc was.writes.file.kept was.writes.file.since the_frame);
-    holds = synced_holds store mid the_longer (old.last + length items) old.covered mid_holds (let all = was.disk_is.is_state.covered in let more = one_more in omega arith) (env.tells to).disk.files files;
-    but = SameBut-trans (log_path store) (but_appended mid first) (SameBut-synced (log_path store) mid (env.tells to).disk.files (inr files));
+    holds = synced_holds store mid the_longer (old.last + length items) old.covered mid_holds (let all = was.disk_is.is_state.covered in let more = one_more in omega arith) (env.observed to).disk.files files;
+    but = SameBut-trans (log_path store) (but_appended mid first) (SameBut-synced (log_path store) mid (env.observed to).disk.files (inr files));
   }
     where
       mid : Files
       mid = told.disk.files
 
       mid_there : mid (log_path store) ≡ Some grown
-      mid_there = ap (λ (f : Files). f (log_path store)) first ∙ extended-same (log_path store) the_frame (env.tells from).disk.files was.writes.file was.writes.there
+      mid_there = ap (λ (f : Files). f (log_path store)) first ∙ extended-same (log_path store) the_frame (env.observed from).disk.files was.writes.file was.writes.there
 
-      mid_holds : Holds store (Reads store) mid the_longer (old.last + length items) old.covered None
-      mid_holds = appended_holds store (env.tells from).disk.files was.writes.file was.writes.there was.writes.since old.history old.last old.covered was.holds was.disk_is.is_state.covered was.disk_is.is_state.reached
+      mid_holds : Holds store (Reads store) (λ there. there ≡ old.store) mid the_longer (old.last + length items) old.covered None
+      mid_holds = appended_holds store (env.observed from).disk.files was.writes.file was.writes.there was.writes.since old.history old.last old.covered was.holds was.disk_is.is_state.covered was.disk_is.is_state.reached
           was.writes.records was.writes.ends items bytes next.is_batch next.first_fits next.all_fit mid first

@@ -5,15 +5,12 @@ use Rattle.std.specs.declared.cmp.Ordering.{Ordering}
 use Rattle.leveldb_base.specs.declared.error.Status.{Status}
 use Rattle.leveldb_base.specs.History.{Item, AreUpTo}
 use Rattle.leveldb_env.specs.declared.env.Env.{Ghosts}
-use Rattle.leveldb_env.specs.Disk.{Files, longer_file, extended, synced}
-use Rattle.leveldb_env.specs.Times.{Told}
-use Rattle.leveldb_env.specs.Calls.{Does, EitherSide, Appending}
-use Rattle.leveldb_env.specs.FileLaws.{extended-same, appended}
-use Rattle.leveldb_env.specs.OpenFiles.{opened, Appends, Syncs}
-use Rattle.leveldb_env.specs.Runs.{Run, Run-call, Run-mono, cause_after}
-use Rattle.leveldb_mem.specs.Batch.{batch_of}
-use Rattle.leveldb_mem.specs.Writing.{Adds, Refuses, Flushes}
-use Rattle.leveldb_mem.specs.Writing as writing
+use Rattle.leveldb_env.specs.Env.{Files, longer_file, extended, synced, Observed, ChangesFiles, BeforeOrAfter, PrefixAppended, Run}
+use Rattle.leveldb_env.proofs.EnvLemmas.{extended-same, appended, Run-call, Run-mono, cause_after}
+use Rattle.leveldb_env.specs.EnvFile.{opened, Appends, Syncs}
+use Rattle.leveldb_mem.specs.WriteBatch.{batch_of}
+use Rattle.leveldb_mem.specs.Log.Writer.{AddsRecord, FailsToAdd, Flushes}
+use Rattle.leveldb_mem.specs.Log.Writer as writing
 use Rattle.rusty_leveldb.specs.declared.db_impl.engine.Mode.TheVariants.{Open, Broken}
 use Rattle.rusty_leveldb.specs.declared.db_impl.engine.Engine.{Engine}
 use Rattle.rusty_leveldb.specs.OneLog.{log_path}
@@ -33,7 +30,7 @@ pub begun_with : {M : Type 0} (store : List ℕ) (Recalls : M → _ → State �
     → Goes store (Reads store) Recalls cmp (one, told, failures) request answer to old → Goes store (Reads store) Recalls cmp (other, told, failures) request answer to old
 begun_with store Recalls cmp one other told failures request answer to old goes = record { new = goes.new; represents = goes.represents; step = goes.step; moments = goes.moments; files = goes.files; others = goes.others; beside = goes.beside }
 
-module _ {E C FP F I : Type 0} {D : I → Type 0} (env : Ghosts E F) (tells : IsTrue env.tells_disk) (store : List ℕ) (engine : Engine E C FP F I D) (from : E) (old : State) (stood : Was env store engine from old) (open_now : engine.mode ≡ Open)
+module _ {E C FP F I : Type 0} {D : I → Type 0} (env : Ghosts E F) (modelled : IsTrue env.models_disk) (store : List ℕ) (engine : Engine E C FP F I D) (from : E) (old : State) (stood : Was env store engine from old) (open_now : engine.mode ≡ Open)
     (items : List Item) (bytes : List ℕ) (ready : IsNext engine.recent.last items bytes) where
   was : IsOpen env store engine from old
   was = is_open env store engine from old open_now stood
@@ -50,13 +47,13 @@ module _ {E C FP F I : Type 0} {D : I → Type 0} (env : Ghosts E F) (tells : Is
   sound : engine.writer.broken ≡ false
   sound = ap (λ w. w.broken) was.writes.writer
 
-  passes : (files : Files) → Appending (env.name_of engine.log) (writing.frame engine.writer bytes) (env.tells from).disk.files files → Appending (log_path store) the_frame (env.tells from).disk.files files
-  passes files some = subst (λ n. Appending n the_frame (env.tells from).disk.files files) was.writes.name (subst (λ b. Appending (env.name_of engine.log) b (env.tells from).disk.files files) frame_is some)
+  passes : (files : Files) → PrefixAppended (env.name_of engine.log) (writing.frame engine.writer bytes) (env.observed from).disk.files files → PrefixAppended (log_path store) the_frame (env.observed from).disk.files files
+  passes files some = subst (λ n. PrefixAppended n the_frame (env.observed from).disk.files files) was.writes.name (subst (λ b. PrefixAppended (env.name_of engine.log) b (env.observed from).disk.files files) frame_is some)
 
   -- the run of an append
-  appends : {T : Type 0} {result : Result T Status} (told : Told) → Does env.tells_disk (extended (env.name_of engine.log) (writing.frame engine.writer bytes)) (Appending (env.name_of engine.log) (writing.frame engine.writer bytes)) (env.tells from) told result
-      → Run (Appending (log_path store) the_frame (env.tells from).disk.files) (env.tells from) told
-  appends told does = Run-mono passes (Run-call tells does)
+  appends : {T : Type 0} {result : Result T Status} (told : Observed) → ChangesFiles env.models_disk (extended (env.name_of engine.log) (writing.frame engine.writer bytes)) (PrefixAppended (env.name_of engine.log) (writing.frame engine.writer bytes)) (env.observed from) told result
+      → Run (PrefixAppended (log_path store) the_frame (env.observed from).disk.files) (env.observed from) told
+  appends told does = Run-mono passes (Run-call modelled does)
 
   -- ---- a refused append
 
@@ -74,7 +71,7 @@ module _ {E C FP F I : Type 0} {D : I → Type 0} (env : Ghosts E F) (tells : Is
         same_mode : after.mode ≡ engine.mode
         same_mode = mode ∙ ap (λ (b : Bool). if b then Broken else engine.mode) (ap (λ w. w.broken) writer ∙ sound)
 
-    pub append_refused : (status : Status) → Refuses (Appends env) engine.writer (opened from engine.log) bytes status after.writer (opened to after.log) → Refused status
+    pub append_refused : (status : Status) → FailsToAdd (Appends env) engine.writer (opened from engine.log) bytes status after.writer (opened to after.log) → Refused status
     append_refused status refusal = ⊎_elim
         (λ kept.
         let same_env : to ≡ from = ap (λ o. o.env) kept.1.same_sink in
@@ -84,34 +81,34 @@ module _ {E C FP F I : Type 0} {D : I → Type 0} (env : Ghosts E F) (tells : Is
         (memory_goes env store engine from old stood cmp open_now items sync status engine stood kept.0)))
         (λ put.
         let does = put.0 in
-        write_broke env store engine from old was items bytes next cmp sync after to status (append_moments env store engine from old was items bytes next (appends (env.tells to) does.does)) does.cause.later
-        (fails env.tells_disk (env.name_of engine.log) (env.tells from) was.writes.file (env.failures from) (env.failures to) status (ap (env.tells from).disk.files was.writes.name ∙ was.writes.there) does.cause)
-        (passes (env.tells to).disk.files (does.does.now tells)) (does.locks tells) still (mode ∙ ap (λ w. if w.broken then Broken else engine.mode) put.1))
+        write_broke env store engine from old was items bytes next cmp sync after to status (append_moments env store engine from old was items bytes next (appends (env.observed to) does.does)) does.cause.later
+        (fails env.models_disk (env.name_of engine.log) (env.observed from) was.writes.file (env.failures from) (env.failures to) status (ap (env.observed from).disk.files was.writes.name ∙ was.writes.there) does.cause)
+        (passes (env.observed to).disk.files (does.does.now modelled)) (does.locks modelled) still (mode ∙ ap (λ w. if w.broken then Broken else engine.mode) put.1))
         refusal.why
 
   -- ---- an append that was done
 
   module _ (middle : Engine E C FP F I D) (mid : E) (rest : middle ≡ record engine { log = middle.log; writer = middle.writer; mode = middle.mode })
-      (mode : middle.mode ≡ (if middle.writer.broken then Broken else engine.mode)) (count : ℕ) (adds : Adds (Appends env) engine.writer (opened from engine.log) bytes count middle.writer (opened mid middle.log)) where
+      (mode : middle.mode ≡ (if middle.writer.broken then Broken else engine.mode)) (count : ℕ) (adds : AddsRecord (Appends env) engine.writer (opened from engine.log) bytes count middle.writer (opened mid middle.log)) where
     put : Appends env (opened from engine.log) (writing.frame engine.writer bytes) (Ok tt) (opened mid middle.log)
     put = adds.put (batch_some bytes (old.last + 1) items next.is_batch)
 
-    files_then : (env.tells mid).disk.files ≡ extended (log_path store) the_frame (env.tells from).disk.files
-    files_then = put.does.ok tells ∙ ap (λ n. extended n (writing.frame engine.writer bytes) (env.tells from).disk.files) was.writes.name ∙ ap (λ b. extended (log_path store) b (env.tells from).disk.files) frame_is
+    files_then : (env.observed mid).disk.files ≡ extended (log_path store) the_frame (env.observed from).disk.files
+    files_then = put.does.ok modelled ∙ ap (λ n. extended n (writing.frame engine.writer bytes) (env.observed from).disk.files) was.writes.name ∙ ap (λ b. extended (log_path store) b (env.observed from).disk.files) frame_is
 
-    there_then : (env.tells mid).disk.files (log_path store) ≡ Some (longer_file the_frame was.writes.file)
-    there_then = ap (λ (f : Files). f (log_path store)) files_then ∙ extended-same (log_path store) the_frame (env.tells from).disk.files was.writes.file was.writes.there
+    there_then : (env.observed mid).disk.files (log_path store) ≡ Some (longer_file the_frame was.writes.file)
+    there_then = ap (λ (f : Files). f (log_path store)) files_then ∙ extended-same (log_path store) the_frame (env.observed from).disk.files was.writes.file was.writes.there
 
     name_then : env.name_of middle.log ≡ log_path store
-    name_then = put.file tells ∙ was.writes.name
+    name_then = put.file modelled ∙ was.writes.name
 
-    moments_then : Run (Appending (log_path store) the_frame (env.tells from).disk.files) (env.tells from) (env.tells mid)
-    moments_then = appends (env.tells mid) put.does
+    moments_then : Run (PrefixAppended (log_path store) the_frame (env.observed from).disk.files) (env.observed from) (env.observed mid)
+    moments_then = appends (env.observed mid) put.does
 
     -- the run of a sync behind it
-    syncs : {T : Type 0} {result : Result T Status} (told : Told) → Does env.tells_disk (synced (env.name_of middle.log)) (EitherSide (synced (env.name_of middle.log))) (env.tells mid) told result
-        → Run (EitherSide (synced (log_path store)) (env.tells mid).disk.files) (env.tells mid) told
-    syncs told does = Run-mono (λ files some. subst (λ n. EitherSide (synced n) (env.tells mid).disk.files files) name_then some) (Run-call tells does)
+    syncs : {T : Type 0} {result : Result T Status} (told : Observed) → ChangesFiles env.models_disk (synced (env.name_of middle.log)) (BeforeOrAfter (synced (env.name_of middle.log))) (env.observed mid) told result
+        → Run (BeforeOrAfter (synced (log_path store)) (env.observed mid).disk.files) (env.observed mid) told
+    syncs told does = Run-mono (λ files some. subst (λ n. BeforeOrAfter (synced n) (env.observed mid).disk.files files) name_then some) (Run-call modelled does)
 
     sound_then : middle.writer.broken ≡ false
     sound_then = ap (λ w. w.broken) adds.writer ∙ sound
@@ -119,10 +116,10 @@ module _ {E C FP F I : Type 0} {D : I → Type 0} (env : Ghosts E F) (tells : Is
     open_then : middle.mode ≡ Open
     open_then = mode ∙ ap (λ (b : Bool). if b then Broken else engine.mode) sound_then ∙ open_now
 
-    added : (after : Engine E C FP F I D) (to : E) → (env.tells to).disk.locked ≡ (env.tells mid).disk.locked → after.lock ≡ middle.lock → after.mode ≡ middle.mode → after.writer ≡ middle.writer → env.name_of after.log ≡ env.name_of middle.log
+    added : (after : Engine E C FP F I D) (to : E) → (env.observed to).disk.locked ≡ (env.observed mid).disk.locked → after.lock ≡ middle.lock → after.mode ≡ middle.mode → after.writer ≡ middle.writer → env.name_of after.log ≡ env.name_of middle.log
         → env.failures to ≡ env.failures mid → Inserts engine.recent (batch_of (old.last + 1) items) after.recent → AreUpTo engine.recent.last engine.recent.kept.entries → Added env store engine from old was items bytes next after to
     added after to locks lock same_mode writer log counted inserts below = record {
-      locks = locks ∙ put.locks tells;
+      locks = locks ∙ put.locks modelled;
       lock = lock ∙ ap (λ e. e.lock) rest;
       mode = same_mode ∙ open_then;
       writer = writer ∙ adds.writer;
@@ -152,8 +149,8 @@ module _ {E C FP F I : Type 0} {D : I → Type 0} (env : Ghosts E F) (tells : Is
         done_synced same_mode flushed recent inserts below =
             let s = flushed.flushed in
             wrote_goes env store engine from old was items bytes next (record after { recent = recent }) to cmp sync
-            (synced_then env store engine from old was items bytes next (record after { recent = recent }) to (env.tells mid) moments_then files_then (syncs (env.tells to) s.does) (s.does.ok tells ∙ ap (λ n. synced n (env.tells mid).disk.files) name_then) sync)
-            (added (record after { recent = recent }) to (s.locks tells) (ap (λ e. e.lock) rest_after) same_mode flushed.ok (s.file tells) s.cause.ok inserts below)
+            (synced_then env store engine from old was items bytes next (record after { recent = recent }) to (env.observed mid) moments_then files_then (syncs (env.observed to) s.does) (s.does.ok modelled ∙ ap (λ n. synced n (env.observed mid).disk.files) name_then) sync)
+            (added (record after { recent = recent }) to (s.locks modelled) (ap (λ e. e.lock) rest_after) same_mode flushed.ok (s.file modelled) s.cause.ok inserts below)
 
         -- a refused sync breaks the store
         pub sync_refused : (status : Status) → after.mode ≡ Broken → Flushes (Syncs env) middle.writer (opened mid middle.log) (Err status) after.writer (opened to after.log)
@@ -161,10 +158,10 @@ module _ {E C FP F I : Type 0} {D : I → Type 0} (env : Ghosts E F) (tells : Is
         sync_refused status broke flushed =
             let s = flushed.flushed in
             let cause = cause_after put.cause.ok s.cause in
-            let same = s.undone tells ∙ files_then in
+            let same = s.undone modelled ∙ files_then in
             write_broke env store engine from old was items bytes next cmp sync after to status
-            (synced_moments env store engine from old was items bytes next (append_moments env store engine from old was items bytes next moments_then) files_then (syncs (env.tells to) s.does)) cause.later
-            (fails env.tells_disk (env.name_of middle.log) (env.tells mid) (longer_file the_frame was.writes.file) (env.failures from) (env.failures to) status (ap (env.tells mid).disk.files name_then ∙ there_then) cause)
-            (subst (λ f. Appending (log_path store) the_frame (env.tells from).disk.files f) (sym same) (appended (log_path store) the_frame (env.tells from).disk.files)) (s.locks tells ∙ put.locks tells)
+            (synced_moments env store engine from old was items bytes next (append_moments env store engine from old was items bytes next moments_then) files_then (syncs (env.observed to) s.does)) cause.later
+            (fails env.models_disk (env.name_of middle.log) (env.observed mid) (longer_file the_frame was.writes.file) (env.failures from) (env.failures to) status (ap (env.observed mid).disk.files name_then ∙ there_then) cause)
+            (subst (λ f. PrefixAppended (log_path store) the_frame (env.observed from).disk.files f) (sym same) (appended (log_path store) the_frame (env.observed from).disk.files)) (s.locks modelled ∙ put.locks modelled)
             (record { lock = ap (λ e. e.lock) rest_after ∙ ap (λ e. e.lock) rest; entries = ap (λ e. e.recent.kept.entries) rest_after ∙ ap (λ e. e.recent.kept.entries) rest; last = ap (λ e. e.recent.last) rest_after ∙ ap (λ e. e.recent.last) rest })
             broke

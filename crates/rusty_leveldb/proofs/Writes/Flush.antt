@@ -1,31 +1,32 @@
 -- A flush is a step of the machine, at each of its exits.
-use Rattle.std.proofs.Common.{◌≡◌, ◌≤◌, ◌+◌, ◌%◌, inl, inr, ℕ, List, length, refl, sym, ◌∙◌, ap, subst, arith, append-nil, Some, None, Result, Ok, Err, IsTrue, false}
-use Rattle.std.specs.Prelude.{OnOk, OnErr, string_bytes}
+use Rattle.std.proofs.Common.{◌≡◌, ◌≤◌, ◌+◌, ◌%◌, inl, inr, ℕ, List, length, refl, sym, ◌∙◌, ap, subst, arith, append-nil, Some, None, Result, Ok, Err, IsTrue, ⊎_elim, true, false}
+use Rattle.std.specs.Prelude.{OnOk, OnErr, IfErr, ◌⊎◌, string_bytes}
 use Rattle.std.specs.declared.cmp.Ordering.{Ordering}
 use Rattle.leveldb_base.specs.declared.error.Status.{Status}
 use Rattle.leveldb_base.specs.Error.{text_of}
 use Rattle.leveldb_base.specs.History.{IsHistory, with_batch}
 use Rattle.leveldb_env.specs.declared.env.Env.{Ghosts}
-use Rattle.leveldb_env.specs.Disk.{File, Files, bytes_of, file_kept, synced}
-use Rattle.leveldb_env.specs.FileLaws.{SameBut-synced, synced-same}
-use Rattle.leveldb_env.specs.OpenFiles.{opened, Syncs}
-use Rattle.leveldb_env.specs.Runs.{Run}
+use Rattle.leveldb_env.specs.Env.{File, Files, bytes_of, file_kept, synced, HasCause, Run}
+use Rattle.leveldb_env.proofs.EnvLemmas.{SameBut-synced, synced-same}
+use Rattle.leveldb_env.specs.EnvFile.{opened, Syncs}
 use Rattle.leveldb_mem.specs.Log.{log_block_size, clean, IsLogFile}
-use Rattle.leveldb_mem.specs.Writing.{Flushes}
-use Rattle.rusty_leveldb.specs.declared.db_impl.engine.Mode.TheVariants.{Open, Broken}
+use Rattle.leveldb_mem.specs.Log.Writer.{Flushes}
+use Rattle.rusty_leveldb.specs.declared.db_impl.engine.Mode.TheVariants.{Open, Broken, Closed}
 use Rattle.rusty_leveldb.specs.declared.db_impl.engine.Engine.{Engine}
-use Rattle.rusty_leveldb.specs.Names.{lock_path}
+use Rattle.leveldb_version.specs.Paths.{lock_path}
 use Rattle.rusty_leveldb.specs.OneLog.{log_path}
-use Rattle.rusty_leveldb.specs.Holds.{Holds}
+use Rattle.leveldb_version.specs.Holds.{Holds}
 use Rattle.rusty_leveldb.specs.State.{State, SuitsMode, open_mode, broken, flush, Answer, done, refused}
 use Rattle.rusty_leveldb.specs.Causes.{Faults, out_of_memory, device_failed}
 use Rattle.rusty_leveldb.specs.Machine.{Breaks, StepIn, Responds}
 use Rattle.rusty_leveldb.specs.Serves.{Reads, StandsFor, IsSpared, Goes, faults_between, refusal_of, done_or}
-use Rattle.rusty_leveldb.specs.Engine.{scene, Recalls, mode_of}
+use Rattle.rusty_leveldb.specs.Engine.{scene, Recalls, mode_of, SyncExcused, CloseExcused}
+use Rattle.rusty_leveldb.specs.Recovery.{IsErrorFor}
 use Rattle.rusty_leveldb.proofs.OneLog.Writing.{synced_holds}
 use Rattle.rusty_leveldb.proofs.Others.{beside_but, but_same, others_but_log, bytes_same, bytes_synced}
+use Rattle.rusty_leveldb.proofs.Writes.Found.{found_cause, found_goes}
 use Rattle.rusty_leveldb.proofs.Writes.Moments.{risk_at, sync_moments, with_none}
-use Rattle.rusty_leveldb.proofs.Writes.Stands.{Fails, fails, IsStored, stored, Was, IsOpen, is_open, IsStill, remembers_still, broken_with, Broke, broken_is}
+use Rattle.rusty_leveldb.proofs.Writes.Stands.{Fails, fails, Was, IsOpen, is_open, IsStill, remembers_still, broken_with, Broke, broken_is}
 
 module _ {E C FP F I : Type 0} {D : I → Type 0} (env : Ghosts E F) (cmp : List ℕ → List ℕ → Ordering) (store : List ℕ) (engine after : Engine E C FP F I D) (from to : E) (old : State) (was : IsOpen env store engine from old) where
   abbrev Flushed : Answer → Type 0
@@ -42,7 +43,7 @@ module _ {E C FP F I : Type 0} {D : I → Type 0} (env : Ghosts E F) (cmp : List
   refuses status (inr device) = (device_failed, (tt, device), breaks)
 
   -- a refused sync breaks the store
-  pub flush_refused : (status : Status) → Run (IsSpared store (Reads store) old (risk_at old.history (old.last + 0))) (env.tells from) (env.tells to) → env.failures from ≤ env.failures to → Fails status (env.failures from) (env.failures to) → (env.tells to).disk.files ≡ (env.tells from).disk.files
+  pub flush_refused : (status : Status) → Run (IsSpared store (Reads store) old (risk_at old.history (old.last + 0))) (env.observed from) (env.observed to) → env.failures from ≤ env.failures to → Fails status (env.failures from) (env.failures to) → (env.observed to).disk.files ≡ (env.observed from).disk.files
       → Broke env store engine after from to old None → Flushed (refused (refusal_of status))
   flush_refused status moments later why same broke = record {
     new = new;
@@ -53,26 +54,26 @@ module _ {E C FP F I : Type 0} {D : I → Type 0} (env : Ghosts E F) (cmp : List
       untouched = λ never. absurd never;
       refused = λ logging is_refused opened. absurd (let never : broken ≡ open_mode = opened in cc);
       stopped = λ not_open takes. absurd (not_open was.mode);
-      bytes = λ syncing. bytes_same (env.tells from).disk.files (env.tells to).disk.files same;
+      bytes = λ syncing. bytes_same (env.observed from).disk.files (env.observed to).disk.files same;
     };
-    others = others_but_log store (env.tells from).disk (env.tells to).disk broke.but broke.locks;
-    beside = λ opens_not. beside_but store (env.tells from).disk.files (env.tells to).disk.files broke.but;
+    others = others_but_log store (env.observed from).disk (env.observed to).disk broke.but broke.locks;
+    beside = λ opens_not. beside_but store (env.observed from).disk.files (env.observed to).disk.files broke.but;
   }
     where
       new : State
       new = broken_with old None
 
   -- a sync that was done covers all
-  pub flush_done : Run (IsSpared store (Reads store) old (risk_at old.history (old.last + 0))) (env.tells from) (env.tells to) → (env.tells to).disk.files ≡ synced (log_path store) (env.tells from).disk.files → (env.tells to).disk.locked ≡ (env.tells from).disk.locked
+  pub flush_done : Run (IsSpared store (Reads store) old (risk_at old.history (old.last + 0))) (env.observed from) (env.observed to) → (env.observed to).disk.files ≡ synced (log_path store) (env.observed from).disk.files → (env.observed to).disk.locked ≡ (env.observed from).disk.locked
       → env.failures to ≡ env.failures from → IsStill env store engine after → after.mode ≡ Open → after.writer ≡ engine.writer → env.name_of after.log ≡ env.name_of engine.log → Flushed done
   flush_done moments files locks counted still mode writer log = record {
     new = new;
     represents = record { disk_is = stands; memory_is = recalls };
     step = record { later = omega (arith, counted); step = subst (λ m. StepIn cmp m faults old flush done new) (sym was.mode) (λ no. no, record { state = refl }) };
     moments = with_none env store engine from old was to moments;
-    files = record { untouched = λ never. absurd never; refused = λ logging is_refused. absurd is_refused; stopped = λ not_open takes. absurd (not_open was.mode); bytes = λ syncing. bytes_synced (log_path store) (env.tells from).disk.files (env.tells to).disk.files files };
-    others = others_but_log store (env.tells from).disk (env.tells to).disk (SameBut-synced (log_path store) (env.tells from).disk.files (env.tells to).disk.files (inr files)) locks;
-    beside = λ opens_not. beside_but store (env.tells from).disk.files (env.tells to).disk.files (SameBut-synced (log_path store) (env.tells from).disk.files (env.tells to).disk.files (inr files));
+    files = record { untouched = λ never. absurd never; refused = λ logging is_refused. absurd is_refused; stopped = λ not_open takes. absurd (not_open was.mode); bytes = λ syncing. bytes_synced (log_path store) (env.observed from).disk.files (env.observed to).disk.files files };
+    others = others_but_log store (env.observed from).disk (env.observed to).disk (SameBut-synced (log_path store) (env.observed from).disk.files (env.observed to).disk.files (inr files)) locks;
+    beside = λ opens_not. beside_but store (env.observed from).disk.files (env.observed to).disk.files (SameBut-synced (log_path store) (env.observed from).disk.files (env.observed to).disk.files (inr files));
   }
     where
       new : State
@@ -81,19 +82,16 @@ module _ {E C FP F I : Type 0} {D : I → Type 0} (env : Ghosts E F) (cmp : List
       file : File
       file = file_kept was.writes.file
 
-      there : (env.tells to).disk.files (log_path store) ≡ Some file
-      there = ap (λ (f : Files). f (log_path store)) files ∙ synced-same (log_path store) (env.tells from).disk.files was.writes.file was.writes.there
+      there : (env.observed to).disk.files (log_path store) ≡ Some file
+      there = ap (λ (f : Files). f (log_path store)) files ∙ synced-same (log_path store) (env.observed from).disk.files was.writes.file was.writes.there
 
       same_bytes : bytes_of file ≡ bytes_of was.writes.file
       same_bytes = append-nil (bytes_of was.writes.file)
 
-      holds : Holds store (Reads store) (env.tells to).disk.files old.history old.last (length old.history) None
-      holds = synced_holds store (env.tells from).disk.files old.history old.last old.covered was.holds was.disk_is.is_state.covered (env.tells to).disk.files files
+      holds : Holds store (Reads store) (λ there. there ≡ old.store) (env.observed to).disk.files old.history old.last (length old.history) None
+      holds = synced_holds store (env.observed from).disk.files old.history old.last old.covered was.holds was.disk_is.is_state.covered (env.observed to).disk.files files
 
-      here : IsStored store old.store (env.tells to).disk.files
-      here = stored store old.store (env.tells to).disk.files file old.history old.last (length old.history) None was.made_is there holds
-
-      stands : StandsFor store (Reads store) (env.tells to).disk new
+      stands : StandsFor store (Reads store) (env.observed to).disk new
       stands = record {
         is_state = record {
           history = was.disk_is.is_state.history;
@@ -103,13 +101,11 @@ module _ {E C FP F I : Type 0} {D : I → Type 0} (env : Ghosts E F) (cmp : List
           held = was.disk_is.is_state.held;
           mode = subst (λ m. SuitsMode m new) (sym was.mode) (was.none, was.held);
         };
-        holds = subst (λ p. Holds store (Reads store) (env.tells to).disk.files old.history old.last (length old.history) p) (sym was.none) holds;
-        has_store = here.has;
-        keeps = here.keeps;
+        holds = subst (λ p. Holds store (Reads store) (λ there. there ≡ old.store) (env.observed to).disk.files old.history old.last (length old.history) p) (sym was.none) holds;
         locked = ap (λ locked. locked (lock_path store)) locks ∙ was.disk_is.locked;
       }
 
-      recalls : Recalls env store after (env.tells to).disk new
+      recalls : Recalls env store after (env.observed to).disk new
       recalls = record {
         mode = ap mode_of mode ∙ sym was.mode;
         lock = ap (λ lock. string_bytes lock) still.lock ∙ was.lock;
@@ -121,13 +117,13 @@ module _ {E C FP F I : Type 0} {D : I → Type 0} (env : Ghosts E F) (cmp : List
           records = was.writes.records;
           ends = subst (λ b. IsLogFile b was.writes.records clean) (sym same_bytes) was.writes.ends;
           name = log ∙ was.writes.name;
-          writer = writer ∙ was.writes.writer ∙ ap (λ b. record { size = log_block_size; place = length b % log_block_size; broken = false }) (sym same_bytes);
+          writer = writer ∙ was.writes.writer ∙ ap (λ b. record { size = log_block_size; offset = length b % log_block_size; broken = false }) (sym same_bytes);
         };
       }
 
 -- what the sync answered and did is a step of the machine
 module _ {E C FP F I : Type 0} {D : I → Type 0} (env : Ghosts E F) (cmp : List ℕ → List ℕ → Ordering) (engine after : Engine E C FP F I D) (from to : E) (open_now : engine.mode ≡ Open)
-    (rest : after ≡ record engine { log = after.log; writer = after.writer; mode = after.mode }) (tells : IsTrue env.tells_disk) (store : List ℕ) (old : State) (stood : Was env store engine from old) where
+    (rest : after ≡ record engine { log = after.log; writer = after.writer; mode = after.mode }) (modelled : IsTrue env.models_disk) (store : List ℕ) (old : State) (stood : Was env store engine from old) where
   was : IsOpen env store engine from old
   was = is_open env store engine from old open_now stood
 
@@ -135,26 +131,72 @@ module _ {E C FP F I : Type 0} {D : I → Type 0} (env : Ghosts E F) (cmp : List
   still = record { lock = ap (λ e. e.lock) rest; entries = ap (λ e. e.recent.kept.entries) rest; last = ap (λ e. e.recent.last) rest }
 
   pub flush_step : (result : Result (Unit {0}) Status) → OnOk result (after.mode ≡ engine.mode) → OnErr result (after.mode ≡ Broken)
-      → Flushes (Syncs env) engine.writer (opened from engine.log) result after.writer (opened to after.log)
+      → OnOk result (Flushes (Syncs env) engine.writer (opened from engine.log) (Ok tt) after.writer (opened to after.log))
+      → IfErr result (λ status. (raw : Status) × IsErrorFor raw status × Flushes (Syncs env) engine.writer (opened from engine.log) (Err raw) after.writer (opened to after.log))
       → Goes store (Reads store) (Recalls env store) cmp (scene env cmp (Some engine) from) flush (done_or result) (scene env cmp (Some after) to) old
-  flush_step (Ok unit) same_mode broke_mode synced_now =
+  flush_step (Ok unit) same_mode broke_mode synced_now unsynced =
       let sync = synced_now.flushed in
-      flush_done env cmp store engine after from to old was (sync_moments env store engine from old was to tells sync.does) (sync.does.ok tells ∙ ap (λ name. synced name (env.tells from).disk.files) was.writes.name) (sync.locks tells) sync.cause.ok still
-      (same_mode ∙ open_now) synced_now.ok (sync.file tells)
-  flush_step (Err status) same_mode broke_mode synced_now =
-      let sync = synced_now.flushed in
-      let same = sync.undone tells in
-      let there : (env.tells to).disk.files (log_path store) ≡ Some was.writes.file = ap (λ (f : Files). f (log_path store)) same ∙ was.writes.there in
-      flush_refused env cmp store engine after from to old was status (sync_moments env store engine from old was to tells sync.does) sync.cause.later
-      (fails env.tells_disk (env.name_of engine.log) (env.tells from) was.writes.file (env.failures from) (env.failures to) status (ap (env.tells from).disk.files was.writes.name ∙ was.writes.there) sync.cause)
+      flush_done env cmp store engine after from to old was (sync_moments env store engine from old was to modelled sync.does) (sync.does.ok modelled ∙ ap (λ name. synced name (env.observed from).disk.files) was.writes.name) (sync.locks modelled) sync.cause.ok still
+      (same_mode ∙ open_now) synced_now.ok (sync.file modelled)
+  flush_step (Err status) same_mode broke_mode synced_now unsynced =
+      let sync = unsynced.2.flushed in
+      let same = sync.undone modelled in
+      found_goes store (Recalls env store) cmp (scene env cmp (Some engine) from) flush (scene env cmp (Some after) to) old was.mode (λ s new. (λ step. step, λ responds. responds)) unsynced.0 status unsynced.1
+      (flush_refused env cmp store engine after from to old was unsynced.0 (sync_moments env store engine from old was to modelled sync.does) sync.cause.later
+      (fails env.models_disk (env.name_of engine.log) (env.observed from) was.writes.file (env.failures from) (env.failures to) unsynced.0 (ap (env.observed from).disk.files was.writes.name ∙ was.writes.there) sync.cause)
       same (record {
         still = still;
         mode = broke_mode;
         history = subst (λ p. IsHistory (with_batch old.history p)) was.none was.disk_is.is_state.history;
         reached = omega (arith, was.disk_is.is_state.reached);
-        holds = subst (λ f. Holds store (Reads store) f old.history old.last old.covered None) (sym same) was.holds;
-        file = was.writes.file;
-        there = there;
-        locks = sync.locks tells;
-        but = but_same (log_path store) (env.tells from).disk.files (env.tells to).disk.files same;
-      })
+        holds = subst (λ f. Holds store (Reads store) (λ there. there ≡ old.store) f old.history old.last old.covered None) (sym same) was.holds;
+        locks = sync.locks modelled;
+        but = but_same (log_path store) (env.observed from).disk.files (env.observed to).disk.files same;
+      }))
+
+-- ---- causes of a sync
+
+module _ {E C FP F I : Type 0} {D : I → Type 0} (env : Ghosts E F) (engine after : Engine E C FP F I D) (from to : E) (open_now : engine.mode ≡ Open) (sound : engine.writer.broken ≡ false) where
+  pub unsynced_cause : (status : Status) → (raw : Status) × IsErrorFor raw status × Flushes (Syncs env) engine.writer (opened from engine.log) (Err raw) after.writer (opened to after.log)
+      → HasCause {T = Unit {0}} (SyncExcused env engine from to) (env.failures from) (env.failures to) (Err status)
+  unsynced_cause status unsynced =
+      let cause = found_cause unsynced.0 status unsynced.1 env.models_disk (env.name_of engine.log) (env.observed from) (env.failures from) (env.failures to) unsynced.2.flushed.cause in
+      record {
+        later = cause.later;
+        ok = tt;
+        uncounted = λ excused. ⊎_elim
+            (λ out. absurd (let never : Open ≡ Closed = sym open_now ∙ out.0 in cc))
+            (λ rest. ⊎_elim
+            (λ down. ⊎_elim
+            (λ broke. absurd (let never : Open ≡ Broken = sym open_now ∙ broke in cc))
+            (λ broke. absurd (let never : false ≡ true = sym sound ∙ broke in cc)) down.0)
+            (λ log. cause.uncounted log) rest) excused;
+        cause = ⊎_elim (λ log. inl (inr (inr log))) (λ counted. inr counted) cause.cause;
+      }
+
+  pub sync_causes : (result : Result (Unit {0}) Status) → OnOk result (Flushes (Syncs env) engine.writer (opened from engine.log) (Ok tt) after.writer (opened to after.log))
+      → IfErr result (λ status. (raw : Status) × IsErrorFor raw status × Flushes (Syncs env) engine.writer (opened from engine.log) (Err raw) after.writer (opened to after.log))
+      → HasCause (SyncExcused env engine from to) (env.failures from) (env.failures to) result
+  sync_causes (Ok unit) synced_now unsynced =
+      let cause = synced_now.flushed.cause in
+      record { later = cause.later; ok = cause.ok; uncounted = tt; cause = tt }
+  sync_causes (Err status) synced_now unsynced = unsynced_cause status unsynced
+
+  -- and of a close whose sync was refused
+  pub close_cause : (status : Status) → (raw : Status) × IsErrorFor raw status × Flushes (Syncs env) engine.writer (opened from engine.log) (Err raw) after.writer (opened to after.log)
+      → HasCause {T = Unit {0}} (CloseExcused env engine from to) (env.failures from) (env.failures to) (Err status)
+  close_cause status unsynced =
+      let cause = unsynced_cause status unsynced in
+      record {
+        later = cause.later;
+        ok = tt;
+        uncounted = λ excused. excused.1;
+        cause = ⊎_elim (λ excused. inl (excused, cause.uncounted excused)) (λ counted. inr counted) cause.cause;
+      }
+
+  -- a writer that isn't broken leaves the mode
+  pub sync_stays : (result : Result (Unit {0}) Status) → OnOk result (after.mode ≡ engine.mode)
+      → IfErr result (λ status. (raw : Status) × IsErrorFor raw status × Flushes (Syncs env) engine.writer (opened from engine.log) (Err raw) after.writer (opened to after.log))
+      → IsTrue after.writer.broken ⊎ (after.mode ≡ engine.mode)
+  sync_stays (Ok unit) same unsynced = inr same
+  sync_stays (Err status) same unsynced = inl (ap (λ w. w.broken) unsynced.2.err)

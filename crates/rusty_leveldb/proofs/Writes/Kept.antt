@@ -7,7 +7,7 @@ use Rattle.leveldb_base.specs.declared.error.StatusCode.TheVariants.{InvalidArgu
 use Rattle.leveldb_base.specs.Error.{IsOutOfMemory, text_of}
 use Rattle.leveldb_base.specs.History.{Item}
 use Rattle.leveldb_env.specs.declared.env.Env.{Ghosts}
-use Rattle.leveldb_mem.specs.Batch.{Batch, batch_of, with_item, IsTooLong}
+use Rattle.leveldb_mem.specs.WriteBatch.{Batch, batch_of, with_item, IsTooLong}
 use Rattle.rusty_leveldb.specs.declared.db_impl.engine.Mode.TheVariants.{Open}
 use Rattle.rusty_leveldb.specs.declared.db_impl.engine.Engine.{Engine}
 use Rattle.rusty_leveldb.specs.Recent.{Numbered, AreUsedUp}
@@ -47,9 +47,9 @@ module _ {E C FP F I : Type 0} {D : I → Type 0} (env : Ghosts E F) (store : Li
       new = old;
       represents = now;
       step = record { later = omega arith; step = subst (λ m. StepIn cmp m faults old (write items sync) (refused (refusal_of status)) old) (sym (is_open env store engine from old open_now was).mode) responds };
-      moments = moments_none store (write items sync) old (env.tells from) was.disk_is;
-      files = spared_still (write items sync) (refused (refusal_of status)) old old (env.tells from).disk.files;
-      others = others_still store (env.tells from).disk;
+      moments = moments_none store (write items sync) old (env.observed from) was.disk_is;
+      files = spared_still (write items sync) (refused (refusal_of status)) old old (env.observed from).disk.files;
+      others = others_still store (env.observed from).disk;
       beside = λ opens_not path differs. refl;
     }
       where

@@ -1,64 +1,56 @@
 -- What a crash leaves at each moment of an append to the log of an open store, and of a sync of it.
-use Rattle.std.proofs.Common.{◌≡◌, ◌≤◌, ◌+◌, inl, inr, ⊎_elim, ℕ, Bool, List, [], ◌∷◌, length, refl, sym, ◌∙◌, ap, subst, arith, Some, None, Result, IsTrue, length-append}
+use Rattle.std.proofs.Common.{◌≡◌, ◌≤◌, ◌+◌, inl, ℕ, Bool, List, [], ◌∷◌, length, sym, subst, arith, None, Result, IsTrue, length-append}
 use Rattle.leveldb_base.specs.declared.error.Status.{Status}
 use Rattle.leveldb_base.specs.History.{Item, Entry, History, with_batch, count_of}
 use Rattle.leveldb_env.specs.declared.env.Env.{Ghosts}
-use Rattle.leveldb_env.specs.Disk.{File, Files, file_kept, longer_file, extended, synced}
-use Rattle.leveldb_env.specs.Times.{Told}
-use Rattle.leveldb_env.specs.Calls.{Does, EitherSide, Appending, Still}
-use Rattle.leveldb_env.specs.FileLaws.{extended-same, synced-same}
-use Rattle.leveldb_env.specs.Runs.{Run, begun, Run-call, Run-mono}
+use Rattle.leveldb_env.specs.Env.{Files, Disk, extended, synced, Observed, ChangesFiles, BeforeOrAfter, PrefixAppended, FilesUnchanged, Run}
+use Rattle.leveldb_env.proofs.EnvLemmas.{begun, Run-call, Run-mono}
 use Rattle.rusty_leveldb.specs.declared.db_impl.engine.Engine.{Engine}
 use Rattle.rusty_leveldb.specs.OneLog.{log_path}
-use Rattle.rusty_leveldb.specs.Holds.{Holds}
+use Rattle.leveldb_version.specs.Holds.{Holds}
 use Rattle.rusty_leveldb.specs.State.{State, Request, open_store}
 use Rattle.rusty_leveldb.specs.Machine.{Risk, risk_between, risk_of}
 use Rattle.rusty_leveldb.specs.Serves.{Reads, IsSpared, AtEachMoment, StandsFor}
 use Rattle.rusty_leveldb.proofs.Histories.{placed_length}
-use Rattle.rusty_leveldb.proofs.OneLog.Disks.{log_keeps}
 use Rattle.rusty_leveldb.proofs.OneLog.Writing.{appending_safe, appended_holds, syncing_safe}
-use Rattle.rusty_leveldb.proofs.Bounds.{safe_more}
-use Rattle.rusty_leveldb.proofs.Moments.{stays_as, spared_now, spared_more, steps_join, grows_same}
+use Rattle.rusty_leveldb.proofs.Bounds.{safe_more, safe_allow}
+use Rattle.rusty_leveldb.proofs.Moments.{spared_now, spared_more, steps_join, grows_same}
 use Rattle.rusty_leveldb.proofs.Writes.Stands.{IsOpen}
-use Rattle.rusty_leveldb.proofs.Writes.Append.{IsNext, batch, longer, frame, passed_file}
+use Rattle.rusty_leveldb.proofs.Writes.Append.{IsNext, batch, longer, frame}
 
 -- a request that changes nothing of the state
-risk_still : (request : Request) (old : State) → risk_of request old old ≡ risk_between old
-risk_still (open_store opening) old = refl
-risk_still request old = refl
+spared_still : (store : List ℕ) (request : Request) (disk : Disk) (old : State) → StandsFor store (Reads store) disk old → IsSpared store (Reads store) old (risk_of request old old) disk.files
+spared_still store (open_store opening) disk old stands = safe_allow store (Reads store) (old.last + count_of old.pending) old.covered (with_batch old.history old.pending) disk.files (λ there is. inl is) stands.holds.crash
+spared_still store request disk old stands = stands.holds.crash
 
 -- where nothing is asked of the device
-pub moments_none : (store : List ℕ) (request : Request) (old : State) (told : Told) → StandsFor store (Reads store) told.disk old → AtEachMoment store (Reads store) request old old told told
-moments_none store request old told stands = subst (λ risk. Run (IsSpared store (Reads store) old risk) told told) (sym (risk_still request old)) (begun told (spared_now store (Reads store) told.disk old stands))
+pub moments_none : (store : List ℕ) (request : Request) (old : State) (told : Observed) → StandsFor store (Reads store) told.disk old → AtEachMoment store (Reads store) request old old told told
+moments_none store request old told stands = begun told (spared_still store request told.disk old stands)
 
 -- where no file is changed
-pub moments_still : {T : Type 0} {tells_disk : Bool} {change : Files → Files} {old new : Told} {result : Result T Status} (store : List ℕ) (was : State) → IsTrue tells_disk → StandsFor store (Reads store) old.disk was
-    → Does tells_disk change Still old new result → Run (IsSpared store (Reads store) was (risk_between was)) old new
-moments_still {old = old} store was tells stands does =
-    Run-mono (λ files same. subst (IsSpared store (Reads store) was (risk_between was)) (sym same) (spared_now store (Reads store) old.disk was stands)) (Run-call tells does)
+pub moments_still : {T : Type 0} {models_disk : Bool} {change : Files → Files} {old new : Observed} {result : Result T Status} (store : List ℕ) (was : State) → IsTrue models_disk → StandsFor store (Reads store) old.disk was
+    → ChangesFiles models_disk change FilesUnchanged old new result → Run (IsSpared store (Reads store) was (risk_between was)) old new
+moments_still {old = old} store was modelled stands does =
+    Run-mono (λ files same. subst (IsSpared store (Reads store) was (risk_between was)) (sym same) (spared_now store (Reads store) old.disk was stands)) (Run-call modelled does)
 
 -- the history alone, and with a batch more
 abbrev pub risk_at : History → ℕ → Risk
-risk_at history bound = record { history = history; bound = bound }
+risk_at history bound = record { history = history; bound = bound; opening = None }
 
 module _ {E C FP F I : Type 0} {D : I → Type 0} (env : Ghosts E F) (store : List ℕ) (engine : Engine E C FP F I D) (from : E) (old : State) (was : IsOpen env store engine from old) where
   -- a sync in flight
-  sync_spared : (files : Files) → EitherSide (synced (log_path store)) (env.tells from).disk.files files → IsSpared store (Reads store) old (risk_at old.history (old.last + 0)) files
-  sync_spared files passes = record {
-    carries = syncing_safe store (env.tells from).disk.files old.history old.last old.covered was.holds was.disk_is.is_state.covered files passes;
-    stays = ⊎_elim (λ same. log_keeps store old.store was.writes.file files was.made_is (ap (λ (f : Files). f (log_path store)) same ∙ was.writes.there))
-        (λ done. log_keeps store old.store (file_kept was.writes.file) files was.made_is (ap (λ (f : Files). f (log_path store)) done ∙ synced-same (log_path store) (env.tells from).disk.files was.writes.file was.writes.there)) passes;
-  }
+  sync_spared : (files : Files) → BeforeOrAfter (synced (log_path store)) (env.observed from).disk.files files → IsSpared store (Reads store) old (risk_at old.history (old.last + 0)) files
+  sync_spared files passes = syncing_safe store (env.observed from).disk.files old.history old.last old.covered was.holds was.disk_is.is_state.covered files passes
 
   -- the moments of a sync
-  pub sync_moments : {T : Type 0} {result : Result T Status} (to : E) → IsTrue env.tells_disk
-      → Does env.tells_disk (synced (env.name_of engine.log)) (EitherSide (synced (env.name_of engine.log))) (env.tells from) (env.tells to) result
-      → Run (IsSpared store (Reads store) old (risk_at old.history (old.last + 0))) (env.tells from) (env.tells to)
-  sync_moments to tells does = Run-mono (λ files passes. sync_spared files (subst (λ n. EitherSide (synced n) (env.tells from).disk.files files) was.writes.name passes)) (Run-call tells does)
+  pub sync_moments : {T : Type 0} {result : Result T Status} (to : E) → IsTrue env.models_disk
+      → ChangesFiles env.models_disk (synced (env.name_of engine.log)) (BeforeOrAfter (synced (env.name_of engine.log))) (env.observed from) (env.observed to) result
+      → Run (IsSpared store (Reads store) old (risk_at old.history (old.last + 0))) (env.observed from) (env.observed to)
+  sync_moments to modelled does = Run-mono (λ files passes. sync_spared files (subst (λ n. BeforeOrAfter (synced n) (env.observed from).disk.files files) was.writes.name passes)) (Run-call modelled does)
 
   -- the same with what is pending, which is nothing
-  pub with_none : (to : E) → Run (IsSpared store (Reads store) old (risk_at old.history (old.last + 0))) (env.tells from) (env.tells to) → Run (IsSpared store (Reads store) old (risk_between old)) (env.tells from) (env.tells to)
-  with_none to run = subst (λ p. Run (IsSpared store (Reads store) old (risk_at (with_batch old.history p) (old.last + count_of p))) (env.tells from) (env.tells to)) (sym was.none) run
+  pub with_none : (to : E) → Run (IsSpared store (Reads store) old (risk_at old.history (old.last + 0))) (env.observed from) (env.observed to) → Run (IsSpared store (Reads store) old (risk_between old)) (env.observed from) (env.observed to)
+  with_none to run = subst (λ p. Run (IsSpared store (Reads store) old (risk_at (with_batch old.history p) (old.last + count_of p))) (env.observed from) (env.observed to)) (sym was.none) run
 
   -- ---- an append of one batch more
 
@@ -77,52 +69,35 @@ module _ {E C FP F I : Type 0} {D : I → Type 0} (env : Ghosts E F) (store : Li
     risk_behind = risk_at the_longer (old.last + length the_batch)
 
     -- an append in flight
-    append_spared : (files : Files) → Appending (log_path store) the_frame (env.tells from).disk.files files → IsSpared store (Reads store) old risk_behind files
-    append_spared files passes =
-        let there = passed_file env store engine from old was items bytes next files passes in
-        record {
-          carries = appending_safe store (env.tells from).disk.files was.writes.file was.writes.there was.writes.since old.history old.last old.covered was.holds was.disk_is.is_state.covered was.disk_is.is_state.reached
-              was.writes.records was.writes.ends items bytes next.is_batch next.first_fits next.all_fit files passes;
-          stays = log_keeps store old.store there.0 files was.made_is there.1;
-        }
+    append_spared : (files : Files) → PrefixAppended (log_path store) the_frame (env.observed from).disk.files files → IsSpared store (Reads store) old risk_behind files
+    append_spared files passes = appending_safe store (env.observed from).disk.files was.writes.file was.writes.there was.writes.since old.history old.last old.covered was.holds was.disk_is.is_state.covered was.disk_is.is_state.reached
+        was.writes.records was.writes.ends items bytes next.is_batch next.first_fits next.all_fit files passes
 
     -- its moments
-    pub append_moments : {told : Told} → Run (Appending (log_path store) the_frame (env.tells from).disk.files) (env.tells from) told → Run (IsSpared store (Reads store) old risk_behind) (env.tells from) told
+    pub append_moments : {told : Observed} → Run (PrefixAppended (log_path store) the_frame (env.observed from).disk.files) (env.observed from) told → Run (IsSpared store (Reads store) old risk_behind) (env.observed from) told
     append_moments run = Run-mono append_spared run
 
     -- and those of a sync behind it
-    pub synced_moments : {mid told : Told} → Run (IsSpared store (Reads store) old risk_behind) (env.tells from) mid → mid.disk.files ≡ extended (log_path store) the_frame (env.tells from).disk.files
-        → Run (EitherSide (synced (log_path store)) mid.disk.files) mid told → Run (IsSpared store (Reads store) old risk_behind) (env.tells from) told
+    pub synced_moments : {mid told : Observed} → Run (IsSpared store (Reads store) old risk_behind) (env.observed from) mid → mid.disk.files ≡ extended (log_path store) the_frame (env.observed from).disk.files
+        → Run (BeforeOrAfter (synced (log_path store)) mid.disk.files) mid told → Run (IsSpared store (Reads store) old risk_behind) (env.observed from) told
     synced_moments {mid} {told} before files sync =
-        steps_join store (Reads store) old old risk_behind risk_behind (omega arith) (stays_as old.store) (grows_same the_longer (old.last + length the_batch) (old.last + length the_batch) (omega arith)) before
+        steps_join store (Reads store) old old risk_behind risk_behind (omega arith) (λ there may. may) (λ there may. may) (grows_same risk_behind (old.last + length the_batch) (omega arith)) before
         (Run-mono spared sync)
       where
-        mid_there : mid.disk.files (log_path store) ≡ Some (longer_file the_frame was.writes.file)
-        mid_there = ap (λ (f : Files). f (log_path store)) files ∙ extended-same (log_path store) the_frame (env.tells from).disk.files was.writes.file was.writes.there
-
-        mid_holds : Holds store (Reads store) mid.disk.files the_longer (old.last + length items) old.covered None
-        mid_holds = appended_holds store (env.tells from).disk.files was.writes.file was.writes.there was.writes.since old.history old.last old.covered was.holds was.disk_is.is_state.covered was.disk_is.is_state.reached
+        mid_holds : Holds store (Reads store) (λ there. there ≡ old.store) mid.disk.files the_longer (old.last + length items) old.covered None
+        mid_holds = appended_holds store (env.observed from).disk.files was.writes.file was.writes.there was.writes.since old.history old.last old.covered was.holds was.disk_is.is_state.covered was.disk_is.is_state.reached
             was.writes.records was.writes.ends items bytes next.is_batch next.first_fits next.all_fit mid.disk.files files
 
         few : old.covered ≤ length the_longer
         few = let all = was.disk_is.is_state.covered in omega (arith, length-append old.history (the_batch ∷ []))
 
-        there_then : (m : Files) → EitherSide (synced (log_path store)) mid.disk.files m → (file : File) × (m (log_path store) ≡ Some file)
-        there_then m (inl same) = (longer_file the_frame was.writes.file, ap (λ (f : Files). f (log_path store)) same ∙ mid_there)
-        there_then m (inr done) = (file_kept (longer_file the_frame was.writes.file), ap (λ (f : Files). f (log_path store)) done ∙ synced-same (log_path store) mid.disk.files (longer_file the_frame was.writes.file) mid_there)
-
-        spared : (m : Files) → EitherSide (synced (log_path store)) mid.disk.files m → IsSpared store (Reads store) old risk_behind m
-        spared m passes =
-            let there = there_then m passes in
-            record {
-              carries = safe_more store (Reads store) (old.last + length items + 0) (old.last + length the_batch) old.covered (omega (arith, placed_length (old.last + 1) items)) the_longer m
-                  (syncing_safe store mid.disk.files the_longer (old.last + length items) old.covered mid_holds few m passes);
-              stays = log_keeps store old.store there.0 m was.made_is there.1;
-            }
+        spared : (m : Files) → BeforeOrAfter (synced (log_path store)) mid.disk.files m → IsSpared store (Reads store) old risk_behind m
+        spared m passes = safe_more store (Reads store) (old.last + length items + 0) (old.last + length the_batch) old.covered (omega (arith, placed_length (old.last + 1) items)) the_longer m
+            (syncing_safe store mid.disk.files the_longer (old.last + length items) old.covered mid_holds few m passes)
 
     -- the same where the write is done and nothing is pending
-    pub done_moments : {told : Told} → Run (IsSpared store (Reads store) old risk_behind) (env.tells from) told
-        → Run (IsSpared store (Reads store) old (risk_at (with_batch the_longer old.pending) (old.last + length items + count_of old.pending))) (env.tells from) told
-    done_moments {told} run = subst (λ p. Run (IsSpared store (Reads store) old (risk_at (with_batch the_longer p) (old.last + length items + count_of p))) (env.tells from) told) (sym was.none)
-        (Run-mono (spared_more store (Reads store) old old risk_behind (risk_at the_longer (old.last + length items + 0)) (omega arith) (stays_as old.store)
-        (grows_same the_longer (old.last + length the_batch) (old.last + length items + 0) (omega (arith, placed_length (old.last + 1) items)))) run)
+    pub done_moments : {told : Observed} → Run (IsSpared store (Reads store) old risk_behind) (env.observed from) told
+        → Run (IsSpared store (Reads store) old (risk_at (with_batch the_longer old.pending) (old.last + length items + count_of old.pending))) (env.observed from) told
+    done_moments {told} run = subst (λ p. Run (IsSpared store (Reads store) old (risk_at (with_batch the_longer p) (old.last + length items + count_of p))) (env.observed from) told) (sym was.none)
+        (Run-mono (spared_more store (Reads store) old old risk_behind (risk_at the_longer (old.last + length items + 0)) (omega arith) (λ there may. may)
+        (grows_same risk_behind (old.last + length items + 0) (omega (arith, placed_length (old.last + 1) items)))) run)

@@ -7,14 +7,14 @@ use Rattle.leveldb_base.specs.declared.error.Status.{Status}
 use Rattle.leveldb_base.specs.declared.error.StatusCode.TheVariants.{IOError}
 use Rattle.leveldb_base.specs.Error.{text_of}
 use Rattle.leveldb_env.specs.declared.env.Env.{Ghosts}
-use Rattle.leveldb_mem.specs.Writing.{Writing}
+use Rattle.leveldb_mem.specs.Log.Writer.{WriterState}
 use Rattle.rusty_leveldb.specs.declared.db_impl.engine.Mode.{Mode}
 use Rattle.rusty_leveldb.specs.declared.db_impl.engine.Mode.TheVariants.{Open, Broken, Closed}
 use Rattle.rusty_leveldb.specs.declared.db_impl.engine.Engine.{Engine}
-use Rattle.rusty_leveldb.specs.State.{State, broken, closed, Request, write, flush, refused, Refusal}
+use Rattle.rusty_leveldb.specs.State.{State, broken, closed, Request, write, flush, refused, Refusal, close}
 use Rattle.rusty_leveldb.specs.Causes.{Faults, IsClosedRefusal, IsBrokenRefusal}
 use Rattle.rusty_leveldb.specs.Machine.{StepIn}
-use Rattle.rusty_leveldb.specs.Serves.{Reads, Goes, IsLogging, faults_between, refusal_of}
+use Rattle.rusty_leveldb.specs.Serves.{Reads, Goes, faults_between, refusal_of}
 use Rattle.rusty_leveldb.specs.Engine.{scene, Recalls, IsShut, IsHalted, ShutOut, ShutDown, mode_of}
 use Rattle.rusty_leveldb.proofs.Others.{others_still, spared_still}
 use Rattle.rusty_leveldb.proofs.Writes.Moments.{moments_none}
@@ -25,28 +25,37 @@ broken_text None is = inl refl
 broken_text (Some text) is = inr is
 
 -- an engine whose calls may write isn't halted
-pub not_halted : (mode : Mode) (writer : Writing) → mode ≡ Open → writer.broken ≡ false → IsHalted mode writer → ⊥
+pub not_halted : (mode : Mode) (writer : WriterState) → mode ≡ Open → writer.broken ≡ false → IsHalted mode writer → ⊥
 not_halted mode writer is sound = ⊎_elim (λ (shut : mode ≡ Closed). let never : Open ≡ Closed = sym is ∙ shut in cc)
     (λ stuck. ⊎_elim (λ (broke : mode ≡ Broken). let never : Open ≡ Broken = sym is ∙ broke in cc)
     (λ (broke : IsTrue writer.broken). let never : false ≡ true = sym sound ∙ broke in cc) stuck)
 
 -- one that refuses by its mode is
-pub halted_then : (mode : Mode) (writer : Writing) (status : Status) → ShutOut mode status ⊎ ShutDown mode writer status → IsHalted mode writer
+pub halted_then : (mode : Mode) (writer : WriterState) (status : Status) → ShutOut mode status ⊎ ShutDown mode writer status → IsHalted mode writer
 halted_then mode writer status = ⊎_elim (λ out. inl out.0) (λ down. inr down.0)
 
+-- a request that a closed store refuses, and a broken one
+abbrev pub IsRefusedByMode : Request → Type 0
+IsRefusedByMode (write items sync) = Unit {0}
+IsRefusedByMode flush = Unit {0}
+IsRefusedByMode close = Unit {0}
+IsRefusedByMode request = ⊥
+
 module _ (cmp : List ℕ → List ℕ → Ordering) (faults : Faults) (old : State) where
-  closed_step : (request : Request) → IsLogging request → (refusal : Refusal) → IsClosedRefusal refusal → StepIn cmp closed faults old request (refused refusal) old
+  closed_step : (request : Request) → IsRefusedByMode request → (refusal : Refusal) → IsClosedRefusal refusal → StepIn cmp closed faults old request (refused refusal) old
   closed_step (write items sync) logs refusal says = (says, refl)
   closed_step flush logs refusal says = (says, refl)
+  closed_step close logs refusal says = (says, refl)
   closed_step request logs refusal says = absurd logs
 
-  broken_step : (request : Request) → IsLogging request → (refusal : Refusal) → IsBrokenRefusal refusal → StepIn cmp broken faults old request (refused refusal) old
+  broken_step : (request : Request) → IsRefusedByMode request → (refusal : Refusal) → IsBrokenRefusal refusal → StepIn cmp broken faults old request (refused refusal) old
   broken_step (write items sync) logs refusal says = (says, refl)
   broken_step flush logs refusal says = (says, refl)
+  broken_step close logs refusal says = (says, refl)
   broken_step request logs refusal says = absurd logs
 
 module _ {E C FP F I : Type 0} {D : I → Type 0} (env : Ghosts E F) (cmp : List ℕ → List ℕ → Ordering) (store : List ℕ) (engine : Engine E C FP F I D) (at : E) (old : State) (was : Was env store engine at old)
-    (request : Request) (logs : IsLogging request) (status : Status) where
+    (request : Request) (logs : IsRefusedByMode request) (status : Status) where
   abbrev faults : Faults
   faults = faults_between (env.failures at) (env.failures at)
 
@@ -58,9 +67,9 @@ module _ {E C FP F I : Type 0} {D : I → Type 0} (env : Ghosts E F) (cmp : List
     new = old;
     represents = was;
     step = record { later = omega arith; step = step };
-    moments = moments_none store request old (env.tells at) was.disk_is;
-    files = spared_still request (refused (refusal_of status)) old old (env.tells at).disk.files;
-    others = others_still store (env.tells at).disk;
+    moments = moments_none store request old (env.observed at) was.disk_is;
+    files = spared_still request (refused (refusal_of status)) old old (env.observed at).disk.files;
+    others = others_still store (env.observed at).disk;
     beside = λ opens_not path differs. refl;
   }
 

@@ -2,50 +2,30 @@
 use Rattle.std.proofs.Common.{◌≡◌, ◌≤◌, ◌+◌, ◌⊎◌, inl, inr, ⊎_elim, ℕ, List, refl, sym, ◌∙◌, ap, subst, arith, Option, Some, None, Err, IsTrue}
 use Rattle.std.specs.Prelude.{Contains, string_bytes}
 use Rattle.leveldb_base.specs.declared.error.Status.{Status}
-use Rattle.leveldb_base.specs.History.{Entry, History, IsHistory, entries_of, greatest, with_batch, count_of, SameView}
+use Rattle.leveldb_base.specs.History.{Entry, IsHistory, entries_of, greatest, with_batch, count_of, SameView}
 use Rattle.leveldb_env.specs.declared.env.Env.{Ghosts}
-use Rattle.leveldb_env.specs.Disk.{File, Files}
-use Rattle.leveldb_env.specs.Times.{Told}
-use Rattle.leveldb_env.specs.Calls.{HasCause, NoMemory, IsGone}
-use Rattle.leveldb_env.specs.FileLaws.{SameBut}
+use Rattle.leveldb_env.specs.Env.{File, Observed, HasCause, IsGone, SameBut}
+use Rattle.leveldb_base.specs.Error.{IsOutOfMemory}
 use Rattle.rusty_leveldb.specs.declared.db_impl.engine.Mode.TheVariants.{Open, Broken}
 use Rattle.rusty_leveldb.specs.declared.db_impl.engine.Engine.{Engine}
-use Rattle.rusty_leveldb.specs.Names.{lock_path}
-use Rattle.rusty_leveldb.specs.Contents.{Store, made}
+use Rattle.leveldb_version.specs.Paths.{lock_path}
 use Rattle.rusty_leveldb.specs.OneLog.{log_path}
-use Rattle.rusty_leveldb.specs.Holds.{Carries, Holds, HasStore, KeepsStore}
+use Rattle.leveldb_version.specs.Holds.{Holds}
 use Rattle.rusty_leveldb.specs.State.{State, SuitsMode, open_mode, broken, closed}
 use Rattle.rusty_leveldb.specs.Causes.{HasFailed}
 use Rattle.rusty_leveldb.specs.Serves.{Reads, StandsFor, Represents}
 use Rattle.rusty_leveldb.specs.Engine.{mode_of, WritesOn, Remembers, Recalls}
-use Rattle.rusty_leveldb.proofs.OneLog.Disks.{log_is_store, store_stays}
 
 -- why a log refused a call
 abbrev pub Fails : Status → ℕ → ℕ → Type 0
-Fails status before after = NoMemory status ⊎ HasFailed before after
+Fails status before after = IsOutOfMemory status ⊎ HasFailed before after
 
 -- the log's file is there, so it is want of memory or the device
-pub fails : (tells_disk : _) (name : List ℕ) (told : Told) (file : File) (before after : ℕ) (status : Status) → told.disk.files name ≡ Some file
-    → HasCause {T = Unit {0}} (IsGone tells_disk name told) before after (Err status) → Fails status before after
-fails tells_disk name told file before after status there cause = ⊎_elim
+pub fails : (models_disk : _) (name : List ℕ) (told : Observed) (file : File) (before after : ℕ) (status : Status) → told.disk.files name ≡ Some file
+    → HasCause {T = Unit {0}} (IsGone models_disk name told) before after (Err status) → Fails status before after
+fails models_disk name told file before after status there cause = ⊎_elim
     (λ gone. ⊎_elim (λ memory. inl memory) (λ none. let never : Some file ≡ None = sym there ∙ none.2 in absurd (cc)) gone)
     (λ counted. inr (⊎_elim (λ one. inl (omega (arith, one))) (λ most. inr most.0) counted)) cause.cause
-
--- the store that is there, in these files and behind a crash of them
-pub record IsStored (store : List ℕ) (there : Store) (files : Files) : Type 0 where
-  pub has : HasStore store (Reads store) there files
-  pub keeps : KeepsStore store (Reads store) there files
-
--- a log that is there is the store
-pub stored : (store : List ℕ) (there : Store) (files : Files) (file : File) (history : History) (last covered : ℕ) (pending : Option (List Entry)) → there ≡ made None
-    → files (log_path store) ≡ Some file → Holds store (Reads store) files history last covered pending → IsStored store there files
-stored store there files file history last covered pending is at holds = record {
-  has = has;
-  keeps = ⊎_elim (λ c. store_stays store there files c.contents c.read (has c.contents c.read)) (λ c. store_stays store there files c.contents c.read (has c.contents c.read)) holds.now;
-}
-  where
-    has : HasStore store (Reads store) there files
-    has = subst (λ s. HasStore store (Reads store) s files) (sym is) (log_is_store store file files at)
 
 -- broken, with this batch pending
 abbrev pub broken_with : State → Option (List Entry) → State
@@ -53,7 +33,7 @@ broken_with old batch = record old { pending = batch; mode = broken }
 
 module _ {E C FP F I : Type 0} {D : I → Type 0} (env : Ghosts E F) (store : List ℕ) where
   abbrev pub Was : Engine E C FP F I D → E → State → Type 0
-  Was engine at old = Represents store (Reads store) (Recalls env store) (Some engine) (env.tells at).disk old
+  Was engine at old = Represents store (Reads store) (Recalls env store) (Some engine) (env.observed at).disk old
 
   -- ---- an open store
 
@@ -62,12 +42,11 @@ module _ {E C FP F I : Type 0} {D : I → Type 0} (env : Ghosts E F) (store : Li
     pub mode : old.mode ≡ open_mode
     pub none : old.pending ≡ None
     pub held : IsTrue old.locked
-    pub disk_is : StandsFor store (Reads store) (env.tells at).disk old
-    pub holds : Holds store (Reads store) (env.tells at).disk.files old.history old.last old.covered None
+    pub disk_is : StandsFor store (Reads store) (env.observed at).disk old
+    pub holds : Holds store (Reads store) (λ now. now ≡ old.store) (env.observed at).disk.files old.history old.last old.covered None
     pub lock : string_bytes engine.lock ≡ lock_path store
     pub memory_is : Remembers env store engine old
-    pub writes : WritesOn env store engine (env.tells at).disk
-    pub made_is : old.store ≡ made None
+    pub writes : WritesOn env store engine (env.observed at).disk
 
   pub is_open : (engine : Engine E C FP F I D) (at : E) (old : State) → engine.mode ≡ Open → Was engine at old → IsOpen engine at old
   is_open engine at old open_now was = record {
@@ -79,7 +58,6 @@ module _ {E C FP F I : Type 0} {D : I → Type 0} (env : Ghosts E F) (store : Li
     lock = was.memory_is.lock;
     memory_is = was.memory_is.shows (λ shut. let never : open_mode ≡ closed = sym mode ∙ shut in cc);
     writes = writes;
-    made_is = ⊎_elim there there holds.now;
   }
     where
       mode : old.mode ≡ open_mode
@@ -88,14 +66,11 @@ module _ {E C FP F I : Type 0} {D : I → Type 0} (env : Ghosts E F) (store : Li
       suits : (old.pending ≡ None) × IsTrue old.locked
       suits = subst (λ m. SuitsMode m old) mode was.disk_is.is_state.mode
 
-      holds : Holds store (Reads store) (env.tells at).disk.files old.history old.last old.covered None
-      holds = subst (λ p. Holds store (Reads store) (env.tells at).disk.files old.history old.last old.covered p) suits.0 was.disk_is.holds
+      holds : Holds store (Reads store) (λ now. now ≡ old.store) (env.observed at).disk.files old.history old.last old.covered None
+      holds = subst (λ p. Holds store (Reads store) (λ now. now ≡ old.store) (env.observed at).disk.files old.history old.last old.covered p) suits.0 was.disk_is.holds
 
-      writes : WritesOn env store engine (env.tells at).disk
+      writes : WritesOn env store engine (env.observed at).disk
       writes = was.memory_is.writes mode
-
-      there : {history : History} → Carries store (Reads store) (old.last + 0) history (env.tells at).disk.files → old.store ≡ made None
-      there c = sym (was.disk_is.has_store c.contents c.read) ∙ log_is_store store writes.file (env.tells at).disk.files writes.there c.contents c.read
 
   -- ---- memory
 
@@ -121,11 +96,9 @@ module _ {E C FP F I : Type 0} {D : I → Type 0} (env : Ghosts E F) (store : Li
     pub mode : after.mode ≡ Broken
     pub history : IsHistory (with_batch old.history batch)
     pub reached : greatest (entries_of (with_batch old.history batch)) ≤ old.last + count_of batch
-    pub holds : Holds store (Reads store) (env.tells to).disk.files old.history old.last old.covered batch
-    pub file : File
-    pub there : (env.tells to).disk.files (log_path store) ≡ Some file
-    pub locks : (env.tells to).disk.locked ≡ (env.tells from).disk.locked
-    pub but : SameBut (log_path store) (env.tells from).disk.files (env.tells to).disk.files
+    pub holds : Holds store (Reads store) (λ now. now ≡ old.store) (env.observed to).disk.files old.history old.last old.covered batch
+    pub locks : (env.observed to).disk.locked ≡ (env.observed from).disk.locked
+    pub but : SameBut (log_path store) (env.observed from).disk.files (env.observed to).disk.files
 
   pub broken_is : (engine after : Engine E C FP F I D) (from to : E) (old : State) (batch : Option (List Entry)) → IsOpen engine from old → Broke engine after from to old batch → Was after to (broken_with old batch)
   broken_is engine after from to old batch was broke = record {
@@ -139,8 +112,6 @@ module _ {E C FP F I : Type 0} {D : I → Type 0} (env : Ghosts E F) (store : Li
         mode = was.held;
       };
       holds = broke.holds;
-      has_store = here.has;
-      keeps = here.keeps;
       locked = ap (λ locked. locked (lock_path store)) broke.locks ∙ was.disk_is.locked;
     };
     memory_is = record {
@@ -150,6 +121,3 @@ module _ {E C FP F I : Type 0} {D : I → Type 0} (env : Ghosts E F) (store : Li
       writes = λ opened. absurd (cc);
     };
   }
-    where
-      here : IsStored store old.store (env.tells to).disk.files
-      here = stored store old.store (env.tells to).disk.files broke.file old.history old.last old.covered batch was.made_is broke.there broke.holds

@@ -1,7 +1,6 @@
 //! The end of a store's work: giving back its lock.
 ghost use Rattle.std.specs.Prelude.{◌≡◌, Some, None, false, OnOk, OnErr, IsErrAnd};
-ghost use Rattle.leveldb_env.specs.Disk.{lock_set, same};
-ghost use Rattle.leveldb_env.specs.Calls.{Does, Still, Relocks, HasCause};
+ghost use Rattle.leveldb_env.specs.Env.{lock_set, same, ChangesFiles, FilesUnchanged, ChangesLocks, HasCause};
 ghost use Rattle.rusty_leveldb.specs.State.{close, abandon};
 ghost use Rattle.rusty_leveldb.specs.Serves.{done_or};
 ghost use Rattle.rusty_leveldb.specs.Engine.{IsShut, IsHalted, HaltedBy, TimeGoesOn, Answers, CloseExcused};
@@ -48,8 +47,8 @@ impl<E: Env, C: UserCmp + Copy, FP: FilterPolicy + Copy> Engine<E, C, FP> {
 
 /// Frees a lock, which may be free already.
 pub(crate) fn give_back<E: Env>(env: &mut E, lock: &str) -> Result<()>
-    ensures does { Does E.tells_disk same Still (E.tells env.old) (E.tells env.new) result }
-    ensures locks { Relocks E.tells_disk (lock_set lock.now false) (E.tells env.old) (E.tells env.new) result }
+    ensures does { ChangesFiles E.models_disk same FilesUnchanged (E.observed env.old) (E.observed env.new) result }
+    ensures locks { ChangesLocks E.models_disk (lock_set lock.now false) (E.observed env.old) (E.observed env.new) result }
     ensures cause { HasCause (λ _. ⊥) (E.failures env.old) (E.failures env.new) result }
 {
     match env.unlock(lock) {

@@ -1,7 +1,7 @@
 //! What a store has in memory while it is open. Each call is given the environment.
 ghost use Rattle.std.specs.Prelude.{◌≡◌, ◌⊎◌, ℕ, Bool, List, false, OnOk, IfErr};
 ghost use Rattle.leveldb_base.specs.History.{Item};
-ghost use Rattle.leveldb_env.specs.Disk.{Disk};
+ghost use Rattle.leveldb_env.specs.Env.{Disk};
 ghost use Rattle.rusty_leveldb.specs.State.{State, open_mode, write, refused};
 ghost use Rattle.rusty_leveldb.specs.Serves.{refusal_of};
 ghost use Rattle.rusty_leveldb.specs.Engine.{IsShut, ShutOut, ShutDown, Recalls, AnswersStill};
@@ -30,8 +30,8 @@ pub enum Mode {
 #[derive(Drop)]
 pub struct Engine<E: Env, C: Cmp, FP> {
     pub(crate) alloc: Global,
-    /// What it was opened with.
-    pub options: Options<C, FP>,
+    // What it was opened with.
+    pub(crate) options: Options<C, FP>,
     // The name of the lock.
     pub(crate) lock: String,
     pub(crate) log: E::File,

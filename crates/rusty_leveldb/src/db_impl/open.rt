@@ -1,9 +1,7 @@
 //! Opening a store: its lock is taken, its log is read, and replaced where it ends badly.
 ghost use Rattle.std.specs.Prelude.{◌≡◌, ◌⊎◌, if◌then◌else◌, length, map, Some, None, IsTrue, IfOk, IfErr, OnOk, false};
-ghost use Rattle.leveldb_env.specs.Disk.{bytes_of};
-ghost use Rattle.leveldb_env.specs.Calls.{HasCause, NoMemory, SameLocks, Still};
-ghost use Rattle.leveldb_env.specs.FileLaws.{SameBut};
-ghost use Rattle.leveldb_env.specs.Runs.{Run};
+ghost use Rattle.leveldb_env.specs.Env.{bytes_of, HasCause, SameLocks, FilesUnchanged, SameBut, Run};
+ghost use Rattle.leveldb_base.specs.Error.{IsOutOfMemory};
 ghost use Rattle.leveldb_mem.specs.Log.{clean, bad};
 ghost use Rattle.rusty_leveldb.specs.OneLog.{log_path};
 ghost use Rattle.rusty_leveldb.specs.State.{Opening, open_store};
@@ -27,9 +25,10 @@ use std::alloc::Global;
 
 impl<E: Env, C: UserCmp + Copy, FP: FilterPolicy + Copy> Engine<E, C, FP> {
     /// Opens the store under this name, which isn't empty and doesn't end in a slash.
-    /// A missing store is made, or `InvalidArgument` where the options say so; a locked one is `LockError`.
-    /// A refused opening gives back the lock that it took, unless the device refuses that too. A store that is damaged or locked, or is
-    /// missing and isn't to be made, is never opened; its files stay as they are, but that its lock's file may be made.
+    /// A missing store is made, or `InvalidArgument` if the options say so; a locked one is `LockError`.
+    /// An opening that fails gives back the lock that it took, unless the device failed once more. A store
+    /// that is damaged or locked, or is missing and isn't to be made, is never opened; its files stay as
+    /// they are, but that its lock's file may be made.
     pub fn open(
         alloc: Global,
         name: &str,
@@ -42,10 +41,10 @@ impl<E: Env, C: UserCmp + Copy, FP: FilterPolicy + Copy> Engine<E, C, FP> {
             → AnswersAs E.Env (C.cmp options.cmp) name.now None env.old (open_store opening) (done_or result) (given_engine result) env.new }
         ensures time { TimeGoesOn E.Env env.old env.new }
         ensures misnamed { (IsStoreName name.now → ⊥) → (env.new ≡ env.old) × OnOk result ⊥ }
-        ensures log { OnOk result (IsTrue E.tells_disk → SparesLog options.create_if_missing ((E.tells env.old).disk.files (log_path name.now)) ((E.tells env.new).disk.files (log_path name.now))) }
-        ensures never_opens { IsTrue E.tells_disk → NeverOpens name.now options.create_if_missing (E.tells env.old).disk → OnOk result ⊥ }
-        ensures unopened { IfErr result (λ status. IsTrue E.tells_disk → StaysUnopened name.now options.create_if_missing (E.tells env.old) (E.tells env.new) (E.failures env.old) (E.failures env.new) status) }
-        ensures cause { HasCauses (OpenExcused E.tells_disk name.now options.create_if_missing (E.tells env.old)) (E.failures env.old) (E.failures env.new) result }
+        ensures log { OnOk result (IsTrue E.models_disk → SparesLog options.create_if_missing ((E.observed env.old).disk.files (log_path name.now)) ((E.observed env.new).disk.files (log_path name.now))) }
+        ensures never_opens { IsTrue E.models_disk → NeverOpens name.now options.create_if_missing (E.observed env.old).disk → OnOk result ⊥ }
+        ensures unopened { IfErr result (λ status. IsTrue E.models_disk → StaysUnopened name.now options.create_if_missing (E.observed env.old) (E.observed env.new) (E.failures env.old) (E.failures env.new) status) }
+        ensures cause { HasCauses (OpenExcused E.models_disk name.now options.create_if_missing (E.observed env.old)) (E.failures env.old) (E.failures env.new) result }
     {
         check_name(alloc, name)?;
         let lock = file_name(alloc, name, "LOCK")?;
@@ -77,14 +76,14 @@ fn recover<E: Env, C: UserCmp + Copy>(
     cmp: C,
     create_if_missing: bool,
 ) -> Result<(E::File, WriterCore, Recent<C>)>
-    ensures locks { SameLocks E.tells_disk (E.tells env.old) (E.tells env.new) }
-    ensures spares { IsTrue E.tells_disk → Run (λ files. SparesLog create_if_missing ((E.tells env.old).disk.files (log_path name.now)) (files (log_path name.now))) (E.tells env.old) (E.tells env.new) }
-    ensures rest { IsTrue E.tells_disk → ChangesLogAlone name.now (E.tells env.old).disk.files (E.tells env.new).disk.files }
-    ensures unusable { IsTrue E.tells_disk → IsUnusable create_if_missing ((E.tells env.old).disk.files (log_path name.now)) → (E.tells env.new).disk.files ≡ (E.tells env.old).disk.files }
-    ensures ok { IfOk result (λ got. IsTrue E.tells_disk → IsRecovered create_if_missing ((E.tells env.old).disk.files (log_path name.now)) ((E.tells env.new).disk.files (log_path name.now)) got.1 got.2) }
-    ensures log { IfOk result (λ got. IsTrue E.tells_disk → E.name_of got.0 ≡ log_path name.now) }
+    ensures locks { SameLocks E.models_disk (E.observed env.old) (E.observed env.new) }
+    ensures spares { IsTrue E.models_disk → Run (λ files. SparesLog create_if_missing ((E.observed env.old).disk.files (log_path name.now)) (files (log_path name.now))) (E.observed env.old) (E.observed env.new) }
+    ensures rest { IsTrue E.models_disk → ChangesLogAlone name.now (E.observed env.old).disk.files (E.observed env.new).disk.files }
+    ensures unusable { IsTrue E.models_disk → IsUnusable create_if_missing ((E.observed env.old).disk.files (log_path name.now)) → (E.observed env.new).disk.files ≡ (E.observed env.old).disk.files }
+    ensures ok { IfOk result (λ got. IsTrue E.models_disk → IsRecovered create_if_missing ((E.observed env.old).disk.files (log_path name.now)) ((E.observed env.new).disk.files (log_path name.now)) got.1 got.2) }
+    ensures log { IfOk result (λ got. IsTrue E.models_disk → E.name_of got.0 ≡ log_path name.now) }
     ensures sound { IfOk result (λ got. got.1.broken ≡ false) }
-    ensures cause { HasCauses (λ e. NoMemory e ⊎ IsNotMade E.tells_disk create_if_missing ((E.tells env.old).disk.files (log_path name.now)) e ⊎ IsNoLog E.tells_disk ((E.tells env.old).disk.files (log_path name.now)) e)
+    ensures cause { HasCauses (λ e. IsOutOfMemory e ⊎ IsNotMade E.models_disk create_if_missing ((E.observed env.old).disk.files (log_path name.now)) e ⊎ IsNoLog E.models_disk ((E.observed env.old).disk.files (log_path name.now)) e)
         (E.failures env.old) (E.failures env.new) result }
 {
     let full_name = file_name(alloc, name, "000003.log")?;
@@ -104,11 +103,11 @@ fn read_log<E: Env>(
     log_name: &str,
     create_if_missing: bool,
 ) -> Result<(Vec<Vec<u8>>, bool)>
-    ensures still { IsTrue E.tells_disk → Run (Still (E.tells env.old).disk.files) (E.tells env.old) (E.tells env.new) }
-    ensures locks { SameLocks E.tells_disk (E.tells env.old) (E.tells env.new) }
-    ensures log { IfOk result (λ found. IsTrue E.tells_disk → IsFoundAs create_if_missing ((E.tells env.old).disk.files log_name.now)
+    ensures still { IsTrue E.models_disk → Run (FilesUnchanged (E.observed env.old).disk.files) (E.observed env.old) (E.observed env.new) }
+    ensures locks { SameLocks E.models_disk (E.observed env.old) (E.observed env.new) }
+    ensures log { IfOk result (λ found. IsTrue E.models_disk → IsFoundAs create_if_missing ((E.observed env.old).disk.files log_name.now)
         (map (λ v. v.items) found.0.items) (if found.1 then clean else bad)) }
-    ensures cause { HasCauses (λ e. IsUntold E.tells_disk e ⊎ IsNotMade E.tells_disk create_if_missing ((E.tells env.old).disk.files log_name.now) e)
+    ensures cause { HasCauses (λ e. IsUntold E.models_disk e ⊎ IsNotMade E.models_disk create_if_missing ((E.observed env.old).disk.files log_name.now) e)
         (E.failures env.old) (E.failures env.new) result }
 {
     if env.exists(log_name)? {
@@ -131,32 +130,31 @@ fn mend<E: Env>(
     is_clean: bool,
 ) -> Result<()>
     requires { log_name.now ≡ log_path name.now }
-    ensures locks { SameLocks E.tells_disk (E.tells env.old) (E.tells env.new) }
-    ensures rest { IsTrue E.tells_disk → ChangesLogAlone name.now (E.tells env.old).disk.files (E.tells env.new).disk.files }
-    ensures either { IsTrue E.tells_disk → Run (λ files. (files log_name.now ≡ (E.tells env.old).disk.files log_name.now)
-        ⊎ ((is_clean ≡ false) × (files log_name.now ≡ Some (framed_file (map (λ v. v.items) records.now))))) (E.tells env.old) (E.tells env.new) }
-    ensures ok { OnOk result (IsTrue E.tells_disk → (E.tells env.new).disk.files log_name.now
-        ≡ (if is_clean then (E.tells env.old).disk.files log_name.now else Some (framed_file (map (λ v. v.items) records.now)))) }
-    ensures cause { HasCauses (IsUntold E.tells_disk) (E.failures env.old) (E.failures env.new) result }
+    ensures locks { SameLocks E.models_disk (E.observed env.old) (E.observed env.new) }
+    ensures rest { IsTrue E.models_disk → ChangesLogAlone name.now (E.observed env.old).disk.files (E.observed env.new).disk.files }
+    ensures either { IsTrue E.models_disk → Run (λ files. (files log_name.now ≡ (E.observed env.old).disk.files log_name.now)
+        ⊎ ((is_clean ≡ false) × (files log_name.now ≡ Some (framed_file (map (λ v. v.items) records.now))))) (E.observed env.old) (E.observed env.new) }
+    ensures ok { OnOk result (IsTrue E.models_disk → (E.observed env.new).disk.files log_name.now
+        ≡ (if is_clean then (E.observed env.old).disk.files log_name.now else Some (framed_file (map (λ v. v.items) records.now)))) }
+    ensures cause { HasCauses (IsUntold E.models_disk) (E.failures env.old) (E.failures env.new) result }
 {
     if is_clean {
         return Ok(());
     }
     let temp_name = file_name(alloc, name, "000003.dbtmp")?;
     let framed = frame_all(alloc, records)?;
-    let replaced = replace_file(env, &temp_name, log_name, &framed);
-    found(alloc, replaced)
+    replace_file(alloc, env, &temp_name, log_name, &framed)
 }
 
 // The log, which is made where it is missing, all its bytes kept, and how many it has.
 fn open_log<E: Env>(alloc: Global, env: &mut E, log_name: &str) -> Result<(E::File, usize)>
-    ensures locks { SameLocks E.tells_disk (E.tells env.old) (E.tells env.new) }
-    ensures either { IsTrue E.tells_disk → Run (IsMadeKept log_name.now (E.tells env.old).disk.files) (E.tells env.old) (E.tells env.new) }
-    ensures there { OnOk result (IsTrue E.tells_disk → (E.tells env.new).disk.files log_name.now ≡ Some (kept_log ((E.tells env.old).disk.files log_name.now))) }
-    ensures others { IsTrue E.tells_disk → SameBut log_name.now (E.tells env.old).disk.files (E.tells env.new).disk.files }
-    ensures name { IfOk result (λ got. IsTrue E.tells_disk → E.name_of got.0 ≡ log_name.now) }
-    ensures size { IfOk result (λ got. IsTrue E.tells_disk → got.1 ≡ length (bytes_of (kept_log ((E.tells env.old).disk.files log_name.now)))) }
-    ensures cause { HasCauses (IsUntold E.tells_disk) (E.failures env.old) (E.failures env.new) result }
+    ensures locks { SameLocks E.models_disk (E.observed env.old) (E.observed env.new) }
+    ensures either { IsTrue E.models_disk → Run (IsMadeKept log_name.now (E.observed env.old).disk.files) (E.observed env.old) (E.observed env.new) }
+    ensures there { OnOk result (IsTrue E.models_disk → (E.observed env.new).disk.files log_name.now ≡ Some (kept_log ((E.observed env.old).disk.files log_name.now))) }
+    ensures others { IsTrue E.models_disk → SameBut log_name.now (E.observed env.old).disk.files (E.observed env.new).disk.files }
+    ensures name { IfOk result (λ got. IsTrue E.models_disk → E.name_of got.0 ≡ log_name.now) }
+    ensures size { IfOk result (λ got. IsTrue E.models_disk → got.1 ≡ length (bytes_of (kept_log ((E.observed env.old).disk.files log_name.now)))) }
+    ensures cause { HasCauses (IsUntold E.models_disk) (E.failures env.old) (E.failures env.new) result }
 {
     let mut log = env.open_appendable_file(log_name)?;
     let synced = env.sync(&mut log);
@@ -166,8 +164,8 @@ fn open_log<E: Env>(alloc: Global, env: &mut E, log_name: &str) -> Result<(E::Fi
     Ok((log, size))
 }
 
-// A file of the store that is missing is damage.
-fn found<T>(alloc: Global, answer: Result<T>) -> Result<T>
+/// A file of the store that is missing is damage.
+pub(crate) fn found<T>(alloc: Global, answer: Result<T>) -> Result<T>
     ensures { IsFoundOr answer result }
 {
     match answer {

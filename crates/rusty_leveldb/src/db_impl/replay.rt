@@ -2,7 +2,7 @@
 ghost use Rattle.std.specs.Prelude.{◌≡◌, ◌⊎◌, OnOk, IfOk, IfErr, map};
 ghost use Rattle.leveldb_base.specs.Error.{IsOutOfMemory};
 ghost use Rattle.leveldb_base.specs.declared.error.StatusCode.TheVariants.{Corruption};
-ghost use Rattle.leveldb_mem.specs.Batch.{IsBatch};
+ghost use Rattle.leveldb_mem.specs.WriteBatch.{IsBatch};
 ghost use Rattle.leveldb_mem.specs.Log.{log_block_size, framed};
 ghost use Rattle.rusty_leveldb.specs.OneLog.{IsRecordOf};
 ghost use Rattle.rusty_leveldb.specs.Recent.{Follows};

@@ -1,7 +1,7 @@
 //! The public store: an engine beside a borrow of its environment. Its calls lend the environment to the engine.
 ghost use Rattle.std.specs.Prelude.{◌≡◌, ◌<◌, ◌⊎◌, ◌∷◌, [], Some, None, true, false, IfOk, IfErr, OnOk, OnErr, IsErrAnd, IsTrue};
-ghost use Rattle.leveldb_env.specs.Calls.{HasCause};
-ghost use Rattle.leveldb_mem.specs.Batch.{item_of};
+ghost use Rattle.leveldb_env.specs.Env.{HasCause};
+ghost use Rattle.leveldb_mem.specs.WriteBatch.{item_of};
 ghost use Rattle.rusty_leveldb.specs.State.{Opening, open_store, write, get, flush, close, abandon, done, refused};
 ghost use Rattle.rusty_leveldb.specs.Serves.{done_or, found_or, refusal_of};
 ghost use Rattle.rusty_leveldb.specs.declared.db_impl.engine.Mode.TheVariants.{Open};
@@ -54,8 +54,9 @@ impl<'e, E: Env, S: Drop> Store<'e, E, S> {
 
 impl<'e, E: Env, C: UserCmp + Copy, FP: FilterPolicy + Copy> Store<'e, E, Engine<E, C, FP>> {
     /// Opens the store under this name, which isn't empty and doesn't end in a slash.
-    /// A missing store is made, or `InvalidArgument` where the options say so; a locked one is `LockError`.
-    /// A refused opening gives back the lock that it took, unless the device refuses that too. A store that is damaged or locked, or is missing and isn't to be made, is never opened.
+    /// A missing store is made, or `InvalidArgument` if the options say so; a locked one is `LockError`.
+    /// An opening that fails gives back the lock that it took, unless the device failed once more. A store
+    /// that is damaged or locked, or is missing and isn't to be made, is never opened.
     pub fn open(
         alloc: Global,
         name: &str,
@@ -67,19 +68,19 @@ impl<'e, E: Env, C: UserCmp + Copy, FP: FilterPolicy + Copy> Store<'e, E, Engine
         ensures opened { IfOk result (λ db. (db.state.mode ≡ Open) × (db.state.writer.broken ≡ false)) }
         ensures step { IfOk result (λ db. (opening : Opening) → IsOpening name.now options.create_if_missing opening
             → AnswersAs E.Env (C.cmp options.cmp) name.now None env.old (open_store opening) done (Some db.state) db.env.now) }
-        ensures log { IfOk result (λ db. IsTrue E.tells_disk
-            → SparesLog options.create_if_missing ((E.tells env.old).disk.files (log_path name.now)) ((E.tells db.env.now).disk.files (log_path name.now))) }
+        ensures log { IfOk result (λ db. IsTrue E.models_disk
+            → SparesLog options.create_if_missing ((E.observed env.old).disk.files (log_path name.now)) ((E.observed db.env.now).disk.files (log_path name.now))) }
         ensures time { IfOk result (λ db. TimeGoesOn E.Env env.old db.env.now) }
         ensures misnamed { (IsStoreName name.now → ⊥) → OnOk result ⊥ }
-        ensures never_opens { IsTrue E.tells_disk → NeverOpens name.now options.create_if_missing (E.tells env.old).disk → OnOk result ⊥ }
+        ensures never_opens { IsTrue E.models_disk → NeverOpens name.now options.create_if_missing (E.observed env.old).disk → OnOk result ⊥ }
         ensures cause { IfOk result (λ db. E.failures db.env.now ≡ E.failures env.old) }
         ensures refused { IfErr result (λ status. (left : E)
             × ((opening : Opening) → IsOpening name.now options.create_if_missing opening
             → AnswersAs E.Env (C.cmp options.cmp) name.now (no_engine options) env.old (open_store opening) (refused (refusal_of status)) (no_engine options) left)
-            × (OpenExcused E.tells_disk name.now options.create_if_missing (E.tells env.old) status ⊎ HasFailed (E.failures env.old) (E.failures left))
+            × (OpenExcused E.models_disk name.now options.create_if_missing (E.observed env.old) status ⊎ HasFailed (E.failures env.old) (E.failures left))
             × TimeGoesOn E.Env env.old left
             × ((IsStoreName name.now → ⊥) → left ≡ env.old)
-            × (IsTrue E.tells_disk → StaysUnopened name.now options.create_if_missing (E.tells env.old) (E.tells left) (E.failures env.old) (E.failures left) status)) }
+            × (IsTrue E.models_disk → StaysUnopened name.now options.create_if_missing (E.observed env.old) (E.observed left) (E.failures env.old) (E.failures left) status)) }
     {
         let engine = Engine::open(alloc, name, &mut *env, options)?;
         Ok(Store::around(env, engine))
@@ -95,7 +96,7 @@ impl<'e, E: Env, C: UserCmp + Copy, FP: FilterPolicy + Copy> Store<'e, E, Engine
         ensures time { TimeGoesOn E.Env self.old.env.now self.new.env.now }
         ensures step { Answers E.Env (C.cmp self.old.state.options.cmp) (Some self.old.state) self.old.env.now
             (write (item_of key.now (Some value.now) ∷ []) false) (done_or result) (Some self.new.state) self.new.env.now }
-        ensures cause { HasCause (WriteExcused E.Env self.old.state self.old.env.now (item_of key.now (Some value.now) ∷ []))
+        ensures cause { HasCause (WriteExcused E.Env self.old.state self.old.env.now self.new.env.now (item_of key.now (Some value.now) ∷ []))
             (E.failures self.old.env.now) (E.failures self.new.env.now) result }
     {
         self.state.put(&mut *self.env, key, value)
@@ -111,7 +112,7 @@ impl<'e, E: Env, C: UserCmp + Copy, FP: FilterPolicy + Copy> Store<'e, E, Engine
         ensures time { TimeGoesOn E.Env self.old.env.now self.new.env.now }
         ensures step { Answers E.Env (C.cmp self.old.state.options.cmp) (Some self.old.state) self.old.env.now
             (write (item_of key.now None ∷ []) false) (done_or result) (Some self.new.state) self.new.env.now }
-        ensures cause { HasCause (WriteExcused E.Env self.old.state self.old.env.now (item_of key.now None ∷ []))
+        ensures cause { HasCause (WriteExcused E.Env self.old.state self.old.env.now self.new.env.now (item_of key.now None ∷ []))
             (E.failures self.old.env.now) (E.failures self.new.env.now) result }
     {
         self.state.delete(&mut *self.env, key)
@@ -128,7 +129,7 @@ impl<'e, E: Env, C: UserCmp + Copy, FP: FilterPolicy + Copy> Store<'e, E, Engine
         ensures time { TimeGoesOn E.Env self.old.env.now self.new.env.now }
         ensures step { Answers E.Env (C.cmp self.old.state.options.cmp) (Some self.old.state) self.old.env.now
             (write batch.items sync) (done_or result) (Some self.new.state) self.new.env.now }
-        ensures cause { HasCause (WriteExcused E.Env self.old.state self.old.env.now batch.items)
+        ensures cause { HasCause (WriteExcused E.Env self.old.state self.old.env.now self.new.env.now batch.items)
             (E.failures self.old.env.now) (E.failures self.new.env.now) result }
     {
         self.state.write(&mut *self.env, batch, sync)
@@ -144,7 +145,7 @@ impl<'e, E: Env, C: UserCmp + Copy, FP: FilterPolicy + Copy> Store<'e, E, Engine
         ensures time { TimeGoesOn E.Env self.old.env.now self.new.env.now }
         ensures step { Answers E.Env (C.cmp self.old.state.options.cmp) (Some self.old.state) self.old.env.now
             flush (done_or result) (Some self.new.state) self.new.env.now }
-        ensures cause { HasCause (SyncExcused E.Env self.old.state self.old.env.now)
+        ensures cause { HasCause (SyncExcused E.Env self.old.state self.old.env.now self.new.env.now)
             (E.failures self.old.env.now) (E.failures self.new.env.now) result }
     {
         self.state.flush(&mut *self.env)

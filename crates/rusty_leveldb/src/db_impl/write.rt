@@ -1,21 +1,24 @@
 //! Writing to a store: batches, and syncs of its log.
-ghost use Rattle.std.specs.Prelude.{◌≡◌, ◌<◌, ◌∷◌, [], ℕ, if◌then◌else◌, Some, None, false, IfOk, IfErr, OnOk, OnErr, IsErrAnd, ◌⊎◌, IsTrue};
-ghost use Rattle.leveldb_env.specs.Calls.{HasCause};
-ghost use Rattle.leveldb_env.specs.Disk.{AreBytes};
-ghost use Rattle.leveldb_env.specs.OpenFiles.{opened, Appends, Syncs};
-ghost use Rattle.leveldb_mem.specs.Batch.{item_of};
-ghost use Rattle.leveldb_mem.specs.Writing.{Adds, Refuses, Flushes};
+ghost use Rattle.std.specs.Prelude.{◌≡◌, ◌<◌, ◌∷◌, [], ℕ, if◌then◌else◌, Some, None, Ok, Err, false, IfOk, IfErr, OnOk, OnErr, IsErrAnd, ◌⊎◌, IsTrue};
+ghost use Rattle.leveldb_base.specs.declared.error.Status.{Status};
+ghost use Rattle.leveldb_env.specs.Env.{HasCause, AreBytes};
+ghost use Rattle.leveldb_env.specs.EnvFile.{opened, Appends, Syncs};
+ghost use Rattle.leveldb_mem.specs.WriteBatch.{item_of};
+ghost use Rattle.leveldb_mem.specs.Log.Writer.{AddsRecord, FailsToAdd, Flushes};
 ghost use Rattle.rusty_leveldb.specs.State.{write, flush};
 ghost use Rattle.rusty_leveldb.specs.Serves.{done_or};
+ghost use Rattle.rusty_leveldb.specs.Recovery.{IsErrorFor};
 ghost use Rattle.rusty_leveldb.specs.Engine.{IsHalted, HaltedBy, TimeGoesOn, Answers, WriteExcused, SyncExcused};
 
 use super::engine::{Engine, Mode, check_open};
+use super::open::found;
 use leveldb_base::cmp::UserCmp;
 use leveldb_base::error::Result;
 use leveldb_env::env::{Env, EnvFile};
 use leveldb_env::filter::FilterPolicy;
 use leveldb_mem::log::WriterCore;
 use leveldb_mem::write_batch::WriteBatch;
+use std::alloc::Global;
 
 impl<E: Env, C: UserCmp + Copy, FP: FilterPolicy + Copy> Engine<E, C, FP> {
     /// Gives the key this value, without a sync.
@@ -27,7 +30,7 @@ impl<E: Env, C: UserCmp + Copy, FP: FilterPolicy + Copy> Engine<E, C, FP> {
         ensures time { TimeGoesOn E.Env env.old env.new }
         ensures step { Answers E.Env (C.cmp self.old.options.cmp) (Some self.old) env.old
             (write (item_of key.now (Some value.now) ∷ []) false) (done_or result) (Some self.new) env.new }
-        ensures cause { HasCause (WriteExcused E.Env self.old env.old (item_of key.now (Some value.now) ∷ []))
+        ensures cause { HasCause (WriteExcused E.Env self.old env.old env.new (item_of key.now (Some value.now) ∷ []))
             (E.failures env.old) (E.failures env.new) result }
     {
         check_open(self.alloc, self.mode, &self.writer)?;
@@ -45,7 +48,7 @@ impl<E: Env, C: UserCmp + Copy, FP: FilterPolicy + Copy> Engine<E, C, FP> {
         ensures time { TimeGoesOn E.Env env.old env.new }
         ensures step { Answers E.Env (C.cmp self.old.options.cmp) (Some self.old) env.old
             (write (item_of key.now None ∷ []) false) (done_or result) (Some self.new) env.new }
-        ensures cause { HasCause (WriteExcused E.Env self.old env.old (item_of key.now None ∷ []))
+        ensures cause { HasCause (WriteExcused E.Env self.old env.old env.new (item_of key.now None ∷ []))
             (E.failures env.old) (E.failures env.new) result }
     {
         check_open(self.alloc, self.mode, &self.writer)?;
@@ -64,7 +67,7 @@ impl<E: Env, C: UserCmp + Copy, FP: FilterPolicy + Copy> Engine<E, C, FP> {
         ensures time { TimeGoesOn E.Env env.old env.new }
         ensures step { Answers E.Env (C.cmp self.old.options.cmp) (Some self.old) env.old
             (write batch.items sync) (done_or result) (Some self.new) env.new }
-        ensures cause { HasCause (WriteExcused E.Env self.old env.old batch.items) (E.failures env.old) (E.failures env.new) result }
+        ensures cause { HasCause (WriteExcused E.Env self.old env.old env.new batch.items) (E.failures env.old) (E.failures env.new) result }
     {
         check_open(self.alloc, self.mode, &self.writer)?;
         let first = self.recent.next(self.alloc, batch.count())?;
@@ -87,7 +90,7 @@ impl<E: Env, C: UserCmp + Copy, FP: FilterPolicy + Copy> Engine<E, C, FP> {
         ensures stays { IsTrue self.new.writer.broken ⊎ (self.new.mode ≡ self.old.mode) }
         ensures time { TimeGoesOn E.Env env.old env.new }
         ensures step { Answers E.Env (C.cmp self.old.options.cmp) (Some self.old) env.old flush (done_or result) (Some self.new) env.new }
-        ensures cause { HasCause (SyncExcused E.Env self.old env.old) (E.failures env.old) (E.failures env.new) result }
+        ensures cause { HasCause (SyncExcused E.Env self.old env.old env.new) (E.failures env.old) (E.failures env.new) result }
     {
         check_open(self.alloc, self.mode, &self.writer)?;
         self.sync(env)
@@ -98,11 +101,12 @@ impl<E: Env, C: UserCmp + Copy, FP: FilterPolicy + Copy> Engine<E, C, FP> {
         ensures rest { self.new ≡ record self.old { log = self.new.log; writer = self.new.writer; mode = self.new.mode } }
         ensures bytes { AreBytes text.now }
         ensures mode { self.new.mode ≡ (if self.new.writer.broken then Mode.Broken else self.old.mode) }
-        ensures ok { OnOk result ((count : ℕ) × Adds (Appends E.Env) self.old.writer (opened env.old self.old.log) text.now count self.new.writer (opened env.new self.new.log)) }
+        ensures ok { OnOk result ((count : ℕ) × AddsRecord (Appends E.Env) self.old.writer (opened env.old self.old.log) text.now count self.new.writer (opened env.new self.new.log)) }
         ensures err { self.old.writer.broken ≡ false
-            → IfErr result (λ status. Refuses (Appends E.Env) self.old.writer (opened env.old self.old.log) text.now status self.new.writer (opened env.new self.new.log)) }
+            → IfErr result (λ status. (raw : Status) × IsErrorFor raw status
+            × FailsToAdd (Appends E.Env) self.old.writer (opened env.old self.old.log) text.now raw self.new.writer (opened env.new self.new.log)) }
     {
-        let appended = append_record(&mut self.writer, env, &mut self.log, text);
+        let appended = append_record(self.alloc, &mut self.writer, env, &mut self.log, text);
         if self.writer.is_broken() {
             self.mode = Mode::Broken;
         }
@@ -116,9 +120,13 @@ impl<E: Env, C: UserCmp + Copy, FP: FilterPolicy + Copy> Engine<E, C, FP> {
         ensures mode_ok { OnOk result (self.new.mode ≡ self.old.mode) }
         ensures mode_err { OnErr result (self.new.mode ≡ Mode.Broken) }
         ensures synced { self.old.writer.broken ≡ false
-            → Flushes (Syncs E.Env) self.old.writer (opened env.old self.old.log) result self.new.writer (opened env.new self.new.log) }
+            → OnOk result (Flushes (Syncs E.Env) self.old.writer (opened env.old self.old.log) (Ok tt) self.new.writer (opened env.new self.new.log)) }
+        ensures unsynced { self.old.writer.broken ≡ false
+            → IfErr result (λ status. (raw : Status) × IsErrorFor raw status
+            × Flushes (Syncs E.Env) self.old.writer (opened env.old self.old.log) (Err raw) self.new.writer (opened env.new self.new.log)) }
     {
         let synced = sync_log(&mut self.writer, env, &mut self.log);
+        let synced = found(self.alloc, synced);
         if synced.is_err() {
             self.mode = Mode::Broken;
         }
@@ -126,16 +134,33 @@ impl<E: Env, C: UserCmp + Copy, FP: FilterPolicy + Copy> Engine<E, C, FP> {
     }
 }
 
-// Appends a record to a log's file.
+// Appends a record to a log's file. If the file is missing, that is damage.
 fn append_record<E: Env>(
+    alloc: Global,
     writer: &mut WriterCore,
     env: &mut E,
     log: &mut E::File,
     text: &[u8],
 ) -> Result<usize>
-    ensures ok { IfOk result (λ count. Adds (Appends E.Env) writer.old (opened env.old log.old) text.now count writer.new (opened env.new log.new)) }
+    ensures ok { IfOk result (λ count. AddsRecord (Appends E.Env) writer.old (opened env.old log.old) text.now count writer.new (opened env.new log.new)) }
     ensures err { writer.old.broken ≡ false
-        → IfErr result (λ status. Refuses (Appends E.Env) writer.old (opened env.old log.old) text.now status writer.new (opened env.new log.new)) }
+        → IfErr result (λ status. (raw : Status) × IsErrorFor raw status
+        × FailsToAdd (Appends E.Env) writer.old (opened env.old log.old) text.now raw writer.new (opened env.new log.new)) }
+{
+    let appended = put_record(writer, env, log, text);
+    found(alloc, appended)
+}
+
+// The same, with the environment's own error.
+fn put_record<E: Env>(
+    writer: &mut WriterCore,
+    env: &mut E,
+    log: &mut E::File,
+    text: &[u8],
+) -> Result<usize>
+    ensures ok { IfOk result (λ count. AddsRecord (Appends E.Env) writer.old (opened env.old log.old) text.now count writer.new (opened env.new log.new)) }
+    ensures err { writer.old.broken ≡ false
+        → IfErr result (λ status. FailsToAdd (Appends E.Env) writer.old (opened env.old log.old) text.now status writer.new (opened env.new log.new)) }
 {
     writer.add_record(&mut EnvFile { env, file: log }, text)
 }

@@ -1,8 +1,8 @@
 //! Runs of commands on a device that records its calls, with crashes between them.
 ghost use Rattle.std.specs.Prelude.{◌≡◌, ◌≤◌, ◌+◌, ◌⊎◌, IfOk, IfErr};
-ghost use Rattle.leveldb_env.specs.Calls.{NoMemory};
+ghost use Rattle.leveldb_base.specs.Error.{IsOutOfMemory};
 ghost use Rattle.leveldb_env.specs.Picks.{tails_of};
-ghost use Rattle.leveldb_env.specs.Record.{moment_of, CanLeave};
+ghost use Rattle.leveldb_env.specs.Record.{moment_of, CanCrashTo};
 ghost use Rattle.rusty_leveldb.specs.Lives.{IsAlwaysLife, IsCrash, ReportsLives};
 
 use super::commands::{Command, Reply};
@@ -49,7 +49,7 @@ pub fn live<C: UserCmp + Copy, FP: FilterPolicy + Copy>(
     ensures life { IfOk result (λ report. IsAlwaysLife C FP ⟦<RecordEnv as Env>⟧ (C.cmp options.cmp)
         name.now env.old options.create_if_missing commands.now report env.new) }
     ensures time { moment_of env.old ≤ moment_of env.new }
-    ensures error { IfErr result (λ e. NoMemory e × (env.new ≡ env.old)) }
+    ensures error { IfErr result (λ e. IsOutOfMemory e × (env.new ≡ env.old)) }
 {
     let start = env.moment();
     let mut replies = Vec::new(alloc);
@@ -117,8 +117,8 @@ fn left_at(
     pick: &Pick,
 ) -> Result<RecordEnv>
     ensures crash { IfOk result (λ left. IsCrash env.now (start + moment) pick.now left) }
-    ensures error { IfErr result (λ e. NoMemory e ⊎ ((e.code ≡ StatusCode.InvalidArgument)
-        × (CanLeave env.now (start + moment) pick.now.after (tails_of pick.now.tails.items) → ⊥))) }
+    ensures error { IfErr result (λ e. IsOutOfMemory e ⊎ ((e.code ≡ StatusCode.InvalidArgument)
+        × (CanCrashTo env.now (start + moment) pick.now.after (tails_of pick.now.tails.items) → ⊥))) }
 {
     match start.checked_add(moment) {
         Some(at) => env.disk_at(alloc, at, pick),

@@ -1,7 +1,7 @@
 //! Runs of commands.
 ghost use Rattle.std.specs.Prelude.{◌≡◌, ◌≤◌, ◌⊎◌, ◌++◌, List, Some, length, drop, map, IfOk, OnOk, IfErr, IsTrue};
 ghost use Rattle.leveldb_base.specs.Error.{IsOutOfMemory};
-ghost use Rattle.leveldb_mem.specs.Batch.{with_item, IsTooLong};
+ghost use Rattle.leveldb_mem.specs.WriteBatch.{with_item, IsTooLong};
 ghost use Rattle.rusty_leveldb.specs.Causes.{IsLongBatch, HasFailed};
 ghost use Rattle.rusty_leveldb.specs.Engine.{IsStoreName, TimeGoesOn, Answers, OpenExcused};
 ghost use Rattle.rusty_leveldb.specs.Recovery.{NeverOpens};
@@ -34,11 +34,11 @@ pub fn run<E: Env, C: UserCmp + Copy, FP: FilterPolicy + Copy>(
         (drop (length replies.old.items) replies.new.items) result env.new }
     ensures behind { (given : List Reply) × (replies.new.items ≡ replies.old.items ++ given) × OnOk result (length given ≡ length commands.now) }
     ensures misnamed { (IsStoreName name.now → ⊥) → (env.new ≡ env.old) × (replies.new.items ≡ replies.old.items) × OnOk result ⊥ }
-    ensures unopened { IsTrue E.tells_disk → NeverOpens name.now opt.create_if_missing (E.tells env.old).disk
+    ensures unopened { IsTrue E.models_disk → NeverOpens name.now opt.create_if_missing (E.observed env.old).disk
         → (replies.new.items ≡ replies.old.items) × IsUnopened E.Env name.now opt.create_if_missing env.old result env.new }
     ensures later { E.failures env.old ≤ E.failures env.new }
     ensures time { TimeGoesOn E.Env env.old env.new }
-    ensures cause { IfErr result (λ status. OpenExcused E.tells_disk name.now opt.create_if_missing (E.tells env.old) status
+    ensures cause { IfErr result (λ status. OpenExcused E.models_disk name.now opt.create_if_missing (E.observed env.old) status
         ⊎ HasFailed (E.failures env.old) (E.failures env.new)) }
 {
     let alloc = *replies.allocator();

@@ -1,5 +1,5 @@
 use Rattle.std.proofs.Common.{◌≡◌, ◌<◌}
-use Rattle.leveldb_table.specs.TableBuilding.{last_of}
+use Rattle.leveldb_table.specs.TableBuilder.{last_of}
 use Rattle.db_bench.proofs.table_rows.build_table.Given as goal
 
 abbrev pub invariant-loop-number : goal.invariant-loop-number

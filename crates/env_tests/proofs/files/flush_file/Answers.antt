@@ -1,5 +1,5 @@
 use Rattle.std.proofs.Common.{rules}
-use Rattle.leveldb_env.specs.OpenFileLaws.{ends_as}
+use Rattle.leveldb_env.proofs.EnvFileLemmas.{ends_as}
 use Rattle.env_tests.proofs.files.flush_file.Goals as goal
 
 pub returns : goal.returns

@@ -2,8 +2,8 @@ use Rattle.std.proofs.Common.{◌++◌, ℕ, List, Result, Ok, Err}
 use Rattle.std.specs.Prelude.{OnOk, IfErr}
 use Rattle.std.proofs.lemmas.Result.{err_from_is_err_and}
 use Rattle.leveldb_base.specs.declared.error.Status.{Status}
-use Rattle.leveldb_env.specs.Sinks.{PutsAll, PutsPart}
-use Rattle.leveldb_env.specs.SinkLaws.{PutsAll-one, PutsAll-trans, PutsPart-one, PutsPart-trans}
+use Rattle.leveldb_env.specs.Sink.{PutsAll, PutsPart}
+use Rattle.leveldb_env.proofs.SinkLemmas.{PutsAll-one, PutsAll-trans, PutsPart-one, PutsPart-trans}
 use Rattle.env_tests.proofs.files.put_pair.Goals as goal
 
 module _ {S : Type 0} (puts : S → List ℕ → Result (Unit {0}) Status → S → Type 0) {from mid to : S} {first second : List ℕ} (before : puts from first (Ok tt) mid) where

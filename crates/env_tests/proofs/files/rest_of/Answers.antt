@@ -1,6 +1,6 @@
 use Rattle.std.proofs.Common.{Bor, List, ℕ}
 use Rattle.std.proofs.lemmas.Result.{MatchResult-weaker}
-use Rattle.leveldb_env.specs.SourceLaws.{GivesAll-first}
+use Rattle.leveldb_env.proofs.SourceLemmas.{GivesAll-first}
 use Rattle.env_tests.proofs.files.rest_of.Goals as goal
 
 pub returns : goal.returns

@@ -1,6 +1,6 @@
 use Rattle.std.proofs.Common.{◌==◌, ◌<◌, ◌≤◌, ◌≡◌, length, sym, refl, subst}
 use Rattle.std.specs.List.{position_or_len}
-use Rattle.leveldb_env.proofs.CoderLists.{replaced, pushed}
+use Rattle.leveldb_env.proofs.CompressorLemmas.{replaced, pushed}
 use Rattle.leveldb_env.proofs.compressor.put.Goals as goal
 
 pub returns-in-Some-clause-ok : goal.returns-in-Some-clause-ok

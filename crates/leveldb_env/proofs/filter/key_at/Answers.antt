@@ -1,6 +1,6 @@
-use Rattle.std.proofs.Common.{◌≡◌, ap, sym, ◌∙◌, take, drop, get_or, length, ◌-◌, ◌+◌, arith}
-use Rattle.leveldb_env.specs.Filters.{first_offset}
-use Rattle.leveldb_env.proofs.KeyCuts.{get_or-keys_at, first_offset-drop, first_offset-end}
+use Rattle.std.proofs.Common.{◌≡◌, ap, sym, ◌∙◌, drop, get_or, length, slice_range, ◌+◌, arith}
+use Rattle.leveldb_env.specs.Filter.{first_offset}
+use Rattle.leveldb_env.proofs.FilterLemmas.{get_or-keys_at, first_offset-drop, first_offset-end, slice_range-clamped}
 use Rattle.leveldb_env.proofs.filter.key_at.Goals as goal
 use Rattle.leveldb_env.proofs.filter.key_at.Goals.{then-index-key_offsets, else-index-key_offsets}
 
@@ -14,4 +14,7 @@ returns c =
       | then-index-key_offsets w ↦ w.end-is ∙ sym (first_offset-drop offsets (i + 1) (length keys) (omega arith))
       | else-index-key_offsets w ↦ w.end-is ∙ sym (first_offset-end offsets (i + 1) (length keys) (omega arith))
     ]
-    in ap (λ e. take (e - get_or offsets i 0) (drop (get_or offsets i 0) keys)) end ∙ sym (get_or-keys_at offsets keys i c.requires.there)
+    in let last = c.if-index-key_offsets.end
+    in let cut : slice_range keys c.min-begin.result c.max.result ≡ slice_range keys (get_or offsets i 0) last =
+    slice_range-clamped keys (get_or offsets i 0) last c.min-begin.result c.max.result (omega (arith, c.min-begin.ensures)) (omega (arith, c.max.ensures, c.min.ensures, c.min-begin.ensures))
+    in cut ∙ ap (λ e. slice_range keys (get_or offsets i 0) e) end ∙ sym (get_or-keys_at offsets keys i c.requires.there)

@@ -1,21 +1,13 @@
 use Rattle.std.proofs.Common.{◌≡◌, ◌-◌, ◌^◌, [], ◌∷◌, ◌++◌, length, replicate, sym, ap, subst, ◌∙◌, arith}
 use Rattle.std.specs.Prelude.{OnOk}
 use Rattle.std.proofs.lemmas.Result.{err_from_is_err_and}
-use Rattle.std.specs.List.{concat}
-use Rattle.leveldb_env.specs.Filters.{keys_at}
-use Rattle.leveldb_env.proofs.JoinedTexts.{cut_texts, offsets_rise, offsets_within}
-use Rattle.leveldb_env.proofs.FilterBuilds.{pushed_size, some_made, not_made, too_many, made_fits, on_ok}
+use Rattle.leveldb_env.specs.Filter.{keys_at}
+use Rattle.leveldb_env.proofs.FilterBlockLemmas.{cut_texts, pushed_size, some_made, not_made, too_many, made_fits, on_ok}
 use Rattle.leveldb_env.proofs.filter_block.make_filters.Goals as goal
 
 pub returns-then-len-eq0-clause-fits : goal.returns-then-len-eq0-clause-fits
 returns-then-len-eq0-clause-fits g c =
     pushed_size c.push.result c.args.filters.now c.push.new.self [] (c.args.count - 1) (2 ^ 32) c.push.ensures.ok c.push.ensures.err (omega (arith, c.requires.fits))
-
-pub create_filter-requires-clause-rising : goal.create_filter-requires-clause-rising
-create_filter-requires-clause-rising g c = rw c.offsets.ensures (offsets_rise 0 c.args.keys.now)
-
-pub create_filter-requires-clause-within : goal.create_filter-requires-clause-within
-create_filter-requires-clause-within g c = rw (c.offsets.ensures, c.bytes.ensures) (offsets_within 0 (length (concat c.args.keys.now)) c.args.keys.now (omega arith))
 
 pub returns-in_err-filter-clause-cause : goal.returns-in_err-filter-clause-cause
 returns-in_err-filter-clause-cause g c =

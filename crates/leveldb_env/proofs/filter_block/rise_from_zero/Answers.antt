@@ -1,6 +1,6 @@
 use Rattle.std.proofs.Common.{◌≡◌, ◌≤◌, length, true, false, arith}
 use Rattle.std.proofs.lemmas.List.{take_rest}
-use Rattle.leveldb_env.proofs.FilterBlocks.{begins_elsewhere, begins_here, falls, rise_on, rise_back, rise_end}
+use Rattle.leveldb_env.proofs.FilterBlockLemmas.{begins_elsewhere, begins_here, falls, rise_on, rise_back, rise_end}
 use Rattle.leveldb_env.proofs.filter_block.rise_from_zero.Goals as goal
 
 pub returns-then-read_u32-ne0 : goal.returns-then-read_u32-ne0

@@ -1,6 +1,5 @@
 use Rattle.std.proofs.Common.{◌↔◌, length}
-use Rattle.leveldb_env.specs.FilterBlockParts.{RiseFrom}
-use Rattle.leveldb_env.specs.Numbers.{numbers_in}
+use Rattle.leveldb_env.specs.FilterBlock.{RiseFrom, numbers_in}
 use Rattle.leveldb_env.proofs.filter_block.rise_from_zero.Given as goal
 
 abbrev pub invariant-loop-left : goal.invariant-loop-left

@@ -2,8 +2,7 @@ use Rattle.std.proofs.Common.{◌≡◌, ◌^◌, ◌<◌, ◌++◌, ◌∷◌, 
 use Rattle.std.specs.List.{All, concat}
 use Rattle.leveldb_base.specs.Varint.{little}
 use Rattle.leveldb_env.specs.FilterBlock.{offsets_from}
-use Rattle.leveldb_env.proofs.JoinedTexts.{offsets_small}
-use Rattle.leveldb_env.proofs.FilterBuilds.{put_block}
+use Rattle.leveldb_env.proofs.FilterBlockLemmas.{offsets_small, put_block}
 use Rattle.leveldb_env.proofs.filter_block.write_block.Goals as goal
 
 pub put_offsets-requires : goal.put_offsets-requires

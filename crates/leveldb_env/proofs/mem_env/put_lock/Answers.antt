@@ -1,7 +1,7 @@
 use Rattle.std.proofs.Common.{◌≡◌, ◌∙◌, true, string_bytes, rules}
 use Rattle.std.specs.BTreeSet.{contains_text}
-use Rattle.leveldb_env.specs.Disk.{lock_set}
-use Rattle.leveldb_env.proofs.Files.{locks_updated}
+use Rattle.leveldb_env.specs.Env.{lock_set}
+use Rattle.leveldb_env.proofs.MemEnvLemmas.{locks_updated}
 use Rattle.leveldb_env.proofs.mem_env.put_lock.Goals as goal
 
 pub returns-clause-ok : goal.returns-clause-ok

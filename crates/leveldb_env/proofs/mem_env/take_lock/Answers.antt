@@ -1,5 +1,5 @@
 use Rattle.std.proofs.Common.{false}
-use Rattle.leveldb_env.proofs.Files.{locks_updated}
+use Rattle.leveldb_env.proofs.MemEnvLemmas.{locks_updated}
 use Rattle.leveldb_env.proofs.mem_env.take_lock.Goals as goal
 
 pub returns-clause-freed : goal.returns-clause-freed

@@ -1,5 +1,5 @@
 use Rattle.std.proofs.Common.{arith}
-use Rattle.leveldb_mem.proofs.EntryKeys.{text_fits}
+use Rattle.leveldb_mem.proofs.MemTableLemmas.{text_fits}
 use Rattle.leveldb_mem.proofs.memtable.front_text.Goals as goal
 
 pub unreachable-requires : goal.unreachable-requires

@@ -1,7 +1,7 @@
 use Rattle.std.proofs.Common.{◌∙◌, sym, arith, ap, length}
 use Rattle.leveldb_base.specs.Varint.{sized}
 use Rattle.leveldb_base.proofs.KeyTypesLemmas.{inner_key-read}
-use Rattle.leveldb_mem.proofs.EntryKeys.{length-inner_key, read_value, first_there, second_there}
+use Rattle.leveldb_mem.proofs.MemTableLemmas.{length-inner_key, read_value, first_there, second_there}
 use Rattle.leveldb_mem.proofs.memtable.split_entry.Goals as goal
 
 pub front_text-first-requires : goal.front_text-first-requires

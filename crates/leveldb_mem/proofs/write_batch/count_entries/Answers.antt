@@ -1,6 +1,6 @@
 use Rattle.std.proofs.Common.{◌<◌, length, arith}
 use Rattle.std.proofs.lemmas.Bool.Decides.{nat_tests}
-use Rattle.leveldb_mem.proofs.Entries.{count_within, read_more, counts_none, shorter}
+use Rattle.leveldb_mem.proofs.WriteBatchLemmas.{count_within, read_more, counts_none, shorter}
 use Rattle.leveldb_mem.proofs.write_batch.count_entries.Goals as goal
 
 pub returns-in_err-others : goal.returns-in_err-others

@@ -1,5 +1,5 @@
 use Rattle.std.proofs.Common.{length}
-use Rattle.leveldb_mem.proofs.Entries.{HasRead}
+use Rattle.leveldb_mem.proofs.WriteBatchLemmas.{HasRead}
 use Rattle.leveldb_mem.proofs.write_batch.count_entries.Given as goal
 
 abbrev pub invariant-loop-rest : goal.invariant-loop-rest

@@ -1,7 +1,7 @@
 use Rattle.std.proofs.Common.{ap, ◌∙◌, arith}
 use Rattle.std.proofs.lemmas.List.{take_rest}
 use Rattle.byteorder.specs.Endian.{little_number}
-use Rattle.leveldb_mem.proofs.Entries.{batch_tested, batch_fits}
+use Rattle.leveldb_mem.proofs.WriteBatchLemmas.{batch_tested, batch_fits}
 use Rattle.leveldb_mem.proofs.write_batch.is_batch.Goals as goal
 
 pub returns-then-bytes-lt-HEADER_SIZE : goal.returns-then-bytes-lt-HEADER_SIZE

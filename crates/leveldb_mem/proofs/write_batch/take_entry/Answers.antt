@@ -1,5 +1,5 @@
 use Rattle.std.proofs.Common.{arith}
-use Rattle.leveldb_mem.proofs.Entries.{reads_nothing, reads_no_key, reads_no_value, reads_no_kind, reads_deletion, reads_value}
+use Rattle.leveldb_mem.proofs.WriteBatchLemmas.{reads_nothing, reads_no_key, reads_no_value, reads_no_kind, reads_deletion, reads_value}
 use Rattle.leveldb_mem.proofs.write_batch.take_entry.Goals as goal
 
 pub returns-in_err-kind : goal.returns-in_err-kind

@@ -1,6 +1,6 @@
 use Rattle.std.proofs.Common.{◌+◌, ◌++◌, drop, refl, sym, ◌∙◌, ap, arith, append_assoc, length-append}
 use Rattle.leveldb_base.specs.Varint.{varint}
-use Rattle.leveldb_table.proofs.Footers.{write_rest}
+use Rattle.leveldb_table.proofs.FooterLemmas.{write_rest}
 use Rattle.leveldb_table.proofs.block_builder.encode_lengths.Goals as goal
 
 pub returns-clause-written : goal.returns-clause-written

@@ -1,5 +1,5 @@
 use Rattle.std.proofs.Common.{◌≡◌, ◌<◌, length, take, subst, arith}
-use Rattle.leveldb_table.proofs.Builds.{front_differs, front_whole}
+use Rattle.leveldb_table.proofs.BlockBuilderLemmas.{front_differs, front_whole}
 use Rattle.leveldb_table.proofs.block_builder.shared_with.Goals as goal
 
 pub returns-then-last-i-clause-longest : goal.returns-then-last-i-clause-longest

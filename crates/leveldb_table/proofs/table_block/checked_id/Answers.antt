@@ -6,7 +6,7 @@ use Rattle.std.proofs.lemmas.List.{get_or-take}
 use Rattle.std.proofs.lemmas.Slice.Eq.{slice_eq-Decides}
 use Rattle.leveldb_base.specs.Crc.{masked}
 use Rattle.leveldb_table.specs.Table.{with_trailer}
-use Rattle.leveldb_table.proofs.TablePlaces.{sum_of, right_sum, trailer_from}
+use Rattle.leveldb_table.proofs.TableLemmas.{sum_of, right_sum, trailer_from}
 use Rattle.leveldb_table.proofs.table_block.checked_id.Goals as goal
 
 pub returns-then-ne-clause-none : goal.returns-then-ne-clause-none

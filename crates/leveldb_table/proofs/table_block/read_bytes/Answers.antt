@@ -2,39 +2,40 @@ use Rattle.std.proofs.Common.{◌≡◌, ◌+◌, ◌-◌, ◌<◌, ◌≤◌, �
 use Rattle.std.proofs.lemmas.List.{length-take-le, with_items_is}
 use Rattle.std.specs.Prelude.{IsTrue}
 use borrow.Rule.Slice.PartMut.{put_mid}
-use Rattle.leveldb_env.specs.Calls.{ReadsAt}
-use Rattle.leveldb_table.proofs.Gathering.{length-put_behind, take-put_behind, front_kept, gathers_none, gathers_more, ends_here, ends_within}
-use Rattle.leveldb_table.proofs.TableCalls.{Looks-trans, Looks-call, reads_ok, reads_own, reads_call, reads_then, reads_refused}
+use Rattle.leveldb_env.specs.Env.{ReadsFrom}
+use Rattle.leveldb_table.specs.TableBlock.{ForBytesOf}
+use Rattle.leveldb_table.proofs.TableBlockLemmas.{length-put_after, take-put_after, front_kept, gathers_none, gathers_more, ends_here, ends_within, FileHas-after, KeepsDisk-trans, reads_ok, reads_own, reads_then, reads_refused}
 use Rattle.leveldb_table.proofs.table_block.read_bytes.Goals as goal
 
 pub loop-alloc-init : goal.loop-alloc-init
-loop-alloc-init g c = record { gathers = gathers_none g.E.Env c.args.env.now c.args.file.now c.args.place c.new-read.result.items c.new-read.ensures.items; fits = omega (arith, ap length c.new-read.ensures.items) }
+loop-alloc-init g c = record { gathers = gathers_none g.E.Env c.args.env.now c.args.file.now c.args.offset c.new-read.result.items c.new-read.ensures.items; fits = omega (arith, ap length c.new-read.ensures.items) }
 
 pub returns-in_default-clause-reads : goal.returns-in_default-clause-reads
 returns-in_default-clause-reads g c =
     let so_far = c.loop-alloc.invariant.gathers in
     let read = c.loop-alloc.read.items in
-    let far = ends_within g.E.Env c.args.env.now c.loop-alloc.env c.args.file.now c.args.place read so_far c.args.size (omega arith) (λ near. c.in_default.ensures (omega arith)) in
-    reads_own g.E.Env c.err.result so_far.looks so_far.counted c.err.ensures.code (λ status code. inr (code, far))
+    let far = ends_within g.E.Env c.args.env.now c.loop-alloc.env c.args.file.now c.args.offset read so_far c.args.size (omega arith) (λ near. c.in_default.ensures (omega arith)) in
+    reads_own g.E.Env c.err.result so_far.kept_disk so_far.counted c.err.ensures.code (λ status code. inr (code, far))
 
 pub returns-in_err-resize-clause-reads : goal.returns-in_err-resize-clause-reads
 returns-in_err-resize-clause-reads g c =
     let so_far = c.loop-alloc.invariant.gathers in
-    reads_own g.E.Env c.from_residual.result so_far.looks so_far.counted c.from_residual.ensures.1 (λ status memory. inl memory)
+    reads_own g.E.Env c.from_residual.result so_far.kept_disk so_far.counted c.from_residual.ensures.1 (λ status memory. inl memory)
 
 pub returns-in_err-came-clause-reads : goal.returns-in_err-came-clause-reads
 returns-in_err-came-clause-reads g c =
     let so_far = c.loop-alloc.invariant.gathers in
     let call = c.in_err-came.ensures in
-    reads_then g.E.Env c.from_residual-in_err-came.result so_far.looks so_far.counted (λ status why. why)
-    (reads_refused g.E.Env {T = ℕ} c.from_residual-in_err-came.result c.from_residual-in_err-came.ensures.1 (reads_call g.E.Env _ call.does call.locks call.cause))
+    reads_then g.E.Env c.from_residual-in_err-came.result so_far.kept_disk so_far.counted
+    (λ status damaged. (damaged.0, λ bytes has. absurd (damaged.1 bytes (FileHas-after g.E.Env so_far.kept_disk has))))
+    (reads_refused g.E.Env {T = ℕ} c.from_residual-in_err-came.result c.from_residual-in_err-came.ensures.1 call.reads)
 
 pub returns-then-came-eq0-clause-reads : goal.returns-then-came-eq0-clause-reads
 returns-then-came-eq0-clause-reads g c =
     let so_far = c.loop-alloc.invariant.gathers in
     let read = c.loop-alloc.read.items in
     let grown = c.deref_mut.result.now in
-    let target = c.read_at.new.target in
+    let target = c.read_some.new.target in
     let call = c.in_ok-came.ensures in
     let known = c.len-known.result in
     let more = c.min-more.result in
@@ -43,23 +44,23 @@ returns-then-came-eq0-clause-reads g c =
     let least : more ≡ min (c.args.size - known) c.max.result = c.min-more.ensures in
     let len_is : length grown ≡ c.resize.new.self.len = c.deref_mut.ensures.len in
     let grew : c.resize.new.self.len ≡ known + more = c.in_ok-resize.ensures.len in
-    let room_is : length target ≡ length (take (length grown - known) (drop known grown)) = c.read_at.auto.target in
+    let room_is : length target ≡ length (take (length grown - known) (drop known grown)) = c.read_some.auto.target in
     let all : length grown ≡ known + more = len_is ∙ grew in
     let inside : known ≤ length grown = omega (arith, all) in
     let room : length target ≡ length grown - known = room_is ∙ length-take-le (length grown - known) (drop known grown) (omega (arith, length-drop known grown)) in
     let some : 0 < length target = omega (arith, c.loop-alloc-test.true) in
-    let none = subst (λ n. IsTrue g.E.Env.tells_disk → ReadsAt ((g.E.Env.tells c.loop-alloc.env).disk.files (g.E.Env.name_of c.args.file.now)) c.in-Some.next n target) c.if-came-eq0.true call.bytes in
-    let counted = call.cause.ok ∙ so_far.counted in
-    let looks = Looks-trans g.E.Env so_far.looks (Looks-call g.E.Env call.does call.locks) in
-    let ends = ends_here g.E.Env c.args.env.now c.loop-alloc.env c.args.file.now c.args.place read so_far c.args.size c.in-Some.next target (omega arith) (omega arith) some none in
-    reads_own g.E.Env c.err-then-came-eq0.result looks counted c.err-then-came-eq0.ensures.code (λ status code. inr (code, ends))
+    let none = subst (λ n. ForBytesOf g.E.Env c.loop-alloc.env c.args.file.now (ReadsFrom c.in-Some.next n target)) c.if-came-eq0.true call.bytes in
+    let counted = call.reads.cause.ok ∙ so_far.counted in
+    let kept_disk = KeepsDisk-trans g.E.Env so_far.kept_disk call.reads.kept_disk in
+    let ends = ends_here g.E.Env c.args.env.now c.loop-alloc.env c.args.file.now c.args.offset read so_far c.args.size c.in-Some.next target (omega arith) (omega arith) some none in
+    reads_own g.E.Env c.err-then-came-eq0.result kept_disk counted c.err-then-came-eq0.ensures.code (λ status code. inr (code, ends))
 
 pub loop-alloc-preserved : goal.loop-alloc-preserved
 loop-alloc-preserved g c =
     let so_far = c.loop-alloc.invariant.gathers in
     let read = c.loop-alloc.read.items in
     let grown = c.deref_mut.result.now in
-    let target = c.read_at.new.target in
+    let target = c.read_some.new.target in
     let call = c.in_ok-came.ensures in
     let known = c.len-known.result in
     let more = c.min-more.result in
@@ -68,19 +69,19 @@ loop-alloc-preserved g c =
     let least : more ≡ min (c.args.size - known) c.max.result = c.min-more.ensures in
     let len_is : length grown ≡ c.resize.new.self.len = c.deref_mut.ensures.len in
     let grew : c.resize.new.self.len ≡ known + more = c.in_ok-resize.ensures.len in
-    let room_is : length target ≡ length (take (length grown - known) (drop known grown)) = c.read_at.auto.target in
+    let room_is : length target ≡ length (take (length grown - known) (drop known grown)) = c.read_some.auto.target in
     let all : length grown ≡ known + more = len_is ∙ grew in
     let inside : known ≤ length grown = omega (arith, all) in
     let room : length target ≡ length grown - known = room_is ∙ length-take-le (length grown - known) (drop known grown) (omega (arith, length-drop known grown)) in
     let came = c.in_ok-came.came in
     let held = put_mid known (length grown - known) grown target in
-    let count : length held ≡ c.resize.new.self.len = length-put_behind grown target known inside room ∙ len_is in
+    let count : length held ≡ c.resize.new.self.len = length-put_after grown target known inside room ∙ len_is in
     let fits : came ≤ length target = call.fits in
     let front : take known grown ≡ read = ap (take known) (c.deref_mut.ensures.value ∙ c.in_ok-resize.ensures.items) ∙ front_kept read _ known more known_is in
     let now : c.truncate.new.self.items ≡ read ++ take came target =
-    c.truncate.ensures.items ∙ ap (take (known + came)) (with_items_is c.resize.new.self held count) ∙ take-put_behind grown target known inside (length grown - known) came fits ∙ ap (λ z. z ++ take came target) front in
+    c.truncate.ensures.items ∙ ap (take (known + came)) (with_items_is c.resize.new.self held count) ∙ take-put_after grown target known inside (length grown - known) came fits ∙ ap (λ z. z ++ take came target) front in
     record {
-      gathers = gathers_more g.E.Env c.args.env.now c.loop-alloc.env c.args.file.now c.args.place read so_far c.in-Some.next came target c.truncate.new.self.items (omega arith) fits now call.does call.locks call.cause call.bytes;
+      gathers = gathers_more g.E.Env c.args.env.now c.loop-alloc.env c.args.file.now c.args.offset read so_far c.in-Some.next came target c.truncate.new.self.items (omega arith) fits now call.reads.kept_disk call.reads.cause.ok call.bytes;
       fits = omega (arith, ap length now, length-append read (take came target), length-take came target);
     }
 
@@ -93,11 +94,11 @@ loop-alloc-smaller g c =
     omega (arith, c.loop-alloc-test.true, c.truncate.new.self.ok.0)
 
 pub returns-clause-reads : goal.returns-clause-reads
-returns-clause-reads g c = reads_ok g.E.Env c.loop-alloc.invariant.gathers.looks c.loop-alloc.invariant.gathers.counted
+returns-clause-reads g c = reads_ok g.E.Env c.loop-alloc.invariant.gathers.kept_disk c.loop-alloc.invariant.gathers.counted
 
 pub returns-clause-size : goal.returns-clause-size
 returns-clause-size g c = omega arith
 
 pub returns-clause-ok : goal.returns-clause-ok
 returns-clause-ok g c = λ bytes has.
-    c.loop-alloc.invariant.gathers.bytes bytes has ∙ ap (λ n. take n (drop c.args.place bytes)) (let size : length c.loop-alloc.read.items ≡ c.args.size = omega arith in size)
+    c.loop-alloc.invariant.gathers.bytes bytes has ∙ ap (λ n. take n (drop c.args.offset bytes)) (let size : length c.loop-alloc.read.items ≡ c.args.size = omega arith in size)

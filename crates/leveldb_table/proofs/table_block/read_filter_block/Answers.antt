@@ -1,8 +1,8 @@
 use Rattle.std.proofs.Common.{sym, subst, inl, inr, ⊎_elim}
 use Rattle.std.proofs.lemmas.Result.{IfErr-weaker}
 use Rattle.leveldb_env.specs.FilterBlock.{IsFilterBlock}
-use Rattle.leveldb_table.proofs.TableCalls.{damaged_or_memory, reads_ends, reads_own, reads_weaker, reads_refused}
-use Rattle.leveldb_table.proofs.TablePlaces.{stores_one}
+use Rattle.leveldb_table.proofs.TableBlockLemmas.{damaged_or_memory, reads_ends, reads_own, reads_weaker, reads_refused}
+use Rattle.leveldb_table.proofs.TableLemmas.{stores_one}
 use Rattle.leveldb_table.proofs.table_block.read_filter_block.Goals as goal
 
 pub returns-in_err-id-clause-reads : goal.returns-in_err-id-clause-reads
@@ -13,14 +13,14 @@ returns-in_err-id-clause-reads g c =
 pub returns-then-id-ne0-clause-reads : goal.returns-then-id-ne0-clause-reads
 returns-then-id-ne0-clause-reads g c =
     let before = c.in_ok-id.ensures.reads in
-    reads_own g.E.Env c.err-then-id-ne0.result before.looks before.cause.ok c.err-then-id-ne0.ensures.code
+    reads_own g.E.Env c.err-then-id-ne0.result before.kept_disk before.cause.ok c.err-then-id-ne0.ensures.code
     (λ status code. inr (inr (code, λ bytes has text filters there block. absurd (c.if-id-ne0.true (stores_one (c.in_ok-id.ensures.ok bytes has) there).0))))
 
 pub returns-clause-reads : goal.returns-clause-reads
 returns-clause-reads g c =
     let before = c.in_ok-id.ensures.reads in
     let result = c.new_owned.result in
-    reads_ends g.E.Env result before.looks before.cause.ok
+    reads_ends g.E.Env result before.kept_disk before.cause.ok
     (IfErr-weaker result _ _ (λ status why. ⊎_elim (λ memory. inl memory) (λ damaged. inr (inr (
       damaged.0,
       λ bytes has text filters there block.

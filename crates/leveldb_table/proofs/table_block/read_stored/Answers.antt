@@ -2,19 +2,19 @@ use Rattle.std.proofs.Common.{◌≡◌, length, take, sym, ◌∙◌, ap, inr, 
 use Rattle.std.proofs.lemmas.List.{length-take-le}
 use Rattle.leveldb_base.specs.BlockHandle.{HandleFits}
 use Rattle.leveldb_table.specs.Table.{with_trailer}
-use Rattle.leveldb_table.proofs.TableCalls.{reads_own}
-use Rattle.leveldb_table.proofs.TablePlaces.{read_as, stands_as, stores_from}
+use Rattle.leveldb_table.proofs.TableBlockLemmas.{reads_own}
+use Rattle.leveldb_table.proofs.TableLemmas.{read_as, is_there_as, stores_from}
 use Rattle.leveldb_table.proofs.table_block.read_stored.Goals as goal
 
 pub returns-in_default-checked_id-clause-reads : goal.returns-in_default-checked_id-clause-reads
 returns-in_default-checked_id-clause-reads g c =
     let before = c.in_ok-stored.ensures.reads in
-    reads_own g.E.Env c.err-in_default-checked_id.result before.looks before.cause.ok c.err-in_default-checked_id.ensures.code
+    reads_own g.E.Env c.err-in_default-checked_id.result before.kept_disk before.cause.ok c.err-in_default-checked_id.ensures.code
     (λ status code. inr (
       code,
       λ bytes has id stored there.
           let read = read_as bytes c.args.location (c.in_ok-stored.ensures.ok bytes has) c.offset-offset.ensures c.size-size.ensures c.in-Some.ensures.1 in
-          c.in_default-checked_id.ensures.none id stored (there.size ∙ sym c.size-size.ensures) (c.deref.ensures.value ∙ read ∙ stands_as there),
+          c.in_default-checked_id.ensures.none id stored (there.size ∙ sym c.size-size.ensures) (c.deref.ensures.value ∙ read ∙ is_there_as there),
     ))
 
 pub returns-clause-ok : goal.returns-clause-ok

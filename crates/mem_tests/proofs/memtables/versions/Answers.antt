@@ -1,5 +1,5 @@
 use Rattle.std.proofs.Common.{arith}
-use Rattle.leveldb_mem.specs.EntryLaws.{none_up_to, one_up_to}
+use Rattle.leveldb_mem.proofs.EntryLemmas.{none_up_to, one_up_to}
 use Rattle.mem_tests.proofs.memtables.versions.Goals as goal
 
 pub returns : goal.returns

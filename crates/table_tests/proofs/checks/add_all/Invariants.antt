@@ -1,5 +1,5 @@
 use Rattle.std.proofs.Common.{◌≡◌, ◌<◌}
-use Rattle.leveldb_table.specs.TableBuilding.{order_of, last_of}
+use Rattle.leveldb_table.specs.TableBuilder.{order_of, last_of}
 use Rattle.table_tests.proofs.checks.add_all.Given as goal
 
 abbrev pub invariant-loop-key : goal.invariant-loop-key

@@ -1,5 +1,5 @@
 use Rattle.std.proofs.Common.{rules, ◌≡◌, ◌∙◌, true, false, sym, inl, inr}
-use Rattle.leveldb_env.proofs.CoderLists.{coding_here, coding_beyond, plain_here, plain_not}
+use Rattle.leveldb_env.proofs.CompressorLemmas.{coding_here, coding_beyond, plain_here, plain_not}
 use Rattle.leveldb_env.proofs.compressor.CompressorList.found.Goals as goal
 
 pub returns-in-Some : goal.returns-in-Some

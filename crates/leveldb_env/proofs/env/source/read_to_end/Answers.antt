@@ -1,5 +1,5 @@
 use Rattle.std.proofs.Common.{rules, ◌<◌, length, take, length-take, arith}
-use Rattle.leveldb_env.specs.SourceLaws.{GivesSome-more}
+use Rattle.leveldb_env.proofs.SourceLemmas.{GivesSome-more}
 use Rattle.leveldb_env.proofs.env.source.read_to_end.Goals as goal
 
 pub loop-all-preserved : goal.loop-all-preserved

@@ -1,5 +1,5 @@
 use Rattle.std.proofs.Common.{◌≡◌, ◌-◌, ◌^◌, length, vec_len}
-use Rattle.leveldb_env.specs.Sources.{GivesSome}
+use Rattle.leveldb_env.specs.Source.{GivesSome}
 use Rattle.leveldb_env.proofs.env.source.read_to_end.Given as goal
 
 abbrev pub invariant-loop-all : goal.invariant-loop-all

@@ -1,14 +1,14 @@
 use Rattle.std.proofs.Common.{◌≡◌, ◌%◌, ap, sym, ◌∙◌, arith, length, [], ◌∷◌, ◌++◌, drop}
 use Rattle.std.proofs.lemmas.Bool.{eqb-true, eqb-false}
-use Rattle.leveldb_env.specs.Bloom.{hash_behind}
-use Rattle.leveldb_env.proofs.BloomHashes.{hash_behind-none, hash_behind-rest, bloom_hash-words}
+use Rattle.leveldb_env.specs.Bloom.{hash_after}
+use Rattle.leveldb_env.proofs.BloomLemmas.{hash_after-none, hash_after-rest, bloom_hash-words}
 use Rattle.leveldb_env.proofs.filter.bloom.bloom_hash.Goals as goal
 
 pub returns-then-is_empty : goal.returns-then-is_empty
 returns-then-is_empty c =
     let rest = c.as_chunks.result.1.now
-    in hash_behind-none c.behind_words-hash.result rest (eqb-true (length rest) 0 (sym c.is_empty.ensures ∙ c.if-is_empty.true))
-    ∙ ap (λ hash. hash_behind hash rest) c.behind_words-hash.ensures
+    in hash_after-none c.hash_words-hash.result rest (eqb-true (length rest) 0 (sym c.is_empty.ensures ∙ c.if-is_empty.true))
+    ∙ ap (λ hash. hash_after hash rest) c.hash_words-hash.ensures
     ∙ bloom_hash-words c.args.key.now rest c.as_chunks.result.0.now c.as_chunks.ensures.front c.as_chunks.ensures.back
 
 pub returns : goal.returns
@@ -17,7 +17,7 @@ returns c =
     in let left : length rest ≡ length c.args.key.now % 4 = c.as_chunks.ensures.back_len
     in let some : length rest ≡ 0 → ⊥ = eqb-false (length rest) 0 (sym c.is_empty.ensures ∙ c.if-is_empty.false)
     in c.mixed.ensures
-    ∙ hash_behind-rest c.behind_words-hash.result rest (c.copy_from_slice.new.self ++ drop (length rest) (0 ∷ 0 ∷ 0 ∷ 0 ∷ []))
+    ∙ hash_after-rest c.hash_words-hash.result rest (c.copy_from_slice.new.self ++ drop (length rest) (0 ∷ 0 ∷ 0 ∷ 0 ∷ []))
     (omega (arith, some)) (omega (arith, left)) (ap (λ bytes. bytes ++ drop (length rest) (0 ∷ 0 ∷ 0 ∷ 0 ∷ [])) c.copy_from_slice.ensures.after)
-    ∙ ap (λ hash. hash_behind hash rest) c.behind_words-hash.ensures
+    ∙ ap (λ hash. hash_after hash rest) c.hash_words-hash.ensures
     ∙ bloom_hash-words c.args.key.now rest c.as_chunks.result.0.now c.as_chunks.ensures.front c.as_chunks.ensures.back

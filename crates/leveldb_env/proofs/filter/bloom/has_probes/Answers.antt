@@ -3,9 +3,8 @@ use Rattle.std.proofs.lemmas.List.{take_all}
 use Rattle.std.proofs.lemmas.List.Folds.{list_all_more}
 use Rattle.std.specs.List.{list_all}
 use Rattle.leveldb_env.specs.Bloom.{probes, has_bit, bits_of, count_in}
-use Rattle.leveldb_env.specs.BloomLaws.{length-probes, get_or-probes}
-use Rattle.leveldb_env.proofs.BloomBits.{has_bit-clear, has_bit-found, list_all-fails}
-use Rattle.leveldb_env.proofs.BloomHashes.{hash_at-more}
+use Rattle.leveldb_env.specs.FilterLaws.{length-probes, get_or-probes}
+use Rattle.leveldb_env.proofs.BloomLemmas.{has_bit-clear, has_bit-found, list_all-fails, hash_at-more}
 use Rattle.leveldb_env.proofs.filter.bloom.has_probes.Goals as goal
 
 pub returns-then-filter-bit-eq0 : goal.returns-then-filter-bit-eq0

@@ -2,7 +2,7 @@ use Rattle.std.proofs.Common.{◌≡◌, true, take}
 use Rattle.std.specs.List.{list_all}
 use Rattle.std.specs.Int.{w32, rotate_left}
 use Rattle.leveldb_env.specs.Bloom.{bloom_hash, probes, has_bit, bits_of, count_in}
-use Rattle.leveldb_env.proofs.BloomHashes.{hash_at}
+use Rattle.leveldb_env.proofs.BloomLemmas.{hash_at}
 use Rattle.leveldb_env.proofs.filter.bloom.has_probes.Given as goal
 
 abbrev pub invariant-loop : goal.invariant-loop

@@ -1,5 +1,5 @@
 use Rattle.std.proofs.Common.{arith}
-use Rattle.leveldb_env.proofs.BloomBits.{has_bit-set}
+use Rattle.leveldb_env.proofs.BloomLemmas.{has_bit-set}
 use Rattle.leveldb_env.proofs.filter.bloom.set_bit.Goals as goal
 
 pub returns : goal.returns

@@ -3,10 +3,10 @@ use Rattle.std.specs.Prelude.{◌==◌}
 use Rattle.std.specs.List.{list_any}
 use Rattle.std.proofs.Math.Bool.{or-false}
 use Rattle.std.proofs.lemmas.List.{take_all}
-use Rattle.leveldb_env.specs.Filters.{keys_at}
+use Rattle.leveldb_env.specs.Filter.{keys_at}
 use Rattle.leveldb_env.specs.Bloom.{probes, has_bit, is_probe}
-use Rattle.leveldb_env.proofs.KeyCuts.{length-keys_at}
-use Rattle.leveldb_env.proofs.BloomBits.{is_probe-more}
+use Rattle.leveldb_env.proofs.FilterLemmas.{length-keys_at}
+use Rattle.leveldb_env.proofs.BloomLemmas.{is_probe-more}
 use Rattle.leveldb_env.proofs.filter.bloom.set_keys.Goals as goal
 
 pub loop-i-init : goal.loop-i-init

@@ -1,6 +1,6 @@
 use Rattle.std.proofs.Common.{◌≡◌, ◌<◌, ◌*◌, ◌||◌, ℕ, length, take}
 use Rattle.std.specs.Prelude.{slice_index}
-use Rattle.leveldb_env.specs.Filters.{keys_at}
+use Rattle.leveldb_env.specs.Filter.{keys_at}
 use Rattle.leveldb_env.specs.Bloom.{has_bit, is_probe}
 use Rattle.leveldb_env.proofs.filter.bloom.set_keys.Given as goal
 

@@ -5,9 +5,8 @@ use Rattle.std.proofs.lemmas.List.{take_all}
 use Rattle.std.specs.List.{list_any}
 use Rattle.std.specs.Int.{w32, rotate_left}
 use Rattle.leveldb_env.specs.Bloom.{probes, has_bit}
-use Rattle.leveldb_env.specs.BloomLaws.{length-probes, get_or-probes}
-use Rattle.leveldb_env.proofs.BloomBits.{has_bit-more}
-use Rattle.leveldb_env.proofs.BloomHashes.{hash_at-first, hash_at-more}
+use Rattle.leveldb_env.specs.FilterLaws.{length-probes, get_or-probes}
+use Rattle.leveldb_env.proofs.BloomLemmas.{has_bit-more, hash_at-first, hash_at-more}
 use Rattle.leveldb_env.proofs.filter.bloom.set_probes.Goals as goal
 
 pub loop-init : goal.loop-init

@@ -3,7 +3,7 @@ use Rattle.std.specs.Prelude.{◌==◌}
 use Rattle.std.specs.List.{list_any}
 use Rattle.std.specs.Int.{w32, rotate_left}
 use Rattle.leveldb_env.specs.Bloom.{bloom_hash, probes, has_bit}
-use Rattle.leveldb_env.proofs.BloomHashes.{hash_at}
+use Rattle.leveldb_env.proofs.BloomLemmas.{hash_at}
 use Rattle.leveldb_env.proofs.filter.bloom.set_probes.Given as goal
 
 pub record Setting (count counter bits delta probe : ℕ) (key before bytes : List ℕ) : Type 0 where

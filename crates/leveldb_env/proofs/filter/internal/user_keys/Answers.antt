@@ -1,11 +1,9 @@
-use Rattle.std.proofs.Common.{◌≡◌, ℕ, ◌+◌, ◌<◌, ◌≤◌, List, [], ◌∷◌, ◌++◌, ap, ap₂, sym, subst, ◌∙◌, arith, length, map, take, get_or}
-use Rattle.std.specs.List.{concat, All}
-use Rattle.std.specs.List.Sorted.{IsNonDecreasing}
+use Rattle.std.proofs.Common.{◌≡◌, ◌+◌, ◌<◌, ◌≤◌, [], ◌∷◌, ◌++◌, ap, ap₂, sym, ◌∙◌, arith, length, map, take, get_or}
+use Rattle.std.specs.List.{concat}
 use Rattle.std.proofs.lemmas.List.{map_more, take_all}
 use Rattle.leveldb_base.specs.KeyTypes.{user_part}
-use Rattle.leveldb_env.specs.Filters.{keys_at}
-use Rattle.leveldb_env.proofs.KeyCuts.{length-keys_at}
-use Rattle.leveldb_env.proofs.KeyStarts.{starts, starts-more, concat-more, starts-within, starts-rising, keys_at-starts}
+use Rattle.leveldb_env.specs.Filter.{keys_at}
+use Rattle.leveldb_env.proofs.FilterLemmas.{length-keys_at, starts, starts-more, concat-more, keys_at-starts}
 use Rattle.leveldb_env.proofs.filter.internal.user_keys.Goals as goal
 
 pub loop-i-preserved : goal.loop-i-preserved
@@ -28,15 +26,3 @@ returns-clause-keys c =
     in let users = map user_part (take c.loop-i.i keys)
     in let all : length keys ≤ c.loop-i.i = omega (arith, length-keys_at c.args.key_offsets.now c.args.keys.now)
     in ap₂ keys_at c.loop-i.invariant.1 c.loop-i.invariant.0 ∙ keys_at-starts users ∙ ap (map user_part) (take_all c.loop-i.i keys all)
-
-pub returns-clause-rising : goal.returns-clause-rising
-returns-clause-rising c =
-    let users = map user_part (take c.loop-i.i (keys_at c.args.key_offsets.now c.args.keys.now))
-    in subst IsNonDecreasing (sym c.loop-i.invariant.1) (starts-rising users)
-
-pub returns-clause-within : goal.returns-clause-within
-returns-clause-within c =
-    let users = map user_part (take c.loop-i.i (keys_at c.args.key_offsets.now c.args.keys.now))
-    in let within : All (λ offset. offset ≤ length (concat users)) c.loop-i.offsets.items =
-    subst (λ (offsets : List ℕ). All (λ offset. offset ≤ length (concat users)) offsets) (sym c.loop-i.invariant.1) (starts-within users)
-    in subst (λ (bytes : List ℕ). All (λ offset. offset ≤ length bytes) c.loop-i.offsets.items) (sym c.loop-i.invariant.0) within

@@ -1,8 +1,8 @@
 use Rattle.std.proofs.Common.{◌≡◌, map, take}
 use Rattle.std.specs.List.{concat}
 use Rattle.leveldb_base.specs.KeyTypes.{user_part}
-use Rattle.leveldb_env.specs.Filters.{keys_at}
-use Rattle.leveldb_env.proofs.KeyStarts.{starts}
+use Rattle.leveldb_env.specs.Filter.{keys_at}
+use Rattle.leveldb_env.proofs.FilterLemmas.{starts}
 use Rattle.leveldb_env.proofs.filter.internal.user_keys.Given as goal
 
 abbrev pub invariant-loop-i : goal.invariant-loop-i

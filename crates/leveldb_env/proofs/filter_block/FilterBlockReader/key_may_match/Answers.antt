@@ -1,7 +1,7 @@
 use Rattle.std.proofs.Common.{◌+◌, ◌-◌, ◌/◌, true, length, take, drop, get_or, slice_get, sym, ap, ◌∙◌, arith}
 use Rattle.std.specs.Option.{option_map_or}
-use Rattle.leveldb_env.specs.FilterBlockParts.{places_from}
-use Rattle.leveldb_env.proofs.FilterBlocks.{filter_read, same_filters, same_policy}
+use Rattle.leveldb_env.specs.FilterBlock.{places_from}
+use Rattle.leveldb_env.proofs.FilterBlockLemmas.{filter_read, same_filters, same_policy}
 use Rattle.leveldb_env.proofs.filter_block.FilterBlockReader.key_may_match.Goals as goal
 
 pub slice_bounds-key_may_match-count : goal.slice_bounds-key_may_match-count

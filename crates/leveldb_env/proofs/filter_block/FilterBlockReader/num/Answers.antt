@@ -1,5 +1,5 @@
 use Rattle.std.proofs.Common.{arith, ap, length}
-use Rattle.leveldb_env.proofs.FilterBlocks.{whole_size, same_filters}
+use Rattle.leveldb_env.proofs.FilterBlockLemmas.{whole_size, same_filters}
 use Rattle.leveldb_env.proofs.filter_block.FilterBlockReader.num.Goals as goal
 
 pub overflow_sub-result : goal.overflow_sub-result

@@ -1,8 +1,8 @@
 use Rattle.std.proofs.Common.{◌+◌, ◌*◌, ◌≤◌, length, drop, get_or, ap, ◌∙◌, arith, length-drop}
 use Rattle.std.proofs.lemmas.List.{take_rest}
 use Rattle.byteorder.specs.Endian.{little_number}
-use Rattle.leveldb_env.specs.FilterBlockParts.{places_from}
-use Rattle.leveldb_env.proofs.FilterBlocks.{whole_size, place_read, same_filters}
+use Rattle.leveldb_env.specs.FilterBlock.{places_from}
+use Rattle.leveldb_env.proofs.FilterBlockLemmas.{whole_size, place_read, same_filters}
 use Rattle.leveldb_env.proofs.filter_block.FilterBlockReader.place.Goals as goal
 
 pub overflow_mul-index : goal.overflow_mul-index

@@ -1,8 +1,8 @@
 use Rattle.std.proofs.Common.{◌≡◌, ◌∙◌, sym, ap, subst, rules}
-use Rattle.leveldb_env.specs.Disk.{Leaves}
-use Rattle.leveldb_env.specs.Mem.{files_of}
+use Rattle.leveldb_env.specs.Env.{FilesCrashTo}
+use Rattle.leveldb_env.specs.MemEnv.{files_of}
 use Rattle.leveldb_env.specs.Picks.{IsAllowed, picked, tails_of}
-use Rattle.leveldb_env.proofs.PickLaws.{Leaves-picked, leaves_by_tails}
+use Rattle.leveldb_env.proofs.PicksLemmas.{FilesCrashTo-picked, leaves_by_tails}
 use Rattle.leveldb_env.proofs.mem_env.MemEnv.crashed.Goals as goal
 
 pub returns-then-not-is_allowed-clause-every : goal.returns-then-not-is_allowed-clause-every
@@ -17,7 +17,7 @@ returns-clause-leaves c =
     let tails = tails_of c.args.pick.now.tails.items in
     let allowed : IsAllowed files tails = subst (λ given. IsAllowed files (tails_of given)) c.as_slice.ensures.value (c.is_allowed.ensures.0 c.if-not-is_allowed.false) in
     let left : files_of c.in_ok-left_files.field-0 ≡ picked tails files = c.in_ok-left_files.ensures ∙ ap (λ given. picked (tails_of given) files) c.as_slice-2.ensures.value in
-    record { files = subst (Leaves files) (sym left) (Leaves-picked files tails allowed); free = λ name. search rules }
+    record { files = subst (FilesCrashTo files) (sym left) (FilesCrashTo-picked files tails allowed); free = λ name. search rules }
 
 pub returns-clause-every : goal.returns-clause-every
 returns-clause-every c = leaves_by_tails c.args.self.now.files

@@ -1,6 +1,6 @@
 use Rattle.std.proofs.Common.{rules}
-use Rattle.leveldb_env.specs.Mem.{handle_name}
-use Rattle.leveldb_env.proofs.Appends.{appends}
+use Rattle.leveldb_env.specs.MemEnv.{handle_name}
+use Rattle.leveldb_env.proofs.MemEnvLemmas.{appends}
 use Rattle.leveldb_env.proofs.mem_env.MemEnvEnv.TheImpl.Goals as goal
 
 pub append-tells : goal.append-tells

@@ -1,7 +1,7 @@
 use Rattle.std.proofs.Common.{◌≡◌, ◌∙◌, false, ap, rules}
 use Rattle.std.specs.BTreeSet.{contains_text}
-use Rattle.leveldb_env.specs.Disk.{lock_set}
-use Rattle.leveldb_env.proofs.Locks.{lock_undone}
+use Rattle.leveldb_env.specs.Env.{lock_set}
+use Rattle.leveldb_env.proofs.MemEnvLemmas.{lock_undone}
 use Rattle.leveldb_env.proofs.mem_env.MemEnvEnv.lock.Goals as goal
 
 pub returns-in-Err-clause-err : goal.returns-in-Err-clause-err

@@ -1,6 +1,6 @@
 use Rattle.std.proofs.Common.{◌∷◌, ◌++◌, ◌∙◌, ap, sym, lit<}
 use Rattle.std.proofs.lemmas.Str.Pattern.{strip_prefix_char}
-use Rattle.leveldb_env.proofs.Folders.{child_under-none, child_under-stripped}
+use Rattle.leveldb_env.proofs.MemEnvLemmas.{child_under-none, child_under-stripped}
 use Rattle.leveldb_env.proofs.mem_env.files.child_of.Goals as goal
 
 pub returns-in_err-strip_prefix : goal.returns-in_err-strip_prefix

@@ -1,5 +1,5 @@
 use Rattle.std.proofs.lemmas.Result.{MatchResult-weaker}
-use Rattle.leveldb_env.proofs.Copies.{files_of-copy}
+use Rattle.leveldb_env.proofs.MemEnvLemmas.{files_of-copy}
 use Rattle.leveldb_env.proofs.mem_env.files.copy_files.Goals as goal
 
 pub returns : goal.returns

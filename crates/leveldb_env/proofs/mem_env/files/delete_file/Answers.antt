@@ -1,5 +1,5 @@
 use Rattle.std.proofs.Common.{None}
-use Rattle.leveldb_env.proofs.Files.{files_updated}
+use Rattle.leveldb_env.proofs.MemEnvLemmas.{files_updated}
 use Rattle.leveldb_env.proofs.mem_env.files.delete_file.Goals as goal
 
 pub returns-clause-deleted : goal.returns-clause-deleted

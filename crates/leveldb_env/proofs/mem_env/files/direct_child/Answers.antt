@@ -1,8 +1,8 @@
 use Rattle.std.proofs.Common.{◌∙◌, ap, sym, Some, None, cond, lit<}
 use Rattle.std.specs.Option.{option_and_then}
 use Rattle.std.proofs.lemmas.Str.Pattern.{contains_char}
-use Rattle.leveldb_env.specs.Folders.{without_slash}
-use Rattle.leveldb_env.proofs.Folders.{has_slash}
+use Rattle.leveldb_env.specs.MemEnv.{without_slash}
+use Rattle.leveldb_env.proofs.MemEnvLemmas.{has_slash}
 use Rattle.leveldb_env.proofs.mem_env.files.direct_child.Goals as goal
 
 pub returns-in-Some : goal.returns-in-Some

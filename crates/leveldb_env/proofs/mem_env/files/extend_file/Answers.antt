@@ -1,6 +1,6 @@
 use Rattle.std.proofs.lemmas.Result.{err_from_is_err_and}
-use Rattle.leveldb_env.specs.Disk.{longer_file}
-use Rattle.leveldb_env.proofs.Files.{files_written, files_unwritten}
+use Rattle.leveldb_env.specs.Env.{longer_file}
+use Rattle.leveldb_env.proofs.MemEnvLemmas.{files_written, files_unwritten}
 use Rattle.leveldb_env.proofs.mem_env.files.extend_file.Goals as goal
 
 pub returns-clause-ok : goal.returns-clause-ok

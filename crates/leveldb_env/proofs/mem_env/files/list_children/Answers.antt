@@ -1,8 +1,7 @@
 use Rattle.std.proofs.Common.{◌≡◌, ◌++◌, List, map, string_bytes, sym, ◌∙◌, ap, subst, append-nil}
-use Rattle.leveldb_env.specs.Calls.{Lists}
-use Rattle.leveldb_env.specs.Mem.{files_of}
-use Rattle.leveldb_env.proofs.Folders.{children_in, Lists-children_in}
-use Rattle.leveldb_env.proofs.Names.{names_of, are_names}
+use Rattle.leveldb_env.specs.Env.{ListsChildren}
+use Rattle.leveldb_env.specs.MemEnv.{files_of}
+use Rattle.leveldb_env.proofs.MemEnvLemmas.{children_in, ListsChildren-children_in, names_of, are_names}
 use Rattle.leveldb_env.proofs.mem_env.files.list_children.Goals as goal
 
 pub returns : goal.returns
@@ -12,4 +11,4 @@ returns c =
     let found = map string_bytes c.loop-name.children.items in
     let all : found ≡ children_in folder (names_of files) =
     sym (append-nil found) ∙ ap (λ (rest : List _). found ++ children_in folder (map string_bytes rest)) (sym c.in-None.ensures.steps.0) ∙ c.loop-name.invariant in
-    subst (Lists (files_of files) folder) (sym all) (Lists-children_in (files_of files) folder (names_of files) (are_names files c.keys-name-items.ensures.ordered))
+    subst (ListsChildren (files_of files) folder) (sym all) (ListsChildren-children_in (files_of files) folder (names_of files) (are_names files c.keys-name-items.ensures.ordered))

@@ -1,6 +1,6 @@
 use Rattle.std.proofs.Common.{◌≡◌, ◌++◌, map, string_bytes}
 use Rattle.std.specs.BTreeMap.{keys}
-use Rattle.leveldb_env.proofs.Folders.{children_in}
+use Rattle.leveldb_env.proofs.MemEnvLemmas.{children_in}
 use Rattle.leveldb_env.proofs.mem_env.files.list_children.Given as goal
 
 abbrev pub invariant-loop-name : goal.invariant-loop-name

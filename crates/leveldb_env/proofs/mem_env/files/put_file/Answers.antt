@@ -1,7 +1,7 @@
 use Rattle.std.proofs.Common.{◌≡◌, ◌∙◌, Some, string_bytes, rules}
-use Rattle.leveldb_env.specs.Disk.{with_file}
-use Rattle.leveldb_env.specs.Mem.{files_of}
-use Rattle.leveldb_env.proofs.Files.{files_updated}
+use Rattle.leveldb_env.specs.Env.{with_file}
+use Rattle.leveldb_env.specs.MemEnv.{files_of}
+use Rattle.leveldb_env.proofs.MemEnvLemmas.{files_updated}
 use Rattle.leveldb_env.proofs.mem_env.files.put_file.Goals as goal
 
 pub returns-clause-ok : goal.returns-clause-ok

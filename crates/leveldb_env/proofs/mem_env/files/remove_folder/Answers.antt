@@ -1,8 +1,8 @@
 use Rattle.std.proofs.Common.{◌∙◌, not, string_bytes, rules}
 use Rattle.std.proofs.lemmas.Map.Made.{filter_same_pairs}
-use Rattle.leveldb_env.specs.Disk.{is_under}
-use Rattle.leveldb_env.specs.Mem.{files_of}
-use Rattle.leveldb_env.proofs.Files.{files_filtered, without_under}
+use Rattle.leveldb_env.specs.Env.{is_under}
+use Rattle.leveldb_env.specs.MemEnv.{files_of}
+use Rattle.leveldb_env.proofs.MemEnvLemmas.{files_filtered, without_under}
 use Rattle.leveldb_env.proofs.mem_env.files.remove_folder.Goals as goal
 
 pub returns : goal.returns

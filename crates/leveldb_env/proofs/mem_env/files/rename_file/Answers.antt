@@ -1,8 +1,8 @@
 use Rattle.std.proofs.Common.{◌≡◌, ◌∙◌, true, false, is_some, Some, None, IsSome, ap, refl, subst, sym, rules}
 use Rattle.std.specs.Str.{bytes_eq}
-use Rattle.leveldb_env.specs.Disk.{Files, with_file, created, deleted}
-use Rattle.leveldb_env.specs.Mem.{files_of}
-use Rattle.leveldb_env.proofs.Files.{files_updated, source_stays, target_stands, renamed_by_steps}
+use Rattle.leveldb_env.specs.Env.{Files, with_file, created, deleted}
+use Rattle.leveldb_env.specs.MemEnv.{files_of}
+use Rattle.leveldb_env.proofs.MemEnvLemmas.{files_updated, source_stays, target_stands, renamed_by_steps}
 use Rattle.leveldb_env.proofs.mem_env.files.rename_file.Goals as goal
 use Rattle.leveldb_env.proofs.mem_env.files.rename_file.Goals.{After-remove}
 
@@ -20,7 +20,7 @@ taken c =
     files_updated c.args.from.now c.create_file.new.files c.remove.new.self None c.remove.ensures.updates
     ∙ ap (deleted c.args.from.now) c.in_ok-create_file.ensures.ok
 
--- what was taken away is what stood under the old name
+-- what was removed is the file of the old name
 moved : (c : After-remove) → c.remove.result ≡ files_of c.args.files.now c.args.from.now
 moved c =
     c.remove.ensures.value

@@ -1,5 +1,5 @@
 use Rattle.std.proofs.Common.{Some, IsSome, subst, refl}
-use Rattle.leveldb_env.proofs.Files.{files_updated}
+use Rattle.leveldb_env.proofs.MemEnvLemmas.{files_updated}
 use Rattle.leveldb_env.proofs.mem_env.files.replace_file.Goals as goal
 
 pub returns-in-Some : goal.returns-in-Some

@@ -1,5 +1,5 @@
-use Rattle.leveldb_env.specs.Disk.{file_kept}
-use Rattle.leveldb_env.proofs.Files.{files_written}
+use Rattle.leveldb_env.specs.Env.{file_kept}
+use Rattle.leveldb_env.proofs.MemEnvLemmas.{files_written}
 use Rattle.leveldb_env.proofs.mem_env.files.sync_file.Goals as goal
 
 pub returns-clause-synced : goal.returns-clause-synced

@@ -1,6 +1,6 @@
 use Rattle.std.proofs.Common.{◌≡◌, Bool, true, false, string_bytes, Some, sym, ◌∙◌, ap}
 use Rattle.std.specs.Str.{bytes_eq}
-use Rattle.leveldb_env.proofs.Picks.{next_tail}
+use Rattle.leveldb_env.proofs.PicksLemmas.{next_tail}
 use Rattle.leveldb_env.proofs.mem_env.picks.find_tail.Goals as goal
 use Rattle.leveldb_env.proofs.mem_env.picks.find_tail.Goals.{After-eq}
 

@@ -1,9 +1,9 @@
 use Rattle.std.proofs.Common.{◌≡◌, ◌∙◌, ℕ, ◌+◌, List, Option, ◌∷◌, ◌++◌, None, take, drop, sym, ap, subst}
 use Rattle.std.specs.Map.{lookup}
 use Rattle.std.specs.Str.{bytes_eq}
-use Rattle.leveldb_env.specs.Mem.{files_of}
+use Rattle.leveldb_env.specs.MemEnv.{files_of}
 use Rattle.leveldb_env.specs.Picks.{IsAllowed, IsTailOf, tails_of}
-use Rattle.leveldb_env.proofs.Picks.{pick_of, allowed_none, allowed_more, allowed_fits, allowed_once, tails_up_to, tails_around, copied_none, copied_some}
+use Rattle.leveldb_env.proofs.PicksLemmas.{pick_of, allowed_none, allowed_more, allowed_fits, allowed_once, tails_up_to, tails_around, copied_none, copied_some}
 use Rattle.leveldb_env.proofs.mem_env.picks.is_allowed.Goals as goal
 use Rattle.leveldb_env.proofs.mem_env.picks.is_allowed.Goals.{After-as_slice, then-not-is_tail-via-then-not-is_tail, then-not-is_tail-via-else-not-is_tail+then-is_some}
 

@@ -1,5 +1,5 @@
 use Rattle.std.proofs.Common.{take}
-use Rattle.leveldb_env.specs.Mem.{files_of}
+use Rattle.leveldb_env.specs.MemEnv.{files_of}
 use Rattle.leveldb_env.specs.Picks.{IsAllowed, tails_of}
 use Rattle.leveldb_env.proofs.mem_env.picks.is_allowed.Given as goal
 

@@ -1,8 +1,9 @@
 use Rattle.std.proofs.Common.{◌≡◌, ◌++◌, List, ℕ, Some, string_bytes, sym, ◌∙◌, ap, subst}
-use Rattle.leveldb_env.specs.Disk.{with_file, kept_file}
-use Rattle.leveldb_env.specs.Mem.{files_of}
+use Rattle.leveldb_env.specs.Env.{with_file, kept_file}
+use Rattle.leveldb_env.specs.MemEnv.{files_of}
 use Rattle.leveldb_env.specs.Picks.{tails_of, tail_for}
-use Rattle.leveldb_env.proofs.Leaving.{Entries, Leaving, left_file, leaving_begins, leaving_goes_on}
+use Rattle.leveldb_env.proofs.MemEnvLemmas.{Entries}
+use Rattle.leveldb_env.proofs.PicksLemmas.{Leaving, left_file, leaving_begins, leaving_goes_on}
 use Rattle.leveldb_env.proofs.mem_env.picks.left_files.Goals as goal
 
 pub loop-name-init : goal.loop-name-init

@@ -1,5 +1,5 @@
 use Rattle.leveldb_env.specs.Picks.{tails_of}
-use Rattle.leveldb_env.proofs.Leaving.{Leaving}
+use Rattle.leveldb_env.proofs.PicksLemmas.{Leaving}
 use Rattle.leveldb_env.proofs.mem_env.picks.left_files.Given as goal
 
 abbrev pub invariant-loop-name : goal.invariant-loop-name

@@ -1,8 +1,8 @@
 use Rattle.std.proofs.Common.{◌≡◌, ◌∙◌, ◌++◌, sym, ap, subst, append-nil}
-use Rattle.leveldb_env.specs.Mem.{files_of}
+use Rattle.leveldb_env.specs.MemEnv.{files_of}
 use Rattle.leveldb_env.specs.Picks.{tails_of, ListsTails}
-use Rattle.leveldb_env.proofs.Leaving.{Entries}
-use Rattle.leveldb_env.proofs.TailLists.{tails_in, ListsTails-tails_in}
+use Rattle.leveldb_env.proofs.MemEnvLemmas.{Entries}
+use Rattle.leveldb_env.proofs.PicksLemmas.{tails_in, ListsTails-tails_in}
 use Rattle.leveldb_env.proofs.mem_env.picks.list_tails.Goals as goal
 
 pub returns : goal.returns

@@ -1,6 +1,6 @@
 use Rattle.std.proofs.Common.{◌≡◌, ◌++◌}
 use Rattle.leveldb_env.specs.Picks.{tails_of}
-use Rattle.leveldb_env.proofs.TailLists.{tails_in}
+use Rattle.leveldb_env.proofs.PicksLemmas.{tails_in}
 use Rattle.leveldb_env.proofs.mem_env.picks.list_tails.Given as goal
 
 abbrev pub invariant-loop-name : goal.invariant-loop-name

@@ -1,13 +1,13 @@
 use Rattle.std.proofs.Common.{rules}
 use Rattle.std.proofs.lemmas.Result.{MatchResult-weaker}
-use Rattle.leveldb_env.specs.OpenFileLaws.{IsGivenUp-lent, ends_as}
-use Rattle.leveldb_mem.specs.ReadingLaws.{IsReadAsLog-lent}
+use Rattle.leveldb_env.proofs.EnvFileLemmas.{IsGivenUp-borrowed, ends_as}
+use Rattle.leveldb_mem.proofs.ReaderLemmas.{IsReadAsLog-borrowed}
 use Rattle.leveldb_mem.proofs.log.files.records_of_rest.Goals as goal
 
 pub returns-clause-ok : goal.returns-clause-ok
 returns-clause-ok g c =
-    MatchResult-weaker c.read_records.result c.read_records.ensures.log (λ found shows. ends_as (IsReadAsLog-lent g.E.Env shows) (search rules) (search rules)) (λ status none. tt)
+    MatchResult-weaker c.read_records.result c.read_records.ensures.log (λ found shows. ends_as (IsReadAsLog-borrowed g.E.Env shows) (search rules) (search rules)) (λ status none. tt)
 
 pub returns-clause-err : goal.returns-clause-err
 returns-clause-err g c =
-    MatchResult-weaker c.read_records.result c.read_records.ensures.err (λ found none. tt) (λ status up. ends_as (IsGivenUp-lent g.E.Env up) (search rules) (search rules))
+    MatchResult-weaker c.read_records.result c.read_records.ensures.err (λ found none. tt) (λ status up. ends_as (IsGivenUp-borrowed g.E.Env up) (search rules) (search rules))

@@ -1,5 +1,5 @@
 use Rattle.std.proofs.Common.{◌-◌, ◌≡◌, ◌≤◌, take, length, slice_range}
-use Rattle.leveldb_env.specs.Sources.{GivesSome}
+use Rattle.leveldb_env.specs.Source.{GivesSome}
 use Rattle.leveldb_mem.proofs.log.reader.draw.Given as goal
 
 abbrev pub invariant-loop-count : goal.invariant-loop-count

@@ -2,10 +2,9 @@ use Rattle.std.proofs.Common.{map, sym, subst, ap, ◌∙◌}
 use Rattle.std.proofs.lemmas.List.{map_push}
 use Rattle.std.proofs.lemmas.Result.{err_from_is_err_and}
 use Rattle.leveldb_mem.specs.Log.{log_block_size}
-use Rattle.leveldb_mem.specs.LogLaws.{usual_size}
-use Rattle.leveldb_mem.specs.Reading.{ReadSoFar}
-use Rattle.leveldb_mem.specs.ReadingLaws.{ReadSoFar-more, ReadSoFar-clean, ReadSoFar-torn, ReadSoFar-wrong, ReadSoFar-given_up}
-use Rattle.leveldb_mem.proofs.ReaderSteps.{wants_memory}
+use Rattle.leveldb_mem.proofs.LawsLemmas.{usual_size}
+use Rattle.leveldb_mem.specs.Log.Reader.{ReadSoFar}
+use Rattle.leveldb_mem.proofs.ReaderLemmas.{ReadSoFar-more, ReadSoFar-clean, ReadSoFar-torn, ReadSoFar-wrong, ReadSoFar-given_up, wants_memory}
 use Rattle.leveldb_mem.proofs.log.reader.read_records.Goals as goal
 
 pub returns-in_err-next_record-clause-err : goal.returns-in_err-next_record-clause-err

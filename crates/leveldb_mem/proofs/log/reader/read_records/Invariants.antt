@@ -1,6 +1,6 @@
 use Rattle.std.proofs.Common.{◌-◌, ◌^◌, map, vec_len}
 use Rattle.leveldb_mem.specs.Log.{log_block_size}
-use Rattle.leveldb_mem.specs.Reading.{ReadSoFar}
+use Rattle.leveldb_mem.specs.Log.Reader.{ReadSoFar}
 use Rattle.leveldb_mem.proofs.log.reader.read_records.Given as goal
 
 abbrev pub invariant-loop-record : goal.invariant-loop-record

@@ -1,6 +1,6 @@
 use Rattle.std.proofs.Common.{[], ◌∷◌, ap, ◌∙◌}
 use Rattle.std.specs.Int.{w32, to_le_bytes}
-use Rattle.leveldb_mem.proofs.WriterSteps.{header_is}
+use Rattle.leveldb_mem.proofs.WriterLemmas.{header_is}
 use Rattle.leveldb_mem.proofs.log.writer.header_of.Goals as goal
 
 pub returns : goal.returns

@@ -1,5 +1,5 @@
 use Rattle.std.proofs.Common.{◌∙◌}
-use Rattle.leveldb_mem.proofs.Memories.{same_memory}
+use Rattle.leveldb_mem.proofs.MemTableLemmas.{same_memory}
 use Rattle.leveldb_mem.proofs.memtable.MemTable.approx_mem_usage.Goals as goal
 
 pub returns : goal.returns

@@ -1,34 +1,35 @@
 use Rattle.std.proofs.Common.{◌≡◌, [], List, Option, Some, ℕ, sym, subst, arith}
 use Rattle.std.proofs.lemmas.Bool.{iff_false}
-use Rattle.leveldb_mem.specs.MemTable.{entries_in, value_of, GivesAt}
-use Rattle.leveldb_mem.proofs.Newest.{gives_nothing, gives_other, gives_read}
+use Rattle.leveldb_mem.specs.Placed.{rank}
+use Rattle.leveldb_mem.specs.MemTable.{entries_in, value_of, IsValueAt}
+use Rattle.leveldb_mem.proofs.MemTableLemmas.{length-walked, gives_other, gives_read}
 use Rattle.leveldb_mem.proofs.memtable.MemTable.given_at.Goals as goal
 
 pub split_entry-parts-requires : goal.split_entry-parts-requires
 split_entry-parts-requires g c =
     let it = c.self.inside.map in
-    let pair = c.self.invariant.0 c.args.at ([], []) (omega (arith, c.len-end.ensures)) in
+    let there = rw (← c.self.view_is) at c.requires in
+    let pair = c.self.invariant.0 (rank it.nodes c.args.node) ([], []) (omega (arith, there, length-walked it.pairs)) in
     rw c.key.ensures pair.0
-
-pub returns-then-at-end : goal.returns-then-at-end
-returns-then-at-end g c = rw (← c.self.view_is) (gives_nothing c.self.inside.map.pairs c.args.at c.args.key.now (omega (arith, c.len-end.ensures)))
 
 pub returns-then-is_same : goal.returns-then-is_same
 returns-then-is_same g c =
     let it = c.self.inside.map in
+    let there = rw (← c.self.view_is) at c.requires in
     let parts = c.split_entry-parts in
     let parsed = c.parse_internal_key-parsed in
     let same : parsed.result.2.now ≡ c.args.key.now = c.is_same.ensures.0 c.if-is_same.true in
-    let there = gives_read it.pairs c.args.at (omega (arith, c.len-end.ensures)) c.key.result.now c.key.ensures parts.result.0.now parts.ensures.internal parsed.result.2.now parsed.ensures.user
+    let given = gives_read it.pairs (rank it.nodes c.args.node) (omega (arith, there, length-walked it.pairs)) c.key.result.now c.key.ensures parts.result.0.now parts.ensures.internal parsed.result.2.now parsed.ensures.user
     parts.result.1.now parsed.result.0 parsed.ensures.kind parts.ensures.value in
     rw (← c.self.view_is)
-    (subst (λ (v : Option (List ℕ)). GivesAt (entries_in it.pairs) c.args.at c.args.key.now (Some v)) (sym c.given.ensures)
-    (subst (λ (k : List ℕ). GivesAt (entries_in it.pairs) c.args.at k (Some (value_of parsed.result.0 parts.result.1.now))) same there))
+    (subst (λ (v : Option (List ℕ)). IsValueAt (entries_in it.pairs) (rank it.nodes c.args.node) c.args.key.now (Some v)) (sym c.given.ensures)
+    (subst (λ (k : List ℕ). IsValueAt (entries_in it.pairs) (rank it.nodes c.args.node) k (Some (value_of parsed.result.0 parts.result.1.now))) same given))
 
 pub returns : goal.returns
 returns g c =
     let it = c.self.inside.map in
+    let there = rw (← c.self.view_is) at c.requires in
     let parts = c.split_entry-parts in
     let parsed = c.parse_internal_key-parsed in
-    rw (← c.self.view_is) (gives_other it.pairs c.args.at (omega (arith, c.len-end.ensures)) c.key.result.now c.key.ensures parts.result.0.now parts.ensures.internal parsed.result.2.now
+    rw (← c.self.view_is) (gives_other it.pairs (rank it.nodes c.args.node) (omega (arith, there, length-walked it.pairs)) c.key.result.now c.key.ensures parts.result.0.now parts.ensures.internal parsed.result.2.now
     parsed.ensures.user c.args.key.now (iff_false c.is_same.ensures c.if-is_same.false))

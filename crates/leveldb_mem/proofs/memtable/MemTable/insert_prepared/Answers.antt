@@ -1,6 +1,6 @@
 use Rattle.std.proofs.Common.{◌∙◌, refl, option_copied}
-use Rattle.leveldb_mem.specs.Batch.{item_of}
-use Rattle.leveldb_mem.proofs.Inserting.{inserting_from, inserting_next, inserted_all, next_fits, next_room, next_new}
+use Rattle.leveldb_mem.specs.WriteBatch.{item_of}
+use Rattle.leveldb_mem.proofs.EntryLemmas.{inserting_from, inserting_next, inserted_all, inserted_growth, next_fits, next_room, next_new}
 use Rattle.leveldb_mem.proofs.memtable.MemTable.insert_prepared.Goals as goal
 
 pub loop-key-init : goal.loop-key-init
@@ -29,8 +29,11 @@ loop-key-preserved g c = record {
   ends = tt;
   cmp = c.add_prepared.ensures.cmp ∙ c.loop-key.invariant.cmp;
   inserting = inserting_next _ _ _ c.loop-key.sequence _ (item_of c.in-Some.key.now (option_copied c.in-Some.value)) c.next.new.self c.in-Some.ensures.steps c.loop-key.invariant.inserting
-      c.add_prepared.new.self.kept c.add_prepared.ensures.adds;
+      c.add_prepared.new.self.kept c.add_prepared.ensures.adds c.add_prepared.ensures.grows;
 }
 
 pub returns-clause-entries : goal.returns-clause-entries
 returns-clause-entries g c = inserted_all _ _ _ _ _ c.in-None.ensures.steps.0 c.loop-key.invariant.inserting
+
+pub returns-clause-grows : goal.returns-clause-grows
+returns-clause-grows g c = inserted_growth _ _ _ _ _ c.in-None.ensures.steps.0 c.loop-key.invariant.inserting

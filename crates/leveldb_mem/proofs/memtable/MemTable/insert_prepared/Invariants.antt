@@ -1,6 +1,6 @@
 use Rattle.std.proofs.Common.{◌≡◌}
 use Rattle.leveldb_base.specs.History.{placed}
-use Rattle.leveldb_mem.proofs.Inserting.{Inserting}
+use Rattle.leveldb_mem.proofs.EntryLemmas.{Inserting}
 use Rattle.leveldb_mem.proofs.memtable.MemTable.insert_prepared.Given as goal
 
 abbrev pub invariant-loop-key : goal.invariant-loop-key

@@ -1,4 +1,4 @@
-use Rattle.leveldb_mem.proofs.Walking.{rising_walked}
+use Rattle.leveldb_mem.proofs.MemTableLemmas.{rising_walked}
 use Rattle.leveldb_mem.proofs.memtable.MemTable.iter.Goals as goal
 
 pub returns-clause-sorted : goal.returns-clause-sorted

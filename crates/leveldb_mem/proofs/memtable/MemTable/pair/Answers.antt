@@ -1,27 +1,22 @@
 use Rattle.std.proofs.Common.{◌<◌, [], Some, length, sym, ◌∙◌, ap, arith}
 use Rattle.leveldb_base.specs.KeyTypes.{inner_key}
+use Rattle.leveldb_mem.specs.Placed.{rank}
 use Rattle.leveldb_mem.specs.MemTable.{inner_value}
-use Rattle.leveldb_mem.proofs.Walking.{length-walked, walked_at}
+use Rattle.leveldb_mem.proofs.MemTableLemmas.{length-walked, walked_at}
 use Rattle.leveldb_mem.proofs.memtable.MemTable.pair.Goals as goal
-
-pub key-key-requires : goal.key-key-requires
-key-key-requires g c =
-    let it = c.self.inside.map in
-    let there = rw (← c.self.view_is) at c.requires in
-    omega (arith, there, length-walked it.pairs)
 
 pub split_entry-requires : goal.split_entry-requires
 split_entry-requires g c =
     let it = c.self.inside.map in
     let there = rw (← c.self.view_is) at c.requires in
-    let pair = c.self.invariant.0 c.args.at ([], []) (omega (arith, there, length-walked it.pairs)) in
-    rw c.key-key.ensures pair.0
+    let pair = c.self.invariant.0 (rank it.nodes c.args.node) ([], []) (omega (arith, there, length-walked it.pairs)) in
+    rw c.key.ensures pair.0
 
 pub returns : goal.returns
 returns g c =
     let it = c.self.inside.map in
     let there = rw (← c.self.view_is) at c.requires in
-    let within : c.args.at < length it.pairs = omega (arith, there, length-walked it.pairs) in
-    let key = ap inner_key (sym c.key-key.ensures) ∙ sym c.split_entry.ensures.internal in
-    let value = ap inner_value (sym c.key-key.ensures) ∙ sym c.split_entry.ensures.value in
-    rw (← c.self.view_is) (walked_at it.pairs c.args.at within c.self.invariant.0 ∙ (λ j. Some (key j, value j)))
+    let within : rank it.nodes c.args.node < length it.pairs = omega (arith, there, length-walked it.pairs) in
+    let key = ap inner_key (sym c.key.ensures) ∙ sym c.split_entry.ensures.internal in
+    let value = ap inner_value (sym c.key.ensures) ∙ sym c.split_entry.ensures.value in
+    rw (← c.self.view_is) (walked_at it.pairs (rank it.nodes c.args.node) within c.self.invariant.0 ∙ (λ j. Some (key j, value j)))

@@ -4,9 +4,8 @@ use Rattle.std.specs.Prelude.{All}
 use Rattle.leveldb_base.specs.Cmp.{memtable_accepts}
 use Rattle.leveldb_base.specs.Types.{Pair}
 use Rattle.leveldb_mem.specs.MemTable.{entry_of, entry_key, entry_from, type_of, bytes_of_value, IsEntryPair, entries_in}
-use Rattle.leveldb_mem.proofs.EntryKeys.{key_of_parts, length-parts, entry_again, accepted_key}
-use Rattle.leveldb_mem.proofs.Memories.{grows}
-use Rattle.leveldb_mem.proofs.Gaining.{gains_entry, still_entries, not_new, is_new}
+use Rattle.leveldb_mem.proofs.MemTableLemmas.{key_of_parts, length-parts, entry_again, accepted_key, grows}
+use Rattle.leveldb_mem.proofs.EntryLemmas.{gains_entry, still_entries, not_new, is_new}
 use Rattle.leveldb_mem.proofs.memtable.MemTable.put.Goals as goal
 
 pub put_parts-requires-clause-accepted : goal.put_parts-requires-clause-accepted
@@ -14,8 +13,8 @@ unfolding entry_key
 put_parts-requires-clause-accepted g c =
     let value = option_copied c.args.value in
     let whole =
-    key_of_parts c.spell_length-head.result.now c.args.key.now c.tag_bytes-tag.result c.spell_length-size.result.now c.type_and_bytes-parts.result.1.now c.args.sequence
-    c.type_and_bytes-parts.result.0 value c.type_and_bytes-parts.ensures.kind c.type_and_bytes-parts.ensures.bytes c.spell_length-head.ensures c.tag_bytes-tag.ensures c.spell_length-size.ensures in
+    key_of_parts c.encode_length-head.result.now c.args.key.now c.tag_bytes-tag.result c.encode_length-size.result.now c.type_and_bytes-parts.result.1.now c.args.sequence
+    c.type_and_bytes-parts.result.0 value c.type_and_bytes-parts.ensures.kind c.type_and_bytes-parts.ensures.bytes c.encode_length-head.ensures c.tag_bytes-tag.ensures c.encode_length-size.ensures in
     ap (memtable_accepts (g.C.Cmp.accepts c.self.inside.map.cmp.0)) whole
     ∙ accepted_key (g.C.Cmp.accepts c.self.inside.map.cmp.0) c.args.key.now c.args.sequence (type_of value) (bytes_of_value value) (g.met.C.UserCmp.accepts_all c.self.inside.map.cmp.0 c.args.key.now)
 
@@ -23,8 +22,8 @@ pub put_parts-requires-clause-bytes : goal.put_parts-requires-clause-bytes
 put_parts-requires-clause-bytes g c =
     let value = option_copied c.args.value in
     let size =
-    length-parts c.spell_length-head.result.now c.args.key.now c.tag_bytes-tag.result c.spell_length-size.result.now c.type_and_bytes-parts.result.1.now c.args.sequence
-    c.type_and_bytes-parts.result.0 value c.type_and_bytes-parts.ensures.kind c.type_and_bytes-parts.ensures.bytes c.spell_length-head.ensures c.tag_bytes-tag.ensures c.spell_length-size.ensures
+    length-parts c.encode_length-head.result.now c.args.key.now c.tag_bytes-tag.result c.encode_length-size.result.now c.type_and_bytes-parts.result.1.now c.args.sequence
+    c.type_and_bytes-parts.result.0 value c.type_and_bytes-parts.ensures.kind c.type_and_bytes-parts.ensures.bytes c.encode_length-head.ensures c.tag_bytes-tag.ensures c.encode_length-size.ensures
     (omega arith) (omega arith) in
     omega (arith, size, c.self.invariant.1, c.requires.room.places, c.requires.room.bytes, ap (λ m. m.kept.places) c.self.view_is, ap (λ m. m.kept.bytes) c.self.view_is)
 
@@ -34,11 +33,11 @@ invariant_of-self g c =
     let value = option_copied c.args.value in
     let entry = entry_of c.args.sequence c.args.key.now value in
     let whole =
-    key_of_parts c.spell_length-head.result.now c.args.key.now c.tag_bytes-tag.result c.spell_length-size.result.now c.type_and_bytes-parts.result.1.now c.args.sequence
-    c.type_and_bytes-parts.result.0 value c.type_and_bytes-parts.ensures.kind c.type_and_bytes-parts.ensures.bytes c.spell_length-head.ensures c.tag_bytes-tag.ensures c.spell_length-size.ensures in
+    key_of_parts c.encode_length-head.result.now c.args.key.now c.tag_bytes-tag.result c.encode_length-size.result.now c.type_and_bytes-parts.result.1.now c.args.sequence
+    c.type_and_bytes-parts.result.0 value c.type_and_bytes-parts.ensures.kind c.type_and_bytes-parts.ensures.bytes c.encode_length-head.ensures c.tag_bytes-tag.ensures c.encode_length-size.ensures in
     let size =
-    length-parts c.spell_length-head.result.now c.args.key.now c.tag_bytes-tag.result c.spell_length-size.result.now c.type_and_bytes-parts.result.1.now c.args.sequence
-    c.type_and_bytes-parts.result.0 value c.type_and_bytes-parts.ensures.kind c.type_and_bytes-parts.ensures.bytes c.spell_length-head.ensures c.tag_bytes-tag.ensures c.spell_length-size.ensures
+    length-parts c.encode_length-head.result.now c.args.key.now c.tag_bytes-tag.result c.encode_length-size.result.now c.type_and_bytes-parts.result.1.now c.args.sequence
+    c.type_and_bytes-parts.result.0 value c.type_and_bytes-parts.ensures.kind c.type_and_bytes-parts.ensures.bytes c.encode_length-head.ensures c.tag_bytes-tag.ensures c.encode_length-size.ensures
     (omega arith) (omega arith) in
     ⊎_elim
     (λ (t : c.put_parts.result ≡ true). (
@@ -66,14 +65,14 @@ returns-clause-put g c =
     let value = option_copied c.args.value in
     let entry = entry_of c.args.sequence c.args.key.now value in
     let it = c.self.inside.map in
-    let key = c.spell_length-head.result.now ++ c.args.key.now ++ c.tag_bytes-tag.result ++ c.spell_length-size.result.now ++ c.type_and_bytes-parts.result.1.now in
+    let key = c.encode_length-head.result.now ++ c.args.key.now ++ c.tag_bytes-tag.result ++ c.encode_length-size.result.now ++ c.type_and_bytes-parts.result.1.now in
     let whole : key ≡ entry_key entry =
-    key_of_parts c.spell_length-head.result.now c.args.key.now c.tag_bytes-tag.result c.spell_length-size.result.now c.type_and_bytes-parts.result.1.now c.args.sequence
-    c.type_and_bytes-parts.result.0 value c.type_and_bytes-parts.ensures.kind c.type_and_bytes-parts.ensures.bytes c.spell_length-head.ensures c.tag_bytes-tag.ensures c.spell_length-size.ensures in
+    key_of_parts c.encode_length-head.result.now c.args.key.now c.tag_bytes-tag.result c.encode_length-size.result.now c.type_and_bytes-parts.result.1.now c.args.sequence
+    c.type_and_bytes-parts.result.0 value c.type_and_bytes-parts.ensures.kind c.type_and_bytes-parts.ensures.bytes c.encode_length-head.ensures c.tag_bytes-tag.ensures c.encode_length-size.ensures in
     let again : entry_from key ≡ entry = ap entry_from whole ∙ entry_again entry c.requires.numbered in
     let size =
-    length-parts c.spell_length-head.result.now c.args.key.now c.tag_bytes-tag.result c.spell_length-size.result.now c.type_and_bytes-parts.result.1.now c.args.sequence
-    c.type_and_bytes-parts.result.0 value c.type_and_bytes-parts.ensures.kind c.type_and_bytes-parts.ensures.bytes c.spell_length-head.ensures c.tag_bytes-tag.ensures c.spell_length-size.ensures
+    length-parts c.encode_length-head.result.now c.args.key.now c.tag_bytes-tag.result c.encode_length-size.result.now c.type_and_bytes-parts.result.1.now c.args.sequence
+    c.type_and_bytes-parts.result.0 value c.type_and_bytes-parts.ensures.kind c.type_and_bytes-parts.ensures.bytes c.encode_length-head.ensures c.tag_bytes-tag.ensures c.encode_length-size.ensures
     (omega arith) (omega arith) in
     rw (← c.self.view_is) (OnTrue_from c.put_parts.result _ (λ t. record {
       gains = gains_entry (OnTrue_at t c.put_parts.ensures.put) entry again;
@@ -85,10 +84,10 @@ pub returns-clause-grows : goal.returns-clause-grows
 returns-clause-grows g c =
     let value = option_copied c.args.value in
     let entry = entry_of c.args.sequence c.args.key.now value in
-    let key = c.spell_length-head.result.now ++ c.args.key.now ++ c.tag_bytes-tag.result ++ c.spell_length-size.result.now ++ c.type_and_bytes-parts.result.1.now in
+    let key = c.encode_length-head.result.now ++ c.args.key.now ++ c.tag_bytes-tag.result ++ c.encode_length-size.result.now ++ c.type_and_bytes-parts.result.1.now in
     let whole : key ≡ entry_key entry =
-    key_of_parts c.spell_length-head.result.now c.args.key.now c.tag_bytes-tag.result c.spell_length-size.result.now c.type_and_bytes-parts.result.1.now c.args.sequence
-    c.type_and_bytes-parts.result.0 value c.type_and_bytes-parts.ensures.kind c.type_and_bytes-parts.ensures.bytes c.spell_length-head.ensures c.tag_bytes-tag.ensures c.spell_length-size.ensures in
+    key_of_parts c.encode_length-head.result.now c.args.key.now c.tag_bytes-tag.result c.encode_length-size.result.now c.type_and_bytes-parts.result.1.now c.args.sequence
+    c.type_and_bytes-parts.result.0 value c.type_and_bytes-parts.ensures.kind c.type_and_bytes-parts.ensures.bytes c.encode_length-head.ensures c.tag_bytes-tag.ensures c.encode_length-size.ensures in
     let again : entry_from key ≡ entry = ap entry_from whole ∙ entry_again entry c.requires.numbered in
     rw (← c.self.view_is) (OnTrue_from c.put_parts.result _ (λ t. grows (OnTrue_at t c.put_parts.ensures.put) entry again))
 
@@ -97,10 +96,10 @@ returns-clause-new g c =
     let value = option_copied c.args.value in
     let entry = entry_of c.args.sequence c.args.key.now value in
     let it = c.self.inside.map in
-    let key = c.spell_length-head.result.now ++ c.args.key.now ++ c.tag_bytes-tag.result ++ c.spell_length-size.result.now ++ c.type_and_bytes-parts.result.1.now in
+    let key = c.encode_length-head.result.now ++ c.args.key.now ++ c.tag_bytes-tag.result ++ c.encode_length-size.result.now ++ c.type_and_bytes-parts.result.1.now in
     let whole : key ≡ entry_key entry =
-    key_of_parts c.spell_length-head.result.now c.args.key.now c.tag_bytes-tag.result c.spell_length-size.result.now c.type_and_bytes-parts.result.1.now c.args.sequence
-    c.type_and_bytes-parts.result.0 value c.type_and_bytes-parts.ensures.kind c.type_and_bytes-parts.ensures.bytes c.spell_length-head.ensures c.tag_bytes-tag.ensures c.spell_length-size.ensures in
+    key_of_parts c.encode_length-head.result.now c.args.key.now c.tag_bytes-tag.result c.encode_length-size.result.now c.type_and_bytes-parts.result.1.now c.args.sequence
+    c.type_and_bytes-parts.result.0 value c.type_and_bytes-parts.ensures.kind c.type_and_bytes-parts.ensures.bytes c.encode_length-head.ensures c.tag_bytes-tag.ensures c.encode_length-size.ensures in
     let again : entry_from key ≡ entry = ap entry_from whole ∙ entry_again entry c.requires.numbered in
     rw (← c.self.view_is) (OnTrue_from c.put_parts.result _ (λ t. is_new (g.met.C.Cmp.preorder it.cmp.0) (g.met.C.UserCmp.accepts_all it.cmp.0) (g.met.C.UserCmp.exact it.cmp.0) it.pairs key entry again (OnTrue_at t c.put_parts.ensures.absent)))
 
@@ -112,9 +111,9 @@ returns-clause-present g c =
     let value = option_copied c.args.value in
     let entry = entry_of c.args.sequence c.args.key.now value in
     let it = c.self.inside.map in
-    let key = c.spell_length-head.result.now ++ c.args.key.now ++ c.tag_bytes-tag.result ++ c.spell_length-size.result.now ++ c.type_and_bytes-parts.result.1.now in
+    let key = c.encode_length-head.result.now ++ c.args.key.now ++ c.tag_bytes-tag.result ++ c.encode_length-size.result.now ++ c.type_and_bytes-parts.result.1.now in
     let whole : key ≡ entry_key entry =
-    key_of_parts c.spell_length-head.result.now c.args.key.now c.tag_bytes-tag.result c.spell_length-size.result.now c.type_and_bytes-parts.result.1.now c.args.sequence
-    c.type_and_bytes-parts.result.0 value c.type_and_bytes-parts.ensures.kind c.type_and_bytes-parts.ensures.bytes c.spell_length-head.ensures c.tag_bytes-tag.ensures c.spell_length-size.ensures in
+    key_of_parts c.encode_length-head.result.now c.args.key.now c.tag_bytes-tag.result c.encode_length-size.result.now c.type_and_bytes-parts.result.1.now c.args.sequence
+    c.type_and_bytes-parts.result.0 value c.type_and_bytes-parts.ensures.kind c.type_and_bytes-parts.ensures.bytes c.encode_length-head.ensures c.tag_bytes-tag.ensures c.encode_length-size.ensures in
     let again : entry_from key ≡ entry = ap entry_from whole ∙ entry_again entry c.requires.numbered in
     rw (← c.self.view_is) (OnFalse_from c.put_parts.result _ (λ f. not_new (g.met.C.Cmp.preorder it.cmp.0) (g.met.C.UserCmp.accepts_all it.cmp.0) (g.met.C.UserCmp.exact it.cmp.0) it.pairs key entry again (OnFalse_at f c.put_parts.ensures.present)))

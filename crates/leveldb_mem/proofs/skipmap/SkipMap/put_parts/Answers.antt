@@ -1,5 +1,6 @@
 use Rattle.std.proofs.Common.{◌≡◌, ◌++◌, ◌∙◌, [], ap, sym, subst, refl, length, List, ◌≤◌, arith, append-nil, length-append}
 use Rattle.leveldb_base.specs.Types.{Pair}
+use Rattle.leveldb_mem.specs.Placed.{place_of}
 use Rattle.leveldb_mem.specs.SkipMap.{IsSorted}
 use Rattle.leveldb_mem.proofs.Rising.{placed_at, inserts_at}
 use Rattle.leveldb_mem.proofs.skipmap.SkipMap.put_parts.Goals as goal
@@ -10,8 +11,8 @@ invariant_of-self-in-Some g c =
     let key = c.tail-key.result.now in
     let pairs = c.append-5.new.self.pairs in
     let whole = sym c.tail-key.ensures ∙ sym (append-nil key) in
-    let new = placed_at pairs pairs c.place.new.self.pairs c.append-5.new.self.tail key [] c.in-Some.at (length key) refl whole refl c.place.ensures.pairs in
-    (subst (λ (ps : List Pair). IsSorted (g.C.Cmp.accepts it.cmp) (g.C.Cmp.cmp it.cmp) ps) (sym new) (c.in-Some.ensures.sorted []), c.place.ensures.tail)
+    let new = placed_at pairs pairs c.place.new.self.pairs c.append-5.new.self.tail key [] (place_of c.append-5.new.self.order c.in-Some.path) (length key) refl whole refl c.place.ensures.pairs in
+    (subst (λ (ps : List Pair). IsSorted (g.C.Cmp.accepts it.cmp) (g.C.Cmp.cmp it.cmp) ps) (sym new) (c.in-Some.ensures.0.sorted []), c.place.ensures.tail, c.place.ensures.nodes)
 
 pub returns-in-Some-clause-put : goal.returns-in-Some-clause-put
 returns-in-Some-clause-put g c =
@@ -29,8 +30,8 @@ returns-in-Some-clause-put g c =
     let whole : tail ≡ a ++ b ++ third ++ d ++ e = c.append-5.ensures.tail ∙ ap (λ z. z ++ e) four in
     let key_is : key ≡ a ++ b ++ third ++ d ++ e = c.tail-key.ensures ∙ whole in
     let all = whole ∙ sym (append-nil (a ++ b ++ third ++ d ++ e)) in
-    let new = placed_at it.pairs.pairs c.append-5.new.self.pairs c.place.new.self.pairs tail (a ++ b ++ third ++ d ++ e) [] c.in-Some.at (length key) same all (ap length key_is) c.place.ensures.pairs in
-    rw (← c.self.view_is) (inserts_at it.pairs.pairs c.place.new.self.pairs c.in-Some.at (a ++ b ++ third ++ d ++ e, []) new)
+    let new = placed_at it.pairs.pairs c.append-5.new.self.pairs c.place.new.self.pairs tail (a ++ b ++ third ++ d ++ e) [] (place_of c.append-5.new.self.order c.in-Some.path) (length key) same all (ap length key_is) c.place.ensures.pairs in
+    rw (← c.self.view_is) (inserts_at it.pairs.pairs c.place.new.self.pairs (place_of c.append-5.new.self.order c.in-Some.path) (a ++ b ++ third ++ d ++ e, []) new)
 
 pub returns-in-Some-clause-absent : goal.returns-in-Some-clause-absent
 returns-in-Some-clause-absent g c =
@@ -42,7 +43,7 @@ returns-in-Some-clause-absent g c =
     let two = c.append-2.ensures.tail ∙ ap (λ z. z ++ b) (c.append.ensures.tail ∙ ap (λ z. z ++ c.args.a.now) c.self.invariant.1) in
     let four = c.append-4.ensures.tail ∙ ap (λ z. z ++ d) (c.append-3.ensures.tail ∙ ap (λ z. z ++ third) two) in
     let key_is = c.tail-key.ensures ∙ c.append-5.ensures.tail ∙ ap (λ z. z ++ e) four in
-    rw (← c.self.view_is, ← key_is, ← same) (c.in-Some.ensures.alone)
+    rw (← c.self.view_is, ← key_is, ← same) (c.in-Some.ensures.0.alone)
 
 pub returns-in-None-clause-present : goal.returns-in-None-clause-present
 returns-in-None-clause-present g c =

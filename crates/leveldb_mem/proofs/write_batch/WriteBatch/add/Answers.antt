@@ -1,7 +1,6 @@
 use Rattle.std.proofs.Common.{ℕ, option_copied, ◌++◌, length, ap, ◌∙◌, arith, rules, length-append}
-use Rattle.leveldb_mem.specs.Batch.{item_of, with_item, entry_bytes, BatchOf}
-use Rattle.leveldb_mem.specs.BatchLaws.{length-batch, length-items-le}
-use Rattle.leveldb_mem.proofs.Batches.{batch_is, batch_seen, too_long, not_too_long, counted, other_cause, OnErr-always}
+use Rattle.leveldb_mem.specs.WriteBatch.{item_of, with_item, entry_bytes, BatchOf}
+use Rattle.leveldb_mem.proofs.WriteBatchLemmas.{length-batch, length-items-le, batch_is, batch_seen, too_long, not_too_long, counted, other_cause, OnErr-always}
 use Rattle.leveldb_mem.proofs.write_batch.WriteBatch.add.Goals as goal
 
 pub returns-in_default-clause-too_long : goal.returns-in_default-clause-too_long

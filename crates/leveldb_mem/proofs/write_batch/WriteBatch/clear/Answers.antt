@@ -1,7 +1,6 @@
 use Rattle.std.proofs.Common.{[], arith, rules}
-use Rattle.leveldb_mem.specs.Batch.{batch_of}
-use Rattle.leveldb_mem.specs.BatchLaws.{length-batch}
-use Rattle.leveldb_mem.proofs.Batches.{empty_batch, batch_is}
+use Rattle.leveldb_mem.specs.WriteBatch.{batch_of}
+use Rattle.leveldb_mem.proofs.WriteBatchLemmas.{length-batch, empty_batch, batch_is}
 use Rattle.leveldb_mem.proofs.write_batch.WriteBatch.clear.Goals as goal
 
 pub copy_from_slice-requires : goal.copy_from_slice-requires

@@ -1,8 +1,7 @@
 use Rattle.std.proofs.Common.{length, drop, ap, ◌∙◌, arith, length-drop}
 use Rattle.std.proofs.lemmas.List.{take_rest}
 use Rattle.byteorder.specs.Endian.{little_number}
-use Rattle.leveldb_mem.specs.BatchLaws.{length-batch}
-use Rattle.leveldb_mem.proofs.Batches.{count_there}
+use Rattle.leveldb_mem.proofs.WriteBatchLemmas.{length-batch, count_there}
 use Rattle.leveldb_mem.proofs.write_batch.WriteBatch.count.Goals as goal
 
 pub slice_bounds-read_u32-count : goal.slice_bounds-read_u32-count

@@ -3,8 +3,8 @@ use Rattle.std.specs.Prelude.{IsErrAnd}
 use Rattle.std.proofs.lemmas.Result.{err_from_is_err_and}
 use Rattle.leveldb_base.specs.Error.{IsOutOfMemory}
 use Rattle.leveldb_base.specs.History.{Entry, placed}
-use Rattle.leveldb_mem.specs.Entries.{Gains, AreNewTo}
-use Rattle.leveldb_mem.proofs.Inserting.{all_fit, none_fit, no_want}
+use Rattle.leveldb_mem.specs.MemTable.{IsUnion, AreNewTo, GrowsByAll}
+use Rattle.leveldb_mem.proofs.EntryLemmas.{all_fit, none_fit, no_want}
 use Rattle.leveldb_mem.proofs.write_batch.WriteBatch.insert_into_memtable.Goals as goal
 
 pub returns-then-from-saturating_sub-clause-too_great : goal.returns-then-from-saturating_sub-clause-too_great
@@ -28,7 +28,11 @@ insert_prepared-requires-clause-new g c =
 
 pub returns-clause-ok : goal.returns-clause-ok
 returns-clause-ok g c =
-    subst (λ (entries : List Entry). Gains entries (placed c.args.seq c.args.self.now.items) c.insert_prepared.new.self.kept.entries) c.in_ok-prepare.ensures.entries c.insert_prepared.ensures.entries
+    subst (λ (entries : List Entry). IsUnion entries (placed c.args.seq c.args.self.now.items) c.insert_prepared.new.self.kept.entries) c.in_ok-prepare.ensures.entries c.insert_prepared.ensures.entries
+
+pub returns-clause-grows : goal.returns-clause-grows
+returns-clause-grows g c =
+    subst (λ (entries : List Entry). GrowsByAll entries (placed c.args.seq c.args.self.now.items) c.insert_prepared.new.self.kept.entries) c.in_ok-prepare.ensures.entries c.insert_prepared.ensures.grows
 
 pub returns-clause-too_great : goal.returns-clause-too_great
 returns-clause-too_great g c =

@@ -1,8 +1,6 @@
 use Rattle.std.proofs.Common.{drop, ap, ◌∙◌, arith, rules}
 use Rattle.std.proofs.lemmas.List.{take_rest}
-use Rattle.leveldb_mem.specs.BatchLaws.{length-batch, items_counted}
-use Rattle.leveldb_mem.proofs.Batches.{batch_seen, entries_there}
-use Rattle.leveldb_mem.proofs.Entries.{entries_are, entries_counted}
+use Rattle.leveldb_mem.proofs.WriteBatchLemmas.{length-batch, items_counted, batch_seen, entries_there, entries_are, entries_counted}
 use Rattle.leveldb_mem.proofs.write_batch.WriteBatch.iter.Goals as goal
 
 pub slice_bounds-result-count : goal.slice_bounds-result-count

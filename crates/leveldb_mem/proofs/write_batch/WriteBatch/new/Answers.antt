@@ -1,6 +1,6 @@
 use Rattle.std.proofs.Common.{[], ◌++◌, replicate, ap, ◌∙◌, rules}
-use Rattle.leveldb_mem.specs.Batch.{batch_of}
-use Rattle.leveldb_mem.proofs.Batches.{empty_batch, batch_is}
+use Rattle.leveldb_mem.specs.WriteBatch.{batch_of}
+use Rattle.leveldb_mem.proofs.WriteBatchLemmas.{empty_batch, batch_is}
 use Rattle.leveldb_mem.proofs.write_batch.WriteBatch.new.Goals as goal
 
 pub invariant_of-result : goal.invariant_of-result

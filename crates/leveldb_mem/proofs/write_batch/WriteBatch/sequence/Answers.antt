@@ -1,7 +1,6 @@
 use Rattle.std.proofs.Common.{ap, ◌∙◌, arith}
 use Rattle.byteorder.specs.Endian.{little_number}
-use Rattle.leveldb_mem.specs.BatchLaws.{length-batch}
-use Rattle.leveldb_mem.proofs.Batches.{first_there}
+use Rattle.leveldb_mem.proofs.WriteBatchLemmas.{length-batch, first_there}
 use Rattle.leveldb_mem.proofs.write_batch.WriteBatch.sequence.Goals as goal
 
 pub read_u64-requires : goal.read_u64-requires

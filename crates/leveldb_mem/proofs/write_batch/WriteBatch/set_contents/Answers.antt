@@ -1,7 +1,7 @@
 use Rattle.std.proofs.Common.{rules}
 use Rattle.std.proofs.lemmas.Result.{on_err_weaker}
-use Rattle.leveldb_mem.specs.Batch.{BatchOf}
-use Rattle.leveldb_mem.proofs.Batches.{batch_is, batch_seen}
+use Rattle.leveldb_mem.specs.WriteBatch.{BatchOf}
+use Rattle.leveldb_mem.proofs.WriteBatchLemmas.{batch_is, batch_seen}
 use Rattle.leveldb_mem.proofs.write_batch.WriteBatch.set_contents.Goals as goal
 
 pub returns-clause-err : goal.returns-clause-err

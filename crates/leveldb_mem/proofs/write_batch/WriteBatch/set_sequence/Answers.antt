@@ -1,7 +1,6 @@
 use Rattle.std.proofs.Common.{arith, rules}
-use Rattle.leveldb_mem.specs.Batch.{batch_of}
-use Rattle.leveldb_mem.specs.BatchLaws.{length-batch}
-use Rattle.leveldb_mem.proofs.Batches.{renumbered, batch_is}
+use Rattle.leveldb_mem.specs.WriteBatch.{batch_of}
+use Rattle.leveldb_mem.proofs.WriteBatchLemmas.{length-batch, renumbered, batch_is}
 use Rattle.leveldb_mem.proofs.write_batch.WriteBatch.set_sequence.Goals as goal
 
 pub write_u64-requires : goal.write_u64-requires

@@ -1,12 +1,12 @@
 use Rattle.std.proofs.Common.{◌-◌, ◌<◌, ◌≤◌, length, get_or}
 use Rattle.leveldb_table.specs.Block.{restart_points}
-use Rattle.leveldb_table.specs.Walk.{StartsBy}
+use Rattle.leveldb_table.specs.BlockWalk.{CanSeekFrom}
 use Rattle.leveldb_table.proofs.block.Block.point_before_key.Given as goal
 
 abbrev pub invariant-loop-left : goal.invariant-loop-left
 invariant-loop-left g l =
-    (l.left ≤ l.right) × (l.right < length (restart_points l.self.held.0))
-    × StartsBy (g.C.Cmp.cmp l.self.cmp) l.self.held.0 l.key (get_or (restart_points l.self.held.0) l.left 0)
+    (l.left ≤ l.right) × (l.right < length (restart_points l.self.entries.0))
+    × CanSeekFrom (g.C.Cmp.cmp l.self.cmp) l.self.entries.0 l.key (get_or (restart_points l.self.entries.0) l.left 0)
 
 abbrev pub decreases-loop-left : goal.decreases-loop-left
 decreases-loop-left g l = l.right - l.left

@@ -1,39 +1,37 @@
 use Rattle.std.proofs.Common.{[], take, drop, length, ◌-◌, sym, ap, subst, arith}
-use Rattle.leveldb_table.specs.Reading.{ReadsEntry}
-use Rattle.leveldb_table.specs.Walk.{HasKeyAt}
-use Rattle.leveldb_table.proofs.Walks.{loads_point}
-use Rattle.leveldb_table.proofs.Moves.{fronts, start_within, limit_within, loads_some}
-use Rattle.leveldb_table.proofs.Points.{point_key_there}
+use Rattle.leveldb_table.specs.BlockCheck.{ReadsEntry}
+use Rattle.leveldb_table.specs.BlockWalk.{HasKeyAt}
+use Rattle.leveldb_table.proofs.BlockWalkLemmas.{loads_point, fronts, start_within, limit_within, loads_some, point_key_there}
 use Rattle.leveldb_table.proofs.block.Block.point_key.Goals as goal
 
 pub slice_bounds-take_entry-count : goal.slice_bounds-take_entry-count
 slice_bounds-take_entry-count g c =
-    let f = fronts c.args.self.now.held.1 in
+    let f = fronts c.args.self.now.entries.1 in
     let loads = loads_point f.allowed [] c.point-start.result (c.args.index, c.requires.index, sym c.point-start.ensures) c.requires.some in
     omega (arith, start_within f loads)
 
 pub slice_bounds-take_entry-start : goal.slice_bounds-take_entry-start
 slice_bounds-take_entry-start g c =
-    let f = fronts c.args.self.now.held.1 in
+    let f = fronts c.args.self.now.entries.1 in
     let loads = loads_point f.allowed [] c.point-start.result (c.args.index, c.requires.index, sym c.point-start.ensures) c.requires.some in
     omega (arith, start_within f loads, limit_within f, ap length c.as_slice.ensures)
 
 pub slice_bounds-take_entry-end : goal.slice_bounds-take_entry-end
 slice_bounds-take_entry-end g c =
-    let f = fronts c.args.self.now.held.1 in
+    let f = fronts c.args.self.now.entries.1 in
     omega (arith, limit_within f, ap length c.as_slice.ensures)
 
 pub unwrap-requires : goal.unwrap-requires
 unwrap-requires g c =
-    let f = fronts c.args.self.now.held.1 in
+    let f = fronts c.args.self.now.entries.1 in
     let loads = loads_point f.allowed [] c.point-start.result (c.args.index, c.requires.index, sym c.point-start.ensures) c.requires.some in
     loads_some f loads c.take_entry.result (subst (λ z. ReadsEntry (take (c.args.self.now.limit - c.point-start.result) (drop c.point-start.result z)) c.take_entry.result) c.as_slice.ensures c.take_entry.ensures)
 
 pub returns : goal.returns
 returns g c =
-    let f = fronts c.args.self.now.held.1 in
+    let f = fronts c.args.self.now.entries.1 in
     let loads = loads_point f.allowed [] c.point-start.result (c.args.index, c.requires.index, sym c.point-start.ensures) c.requires.some in
     let slice = take (c.args.self.now.limit - c.point-start.result) (drop c.point-start.result c.args.self.now.contents) in
     let read = subst (λ z. ReadsEntry (take (c.args.self.now.limit - c.point-start.result) (drop c.point-start.result z)) c.take_entry.result) c.as_slice.ensures c.take_entry.ensures in
     let there = point_key_there f loads c.unwrap.result.0 c.unwrap.result.1 (subst (λ z. ReadsEntry slice z) c.unwrap.ensures read) in
-    subst (λ z. HasKeyAt c.args.self.now.held.0 z c.unwrap.result.0.rest.now) c.point-start.ensures there
+    subst (λ z. HasKeyAt c.args.self.now.entries.0 z c.unwrap.result.0.rest.now) c.point-start.ensures there

@@ -1,5 +1,5 @@
 use Rattle.std.proofs.Common.{length}
-use Rattle.leveldb_table.proofs.Checking.{IsChecking}
+use Rattle.leveldb_table.proofs.BlockCheckLemmas.{IsChecking}
 use Rattle.leveldb_table.proofs.block.check.check_parts.Given as goal
 
 abbrev pub invariant-loop-left : goal.invariant-loop-left

@@ -1,5 +1,5 @@
 use Rattle.std.proofs.Common.{arith}
-use Rattle.leveldb_table.proofs.EntryReads.{begins_read, begins_test}
+use Rattle.leveldb_table.proofs.BlockCheckLemmas.{begins_read, begins_test}
 use Rattle.leveldb_table.proofs.block.entry.begins_at.Goals as goal
 
 pub returns-then-points-ge4 : goal.returns-then-points-ge4

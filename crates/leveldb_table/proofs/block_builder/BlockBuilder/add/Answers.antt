@@ -1,31 +1,31 @@
 use Rattle.std.proofs.Common.{◌≡◌, ◌+◌, ◌^◌, ◌≤◌, true, false, ◌++◌, ◌∷◌, [], ◌%◌, ◌<◌, nat_eq, length, take, drop, refl, sym, ◌∙◌, ap, subst, arith, rules, length-drop}
 use Rattle.std.proofs.lemmas.List.{take_rest}
-use Rattle.leveldb_table.specs.Block.{spelling}
-use Rattle.leveldb_table.specs.Built.{IsBuilt, points_more, shared_front}
-use Rattle.leveldb_table.proofs.Builds.{built_are, entries_are, pairs_are, OnErr-always, spelling_room, count_small, built_more, new_entry, new_pairs, entry_is}
+use Rattle.leveldb_table.specs.Block.{parts_bytes}
+use Rattle.leveldb_table.specs.BlockBuilder.{AreEntriesBuilt, points_more, shared_len}
+use Rattle.leveldb_table.proofs.BlockBuilderLemmas.{built_are, entries_are, pairs_are, OnErr-always, parts_room, count_small, built_more, new_entry, new_pairs, entry_is}
 use Rattle.leveldb_table.proofs.block_builder.BlockBuilder.add.Goals as goal
 
 pub returns-then-not-fits-clause-err : goal.returns-then-not-fits-clause-err
 returns-then-not-fits-clause-err g c =
-    let spelled = c.args.self.now.built.1.spelled in
+    let encoded = c.args.self.now.built.1.encoded in
     let pointed = c.args.self.now.built.1.pointed in
     OnErr-always c.err.result (search (built_are, rules))
 
 pub returns-in_err-reserve-clause-err : goal.returns-in_err-reserve-clause-err
 returns-in_err-reserve-clause-err g c =
-    let spelled = c.reserve.ensures.items ∙ c.args.self.now.built.1.spelled in
+    let encoded = c.reserve.ensures.items ∙ c.args.self.now.built.1.encoded in
     let pointed = c.args.self.now.built.1.pointed in
     OnErr-always c.from_residual.result (search (built_are, rules))
 
 pub returns-in_err-reserve-2-clause-err : goal.returns-in_err-reserve-2-clause-err
 returns-in_err-reserve-2-clause-err g c =
-    let spelled = c.reserve.ensures.items ∙ c.args.self.now.built.1.spelled in
+    let encoded = c.reserve.ensures.items ∙ c.args.self.now.built.1.encoded in
     let pointed = c.args.self.now.built.1.pointed in
     OnErr-always c.from_residual-in_err-reserve-2.result (search (built_are, rules))
 
 pub returns-in_err-reserve-3-clause-err : goal.returns-in_err-reserve-3-clause-err
 returns-in_err-reserve-3-clause-err g c =
-    let spelled = c.reserve.ensures.items ∙ c.args.self.now.built.1.spelled in
+    let encoded = c.reserve.ensures.items ∙ c.args.self.now.built.1.encoded in
     let pointed = ap (λ z. 0 ∷ z) c.reserve-3.ensures.items ∙ c.args.self.now.built.1.pointed in
     OnErr-always c.from_residual-in_err-reserve-3.result (search (built_are, rules))
 
@@ -36,7 +36,7 @@ put_entry-requires g c =
     let key_fits = fit.1 in
     let shared_fits : shared < 2 ^ 32 = omega (arith, key_fits, c.shared_with-shared.ensures.within_key) in
     let rest_fits : length (drop shared c.args.key.now) < 2 ^ 32 = omega (arith, key_fits, length-drop shared c.args.key.now) in
-    let room = spelling_room shared (drop shared c.args.key.now) c.args.value.now shared_fits rest_fits fit.2 in
+    let room = parts_room shared (drop shared c.args.key.now) c.args.value.now shared_fits rest_fits fit.2 in
     rw take_rest (omega (arith, room, c.in_ok-reserve.ensures.ok, length-drop shared c.args.key.now))
 
 pub overflow_add-self : goal.overflow_add-self
@@ -44,7 +44,7 @@ overflow_add-self g c =
     let fit = c.fits.ensures.0 c.if-not-fits.false in
     let built = c.args.self.now.built.1 in
     let small = fit.0 in
-    omega (arith, small, built.counted, count_small c.args.self.now.built.0, ap length built.spelled, c.len.ensures, c.args.self.now.buffer.ok.0)
+    omega (arith, small, built.counted, count_small c.args.self.now.built.0, ap length built.encoded, c.len.ensures, c.args.self.now.buffer.ok.0)
 
 pub invariant_of-self-3 : goal.invariant_of-self-3
 invariant_of-self-3 g c =
@@ -60,19 +60,19 @@ invariant_of-self-3 g c =
     let offset_fits : length c.args.self.now.buffer.items < 2 ^ 32 = omega (arith, here, c.len.ensures, c.args.self.now.buffer.ok.0) in
     let size : c.len-3.result ≡ length c.args.self.now.buffer.items = omega (arith, c.len-3.ensures, c.reserve.ensures.len, c.args.self.now.buffer.ok.0) in
     let written = rw take_rest at c.put_entry.ensures in
-    let after = written ∙ ap (λ z. z ++ spelling shared (drop shared key) value) c.reserve.ensures.items in
-    let longest = λ (no : restart ≡ false). c.shared_with-shared.ensures.longest no ∙ ap (λ z. shared_front z key) c.as_slice.ensures.value in
+    let put = written ∙ ap (λ z. z ++ parts_bytes shared (drop shared key) value) c.reserve.ensures.items in
+    let longest = λ (no : restart ≡ false). c.shared_with-shared.ensures.longest no ∙ ap (λ z. shared_len z key) c.as_slice.ensures.value in
     let more =
     built_more built restart key value shared refl within same c.shared_with-shared.ensures.none fit.1 fit.2 c.shared_with-shared.ensures.within_key offset_fits c.requires
     longest c.put_point.new.points.items (λ h. c.put_point.ensures.first h ∙ c.reserve-3.ensures.items)
     (λ h. c.put_point.ensures.others h ∙ ap (λ z. z ++ points_more restart c.len-3.result) c.reserve-3.ensures.items ∙ ap (λ z. c.args.self.now.points.items ++ points_more restart z) size)
-    c.put_entry.new.buffer.items after in
+    c.put_entry.new.buffer.items put in
     let last = (rw c.unwrap.ensures at c.extend_from_slice.ensures.items) ∙ ap (λ z. z ++ key) c.clear.ensures.items in
     let entries = c.args.self.now.built.0 ++ new_entry built restart key value shared refl within same c.shared_with-shared.ensures.none fit.1 fit.2 c.shared_with-shared.ensures.within_key offset_fits c.requires ∷ [] in
     record {
       built = (
         entries,
-        subst (λ z. IsBuilt (g.C.Cmp.cmp c.args.self.now.cmp) c.args.self.now.interval c.put_entry.new.buffer.items c.put_point.new.points.items z (c.args.self.now.count + 1) true entries) (sym last) more,
+        subst (λ z. AreEntriesBuilt (g.C.Cmp.cmp c.args.self.now.cmp) c.args.self.now.interval c.put_entry.new.buffer.items c.put_point.new.points.items z (c.args.self.now.count + 1) true entries) (sym last) more,
       );
     }
 
@@ -90,14 +90,14 @@ returns-clause-ok g c =
     let offset_fits : length c.args.self.now.buffer.items < 2 ^ 32 = omega (arith, here, c.len.ensures, c.args.self.now.buffer.ok.0) in
     let size : c.len-3.result ≡ length c.args.self.now.buffer.items = omega (arith, c.len-3.ensures, c.reserve.ensures.len, c.args.self.now.buffer.ok.0) in
     let written = rw take_rest at c.put_entry.ensures in
-    let after = written ∙ ap (λ z. z ++ spelling shared (drop shared key) value) c.reserve.ensures.items in
-    let longest = λ (no : restart ≡ false). c.shared_with-shared.ensures.longest no ∙ ap (λ z. shared_front z key) c.as_slice.ensures.value in
+    let put = written ∙ ap (λ z. z ++ parts_bytes shared (drop shared key) value) c.reserve.ensures.items in
+    let longest = λ (no : restart ≡ false). c.shared_with-shared.ensures.longest no ∙ ap (λ z. shared_len z key) c.as_slice.ensures.value in
     let more =
     built_more built restart key value shared refl within same c.shared_with-shared.ensures.none fit.1 fit.2 c.shared_with-shared.ensures.within_key offset_fits c.requires
     longest c.put_point.new.points.items (λ h. c.put_point.ensures.first h ∙ c.reserve-3.ensures.items)
     (λ h. c.put_point.ensures.others h ∙ ap (λ z. z ++ points_more restart c.len-3.result) c.reserve-3.ensures.items ∙ ap (λ z. c.args.self.now.points.items ++ points_more restart z) size)
-    c.put_entry.new.buffer.items after in
-    let spelled = more.spelled in
+    c.put_entry.new.buffer.items put in
+    let encoded = more.encoded in
     let pointed = more.pointed in
     let pairs = new_pairs built restart key value shared refl within same c.shared_with-shared.ensures.none fit.1 fit.2 c.shared_with-shared.ensures.within_key offset_fits c.requires in
     search (pairs_are, rules)
@@ -116,14 +116,14 @@ returns-clause-entry g c =
     let offset_fits : length c.args.self.now.buffer.items < 2 ^ 32 = omega (arith, here, c.len.ensures, c.args.self.now.buffer.ok.0) in
     let size : c.len-3.result ≡ length c.args.self.now.buffer.items = omega (arith, c.len-3.ensures, c.reserve.ensures.len, c.args.self.now.buffer.ok.0) in
     let written = rw take_rest at c.put_entry.ensures in
-    let after = written ∙ ap (λ z. z ++ spelling shared (drop shared key) value) c.reserve.ensures.items in
-    let longest = λ (no : restart ≡ false). c.shared_with-shared.ensures.longest no ∙ ap (λ z. shared_front z key) c.as_slice.ensures.value in
+    let put = written ∙ ap (λ z. z ++ parts_bytes shared (drop shared key) value) c.reserve.ensures.items in
+    let longest = λ (no : restart ≡ false). c.shared_with-shared.ensures.longest no ∙ ap (λ z. shared_len z key) c.as_slice.ensures.value in
     let more =
     built_more built restart key value shared refl within same c.shared_with-shared.ensures.none fit.1 fit.2 c.shared_with-shared.ensures.within_key offset_fits c.requires
     longest c.put_point.new.points.items (λ h. c.put_point.ensures.first h ∙ c.reserve-3.ensures.items)
     (λ h. c.put_point.ensures.others h ∙ ap (λ z. z ++ points_more restart c.len-3.result) c.reserve-3.ensures.items ∙ ap (λ z. c.args.self.now.points.items ++ points_more restart z) size)
-    c.put_entry.new.buffer.items after in
-    let spelled = more.spelled in
+    c.put_entry.new.buffer.items put in
+    let encoded = more.encoded in
     let pointed = more.pointed in
     let put = ap (λ z. c.args.self.now.built.0 ++ z ∷ []) (entry_is c.args.self.now.count built key value shared c.shared_with-shared.ensures.none longest) in
     search (entries_are, rules)

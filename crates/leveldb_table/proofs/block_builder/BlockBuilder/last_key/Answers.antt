@@ -1,5 +1,5 @@
 use Rattle.std.proofs.Common.{◌∙◌}
-use Rattle.leveldb_table.proofs.Builds.{last_there}
+use Rattle.leveldb_table.proofs.BlockBuilderLemmas.{last_there}
 use Rattle.leveldb_table.proofs.block_builder.BlockBuilder.last_key.Goals as goal
 
 pub returns : goal.returns

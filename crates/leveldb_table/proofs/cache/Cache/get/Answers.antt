@@ -1,7 +1,7 @@
 use Rattle.std.proofs.Common.{refl, ◌∙◌, ap}
 use Rattle.lru.specs.LruCache.{lru_cache}
 use Rattle.leveldb_table.specs.Cache.{value_of}
-use Rattle.leveldb_table.proofs.Caches.{cached_of, after_look_up, promoted_is}
+use Rattle.leveldb_table.proofs.CacheLemmas.{cached_of, after_look_up, promoted_is}
 use Rattle.leveldb_table.proofs.cache.Cache.get.Goals as goal
 
 pub returns : goal.returns

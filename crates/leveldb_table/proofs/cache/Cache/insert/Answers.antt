@@ -1,6 +1,6 @@
 use Rattle.std.proofs.Common.{◌∙◌, ap}
 use Rattle.lru.specs.LruCache.{lru_cache}
-use Rattle.leveldb_table.proofs.Caches.{cached_of, after_put, put_is}
+use Rattle.leveldb_table.proofs.CacheLemmas.{cached_of, after_put, put_is}
 use Rattle.leveldb_table.proofs.cache.Cache.insert.Goals as goal
 
 pub returns-clause-ok : goal.returns-clause-ok

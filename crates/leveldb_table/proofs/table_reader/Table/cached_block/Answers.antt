@@ -1,8 +1,8 @@
 use Rattle.std.proofs.Common.{sym, ◌∙◌, ap, arith}
 use Rattle.std.specs.Prelude.{option_copied}
 use Rattle.leveldb_table.specs.Cache.{value_of}
-use Rattle.leveldb_table.specs.TableCached.{cache_key}
-use Rattle.leveldb_table.proofs.Caches.{after_look_up}
+use Rattle.leveldb_table.specs.BlockCache.{cache_key}
+use Rattle.leveldb_table.proofs.CacheLemmas.{after_look_up}
 use Rattle.leveldb_table.proofs.table_reader.Table.cached_block.Goals as goal
 
 pub returns-clause-cache : goal.returns-clause-cache

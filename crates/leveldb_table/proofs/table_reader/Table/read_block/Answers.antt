@@ -1,27 +1,27 @@
 use Rattle.std.proofs.Common.{◌∙◌, ap}
-use Rattle.leveldb_table.specs.TableCached.{cache_key}
+use Rattle.leveldb_table.specs.BlockCache.{cache_key}
 use Rattle.leveldb_table.specs.declared.block_cache.CachedBlock.{CachedBlock}
-use Rattle.leveldb_table.proofs.Caches.{after_put}
-use Rattle.leveldb_table.proofs.TableCaches.{Gathers-trans, Gathers-look_up, Gathers-put, IsHeldAt-stands, IsOf-copy}
+use Rattle.leveldb_table.proofs.CacheLemmas.{after_put}
+use Rattle.leveldb_table.proofs.BlockCacheLemmas.{GainsBlocks-trans, GainsBlocks-look_up, GainsBlocks-put, IsCachedAt-is_there, IsBlockOfFile-copy}
 use Rattle.leveldb_table.proofs.table_reader.Table.read_block.Goals as goal
 
 pub returns-in_err-found-clause-gathers : goal.returns-in_err-found-clause-gathers
-returns-in_err-found-clause-gathers g c = Gathers-look_up (cache_key c.args.self.now.id c.args.handle.offset) c.cached_block.ensures.cache
+returns-in_err-found-clause-gathers g c = GainsBlocks-look_up (cache_key c.args.self.now.id c.args.handle.offset) c.cached_block.ensures.cache
 
 pub returns-in-Some-clause-ok : goal.returns-in-Some-clause-ok
-returns-in-Some-clause-ok g c = λ bytes has holds. IsHeldAt-stands (rw c.in-Some.is at c.in_ok-found.ensures.ok) holds
+returns-in-Some-clause-ok g c = λ bytes has holds. IsCachedAt-is_there (rw c.in-Some.is at c.in_ok-found.ensures.ok) holds
 
 pub returns-in-Some-clause-gathers : goal.returns-in-Some-clause-gathers
-returns-in-Some-clause-gathers g c = Gathers-look_up (cache_key c.args.self.now.id c.args.handle.offset) c.cached_block.ensures.cache
+returns-in-Some-clause-gathers g c = GainsBlocks-look_up (cache_key c.args.self.now.id c.args.handle.offset) c.cached_block.ensures.cache
 
 pub returns-in_err-block-clause-gathers : goal.returns-in_err-block-clause-gathers
-returns-in_err-block-clause-gathers g c = Gathers-look_up (cache_key c.args.self.now.id c.args.handle.offset) c.cached_block.ensures.cache
+returns-in_err-block-clause-gathers g c = GainsBlocks-look_up (cache_key c.args.self.now.id c.args.handle.offset) c.cached_block.ensures.cache
 
 pub returns-in_err-copy-clause-gathers : goal.returns-in_err-copy-clause-gathers
-returns-in_err-copy-clause-gathers g c = Gathers-look_up (cache_key c.args.self.now.id c.args.handle.offset) c.cached_block.ensures.cache
+returns-in_err-copy-clause-gathers g c = GainsBlocks-look_up (cache_key c.args.self.now.id c.args.handle.offset) c.cached_block.ensures.cache
 
 pub returns-in_err-insert-clause-gathers : goal.returns-in_err-insert-clause-gathers
-returns-in_err-insert-clause-gathers g c = Gathers-look_up (cache_key c.args.self.now.id c.args.handle.offset) (c.in_err-insert.ensures.err ∙ c.cached_block.ensures.cache)
+returns-in_err-insert-clause-gathers g c = GainsBlocks-look_up (cache_key c.args.self.now.id c.args.handle.offset) (c.in_err-insert.ensures.err ∙ c.cached_block.ensures.cache)
 
 pub returns-clause-ok : goal.returns-clause-ok
 returns-clause-ok g c = λ bytes has holds. (c.in_ok-block.ensures.ok bytes has, ap g.C.Cmp.cmp c.in_ok-block.ensures.order)
@@ -31,6 +31,6 @@ returns-clause-gathers g c =
     let copied = c.in_ok-copy.ensures.cases in
     let held : CachedBlock g.row.C.Denot g.C.Cmp = record { handle = c.args.handle; block = c.in_ok-copy.copy } in
     let key_is = c.cache_key.ensures ∙ ap (cache_key c.args.self.now.id) c.offset.ensures in
-    Gathers-trans (Gathers-look_up (cache_key c.args.self.now.id c.args.handle.offset) c.cached_block.ensures.cache)
-    (Gathers-put c.args.handle.offset held (c.in_ok-insert.ensures.ok ∙ ap (λ key. after_put key held c.cached_block.new.cache) key_is)
-    (λ bytes has. IsOf-copy c.args.handle c.in_ok-block.block c.in_ok-copy.copy copied.0 copied.1 (ap g.C.Cmp.cmp c.in_ok-block.ensures.order) (c.in_ok-block.ensures.ok bytes has)))
+    GainsBlocks-trans (GainsBlocks-look_up (cache_key c.args.self.now.id c.args.handle.offset) c.cached_block.ensures.cache)
+    (GainsBlocks-put c.args.handle.offset held (c.in_ok-insert.ensures.ok ∙ ap (λ key. after_put key held c.cached_block.new.cache) key_is)
+    (λ bytes has. IsBlockOfFile-copy c.args.handle c.in_ok-block.block c.in_ok-copy.copy copied.0 copied.1 (ap g.C.Cmp.cmp c.in_ok-block.ensures.order) (c.in_ok-block.ensures.ok bytes has)))

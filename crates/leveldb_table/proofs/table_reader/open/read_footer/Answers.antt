@@ -1,11 +1,11 @@
 use Rattle.std.proofs.Common.{inr, refl, sym, ◌∙◌, arith}
-use Rattle.leveldb_table.proofs.Footers.{ends_at, ends_long, ends_with}
-use Rattle.leveldb_table.proofs.TableCalls.{Looks-refl, reads_own}
+use Rattle.leveldb_table.proofs.FooterLemmas.{ends_at, ends_long, ends_with}
+use Rattle.leveldb_table.proofs.TableBlockLemmas.{KeepsDisk-refl, reads_own}
 use Rattle.leveldb_table.proofs.table_reader.open.read_footer.Goals as goal
 
 pub returns-in_default-clause-reads : goal.returns-in_default-clause-reads
 returns-in_default-clause-reads g c =
-    reads_own g.E.Env c.err.result (Looks-refl g.E.Env c.args.env.now) refl c.err.ensures.code (λ status code. inr (
+    reads_own g.E.Env c.err.result (KeepsDisk-refl g.E.Env c.args.env.now) refl c.err.ensures.code (λ status code. inr (
       code,
       λ bytes has meta index ends. c.in_default.ensures (ends_long ends),
     ))
@@ -14,13 +14,13 @@ pub returns-in-Some-decode-clause-ok : goal.returns-in-Some-decode-clause-ok
 returns-in-Some-decode-clause-ok g c = λ bytes has.
     let read = c.in_ok-bytes.ensures in
     let decoded = c.in-Some-decode.ensures in
-    ends_at c.in-Some.place (omega (arith, c.in-Some.ensures.0, c.in-Some.ensures.1)) decoded.0 decoded.1 read.size (read.ok bytes has) (sym c.deref.ensures.value ∙ decoded.2)
+    ends_at c.in-Some.offset (omega (arith, c.in-Some.ensures.0, c.in-Some.ensures.1)) decoded.0 decoded.1 read.size (read.ok bytes has) (sym c.deref.ensures.value ∙ decoded.2)
 
 pub returns-clause-reads : goal.returns-clause-reads
 returns-clause-reads g c =
     let read = c.in_ok-bytes.ensures in
-    reads_own g.E.Env c.err-in-None.result read.reads.looks read.reads.cause.ok c.err-in-None.ensures.code (λ status code. inr (
+    reads_own g.E.Env c.err-in-None.result read.reads.kept_disk read.reads.cause.ok c.err-in-None.ensures.code (λ status code. inr (
       code,
       λ bytes has meta index ends.
-          c.in-None.ensures meta index ends.meta_fits ends.index_fits (c.deref.ensures.value ∙ read.ok bytes has ∙ ends_with c.in-Some.place (omega (arith, c.in-Some.ensures.0, c.in-Some.ensures.1)) ends),
+          c.in-None.ensures meta index ends.meta_fits ends.index_fits (c.deref.ensures.value ∙ read.ok bytes has ∙ ends_with c.in-Some.offset (omega (arith, c.in-Some.ensures.0, c.in-Some.ensures.1)) ends),
     ))

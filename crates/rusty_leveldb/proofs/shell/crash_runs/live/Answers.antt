@@ -1,6 +1,6 @@
 use Rattle.std.proofs.Common.{rules, ◌≡◌, ◌++◌, ◌∷◌, [], ◌-◌, take, refl, sym, subst, Some, None, ◌+◌, ◌∙◌}
 use Rattle.std.proofs.lemmas.List.{take_all}
-use Rattle.leveldb_env.specs.RecordLaws.{stands_alone}
+use Rattle.leveldb_env.specs.MemEnvLaws.{record_only_now}
 use Rattle.leveldb_env.specs.contracts.mem_env.record.RecordEnvEnv.TheImpl.{ghosts}
 use Rattle.leveldb_env.specs.Record.{moment_of}
 use Rattle.rusty_leveldb.specs.Serves.{done_or}
@@ -9,7 +9,7 @@ use Rattle.rusty_leveldb.proofs.Living.{Given, LivesSoFar, given_more, lives_fir
 use Rattle.rusty_leveldb.proofs.shell.crash_runs.live.Goals as goal
 
 pub returns-in-Err-clause-life : goal.returns-in-Err-clause-life
-returns-in-Err-clause-life g c = not_lived g.row.C.Denot g.row.FP.Denot ghosts stands_alone refl (g.C.Cmp.cmp c.args.options.cmp) c.args.name.now c.args.options c.args.env.now c.open.new.env c.args.options.create_if_missing c.args.commands.now
+returns-in-Err-clause-life g c = not_lived g.row.C.Denot g.row.FP.Denot ghosts record_only_now refl (g.C.Cmp.cmp c.args.options.cmp) c.args.name.now c.args.options c.args.env.now c.open.new.env c.args.options.create_if_missing c.args.commands.now
     _ c.in-Err.status refl (c.reserve.ensures.items ∙ c.new-replies.ensures.items) c.in-Err.ensures.step
 
 pub loop-command-init : goal.loop-command-init
@@ -21,7 +21,7 @@ loop-command-init g c =
       [],
       subst (λ items. Given (moment_of c.args.env.now) items []) (sym none) refl,
       subst (λ items. LivesSoFar g.row.C.Denot g.row.FP.Denot ghosts (g.C.Cmp.cmp c.args.options.cmp) c.args.name.now c.args.env.now c.args.options.create_if_missing [] items [] c.in-Ok.engine c.open.new.env) (sym none)
-          (lives_first g.row.C.Denot g.row.FP.Denot ghosts stands_alone refl (g.C.Cmp.cmp c.args.options.cmp) c.args.name.now c.args.env.now c.open.new.env c.args.options.create_if_missing c.in-Ok.engine c.in-Ok.ensures.step),
+          (lives_first g.row.C.Denot g.row.FP.Denot ghosts record_only_now refl (g.C.Cmp.cmp c.args.options.cmp) c.args.name.now c.args.env.now c.open.new.env c.args.options.create_if_missing c.in-Ok.engine c.in-Ok.ensures.step),
     )
 
 pub unwrap-requires : goal.unwrap-requires
@@ -36,7 +36,7 @@ loop-command-preserved g c =
     let pushed : c.push.new.self.items ≡ c.loop-command.replies.items ++ (told, reply) ∷ [] = search rules in
     let same : g.C.Cmp.cmp c.loop-command.engine.options.cmp ≡ g.C.Cmp.cmp c.args.options.cmp = rw so_far.0 refl in
     let step = in_order {env = ghosts} {before = Some c.loop-command.engine} {after = Some c.answer-reply.new.engine} {from = c.loop-command.env} {to = c.answer-reply.new.env} same c.answer-reply.ensures.step in
-    let more = lives_more g.row.C.Denot g.row.FP.Denot ghosts stands_alone refl (g.C.Cmp.cmp c.args.options.cmp) c.args.name.now c.args.env.now c.loop-command.env c.answer-reply.new.env c.args.options.create_if_missing
+    let more = lives_more g.row.C.Denot g.row.FP.Denot ghosts record_only_now refl (g.C.Cmp.cmp c.args.options.cmp) c.args.name.now c.args.env.now c.loop-command.env c.answer-reply.new.env c.args.options.create_if_missing
     (take c.loop-command.command-index c.args.commands.now) c.loop-command.replies.items so_far.3 c.loop-command.engine c.answer-reply.new.engine command told reply so_far.5 step in
     let behind = commands_up_to c.args.commands.now c.loop-command.command-index command c.loop-command-test.true c.command-item.is in
     let is : told ≡ moment_of c.answer-reply.new.env - moment_of c.args.env.now = search rules in (
@@ -56,5 +56,5 @@ returns-clause-life g c =
     let all : take c.loop-command.command-index c.args.commands.now ≡ c.args.commands.now = take_all c.loop-command.command-index c.args.commands.now c.loop-command-test.false in
     let same : g.C.Cmp.cmp c.loop-command.engine.options.cmp ≡ g.C.Cmp.cmp c.args.options.cmp = rw so_far.0 refl in
     let step = in_order {env = ghosts} {before = Some c.loop-command.engine} {after = None} {from = c.loop-command.env} {to = c.abandon.new.env} same c.abandon.ensures.step in
-    lives_end g.row.C.Denot g.row.FP.Denot ghosts stands_alone refl (g.C.Cmp.cmp c.args.options.cmp) c.args.name.now c.args.env.now c.loop-command.env c.abandon.new.env c.args.options.create_if_missing
+    lives_end g.row.C.Denot g.row.FP.Denot ghosts record_only_now refl (g.C.Cmp.cmp c.args.options.cmp) c.args.name.now c.args.env.now c.loop-command.env c.abandon.new.env c.args.options.create_if_missing
     c.args.commands.now so_far.3 c.loop-command.engine (done_or c.abandon.result) _ refl so_far.4 (rw all at so_far.5) step

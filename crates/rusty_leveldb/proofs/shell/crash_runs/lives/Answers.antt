@@ -1,10 +1,10 @@
 -- Each life joins those before it, with its crash; a refusal is that of a life's memory or of a crash.
-use Rattle.std.proofs.Common.{rules, vec_len, vec_capacity, ◌<◌, append-nil, append_assoc, ◌≡◌, ◌+◌, ◌++◌, ◌∷◌, ◌⊎◌, inl, inr, ⊎_elim, [], length, refl, sym, subst, ◌∙◌, ap, arith}
+use Rattle.std.proofs.Common.{rules, vec_len, vec_capacity, ◌<◌, append-nil, append_assoc, ◌≡◌, ◌+◌, ◌++◌, ◌∷◌, inl, inr, ⊎_elim, [], length, refl, sym, subst, ◌∙◌, ap, arith}
 use Rattle.std.proofs.lemmas.List.{nil_from_length}
 use Rattle.std.proofs.lemmas.Result.{err_from_is_err_and}
 use Rattle.leveldb_env.specs.contracts.mem_env.record.RecordEnvEnv.TheImpl.{ghosts}
 use Rattle.leveldb_env.specs.Picks.{tails_of}
-use Rattle.leveldb_env.specs.Record.{moment_of, CanLeave}
+use Rattle.leveldb_env.specs.Record.{moment_of, CanCrashTo}
 use Rattle.rusty_leveldb.specs.Lives.{IsCrash, IsAlwaysLife, IsLifeOn}
 use Rattle.rusty_leveldb.proofs.Lives.{next_crash, next_same, reports_more, all_reported, fails_for}
 use Rattle.rusty_leveldb.proofs.shell.crash_runs.lives.Goals as goal
@@ -80,6 +80,6 @@ returns-in_err-env g c =
         life_is = is;
         moment = c.in-Some-moment.moment;
         crashes = c.in-Some-moment.is;
-        none = λ can. why.1 (subst (λ n. CanLeave c.live.new.env (n + c.in-Some-moment.moment) c.in-Some.life.pick.after (tails_of c.in-Some.life.pick.tails.items)) (sym c.moment-start.ensures) can);
+        none = λ can. why.1 (subst (λ n. CanCrashTo c.live.new.env (n + c.in-Some-moment.moment) c.in-Some.life.pick.after (tails_of c.in-Some.life.pick.tails.items)) (sym c.moment-start.ensures) can);
       },
     )) c.in_err-env.ensures.error))

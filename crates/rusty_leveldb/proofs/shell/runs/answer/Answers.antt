@@ -1,7 +1,7 @@
 -- Each command's reply is what the engine's call answered.
 use Rattle.std.proofs.Common.{◌∷◌, [], Some, None, Ok, Err, false, refl}
 use Rattle.std.specs.Prelude.{map}
-use Rattle.leveldb_mem.specs.Batch.{item_of}
+use Rattle.leveldb_mem.specs.WriteBatch.{item_of}
 use Rattle.rusty_leveldb.specs.declared.shell.commands.Reply.TheVariants.{Value, Nothing, Refused}
 use Rattle.rusty_leveldb.specs.State.{write, get, flush, close}
 use Rattle.rusty_leveldb.specs.Serves.{done_or, found_or}

@@ -1,9 +1,9 @@
 use Rattle.std.proofs.Common.{◌≡◌, ◌*◌, ◌-◌, ◌^◌, ◌≤◌, ◌||◌, ap, ap₂, sym, ◌∙◌, arith, length, [], ◌∷◌, ◌++◌, take, drop, replicate}
 use Rattle.std.proofs.Math.Seq.{take-append_seam}
-use Rattle.leveldb_env.specs.Filters.{keys_at}
+use Rattle.leveldb_env.specs.Filter.{keys_at}
 use Rattle.leveldb_env.specs.Bloom.{bits_len, has_bit, is_probe, probe_count}
-use Rattle.leveldb_env.proofs.KeyCuts.{length-keys_at}
-use Rattle.leveldb_env.proofs.BloomMade.{refused, fresh_zeros, has_bit-zeros, bloom_filter-is}
+use Rattle.leveldb_env.proofs.FilterLemmas.{length-keys_at}
+use Rattle.leveldb_env.proofs.BloomLemmas.{refused, fresh_zeros, has_bit-zeros, bloom_filter-is}
 use Rattle.leveldb_env.proofs.filter.bloom.BloomPolicyFilterPolicy.create_filter.Goals as goal
 
 pub returns-in_default-clause-cause : goal.returns-in_default-clause-cause

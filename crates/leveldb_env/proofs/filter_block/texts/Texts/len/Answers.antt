@@ -1,6 +1,6 @@
 use Rattle.std.proofs.Common.{length, ap, ◌∙◌}
-use Rattle.leveldb_env.specs.Filters.{keys_at}
-use Rattle.leveldb_env.proofs.JoinedTexts.{length-offsets}
+use Rattle.leveldb_env.specs.Filter.{keys_at}
+use Rattle.leveldb_env.proofs.FilterBlockLemmas.{length-offsets}
 use Rattle.leveldb_env.proofs.filter_block.texts.Texts.len.Goals as goal
 
 pub returns : goal.returns

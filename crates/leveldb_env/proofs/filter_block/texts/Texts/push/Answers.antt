@@ -1,7 +1,7 @@
 use Rattle.std.proofs.Common.{◌-◌, ◌++◌, ◌∷◌, [], length, replicate, ap, ◌∙◌, arith}
-use Rattle.leveldb_env.specs.Filters.{keys_at}
-use Rattle.leveldb_env.specs.FilterBlockParts.{AreTexts}
-use Rattle.leveldb_env.proofs.JoinedTexts.{more_texts, more_offsets, cut_again, cut_texts}
+use Rattle.leveldb_env.specs.Filter.{keys_at}
+use Rattle.leveldb_env.specs.FilterBlock.{AreTexts}
+use Rattle.leveldb_env.proofs.FilterBlockLemmas.{more_texts, more_offsets, cut_again, cut_texts}
 use Rattle.leveldb_env.proofs.filter_block.texts.Texts.push.Goals as goal
 
 -- the texts with the new ones

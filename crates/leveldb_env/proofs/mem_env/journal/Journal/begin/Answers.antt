@@ -1,7 +1,7 @@
-use Rattle.std.proofs.Common.{◌∙◌, sym, ap, refl, lit<, List}
+use Rattle.std.proofs.Common.{◌∙◌, sym, ap, lit<, List}
 use Rattle.leveldb_env.specs.declared.mem_env.journal.Call.{Call}
 use Rattle.leveldb_env.specs.Journal.{files_after, are_within}
-use Rattle.leveldb_env.specs.Mem.{files_of}
+use Rattle.leveldb_env.specs.MemEnv.{files_of}
 use Rattle.leveldb_env.proofs.mem_env.journal.Journal.begin.Goals as goal
 
 pub invariant_of-result : goal.invariant_of-result

@@ -1,8 +1,8 @@
 use Rattle.std.proofs.Common.{◌≡◌, ◌<◌, ◌∙◌, List, length, get_or, nat_le, ap, rules}
 use Rattle.leveldb_env.specs.declared.mem_env.journal.Call.{Call}
 use Rattle.leveldb_env.specs.Journal.{after, where_done}
-use Rattle.leveldb_env.specs.Mem.{files_of}
-use Rattle.leveldb_env.proofs.Moments.{after_more}
+use Rattle.leveldb_env.specs.MemEnv.{files_of}
+use Rattle.leveldb_env.proofs.JournalLemmas.{after_more}
 use Rattle.leveldb_env.proofs.mem_env.journal.Journal.files_after.Goals as goal
 
 pub loop-call-preserved : goal.loop-call-preserved

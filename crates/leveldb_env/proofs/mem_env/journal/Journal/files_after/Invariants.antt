@@ -1,6 +1,6 @@
 use Rattle.std.proofs.Common.{◌≡◌, take}
 use Rattle.leveldb_env.specs.Journal.{files_after}
-use Rattle.leveldb_env.specs.Mem.{files_of}
+use Rattle.leveldb_env.specs.MemEnv.{files_of}
 use Rattle.leveldb_env.proofs.mem_env.journal.Journal.files_after.Given as goal
 
 abbrev pub invariant-loop-call : goal.invariant-loop-call

@@ -1,10 +1,8 @@
 use Rattle.std.proofs.Common.{◌≡◌, ◌∙◌, ◌/◌, ◌%◌, ◌==◌, ◌||◌, true, Some, None, sym, ap}
 use Rattle.std.specs.Option.{option_copied}
-use Rattle.leveldb_env.specs.Disk.{Files}
-use Rattle.leveldb_env.specs.Journal.{where_done, is_append, may_stand, asked, call_behind, side_of}
-use Rattle.leveldb_env.specs.Mem.{files_of}
-use Rattle.leveldb_env.proofs.Files.{FileMap}
-use Rattle.leveldb_env.proofs.Moments.{odd_from_test, files_at_odd, done_both}
+use Rattle.leveldb_env.specs.Journal.{where_done, is_append, may_be_made, requested, call_after, side_of}
+use Rattle.leveldb_env.specs.MemEnv.{files_of}
+use Rattle.leveldb_env.proofs.JournalLemmas.{odd_from_test, files_at_odd, done_both}
 use Rattle.leveldb_env.proofs.mem_env.journal.Journal.files_at.Goals as goal
 use Rattle.leveldb_env.proofs.mem_env.journal.Journal.files_at.Goals.{in-Some+in_ok-make_change, in_default}
 
@@ -14,18 +12,18 @@ returns c =
     let first = files_of j.first in
     let side = c.args.side in
     let odd : (c.args.moment % 2 == 1) ≡ true = odd_from_test c.args.moment c.if-moment-eq0.false in
-    elim c.match-call_behind.branch [
+    elim c.match-call_after.branch [
       | in-Some+in_ok-make_change w ↦
           let call = w.in-Some.call.now in
-          let lent = w.lend_change-change.result in
+          let asked = w.borrow_change-change.result in
           let before = files_of c.in_ok-files.files in
-          let found : Some call ≡ call_behind j.calls.items (c.args.moment / 2) = ap option_copied (sym w.in-Some.is) ∙ c.call_behind.ensures in
+          let found : Some call ≡ call_after j.calls.items (c.args.moment / 2) = ap option_copied (sym w.in-Some.is) ∙ c.call_after.ensures in
           ap files_of w.files-is ∙ w.in_ok-make_change.ensures.ok
-          ∙ ap (λ done. where_done done (asked lent) before) w.stands_inside.ensures
-          ∙ done_both (side || is_append lent) (may_stand lent) (asked lent) before
-          ∙ (λ i. where_done (side || w.lend_change-change.ensures.append i) (where_done (w.lend_change-change.ensures.may i) (w.lend_change-change.ensures.change i)) before)
+          ∙ ap (λ done. where_done done (requested asked) before) w.is_made_inside.ensures
+          ∙ done_both (side || is_append asked) (may_be_made asked) (requested asked) before
+          ∙ (λ i. where_done (side || w.borrow_change-change.ensures.append i) (where_done (w.borrow_change-change.ensures.may i) (w.borrow_change-change.ensures.change i)) before)
           ∙ ap (side_of side (Some call)) c.in_ok-files.ensures
           ∙ files_at_odd first j.calls.items c.args.moment side (Some call) odd found
       | in_default w ↦
-          ap files_of w.files-is ∙ c.in_ok-files.ensures ∙ files_at_odd first j.calls.items c.args.moment side None odd (ap option_copied (sym w.in_default.is) ∙ c.call_behind.ensures)
+          ap files_of w.files-is ∙ c.in_ok-files.ensures ∙ files_at_odd first j.calls.items c.args.moment side None odd (ap option_copied (sym w.in_default.is) ∙ c.call_after.ensures)
     ]

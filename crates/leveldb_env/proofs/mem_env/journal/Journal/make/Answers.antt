@@ -1,10 +1,9 @@
 use Rattle.std.proofs.Common.{◌≡◌, ◌+◌, ◌*◌, ◌∙◌, ◌∷◌, ◌++◌, [], Bool, true, false, is_ok, inl, inr, refl, sym, ap, subst, rules, List}
 use Rattle.leveldb_env.specs.declared.mem_env.journal.Call.{Call}
-use Rattle.leveldb_env.specs.Calls.{EitherSide}
-use Rattle.leveldb_env.specs.Disk.{Files}
-use Rattle.leveldb_env.specs.Journal.{asked, may_stand, cut_off, where_done, Stood}
-use Rattle.leveldb_env.specs.Mem.{files_of}
-use Rattle.leveldb_env.proofs.Moments.{skipped_within, skipped_replayed, skipped_passes, noted_within, noted_replayed, noted_passes, noted_inside}
+use Rattle.leveldb_env.specs.Env.{BeforeOrAfter, Files}
+use Rattle.leveldb_env.specs.Journal.{requested, may_be_made, cut_off, where_done, FilesWere}
+use Rattle.leveldb_env.specs.MemEnv.{files_of}
+use Rattle.leveldb_env.proofs.JournalLemmas.{skipped_within, skipped_replayed, skipped_passes, noted_within, noted_replayed, noted_passes, noted_inside}
 use Rattle.leveldb_env.proofs.mem_env.journal.Journal.make.Goals as goal
 use Rattle.leveldb_env.proofs.mem_env.journal.Journal.make.Goals.{After-push, In_ok-noted_change}
 
@@ -24,7 +23,7 @@ pub returns-in_err-noted_change-clause-time : goal.returns-in_err-noted_change-c
 returns-in_err-noted_change-clause-time c =
     let j = c.args.self.now in
     λ was now. skipped_passes (files_of j.first) (files_of j.files) j.calls.items j.count j.numbered j.replayed c.take_memory.new.calls.items c.take_memory.ensures.calls
-    (EitherSide (asked c.args.change.now) (files_of j.files)) (inl refl) _ _
+    (BeforeOrAfter (requested c.args.change.now) (files_of j.files)) (inl refl) _ _
 
 -- ---- no memory for the change
 
@@ -42,7 +41,7 @@ pub returns-in_err-there-clause-time : goal.returns-in_err-there-clause-time
 returns-in_err-there-clause-time c =
     let j = c.args.self.now in
     λ was now. skipped_passes (files_of j.first) (files_of j.files) j.calls.items j.count j.numbered j.replayed c.take_memory.new.calls.items c.take_memory.ensures.calls
-    (EitherSide (asked c.args.change.now) (files_of j.files)) (inl refl) _ _
+    (BeforeOrAfter (requested c.args.change.now) (files_of j.files)) (inl refl) _ _
 
 -- ---- the call is noted
 
@@ -62,11 +61,11 @@ invariant_of-self-2 c =
           (c.in_ok-there.ensures.ok ∙ ap (λ (change : Files → Files). where_done c.args.done change (files_of j.files)) (sym c.in_ok-noted_change.ensures.change));
     }
 
--- what was noted may stand as what was asked for
-cut_is : (c : In_ok-noted_change) → cut_off c.in_ok-noted_change.noted_change ≡ where_done (may_stand c.args.change.now) (asked c.args.change.now)
+-- what was noted may be made as what was asked for
+cut_is : (c : In_ok-noted_change) → cut_off c.in_ok-noted_change.noted_change ≡ where_done (may_be_made c.args.change.now) (requested c.args.change.now)
 cut_is c = λ i. where_done (c.in_ok-noted_change.ensures.may i) (c.in_ok-noted_change.ensures.change i)
 
-either : (may : Bool) (change : Files → Files) (files : Files) → EitherSide change files (where_done may change files)
+either : (may : Bool) (change : Files → Files) (files : Files) → BeforeOrAfter change files (where_done may change files)
 either true change files = inr refl
 either false change files = inl refl
 
@@ -75,10 +74,10 @@ returns-clause-time c =
     let j = c.args.self.now in
     let d = (goal.at.returns-clause-time c).After-push in
     let cut = cut_is (goal.at.returns-clause-time c).In_ok-noted_change in
-    let may = may_stand c.args.change.now in
-    let makes = subst (λ (change : Files → Files). EitherSide (asked c.args.change.now) (files_of j.files) (change (files_of j.files))) (sym cut) (either may (asked c.args.change.now) (files_of j.files)) in
+    let may = may_be_made c.args.change.now in
+    let makes = subst (λ (change : Files → Files). BeforeOrAfter (requested c.args.change.now) (files_of j.files) (change (files_of j.files))) (sym cut) (either may (requested c.args.change.now) (files_of j.files)) in
     λ was now. noted_passes (files_of j.first) (files_of j.files) j.calls.items j.count j.numbered j.replayed (call_of d) refl c.push.new.self.items (pushed d)
-    (EitherSide (asked c.args.change.now) (files_of j.files)) (inl refl) makes _ _
+    (BeforeOrAfter (requested c.args.change.now) (files_of j.files)) (inl refl) makes _ _
 
 pub returns-clause-inside : goal.returns-clause-inside
 returns-clause-inside c =
@@ -87,5 +86,5 @@ returns-clause-inside c =
     let cut = cut_is (goal.at.returns-clause-inside c).In_ok-noted_change in
     let first = files_of j.first in
     let new = c.push.new.self.items in
-    subst (Stood first new (2 * j.count + 1)) (ap (λ (change : Files → Files). change (files_of j.files)) cut)
+    subst (FilesWere first new (2 * j.count + 1)) (ap (λ (change : Files → Files). change (files_of j.files)) cut)
     (noted_inside first (files_of j.files) j.calls.items j.count j.numbered j.replayed (call_of d) refl new (pushed d))

@@ -1,7 +1,7 @@
 use Rattle.std.proofs.Common.{refl}
-use Rattle.leveldb_env.specs.Calls.{Still}
-use Rattle.leveldb_env.specs.Mem.{files_of}
-use Rattle.leveldb_env.proofs.Moments.{skipped_within, skipped_replayed, skipped_passes}
+use Rattle.leveldb_env.specs.Env.{FilesUnchanged}
+use Rattle.leveldb_env.specs.MemEnv.{files_of}
+use Rattle.leveldb_env.proofs.JournalLemmas.{skipped_within, skipped_replayed, skipped_passes}
 use Rattle.leveldb_env.proofs.mem_env.journal.Journal.skip.Goals as goal
 
 pub invariant_of-self : goal.invariant_of-self
@@ -16,4 +16,4 @@ invariant_of-self c =
 pub returns-clause-time : goal.returns-clause-time
 returns-clause-time c =
     let j = c.args.self.now in
-    λ was now. skipped_passes (files_of j.first) (files_of j.files) j.calls.items j.count j.numbered j.replayed j.calls.items refl (Still (files_of j.files)) refl _ _
+    λ was now. skipped_passes (files_of j.first) (files_of j.files) j.calls.items j.count j.numbered j.replayed j.calls.items refl (FilesUnchanged (files_of j.files)) refl _ _

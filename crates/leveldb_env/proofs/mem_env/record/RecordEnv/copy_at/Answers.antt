@@ -1,6 +1,6 @@
 use Rattle.std.proofs.Common.{◌≡◌, None, rules}
 use Rattle.leveldb_env.specs.Record.{files_in}
-use Rattle.leveldb_env.proofs.Recording.{no_such_file}
+use Rattle.leveldb_env.proofs.RecordLemmas.{no_such_file}
 use Rattle.leveldb_env.proofs.mem_env.record.RecordEnv.copy_at.Goals as goal
 
 pub returns-in-None-clause-refused : goal.returns-in-None-clause-refused

@@ -1,5 +1,5 @@
 use Rattle.std.proofs.Common.{refl}
-use Rattle.leveldb_env.proofs.Recording.{journal_after, looks, asks_nothing}
+use Rattle.leveldb_env.proofs.RecordLemmas.{journal_after, looks, asks_nothing}
 use Rattle.leveldb_env.proofs.mem_env.record.RecordEnv.find_no_memory.Goals as goal
 
 pub returns-clause-asks : goal.returns-clause-asks

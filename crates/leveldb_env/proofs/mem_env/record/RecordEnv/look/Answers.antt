@@ -1,5 +1,5 @@
 use Rattle.std.proofs.Common.{refl}
-use Rattle.leveldb_env.proofs.Recording.{journal_after, looks}
+use Rattle.leveldb_env.proofs.RecordLemmas.{journal_after, looks}
 use Rattle.leveldb_env.proofs.mem_env.record.RecordEnv.look.Goals as goal
 
 pub returns-then-chosen-clause-looks : goal.returns-then-chosen-clause-looks

@@ -1,6 +1,6 @@
 use Rattle.std.proofs.Common.{true, rules}
-use Rattle.leveldb_env.specs.Mem.{handle_name}
-use Rattle.leveldb_env.proofs.Recording.{appends, locks}
+use Rattle.leveldb_env.specs.MemEnv.{handle_name}
+use Rattle.leveldb_env.proofs.RecordLemmas.{appends, locks}
 use Rattle.leveldb_env.proofs.mem_env.record.RecordEnvEnv.TheImpl.Goals as goal
 
 pub append-tells : goal.append-tells

@@ -1,7 +1,7 @@
 use Rattle.std.proofs.Common.{◌≡◌, ◌∙◌, true, false, is_ok, if◌then◌else◌, sym, ap, rules}
 use Rattle.std.specs.BTreeSet.{contains_text}
-use Rattle.leveldb_env.specs.Disk.{created, lock_set}
-use Rattle.leveldb_env.proofs.Locks.{lock_undone}
+use Rattle.leveldb_env.specs.Env.{created, lock_set}
+use Rattle.leveldb_env.proofs.MemEnvLemmas.{lock_undone}
 use Rattle.leveldb_env.proofs.mem_env.record.RecordEnvEnv.lock.Goals as goal
 
 pub returns-then-is_err-clause-asks : goal.returns-then-is_err-clause-asks

@@ -1,5 +1,5 @@
 use Rattle.std.proofs.Common.{true}
-use Rattle.leveldb_env.specs.Disk.{created}
+use Rattle.leveldb_env.specs.Env.{created}
 use Rattle.leveldb_env.proofs.mem_env.record.RecordEnvEnv.open_appendable_file.Goals as goal
 
 pub returns-in_default-clause-asks : goal.returns-in_default-clause-asks

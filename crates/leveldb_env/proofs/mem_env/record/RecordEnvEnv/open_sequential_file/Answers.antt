@@ -1,8 +1,8 @@
 use Rattle.std.proofs.Common.{◌≡◌, None, inr, rules}
 use Rattle.std.proofs.lemmas.Result.{IfErr-weaker}
-use Rattle.leveldb_env.specs.Mem.{IsNoSuchFile, IsNoFileOrMemory}
+use Rattle.leveldb_env.specs.MemEnv.{IsNoSuchFile, IsNoFileOrMemory}
 use Rattle.leveldb_env.specs.Record.{files_in}
-use Rattle.leveldb_env.proofs.Recording.{no_such_file, turns_own}
+use Rattle.leveldb_env.proofs.RecordLemmas.{no_such_file, turns_own}
 use Rattle.leveldb_env.proofs.mem_env.record.RecordEnvEnv.open_sequential_file.Goals as goal
 
 pub returns-then-not-contains_key-clause-turns : goal.returns-then-not-contains_key-clause-turns

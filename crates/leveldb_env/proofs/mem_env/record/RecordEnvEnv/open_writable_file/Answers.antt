@@ -1,5 +1,5 @@
 use Rattle.std.proofs.Common.{true}
-use Rattle.leveldb_env.specs.Disk.{emptied}
+use Rattle.leveldb_env.specs.Env.{emptied}
 use Rattle.leveldb_env.proofs.mem_env.record.RecordEnvEnv.open_writable_file.Goals as goal
 
 pub returns-in_default-clause-asks : goal.returns-in_default-clause-asks

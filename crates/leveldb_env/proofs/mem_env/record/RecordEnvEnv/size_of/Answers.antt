@@ -1,7 +1,7 @@
 use Rattle.std.proofs.Common.{◌≡◌, None, rules}
-use Rattle.leveldb_env.specs.Mem.{IsNoSuchFile}
+use Rattle.leveldb_env.specs.MemEnv.{IsNoSuchFile}
 use Rattle.leveldb_env.specs.Record.{files_in}
-use Rattle.leveldb_env.proofs.Recording.{no_such_file, turns_own}
+use Rattle.leveldb_env.proofs.RecordLemmas.{no_such_file, turns_own}
 use Rattle.leveldb_env.proofs.mem_env.record.RecordEnvEnv.size_of.Goals as goal
 
 pub returns-in-None-clause-turns : goal.returns-in-None-clause-turns

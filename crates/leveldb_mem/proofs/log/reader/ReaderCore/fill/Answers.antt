@@ -2,8 +2,8 @@ use Rattle.std.proofs.Common.{◌≤◌, ◌+◌, length, take, arith, ap, ◌�
 use Rattle.std.proofs.lemmas.Bool.{leb-true, leb-false}
 use Rattle.std.proofs.lemmas.List.{with_items_is}
 use Rattle.std.proofs.lemmas.Result.{err_from_is_err_and}
-use Rattle.leveldb_env.specs.Sources.{GivesSome, GivesAll}
-use Rattle.leveldb_mem.proofs.ReaderSteps.{came, length-came, wants_memory}
+use Rattle.leveldb_env.specs.Source.{GivesSome, GivesAll}
+use Rattle.leveldb_mem.proofs.ReaderLemmas.{came, length-came, wants_memory}
 use Rattle.leveldb_mem.proofs.log.reader.ReaderCore.fill.Goals as goal
 
 pub returns-in_err-make_long-clause-err : goal.returns-in_err-make_long-clause-err

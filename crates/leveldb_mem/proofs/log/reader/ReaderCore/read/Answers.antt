@@ -1,10 +1,23 @@
+use Rattle.std.proofs.Common.{◌∙◌}
 use Rattle.std.proofs.lemmas.Result.{err_from_is_err_and}
-use Rattle.leveldb_mem.specs.Reading.{torn}
+use Rattle.leveldb_mem.specs.Log.Reader.{wrong_checksum, torn, given_up}
+use Rattle.leveldb_mem.proofs.ReaderLemmas.{read_failed}
 use Rattle.leveldb_mem.proofs.log.reader.ReaderCore.read.Goals as goal
+use Rattle.leveldb_mem.proofs.log.reader.ReaderCore.read.Goals.{in-Ok-WrongChecksum, in-Ok-Damage, in-Err}
 
-pub returns-in-Damage-clause-err : goal.returns-in-Damage-clause-err
-returns-in-Damage-clause-err g c = λ usable.
-    let p = err_from_is_err_and c.corruption-in-Damage.result c.corruption-in-Damage.ensures.code in
-    let found = rw c.in-Damage.is at c.in_ok-next_record.ensures.found in
-    let fails = rw c.in-Damage.is at c.in_ok-next_record.ensures.damage in
-    rw p.1 (torn p.2 found (fails tt))
+pub returns : goal.returns
+returns g c =
+    let fails = read_failed g.S.Source.gives c.args.self.now c.args.source.now c.match-next_record.failed in
+    elim c.match-next_record.branch [
+      | in-Ok-WrongChecksum w ↦ (
+          let p = err_from_is_err_and w.corruption-failed.result w.corruption-failed.ensures.code in
+          let text = rw p.1 at w.corruption-failed.ensures.text in
+          let found = rw w.in-Ok-WrongChecksum.field-0-is at w.in-Ok-WrongChecksum.ensures.found in
+          fails p.0 _ _ _ (w.failed-is ∙ p.1) c.clear.ensures.items (λ usable. wrong_checksum (record { code = p.2; text = text }) found) (λ failed. absurd (w.in-Ok-WrongChecksum.ensures.failed failed).0))
+      | in-Ok-Damage w ↦ (
+          let p = err_from_is_err_and w.corruption-failed-in-Ok-Damage.result w.corruption-failed-in-Ok-Damage.ensures.code in
+          let found = rw w.in-Ok-Damage.field-0-is at w.in-Ok-Damage.ensures.found in
+          let broken = rw w.in-Ok-Damage.field-0-is at w.in-Ok-Damage.ensures.damage in
+          fails p.0 _ _ _ (w.failed-is ∙ p.1) c.clear.ensures.items (λ usable. torn p.2 found (broken tt)) (λ failed. absurd (w.in-Ok-Damage.ensures.failed failed).0))
+      | in-Err w ↦ fails _ _ _ _ w.failed-is c.clear.ensures.items (λ usable. given_up (w.in-Err.ensures.err usable).0 (w.in-Err.ensures.err usable).1) (λ failed. w.in-Err.ensures.failed failed)
+    ]

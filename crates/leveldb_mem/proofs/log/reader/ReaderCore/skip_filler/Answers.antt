@@ -1,9 +1,8 @@
 use Rattle.std.proofs.Common.{◌≡◌, ◌<◌, ◌-◌, true, false, length, refl, sym, ap, arith}
 use Rattle.std.specs.List.{All}
 use Rattle.std.proofs.lemmas.List.Elements.{All-same}
-use Rattle.leveldb_mem.proofs.Takings.{takes_end, skips_filler}
-use Rattle.leveldb_mem.proofs.NoFragments.{none_behind_others}
-use Rattle.leveldb_mem.specs.Reading.{whatever_follows}
+use Rattle.leveldb_mem.proofs.TakingLemmas.{takes_end, skips_filler, none_unless_filler}
+use Rattle.leveldb_mem.specs.Log.Reader.{whatever_follows}
 use Rattle.leveldb_mem.proofs.log.reader.ReaderCore.skip_filler.Goals as goal
 
 pub returns-then-not-branch-clause-ok : goal.returns-then-not-branch-clause-ok
@@ -17,20 +16,20 @@ returns-then-not-is_zeros-clause-ok g c = λ text.
     let old = c.args.self.now in
     let bytes = c.fill.new.self.unread in
     let there = c.in_ok-fill.ensures.there c.if-not-branch.false in
-    let same = ap (λ r. r.size - r.place) c.in_ok-fill.ensures.reader in
+    let same = ap (λ r. r.size - r.offset) c.in_ok-fill.ensures.reader in
     let all = ap length c.unread.ensures.value in
-    let count : length bytes ≡ old.size - old.place = omega (arith, there.1) in
+    let count : length bytes ≡ old.size - old.offset = omega (arith, there.1) in
     let other : All (λ byte. byte ≡ 0) bytes → ⊥ = λ zeros. (let no : false ≡ true = c.if-not-is_zeros.ensures.1 (All-same (λ byte. byte ≡ 0) c.unread.result.now bytes c.unread.ensures.value zeros) in cc) in
-    whatever_follows bytes there.0 (none_behind_others old.size old.place c.requires c.space-space.ensures.inside bytes count other)
+    whatever_follows bytes there.0 (none_unless_filler old.size old.offset c.requires c.space-space.ensures.inside bytes count other)
 
 pub returns-clause-ok : goal.returns-clause-ok
 returns-clause-ok g c =
     let old = c.args.self.now in
     let bytes = c.fill.new.self.unread in
     let there = c.in_ok-fill.ensures.there c.if-not-branch.false in
-    let same = ap (λ r. r.size - r.place) c.in_ok-fill.ensures.reader in
+    let same = ap (λ r. r.size - r.offset) c.in_ok-fill.ensures.reader in
     let all = ap length c.unread.ensures.value in
-    let count : length bytes ≡ old.size - old.place = omega (arith, there.1) in
+    let count : length bytes ≡ old.size - old.offset = omega (arith, there.1) in
     let zeros = All-same (λ byte. byte ≡ 0) bytes c.unread.result.now (sym c.unread.ensures.value) (c.if-not-is_zeros.ensures.0 refl) in
     skips_filler g.S.Source.gives old c.fill.new.self c.advance.new.self c.args.source.now c.fill.new.source c.requires c.space-space.ensures.inside c.in_ok-fill.ensures.reader there.0 count zeros
     c.space-space.result c.space-space.ensures.left c.advance.ensures

@@ -2,8 +2,8 @@ use Rattle.std.proofs.Common.{◌≢◌, true, [], length, vec_len, ap, sym, sub
 use Rattle.std.proofs.lemmas.List.{nil_from_length}
 use Rattle.std.proofs.lemmas.Bool.{eqb-true, eqb-false}
 use Rattle.std.proofs.lemmas.Result.{err_from_is_err_and}
-use Rattle.leveldb_mem.specs.Comings.{GivesUp-behind}
-use Rattle.leveldb_mem.proofs.Joinings.{Joins, joins_none, joins_more, ends_clean, ends_torn, damage_torn, breaks_off, record_ends, record_empty, part_torn}
+use Rattle.leveldb_mem.proofs.ReaderLemmas.{GivesUp-after}
+use Rattle.leveldb_mem.proofs.JoiningLemmas.{Joins, joins_none, joins_more, ends_clean, ends_torn, damage_torn, breaks_off, record_ends, record_empty, part_torn}
 use Rattle.leveldb_mem.proofs.log.reader.ReaderCore.take_record.Goals as goal
 
 pub loop-init : goal.loop-init
@@ -15,7 +15,7 @@ loop-init g c =
 pub returns-in_err-kind-clause-err : goal.returns-in_err-kind-clause-err
 returns-in_err-kind-clause-err g c =
     let p = err_from_is_err_and c.from_residual.result c.from_residual.ensures.1 in
-    rw (p.1, p.2) (GivesUp-behind g.S.Source.gives c.loop.invariant.come.reads c.in_err-kind.ensures.err)
+    rw (p.1, p.2) (GivesUp-after g.S.Source.gives c.loop.invariant.come.reads c.in_err-kind.ensures.err)
 
 pub returns-in-End-clause-ok : goal.returns-in-End-clause-ok
 returns-in-End-clause-ok g c =

@@ -1,4 +1,4 @@
-use Rattle.leveldb_mem.proofs.Joinings.{Joins}
+use Rattle.leveldb_mem.proofs.JoiningLemmas.{Joins}
 use Rattle.leveldb_mem.proofs.log.reader.ReaderCore.take_record.Given as goal
 
 abbrev pub invariant-loop : goal.invariant-loop

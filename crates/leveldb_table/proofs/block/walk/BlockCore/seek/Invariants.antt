@@ -1,9 +1,9 @@
 use Rattle.std.proofs.Common.{◌-◌}
-use Rattle.leveldb_table.proofs.Moves.{Seeks}
+use Rattle.leveldb_table.proofs.BlockWalkLemmas.{IsSeeking}
 use Rattle.leveldb_table.proofs.block.walk.BlockCore.seek.Given as goal
 
 abbrev pub invariant-loop-next : goal.invariant-loop-next
-invariant-loop-next g l = Seeks (g.C.Cmp.cmp l.block.cmp) l.block.held.0 l.key l.self.key.items l.next
+invariant-loop-next g l = IsSeeking (g.C.Cmp.cmp l.block.cmp) l.block.entries.0 l.key l.self.key.items l.next
 
 abbrev pub decreases-loop-next : goal.decreases-loop-next
 decreases-loop-next g l = l.block.limit - l.next

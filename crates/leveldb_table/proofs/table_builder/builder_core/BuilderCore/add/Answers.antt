@@ -1,15 +1,14 @@
 use Rattle.std.proofs.Common.{◌++◌, ◌+◌, sym, ap, subst, refl, None, inl, inr}
-use Rattle.leveldb_env.specs.FilterBlockLaws.{keeps_keys}
+use Rattle.leveldb_env.proofs.FilterBlockLemmas.{keeps_keys}
 use Rattle.leveldb_table.specs.Block.{pairs_of}
-use Rattle.leveldb_table.specs.TableBuilding.{stage}
-use Rattle.leveldb_table.specs.TablePuts.{IsTooLong}
-use Rattle.leveldb_table.proofs.TableOrders.{last_pushed}
-use Rattle.leveldb_table.proofs.TableSteps.{OnErr-with}
-use Rattle.leveldb_table.proofs.TableAdds.{tries_refused, taken_after}
-use Rattle.leveldb_table.proofs.Builds.{OnErr-always}
+use Rattle.leveldb_table.specs.TableBuilder.{stage}
+use Rattle.leveldb_table.specs.PutBlock.{IsTooLong}
+use Rattle.leveldb_table.proofs.TableLemmas.{last_pushed, OnErr-with}
+use Rattle.leveldb_table.proofs.TableBuilderAddLemmas.{tries_refused, taken_after}
+use Rattle.leveldb_table.proofs.BlockBuilderLemmas.{OnErr-always}
 use Rattle.std.proofs.lemmas.Result.{err_from_is_err_and}
-use Rattle.leveldb_table.specs.TableStages.{with_pair}
-use Rattle.leveldb_table.proofs.TableGrows.{laid_added, behind_all, open_rises, sound_added}
+use Rattle.leveldb_table.specs.TableBuilderStage.{with_pair}
+use Rattle.leveldb_table.proofs.TableBuilderStageLemmas.{laid_added, after_all, open_rises, sound_added}
 use Rattle.leveldb_table.proofs.table_builder.builder_core.BuilderCore.add.Goals as goal
 
 pub make_room-requires-clause-sound : goal.make_room-requires-clause-sound
@@ -19,7 +18,7 @@ make_room-requires-clause-sound g c =
       sound.ready,
       record {
         accepted = c.requires.accepted c.in_ok-check_unbroken.ensures.ok;
-        behind = behind_all (g.C.Cmp.cmp core.block.cmp) (pairs_of None core.index.built.0) (pairs_of None core.block.built.0) c.args.key.now core.count sound.some sound.none (c.requires.rising c.in_ok-check_unbroken.ensures.ok);
+        after = after_all (g.C.Cmp.cmp core.block.cmp) (pairs_of None core.index.built.0) (pairs_of None core.block.built.0) c.args.key.now core.count sound.some sound.none (c.requires.rising c.in_ok-check_unbroken.ensures.ok);
       },
     )
 
@@ -44,7 +43,7 @@ returns-clause-ok g c =
       put = made.put;
       begun = λ written pairs begun.
           let laid = made.laid written pairs begun in
-          rw (c.in_ok-add.ensures.order, c.in_ok-add.ensures.interval, c.in_ok-make_room.ensures.choices.same_order, c.in_ok-add.ensures.ok, c.in_ok-add_key.ensures.ok, c.in_ok-self.ensures.ok, c.make_room.ensures.choices.same_coder)
+          rw (c.in_ok-add.ensures.order, c.in_ok-add.ensures.interval, c.in_ok-make_room.ensures.choices.same_order, c.in_ok-add.ensures.ok, c.in_ok-add_key.ensures.ok, c.in_ok-self.ensures.ok, c.make_room.ensures.choices.same_compressor)
           (laid_added _ (g.C.Cmp.accepts old.block.cmp) (g.C.Cmp.cmp old.block.cmp) (g.C.Cmp.shortest_sep old.block.cmp) g.FP.FilterPolicy.filter_for g.FP.FilterPolicy.matches keeps
           (stage c.make_room.new.self) c.args.key.now c.args.value.now (written ++ made.bytes) pairs (c.requires.accepted c.in_ok-check_unbroken.ensures.ok) laid.1 c.in_ok-make_room.ensures.ready.0.filtered
           (rw (sym c.in_ok-make_room.ensures.choices.same_policy) at laid.0));

@@ -4,7 +4,7 @@ use Rattle.std.proofs.lemmas.Result.{err_from_is_err_and}
 use Rattle.leveldb_base.specs.BlockHandle.{handle_bytes}
 use Rattle.leveldb_table.specs.Block.{pairs_of}
 use Rattle.leveldb_table.specs.Table.{with_trailer}
-use Rattle.leveldb_table.proofs.TableSteps.{IfErr-below, OnOk-with, is_line}
+use Rattle.leveldb_table.proofs.TableLemmas.{IfErr-below, OnOk-with, is_line}
 use Rattle.leveldb_table.proofs.table_builder.builder_core.BuilderCore.close_block.Goals as goal
 
 pub returns-in_err-separator-clause-cause : goal.returns-in_err-separator-clause-cause
@@ -32,7 +32,7 @@ add_handle-requires-clause-rise g c =
     let order = g.met.C.Cmp.preorder c.args.self.now.block.cmp in
     let separates = g.met.C.Cmp.separates c.args.self.now.block.cmp in
     let line = is_line order (g.C.Cmp.shortest_sep c.args.self.now.block.cmp) separates (pairs_of _ c.args.self.now.index.built.0) (pairs_of _ c.args.self.now.block.built.0) c.args.next.now (handle_bytes c.in_ok-placed.placed.handle)
-    c.requires.closable.some c.requires.closable.ready.rise c.requires.closable.ready.accepted c.requires.closable.accepted c.requires.closable.behind in
+    c.requires.closable.some c.requires.closable.ready.rise c.requires.closable.ready.accepted c.requires.closable.accepted c.requires.closable.after in
     rw (c.requires.closable.ready.order, c.deref.ensures.value, c.in_ok-separator.ensures.ok, c.order.ensures, c.last_key-last.ensures) line.rise
 
 pub returns-in_err-add_handle-clause-cause : goal.returns-in_err-add_handle-clause-cause
@@ -45,7 +45,7 @@ returns-in_err-add_handle-clause-cause g c =
     inr (
     inr (
       c.in_ok-placed.placed.handle,
-      (placed.0, record { text = c.in_ok-block.block.items; made = rw (sym c.replace.ensures.value) c.in_ok-block.ensures.ok; coded = placed.1 }, c.in_ok-placed.placed.end, placed.2),
+      (placed.0, record { text = c.in_ok-block.block.items; made = rw (sym c.replace.ensures.value) c.in_ok-block.ensures.ok; decoded = placed.1 }, c.in_ok-placed.placed.end, placed.2),
       elim why [ inl code ↦ inr (inl (code, large code)) | inr memory ↦ inl memory ],
     )
     )
@@ -62,7 +62,7 @@ returns-clause-cause g c =
     inr (
     inr (
       handle,
-      (placed.0, record { text = c.in_ok-block.block.items; made = rw (sym c.replace.ensures.value) c.in_ok-block.ensures.ok; coded = placed.1 }, c.in_ok-placed.placed.end, placed.2),
+      (placed.0, record { text = c.in_ok-block.block.items; made = rw (sym c.replace.ensures.value) c.in_ok-block.ensures.ok; decoded = placed.1 }, c.in_ok-placed.placed.end, placed.2),
       inr (inr (subst (λ end. length filters < end / 2048) ends due, why)),
     )
     )) c.start_block.ensures.cause
@@ -84,11 +84,11 @@ returns-clause-ok g c =
         stored = placed.0;
         handle = c.in_ok-placed.placed.handle;
         made = rw (sym old) c.in_ok-block.ensures.ok;
-        coded = placed.1;
+        decoded = placed.1;
         begins = placed.2.begins;
         size = placed.2.size;
         fits = placed.2.fits;
-        spelled = refl;
+        encoded = refl;
         ends = placed.2.ends;
         line = line;
         none_open = rw (c.replace.ensures.after, c.in_ok-fresh.ensures.none) refl;
@@ -103,7 +103,7 @@ returns-clause-open_filter g c =
     let order = g.met.C.Cmp.preorder c.args.self.now.block.cmp in
     let separates = g.met.C.Cmp.separates c.args.self.now.block.cmp in
     let line = is_line order (g.C.Cmp.shortest_sep c.args.self.now.block.cmp) separates (pairs_of _ c.args.self.now.index.built.0) (pairs_of _ c.args.self.now.block.built.0) c.args.next.now (handle_bytes c.in_ok-placed.placed.handle)
-    c.requires.closable.some c.requires.closable.ready.rise c.requires.closable.ready.accepted c.requires.closable.accepted c.requires.closable.behind in
+    c.requires.closable.some c.requires.closable.ready.rise c.requires.closable.ready.accepted c.requires.closable.accepted c.requires.closable.after in
     OnOk-with c.start_block.result _ _ (λ opened. record {
       order = rw (c.in_ok-add_handle.ensures.order, c.replace.ensures.after, c.in_ok-fresh.ensures.order) c.requires.closable.ready.order;
       rise = rw (c.replace.ensures.after, c.in_ok-fresh.ensures.order, c.in_ok-fresh.ensures.none, append-nil, c.in_ok-add_handle.ensures.ok, c.deref.ensures.value, c.in_ok-separator.ensures.ok, c.order.ensures, c.last_key-last.ensures) line.rise;

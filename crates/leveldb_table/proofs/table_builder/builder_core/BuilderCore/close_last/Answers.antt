@@ -1,13 +1,13 @@
 use Rattle.std.proofs.Common.{◌≢◌, sym, ap, subst, arith, refl, None, inl, inr}
 use Rattle.std.specs.declared.cmp.Ordering.TheVariants.{Greater}
 use Rattle.std.proofs.lemmas.Result.{err_from_is_err_and}
-use Rattle.leveldb_env.specs.SinkLaws.{PutsAll-one}
-use Rattle.leveldb_env.specs.FilterBlockLaws.{keeps_keys}
+use Rattle.leveldb_env.proofs.SinkLemmas.{PutsAll-one}
+use Rattle.leveldb_env.proofs.FilterBlockLemmas.{keeps_keys}
 use Rattle.leveldb_table.specs.Block.{pairs_of}
-use Rattle.leveldb_table.specs.TableBuilding.{stage, last_of}
-use Rattle.leveldb_table.proofs.TableSteps.{OnOk-with, IfErr-with}
-use Rattle.leveldb_table.proofs.TableGrows.{laid_closed, last_open, some_pairs}
-use Rattle.leveldb_table.proofs.TableMade.{succeeds_last}
+use Rattle.leveldb_table.specs.TableBuilder.{stage, last_of}
+use Rattle.leveldb_table.proofs.TableLemmas.{OnOk-with, IfErr-with}
+use Rattle.leveldb_table.proofs.TableBuilderStageLemmas.{laid_closed, last_open, some_pairs}
+use Rattle.leveldb_table.proofs.TableBuilderFinishLemmas.{succeeds_last}
 use Rattle.leveldb_table.proofs.table_builder.builder_core.BuilderCore.close_last.Goals as goal
 
 pub close_block-requires-clause-closable : goal.close_block-requires-clause-closable
@@ -20,7 +20,7 @@ close_block-requires-clause-closable g c =
       ready = c.requires.sound;
       some = some;
       accepted = rw (c.deref.ensures.value, c.in_ok-next.ensures.ok, c.order.ensures, c.last_key-last.ensures) is.0;
-      behind = rw (c.deref.ensures.value, c.in_ok-next.ensures.ok, c.order.ensures, c.last_key-last.ensures) is.1;
+      after = rw (c.deref.ensures.value, c.in_ok-next.ensures.ok, c.order.ensures, c.last_key-last.ensures) is.1;
     }
 
 pub returns-clause-ok : goal.returns-clause-ok
@@ -41,10 +41,10 @@ returns-clause-ok g c =
         record {
           none_open = closed.2.none_open;
           accepted = λ _. rw (c.deref.ensures.value, c.in_ok-next.ensures.ok, c.order.ensures, c.last_key-last.ensures) is.0;
-          behind = λ _. rw (c.deref.ensures.value, c.in_ok-next.ensures.ok, c.order.ensures, c.last_key-last.ensures)
-              (subst (λ k. cmp k (g.C.Cmp.short_succ self.block.cmp (last_of self)) ≢ Greater) (sym (last_open pairs _ (pairs_of None self.block.built.0) begun.stands_for some)) is.1);
+          after = λ _. rw (c.deref.ensures.value, c.in_ok-next.ensures.ok, c.order.ensures, c.last_key-last.ensures)
+              (subst (λ k. cmp k (g.C.Cmp.short_succ self.block.cmp (last_of self)) ≢ Greater) (sym (last_open pairs _ (pairs_of None self.block.built.0) begun.pairs_are some)) is.1);
           successor = λ _. rw (c.deref.ensures.value, c.in_ok-next.ensures.ok, c.order.ensures, c.last_key-last.ensures)
-              (ap (g.C.Cmp.short_succ self.block.cmp) (sym (last_open pairs _ (pairs_of None self.block.built.0) begun.stands_for some)));
+              (ap (g.C.Cmp.short_succ self.block.cmp) (sym (last_open pairs _ (pairs_of None self.block.built.0) begun.pairs_are some)));
         },
       );
     }) c.close_block.ensures.ok

@@ -1,12 +1,11 @@
 use Rattle.std.proofs.Common.{◌++◌, sym, refl, append_assoc, inl, inr}
 use Rattle.std.proofs.lemmas.Result.{err_from_is_err_and, IfOk-weaker}
-use Rattle.leveldb_env.specs.SinkLaws.{PutsAll-trans}
-use Rattle.leveldb_env.specs.contracts.compressor.CompressorListCoders.TheImpl.{ghosts as coders}
-use Rattle.leveldb_env.specs.FilterBlockLaws.{keeps_keys}
-use Rattle.leveldb_table.specs.TableBuilding.{stage}
-use Rattle.leveldb_table.proofs.TableSteps.{IfErr-with}
-use Rattle.leveldb_table.proofs.TableSinks.{refused_with, stops_unset_at}
-use Rattle.leveldb_table.proofs.TableMade.{table_made}
+use Rattle.leveldb_env.proofs.SinkLemmas.{PutsAll-trans}
+use Rattle.leveldb_env.specs.contracts.compressor.CompressorListCompressors.TheImpl.{ghosts as compressors}
+use Rattle.leveldb_env.proofs.FilterBlockLemmas.{keeps_keys}
+use Rattle.leveldb_table.specs.TableBuilder.{stage}
+use Rattle.leveldb_table.proofs.TableLemmas.{IfErr-with}
+use Rattle.leveldb_table.proofs.TableBuilderFinishLemmas.{refused_with, stops_unset_at, table_made, PutsEnd-all, PutsEnd-same}
 use Rattle.leveldb_table.proofs.table_builder.builder_core.BuilderCore.finish.Goals as goal
 
 pub returns-in_err-check_unbroken-clause-cause : goal.returns-in_err-check_unbroken-clause-cause
@@ -21,7 +20,7 @@ returns-in_err-close_last-clause-cause g c =
 
 pub returns-clause-cause : goal.returns-clause-cause
 returns-clause-cause g c =
-    let cause = rw (c.in_ok-close_last.ensures.order, c.close_last.ensures.policy, c.close_last.ensures.coder) at c.put_end.ensures.cause in
+    let cause = rw (c.in_ok-close_last.ensures.order, c.close_last.ensures.policy, c.close_last.ensures.compressor) at c.put_end.ensures.cause in
     IfErr-with c.put_end.result _ _ (λ status why. inr (inr (c.in_ok-check_unbroken.ensures.ok, stage c.close_last.new.self, c.close_last.new.sink, c.in_ok-close_last.ensures.rest, why))) cause
 
 pub returns-in_err-close_last-clause-unset_rest : goal.returns-in_err-close_last-clause-unset_rest
@@ -30,12 +29,12 @@ returns-in_err-close_last-clause-unset_rest g c = λ unbroken none unset. absurd
 pub returns-clause-unset_rest : goal.returns-clause-unset_rest
 returns-clause-unset_rest g c = λ unbroken none unset.
     let self = c.args.self in
-    let cause = rw (c.in_ok-close_last.ensures.order, c.close_last.ensures.policy, c.close_last.ensures.coder) at c.put_end.ensures.cause in
+    let cause = rw (c.in_ok-close_last.ensures.order, c.close_last.ensures.policy, c.close_last.ensures.compressor) at c.put_end.ensures.cause in
     elim c.in_ok-close_last.ensures.rest [
       | inl (left, same, still) ↦
-          refused_with c.put_end.result _ _ (λ status. stops_unset_at ((coders g.dyn-1).codings c.args.coders.now) (g.C.Cmp.cmp self.block.cmp) (g.FP.FilterPolicy.too_large self.filter.policy) (g.FP.FilterPolicy.filter_for self.filter.policy) self.compressor
+          refused_with c.put_end.result _ _ (λ status. stops_unset_at ((compressors g.dyn-1).codings c.args.compressors.now) (g.C.Cmp.cmp self.block.cmp) (g.FP.FilterPolicy.too_large self.filter.policy) (g.FP.FilterPolicy.filter_for self.filter.policy) self.compressor
           (g.FP.FilterPolicy.name self.filter.policy) (stage c.close_last.new.self) g.S.Sink.puts g.S.Sink.flushes unset (stage self) c.close_last.new.sink c.args.sink.now status c.put_end.new.sink same still)
-          (c.put_end.ensures.unset (rw c.close_last.ensures.coder unset)) cause
+          (c.put_end.ensures.unset (rw c.close_last.ensures.compressor unset)) cause
       | inr closed ↦ absurd (closed.0 none)
     ]
 
@@ -48,11 +47,20 @@ returns-clause-ok g c =
     IfOk-weaker c.put_end.result _ _ (λ size end. record {
       bytes = last.bytes ++ end.bytes;
       mid = end.mid;
-      put = PutsAll-trans g.S.Sink.puts last.put end.put;
+      put = PutsAll-trans g.S.Sink.puts last.put (PutsEnd-all g.S.Sink.puts g.S.Sink.flushes end);
       flushed = end.flushed;
       made = λ written pairs begun.
           let laid = last.laid written pairs begun in
           rw (sym (append_assoc written last.bytes end.bytes)) (table_made _ (g.met.C.Cmp.preorder self.block.cmp) (g.C.Cmp.shortest_sep self.block.cmp) (g.met.C.Cmp.separates self.block.cmp)
           g.FP.FilterPolicy.filter_for g.FP.FilterPolicy.matches keeps g.FP.FilterPolicy.name self.filter.policy (g.C.Cmp.cmp mid.index.cmp) (g.C.Cmp.short_succ self.block.cmp) self.compressor (stage mid) last.next (written ++ last.bytes) end.bytes pairs size self.block.interval self.index.interval
-          c.in_ok-close_last.ensures.order c.close_last.ensures.policy c.close_last.ensures.intervals laid.0 laid.1 (rw c.close_last.ensures.coder at end.ended));
+          c.in_ok-close_last.ensures.order c.close_last.ensures.policy c.close_last.ensures.intervals laid.0 laid.1 (rw c.close_last.ensures.compressor at end.ended));
+    }) c.put_end.ensures.ok
+
+pub returns-clause-pieces : goal.returns-clause-pieces
+returns-clause-pieces g c =
+    IfOk-weaker c.put_end.result _ _ (λ size end. record {
+      last = stage c.close_last.new.self;
+      mid = c.close_last.new.sink;
+      closed = c.in_ok-close_last.ensures.rest;
+      ended = PutsEnd-same g.S.Sink.puts g.S.Sink.flushes g.FP.FilterPolicy.filter_for g.FP.FilterPolicy.name c.in_ok-close_last.ensures.order c.close_last.ensures.policy c.close_last.ensures.compressor end;
     }) c.put_end.ensures.ok

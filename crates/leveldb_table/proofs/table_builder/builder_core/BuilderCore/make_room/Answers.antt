@@ -1,25 +1,25 @@
 use Rattle.std.proofs.Common.{◌≡◌, [], ◌∙◌, sym, subst, arith, refl, inl, inr, None}
 use Rattle.std.specs.declared.cmp.Ordering.TheVariants.{Less, Greater}
-use Rattle.leveldb_env.specs.SinkLaws.{PutsAll-one, PutsAll-none}
-use Rattle.leveldb_env.specs.FilterBlockLaws.{keeps_keys}
+use Rattle.leveldb_env.proofs.SinkLemmas.{PutsAll-one, PutsAll-none}
+use Rattle.leveldb_env.proofs.FilterBlockLemmas.{keeps_keys}
 use Rattle.leveldb_table.specs.Block.{pairs_of}
-use Rattle.leveldb_table.specs.TableStages.{Follows, first_key}
-use Rattle.leveldb_table.specs.TableBuilding.{stage, IsFull}
-use Rattle.leveldb_table.proofs.TableSteps.{OnOk-with, OnOk-both, IfErr-with, is_line}
-use Rattle.leveldb_table.proofs.TableAdds.{is_full, not_full}
+use Rattle.leveldb_table.specs.TableBuilderStage.{Follows, first_key}
+use Rattle.leveldb_table.specs.TableBuilder.{stage, IsFull}
+use Rattle.leveldb_table.proofs.TableLemmas.{OnOk-with, OnOk-both, IfErr-with, is_line}
+use Rattle.leveldb_table.proofs.TableBuilderAddLemmas.{is_full, not_full}
 use Rattle.leveldb_table.proofs.table_builder.builder_core.BuilderCore.make_room.Goals.{else-entries-gt0-via-then-entries-gt0+else-size_estimate-self, else-entries-gt0-via-else-entries-gt0}
-use Rattle.leveldb_table.proofs.TableGrows.{laid_anew, follows_closed, laid_room, follows_all, behind_open, some_pairs}
+use Rattle.leveldb_table.proofs.TableBuilderStageLemmas.{laid_anew, follows_closed, laid_room, follows_all, after_open, some_pairs}
 use Rattle.leveldb_table.proofs.table_builder.builder_core.BuilderCore.make_room.Goals as goal
 
 pub close_block-requires-clause-closable : goal.close_block-requires-clause-closable
 close_block-requires-clause-closable g c =
     let some = some_pairs c.args.self.now.block.built.0 (omega (arith, c.if-entries-gt0.true, c.entries.ensures)) in
-    let less = behind_open (g.C.Cmp.cmp c.args.self.now.block.cmp) (pairs_of None c.args.self.now.index.built.0) (pairs_of None c.args.self.now.block.built.0) c.args.next.now some c.requires.sound.1.behind in
+    let less = after_open (g.C.Cmp.cmp c.args.self.now.block.cmp) (pairs_of None c.args.self.now.index.built.0) (pairs_of None c.args.self.now.block.built.0) c.args.next.now some c.requires.sound.1.after in
     record {
       ready = c.requires.sound.0;
       some = some;
       accepted = c.requires.sound.1.accepted;
-      behind = λ e. let clash : Less ≡ Greater = sym less ∙ e in cc;
+      after = λ e. let clash : Less ≡ Greater = sym less ∙ e in cc;
     }
 
 pub returns-then-size_estimate-self-clause-ok : goal.returns-then-size_estimate-self-clause-ok
@@ -58,7 +58,7 @@ returns-then-size_estimate-self-clause-ready g c =
     let some = some_pairs c.args.self.now.block.built.0 (omega (arith, c.if-entries-gt0.true, c.entries.ensures)) in
     let keeps = keeps_keys g.FP.FilterPolicy.filter_for g.FP.FilterPolicy.matches g.met.FP.FilterPolicy.finds in
     let cmp = g.C.Cmp.cmp c.args.self.now.block.cmp in
-    let less = behind_open cmp (pairs_of None c.args.self.now.index.built.0) (pairs_of None c.args.self.now.block.built.0) c.args.next.now some c.requires.sound.1.behind in
+    let less = after_open cmp (pairs_of None c.args.self.now.index.built.0) (pairs_of None c.args.self.now.block.built.0) c.args.next.now some c.requires.sound.1.after in
     let line = is_line (g.met.C.Cmp.preorder c.args.self.now.block.cmp) (g.C.Cmp.shortest_sep c.args.self.now.block.cmp) (g.met.C.Cmp.separates c.args.self.now.block.cmp)
     (pairs_of None c.args.self.now.index.built.0) (pairs_of None c.args.self.now.block.built.0) c.args.next.now [] some c.requires.sound.0.rise c.requires.sound.0.accepted c.requires.sound.1.accepted
     (λ e. let clash : Less ≡ Greater = sym less ∙ e in cc) in

@@ -1,9 +1,8 @@
 use Rattle.std.proofs.Common.{sym, ap, refl, ◌∙◌, subst, ◌+◌, inl, inr}
 use Rattle.std.proofs.lemmas.Result.{err_from_is_err_and, IfOk-weaker}
-use Rattle.leveldb_env.specs.SinkLaws.{PutsAll-one, PutsAll-trans}
-use Rattle.leveldb_table.specs.TableBuilding.{IsPlaced}
-use Rattle.leveldb_table.proofs.TableSteps.{IfErr-with}
-use Rattle.leveldb_table.proofs.TableSinks.{block_placed, block_ends}
+use Rattle.leveldb_table.specs.TableBuilder.{IsPlaced}
+use Rattle.leveldb_table.proofs.TableLemmas.{IfErr-with}
+use Rattle.leveldb_table.proofs.TableBuilderFinishLemmas.{block_placed, block_ends}
 use Rattle.leveldb_table.proofs.table_builder.builder_core.BuilderCore.put_end.Goals as goal
 
 pub returns-in_err-finish-clause-cause : goal.returns-in_err-finish-clause-cause
@@ -138,15 +137,14 @@ returns-clause-ok g c =
         filter_block = c.in_ok-finish.ensures.ok;
         meta_made = rw (sym c.filter_name-name.ensures, sym c.interval.ensures.same) c.in_ok-meta.ensures.ok;
         index_made = c.in_ok-into_bytes.ensures.ok;
-        meta_coded = meta.1;
-        index_coded = index.1;
+        meta_decoded = meta.1;
+        index_decoded = index.1;
         filter_placed = block_placed puts filters;
         meta_placed = subst (λ at. IsPlaced at meta.0 c.in_ok-meta-2.meta.handle) (block_ends puts filters) (block_placed puts meta.2);
         index_placed = subst (λ at. IsPlaced at index.0 c.in_ok-index.index.handle) (block_ends puts meta.2) (block_placed puts index.2);
-        spelled = refl;
+        encoded = refl;
         ends = footer.ends ∙ ap (λ n. n + 48) (block_ends puts index.2);
       };
-      put = PutsAll-trans puts (PutsAll-one puts filters.put) (PutsAll-trans puts (PutsAll-one puts meta.2.put) (PutsAll-trans puts (PutsAll-one puts index.2.put)
-          (PutsAll-one puts (rw c.new.ensures at footer.put))));
+      put = (_, filters.put, (_, meta.2.put, (_, index.2.put, (_, rw c.new.ensures at footer.put, refl))));
       flushed = footer.flushed;
     }) c.put_footer.ensures.ok

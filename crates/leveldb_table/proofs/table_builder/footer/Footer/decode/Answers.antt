@@ -4,7 +4,7 @@ use Rattle.std.proofs.lemmas.Bool.{not-true, not-false}
 use Rattle.std.specs.Cmp.Lexicographic.{pointwise, same_text, other_text}
 use Rattle.leveldb_base.specs.BlockHandle.{ReadsHandle}
 use Rattle.leveldb_table.specs.Footer.{magic}
-use Rattle.leveldb_table.proofs.Footers.{no_footer_of_length, no_footer_of_end, no_footer_of_meta, no_footer_of_index, no_footer_of_filler, is_footer}
+use Rattle.leveldb_table.proofs.FooterLemmas.{no_footer_of_length, no_footer_of_end, no_footer_of_meta, no_footer_of_index, no_footer_of_filler, is_footer}
 use Rattle.leveldb_table.proofs.table_builder.footer.Footer.decode.Goals as goal
 
 pub returns-then-from-ne-FULL_FOOTER_LENGTH : goal.returns-then-from-ne-FULL_FOOTER_LENGTH

@@ -1,4 +1,4 @@
-use Rattle.leveldb_table.proofs.Footers.{writes_footer}
+use Rattle.leveldb_table.proofs.FooterLemmas.{writes_footer}
 use Rattle.leveldb_table.proofs.table_builder.footer.Footer.encode.Goals as goal
 
 pub returns : goal.returns

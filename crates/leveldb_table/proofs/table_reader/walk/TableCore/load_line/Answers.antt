@@ -1,9 +1,9 @@
 use Rattle.std.proofs.Common.{◌≡◌, Some, ap, ◌∙◌, sym}
 use Rattle.leveldb_base.specs.Types.{pair_of}
-use Rattle.leveldb_table.specs.TableEnters.{line_of}
-use Rattle.leveldb_table.specs.TableReads.{lacking}
-use Rattle.leveldb_table.proofs.TableCalls.{reads_weaker}
-use Rattle.leveldb_table.proofs.TableSeeks.{names_one}
+use Rattle.leveldb_table.specs.TableReaderBlocks.{line_of}
+use Rattle.leveldb_table.specs.TableBlock.{lacking}
+use Rattle.leveldb_table.proofs.TableBlockLemmas.{reads_weaker}
+use Rattle.leveldb_table.proofs.TableReaderMovesLemmas.{names_one}
 use Rattle.leveldb_table.proofs.table_reader.walk.TableCore.load_line.Goals as goal
 
 pub returns-clause-reads : goal.returns-clause-reads

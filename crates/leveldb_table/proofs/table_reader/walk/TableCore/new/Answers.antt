@@ -1,17 +1,17 @@
 use Rattle.std.proofs.Common.{◌≡◌, None, ◌∙◌, ap, subst}
 use Rattle.leveldb_base.specs.declared.cmp.Cmp.{Ghosts as CmpGhosts}
-use Rattle.leveldb_table.specs.Block.{pairs_of, IsSpelled}
+use Rattle.leveldb_table.specs.Block.{pairs_of, HasEntries}
 use Rattle.leveldb_table.specs.BlockLaws.{one_block}
 use Rattle.leveldb_table.specs.declared.block.Block.{Block}
 use Rattle.leveldb_table.proofs.table_reader.walk.TableCore.new.Goals as goal
 
 -- a copy has the same pairs
-same_pairs : {C : Type 0} {order : CmpGhosts C} (copy block : Block C order) → copy.contents ≡ block.contents → copy.cmp ≡ block.cmp → pairs_of None copy.held.0 ≡ pairs_of None block.held.0
+same_pairs : {C : Type 0} {order : CmpGhosts C} (copy block : Block C order) → copy.contents ≡ block.contents → copy.cmp ≡ block.cmp → pairs_of None copy.entries.0 ≡ pairs_of None block.entries.0
 same_pairs {order = order} copy block contents ordered =
-    let spelled = subst (λ bytes. IsSpelled (order.cmp block.cmp) bytes copy.held.0) contents (subst (λ z. IsSpelled (order.cmp z) copy.contents copy.held.0) ordered copy.held.1.spelled) in
-    ap (pairs_of None) (one_block spelled block.held.1.spelled)
+    let encoded = subst (λ bytes. HasEntries (order.cmp block.cmp) bytes copy.entries.0) contents (subst (λ z. HasEntries (order.cmp z) copy.contents copy.entries.0) ordered copy.entries.1.encoded) in
+    ap (pairs_of None) (one_block encoded block.entries.1.encoded)
 
 pub returns-clause-lines : goal.returns-clause-lines
 returns-clause-lines g c =
     let copied = c.in_ok-clone.ensures.cases in
-    ap (λ (block : Block g.row.C.Denot g.C.Cmp). pairs_of None block.held.0) c.new.ensures.block ∙ same_pairs c.in_ok-clone.field-0 c.args.table.now.index copied.0 copied.1
+    ap (λ (block : Block g.row.C.Denot g.C.Cmp). pairs_of None block.entries.0) c.new.ensures.block ∙ same_pairs c.in_ok-clone.field-0 c.args.table.now.index copied.0 copied.1

@@ -1,14 +1,12 @@
 use Rattle.std.proofs.Common.{◌≡◌, None, Some, refl, sym, ◌∙◌, ap, inr}
 use Rattle.leveldb_base.specs.Types.{seek_position, pair_at, pair_of}
-use Rattle.leveldb_env.specs.contracts.compressor.CompressorListCoders.TheImpl
-use Rattle.leveldb_table.specs.TableEnters.{SeeksTo}
-use Rattle.leveldb_table.specs.TableMoves.{line_for, Sought}
-use Rattle.leveldb_table.specs.TableReads.{unnamed}
-use Rattle.leveldb_table.specs.TableWalk.{pairs_over, place_over}
-use Rattle.leveldb_table.proofs.TableMoves.{block_lines, line_lacks, moves_enters}
-use Rattle.leveldb_table.proofs.TablePlacesIn.{seek_none}
-use Rattle.leveldb_table.proofs.TableSeeks.{names_none, none_at, index_line, enters_ends, enters_own}
-use Rattle.leveldb_table.proofs.TablePaces.{seeks_none, seeks_lacking, line_by, sought_along}
+use Rattle.leveldb_env.specs.contracts.compressor.CompressorListCompressors.TheImpl
+use Rattle.leveldb_table.specs.TableReaderBlocks.{IsKeyPosition}
+use Rattle.leveldb_table.specs.TableReaderMoves.{line_for, ToKey}
+use Rattle.leveldb_table.specs.TableBlock.{unnamed}
+use Rattle.leveldb_table.specs.TableReaderWalk.{pairs_over, position_over}
+use Rattle.leveldb_table.proofs.TableReaderWalkLemmas.{block_lines, line_lacks, moves_enters, seek_none}
+use Rattle.leveldb_table.proofs.TableReaderMovesLemmas.{names_none, none_at, index_line, enters_ends, enters_own, seeks_none, seeks_lacking, line_by, sought_along}
 use Rattle.leveldb_table.proofs.table_reader.walk.TableCore.seek.Goals as goal
 
 pub returns-in_default : goal.returns-in_default
@@ -18,10 +16,10 @@ returns-in_default g c =
     let found = c.in_ok-seek.ensures in
     let none = none_at c.seek.new.self (sym c.current.ensures ∙ ap pair_of c.in_default.is) in
     record {
-      moves = moves_enters {Way = SeeksTo (g.C.Cmp.accepts c.args.table.now.cmp) (g.C.Cmp.cmp c.args.table.now.cmp) key} {to = λ pairs _. seek_position (g.C.Cmp.cmp c.args.table.now.cmp) pairs key} {Part_step = Sought key} old refl refl (λ parts place fit stands. (fit.0, fit.1, refl)) (λ bytes out sought. sought)
+      moves = moves_enters {Way = IsKeyPosition (g.C.Cmp.accepts c.args.table.now.cmp) (g.C.Cmp.cmp c.args.table.now.cmp) key} {to = λ pairs _. seek_position (g.C.Cmp.cmp c.args.table.now.cmp) pairs key} {Part_step = ToKey key} old refl refl (λ parts position fit is_there. (fit, refl)) (λ bytes out sought. sought)
           (enters_ends old _ tt (block_lines c.seek.new.self old.index found.block) (ap (λ z. z.cmp) found.block) refl
-          (λ bytes parts place right fit indexed. fit.2 ∙ seek_none (g.met.C.Cmp.preorder c.args.table.now.cmp) right.parted fit.0 key fit.1 (index_line parts old.index key _ indexed.lines indexed.ordered found.ok ∙ none))
-          (λ bytes. seeks_none ((TheImpl.ghosts g.dyn-1).codings c.args.coders.now) (g.C.Cmp.cmp c.args.table.now.cmp) bytes (pairs_over old.index) key (line_for key old) _ (sym found.ok ∙ none) found.ok refl));
+          (λ bytes parts position right fit indexed. fit.1 ∙ seek_none (g.met.C.Cmp.preorder c.args.table.now.cmp) right.parted right.accepted key fit.0 (index_line parts old.index key _ indexed.lines indexed.ordered found.ok ∙ none))
+          (λ bytes. seeks_none ((TheImpl.ghosts g.dyn-1).codings c.args.compressors.now) (g.C.Cmp.cmp c.args.table.now.cmp) bytes (pairs_over old.index) key (line_for key old) _ (sym found.ok ∙ none) found.ok refl));
     }
 
 pub returns-in_err-handle : goal.returns-in_err-handle
@@ -30,16 +28,16 @@ returns-in_err-handle g c =
     let key = c.args.key.now in
     let found = c.in_ok-seek.ensures in
     let lines = block_lines c.seek.new.self old.index found.block in
-    let line : pair_at (pairs_over c.seek.new.self) (place_over c.seek.new.self) ≡ Some (c.in-Some.field-0-0.now, c.in-Some.value.now) = sym c.current.ensures ∙ ap pair_of c.in-Some.is in
+    let line : pair_at (pairs_over c.seek.new.self) (position_over c.seek.new.self) ≡ Some (c.in-Some.field-0-0.now, c.in-Some.value.now) = sym c.current.ensures ∙ ap pair_of c.in-Some.is in
     record {
-      moves = moves_enters {Way = SeeksTo (g.C.Cmp.accepts c.args.table.now.cmp) (g.C.Cmp.cmp c.args.table.now.cmp) key} {to = λ pairs _. seek_position (g.C.Cmp.cmp c.args.table.now.cmp) pairs key} {Part_step = Sought key} old refl refl (λ parts place fit stands. (fit.0, fit.1, refl)) (λ bytes out sought. sought)
+      moves = moves_enters {Way = IsKeyPosition (g.C.Cmp.accepts c.args.table.now.cmp) (g.C.Cmp.cmp c.args.table.now.cmp) key} {to = λ pairs _. seek_position (g.C.Cmp.cmp c.args.table.now.cmp) pairs key} {Part_step = ToKey key} old refl refl (λ parts position fit is_there. (fit, refl)) (λ bytes out sought. sought)
           (enters_own old _ c.from_residual-in_err-handle.result lines (ap (λ z. z.cmp) found.block) refl c.from_residual-in_err-handle.ensures.1 (λ status is.
           let code = ap (λ z. z.code) is ∙ c.in_err-handle.ensures.err.0 in
           inr (
             code,
             λ bytes. (
-              λ parts place right fit indexed. line_lacks {status = status} c.seek.new.self right (lines ∙ indexed.lines) (unnamed (names_none line c.in_err-handle.ensures.err.1) code),
-              seeks_lacking ((TheImpl.ghosts g.dyn-1).codings c.args.coders.now) (g.C.Cmp.cmp c.args.table.now.cmp) bytes (pairs_over old.index) key (line_for key old) (unnamed (names_none (line_by lines found.ok line) c.in_err-handle.ensures.err.1) code),
+              λ parts position right fit indexed. line_lacks {status = status} c.seek.new.self right (lines ∙ indexed.lines) (unnamed (names_none line c.in_err-handle.ensures.err.1) code),
+              seeks_lacking ((TheImpl.ghosts g.dyn-1).codings c.args.compressors.now) (g.C.Cmp.cmp c.args.table.now.cmp) bytes (pairs_over old.index) key (line_for key old) (unnamed (names_none (line_by lines found.ok line) c.in_err-handle.ensures.err.1) code),
             ),
           )));
     }
@@ -49,6 +47,6 @@ returns g c =
     let old = c.args.self.now in
     let found = c.in_ok-seek.ensures in
     record {
-      moves = moves_enters {Way = SeeksTo (g.C.Cmp.accepts c.args.table.now.cmp) (g.C.Cmp.cmp c.args.table.now.cmp) c.args.key.now} {to = λ pairs _. seek_position (g.C.Cmp.cmp c.args.table.now.cmp) pairs c.args.key.now} old (block_lines c.seek.new.self old.index found.block) (ap (λ z. z.cmp) found.block)
-          (λ parts place fit stands. (fit.0, fit.1, refl)) (λ bytes out. sought_along ((TheImpl.ghosts g.dyn-1).codings c.args.coders.now) (g.C.Cmp.cmp c.args.table.now.cmp) bytes c.args.key.now old (record old { index = c.seek.new.self; inner = None }) out (block_lines c.seek.new.self old.index found.block) (ap (λ z. z.cmp) found.block)) c.enter.ensures.enters;
+      moves = moves_enters {Way = IsKeyPosition (g.C.Cmp.accepts c.args.table.now.cmp) (g.C.Cmp.cmp c.args.table.now.cmp) c.args.key.now} {to = λ pairs _. seek_position (g.C.Cmp.cmp c.args.table.now.cmp) pairs c.args.key.now} old (block_lines c.seek.new.self old.index found.block) (ap (λ z. z.cmp) found.block)
+          (λ parts position fit is_there. (fit, refl)) (λ bytes out. sought_along ((TheImpl.ghosts g.dyn-1).codings c.args.compressors.now) (g.C.Cmp.cmp c.args.table.now.cmp) bytes c.args.key.now old (record old { index = c.seek.new.self; inner = None }) out (block_lines c.seek.new.self old.index found.block) (ap (λ z. z.cmp) found.block)) c.enter.ensures.enters;
     }

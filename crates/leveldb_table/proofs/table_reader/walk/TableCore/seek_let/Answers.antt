@@ -1,16 +1,15 @@
 use Rattle.std.proofs.Common.{◌≡◌, true, false, None, Some, refl, sym, ◌∙◌, ap, inr}
 use Rattle.leveldb_base.specs.Types.{pair_at, pair_of}
-use Rattle.leveldb_env.specs.contracts.compressor.CompressorListCoders.TheImpl
-use Rattle.leveldb_table.specs.TableEnters.{SeeksTo}
-use Rattle.leveldb_table.specs.TableMoves.{line_for}
-use Rattle.leveldb_table.specs.TableReading.{lets}
-use Rattle.leveldb_table.specs.TableReads.{unnamed}
-use Rattle.leveldb_table.specs.TableWalk.{pairs_over, place_over}
-use Rattle.leveldb_table.proofs.TableCaches.{Gathers-refl}
-use Rattle.leveldb_table.proofs.TableCalls.{Looks-refl}
-use Rattle.leveldb_table.proofs.TableMoves.{block_lines, line_lacks}
-use Rattle.leveldb_table.proofs.TableSeeks.{names_one, names_none, none_at, index_line, let_none, let_by, enters_then, enters_ends, enters_own, enters_ok, enters_refused}
-use Rattle.leveldb_table.proofs.TablePaces.{looks_none, looks_unnamed, looks_refused, line_by, looked_up}
+use Rattle.leveldb_env.specs.contracts.compressor.CompressorListCompressors.TheImpl
+use Rattle.leveldb_table.specs.TableReaderBlocks.{IsKeyPosition}
+use Rattle.leveldb_table.specs.TableReaderMoves.{line_for}
+use Rattle.leveldb_table.specs.TableReader.{lets}
+use Rattle.leveldb_table.specs.TableBlock.{unnamed}
+use Rattle.leveldb_table.specs.TableReaderWalk.{pairs_over, position_over}
+use Rattle.leveldb_table.proofs.BlockCacheLemmas.{GainsBlocks-refl}
+use Rattle.leveldb_table.proofs.TableBlockLemmas.{KeepsDisk-refl}
+use Rattle.leveldb_table.proofs.TableReaderWalkLemmas.{block_lines, line_lacks}
+use Rattle.leveldb_table.proofs.TableReaderMovesLemmas.{names_one, names_none, none_at, index_line, let_none, let_by, enters_then, enters_ends, enters_own, enters_ok, enters_refused, looks_none, looks_unnamed, looks_refused, line_by, looked_up}
 use Rattle.leveldb_table.proofs.table_reader.walk.TableCore.seek_let.Goals as goal
 
 pub returns-in_default-clause-enters : goal.returns-in_default-clause-enters
@@ -20,8 +19,8 @@ returns-in_default-clause-enters g c =
     let found = c.in_ok-seek.ensures in
     let none = none_at c.seek.new.self (sym c.current.ensures ∙ ap pair_of c.in_default.is) in
     enters_ends old _ false (block_lines c.seek.new.self old.index found.block) (ap (λ z. z.cmp) found.block) refl
-    (λ bytes parts place right fit indexed. fit.2 ∙ let_none (g.C.Cmp.cmp c.args.table.now.cmp) (lets g.FP.FilterPolicy.matches c.args.table.now) key parts (index_line parts old.index key _ indexed.lines indexed.ordered found.ok ∙ none))
-    (λ bytes. looks_none ((TheImpl.ghosts g.dyn-1).codings c.args.coders.now) (g.C.Cmp.cmp c.args.table.now.cmp) bytes (pairs_over old.index) (lets g.FP.FilterPolicy.matches c.args.table.now) key (line_for key old) _ (sym found.ok ∙ none) found.ok refl)
+    (λ bytes parts position right fit indexed. fit.1 ∙ let_none (g.C.Cmp.cmp c.args.table.now.cmp) (lets g.FP.FilterPolicy.matches c.args.table.now) key parts (index_line parts old.index key _ indexed.lines indexed.ordered found.ok ∙ none))
+    (λ bytes. looks_none ((TheImpl.ghosts g.dyn-1).codings c.args.compressors.now) (g.C.Cmp.cmp c.args.table.now.cmp) bytes (pairs_over old.index) (lets g.FP.FilterPolicy.matches c.args.table.now) key (line_for key old) _ (sym found.ok ∙ none) found.ok refl)
 
 pub returns-in_err-handle-clause-enters : goal.returns-in_err-handle-clause-enters
 returns-in_err-handle-clause-enters g c =
@@ -29,14 +28,14 @@ returns-in_err-handle-clause-enters g c =
     let found = c.in_ok-seek.ensures in
     let lines = block_lines c.seek.new.self old.index found.block in
     let key = c.args.key.now in
-    let line : pair_at (pairs_over c.seek.new.self) (place_over c.seek.new.self) ≡ Some (c.in-Some.field-0-0.now, c.in-Some.value.now) = sym c.current.ensures ∙ ap pair_of c.in-Some.is in
+    let line : pair_at (pairs_over c.seek.new.self) (position_over c.seek.new.self) ≡ Some (c.in-Some.field-0-0.now, c.in-Some.value.now) = sym c.current.ensures ∙ ap pair_of c.in-Some.is in
     enters_own old _ c.from_residual-in_err-handle.result lines (ap (λ z. z.cmp) found.block) refl c.from_residual-in_err-handle.ensures.1 (λ status is.
     let code = ap (λ z. z.code) is ∙ c.in_err-handle.ensures.err.0 in
     inr (
       code,
       λ bytes. (
-        λ parts place right fit indexed. line_lacks {status = status} c.seek.new.self right (lines ∙ indexed.lines) (unnamed (names_none line c.in_err-handle.ensures.err.1) code),
-        looks_unnamed ((TheImpl.ghosts g.dyn-1).codings c.args.coders.now) (g.C.Cmp.cmp c.args.table.now.cmp) bytes (pairs_over old.index) (lets g.FP.FilterPolicy.matches c.args.table.now) key (line_for key old) status (names_none (line_by lines found.ok line) c.in_err-handle.ensures.err.1) code,
+        λ parts position right fit indexed. line_lacks {status = status} c.seek.new.self right (lines ∙ indexed.lines) (unnamed (names_none line c.in_err-handle.ensures.err.1) code),
+        looks_unnamed ((TheImpl.ghosts g.dyn-1).codings c.args.compressors.now) (g.C.Cmp.cmp c.args.table.now.cmp) bytes (pairs_over old.index) (lets g.FP.FilterPolicy.matches c.args.table.now) key (line_for key old) status (names_none (line_by lines found.ok line) c.in_err-handle.ensures.err.1) code,
       ),
     ))
 
@@ -48,9 +47,9 @@ returns-then-not-lets-clause-enters g c =
     let lines = block_lines c.seek.new.self old.index found.block in
     let refuses = ap (λ n. lets g.FP.FilterPolicy.matches c.args.table.now n key) (sym c.offset.ensures) ∙ sym c.lets.ensures ∙ c.if-not-lets.true in
     enters_ends old _ false lines (ap (λ z. z.cmp) found.block) refl
-    (λ bytes parts place right fit indexed. fit.2 ∙ let_by c.seek.new.self key c.in-Some.field-0-0.now c.in-Some.value.now c.in_ok-handle.handle (lets g.FP.FilterPolicy.matches c.args.table.now) false right (lines ∙ indexed.lines)
-    (index_line parts old.index key (place_over c.seek.new.self) indexed.lines indexed.ordered found.ok) (sym c.current.ensures ∙ ap pair_of c.in-Some.is) c.in_ok-handle.ensures.ok.1 refuses)
-    (λ bytes. looks_refused ((TheImpl.ghosts g.dyn-1).codings c.args.coders.now) (g.C.Cmp.cmp c.args.table.now.cmp) bytes (pairs_over old.index) (lets g.FP.FilterPolicy.matches c.args.table.now) key (line_for key old) _ c.in_ok-handle.handle c.in_ok-handle.ensures.ok.0 (names_one c.in_ok-handle.handle (line_by lines found.ok (sym c.current.ensures ∙ ap pair_of c.in-Some.is)) c.in_ok-handle.ensures.ok.1) refuses refl)
+    (λ bytes parts position right fit indexed. fit.1 ∙ let_by c.seek.new.self key c.in-Some.field-0-0.now c.in-Some.value.now c.in_ok-handle.handle (lets g.FP.FilterPolicy.matches c.args.table.now) false right (lines ∙ indexed.lines)
+    (index_line parts old.index key (position_over c.seek.new.self) indexed.lines indexed.ordered found.ok) (sym c.current.ensures ∙ ap pair_of c.in-Some.is) c.in_ok-handle.ensures.ok.1 refuses)
+    (λ bytes. looks_refused ((TheImpl.ghosts g.dyn-1).codings c.args.compressors.now) (g.C.Cmp.cmp c.args.table.now.cmp) bytes (pairs_over old.index) (lets g.FP.FilterPolicy.matches c.args.table.now) key (line_for key old) _ c.in_ok-handle.handle c.in_ok-handle.ensures.ok.0 (names_one c.in_ok-handle.handle (line_by lines found.ok (sym c.current.ensures ∙ ap pair_of c.in-Some.is)) c.in_ok-handle.ensures.ok.1) refuses refl)
 
 pub returns-in_err-enter-clause-enters : goal.returns-in_err-enter-clause-enters
 returns-in_err-enter-clause-enters g c =
@@ -60,14 +59,13 @@ returns-in_err-enter-clause-enters g c =
     let lines = block_lines c.seek.new.self old.index found.block in
     let passes = ap (λ n. lets g.FP.FilterPolicy.matches c.args.table.now n key) (sym c.offset.ensures) ∙ sym c.lets.ensures ∙ c.if-not-lets.false in
     enters_refused c.from_residual-in_err-enter.result c.from_residual-in_err-enter.ensures.1
-    (enters_then {Way = SeeksTo (g.C.Cmp.accepts c.args.table.now.cmp) (g.C.Cmp.cmp c.args.table.now.cmp) key} old (Looks-refl g.E.Env c.args.env.now) refl (Gathers-refl c.args.table.now.id _ c.args.cache.now) lines (ap (λ z. z.cmp) found.block)
-    (λ bytes has parts place right fit holds indexed. (
+    (enters_then {Way = IsKeyPosition (g.C.Cmp.accepts c.args.table.now.cmp) (g.C.Cmp.cmp c.args.table.now.cmp) key} old (KeepsDisk-refl g.E.Env c.args.env.now) refl (GainsBlocks-refl c.args.table.now.id _ c.args.cache.now) lines (ap (λ z. z.cmp) found.block)
+    (λ bytes has parts position right fit holds indexed. (
       fit.0,
-      fit.1,
-      fit.2 ∙ let_by c.seek.new.self key c.in-Some.field-0-0.now c.in-Some.value.now c.in_ok-handle.handle (lets g.FP.FilterPolicy.matches c.args.table.now) true right (lines ∙ indexed.lines)
-          (index_line parts old.index key (place_over c.seek.new.self) indexed.lines indexed.ordered found.ok) (sym c.current.ensures ∙ ap pair_of c.in-Some.is) c.in_ok-handle.ensures.ok.1 passes,
+      fit.1 ∙ let_by c.seek.new.self key c.in-Some.field-0-0.now c.in-Some.value.now c.in_ok-handle.handle (lets g.FP.FilterPolicy.matches c.args.table.now) true right (lines ∙ indexed.lines)
+          (index_line parts old.index key (position_over c.seek.new.self) indexed.lines indexed.ordered found.ok) (sym c.current.ensures ∙ ap pair_of c.in-Some.is) c.in_ok-handle.ensures.ok.1 passes,
     ))
-    (λ bytes has holds out. looked_up ((TheImpl.ghosts g.dyn-1).codings c.args.coders.now) (g.C.Cmp.cmp c.args.table.now.cmp) bytes (lets g.FP.FilterPolicy.matches c.args.table.now) key c.in_ok-handle.handle old (record old { index = c.seek.new.self; inner = None }) out lines (ap (λ z. z.cmp) found.block) c.in_ok-handle.ensures.ok.0 (names_one c.in_ok-handle.handle (line_by lines found.ok (sym c.current.ensures ∙ ap pair_of c.in-Some.is)) c.in_ok-handle.ensures.ok.1) passes) c.in_err-enter.ensures.enters)
+    (λ bytes has holds out. looked_up ((TheImpl.ghosts g.dyn-1).codings c.args.compressors.now) (g.C.Cmp.cmp c.args.table.now.cmp) bytes (lets g.FP.FilterPolicy.matches c.args.table.now) key c.in_ok-handle.handle old (record old { index = c.seek.new.self; inner = None }) out lines (ap (λ z. z.cmp) found.block) c.in_ok-handle.ensures.ok.0 (names_one c.in_ok-handle.handle (line_by lines found.ok (sym c.current.ensures ∙ ap pair_of c.in-Some.is)) c.in_ok-handle.ensures.ok.1) passes) c.in_err-enter.ensures.enters)
 
 pub returns-clause-enters : goal.returns-clause-enters
 returns-clause-enters g c =
@@ -77,11 +75,10 @@ returns-clause-enters g c =
     let lines = block_lines c.seek.new.self old.index found.block in
     let passes = ap (λ n. lets g.FP.FilterPolicy.matches c.args.table.now n key) (sym c.offset.ensures) ∙ sym c.lets.ensures ∙ c.if-not-lets.false in
     enters_ok c.valid.result
-    (enters_then {Way = SeeksTo (g.C.Cmp.accepts c.args.table.now.cmp) (g.C.Cmp.cmp c.args.table.now.cmp) key} old (Looks-refl g.E.Env c.args.env.now) refl (Gathers-refl c.args.table.now.id _ c.args.cache.now) lines (ap (λ z. z.cmp) found.block)
-    (λ bytes has parts place right fit holds indexed. (
+    (enters_then {Way = IsKeyPosition (g.C.Cmp.accepts c.args.table.now.cmp) (g.C.Cmp.cmp c.args.table.now.cmp) key} old (KeepsDisk-refl g.E.Env c.args.env.now) refl (GainsBlocks-refl c.args.table.now.id _ c.args.cache.now) lines (ap (λ z. z.cmp) found.block)
+    (λ bytes has parts position right fit holds indexed. (
       fit.0,
-      fit.1,
-      fit.2 ∙ let_by c.seek.new.self key c.in-Some.field-0-0.now c.in-Some.value.now c.in_ok-handle.handle (lets g.FP.FilterPolicy.matches c.args.table.now) true right (lines ∙ indexed.lines)
-          (index_line parts old.index key (place_over c.seek.new.self) indexed.lines indexed.ordered found.ok) (sym c.current.ensures ∙ ap pair_of c.in-Some.is) c.in_ok-handle.ensures.ok.1 passes,
+      fit.1 ∙ let_by c.seek.new.self key c.in-Some.field-0-0.now c.in-Some.value.now c.in_ok-handle.handle (lets g.FP.FilterPolicy.matches c.args.table.now) true right (lines ∙ indexed.lines)
+          (index_line parts old.index key (position_over c.seek.new.self) indexed.lines indexed.ordered found.ok) (sym c.current.ensures ∙ ap pair_of c.in-Some.is) c.in_ok-handle.ensures.ok.1 passes,
     ))
-    (λ bytes has holds out. looked_up ((TheImpl.ghosts g.dyn-1).codings c.args.coders.now) (g.C.Cmp.cmp c.args.table.now.cmp) bytes (lets g.FP.FilterPolicy.matches c.args.table.now) key c.in_ok-handle.handle old (record old { index = c.seek.new.self; inner = None }) out lines (ap (λ z. z.cmp) found.block) c.in_ok-handle.ensures.ok.0 (names_one c.in_ok-handle.handle (line_by lines found.ok (sym c.current.ensures ∙ ap pair_of c.in-Some.is)) c.in_ok-handle.ensures.ok.1) passes) c.in_ok-enter.ensures.enters)
+    (λ bytes has holds out. looked_up ((TheImpl.ghosts g.dyn-1).codings c.args.compressors.now) (g.C.Cmp.cmp c.args.table.now.cmp) bytes (lets g.FP.FilterPolicy.matches c.args.table.now) key c.in_ok-handle.handle old (record old { index = c.seek.new.self; inner = None }) out lines (ap (λ z. z.cmp) found.block) c.in_ok-handle.ensures.ok.0 (names_one c.in_ok-handle.handle (line_by lines found.ok (sym c.current.ensures ∙ ap pair_of c.in-Some.is)) c.in_ok-handle.ensures.ok.1) passes) c.in_ok-enter.ensures.enters)

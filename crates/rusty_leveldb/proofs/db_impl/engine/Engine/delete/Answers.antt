@@ -1,7 +1,7 @@
 -- Refused for want of memory or a batch that is too long, or what the write of the one change answered.
-use Rattle.std.proofs.Common.{◌∷◌, [], Some, None, false, refl, subst}
+use Rattle.std.proofs.Common.{◌∷◌, [], Some, None, false, refl, subst, inl, inr, arith}
 use Rattle.std.proofs.lemmas.Result.{err_from_is_err_and}
-use Rattle.leveldb_mem.specs.Batch.{item_of}
+use Rattle.leveldb_mem.specs.WriteBatch.{item_of}
 use Rattle.rusty_leveldb.specs.State.{write}
 use Rattle.rusty_leveldb.specs.Serves.{done_or}
 use Rattle.rusty_leveldb.specs.Engine.{Answers}
@@ -31,3 +31,13 @@ pub returns-clause-step : goal.returns-clause-step
 returns-clause-step g c =
     subst (λ items. Answers g.E.Env (g.C.Cmp.cmp c.args.self.now.options.cmp) (Some c.args.self.now) c.args.env.now (write items false) (done_or c.write.result) (Some c.write.new.self) c.write.new.env)
     (one_change c.in_ok-batch.batch c.delete.new.self (item_of c.args.key.now None) c.in_ok-batch.ensures.ok c.in_ok-delete.ensures.ok) c.write.ensures.step
+
+pub returns-in_err-check_open-clause-halted : goal.returns-in_err-check_open-clause-halted
+returns-in_err-check_open-clause-halted g c = λ halted.
+    let p = err_from_is_err_and c.from_residual.result c.from_residual.ensures.1 in
+    (refl, refl, rw (p.1, p.2) (c.in_err-check_open.ensures.cause, c.in_err-check_open.ensures.stuck))
+
+pub returns-in_err-check_open-clause-cause : goal.returns-in_err-check_open-clause-cause
+returns-in_err-check_open-clause-cause g c =
+    let p = err_from_is_err_and c.from_residual.result c.from_residual.ensures.1 in
+    rw (p.1, p.2) (record { later = omega arith; ok = tt; uncounted = λ why. refl; cause = inl (elim c.in_err-check_open.ensures.cause [ inl closed ↦ inl closed | inr broken ↦ inr (inl broken) ]) })

@@ -1,13 +1,14 @@
 -- A write at each of its exits: no number is left, no memory, a refused append, a refused sync, and done with a sync or without.
-use Rattle.std.proofs.Common.{◌≡◌, ◌+◌, ◌∙◌, ap, inl, inr, arith}
+use Rattle.std.proofs.Common.{◌≡◌, ◌+◌, ◌∙◌, ap, inl, inr, arith, ◌≤◌, subst, sym}
 use Rattle.std.proofs.lemmas.Result.{err_from_is_err_and}
-use Rattle.leveldb_mem.specs.Batch.{batch_of}
+use Rattle.leveldb_mem.specs.WriteBatch.{batch_of}
 use Rattle.rusty_leveldb.specs.State.{write}
 use Rattle.rusty_leveldb.proofs.Writes.Kept.{prepared_was, used_up_goes, memory_goes}
 use Rattle.rusty_leveldb.proofs.Writes.Append.{IsNext}
-use Rattle.rusty_leveldb.proofs.Writes.Causes.{append_cause, append_breaks, append_counted, still_sound, sync_cause, sync_counted, done_cause}
+use Rattle.rusty_leveldb.proofs.Writes.Causes.{append_cause, append_breaks, append_counted, append_time, sync_time, still_sound, sync_cause, sync_counted, done_cause}
 use Rattle.rusty_leveldb.proofs.Writes.Shut.{not_halted, shut}
-use Rattle.rusty_leveldb.proofs.Writes.Write.{batch_behind, is_next, follows, refused_append, refused_sync, done_plain, done_with_sync, last_plain, last_synced, options_plain, options_synced, stays_plain, stays_synced, stays_refused}
+use Rattle.rusty_leveldb.proofs.Writes.Write.{batch_behind, is_next, follows, refused_append, refused_sync, done_plain, done_with_sync, last_plain, last_synced, room_plain, room_synced, options_plain, options_synced, stays_plain, stays_synced, stays_refused}
+use Rattle.leveldb_mem.specs.MemTable.{HasRoom}
 use Rattle.rusty_leveldb.proofs.db_impl.engine.Engine.write.Goals as goal
 use Rattle.rusty_leveldb.proofs.db_impl.engine.Engine.write.Goals.{then-sync+in_ok-sync, else-sync}
 
@@ -48,7 +49,7 @@ returns-in_err-sync-clause-step g c store tells old was =
     let p = err_from_is_err_and c.from_residual-in_err-sync.result c.from_residual-in_err-sync.ensures.1 in
     rw (p.1, p.2) (refused_sync g.E.Env tells store (g.C.Cmp.cmp c.args.self.now.options.cmp) c.args.self.now c.args.env.now old was c.in_ok-check_open.ensures.ok.0 c.prepare.new.self c.prepare.ensures.entries c.prepare.ensures.last c.args.batch.items c.args.sync c.contents.result.now next c.append.new.self c.append.new.env c.append.ensures.rest c.append.ensures.mode c.in_ok-append.ensures.ok.0 c.in_ok-append.ensures.ok.1
     c.sync.new.self c.sync.new.env c.in_err-sync.field-0.0 c.sync.ensures.rest c.in_err-sync.ensures.mode_err
-    (c.in_err-sync.ensures.synced (still_sound g.E.Env c.args.self.now c.args.env.now c.in_ok-check_open.ensures.ok.0 c.in_ok-check_open.ensures.ok.1 c.args.batch.items c.contents.result.now next c.append.new.self.writer c.append.new.self.log c.append.new.env c.in_ok-append.ensures.ok.0 c.in_ok-append.ensures.ok.1)))
+    (c.in_err-sync.ensures.unsynced (still_sound g.E.Env c.args.self.now c.args.env.now c.in_ok-check_open.ensures.ok.0 c.in_ok-check_open.ensures.ok.1 c.args.batch.items c.contents.result.now next c.append.new.self.writer c.append.new.self.log c.append.new.env c.in_ok-append.ensures.ok.0 c.in_ok-append.ensures.ok.1)))
 
 pub returns-in_err-sync-clause-cause : goal.returns-in_err-sync-clause-cause
 returns-in_err-sync-clause-cause g c =
@@ -56,7 +57,7 @@ returns-in_err-sync-clause-cause g c =
     let p = err_from_is_err_and c.from_residual-in_err-sync.result c.from_residual-in_err-sync.ensures.1 in
     rw (p.1, p.2) (sync_cause g.E.Env c.args.self.now c.args.env.now c.in_ok-check_open.ensures.ok.0 c.in_ok-check_open.ensures.ok.1 c.args.batch.items c.contents.result.now next c.append.new.self.writer c.append.new.self.log c.append.new.env c.in_ok-append.ensures.ok.0 c.in_ok-append.ensures.ok.1 c.in_err-sync.field-0.0
     c.sync.new.self.writer c.sync.new.self.log c.sync.new.env
-    (c.in_err-sync.ensures.synced (still_sound g.E.Env c.args.self.now c.args.env.now c.in_ok-check_open.ensures.ok.0 c.in_ok-check_open.ensures.ok.1 c.args.batch.items c.contents.result.now next c.append.new.self.writer c.append.new.self.log c.append.new.env c.in_ok-append.ensures.ok.0 c.in_ok-append.ensures.ok.1)))
+    (c.in_err-sync.ensures.unsynced (still_sound g.E.Env c.args.self.now c.args.env.now c.in_ok-check_open.ensures.ok.0 c.in_ok-check_open.ensures.ok.1 c.args.batch.items c.contents.result.now next c.append.new.self.writer c.append.new.self.log c.append.new.env c.in_ok-append.ensures.ok.0 c.in_ok-append.ensures.ok.1)))
 
 pub insert-requires-clause-follows : goal.insert-requires-clause-follows
 insert-requires-clause-follows g c =
@@ -90,8 +91,8 @@ returns-clause-cause g c =
 pub returns-in_err-sync-clause-stays : goal.returns-in_err-sync-clause-stays
 returns-in_err-sync-clause-stays g c =
     let next : IsNext c.args.self.now.recent.last c.args.batch.items c.contents.result.now = is_next c.args.self.now.recent.last c.in_ok-first.first c.count.result c.args.batch.items c.set_sequence.new.self c.contents.result.now c.in_ok-first.ensures.ok.0 c.in_ok-first.ensures.ok.1 c.in_ok-first.ensures.ok.2 c.count.ensures c.set_sequence.ensures c.contents.ensures c.append.ensures.bytes in
-    let flushed = c.in_err-sync.ensures.synced (still_sound g.E.Env c.args.self.now c.args.env.now c.in_ok-check_open.ensures.ok.0 c.in_ok-check_open.ensures.ok.1 c.args.batch.items c.contents.result.now next c.append.new.self.writer c.append.new.self.log c.append.new.env c.in_ok-append.ensures.ok.0 c.in_ok-append.ensures.ok.1) in
-    stays_refused c.append.new.self.writer c.sync.new.self.writer c.args.self.now.mode c.sync.new.self.mode flushed.err
+    let flushed = c.in_err-sync.ensures.unsynced (still_sound g.E.Env c.args.self.now c.args.env.now c.in_ok-check_open.ensures.ok.0 c.in_ok-check_open.ensures.ok.1 c.args.batch.items c.contents.result.now next c.append.new.self.writer c.append.new.self.log c.append.new.env c.in_ok-append.ensures.ok.0 c.in_ok-append.ensures.ok.1) in
+    stays_refused c.append.new.self.writer c.sync.new.self.writer c.args.self.now.mode c.sync.new.self.mode flushed.2.err
 
 pub returns-clause-options : goal.returns-clause-options
 returns-clause-options g c =
@@ -127,3 +128,30 @@ returns-in_err-sync-clause-breaks g c = λ more. inr (inl c.in_err-sync.ensures.
 
 pub returns-clause-breaks : goal.returns-clause-breaks
 returns-clause-breaks g c = λ more. absurd (omega (arith, more, (returns-clause-cause g c).ok))
+
+pub returns-in_err-sync-clause-time : goal.returns-in_err-sync-clause-time
+returns-in_err-sync-clause-time g c = λ modelled.
+    let next : IsNext c.args.self.now.recent.last c.args.batch.items c.contents.result.now = is_next c.args.self.now.recent.last c.in_ok-first.first c.count.result c.args.batch.items c.set_sequence.new.self c.contents.result.now c.in_ok-first.ensures.ok.0 c.in_ok-first.ensures.ok.1 c.in_ok-first.ensures.ok.2 c.count.ensures c.set_sequence.ensures c.contents.ensures c.append.ensures.bytes in
+    let flushed = c.in_err-sync.ensures.unsynced (still_sound g.E.Env c.args.self.now c.args.env.now c.in_ok-check_open.ensures.ok.0 c.in_ok-check_open.ensures.ok.1 c.args.batch.items c.contents.result.now next c.append.new.self.writer c.append.new.self.log c.append.new.env c.in_ok-append.ensures.ok.0 c.in_ok-append.ensures.ok.1) in
+    sync_time g.E.Env c.args.self.now c.args.env.now c.in_ok-check_open.ensures.ok.0 c.in_ok-check_open.ensures.ok.1 c.args.batch.items c.contents.result.now next c.append.new.self.writer c.append.new.self.log c.append.new.env c.in_ok-append.ensures.ok.0 c.in_ok-append.ensures.ok.1
+    c.sync.new.self.writer c.sync.new.self.log c.sync.new.env flushed.2
+
+pub insert-requires-clause-room : goal.insert-requires-clause-room
+insert-requires-clause-room g c =
+    let batch_is : c.set_sequence.new.self ≡ batch_of (c.args.self.now.recent.last + 1) c.args.batch.items = batch_behind c.args.self.now.recent.last c.in_ok-first.first c.args.batch.items c.set_sequence.new.self c.in_ok-first.ensures.ok.0 c.set_sequence.ensures in
+    elim c.if-sync.branch [
+      | then-sync+in_ok-sync w ↦ subst (λ b. HasRoom c.if-sync.self.recent.kept b.items) (sym batch_is)
+          (room_synced c.args.self.now c.prepare.new.self c.args.batch.items c.in_ok-prepare.ensures.room c.append.new.self w.sync.new.self c.if-sync.self c.append.ensures.rest w.sync.ensures.rest w.self-is)
+      | else-sync w ↦ subst (λ b. HasRoom c.if-sync.self.recent.kept b.items) (sym batch_is)
+          (room_plain c.args.self.now c.prepare.new.self c.args.batch.items c.in_ok-prepare.ensures.room c.append.new.self c.if-sync.self c.append.ensures.rest w.self-is)
+    ]
+
+pub returns-clause-time : goal.returns-clause-time
+returns-clause-time g c = λ modelled.
+    let next : IsNext c.args.self.now.recent.last c.args.batch.items c.contents.result.now = is_next c.args.self.now.recent.last c.in_ok-first.first c.count.result c.args.batch.items c.set_sequence.new.self c.contents.result.now c.in_ok-first.ensures.ok.0 c.in_ok-first.ensures.ok.1 c.in_ok-first.ensures.ok.2 c.count.ensures c.set_sequence.ensures c.contents.ensures c.append.ensures.bytes in
+    elim c.if-sync.branch [
+      | then-sync+in_ok-sync w ↦ subst (λ e. (g.E.Env.observed c.args.env.now).moment ≤ (g.E.Env.observed e).moment) (sym w.env-is)
+          (sync_time g.E.Env c.args.self.now c.args.env.now c.in_ok-check_open.ensures.ok.0 c.in_ok-check_open.ensures.ok.1 c.args.batch.items c.contents.result.now next c.append.new.self.writer c.append.new.self.log c.append.new.env c.in_ok-append.ensures.ok.0 c.in_ok-append.ensures.ok.1
+          w.sync.new.self.writer w.sync.new.self.log w.sync.new.env (w.in_ok-sync.ensures.synced (still_sound g.E.Env c.args.self.now c.args.env.now c.in_ok-check_open.ensures.ok.0 c.in_ok-check_open.ensures.ok.1 c.args.batch.items c.contents.result.now next c.append.new.self.writer c.append.new.self.log c.append.new.env c.in_ok-append.ensures.ok.0 c.in_ok-append.ensures.ok.1)))
+      | else-sync w ↦ subst (λ e. (g.E.Env.observed c.args.env.now).moment ≤ (g.E.Env.observed e).moment) (sym w.env-is) (append_time g.E.Env c.args.self.now c.args.env.now c.in_ok-check_open.ensures.ok.0 c.in_ok-check_open.ensures.ok.1 c.args.batch.items c.contents.result.now next c.append.new.self.writer c.append.new.self.log c.append.new.env c.in_ok-append.ensures.ok.0 c.in_ok-append.ensures.ok.1)
+    ]

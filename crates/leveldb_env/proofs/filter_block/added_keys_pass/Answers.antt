@@ -1,5 +1,0 @@
-use Rattle.leveldb_env.specs.FilterBlockLaws.{keeps_keys}
-use Rattle.leveldb_env.proofs.filter_block.added_keys_pass.Goals as goal
-
-pub returns : goal.returns
-returns g c = keeps_keys g.FP.FilterPolicy.filter_for g.FP.FilterPolicy.matches g.met.FP.FilterPolicy.finds

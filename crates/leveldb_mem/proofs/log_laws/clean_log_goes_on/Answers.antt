@@ -1,8 +1,0 @@
-use Rattle.leveldb_mem.specs.LogLaws.{logs_append, framings_append}
-use Rattle.leveldb_mem.proofs.log_laws.clean_log_goes_on.Goals as goal
-
-pub returns-clause-logs : goal.returns-clause-logs
-returns-clause-logs c = logs_append
-
-pub returns-clause-framings : goal.returns-clause-framings
-returns-clause-framings c = framings_append

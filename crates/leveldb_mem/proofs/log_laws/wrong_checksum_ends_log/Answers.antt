@@ -1,8 +1,0 @@
-use Rattle.leveldb_mem.specs.LogLaws.{breaks_bad, breaks_once}
-use Rattle.leveldb_mem.proofs.log_laws.wrong_checksum_ends_log.Goals as goal
-
-pub returns-clause-bad : goal.returns-clause-bad
-returns-clause-bad c = breaks_bad
-
-pub returns-clause-once : goal.returns-clause-once
-returns-clause-once c = breaks_once

@@ -1,9 +1,0 @@
-use Rattle.std.proofs.Common.{arith, sym}
-use Rattle.leveldb_base.proofs.KeyTypesLemmas.{inner_key-read, inner_key-unread}
-use Rattle.leveldb_mem.proofs.memtable.iterator.inner_text.Goals as goal
-
-pub returns-in-Some : goal.returns-in-Some
-returns-in-Some c = sym (inner_key-read c.args.key.now c.in-Some.texts.0.now c.in-Some.texts.1.now c.in-Some.ensures)
-
-pub returns-in-None : goal.returns-in-None
-returns-in-None c = sym (inner_key-unread c.args.key.now (omega arith) c.in-None.ensures)

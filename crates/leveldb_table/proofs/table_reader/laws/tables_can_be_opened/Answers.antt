@@ -1,5 +1,0 @@
-use Rattle.leveldb_table.proofs.TableOpens.{opens_well}
-use Rattle.leveldb_table.proofs.table_reader.laws.tables_can_be_opened.Goals as goal
-
-pub returns : goal.returns
-returns c codings cmp meaning matches user name bytes pairs table known = opens_well table name matches known

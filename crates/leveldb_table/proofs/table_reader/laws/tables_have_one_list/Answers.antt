@@ -1,6 +1,0 @@
-use Rattle.leveldb_env.specs.Coders.{Decodes}
-use Rattle.leveldb_table.proofs.TableOpens.{one_table, decodes_one}
-use Rattle.leveldb_table.proofs.table_reader.laws.tables_have_one_list.Goals as goal
-
-pub returns : goal.returns
-returns c = record { list = λ codings cmp. one_table (Decodes codings) cmp; decoded = decodes_one }

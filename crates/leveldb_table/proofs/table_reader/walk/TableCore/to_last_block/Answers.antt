@@ -1,0 +1,111 @@
+use Rattle.std.proofs.Common.{◌≡◌, List, ℕ, None, sym, ◌∙◌, ap, subst, inl, inr, false, refl}
+use Rattle.leveldb_env.specs.contracts.compressor.CompressorListCompressors.TheImpl
+use Rattle.leveldb_table.specs.BlockCache.{HoldsOnlyOf}
+use Rattle.leveldb_table.specs.TableReader.{pairs_in}
+use Rattle.leveldb_table.specs.TableBlock.{FileHas}
+use Rattle.leveldb_table.specs.TableReaderWalk.{IsAtPosition, inner_position, inner_pairs, pairs_over, position_over}
+use Rattle.leveldb_table.specs.BlockWalk.{last_position}
+use Rattle.leveldb_table.proofs.TableBlockLemmas.{reads_weaker, reads_refused, reads_own, reads_ok}
+use Rattle.leveldb_table.proofs.TableReaderWalkLemmas.{last_of_none, ok_refused, err_holds, none_there, block_lines, line_lacks, some_none, IsInto, is_into}
+use Rattle.leveldb_table.proofs.TableReaderMovesLemmas.{last_none, last_is_there, enters_ends, to_no_block, into_lacking, into_at, into_empty}
+use Rattle.leveldb_table.proofs.table_reader.walk.TableCore.to_last_block.Goals as goal
+
+pub returns-in_err-load_line : goal.returns-in_err-load_line
+returns-in_err-load_line g c =
+    let codings = (TheImpl.ghosts g.dyn-1).codings c.args.compressors.now in
+    let cmp = g.C.Cmp.cmp c.args.table.now.cmp in
+    let none : inner_position c.load_line.new.self.inner ≡ None = ap inner_position c.in_err-load_line.ensures.err in
+    let index = c.seek_to_last.new.self in
+    let lines = block_lines index c.args.self.now.index c.in_ok-seek_to_last.ensures.block in
+    let old = c.args.self.now in
+    record {
+      enters = record {
+        reads = reads_refused g.E.Env c.from_residual-in_err-load_line.result c.from_residual-in_err-load_line.ensures.1
+            (reads_weaker g.E.Env _ (λ status lacks. (
+              lacks.0,
+              λ bytes has. (
+                λ parts position right fit holds indexed. line_lacks index right (lines ∙ indexed.lines) (lacks.1 bytes has),
+                λ holds. into_lacking codings cmp bytes (pairs_over old.index) last_position lines c.in_ok-seek_to_last.ensures.ok (lacks.1 bytes has),
+              ),
+            )) c.in_err-load_line.ensures.reads);
+        ok = λ bytes has parts position right fit holds indexed. ok_refused _ _ c.from_residual-in_err-load_line.result c.from_residual-in_err-load_line.ensures.1;
+        steps = λ bytes has holds. ok_refused _ _ c.from_residual-in_err-load_line.result c.from_residual-in_err-load_line.ensures.1;
+        err = err_holds c.from_residual-in_err-load_line.result none;
+        gathers = c.in_err-load_line.ensures.gathers;
+        same_lines = ap pairs_over c.in_err-load_line.ensures.index ∙ lines;
+        same_order = ap (λ z. z.block.cmp) c.in_err-load_line.ensures.index ∙ ap (λ z. z.cmp) c.in_ok-seek_to_last.ensures.block;
+      };
+    }
+
+pub returns : goal.returns
+returns g c =
+    let codings = (TheImpl.ghosts g.dyn-1).codings c.args.compressors.now in
+    let cmp = g.C.Cmp.cmp c.args.table.now.cmp in
+    let old = c.args.self.now in
+    let loaded = c.load_line.new.self in
+    let new = c.to_last.new.self in
+    let read = c.in_ok-load_line.ensures in
+    let step = c.in_ok-to_last.ensures in
+    let there = sym c.valid.ensures ∙ c.if-not-valid.false in
+    let index : new.index ≡ c.seek_to_last.new.self = step.index ∙ read.index in
+    let into : (bytes : List ℕ) → FileHas g.E.Env c.args.env.now c.args.table.now.file bytes → HoldsOnlyOf codings cmp c.args.table.now.id bytes c.args.cache.now
+    → IsInto codings cmp bytes (last_position (pairs_over old.index)) last_position old new = λ bytes has holds.
+    is_into codings cmp bytes (last_position (pairs_over old.index)) last_position old loaded new c.seek_to_last.new.self c.in_ok-seek_to_last.ensures.block c.in_ok-seek_to_last.ensures.ok there
+    read.index (read.block bytes has holds) step.index step.block step.pairs step.ok in
+    let none : inner_position new.inner ≡ None = none_there (inner_position new.inner) (sym step.there ∙ c.if-branch.false) in
+    record {
+      enters = record {
+        reads = reads_own g.E.Env c.empty_block_error.result read.reads.kept_disk read.reads.cause.ok c.empty_block_error.ensures
+            (λ status code. inr (
+              inl code,
+              λ bytes has. (
+                λ parts position right fit holds indexed. some_none (sym (last_is_there right indexed new (into bytes has holds)).0.1 ∙ none),
+                λ holds. into_empty codings cmp bytes old new (into bytes has holds) status (last_none (inner_pairs new.inner) (sym (into bytes has holds).position ∙ none)) code,
+              ),
+            ));
+        ok = λ bytes has parts position right fit holds indexed. ok_refused _ _ c.empty_block_error.result c.empty_block_error.ensures;
+        steps = λ bytes has holds. ok_refused _ _ c.empty_block_error.result c.empty_block_error.ensures;
+        err = err_holds c.empty_block_error.result none;
+        gathers = read.gathers;
+        same_lines = ap pairs_over index ∙ block_lines c.seek_to_last.new.self c.args.self.now.index c.in_ok-seek_to_last.ensures.block;
+        same_order = ap (λ z. z.block.cmp) index ∙ ap (λ z. z.cmp) c.in_ok-seek_to_last.ensures.block;
+      };
+    }
+
+pub returns-then-branch : goal.returns-then-branch
+returns-then-branch g c =
+    let codings = (TheImpl.ghosts g.dyn-1).codings c.args.compressors.now in
+    let cmp = g.C.Cmp.cmp c.args.table.now.cmp in
+    let old = c.args.self.now in
+    let loaded = c.load_line.new.self in
+    let new = c.to_last.new.self in
+    let read = c.in_ok-load_line.ensures in
+    let step = c.in_ok-to_last.ensures in
+    let there = sym c.valid.ensures ∙ c.if-not-valid.false in
+    let index : new.index ≡ c.seek_to_last.new.self = step.index ∙ read.index in
+    let into : (bytes : List ℕ) → FileHas g.E.Env c.args.env.now c.args.table.now.file bytes → HoldsOnlyOf codings cmp c.args.table.now.id bytes c.args.cache.now
+    → IsInto codings cmp bytes (last_position (pairs_over old.index)) last_position old new = λ bytes has holds.
+    is_into codings cmp bytes (last_position (pairs_over old.index)) last_position old loaded new c.seek_to_last.new.self c.in_ok-seek_to_last.ensures.block c.in_ok-seek_to_last.ensures.ok there
+    read.index (read.block bytes has holds) step.index step.block step.pairs step.ok in
+    record {
+      enters = record {
+        reads = reads_ok g.E.Env read.reads.kept_disk read.reads.cause.ok;
+        ok = λ bytes has parts position right fit holds indexed. subst (IsAtPosition cmp parts new) (sym fit) (last_is_there right indexed new (into bytes has holds)).1;
+        steps = λ bytes has holds. into_at codings cmp bytes old new (into bytes has holds) (sym step.there ∙ c.if-branch.true);
+        err = tt;
+        gathers = read.gathers;
+        same_lines = ap pairs_over index ∙ block_lines c.seek_to_last.new.self c.args.self.now.index c.in_ok-seek_to_last.ensures.block;
+        same_order = ap (λ z. z.block.cmp) index ∙ ap (λ z. z.cmp) c.in_ok-seek_to_last.ensures.block;
+      };
+    }
+
+pub returns-then-not-valid : goal.returns-then-not-valid
+returns-then-not-valid g c =
+    let old = c.args.self.now in
+    let found = c.in_ok-seek_to_last.ensures in
+    let none : position_over c.seek_to_last.new.self ≡ None = none_there (position_over c.seek_to_last.new.self) (sym c.valid.ensures ∙ c.if-not-valid.true) in
+    record {
+      enters = enters_ends {Fit = λ parts position. position ≡ last_position (pairs_in parts)} old _ false (block_lines c.seek_to_last.new.self old.index found.block) (ap (λ z. z.cmp) found.block) refl
+          (λ bytes parts position right fit indexed. fit ∙ last_of_none parts (ap last_position (sym indexed.lines) ∙ sym found.ok ∙ none))
+          (λ bytes. to_no_block ((TheImpl.ghosts g.dyn-1).codings c.args.compressors.now) (g.C.Cmp.cmp c.args.table.now.cmp) bytes (pairs_over old.index) last_position (last_position (pairs_over old.index)) _ (sym found.ok ∙ none) none refl);
+    }

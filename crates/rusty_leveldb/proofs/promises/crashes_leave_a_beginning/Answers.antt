@@ -1,8 +1,0 @@
-use Rattle.rusty_leveldb.proofs.Crashes.{crash_between, crash_inside}
-use Rattle.rusty_leveldb.proofs.promises.crashes_leave_a_beginning.Goals as goal
-
-pub returns-clause-between : goal.returns-clause-between
-returns-clause-between c = crash_between
-
-pub returns-clause-inside : goal.returns-clause-inside
-returns-clause-inside c = crash_inside
