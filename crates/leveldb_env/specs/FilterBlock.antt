@@ -1,6 +1,6 @@
 -- A filter block: one filter for each 2048 bytes of a table, made of the keys of the blocks that
 -- begin in them. What a filter is made of and what it matches is its policy's.
-use Rattle.std.specs.Prelude.{◌≡◌, ℕ, zero, suc, ◌+◌, ◌-◌, ◌*◌, ◌/◌, ◌^◌, ◌<◌, ◌≤◌, ◌⊎◌, Bool, true, List, [], ◌∷◌, ◌++◌, length, flat_map, replicate, slice_get, IsSomeAnd, Contains, refl, Option, None, Some, drop}
+use Rattle.std.specs.Prelude.{◌≡◌, ℕ, zero, suc, ◌+◌, ◌-◌, ◌*◌, ◌/◌, ◌^◌, ◌<◌, ◌≤◌, ◌⊎◌, Bool, true, List, [], ◌∷◌, ◌++◌, length, flat_map, replicate, slice_get, IsSomeAnd, Contains, refl, Option, None, Some, Result, OnErr, drop}
 use Rattle.std.specs.List.{concat}
 use Rattle.std.specs.Option.{option_map_or}
 use Rattle.std.specs.Coded.{Coded, code_by, coded×, coded_list, coded_ℕ}
@@ -86,6 +86,12 @@ with_filters make (suc others) building = record building {
 abbrev pub started : {FP : Type 0} → (List (List ℕ) → List ℕ) → ℕ → FiltersBuilt FP
     → FiltersBuilt FP
 started make offset building = with_filters make (offset / 2048 - length building.filters) building
+
+-- the policy stays, and at an Err all
+pub record KeepsPolicy {FP T : Type 0} (old : FiltersBuilt FP) (result : Result T Status)
+    (new : FiltersBuilt FP) : Type 0 where
+  pub policy : new.policy ≡ old.policy
+  pub err : OnErr result (new ≡ old)
 
 -- the filters at the end: keys that are left make one more
 abbrev pub finished : (List (List ℕ) → List ℕ) → List (List ℕ) → List (List ℕ) → List (List ℕ)

@@ -94,9 +94,8 @@ pub trait Env {
             (λ n. IsTrue models_disk
             → ReadsAt ((observed self.old).disk.files (name_of file.old))
             (offset_of file.old) n target.new) }
-        ensures offset { IfOk result
-            (λ n. IsTrue models_disk → offset_of file.new ≡ offset_of file.old + n) }
-        ensures file { IsTrue models_disk → name_of file.new ≡ name_of file.old }
+        ensures file { IsTrue models_disk → (name_of file.new ≡ name_of file.old)
+            × IfOk result (λ n. offset_of file.new ≡ offset_of file.old + n) }
         ensures cause { HasCause (IsMissing models_disk (name_of file.old) (observed self.old))
             (failures self.old) (failures self.new) result };
 

@@ -8,7 +8,7 @@ ghost use Rattle.std.specs.List.{concat};
 ghost use Rattle.leveldb_base.specs.Error.{IsOutOfMemory};
 ghost use Rattle.leveldb_base.specs.Varint.{little};
 ghost use Rattle.leveldb_base.specs.declared.error.StatusCode.TheVariants.{Corruption, NotSupported};
-ghost use Rattle.leveldb_env.specs.FilterBlock.{IsFilterBlock, IsNoFilterBlock, passes, filter_of, with_key, started, finished, IsFilterTooLarge, IsFilterNotMade, places_from, BeginsAt, RiseFrom, HasFiltersEndingAt, FindsFiltersEnd, numbers_in};
+ghost use Rattle.leveldb_env.specs.FilterBlock.{IsFilterBlock, IsNoFilterBlock, passes, filter_of, with_key, started, finished, KeepsPolicy, IsFilterTooLarge, IsFilterNotMade, places_from, BeginsAt, RiseFrom, HasFiltersEndingAt, FindsFiltersEnd, numbers_in};
 ghost use Rattle.leveldb_env.specs.FilterBlockLaws.{HasFiltersEndingAt-prop};
 
 use crate::filter::FilterPolicy;
@@ -98,13 +98,12 @@ impl<FP: FilterPolicy> FilterBlockBuilder<FP> {
         requires { 2048 * length self.old.filters ≤ offset }
         ensures ok { OnOk result
             (self.new ≡ started (FP.filter_for self.old.policy) offset self.old) }
-        ensures policy { self.new.policy ≡ self.old.policy }
         ensures open { OnOk result (length self.new.filters ≡ offset / 2048) }
         ensures none { offset / 2048 ≡ length self.old.filters → IsOk result }
         ensures not_too_large { OnOk result (length self.old.filters < offset / 2048
             → IsFilterTooLarge (FP.too_large self.old.policy)
             (FP.filter_for self.old.policy) self.old.filters self.old.keys → ⊥) }
-        ensures err { OnErr result (self.new ≡ self.old) }
+        ensures stays { KeepsPolicy self.old result self.new }
         ensures cause { IfErr result
             (IsFilterNotMade (FP.too_large self.old.policy)
             (FP.filter_for self.old.policy) self.old.filters self.old.keys) }

@@ -15,8 +15,8 @@ pub trait InfoSink: Drop {
 pub struct Logger(pub Box<dyn InfoSink>);
 
 impl Logger {
-    /// Hands the sink a text as a line. The line is lost if the sink fails or there is no memory for
-    /// it, which is no error.
+    /// Hands the sink a text as a line. The line is lost if the sink fails or there is no memory
+    /// for it, which is no error.
     pub fn log<D: Display + Drop>(&mut self, alloc: Global, text: D) {
         if let Ok(line) = format!(in alloc; "{text}\n") {
             let _ = self.0.write(line.as_bytes());

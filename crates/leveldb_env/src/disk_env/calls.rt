@@ -188,7 +188,8 @@ pub(super) fn lock(files: &impl Files<File = File>, name: &str) -> io::Result<Op
     }
 }
 
-// Opens `/dev/null`, and leaves it open if its descriptor is at most this one. Returns whether it is.
+// Opens `/dev/null`, and leaves it open if its descriptor is at most this one. Returns whether it
+// is.
 fn leave_open(files: &impl Files<File = File>, how: &OpenOptions, most: i32) -> io::Result<bool> {
     let file = how.open(files, "/dev/null")?;
     if file.as_raw_fd() > most {
