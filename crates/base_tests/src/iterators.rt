@@ -68,6 +68,11 @@ impl LdbIterator for Listed {
         Ok(())
     }
 
+    fn seek_to_last(&mut self) -> Result<()> {
+        self.at = self.pairs.len().checked_sub(1);
+        Ok(())
+    }
+
     fn current(&self) -> Option<(&[u8], &[u8])> {
         match self.at {
             None => None,
@@ -113,6 +118,10 @@ impl LdbIterator for Broken {
     }
 
     fn seek(&mut self, _key: &[u8]) -> Result<()> {
+        refused()
+    }
+
+    fn seek_to_last(&mut self) -> Result<()> {
         refused()
     }
 
@@ -177,6 +186,13 @@ impl<A: LdbIterator, B: LdbIterator> LdbIterator for Either<A, B> {
         }
     }
 
+    fn seek_to_last(&mut self) -> Result<()> {
+        match self {
+            Either::Left(it) => it.seek_to_last(),
+            Either::Right(it) => it.seek_to_last(),
+        }
+    }
+
     fn current(&self) -> Option<(&[u8], &[u8])> {
         match self {
             Either::Left(it) => it.current(),
@@ -231,12 +247,13 @@ fn walk(alloc: Global) -> Result<Either<Listed, Broken>> {
     Ok(Either::Left(Listed { pairs, at: None }))
 }
 
-/// Makes the move of a letter: advance, prev, the first pair, next, reset.
+/// Makes the move of a letter: advance, prev, the first pair, the last, next, reset.
 fn go_once<I: LdbIterator>(alloc: Global, it: &mut I, letter: u8) -> Result<()> {
     match letter {
         b'a' => drop(it.advance()?),
         b'p' => drop(it.prev()?),
         b'f' => it.seek_to_first()?,
+        b'l' => it.seek_to_last()?,
         b'n' => drop(it.next(alloc)?),
         _ => it.reset(),
     }
@@ -256,7 +273,7 @@ fn is_at<I: LdbIterator>(it: &I, index: Option<usize>) -> bool {
 }
 
 /// Moves, and the index of the pair after them.
-const TURNS: [(&str, Option<usize>); 25] = [
+const TURNS: [(&str, Option<usize>); 29] = [
     ("", None),
     ("a", Some(0)),
     ("aa", Some(1)),
@@ -277,6 +294,10 @@ const TURNS: [(&str, Option<usize>); 25] = [
     ("f", Some(0)),
     ("aaf", Some(0)),
     ("fp", None),
+    ("l", Some(2)),
+    ("al", Some(2)),
+    ("la", None),
+    ("lp", Some(1)),
     ("n", Some(0)),
     ("nnn", Some(2)),
     ("nnnn", None),
@@ -359,7 +380,7 @@ fn counts_what_is_left(rt: HostRuntime) -> Result<()> {
 #[test]
 fn a_failed_move_leaves_no_position(rt: HostRuntime) {
     let mut it: Either<Listed, Broken> = Either::Right(Broken);
-    for moves in ["a", "p", "f", "n"] {
+    for moves in ["a", "p", "f", "l", "n"] {
         let answer = go(rt.alloc(), &mut it, moves);
         assert!(rt; answer.is_err() && it.current().is_none(), "{moves}");
     }

@@ -5,7 +5,7 @@ use Rattle.std.specs.Ordering.{is_lt}
 use Rattle.std.specs.Cmp.{IsTotalOrder}
 use Rattle.std.specs.Prelude.{Contains, if◌then◌else◌, nat_lt, slice_get}
 use Rattle.std.proofs.lemmas.Bool.Decides.{nat_tests}
-use Rattle.leveldb_base.specs.Types.{Pair, position_within, previous_position, pair_at}
+use Rattle.leveldb_base.specs.Types.{Pair, position_within, previous_position, last_position, pair_at}
 use Rattle.leveldb_base.specs.History.{AreRising}
 use Rattle.leveldb_base.proofs.OrderLemmas.{lt_turn, le_le}
 use Rattle.leveldb_base.proofs.HistoryLemmas.{in_none, in_front, in_rest, in_cases, each_after}
@@ -41,6 +41,11 @@ previous_of_suc n =
     let t : nat_lt 0 (suc n) ≡ true = grind (arith, nat_tests) in
     let m : suc n - 1 ≡ n = omega arith in
     ap (λ b. if b then Some (suc n - 1) else None) t ∙ ap (λ k. Some k) m
+
+-- the last pair is the one before the end
+pub last_before_end : (pairs : List Pair) → last_position pairs ≡ previous_position (Some (length pairs))
+last_before_end [] = refl
+last_before_end (pair ∷ pairs) = sym (previous_of_suc (length pairs))
 
 -- the pair after a list of others
 pub at_seam : (xs ys : List Pair) (p : Pair) → slice_get (xs ++ p ∷ ys) (length xs) ≡ Some p

@@ -24,6 +24,11 @@ abbrev pub previous_position : Option ℕ → Option ℕ
 previous_position None = None
 previous_position (Some i) = if nat_lt 0 i then Some (i - 1) else None
 
+-- the position of the last pair, or none in an empty list
+abbrev pub last_position : List Pair → Option ℕ
+last_position [] = None
+last_position (pair ∷ pairs) = Some (length pairs)
+
 -- how many keys at the front are before the key
 abbrev pub count_before : (List ℕ → List ℕ → Ordering) → List ℕ → List Pair → ℕ
 count_before cmp key [] = 0

@@ -3,7 +3,7 @@
 ghost use Rattle.std.specs.Prelude.{◌≡◌, ◌⊎◌, List, ℕ, Option, None, IfOk, IfErr, OnOk, OnErr, is_some};
 ghost use Rattle.std.specs.declared.cmp.Ordering.{Ordering};
 ghost use Rattle.leveldb_base.specs.declared.error.Status.{Status};
-ghost use Rattle.leveldb_base.specs.Types.{Pair, IsPosition, SameWalk, position_within, next_position, previous_position, seek_position, pair_at, pair_of, copied_pair};
+ghost use Rattle.leveldb_base.specs.Types.{Pair, IsPosition, SameWalk, position_within, next_position, previous_position, last_position, seek_position, pair_at, pair_of, copied_pair};
 ghost use Rattle.leveldb_base.specs.Error.{IsOutOfMemory};
 
 use crate::error::Result;
@@ -79,7 +79,7 @@ impl Default for FileMetaData {
 }
 
 /// A walk over a list of pairs of a key and a value, which no call changes. An iterator is at one
-/// of the pairs or at no position, as a new one is. `advance`, `prev`, the two seeks and `next`
+/// of the pairs or at no position, as a new one is. `advance`, `prev`, the three seeks and `next`
 /// move it. A move that fails leaves no position, and the walk can go on from there.
 pub trait LdbIterator {
     // the list
@@ -119,6 +119,13 @@ pub trait LdbIterator {
         ensures keeps { SameWalk pairs order fails self.old self.new }
         ensures ok { OnOk result (position self.new
             ≡ seek_position (order self.old) (pairs self.old) key.now) }
+        ensures err { OnErr result (position self.new ≡ None) }
+        ensures cause { IfErr result (fails self.old self.new) };
+
+    /// Moves to the last pair, or to no position in an empty list.
+    fn seek_to_last(&mut self) -> Result<()>
+        ensures keeps { SameWalk pairs order fails self.old self.new }
+        ensures ok { OnOk result (position self.new ≡ last_position (pairs self.old)) }
         ensures err { OnErr result (position self.new ≡ None) }
         ensures cause { IfErr result (fails self.old self.new) };
 

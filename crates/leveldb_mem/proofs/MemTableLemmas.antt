@@ -19,7 +19,7 @@ use Rattle.leveldb_base.specs.Cmp.{internal_accepts, memtable_accepts, IsPreorde
 use Rattle.leveldb_base.specs.CmpLaws.{length-internal_key, user_part-internal_key, sequence_part-internal_key, internal_accepts-internal_key, alike_right, itself_equal}
 use Rattle.leveldb_base.proofs.KeyTypesLemmas.{type_part-internal_key, inner_key-sized, inner_key-memtable_key}
 use Rattle.leveldb_base.specs.declared.key_types.ValueType.{ValueType}
-use Rattle.leveldb_base.specs.Types.{Pair, count_before, position_within}
+use Rattle.leveldb_base.specs.Types.{Pair, count_before, position_within, last_position}
 use Rattle.leveldb_base.specs.declared.key_types.ValueType.TheVariants.{TypeValue}
 use Rattle.leveldb_mem.specs.MemTable.{value_length, entry_of, type_of, bytes_of_value, value_of, entry_key, entry_from, inner_value, entries_in, IsEntryPair, internal_pair, bytes_in, Kept, KeepsRoom, memory_of_entries, Grows, HasNewest, FindsNewest, IsValueAt}
 use Rattle.leveldb_mem.specs.WriteBatch.{change_encoding, entry_bytes, BatchOf}
@@ -175,6 +175,10 @@ length-walked pairs = length-map (entries_in pairs) internal_pair ∙ length-map
 
 pub within_walked : (pairs : List Pair) (i : ℕ) → position_within pairs i ≡ position_within (walked pairs) i
 within_walked pairs i = ap (λ n. cond (nat_lt i n) (Some i) None) (sym (length-walked pairs))
+
+pub last_walked : (pairs : List Pair) → last_position pairs ≡ last_position (walked pairs)
+last_walked [] = refl
+last_walked (pair ∷ pairs) = ap (λ n. Some n) (sym (length-walked pairs))
 
 pub walked_at : (pairs : List Pair) (i : ℕ) → i < length pairs → All IsEntryPair pairs → slice_get (walked pairs) i ≡ Some (inner_key (key_at pairs i), inner_value (key_at pairs i))
 walked_at pairs i h each =

@@ -98,30 +98,30 @@ module _ {accepts : List ℕ → Bool} {cmp : List ℕ → List ℕ → Ordering
       (λ (less : cmp (key_at pairs (length pairs - 1)) key ≡ Less). gap_after o sorted key ok at end (omega (arith, ge)) less) which)
       (cases_lt (length pairs) 1)
 
--- the place before a node, where a search found what comes before it
-module _ (nodes : List ℕ) (node before : ℕ) (has : rank nodes node < length nodes) (is : rank (head ∷ nodes) before ≡ rank nodes node) where
-  pub before_head : before ≡ head → None ≡ previous_position (Some (rank nodes node))
+-- the position before an index, where a node is the last before it
+module _ (nodes : List ℕ) (index before : ℕ) (within : index ≤ length nodes) (is : rank (head ∷ nodes) before ≡ index) where
+  pub before_head : before ≡ head → None ≡ previous_position (Some index)
   before_head e =
-      let none : rank nodes node ≡ 0 = sym is ∙ rank-same head before nodes (sym e) in
+      let none : index ≡ 0 = sym is ∙ rank-same head before nodes (sym e) in
       ap (λ i. previous_position (Some i)) (sym none)
 
-  some_before : before ≢ head → 0 < rank nodes node
+  some_before : before ≢ head → 0 < index
   some_before other =
       ⊎_elim
-      (λ (lt : rank nodes node < 1). absurd (other (sym (rank-zero head before nodes (omega (arith, is, lt))))))
-      (λ (ge : 1 ≤ rank nodes node). omega (arith, ge)) (cases_lt (rank nodes node) 1)
+      (λ (lt : index < 1). absurd (other (sym (rank-zero head before nodes (omega (arith, is, lt))))))
+      (λ (ge : 1 ≤ index). omega (arith, ge)) (cases_lt index 1)
 
-  pub before_node : before ≢ head → Some (rank nodes before) ≡ previous_position (Some (rank nodes node))
+  pub before_node : before ≢ head → Some (rank nodes before) ≡ previous_position (Some index)
   before_node other =
       let some = some_before other in
       let one = rank-later head before nodes (omega (arith, is, some)) in
-      let same : rank nodes before ≡ rank nodes node - 1 = omega (arith, one, is) in
-      ap (λ i. Some i) same ∙ sym (cond-true _ _ _ (lt-ltb 0 (rank nodes node) some))
+      let same : rank nodes before ≡ index - 1 = omega (arith, one, is) in
+      ap (λ i. Some i) same ∙ sym (cond-true _ _ _ (lt-ltb 0 index some))
 
   pub before_has : before ≢ head → rank nodes before < length nodes
   before_has other =
       let some = some_before other in
-      let one = rank-later head before nodes (omega (arith, is, some)) in omega (arith, one, is, has)
+      let one = rank-later head before nodes (omega (arith, is, some)) in omega (arith, one, is, within)
 
 -- a path stays one where the words and nodes are the same
 pub same_path : (words words' order order' path : List ℕ) (at : ℕ) → words' ≡ words → order' ≡ order → place_of order path ≡ at → IsPathTo words path 12 (take at order)

@@ -9,7 +9,8 @@ ghost use Rattle.leveldb_base.specs.declared.error.StatusCode.TheVariants.{Alrea
 ghost use Rattle.leveldb_base.specs.History.{placed, greatest, AreRising};
 ghost use Rattle.leveldb_base.specs.Varint.{varint, sized};
 ghost use Rattle.leveldb_base.specs.KeyTypes.{inner_key, internal_cmp, user_part, sequence_part};
-ghost use Rattle.leveldb_base.specs.Types.{position_within, previous_position, seek_position};
+ghost use Rattle.leveldb_base.specs.Types.{position_within, previous_position, last_position};
+ghost use Rattle.leveldb_base.specs.Types.{seek_position};
 ghost use Rattle.leveldb_mem.specs.WriteBatch.{item_of};
 ghost use Rattle.leveldb_mem.specs.Placed.{rank};
 ghost use Rattle.leveldb_mem.specs.SkipMap.{HasNode, position_of};
@@ -273,6 +274,16 @@ impl<C: UserCmp> MemTable<C> {
             (HasNode self.now.nodes (map internal_pair self.now.kept.entries)) }
     {
         self.map.previous(node)
+    }
+
+    // The node of the last entry.
+    fn last(&self) -> Option<usize>
+        ensures position { position_of self.now.nodes result
+            ≡ last_position (map internal_pair self.now.kept.entries) }
+        ensures within { ForSome result
+            (HasNode self.now.nodes (map internal_pair self.now.kept.entries)) }
+    {
+        self.map.last()
     }
 
     // The node of the first internal key at or after this one.

@@ -6,7 +6,8 @@ ghost use Rattle.std.specs.Option.{ForSome};
 ghost use Rattle.leveldb_base.specs.Error.{IsOutOfMemory};
 ghost use Rattle.leveldb_base.specs.declared.error.StatusCode.TheVariants.{InvalidArgument};
 ghost use Rattle.leveldb_base.specs.declared.error.StatusCode.TheVariants.{AlreadyExists};
-ghost use Rattle.leveldb_base.specs.Types.{seek_position, position_within, previous_position, pair_at};
+ghost use Rattle.leveldb_base.specs.Types.{seek_position, position_within, previous_position};
+ghost use Rattle.leveldb_base.specs.Types.{last_position, pair_at};
 ghost use Rattle.leveldb_mem.specs.Placed.{rank};
 ghost use Rattle.leveldb_mem.specs.Searching.{key_at, count_while, IsParted};
 ghost use Rattle.leveldb_mem.specs.SkipMap.{IsSorted, Inserts, HasKey, HasNode, position_of};
@@ -211,6 +212,16 @@ impl<C: Cmp> SkipMap<C> {
         if before == HEAD { None } else { Some(before) }
     }
 
+    /// The last node.
+    #[inline]
+    pub(crate) fn last(&self) -> Option<usize>
+        ensures position { position_of self.now.nodes result ≡ last_position self.now.pairs }
+        ensures within { ForSome result (HasNode self.now.nodes self.now.pairs) }
+    {
+        let last = self.pairs.path_to_end()[0] as usize;
+        if last == HEAD { None } else { Some(last) }
+    }
+
     /// The comparator.
     #[inline]
     pub(crate) fn comparator(&self) -> &C
@@ -374,6 +385,11 @@ impl<'a, C: Cmp> LdbIterator for SkipMapIter<'a, C> {
 
     fn seek(&mut self, key: &[u8]) -> Result<()> {
         self.node = self.map.first_at(key);
+        Ok(())
+    }
+
+    fn seek_to_last(&mut self) -> Result<()> {
+        self.node = self.map.last();
         Ok(())
     }
 

@@ -13,13 +13,13 @@ use Rattle.std.specs.List.{All}
 use Rattle.std.specs.declared.cmp.Ordering.TheVariants.{Less, Equal, Greater}
 use Rattle.std.proofs.lemmas.List.Elements.{All-head, All-tail}
 use Rattle.byteorder.specs.Endian.{little_number}
-use Rattle.leveldb_base.specs.Types.{Pair, position_within, next_position, previous_position, count_before, seek_position}
+use Rattle.leveldb_base.specs.Types.{Pair, position_within, next_position, previous_position, count_before, seek_position, last_position}
 use Rattle.leveldb_base.specs.Varint.{little, varint}
 use Rattle.leveldb_base.specs.Cmp.{IsPreorderOn}
 use Rattle.leveldb_env.proofs.FilterBlockLemmas.{length-fours, number_at}
 use Rattle.leveldb_table.specs.Block.{BlockEntry, entry_bytes, key_of, pairs_of, SharesFrom, AreEntries, points_from, restart_points, parts_bytes, LengthsFit, block_bytes, AreEntriesEndingAt, RiseAfter, KeysRise}
 use Rattle.leveldb_table.specs.BlockLaws.{length-entry_bytes-ge, one_entry}
-use Rattle.leveldb_table.specs.BlockWalk.{last_key, start_of, entries_before, IsRestartPoint, SharesPrefixOf, CanLoad, CanSeekFrom, IsSpot, IsWithin, position_of, IsEntryBetween, IsEntryEndingAt, last_position, HasKeyAt}
+use Rattle.leveldb_table.specs.BlockWalk.{last_key, start_of, entries_before, IsRestartPoint, SharesPrefixOf, CanLoad, CanSeekFrom, IsSpot, IsWithin, position_of, IsEntryBetween, IsEntryEndingAt, HasKeyAt}
 use Rattle.leveldb_table.specs.BlockCheck.{ReadsEntry, entry_in}
 use Rattle.leveldb_table.specs.declared.block.entry.EntryParts.{EntryParts}
 use Rattle.leveldb_table.specs.declared.block.walk.Spot.{Spot}

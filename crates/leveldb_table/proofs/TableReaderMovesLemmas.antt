@@ -6,7 +6,7 @@ use Rattle.std.specs.declared.cmp.Ordering.{Ordering}
 use Rattle.std.proofs.lemmas.Option.{slice_get-get_or}
 use Rattle.leveldb_base.specs.BlockHandle.{Handle, handle_bytes, HandleFits}
 use Rattle.leveldb_base.specs.Cmp.{IsPreorderOn}
-use Rattle.leveldb_base.specs.Types.{Pair, IsPosition, position_within, next_position, previous_position, seek_position, pair_at}
+use Rattle.leveldb_base.specs.Types.{Pair, IsPosition, position_within, next_position, previous_position, seek_position, pair_at, last_position}
 use Rattle.leveldb_base.specs.declared.cmp.Cmp.{Ghosts as CmpGhosts}
 use Rattle.leveldb_base.specs.declared.error.Status.{Status}
 use Rattle.leveldb_base.specs.declared.error.StatusCode.TheVariants.{Corruption}
@@ -20,7 +20,6 @@ use Rattle.leveldb_table.specs.TableReaderBlocks.{IsAfterLine, IsBeforeBlock, le
 use Rattle.leveldb_table.specs.TableReader.{pairs_in, HasParts}
 use Rattle.leveldb_table.specs.TableBlock.{KeepsDisk, FileHas, ForBytesOf, IsNamedBy, NamesNone, LacksLine}
 use Rattle.leveldb_table.specs.TableReaderWalk.{IsAtPairOrNone, IsAtPosition, MovesInTable, Outcome, inner_block, inner_pairs, inner_position, pairs_over, position_over, table_position, TablePosition, IsNamed}
-use Rattle.leveldb_table.specs.BlockWalk.{last_position}
 use Rattle.leveldb_table.specs.BlockLaws.{IsWithin-position}
 use Rattle.leveldb_table.specs.declared.block.Block.{Block}
 use Rattle.leveldb_table.specs.declared.block.owned.BlockWalk.{BlockWalk}

@@ -11,7 +11,7 @@ use Rattle.std.specs.declared.cmp.Ordering.{Ordering}
 use Rattle.std.specs.declared.cmp.Ordering.TheVariants.{Less, Equal, Greater}
 use Rattle.std.specs.Prelude.{OnOk, OnErr, IsErrAnd, is_some, IfOk}
 use Rattle.leveldb_base.specs.Cmp.{IsPreorderOn}
-use Rattle.leveldb_base.specs.Types.{Pair, position_within, next_position, previous_position, count_before, seek_position, pair_at, IsPosition}
+use Rattle.leveldb_base.specs.Types.{Pair, position_within, next_position, previous_position, count_before, seek_position, pair_at, IsPosition, last_position}
 use Rattle.leveldb_base.specs.BlockHandle.{Handle, handle_bytes}
 use Rattle.leveldb_base.proofs.BlockHandleLemmas.{one_handle}
 use Rattle.leveldb_base.specs.declared.cmp.Cmp.{Ghosts as CmpGhosts}
@@ -22,7 +22,6 @@ use Rattle.leveldb_table.specs.Table.{Part, IsPart, AreParted, IsAtOrAfterAll, I
 use Rattle.leveldb_table.specs.TableReaderBlocks.{IsAfterLine, IsBlockOf, line_of, IsIndexed, MovesFromLine, let_position}
 use Rattle.leveldb_table.specs.TableReader.{pairs_in, HasParts, found_in}
 use Rattle.leveldb_table.specs.TableReaderWalk.{IsAtPair, IsAtPairOrNone, IsAtPosition, MovesInTable, Outcome, inner_block, inner_pairs, inner_position, pairs_over, position_over, table_position, current_of}
-use Rattle.leveldb_table.specs.BlockWalk.{last_position}
 use Rattle.leveldb_table.specs.Cache.{Cached}
 use Rattle.leveldb_table.specs.Block.{HasEntries, pairs_of}
 use Rattle.leveldb_table.specs.BlockLaws.{one_block, IsWithin-position}

@@ -80,8 +80,3 @@ IsEntryBetween bytes entries key spot start next =
 abbrev pub IsEntryEndingAt : List ℕ → List BlockEntry → List ℕ → Option Spot → ℕ → Type 0
 IsEntryEndingAt bytes entries key spot next =
     IsSomeAnd spot (λ there. IsSpot bytes entries key there × (there.next ≡ next))
-
--- the position of the last pair
-abbrev pub last_position : List Pair → Option ℕ
-last_position [] = None
-last_position (pair ∷ pairs) = Some (length pairs)

@@ -5,7 +5,7 @@
 use Rattle.std.specs.Prelude.{◌≡◌, ◌≢◌, ◌⊎◌, ◌+◌, ℕ, Bool, true, false, List, [], Option, None, Some, Ok, Err, IsOkAnd}
 use Rattle.std.specs.declared.cmp.Ordering.{Ordering}
 use Rattle.leveldb_base.specs.BlockHandle.{Handle, HandleFits}
-use Rattle.leveldb_base.specs.Types.{Pair, position_within, next_position, previous_position, seek_position, pair_at}
+use Rattle.leveldb_base.specs.Types.{Pair, position_within, next_position, previous_position, seek_position, pair_at, last_position}
 use Rattle.leveldb_base.specs.declared.cmp.Cmp.{Ghosts as CmpGhosts}
 use Rattle.leveldb_base.specs.declared.error.Status.{Status}
 use Rattle.leveldb_base.specs.declared.error.StatusCode.TheVariants.{Corruption}
@@ -14,7 +14,6 @@ use Rattle.leveldb_table.specs.Block.{IsBlock}
 use Rattle.leveldb_table.specs.TableReader.{lines_of, lets}
 use Rattle.leveldb_table.specs.TableBlock.{IsNamedBy, NamesNone, LacksLine}
 use Rattle.leveldb_table.specs.TableReaderWalk.{TablePosition, Outcome, IsNamed, inner_position, pairs_over, position_over, table_position}
-use Rattle.leveldb_table.specs.BlockWalk.{last_position}
 use Rattle.leveldb_table.specs.declared.table_reader.Table.{Table}
 use Rattle.leveldb_table.specs.declared.table_reader.walk.TableCore.{TableCore}
 

@@ -72,6 +72,11 @@ impl<'a, C: UserCmp> LdbIterator for MemtableIterator<'a, C> {
         Ok(())
     }
 
+    fn seek_to_last(&mut self) -> Result<()> {
+        self.node = self.table.last();
+        Ok(())
+    }
+
     fn current(&self) -> Option<(&[u8], &[u8])> {
         match self.node {
             None => None,

@@ -1,8 +1,8 @@
 //! A walk over a block, beside a borrow of it.
-ghost use Rattle.std.specs.Prelude.{◌≡◌, None, OnOk, OnErr, IfErr};
+ghost use Rattle.std.specs.Prelude.{◌≡◌, None};
 ghost use Rattle.leveldb_base.specs.Error.{IsOutOfMemory};
 ghost use Rattle.leveldb_table.specs.Block.{pairs_of};
-ghost use Rattle.leveldb_table.specs.BlockWalk.{IsWithin, position_of, last_position};
+ghost use Rattle.leveldb_table.specs.BlockWalk.{IsWithin, position_of};
 ghost use Rattle.leveldb_table.specs.BlockLaws.{IsWithin-prop, IsWithin-position};
 
 use crate::block::{Block, BlockCore};
@@ -32,18 +32,6 @@ impl<'a, C: Cmp> BlockIter<'a, C> {
             core: BlockCore::new(alloc),
         }
     }
-
-    /// Moves to the last pair, or to no position in an empty block.
-    pub fn seek_to_last(&mut self) -> Result<()>
-        ensures block { self.new.block.now ≡ self.old.block.now }
-        ensures ok { OnOk result (position_of self.new.block.now.entries.0 self.new.core.spot
-            ≡ last_position (pairs_of None self.old.block.now.entries.0)) }
-        ensures err { OnErr result
-            (position_of self.new.block.now.entries.0 self.new.core.spot ≡ None) }
-        ensures cause { IfErr result IsOutOfMemory }
-    {
-        self.core.seek_to_last(self.block)
-    }
 }
 
 impl<'a, C: Cmp> LdbIterator for BlockIter<'a, C> {
@@ -65,6 +53,10 @@ impl<'a, C: Cmp> LdbIterator for BlockIter<'a, C> {
 
     fn seek(&mut self, key: &[u8]) -> Result<()> {
         self.core.seek(self.block, key)
+    }
+
+    fn seek_to_last(&mut self) -> Result<()> {
+        self.core.seek_to_last(self.block)
     }
 
     fn current(&self) -> Option<(&[u8], &[u8])> {

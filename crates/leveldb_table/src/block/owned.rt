@@ -1,9 +1,9 @@
 //! A walk over a block that it holds.
 ghost use Rattle.std.specs.Prelude.{◌≡◌, None, Some, IfOk, IfErr, OnOk, OnErr, is_some, option_map};
-ghost use Rattle.leveldb_base.specs.Types.{next_position, previous_position, seek_position, pair_at};
+ghost use Rattle.leveldb_base.specs.Types.{next_position, previous_position, seek_position, pair_at, last_position};
 ghost use Rattle.leveldb_base.specs.Error.{IsOutOfMemory};
 ghost use Rattle.leveldb_table.specs.Block.{pairs_of};
-ghost use Rattle.leveldb_table.specs.BlockWalk.{IsWithin, position_of, last_position};
+ghost use Rattle.leveldb_table.specs.BlockWalk.{IsWithin, position_of};
 ghost use Rattle.leveldb_table.specs.BlockLaws.{IsWithin-prop, IsWithin-position};
 
 use crate::block::{Block, BlockCore};
@@ -38,18 +38,6 @@ impl<C: Cmp> BlockWalk<C> {
         ensures { result.now ≡ self.now.block }
     {
         &self.block
-    }
-
-    /// Moves to the last pair, or to no position in an empty block.
-    pub fn seek_to_last(&mut self) -> Result<()>
-        ensures block { self.new.block ≡ self.old.block }
-        ensures ok { OnOk result (position_of self.new.block.entries.0 self.new.core.spot
-            ≡ last_position (pairs_of None self.old.block.entries.0)) }
-        ensures err { OnErr result
-            (position_of self.new.block.entries.0 self.new.core.spot ≡ None) }
-        ensures cause { IfErr result IsOutOfMemory }
-    {
-        self.core.seek_to_last(&self.block)
     }
 
     /// The pair at which it is: the key's bytes become the result's, and the value's are shared
@@ -111,6 +99,17 @@ impl<C: Cmp> LdbIterator for BlockWalk<C> {
         ensures cause { IfErr result IsOutOfMemory }
     {
         self.core.seek(&self.block, key)
+    }
+
+    fn seek_to_last(&mut self) -> Result<()>
+        ensures block { self.new.block ≡ self.old.block }
+        ensures ok { OnOk result (position_of self.new.block.entries.0 self.new.core.spot
+            ≡ last_position (pairs_of None self.old.block.entries.0)) }
+        ensures err { OnErr result
+            (position_of self.new.block.entries.0 self.new.core.spot ≡ None) }
+        ensures cause { IfErr result IsOutOfMemory }
+    {
+        self.core.seek_to_last(&self.block)
     }
 
     fn current(&self) -> Option<(&[u8], &[u8])> {

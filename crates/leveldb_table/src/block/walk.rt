@@ -1,9 +1,9 @@
 //! A walk over a block, which keeps no borrow of it.
 ghost use Rattle.std.specs.Prelude.{◌≡◌, ℕ, ◌<◌, ◌≤◌, length, Some, None, MatchOption, IfOk, OnOk, OnErr, IfErr, is_some};
-ghost use Rattle.leveldb_base.specs.Types.{next_position, previous_position, seek_position, position_within, pair_at, pair_of};
+ghost use Rattle.leveldb_base.specs.Types.{next_position, previous_position, seek_position, position_within, pair_at, pair_of, last_position};
 ghost use Rattle.leveldb_base.specs.Error.{IsOutOfMemory};
 ghost use Rattle.leveldb_table.specs.Block.{pairs_of};
-ghost use Rattle.leveldb_table.specs.BlockWalk.{last_position, start_of, IsRestartPoint, CanLoad, IsWithin, position_of, IsEntryBetween, IsEntryEndingAt};
+ghost use Rattle.leveldb_table.specs.BlockWalk.{start_of, IsRestartPoint, CanLoad, IsWithin, position_of, IsEntryBetween, IsEntryEndingAt};
 
 use crate::block::Block;
 use crate::block::entry::take_entry;

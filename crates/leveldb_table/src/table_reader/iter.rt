@@ -1,9 +1,8 @@
 //! A walk over a table, beside borrows of what it takes.
 ghost use Rattle.std.specs.Prelude.{◌≡◌, ℕ, List, Option, None, Some, IfOk, IfErr, is_some, true};
 ghost use Rattle.std.specs.declared.cmp.Ordering.{Ordering};
-ghost use Rattle.leveldb_base.specs.Types.{next_position, previous_position, seek_position, position_within, pair_of, pair_at};
+ghost use Rattle.leveldb_base.specs.Types.{next_position, previous_position, seek_position, position_within, pair_of, pair_at, last_position};
 ghost use Rattle.leveldb_base.specs.Error.{IsOutOfMemory};
-ghost use Rattle.leveldb_table.specs.BlockWalk.{last_position};
 ghost use Rattle.leveldb_table.specs.Table.{Part};
 
 use crate::block_cache::BlockCache;

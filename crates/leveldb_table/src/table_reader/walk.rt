@@ -3,14 +3,13 @@ ghost use Rattle.std.specs.Prelude.{◌≡◌, ◌⊎◌, List, ℕ, None, Some,
 ghost use Rattle.std.specs.Option.{IsSomeAnd};
 ghost use Rattle.std.specs.declared.cmp.Ordering.{Ordering};
 ghost use Rattle.leveldb_base.specs.BlockHandle.{handle_bytes, HandleFits};
-ghost use Rattle.leveldb_base.specs.Types.{next_position, previous_position, seek_position, position_within, pair_of, pair_at};
+ghost use Rattle.leveldb_base.specs.Types.{next_position, previous_position, seek_position, position_within, pair_of, pair_at, last_position};
 ghost use Rattle.leveldb_base.specs.Error.{IsOutOfMemory};
 ghost use Rattle.leveldb_base.specs.declared.error.StatusCode.TheVariants.{Corruption};
 ghost use Rattle.leveldb_table.specs.Table.{Part, HasBlockAt};
 ghost use Rattle.leveldb_table.specs.BlockCache.{HoldsOnlyOf, IsBlockOfFile, GainsBlocks};
 ghost use Rattle.leveldb_table.specs.TableReaderBlocks.{IsAfterLine, IsBeforeBlock, IsKeyPosition, IsLetPosition};
 ghost use Rattle.leveldb_table.specs.TableBlock.{LacksBlock, LacksLine, ReadsFile, ForBytesOf, IsLackError, IsNamedBy};
-ghost use Rattle.leveldb_table.specs.BlockWalk.{last_position};
 
 use crate::block::BlockWalk;
 use crate::block_cache::BlockCache;

@@ -1,4 +1,4 @@
-use Rattle.std.proofs.Common.{◌≡◌, ◌<◌, ◌∙◌, ◌∷◌, inr, Some, refl, slice_index, ap, arith, length}
+use Rattle.std.proofs.Common.{◌≡◌, ◌≤◌, ◌∙◌, ◌∷◌, inr, Some, refl, slice_index, ap, arith, length}
 use Rattle.std.specs.Ordering.{is_lt}
 use Rattle.leveldb_mem.specs.Placed.{head, rank}
 use Rattle.leveldb_mem.specs.Searching.{key_at, count_while}
@@ -11,7 +11,7 @@ pub path_to-requires-clause-parted : goal.path_to-requires-clause-parted
 path_to-requires-clause-parted g c =
     let it = c.self.inside in
     let there = rw (← c.self.view_is) at c.requires in
-    let has : rank it.pairs.order c.args.node < length it.pairs.order = omega (arith, there, c.self.invariant.2) in
+    let within : rank it.pairs.order c.args.node ≤ length it.pairs.order = omega (arith, there, c.self.invariant.2) in
     let o = g.met.C.Cmp.preorder it.cmp in
     let i = rank it.pairs.order c.args.node in
     let ok = accepted_key o c.self.invariant.0 i there in
@@ -21,35 +21,35 @@ pub returns-then-before-eq-HEAD-clause-position : goal.returns-then-before-eq-HE
 returns-then-before-eq-HEAD-clause-position g c =
     let it = c.self.inside in
     let there = rw (← c.self.view_is) at c.requires in
-    let has : rank it.pairs.order c.args.node < length it.pairs.order = omega (arith, there, c.self.invariant.2) in
+    let within : rank it.pairs.order c.args.node ≤ length it.pairs.order = omega (arith, there, c.self.invariant.2) in
     let o = g.met.C.Cmp.preorder it.cmp in
     let i = rank it.pairs.order c.args.node in
     let before = slice_index c.path_to.result 0 in
     let count = ap (λ k. count_while (λ z. is_lt (g.C.Cmp.cmp it.cmp z k)) it.pairs.pairs) c.key.ensures.value ∙ count_of_key o c.self.invariant.0 i there in
     let is : rank (head ∷ it.pairs.order) before ≡ i = c.path_to.ensures.place ∙ count in
-    rw (← c.self.view_is) (before_head it.pairs.order c.args.node before has is c.if-before-eq-HEAD.true)
+    rw (← c.self.view_is) (before_head it.pairs.order i before within is c.if-before-eq-HEAD.true)
 
 pub returns-else-before-eq-HEAD-clause-position : goal.returns-else-before-eq-HEAD-clause-position
 returns-else-before-eq-HEAD-clause-position g c =
     let it = c.self.inside in
     let there = rw (← c.self.view_is) at c.requires in
-    let has : rank it.pairs.order c.args.node < length it.pairs.order = omega (arith, there, c.self.invariant.2) in
+    let within : rank it.pairs.order c.args.node ≤ length it.pairs.order = omega (arith, there, c.self.invariant.2) in
     let o = g.met.C.Cmp.preorder it.cmp in
     let i = rank it.pairs.order c.args.node in
     let before = slice_index c.path_to.result 0 in
     let count = ap (λ k. count_while (λ z. is_lt (g.C.Cmp.cmp it.cmp z k)) it.pairs.pairs) c.key.ensures.value ∙ count_of_key o c.self.invariant.0 i there in
     let is : rank (head ∷ it.pairs.order) before ≡ i = c.path_to.ensures.place ∙ count in
-    rw (← c.self.view_is) (before_node it.pairs.order c.args.node before has is c.if-before-eq-HEAD.false)
+    rw (← c.self.view_is) (before_node it.pairs.order i before within is c.if-before-eq-HEAD.false)
 
 pub returns-else-before-eq-HEAD-clause-within : goal.returns-else-before-eq-HEAD-clause-within
 returns-else-before-eq-HEAD-clause-within g c =
     let it = c.self.inside in
     let there = rw (← c.self.view_is) at c.requires in
-    let has : rank it.pairs.order c.args.node < length it.pairs.order = omega (arith, there, c.self.invariant.2) in
+    let within : rank it.pairs.order c.args.node ≤ length it.pairs.order = omega (arith, there, c.self.invariant.2) in
     let o = g.met.C.Cmp.preorder it.cmp in
     let i = rank it.pairs.order c.args.node in
     let before = slice_index c.path_to.result 0 in
     let count = ap (λ k. count_while (λ z. is_lt (g.C.Cmp.cmp it.cmp z k)) it.pairs.pairs) c.key.ensures.value ∙ count_of_key o c.self.invariant.0 i there in
     let is : rank (head ∷ it.pairs.order) before ≡ i = c.path_to.ensures.place ∙ count in
-    let there_before = before_has it.pairs.order c.args.node before has is c.if-before-eq-HEAD.false in
+    let there_before = before_has it.pairs.order i before within is c.if-before-eq-HEAD.false in
     rw (← c.self.view_is) (for_some (HasNode it.pairs.order it.pairs.pairs) (Some before) before refl (omega (arith, there_before, c.self.invariant.2)))

@@ -1,5 +1,5 @@
 use Rattle.std.proofs.Common.{refl}
-use Rattle.leveldb_table.specs.BlockWalk.{last_position}
+use Rattle.leveldb_base.specs.Types.{last_position}
 use Rattle.leveldb_table.proofs.TableReaderWalkLemmas.{moves_enters}
 use Rattle.leveldb_table.proofs.TableReaderMovesLemmas.{moves_ok, moves_refused}
 use Rattle.leveldb_table.proofs.table_reader.walk.TableCore.seek_to_last.Goals as goal
