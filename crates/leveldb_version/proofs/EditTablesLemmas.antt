@@ -5,14 +5,14 @@ use Rattle.leveldb_base.specs.Types.{Pair}
 use Rattle.leveldb_env.specs.Env.{Files}
 use Rattle.leveldb_version.proofs.VersionSetLemmas.{applies_in_order}
 use Rattle.leveldb_version.specs.Levels.{LiveTable}
-use Rattle.leveldb_version.specs.Store.{HasTable, HasTables}
-use Rattle.leveldb_version.specs.StoreSteps.{AddsOnce, LeavesAlone}
+use Rattle.leveldb_version.specs.Store.{HasTables}
+use Rattle.leveldb_version.specs.StoreSteps.{AddsOnce, AreTablesAfter, HasAddedTables, LeavesAlone}
 use Rattle.leveldb_version.specs.VersionEdit.{Edit, LevelFile, NewFile}
 use Rattle.leveldb_version.specs.VersionSet.{FileChange, adding, deleting, file_changes, is_same_file, last_one, left_by, level_file, live_after}
-use Rattle.std.proofs.Common.{◌++◌, ◌<◌, ◌^◌, ◌∙◌, ◌∷◌, ◌≡◌, ◌⊎◌, Bool, List, None, Option, Some, [], ap, false, inl, inr, refl, rules, subst, sym, true, ℕ, ⊎_elim}
+use Rattle.std.proofs.Common.{◌++◌, ◌∙◌, ◌∷◌, ◌≡◌, ◌⊎◌, Bool, List, None, Option, Some, [], ap, false, inl, inr, refl, rules, subst, sym, true, ℕ, ⊎_elim}
 use Rattle.std.proofs.lemmas.List.Elements.{Contains-append_cases, Contains-append_left, Contains-append_right, filter_map-append}
 use Rattle.std.specs.List.{cons_option, filter_map}
-use Rattle.std.specs.Prelude.{◌↔◌, Contains, if◌then◌else◌, map}
+use Rattle.std.specs.Prelude.{Contains, if◌then◌else◌, map}
 use Rattle.std.specs.declared.cmp.Ordering.{Ordering}
 
 -- ---- the last of what is found
@@ -207,27 +207,20 @@ module _ (store : List ℕ) (cmp : List ℕ → List ℕ → Ordering)
   -- that it leaves alone.
   pub tables_then :
       (files : Files) (edits : List Edit) (edit : Edit) (ins news outs : List LiveTable)
-      → HasTables store cmp IsTableOf files (live_after edits) ins → AddsOnce edit
-      → ((table : LiveTable) → Contains news table
-      → HasTable store cmp IsTableOf files table × Contains edit.added table.file
-      × (table.file.number < 2 ^ 64))
-      → ((file : NewFile) → Contains edit.added file
-      → (table : LiveTable) × Contains news table × (table.file ≡ file))
-      → ((table : LiveTable)
-      → Contains outs table ↔
-      (Contains news table ⊎ (Contains ins table × LeavesAlone edit (level_file table.file))))
+      → HasTables store cmp IsTableOf files (live_after edits) ins
+      → HasAddedTables store cmp IsTableOf files edit news → AreTablesAfter edit ins news outs
       → HasTables store cmp IsTableOf files (live_after (edits ++ edit ∷ [])) outs
-  tables_then files edits edit ins news outs has once each all just = record {
+  tables_then files edits edit ins news outs has new just = record {
     each = λ table c. ⊎_elim
-        (λ (n : Contains news table). let h = each table n in
-        (h.0, added_live edits edit table.file h.1 once, h.2))
+        (λ (n : Contains news table). let h = new.each table n in
+        (h.0, added_live edits edit table.file h.1 new.once, h.2))
         (λ (o : Contains ins table × LeavesAlone edit (level_file table.file)). let h =
         has.each table o.0 in
         (h.0, stays_live edits edit (level_file table.file) table.file h.1 o.1, h.2))
         ((just table).0 c);
     all = λ file live. ⊎_elim
         (λ (a : Contains edit.added file
-        × (is_same_file (level_file file) (level_file file) ≡ true)). let t = all file a.0 in
+        × (is_same_file (level_file file) (level_file file) ≡ true)). let t = new.all file a.0 in
         (t.0, (just t.0).1 (inl t.1), t.2))
         (λ (o : ((live_after edits).file (level_file file) ≡ Some file)
         × LeavesAlone edit (level_file file)).

@@ -69,7 +69,7 @@ module _ (store : List ℕ) (cmp : List ℕ → List ℕ → Ordering)
       before_here : SameEntries (table_entries m.tables) (table_entries s.before)
       before_here = let has =
           tables_left files left
-          (live_after edits) s.before s.before_kept leaves s.has_before in
+          (live_after edits) s.before s.has_before.kept leaves s.has_before.has in
           λ entry. (
             tables_in store cmp IsTableOf one left
                 (live_after edits) m.tables s.before m.has_tables has entry,
@@ -96,7 +96,7 @@ module _ (store : List ℕ) (cmp : List ℕ → List ℕ → Ordering)
         tables = s.after;
         has_tables =
             tables_left files left
-            (live_after (edits ++ edit ∷ [])) s.after s.after_kept leaves s.has_after;
+            (live_after (edits ++ edit ∷ [])) s.after s.has_after.kept leaves s.has_after.has;
         logs = m.logs;
         has_logs = record {
           each = λ log c. let h = m.has_logs.each log c in (

@@ -83,28 +83,28 @@ module _ (store : List ℕ) (cmp : List ℕ → List ℕ → Ordering)
 
     from_log : (n : ℕ) → LogIsReplayed (live_after (edits ++ edit ∷ [])) n → s.log ≤ n
     from_log n (inl h) =
-        let same : Some s.log ≡ Some h.0 = sym s.new_log ∙ h.1 in
+        let same : Some s.log ≡ Some h.0 = sym s.logs.new_log ∙ h.1 in
         let e = some_is s.log h.0 same in
         omega (arith, h.2, e)
-    from_log n (inr h) = absurd (s.no_previous n h.0 h.1)
+    from_log n (inr h) = absurd (s.logs.no_previous n h.0 h.1)
 
     front_taken : (l : ReplayedLog) → Contains p.front l → Contains s.taken l
     front_taken l c =
         let h = m.has_logs.each l (in_front_too l c) in
         let less = p.before l c in
         let bytes = kept_left (files (log_path store l.number)) (left (log_path store l.number))
-        (s.kept l.number less h.1) (leaves (log_path store l.number)) in
+        (s.has_taken.kept l.number less h.1) (leaves (log_path store l.number)) in
         let was = log_on store cmp IsTableOf left files l (sym bytes) h.0 in
-        let t = s.all_taken l.number less h.1
+        let t = s.has_taken.all l.number less h.1
         (λ gone. let never : Some was.0 ≡ None = sym was.1 ∙ gone in cc) in
         subst (Contains s.taken)
-        (one_has_log store files t.0 l t.2 (s.each_taken t.0 t.1).0 was) t.1
+        (one_has_log store files t.0 l t.2 (s.has_taken.each t.0 t.1).0 was) t.1
 
     taken_front : (l : ReplayedLog) → Contains s.taken l → Contains p.front l
     taken_front l c =
-        let h = s.each_taken l c in
+        let h = s.has_taken.each l c in
         let bytes = kept_left (files (log_path store l.number)) (left (log_path store l.number))
-        (s.kept l.number h.2 h.1) (leaves (log_path store l.number)) in
+        (s.has_taken.kept l.number h.2 h.1) (leaves (log_path store l.number)) in
         let is = log_on store cmp IsTableOf files left l bytes h.0 in
         let a = m.has_logs.all (file_name Log l.number) l.number (made_name Log l.number h.3) h.1
         (λ gone. let never : Some is.0 ≡ None = sym is.1 ∙ gone in cc) in
@@ -123,7 +123,8 @@ module _ (store : List ℕ) (cmp : List ℕ → List ℕ → Ordering)
 
     before_here : SameEntries (table_entries m.tables) (table_entries s.before)
     before_here = let has =
-        tables_left files left (live_after edits) s.before s.before_kept leaves s.has_before in
+        tables_left files left
+        (live_after edits) s.before s.has_before.kept leaves s.has_before.has in
         λ entry. (
           tables_in store cmp IsTableOf one left
               (live_after edits) m.tables s.before m.has_tables has entry,
@@ -147,7 +148,7 @@ module _ (store : List ℕ) (cmp : List ℕ → List ℕ → Ordering)
     managed = record {
       comparator = m.comparator;
       comparator_is = s.comparator ∙ m.comparator_is;
-      log_is = subst IsSome (sym s.new_log) refl;
+      log_is = subst IsSome (sym s.logs.new_log) refl;
       next_file_is = s.next_file;
       last = s.last.last;
       last_is = s.last.new_last;
@@ -155,14 +156,14 @@ module _ (store : List ℕ) (cmp : List ℕ → List ℕ → Ordering)
       tables = after;
       has_tables =
           tables_left files left
-          (live_after (edits ++ edit ∷ [])) after s.after_kept leaves s.has_after;
+          (live_after (edits ++ edit ∷ [])) after s.has_after.kept leaves s.has_after.has;
       logs = p.back;
       has_logs = record {
         each = λ l c. let h = m.has_logs.each l (in_back_too l c) in
-            (h.0, inl (s.log, s.new_log, p.from l c), h.2);
+            (h.0, inl (s.log, s.logs.new_log, p.from l c), h.2);
         all = λ name n is replayed some.
             let up = from_log n replayed in
-            let a = m.has_logs.all name n is (s.still n up) some in (
+            let a = m.has_logs.all name n is (s.logs.still n up) some in (
               a.0,
               (
                 a.1.0,

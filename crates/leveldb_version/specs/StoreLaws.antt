@@ -3,7 +3,7 @@
 -- `store` is a store's path, `cmp` the order of its user keys, `IsTableOf` says which bytes are a
 -- table of which pairs, and `allowed` which store may be there.
 use Rattle.leveldb_table.specs.Table.{DecodesOne, OneTable}
-use Rattle.std.specs.Prelude.{◌++◌, ◌+◌, ◌<◌, ◌^◌, ◌↔◌, ◌∷◌, ◌≡◌, ◌≢◌, ◌≤◌, ◌⊎◌, AllPairs, Bool, Contains, List, None, Option, Some, [], false, length, map, ℕ}
+use Rattle.std.specs.Prelude.{◌++◌, ◌+◌, ◌<◌, ◌^◌, ◌↔◌, ◌∷◌, ◌≡◌, ◌≢◌, ◌≤◌, AllPairs, Bool, Contains, List, None, Option, Some, [], false, length, map, ℕ}
 use Rattle.std.specs.Cmp.{IsTotalOrder}
 use Rattle.std.specs.Str.{bytes_eq}
 use Rattle.std.specs.declared.cmp.Ordering.{Ordering}
@@ -24,9 +24,9 @@ use Rattle.leveldb_version.specs.Holds.{IsHonest, MatchesHistory, IsSafe, Holds}
 use Rattle.leveldb_version.specs.Levels.{LiveTable, LevelOrder, IsInRange, IsBounded, table_entries, CanBeAdded, IsSearchedBefore}
 use Rattle.leveldb_version.specs.Paths.{current_path, log_path}
 use Rattle.leveldb_version.specs.Store.{HasEdits, HasNoStore, HasTable, HasTables, IsManaged, IsStore, IsStoreTable, LastNumbersFit, OneTableReading, SameContents, SameEntries}
-use Rattle.leveldb_version.specs.StoreSteps.{AddsOnce, EditRefines, EditsRefine, AppendedAreBytes, HasNextCurrent, IsAboveLogs, IsAllKept, IsCuttable, IsCutStore, IsKept, IsManifestOpen, IsNew, IsPartOf, IsSafeFor, IsUnnamed, IsUnread, IsWritable, KeepsHistory, LeavesAlone, MakesFile, Risk, SameButNextFile, SwapsTables, SwitchesLog, TablesAreKept}
-use Rattle.leveldb_version.specs.VersionEdit.{Edit, NewFile, IsEdit}
-use Rattle.leveldb_version.specs.VersionSet.{level_file, live_after}
+use Rattle.leveldb_version.specs.StoreSteps.{AreTablesAfter, EditRefines, EditsRefine, AppendedAreBytes, HasAddedTables, HasNextCurrent, IsAboveLogs, IsAllKept, IsCuttable, IsCutStore, IsKept, IsManifestOpen, IsNew, IsPartOf, IsSafeFor, IsUnnamed, IsUnread, IsWritable, KeepsHistory, MakesFile, Risk, SameButNextFile, SwapsTables, SwitchesLog, TablesAreKept}
+use Rattle.leveldb_version.specs.VersionEdit.{Edit, IsEdit}
+use Rattle.leveldb_version.specs.VersionSet.{live_after}
 
 module _ (store : List ℕ) (cmp : List ℕ → List ℕ → Ordering)
     (IsTableOf : List ℕ → List Pair → Type 0) where
@@ -84,13 +84,9 @@ module _ (store : List ℕ) (cmp : List ℕ → List ℕ → Ordering)
   abbrev pub EditsLeaveTables : Type 0
   EditsLeaveTables = (files : Files) (edits : List Edit) (edit : Edit)
       (before added after : List LiveTable)
-      → HasTables store cmp IsTableOf files (live_after edits) before → AddsOnce edit
-      → ((table : LiveTable) → Contains added table → HasTable store cmp IsTableOf files table
-      × Contains edit.added table.file × (table.file.number < 2 ^ 64))
-      → ((file : NewFile) → Contains edit.added file
-      → (table : LiveTable) × Contains added table × (table.file ≡ file))
-      → ((table : LiveTable) → Contains after table
-      ↔ (Contains added table ⊎ (Contains before table × LeavesAlone edit (level_file table.file))))
+      → HasTables store cmp IsTableOf files (live_after edits) before
+      → HasAddedTables store cmp IsTableOf files edit added
+      → AreTablesAfter edit before added after
       → HasTables store cmp IsTableOf files (live_after (edits ++ edit ∷ [])) after
 
   -- ---- what stays open

@@ -1,5 +1,5 @@
 -- What the steps of an engine ask of a store's files, and what they make of them.
-use Rattle.std.specs.Prelude.{◌≡◌, ◌≢◌, ◌≤◌, ◌<◌, ◌^◌, ◌⊎◌, false, true, ℕ, List, [], ◌∷◌, ◌++◌, length, take, max, Option, Some, None, IsSome, Contains}
+use Rattle.std.specs.Prelude.{◌≡◌, ◌≢◌, ◌≤◌, ◌<◌, ◌^◌, ◌⊎◌, ◌↔◌, false, true, ℕ, List, [], ◌∷◌, ◌++◌, length, take, max, Option, Some, None, IsSome, Contains}
 use Rattle.std.specs.declared.cmp.Ordering.{Ordering}
 use Rattle.std.specs.Str.{bytes_eq}
 use Rattle.leveldb_base.specs.declared.types.FileType.TheVariants.{Log, Table, Temp}
@@ -16,7 +16,7 @@ use Rattle.leveldb_version.specs.Current.{IsCurrentText}
 use Rattle.leveldb_version.specs.Holds.{Carries, IsHonest, IsSafe}
 use Rattle.leveldb_version.specs.Levels.{LiveTable, LevelOrder, table_entries}
 use Rattle.leveldb_version.specs.Paths.{current_path, log_path, table_path}
-use Rattle.leveldb_version.specs.Store.{HasEdits, HasLog, HasTables, IsManaged, IsManagedBy, IsManifest, LogIsReplayed, IsStore, ReplayedLog, SameEntries, log_entries}
+use Rattle.leveldb_version.specs.Store.{HasEdits, HasLog, HasTable, HasTables, IsManaged, IsManagedBy, IsManifest, LogIsReplayed, IsStore, ReplayedLog, SameEntries, log_entries}
 use Rattle.leveldb_version.specs.VersionEdit.{Edit, LevelFile, NewFile}
 use Rattle.leveldb_version.specs.VersionSet.{FileSet, is_same_file, level_file, live_after}
 
@@ -185,6 +185,11 @@ abbrev pub AddsOnce : Edit → Type 0
 AddsOnce edit = (file other : NewFile) → Contains edit.added file → Contains edit.added other
     → is_same_file (level_file other) (level_file file) ≡ true → other ≡ file
 
+-- tables after an edit: those that it adds, and those from before that it leaves alone
+abbrev pub AreTablesAfter : Edit → List LiveTable → List LiveTable → List LiveTable → Type 0
+AreTablesAfter edit before added after = (table : LiveTable) → Contains after table
+    ↔ (Contains added table ⊎ (Contains before table × LeavesAlone edit (level_file table.file)))
+
 -- the sets have the same files, comparator and numbers, but for the next file's number, which is
 -- set
 pub record SameButNextFile (old new : FileSet) : Type 0 where
@@ -205,6 +210,22 @@ pub record LastRises (bound : ℕ) (old new : FileSet) : Type 0 where
   pub bounded : last ≤ bound
   pub fits : last ≤ greatest_sequence
 
+-- By the new set the logs from this number on are replayed, as they are by the old one, and no
+-- others are.
+pub record ReplaysFrom (log : ℕ) (old new : FileSet) : Type 0 where
+  pub new_log : new.log_number ≡ Some log
+  pub no_previous : (n : ℕ) → new.previous_log ≡ Some n → 0 < n → ⊥
+  pub still : (n : ℕ) → log ≤ n → LogIsReplayed old n
+
+-- the logs below this number that are there and are replayed are these, and they are kept
+pub record AreLogsBelow (store : List ℕ) (files : Files) (set : FileSet) (log : ℕ)
+    (logs : List ReplayedLog) : Type 0 where
+  pub each : (one : ReplayedLog) → Contains logs one → HasLog store files one
+      × LogIsReplayed set one.number × (one.number < log) × (one.number < 2 ^ 64)
+  pub all : (n : ℕ) → n < log → LogIsReplayed set n → files (log_path store n) ≢ None
+      → (one : ReplayedLog) × Contains logs one × (one.number ≡ n)
+  pub kept : (n : ℕ) → n < log → LogIsReplayed set n → IsKept (files (log_path store n))
+
 -- a store is new by this set: it has no table, and no number was given to an entry
 pub record IsNew (set : FileSet) : Type 0 where
   pub comparator : List ℕ
@@ -215,18 +236,31 @@ pub record IsNew (set : FileSet) : Type 0 where
   pub no_table : (file : NewFile) → set.file (level_file file) ≡ Some file → ⊥
 
 module _ (store : List ℕ) (cmp : List ℕ → List ℕ → Ordering)
+    (IsTableOf : List ℕ → List Pair → Type 0) (files : Files) where
+  -- the tables are those that are live, and they are kept
+  pub record HasKeptTables (set : FileSet) (tables : List LiveTable) : Type 0 where
+    pub has : HasTables store cmp IsTableOf files set tables
+    pub kept : TablesAreKept store files set
+
+  -- the tables are those that an edit adds: each is there, and each level and number is added once
+  pub record HasAddedTables (edit : Edit) (tables : List LiveTable) : Type 0 where
+    pub each : (table : LiveTable) → Contains tables table
+        → HasTable store cmp IsTableOf files table × Contains edit.added table.file
+        × (table.file.number < 2 ^ 64)
+    pub all : (file : NewFile) → Contains edit.added file
+        → (table : LiveTable) × Contains tables table × (table.file ≡ file)
+    pub once : AddsOnce edit
+
+module _ (store : List ℕ) (cmp : List ℕ → List ℕ → Ordering)
     (IsTableOf : List ℕ → List Pair → Type 0) (bound : ℕ) (files : Files) (old new : FileSet) where
   -- The edit of a compaction, as it changes the set: tables are replaced by others that show the
   -- same, and the logs stay.
   pub record SwapsTables : Type 0 where
-    -- the tables that were live, which are kept
+    -- the tables that were live, and those that are live then, whose levels are in order
     pub before : List LiveTable
-    pub has_before : HasTables store cmp IsTableOf files old before
-    pub before_kept : TablesAreKept store files old
-    -- those that are live then, which are kept too, and whose levels are in order
+    pub has_before : HasKeptTables store cmp IsTableOf files old before
     pub after : List LiveTable
-    pub has_after : HasTables store cmp IsTableOf files new after
-    pub after_kept : TablesAreKept store files new
+    pub has_after : HasKeptTables store cmp IsTableOf files new after
     pub levels : LevelOrder cmp after
     -- no entry is new
     pub none_new : (entry : Entry) → Contains (table_entries after) entry
@@ -244,32 +278,23 @@ module _ (store : List ℕ) (cmp : List ℕ → List ℕ → Ordering)
   -- The edit of a switch, as it changes the set: the logs below a number aren't replayed any more,
   -- since new tables have their entries.
   pub record SwitchesLog : Type 0 where
-    -- the tables that were live, which are kept
+    -- the new tables are live beside those that were, and the levels are in order
     pub before : List LiveTable
-    pub has_before : HasTables store cmp IsTableOf files old before
-    pub before_kept : TablesAreKept store files old
-    -- the new ones are live beside them, are kept too, and the levels are in order
+    pub has_before : HasKeptTables store cmp IsTableOf files old before
     pub added : List LiveTable
-    pub has_after : HasTables store cmp IsTableOf files new (added ++ before)
-    pub after_kept : TablesAreKept store files new
+    pub has_after : HasKeptTables store cmp IsTableOf files new (added ++ before)
     pub levels : LevelOrder cmp (added ++ before)
-    -- the logs from this number on are replayed as before, and no others
+    -- the logs from this number on are replayed still, and those below it aren't any more
     pub log : ℕ
-    pub new_log : new.log_number ≡ Some log
-    pub no_previous : (n : ℕ) → new.previous_log ≡ Some n → 0 < n → ⊥
-    pub still : (n : ℕ) → log ≤ n → LogIsReplayed old n
-    -- the logs below it, which are kept
+    pub logs : ReplaysFrom log old new
     pub taken : List ReplayedLog
-    pub each_taken : (one : ReplayedLog) → Contains taken one → HasLog store files one
-        × LogIsReplayed old one.number × (one.number < log) × (one.number < 2 ^ 64)
-    pub all_taken : (n : ℕ) → n < log → LogIsReplayed old n → files (log_path store n) ≢ None
-        → (one : ReplayedLog) × Contains taken one × (one.number ≡ n)
-    pub kept : (n : ℕ) → n < log → LogIsReplayed old n → IsKept (files (log_path store n))
-    -- the new tables have exactly their entries, none of them above the last number
-    pub wrote : SameEntries (table_entries added) (log_entries taken)
+    pub has_taken : AreLogsBelow store files old log taken
+    -- the single values
     pub comparator : new.comparator ≡ old.comparator
     pub next_file : IsSome new.next_file
     pub last : LastRises bound old new
+    -- the new tables have exactly the entries of those logs, none of them above the last number
+    pub wrote : SameEntries (table_entries added) (log_entries taken)
     pub reached : AreUpTo last.last (table_entries added)
 
 -- ---- a new manifest
