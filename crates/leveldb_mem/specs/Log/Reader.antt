@@ -1,7 +1,7 @@
 -- A reader of a log, and what its calls find.
-use Rattle.std.specs.Prelude.{◌≡◌, Ok, length, IfOk, IfErr, IsErrAnd, OnErr, ℕ, Bool, true, false, List, [], ◌++◌, Result, codes, string_bytes, IfSome, ◌<◌, ◌≤◌}
+use Rattle.std.specs.Prelude.{◌≡◌, Ok, length, IfOk, IfErr, IsErrAnd, OnErr, ℕ, Bool, true, false, List, [], ◌++◌, Result, codes, string_bytes, IfSome, ◌<◌, ◌≤◌, ◌^◌, ◌⊎◌}
 use Rattle.leveldb_base.specs.declared.error.Status.{Status}
-use Rattle.leveldb_base.specs.declared.error.StatusCode.TheVariants.{Corruption}
+use Rattle.leveldb_base.specs.declared.error.StatusCode.TheVariants.{Corruption, NotSupported}
 use Rattle.leveldb_env.specs.Source.{GivesSome, GivesAll, GivesUp}
 use Rattle.leveldb_mem.specs.declared.log.reader.Found.{Found}
 use Rattle.leveldb_mem.specs.declared.log.reader.Found.TheVariants.{Record, End, WrongChecksum, Damage}
@@ -60,6 +60,17 @@ module _ {S : Type 0} (gives : S → ℕ → Result (List ℕ) Status → S → 
     at_end : (bytes : List ℕ) → IsUnreadThenGiven (GivesAll gives) unread source bytes to → P bytes → HoldsOfRest P unread source to
     whatever_follows : (bytes : List ℕ) → IsUnreadThenGiven (GivesSome gives) unread source bytes to → ((more : List ℕ) → P (bytes ++ more)) → HoldsOfRest P unread source to
 
+  -- reads gave 2^64 bytes of one record, whose fragments aren't counted further
+  pub record GivesTooMuch (from : S) (status : Status) (to : S) : Type 0 where
+    pub code : status.code ≡ NotSupported
+    pub bytes : List ℕ
+    pub given_before : GivesSome gives from bytes to
+    pub many : 2 ^ 64 ≤ length bytes
+
+  -- why a reading stops before it finds what comes next
+  abbrev pub StopsReading : S → Status → S → Type 0
+  StopsReading from status to = GivesUp gives from status to ⊎ GivesTooMuch from status to
+
   -- a record comes next, and was read
   pub record FindsRecord (old : ReaderState) (source : S) (text : List ℕ) (new : ReaderState) (to : S) : Type 0 where
     pub front : List ℕ
@@ -96,6 +107,8 @@ module _ {S : Type 0} (gives : S → ℕ → Result (List ℕ) Status → S → 
         → HoldsOfRest (IsTorn old.checked old.size old.offset) old.unread source to
         → new.failed ≡ true → FailsToRead old source status new to
     given_up : GivesUp gives source status to → new.failed ≡ true
+        → FailsToRead old source status new to
+    too_long : GivesTooMuch source status to → new.failed ≡ true
         → FailsToRead old source status new to
 
   -- what reading a record returns, and what it leaves: of the target, only what is in it after the call
