@@ -1,7 +1,8 @@
 -- Sets of entries that gain some.
-use Rattle.std.proofs.Common.{◌≡◌, ◌≤◌, ◌<◌, ◌+◌, ⊎_elim, ℕ, List, [], ◌∷◌, ap, subst, arith, ◌^◌, Bool, true, ◌++◌, get_or, length-append, Result, Ok, Err, refl, sym, ◌∙◌, ◌⊎◌, inl, ◌-◌, length, append-nil, append_assoc}
+use Rattle.std.proofs.Common.{◌≡◌, ◌≤◌, ◌<◌, ◌+◌, ⊎_elim, ℕ, List, [], ◌∷◌, ap, subst, arith, ◌^◌, Bool, true, false, ◌++◌, get_or, length-append, Result, Ok, Err, refl, sym, ◌∙◌, ◌⊎◌, inl, inr, ◌-◌, length, append-nil, append_assoc}
 use Rattle.std.proofs.lemmas.List.Sums.{sum_by-cons}
 use Rattle.std.specs.Prelude.{Contains, ◌↔◌, All, IsErrAnd, IfErr}
+use Rattle.std.proofs.lemmas.Bool.{OnTrue_at, OnFalse_at}
 use Rattle.std.proofs.lemmas.List.Elements.{Contains-push_cases, All-append, All-cons, All-tail, Contains-append_left, Contains-append_right, Contains-append_cases, at_from_Contains, Contains-get_or}
 use Rattle.std.proofs.lemmas.Cmp.{ranked}
 use Rattle.std.proofs.lemmas.List.{map-append, get_or_append_left}
@@ -17,8 +18,9 @@ use Rattle.leveldb_base.specs.KeyTypes.{memtable_cmp}
 use Rattle.leveldb_base.specs.Types.{Pair}
 use Rattle.leveldb_base.specs.Error.{IsOutOfMemory}
 use Rattle.leveldb_base.specs.declared.error.Status.{Status}
-use Rattle.leveldb_base.specs.declared.error.StatusCode.TheVariants.{NotSupported}
-use Rattle.leveldb_mem.specs.MemTable.{IsUnion, AreNewTo, entry_of, IsNewTo, entry_key, entry_from, entries_in, IsEntryPair, Kept, HasRoom, AddsEntry, Grows, GrowsByAll}
+use Rattle.leveldb_base.specs.declared.error.StatusCode.TheVariants.{AlreadyExists, NotSupported}
+use Rattle.leveldb_mem.specs.WriteBatch.{item_of}
+use Rattle.leveldb_mem.specs.MemTable.{KeepsRoom, AddResult, PutResult, PrepareResult, FailsToPrepare, bytes_in, value_length, IsUnion, AreNewTo, entry_of, IsNewTo, entry_key, entry_from, entries_in, IsEntryPair, Kept, HasRoom, AddsEntry, Grows, GrowsByAll}
 use Rattle.leveldb_mem.specs.Searching.{key_at}
 use Rattle.leveldb_mem.specs.SkipMap.{Inserts, HasKey}
 use Rattle.leveldb_mem.proofs.MemTableLemmas.{entry_again, entry_order, entry_place, entry_there}
@@ -139,10 +141,46 @@ module _ {accepts : List ℕ → Bool} {cmp : List ℕ → List ℕ → Ordering
       entry_order cmp (key_at pairs found.0) key ∙ ap (λ r. ordering_then r (nat_cmp mine.sequence his.sequence)) tied ∙ numbers in
       absent (get_or pairs found.0 ([], []), Contains-get_or pairs found.0 ([], []) found.1, equal)
 
--- an error with a cause that goes with a fact
-pub caused : {T E : Type 0} (P R : E → Type 0) (Q : Type 0) (r : Result T E) → IsErrAnd r P → Q → IfErr r (λ status. (P status × Q) ⊎ R status)
-caused P R Q (Ok x) h q = tt
-caused P R Q (Err e) h q = inl (h, q)
+-- ---- an entry is added
+
+module _ {old mid new : Kept} {entry : Entry} where
+  pub added : {put : Bool} → put ≡ true → mid.entries ≡ old.entries → PutResult mid entry put new → AddResult old entry (Ok tt) new
+  added is same puts = record {
+    absent = subst (λ (es : List Entry). IsNewTo es entry.sequence entry.key) same (OnTrue_at is puts.absent);
+    ok = subst (λ (es : List Entry). IsUnion es (entry ∷ []) new.entries) same (OnTrue_at is puts.adds).gains;
+    grows = subst (λ (es : List Entry). Grows es entry new.entries) same (OnTrue_at is puts.grows);
+    err = tt;
+    room = tt;
+    cause = tt;
+  }
+
+  -- an entry of its key and sequence was there
+  pub not_added : {put : Bool} → put ≡ false → mid.entries ≡ old.entries → KeepsRoom old mid → PutResult mid entry put new → (r : Result (Unit {0}) Status)
+      → IsErrAnd r (λ status. status.code ≡ AlreadyExists) → AddResult old entry r new
+  not_added is same keeps puts (Ok x) code = absurd code
+  not_added is same keeps puts (Err status) code = record {
+    absent = tt;
+    ok = tt;
+    grows = tt;
+    err = OnFalse_at is puts.entries ∙ same;
+    room = λ items has.
+        let room = keeps items has in
+        record { places = omega (arith, room.places, OnFalse_at is puts.places); bytes = omega (arith, room.bytes, OnFalse_at is puts.bytes) };
+    cause = inl (code, subst (λ (es : List Entry). IsNewTo es entry.sequence entry.key → ⊥) same (OnFalse_at is puts.present));
+  }
+
+-- no memory was taken for it
+pub not_prepared : {old mid : Kept} {entry : Entry} (status : Status) → PrepareResult old (item_of entry.key entry.value ∷ []) (Err status) mid → KeepsRoom old mid → AddResult old entry (Err status) mid
+not_prepared {old} {mid} {entry} status prepared keeps =
+    let one : bytes_in (item_of entry.key entry.value ∷ []) ≡ length entry.key + value_length entry.value = omega arith in
+    record {
+      absent = tt;
+      ok = tt;
+      grows = tt;
+      err = prepared.entries;
+      room = keeps;
+      cause = inr (subst (λ n. FailsToPrepare old 1 n status) one prepared.cause);
+    }
 
 -- ---- the changes of a batch come to a memtable one after another
 
@@ -198,11 +236,6 @@ all_fit first (item ∷ items) le = least_fit first (item ∷ items) (omega arit
 pub none_fit : (first : ℕ) (items : List Item) → 2 ^ 56 - first < length items → 2 ^ 56 ≤ greatest (placed first items)
 none_fit first [] lt = absurd (omega arith)
 none_fit first (item ∷ items) lt = let last = last_of first item items in omega (arith, last)
-
--- out of memory has another code
-pub no_want : {T : Type 0} (r : Result T Status) → IsErrAnd r IsOutOfMemory → IsErrAnd r (λ status. status.code ≡ NotSupported) → ⊥
-no_want (Ok x) h k = absurd h
-no_want (Err e) h k = let a = h.0 in cc
 
 -- ---- on the way
 

@@ -1,9 +1,11 @@
 -- A memtable: its entries, the room for more, and the memtable keys that encode entries.
-use Rattle.std.specs.Prelude.{◌≡◌, ◌⊎◌, ◌<◌, ◌^◌, ◌≤◌, ◌+◌, ◌↔◌, ℕ, List, [], ◌∷◌, ◌++◌, length, Option, Some, None, Contains, ◌*◌, drop, map, sum_by, slice_get, refl}
+use Rattle.std.specs.Prelude.{◌≡◌, ◌⊎◌, ◌^◌, ◌≤◌, ◌+◌, ◌*◌, ◌↔◌, ℕ, Bool, List, [], ◌∷◌, ◌++◌, length, drop, map}
+use Rattle.std.specs.Prelude.{sum_by, slice_get, Contains, Option, Some, None, Result, OnOk, OnErr, IfErr, refl}
+use Rattle.std.specs.Bool.{OnTrue, OnFalse}
 use Rattle.std.specs.Coded.{Coded, code_by, coded×, coded_list, coded_option, coded_ℕ}
 use Rattle.leveldb_base.specs.Error.{IsOutOfMemory}
 use Rattle.leveldb_base.specs.declared.error.Status.{Status}
-use Rattle.leveldb_base.specs.declared.error.StatusCode.TheVariants.{NotSupported}
+use Rattle.leveldb_base.specs.declared.error.StatusCode.TheVariants.{AlreadyExists, NotSupported}
 use Rattle.leveldb_base.specs.History.{Item, Entry, IsNewest}
 use Rattle.leveldb_base.specs.KeyTypes.{internal_key, user_part, sequence_part, type_part, memtable_key, inner_key}
 use Rattle.leveldb_base.specs.Varint.{sized}
@@ -66,11 +68,6 @@ pub record HasRoom (kept : Kept) (items : List Item) : Type 0 where
 -- what there was room for has room still
 abbrev pub KeepsRoom : Kept → Kept → Type 0
 KeepsRoom old new = (items : List Item) → HasRoom old items → HasRoom new items
-
--- why no memory was taken for an entry: its key and value have more than 2^63 bytes, or memory is out
-abbrev pub FailsToPrepare : Item → Status → Type 0
-FailsToPrepare item status =
-    ((status.code ≡ NotSupported) × (2 ^ 63 < length item.key + value_length item.value)) ⊎ IsOutOfMemory status
 
 -- an entry has come, and took no more than its room
 pub record AddsEntry (old : Kept) (entry : Entry) (new : Kept) : Type 0 where
@@ -168,3 +165,65 @@ pub record GrowsByAll (old more new : List Entry) : Type 0 where
 -- the internal key of an entry with its value; a deletion has the empty one
 abbrev pub internal_pair : Entry → Pair
 internal_pair entry = (internal_key entry.key entry.sequence (type_of entry.value), bytes_of_value entry.value)
+
+-- ---- what calls return and leave
+
+-- Why no memory was taken for so many entries, whose keys and values have so many bytes: memory is out, or they are past
+-- the limit of a memtable: with the entries and the room that there are, they count for 2^31 bytes of memory at least.
+abbrev pub FailsToPrepare : Kept → ℕ → ℕ → Status → Type 0
+FailsToPrepare kept count bytes status =
+    ((status.code ≡ NotSupported)
+    × (2 ^ 31 ≤ memory_of_entries kept.entries + (64 * (kept.places + count) + bytes))) ⊎ IsOutOfMemory status
+
+-- the same of a map's memory: numbers of 32 bits would be too few for its offsets
+abbrev pub FailsToNumber : Kept → ℕ → ℕ → Status → Type 0
+FailsToNumber kept count bytes status =
+    ((status.code ≡ NotSupported)
+    × (2 ^ 32 ≤ memory_of_entries kept.entries + ((64 + most_beside) * (kept.places + count) + bytes)))
+    ⊎ IsOutOfMemory status
+
+-- what taking memory for items returns and leaves
+pub record PrepareResult (old : Kept) (items : List Item) (result : Result (Unit {0}) Status) (new : Kept) : Type 0 where
+  pub entries : new.entries ≡ old.entries
+  pub ok : OnOk result (HasRoom new items)
+  -- an error leaves the room
+  pub places : OnErr result (new.places ≡ old.places)
+  pub bytes : OnErr result (old.bytes ≤ new.bytes)
+  pub cause : IfErr result (FailsToPrepare old (length items) (bytes_in items))
+
+-- what making room for so many entries with so many bytes returns and leaves
+pub record ReserveResult (old : Kept) (count bytes : ℕ) (result : Result (Unit {0}) Status) (new : Kept) : Type 0 where
+  pub entries : new.entries ≡ old.entries
+  pub ok : OnOk result ((count ≤ new.places) × (bytes ≤ new.bytes))
+  -- room for as many is only added to
+  pub room : count ≤ old.places → (new.places ≡ old.places) × (old.bytes ≤ new.bytes)
+  -- an error leaves the room
+  pub places : OnErr result (new.places ≡ old.places)
+  pub kept_bytes : OnErr result (old.bytes ≤ new.bytes)
+  pub cause : IfErr result (FailsToNumber old count bytes)
+
+-- what adding an entry returns and leaves
+pub record AddResult (old : Kept) (entry : Entry) (result : Result (Unit {0}) Status) (new : Kept) : Type 0 where
+  -- no entry had its key and sequence, and it has come
+  pub absent : OnOk result (IsNewTo old.entries entry.sequence entry.key)
+  pub ok : OnOk result (IsUnion old.entries (entry ∷ []) new.entries)
+  pub grows : OnOk result (Grows old.entries entry new.entries)
+  -- an error leaves the entries, and room for what there was room for
+  pub err : OnErr result (new.entries ≡ old.entries)
+  pub room : OnErr result (KeepsRoom old new)
+  -- an entry had its key and sequence, or no memory was taken
+  pub cause : IfErr result (λ status.
+      ((status.code ≡ AlreadyExists) × (IsNewTo old.entries entry.sequence entry.key → ⊥))
+      ⊎ FailsToPrepare old 1 (length entry.key + value_length entry.value) status)
+
+-- what putting an entry for which there is room leaves, and whether it has come
+pub record PutResult (old : Kept) (entry : Entry) (has_come : Bool) (new : Kept) : Type 0 where
+  -- no entry had its key and sequence
+  pub absent : OnTrue has_come (IsNewTo old.entries entry.sequence entry.key)
+  pub adds : OnTrue has_come (AddsEntry old entry new)
+  pub grows : OnTrue has_come (Grows old.entries entry new.entries)
+  -- one had, and all stays
+  pub present : OnFalse has_come (IsNewTo old.entries entry.sequence entry.key → ⊥)
+  pub entries : OnFalse has_come (new.entries ≡ old.entries)
+  pub places : OnFalse has_come (new.places ≡ old.places)
+  pub bytes : OnFalse has_come (old.bytes ≤ new.bytes)

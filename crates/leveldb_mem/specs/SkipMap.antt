@@ -1,10 +1,13 @@
 -- A map's pairs, and what comes of an insertion.
-use Rattle.std.specs.Prelude.{◌≡◌, ◌≤◌, ◌<◌, ◌+◌, ◌*◌, ℕ, Bool, true, false, List, ◌∷◌, ◌++◌, length, nat_eq, Option, Some, None, All, Contains, refl}
+use Rattle.std.specs.Prelude.{◌≡◌, ◌≤◌, ◌<◌, ◌+◌, ◌*◌, ◌^◌, ◌⊎◌, ℕ, Bool, true, false, List, ◌∷◌, ◌++◌, length, nat_eq, Option, Some, None, All, Contains, refl}
 use Rattle.std.specs.List.{insert, starts_with}
 use Rattle.std.specs.Option.{option_map}
 use Rattle.std.specs.Coded.{Coded, code_by, coded×, coded_list, coded_ℕ}
 use Rattle.std.specs.declared.cmp.Ordering.{Ordering}
 use Rattle.std.specs.declared.cmp.Ordering.TheVariants.{Equal}
+use Rattle.leveldb_base.specs.Error.{IsOutOfMemory}
+use Rattle.leveldb_base.specs.declared.error.Status.{Status}
+use Rattle.leveldb_base.specs.declared.error.StatusCode.TheVariants.{NotSupported}
 use Rattle.leveldb_base.specs.Types.{Pair}
 use Rattle.leveldb_base.specs.History.{AreRising}
 use Rattle.leveldb_mem.specs.Placed.{bytes_of, rank}
@@ -63,3 +66,9 @@ key_begins (Some pair) key = starts_with nat_eq pair.0 key
 -- 128, and for each pair 64 and the lengths of key and value
 abbrev pub memory_of : List Pair → ℕ
 memory_of pairs = 128 + (64 * length pairs + bytes_of pairs)
+
+-- Why no room was made for so many pairs with so many bytes: memory is out, or 32 bits can't number them, which takes
+-- pairs that would count for 2^32 bytes of memory.
+abbrev pub FailsToReserve : List Pair → ℕ → ℕ → Status → Type 0
+FailsToReserve pairs count bytes status =
+    ((status.code ≡ NotSupported) × (2 ^ 32 ≤ memory_of pairs + (64 * count + bytes))) ⊎ IsOutOfMemory status

@@ -1,9 +1,9 @@
 //! A map from keys to values in the order of a comparator.
 ghost use Rattle.std.specs.Prelude.{◌≡◌, ◌≢◌, ◌↔◌, ◌⊎◌, ◌+◌, ◌^◌, ◌<◌, ◌≤◌, ◌==◌, true, [], ◌++◌};
-ghost use Rattle.std.specs.Prelude.{length, OnOk, OnErr, IfErr, IsErrAnd, Some, None, slice_get};
+ghost use Rattle.std.specs.Prelude.{length, OnOk, OnErr, IfErr, IsErrAnd, Some, None};
+ghost use Rattle.std.specs.Prelude.{slice_get};
 ghost use Rattle.std.specs.Bool.{OnTrue, OnFalse};
 ghost use Rattle.std.specs.Option.{ForSome};
-ghost use Rattle.leveldb_base.specs.Error.{IsOutOfMemory};
 ghost use Rattle.leveldb_base.specs.declared.error.StatusCode.TheVariants.{InvalidArgument};
 ghost use Rattle.leveldb_base.specs.declared.error.StatusCode.TheVariants.{AlreadyExists};
 ghost use Rattle.leveldb_base.specs.Types.{seek_position, position_within, previous_position};
@@ -11,7 +11,7 @@ ghost use Rattle.leveldb_base.specs.Types.{last_position, pair_at};
 ghost use Rattle.leveldb_mem.specs.Placed.{rank};
 ghost use Rattle.leveldb_mem.specs.Searching.{key_at, count_while, IsParted};
 ghost use Rattle.leveldb_mem.specs.SkipMap.{IsSorted, Inserts, HasKey, HasNode, position_of};
-ghost use Rattle.leveldb_mem.specs.SkipMap.{key_begins, memory_of};
+ghost use Rattle.leveldb_mem.specs.SkipMap.{key_begins, memory_of, FailsToReserve};
 
 use crate::skipmap::placed::{HEAD, PlacedPairs};
 use crate::skipmap::search::{AtKey, Probe, find_gap, path_before};
@@ -112,8 +112,8 @@ impl<C: Cmp> SkipMap<C> {
         128 + self.pairs.memory()
     }
 
-    /// Inserts a copy of the pair. Returns `InvalidArgument` if the key is empty, and
-    /// `AlreadyExists` if it is Equal to a key that is there.
+    /// Inserts a copy of the pair. Returns `InvalidArgument` if the key is empty, `AlreadyExists` if
+    /// it is Equal to a key that is there, and `NotSupported` if the map would grow past its limit.
     pub fn insert(&mut self, key: &[u8], value: &[u8]) -> Result<()>
         requires { (key.now ≡ []) ⊎ (C.accepts self.old.cmp key.now ≡ true) }
         ensures cmp { self.new.cmp ≡ self.old.cmp }
@@ -127,7 +127,8 @@ impl<C: Cmp> SkipMap<C> {
         ensures present { IsErrAnd result (λ status. status.code ≡ AlreadyExists)
             ↔ ((key.now ≢ []) × HasKey (C.cmp self.old.cmp) self.old.pairs key.now) }
         ensures cause { IfErr result (λ status. (status.code ≡ InvalidArgument)
-            ⊎ (status.code ≡ AlreadyExists) ⊎ IsOutOfMemory status) }
+            ⊎ (status.code ≡ AlreadyExists)
+            ⊎ FailsToReserve self.old.pairs 1 (length key.now + length value.now) status) }
     {
         let alloc = self.pairs.allocator();
         if key.is_empty() {
@@ -283,10 +284,11 @@ impl<C: Cmp> SkipMap<C> {
     pub(crate) fn reserve(&mut self, places: usize, bytes: usize) -> Result<()>
         ensures cmp { self.new.cmp ≡ self.old.cmp }
         ensures pairs { self.new.pairs ≡ self.old.pairs }
-        ensures ok { OnOk result ((self.new.places ≡ places) × (bytes ≤ self.new.bytes)) }
+        ensures ok { OnOk result ((self.new.places ≡ places) × (bytes ≤ self.new.bytes)
+            × (bytes < 2 ^ 32)) }
         ensures err { OnErr result (self.new.places ≡ self.old.places) }
         ensures bytes { self.old.bytes ≤ self.new.bytes }
-        ensures cause { IfErr result IsOutOfMemory }
+        ensures cause { IfErr result (FailsToReserve self.old.pairs places bytes) }
     {
         self.pairs.reserve(places, bytes)
     }

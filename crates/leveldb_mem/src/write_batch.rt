@@ -17,7 +17,8 @@ ghost use Rattle.leveldb_mem.specs.WriteBatch.{IsBatch, IsTooLong, AreEntries, C
 ghost use Rattle.leveldb_mem.specs.WriteBatch.{change_encoding, ReadsEntry, borrowed_item};
 ghost use Rattle.leveldb_mem.specs.WriteBatch.{borrowed_entry};
 ghost use Rattle.leveldb_mem.specs.WriteBatchLaws.{IsBatch-prop, AreEntries-prop};
-ghost use Rattle.leveldb_mem.specs.MemTable.{IsUnion, AreNewTo, GrowsByAll};
+ghost use Rattle.leveldb_mem.specs.MemTable.{IsUnion, AreNewTo, GrowsByAll, FailsToPrepare};
+ghost use Rattle.leveldb_mem.specs.MemTable.{bytes_in};
 
 use crate::memtable::MemTable;
 use byteorder::{ByteOrder, LittleEndian};
@@ -176,7 +177,8 @@ impl WriteBatch {
 
     /// Inserts all changes into the memtable, the first of them with this number; after an error,
     /// none.
-    /// Returns `NotSupported` if a number is too great.
+    /// Returns `NotSupported` if a number is too great, or the entries would be too many for the
+    /// table.
     pub fn insert_into_memtable<C: UserCmp>(
         &self,
         seq: SequenceNumber,
@@ -189,10 +191,12 @@ impl WriteBatch {
         ensures grows { OnOk result (GrowsByAll memtable.old.kept.entries
             (placed seq self.now.items) memtable.new.kept.entries) }
         ensures err { OnErr result (memtable.new.kept.entries ≡ memtable.old.kept.entries) }
-        ensures too_great { IsErrAnd result (λ status. status.code ≡ NotSupported)
-            ↔ (2 ^ 56 ≤ greatest (placed seq self.now.items)) }
+        ensures too_great { 2 ^ 56 ≤ greatest (placed seq self.now.items)
+            → IsErrAnd result (λ status. status.code ≡ NotSupported) }
         ensures cause { IfErr result (λ status.
-            (status.code ≡ NotSupported) ⊎ IsOutOfMemory status) }
+            ((status.code ≡ NotSupported) × (2 ^ 56 ≤ greatest (placed seq self.now.items)))
+            ⊎ FailsToPrepare memtable.old.kept (length self.now.items)
+            (bytes_in self.now.items) status) }
     {
         if u64::from(self.count()) > (MAX_SEQUENCE_NUMBER + 1).saturating_sub(seq) {
             let alloc = *self.entries.allocator();

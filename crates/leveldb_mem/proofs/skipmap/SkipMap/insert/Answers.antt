@@ -1,17 +1,35 @@
-use Rattle.std.proofs.Common.{◌≡◌, ◌++◌, ◌∙◌, ap, sym, subst, refl, length, List, arith, ap}
+use Rattle.std.proofs.Common.{◌≡◌, ◌+◌, ◌++◌, ◌∙◌, inr, ap, sym, subst, refl, length, List, arith, ap}
 use Rattle.std.specs.List.{insert}
+use Rattle.std.proofs.lemmas.Bool.{eqb-false}
 use Rattle.std.proofs.lemmas.Result.{err_from_is_err_and}
 use Rattle.leveldb_base.specs.Types.{Pair}
 use Rattle.leveldb_mem.specs.Placed.{place_of}
-use Rattle.leveldb_mem.specs.SkipMap.{IsSorted}
+use Rattle.leveldb_mem.specs.SkipMap.{IsSorted, FailsToReserve}
 use Rattle.leveldb_mem.proofs.Rising.{placed_at, inserts_at}
-use Rattle.leveldb_mem.proofs.SkipMapLemmas.{same_path}
+use Rattle.leveldb_mem.proofs.SkipMapLemmas.{same_path, not_empty, not_present}
 use Rattle.leveldb_mem.proofs.skipmap.SkipMap.insert.Goals as goal
 
 pub returns-in_err-reserve-clause-present : goal.returns-in_err-reserve-clause-present
 returns-in_err-reserve-clause-present g c =
     let p = err_from_is_err_and c.from_residual.result c.from_residual.ensures.1 in
-    rw (p.1, p.2, ← c.self.view_is) (λ h. let wants = c.in_err-reserve.ensures.cause.0 in absurd (cc), λ h. absurd (c.in-Some.ensures.0.alone h.1))
+    let it = c.self.inside.pairs in
+    let bytes = length it.tail + (length c.args.key.now + length c.args.value.now) in
+    rw (p.1, p.2, ← c.self.view_is) (λ h. absurd (not_present it.pairs 1 bytes c.in_err-reserve.ensures.cause h), λ h. absurd (c.in-Some.ensures.0.alone h.1))
+
+pub returns-in_err-reserve-clause-empty : goal.returns-in_err-reserve-clause-empty
+returns-in_err-reserve-clause-empty g c =
+    let p = err_from_is_err_and c.from_residual.result c.from_residual.ensures.1 in
+    let it = c.self.inside.pairs in
+    let bytes = length it.tail + (length c.args.key.now + length c.args.value.now) in
+    rw (p.1, p.2) (λ h. absurd (not_empty it.pairs 1 bytes c.in_err-reserve.ensures.cause h), λ none. absurd (eqb-false (length c.args.key.now) 0 (sym c.if-is_empty.ensures) (ap length none)))
+
+pub returns-in_err-reserve-clause-cause : goal.returns-in_err-reserve-clause-cause
+returns-in_err-reserve-clause-cause g c =
+    let p = err_from_is_err_and c.from_residual.result c.from_residual.ensures.1 in
+    let pairs = c.self.inside.pairs.pairs in
+    let bytes = length c.args.key.now + length c.args.value.now in
+    let none : length c.self.inside.pairs.tail + bytes ≡ bytes = omega (arith, ap length c.self.invariant.1) in
+    rw (p.1, p.2, ← c.self.view_is) (inr (inr (subst (λ n. FailsToReserve pairs 1 n c.in_err-reserve.field-0.0) none c.in_err-reserve.ensures.cause)))
 
 pub place-requires-clause-at : goal.place-requires-clause-at
 place-requires-clause-at g c =
