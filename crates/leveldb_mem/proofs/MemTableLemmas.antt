@@ -27,10 +27,10 @@ use Rattle.leveldb_base.specs.declared.error.StatusCode.TheVariants.{NotSupporte
 use Rattle.leveldb_mem.specs.MemTable.{FailsToPrepare, FailsToNumber, ReserveResult, most_beside, value_length, entry_of, type_of, bytes_of_value, value_of, entry_key, entry_from, inner_value, entries_in, IsEntryPair, internal_pair, bytes_in, Kept, KeepsRoom, memory_of_entries, Grows, HasNewest, FindsNewest, IsValueAt}
 use Rattle.leveldb_mem.specs.WriteBatch.{change_encoding, entry_bytes, BatchOf}
 use Rattle.leveldb_mem.specs.Searching.{key_at, count_while, IsParted}
-use Rattle.leveldb_mem.specs.SkipMap.{IsSorted, memory_of, Inserts, FailsToReserve}
+use Rattle.leveldb_mem.specs.SkipMap.{IsSorted, Inserts}
 use Rattle.leveldb_mem.proofs.Rising.{is_less, rising_at, not_less}
 use Rattle.leveldb_mem.proofs.WriteBatchLemmas.{length-batch}
-use Rattle.leveldb_mem.specs.Placed.{bytes_of}
+use Rattle.leveldb_mem.specs.Placed.{bytes_of, memory_of, FailsToReserve}
 use Rattle.leveldb_mem.proofs.Halving.{before_count, at_count, count_before-is}
 
 -- ---- entries and their memtable keys

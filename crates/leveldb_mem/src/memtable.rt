@@ -11,7 +11,8 @@ ghost use Rattle.leveldb_mem.specs.WriteBatch.{item_of};
 ghost use Rattle.leveldb_mem.specs.Placed.{rank};
 ghost use Rattle.leveldb_mem.specs.SkipMap.{HasNode, position_of};
 ghost use Rattle.leveldb_mem.specs.MemTable.{IsUnion, IsNewTo, AreNewTo, FindsNewest, HasRoom};
-ghost use Rattle.leveldb_mem.specs.MemTable.{KeepsRoom, AddsEntry, entry_of, type_of, bytes_of_value};
+ghost use Rattle.leveldb_mem.specs.MemTable.{KeepsRoom, AddsEntry, entry_of, type_of};
+ghost use Rattle.leveldb_mem.specs.MemTable.{bytes_of_value};
 ghost use Rattle.leveldb_mem.specs.MemTable.{value_of, value_length, entry_key, entry_from};
 ghost use Rattle.leveldb_mem.specs.MemTable.{inner_value, internal_pair, memory_of_entries, Grows};
 ghost use Rattle.leveldb_mem.specs.MemTable.{GrowsByAll, IsValueAt, PrepareResult, ReserveResult};
@@ -95,8 +96,8 @@ impl<C: UserCmp> MemTable<C> {
         self.map.approx_memory()
     }
 
-    /// Takes all memory that the changes of a batch need. Returns `NotSupported` if the entries would
-    /// be too many for the table.
+    /// Takes all memory that the changes of a batch need. Returns `NotSupported` if the entries
+    /// would be too many for the table.
     pub fn prepare(&mut self, batch: &WriteBatch) -> Result<()>
         ensures cmp { self.new.cmp ≡ self.old.cmp }
         ensures kept { PrepareResult self.old.kept batch.now.items result self.new.kept }

@@ -1,8 +1,9 @@
 //! Write batches: changes of keys that are made together. A batch is held as the bytes that encode
 //! it in the log: the number of the first change (8 bytes), the number of changes (4), and the
-//! changes in order. A change is its kind (1 byte) and its key after its length; a put has its value
-//! after its length, too.
-ghost use Rattle.std.specs.Prelude.{◌≡◌, ◌↔◌, ◌⊎◌, ◌+◌, ◌^◌, ◌<◌, ◌≤◌, [], ◌∷◌, ◌++◌, length, take, drop};
+//! changes in order. A change is its kind (1 byte) and its key after its length; a put has its
+//! value after its length, too.
+ghost use Rattle.std.specs.Prelude.{◌≡◌, ◌↔◌, ◌⊎◌, ◌+◌, ◌^◌, ◌<◌, ◌≤◌, [], ◌∷◌, ◌++◌, length, take};
+ghost use Rattle.std.specs.Prelude.{drop};
 ghost use Rattle.std.specs.Prelude.{Some, None, IfOk, OnOk, OnErr, IfErr, IfSome, IsErrAnd, IsTrue};
 ghost use Rattle.std.specs.Prelude.{vec_len, vec_capacity, option_copied};
 ghost use Rattle.std.specs.Iterator.{YieldsFirstBy, item_count};
@@ -12,7 +13,8 @@ ghost use Rattle.leveldb_base.specs.declared.error.StatusCode.TheVariants.{Inval
 ghost use Rattle.leveldb_base.specs.declared.error.StatusCode.TheVariants.{NotSupported};
 ghost use Rattle.leveldb_base.specs.History.{placed, greatest};
 ghost use Rattle.leveldb_base.specs.Varint.{little, sized};
-ghost use Rattle.leveldb_mem.specs.WriteBatch.{item_of, batch_of, with_item, AddChangeResult, BatchOf};
+ghost use Rattle.leveldb_mem.specs.WriteBatch.{item_of, batch_of, with_item, AddChangeResult};
+ghost use Rattle.leveldb_mem.specs.WriteBatch.{BatchOf};
 ghost use Rattle.leveldb_mem.specs.WriteBatch.{IsBatch, IsTooLong, AreEntries, CountsEntries};
 ghost use Rattle.leveldb_mem.specs.WriteBatch.{change_encoding, ReadsEntry, borrowed_item};
 ghost use Rattle.leveldb_mem.specs.WriteBatch.{borrowed_entry};

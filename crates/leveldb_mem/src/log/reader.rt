@@ -1,7 +1,10 @@
 //! The reader of a log: it joins fragments to records.
-ghost use Rattle.std.specs.Prelude.{◌≡◌, ◌≢◌, ◌↔◌, ℕ, ◌+◌, ◌-◌, ◌*◌, ◌%◌, ◌≤◌, ◌<◌, true, false, [], take};
-ghost use Rattle.std.specs.Prelude.{drop, length, slice_index, slice_range, vec_len, List, IfOk, OnOk};
-ghost use Rattle.std.specs.Prelude.{IfErr, IfSome, IsErrAnd, IsTrue, MatchOption, All, string_bytes, map};
+ghost use Rattle.std.specs.Prelude.{◌≡◌, ◌≢◌, ◌↔◌, ℕ, ◌+◌, ◌-◌, ◌*◌, ◌%◌, ◌≤◌, ◌<◌, true, false};
+ghost use Rattle.std.specs.Prelude.{[], take};
+ghost use Rattle.std.specs.Prelude.{drop, length, slice_index, slice_range, vec_len, List, IfOk};
+ghost use Rattle.std.specs.Prelude.{OnOk};
+ghost use Rattle.std.specs.Prelude.{IfErr, IfSome, IsErrAnd, IsTrue, MatchOption, All};
+ghost use Rattle.std.specs.Prelude.{string_bytes, map};
 ghost use Rattle.std.specs.Prelude.{if◌then◌else◌};
 ghost use Rattle.leveldb_base.specs.Error.{status_text, IsOutOfMemory};
 ghost use Rattle.leveldb_base.specs.declared.error.StatusCode.TheVariants.{Corruption};
@@ -150,8 +153,8 @@ impl ReaderCore {
     /// Reads what comes next, a record into the target. If no record comes, the target holds some
     /// bytes of one, or none.
     ///
-    /// Damage other than a wrong checksum, a read of the source that fails, memory that runs out and a
-    /// record of 2^64 bytes fail the reader: every later call is `Corruption`.
+    /// Damage other than a wrong checksum, a read of the source that fails, memory that runs out
+    /// and a record of 2^64 bytes fail the reader: every later call is `Corruption`.
     pub fn next_record<S: Source>(&mut self, source: &mut S, target: &mut Vec<u8>) -> Result<Found>
         ensures found { IfOk result (λ found. FindsNext S.gives found self.old source.old
             target.new.items self.new source.new) }
@@ -185,8 +188,8 @@ impl ReaderCore {
     /// records. After an error the target is empty.
     ///
     /// Any damage is `Corruption`. After a wrong checksum the next call goes on, as in a log of its
-    /// own. Other damage, a read of the source that fails, memory that runs out and a record of 2^64
-    /// bytes, which is `NotSupported`, fail the reader: every later call is `Corruption`.
+    /// own. Other damage, a read of the source that fails, memory that runs out and a record of
+    /// 2^64 bytes, which is `NotSupported`, fail the reader: every later call is `Corruption`.
     pub fn read<S: Source>(&mut self, source: &mut S, target: &mut Vec<u8>) -> Result<usize>
         ensures { ReadResult S.gives self.old source.old result target.new.items
             self.new source.new }

@@ -5,6 +5,7 @@ use Rattle.leveldb_base.specs.Cmp.{memtable_accepts}
 use Rattle.leveldb_base.specs.Types.{Pair}
 use Rattle.leveldb_mem.specs.MemTable.{entry_of, entry_key, entry_from, type_of, bytes_of_value, IsEntryPair, entries_in}
 use Rattle.leveldb_mem.proofs.MemTableLemmas.{key_of_parts, length-parts, entry_again, accepted_key, grows}
+use Rattle.leveldb_mem.proofs.SkipMapLemmas.{length-five}
 use Rattle.leveldb_mem.proofs.EntryLemmas.{gains_entry, still_entries, not_new, is_new}
 use Rattle.leveldb_mem.proofs.memtable.MemTable.put.Goals as goal
 
@@ -39,12 +40,14 @@ invariant_of-self g c =
     length-parts c.encode_length-head.result.now c.args.key.now c.tag_bytes-tag.result c.encode_length-size.result.now c.type_and_bytes-parts.result.1.now c.args.sequence
     c.type_and_bytes-parts.result.0 value c.type_and_bytes-parts.ensures.kind c.type_and_bytes-parts.ensures.bytes c.encode_length-head.ensures c.tag_bytes-tag.ensures c.encode_length-size.ensures
     (omega arith) (omega arith) in
+    let five = length-five c.encode_length-head.result.now c.args.key.now c.tag_bytes-tag.result c.encode_length-size.result.now c.type_and_bytes-parts.result.1.now in
     ⊎_elim
     (λ (t : c.put_parts.result ≡ true). (
       still_entries (OnTrue_at t c.put_parts.ensures.put) entry whole c.requires.numbered c.self.invariant.0,
       omega (
         arith,
         size,
+        five,
         OnTrue_at t c.put_parts.ensures.place,
         c.put_parts.ensures.bytes,
         c.self.invariant.1,
@@ -78,12 +81,13 @@ returns-clause-kept g c =
     length-parts c.encode_length-head.result.now c.args.key.now c.tag_bytes-tag.result c.encode_length-size.result.now c.type_and_bytes-parts.result.1.now c.args.sequence
     c.type_and_bytes-parts.result.0 value c.type_and_bytes-parts.ensures.kind c.type_and_bytes-parts.ensures.bytes c.encode_length-head.ensures c.tag_bytes-tag.ensures c.encode_length-size.ensures
     (omega arith) (omega arith) in
+    let five = length-five c.encode_length-head.result.now c.args.key.now c.tag_bytes-tag.result c.encode_length-size.result.now c.type_and_bytes-parts.result.1.now in
     rw (← c.self.view_is) (record {
       absent = OnTrue_from c.put_parts.result _ (λ t. is_new o all exact it.pairs key entry again (OnTrue_at t put.absent));
       adds = OnTrue_from c.put_parts.result _ (λ t. record {
         gains = gains_entry (OnTrue_at t put.put) entry again;
         places = omega (arith, OnTrue_at t put.place);
-        bytes = omega (arith, size, OnTrue_at t put.place, put.bytes, c.self.invariant.1);
+        bytes = omega (arith, size, five, OnTrue_at t put.place, put.bytes, c.self.invariant.1);
       });
       grows = OnTrue_from c.put_parts.result _ (λ t. grows (OnTrue_at t put.put) entry again);
       present = OnFalse_from c.put_parts.result _ (λ f. not_new o all exact it.pairs key entry again (OnFalse_at f put.present));
