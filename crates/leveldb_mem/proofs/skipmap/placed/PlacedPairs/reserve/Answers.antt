@@ -36,14 +36,14 @@ returns-then-places-len c =
     elim c.then-places-len.branch [
       | then-places-len-via-then-places-len w ↦ omega (arith, size, w.if-places-len.true, c.len.ensures, c.self.invariant.6)
       | then-places-len-via-else-places-len+then-bytes-len w ↦ omega (
-          arith,
-          bytes,
-          w.if-bytes-len.true,
-          w.len-else-places-len.ensures,
-          length-drop it.end text,
-          c.self.invariant.0.within,
-          it.text.ok.0,
-        )
+        arith,
+        bytes,
+        w.if-bytes-len.true,
+        w.len-else-places-len.ensures,
+        length-drop it.end text,
+        c.self.invariant.0.within,
+        it.text.ok.0,
+      )
     ] in
     let p = err_from_is_err_and c.err.result c.err.ensures.code in
     rw (p.1, ← c.self.view_is) (record {
