@@ -24,7 +24,8 @@ use Rattle.leveldb_base.specs.declared.key_types.ValueType.TheVariants.{TypeValu
 use Rattle.leveldb_base.specs.Error.{IsOutOfMemory}
 use Rattle.leveldb_base.specs.declared.error.Status.{Status}
 use Rattle.leveldb_base.specs.declared.error.StatusCode.TheVariants.{NotSupported}
-use Rattle.leveldb_mem.specs.MemTable.{FailsToPrepare, FailsToNumber, ReserveResult, most_beside, value_length, entry_of, type_of, bytes_of_value, value_of, entry_key, entry_from, inner_value, entries_in, IsEntryPair, internal_pair, bytes_in, Kept, KeepsRoom, memory_of_entries, Grows, HasNewest, FindsNewest, IsValueAt}
+use Rattle.leveldb_base.specs.Entries.{type_of, bytes_of_value, value_of, internal_pair, HasNewest, FindsNewest}
+use Rattle.leveldb_mem.specs.MemTable.{FailsToPrepare, FailsToNumber, ReserveResult, most_beside, value_length, entry_of, entry_key, entry_from, inner_value, entries_in, IsEntryPair, bytes_in, Kept, KeepsRoom, memory_of_entries, Grows, IsValueAt}
 use Rattle.leveldb_mem.specs.WriteBatch.{change_encoding, entry_bytes, BatchOf}
 use Rattle.leveldb_mem.specs.Searching.{key_at, count_while, IsParted}
 use Rattle.leveldb_mem.specs.SkipMap.{IsSorted, Inserts}

@@ -7,13 +7,12 @@ use Rattle.std.specs.Coded.{Coded, code_by, coded×, coded_list, coded_option, c
 use Rattle.leveldb_base.specs.Error.{IsOutOfMemory}
 use Rattle.leveldb_base.specs.declared.error.Status.{Status}
 use Rattle.leveldb_base.specs.declared.error.StatusCode.TheVariants.{AlreadyExists, NotSupported}
-use Rattle.leveldb_base.specs.History.{Item, Entry, IsNewest}
-use Rattle.leveldb_base.specs.KeyTypes.{internal_key, user_part, sequence_part, type_part}
-use Rattle.leveldb_base.specs.KeyTypes.{memtable_key, inner_key}
+use Rattle.leveldb_base.specs.Entries.{type_of, bytes_of_value, value_of}
+use Rattle.leveldb_base.specs.History.{Item, Entry}
+use Rattle.leveldb_base.specs.KeyTypes.{user_part, sequence_part, type_part, memtable_key}
+use Rattle.leveldb_base.specs.KeyTypes.{inner_key}
 use Rattle.leveldb_base.specs.Varint.{sized}
 use Rattle.leveldb_base.specs.Types.{Pair}
-use Rattle.leveldb_base.specs.declared.key_types.ValueType.{ValueType}
-use Rattle.leveldb_base.specs.declared.key_types.ValueType.TheVariants.{TypeDeletion, TypeValue}
 
 -- ---- sets of entries
 
@@ -32,22 +31,6 @@ IsNewTo entries sequence key = (entry : Entry) → Contains entries entry → en
 abbrev pub AreNewTo : List Entry → List Entry → Type 0
 AreNewTo entries more = (entry : Entry) → Contains more entry
     → IsNewTo entries entry.sequence entry.key
-
--- the key's newest entry at or below s is this value or deletion, and no other entry is as new
-pub record HasNewest (entries : List Entry) (s : ℕ) (key : List ℕ) (value : Option (List ℕ))
-    : Type 0 where
-  pub entry : Entry
-  pub newest : IsNewest entries s entry
-  pub key_is : entry.key ≡ key
-  pub value_is : entry.value ≡ value
-  pub only : (other : Entry) → IsNewest entries s other → other.key ≡ key → other ≡ entry
-
--- what is found of a key at a sequence: its newest entry up to there, a value or a deletion; or
--- that it has none
-abbrev pub FindsNewest : List Entry → ℕ → List ℕ → Option (Option (List ℕ)) → Type 0
-FindsNewest entries s key (Some value) = HasNewest entries s key value
-FindsNewest entries s key None = (entry : Entry) → Contains entries entry → entry.key ≡ key
-    → entry.sequence ≤ s → ⊥
 
 -- ---- room
 
@@ -115,21 +98,6 @@ memtable_code {C} c =
 abbrev pub entry_of : ℕ → List ℕ → Option (List ℕ) → Entry
 entry_of sequence key value = record { sequence = sequence; key = key; value = value }
 
--- the type of what an entry gives its key
-abbrev pub type_of : Option (List ℕ) → ValueType
-type_of None = TypeDeletion
-type_of (Some value) = TypeValue
-
--- the bytes of a value; a deletion has none
-abbrev pub bytes_of_value : Option (List ℕ) → List ℕ
-bytes_of_value None = []
-bytes_of_value (Some value) = value
-
--- what a type and bytes give a key
-abbrev pub value_of : ValueType → List ℕ → Option (List ℕ)
-value_of TypeDeletion bytes = None
-value_of TypeValue bytes = Some bytes
-
 -- the memtable key of an entry
 unfoldable pub entry_key : Entry → List ℕ
 entry_key entry =
@@ -181,11 +149,6 @@ pub record GrowsByAll (old more new : List Entry) : Type 0 where
   pub count : length new ≡ length old + length more
   pub memory : memory_of_entries new ≡ memory_of_entries old
       + (64 * length more + sum_by (λ entry. length (entry_key entry)) more)
-
--- the internal key of an entry with its value; a deletion has the empty one
-abbrev pub internal_pair : Entry → Pair
-internal_pair entry =
-    (internal_key entry.key entry.sequence (type_of entry.value), bytes_of_value entry.value)
 
 -- ---- what calls return and leave
 

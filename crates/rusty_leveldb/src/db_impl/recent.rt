@@ -3,7 +3,8 @@ ghost use Rattle.std.specs.Prelude.{◌≡◌, ◌≤◌, ◌+◌, [], OnOk, IfO
 ghost use Rattle.leveldb_base.specs.Error.{IsOutOfMemory};
 ghost use Rattle.leveldb_base.specs.History.{AreUpTo};
 ghost use Rattle.leveldb_base.specs.declared.error.StatusCode.TheVariants.{NotSupported};
-ghost use Rattle.leveldb_mem.specs.MemTable.{HasRoom, FindsNewest};
+ghost use Rattle.leveldb_base.specs.Entries.{FindsNewest};
+ghost use Rattle.leveldb_mem.specs.MemTable.{HasRoom};
 ghost use Rattle.rusty_leveldb.specs.Recent.{Follows, Inserts, AreUsedUp, lent_newest};
 ghost use Rattle.rusty_leveldb.specs.OneLog.{max_sequence};
 

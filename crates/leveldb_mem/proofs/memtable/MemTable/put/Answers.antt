@@ -3,7 +3,8 @@ use Rattle.std.proofs.lemmas.Bool.{cases_Bool, OnTrue_at, OnTrue_from, OnFalse_a
 use Rattle.std.specs.Prelude.{All}
 use Rattle.leveldb_base.specs.Cmp.{memtable_accepts}
 use Rattle.leveldb_base.specs.Types.{Pair}
-use Rattle.leveldb_mem.specs.MemTable.{entry_of, entry_key, entry_from, type_of, bytes_of_value, IsEntryPair, entries_in}
+use Rattle.leveldb_base.specs.Entries.{type_of, bytes_of_value}
+use Rattle.leveldb_mem.specs.MemTable.{entry_of, entry_key, entry_from, IsEntryPair, entries_in}
 use Rattle.leveldb_mem.proofs.MemTableLemmas.{key_of_parts, length-parts, entry_again, accepted_key, grows}
 use Rattle.leveldb_mem.proofs.SkipMapLemmas.{length-five}
 use Rattle.leveldb_mem.proofs.EntryLemmas.{gains_entry, still_entries, not_new, is_new}
