@@ -1,5 +1,5 @@
 -- Sets of entries that gain some.
-use Rattle.std.proofs.Common.{◌≡◌, ◌≤◌, ◌<◌, ◌+◌, ⊎_elim, ℕ, List, [], ◌∷◌, ap, subst, arith, ◌^◌, Bool, true, false, ◌++◌, get_or, length-append, Result, Ok, Err, refl, sym, ◌∙◌, ◌⊎◌, inl, inr, ◌-◌, length, append-nil, append_assoc}
+use Rattle.std.proofs.Common.{◌≡◌, ◌≤◌, ◌<◌, ◌+◌, ⊎_elim, ℕ, suc, List, [], ◌∷◌, ap, subst, arith, ◌^◌, Bool, true, false, ◌++◌, get_or, length-append, Result, Ok, Err, refl, sym, ◌∙◌, ◌⊎◌, inl, inr, ◌-◌, length, append-nil, append_assoc}
 use Rattle.std.proofs.lemmas.List.Sums.{sum_by-cons}
 use Rattle.std.specs.Prelude.{Contains, ◌↔◌, All, IsErrAnd, IfErr}
 use Rattle.std.proofs.lemmas.Bool.{OnTrue_at, OnFalse_at}
@@ -20,7 +20,7 @@ use Rattle.leveldb_base.specs.Error.{IsOutOfMemory}
 use Rattle.leveldb_base.specs.declared.error.Status.{Status}
 use Rattle.leveldb_base.specs.declared.error.StatusCode.TheVariants.{AlreadyExists, NotSupported}
 use Rattle.leveldb_mem.specs.WriteBatch.{item_of}
-use Rattle.leveldb_mem.specs.MemTable.{KeepsRoom, AddResult, PutResult, PrepareResult, FailsToPrepare, bytes_in, value_length, IsUnion, AreNewTo, entry_of, IsNewTo, entry_key, entry_from, entries_in, IsEntryPair, Kept, HasRoom, AddsEntry, Grows, GrowsByAll}
+use Rattle.leveldb_mem.specs.MemTable.{KeepsRoom, AddResult, PutResult, PrepareResult, FailsToPrepare, bytes_in, value_length, IsUnion, AreNewTo, entry_of, IsNewTo, entry_key, entry_from, entries_in, IsEntryPair, Kept, HasRoom, AddsEntry, AddsAll, Grows, GrowsByAll}
 use Rattle.leveldb_mem.specs.Searching.{key_at}
 use Rattle.leveldb_mem.specs.SkipMap.{Inserts, HasKey}
 use Rattle.leveldb_mem.proofs.MemTableLemmas.{entry_again, entry_order, entry_place, entry_there}
@@ -240,29 +240,42 @@ none_fit first (item ∷ items) lt = let last = last_of first item items in omeg
 -- ---- on the way
 
 -- some changes have come, and these items are to come from this number on
-pub record Inserting (old all : List Entry) (kept : Kept) (sequence : ℕ) (rest : List Item) : Type 0 where
+pub record Inserting (old : Kept) (all : List Entry) (kept : Kept) (sequence : ℕ) (rest : List Item) : Type 0 where
   pub room : HasRoom kept rest
   pub fit : greatest (placed sequence rest) < 2 ^ 56
   pub new : AreNewTo kept.entries (placed sequence rest)
-  pub gains : (final : List Entry) → IsUnion kept.entries (placed sequence rest) final → IsUnion old all final
-  pub grows : (final : List Entry) → GrowsByAll kept.entries (placed sequence rest) final → GrowsByAll old all final
+  pub gains : (final : List Entry) → IsUnion kept.entries (placed sequence rest) final → IsUnion old.entries all final
+  pub grows : (final : List Entry) → GrowsByAll kept.entries (placed sequence rest) final → GrowsByAll old.entries all final
+  pub taken : kept.places + length all ≡ old.places + length rest
+
+length-placed : (first : ℕ) (items : List Item) → length (placed first items) ≡ length items
+length-placed first [] = refl
+length-placed first (item ∷ items) = ap (λ n. suc n) (length-placed (first + 1) items)
 
 pub inserting_from : (kept : Kept) (first : ℕ) (items rest : List Item) → rest ≡ items → HasRoom kept items → greatest (placed first items) < 2 ^ 56
-    → AreNewTo kept.entries (placed first items) → Inserting kept.entries (placed first items) kept first rest
+    → AreNewTo kept.entries (placed first items) → Inserting kept (placed first items) kept first rest
 inserting_from kept first items rest all room fit new =
-    subst (λ (z : List Item). Inserting kept.entries (placed first items) kept first z) (sym all)
-    (record { room = room; fit = fit; new = new; gains = λ final gains. gains; grows = λ final grows. grows })
+    subst (λ (z : List Item). Inserting kept (placed first items) kept first z) (sym all)
+    (record {
+      room = room;
+      fit = fit;
+      new = new;
+      gains = λ final gains. gains;
+      grows = λ final grows. grows;
+      taken = omega (arith, length-placed first items);
+    })
 
 -- no item is left
-pub inserted_all : (old all : List Entry) (kept : Kept) (sequence : ℕ) (rest : List Item) → rest ≡ [] → Inserting old all kept sequence rest → IsUnion old all kept.entries
+pub inserted_all : (old : Kept) (all : List Entry) (kept : Kept) (sequence : ℕ) (rest : List Item) → rest ≡ [] → Inserting old all kept sequence rest → AddsAll old all kept
 inserted_all old all kept sequence rest none inserting =
-    (subst (λ (items : List Item). Inserting old all kept sequence items) none inserting).gains kept.entries (same_gained kept.entries)
+    let last : Inserting old all kept sequence [] = subst (λ (items : List Item). Inserting old all kept sequence items) none inserting in
+    record {
+      gains = last.gains kept.entries (same_gained kept.entries);
+      grows = last.grows kept.entries (record { count = omega arith; memory = omega arith });
+      places = omega (arith, last.taken);
+    }
 
-pub inserted_growth : (old all : List Entry) (kept : Kept) (sequence : ℕ) (rest : List Item) → rest ≡ [] → Inserting old all kept sequence rest → GrowsByAll old all kept.entries
-inserted_growth old all kept sequence rest none inserting =
-    (subst (λ (items : List Item). Inserting old all kept sequence items) none inserting).grows kept.entries (record { count = omega arith; memory = omega arith })
-
-module _ (old all : List Entry) (kept : Kept) (sequence : ℕ) (rest : List Item) (item : Item) (others : List Item) (next : rest ≡ item ∷ others) (whole : Inserting old all kept sequence rest) where
+module _ (old : Kept) (all : List Entry) (kept : Kept) (sequence : ℕ) (rest : List Item) (item : Item) (others : List Item) (next : rest ≡ item ∷ others) (whole : Inserting old all kept sequence rest) where
   inserting : Inserting old all kept sequence (item ∷ others)
   inserting = subst (λ (items : List Item). Inserting old all kept sequence items) next whole
 
@@ -292,4 +305,5 @@ module _ (old all : List Entry) (kept : Kept) (sequence : ℕ) (rest : List Item
       new = still_new;
       gains = λ final gains. inserting.gains final (gained_before kept.entries after.entries final (placed (sequence + 1) others) (entry_of sequence item.key item.value) adds.gains gains);
       grows = λ final grows. inserting.grows final (grown_before kept.entries after.entries final (placed (sequence + 1) others) (entry_of sequence item.key item.value) one grows);
+      taken = omega (arith, inserting.taken, adds.places);
     }

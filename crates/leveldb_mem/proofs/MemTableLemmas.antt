@@ -330,7 +330,7 @@ module _ (pairs pairs' : List Pair) (each : All IsEntryPair pairs) (old_places o
       (record { entries = entries_in pairs'; places = new_places; bytes = new_bytes - most_beside * new_places })
   reserves (Ok x) same ok err more cause = record {
     entries = ap entries_in same;
-    ok = (omega (arith, ok.0), omega (arith, ok.0, ok.1, ok.2));
+    ok = (ok.0 ∙ places_are, omega (arith, ok.0, ok.1, ok.2));
     room = λ few. (omega (arith, ok.0), omega (arith, ok.0));
     places = tt;
     kept_bytes = tt;

@@ -1,6 +1,7 @@
 -- A memtable: its entries, the room for more, and the memtable keys that encode entries.
 use Rattle.std.specs.Prelude.{◌≡◌, ◌⊎◌, ◌^◌, ◌≤◌, ◌+◌, ◌*◌, ◌↔◌, ℕ, Bool, List, [], ◌∷◌, ◌++◌}
-use Rattle.std.specs.Prelude.{length, drop, map, sum_by, slice_get, Contains, Option, Some, None}
+use Rattle.std.specs.Prelude.{length, drop, map, max, sum_by, slice_get, Contains, Option, Some}
+use Rattle.std.specs.Prelude.{None}
 use Rattle.std.specs.Prelude.{Result, OnOk, OnErr, IfErr, refl}
 use Rattle.std.specs.Bool.{OnTrue, OnFalse}
 use Rattle.std.specs.Coded.{Coded, code_by, coded×, coded_list, coded_option, coded_ℕ}
@@ -59,10 +60,10 @@ pub record HasRoom (kept : Kept) (items : List Item) : Type 0 where
 abbrev pub KeepsRoom : Kept → Kept → Type 0
 KeepsRoom old new = (items : List Item) → HasRoom old items → HasRoom new items
 
--- an entry has come, and took no more than its room
+-- an entry has come, and took one place and no more than its bytes
 pub record AddsEntry (old : Kept) (entry : Entry) (new : Kept) : Type 0 where
   pub gains : IsUnion old.entries (entry ∷ []) new.entries
-  pub places : old.places ≤ new.places + 1
+  pub places : old.places ≡ new.places + 1
   pub bytes : old.bytes ≤ new.bytes + length entry.key + value_length entry.value
 
 -- ---- the memtable
@@ -150,6 +151,12 @@ pub record GrowsByAll (old more new : List Entry) : Type 0 where
   pub memory : memory_of_entries new ≡ memory_of_entries old
       + (64 * length more + sum_by (λ entry. length (entry_key entry)) more)
 
+-- these entries have come, and each took one place
+pub record AddsAll (old : Kept) (more : List Entry) (new : Kept) : Type 0 where
+  pub gains : IsUnion old.entries more new.entries
+  pub grows : GrowsByAll old.entries more new.entries
+  pub places : old.places ≡ new.places + length more
+
 -- ---- what calls return and leave
 
 -- Why no memory was taken for `count` entries, whose keys and values have `bytes` bytes: memory is
@@ -174,6 +181,7 @@ pub record PrepareResult (old : Kept) (items : List Item) (result : Result (Unit
     (new : Kept) : Type 0 where
   pub entries : new.entries ≡ old.entries
   pub ok : OnOk result (HasRoom new items)
+  pub made : OnOk result (new.places ≡ max old.places (length items))
   -- an error leaves the room
   pub places : OnErr result (new.places ≡ old.places)
   pub bytes : OnErr result (old.bytes ≤ new.bytes)
@@ -183,7 +191,7 @@ pub record PrepareResult (old : Kept) (items : List Item) (result : Result (Unit
 pub record ReserveResult (old : Kept) (count bytes : ℕ) (result : Result (Unit {0}) Status)
     (new : Kept) : Type 0 where
   pub entries : new.entries ≡ old.entries
-  pub ok : OnOk result ((count ≤ new.places) × (bytes ≤ new.bytes))
+  pub ok : OnOk result ((new.places ≡ max old.places count) × (bytes ≤ new.bytes))
   -- room for as many is only added to
   pub room : count ≤ old.places → (new.places ≡ old.places) × (old.bytes ≤ new.bytes)
   -- an error leaves the room

@@ -12,10 +12,10 @@ ghost use Rattle.leveldb_base.specs.Entries.{internal_pair};
 ghost use Rattle.leveldb_mem.specs.WriteBatch.{item_of};
 ghost use Rattle.leveldb_mem.specs.Placed.{rank};
 ghost use Rattle.leveldb_mem.specs.SkipMap.{HasNode, position_of};
-ghost use Rattle.leveldb_mem.specs.MemTable.{IsUnion, IsNewTo, AreNewTo, HasRoom, KeepsRoom};
-ghost use Rattle.leveldb_mem.specs.MemTable.{AddsEntry, entry_of, value_length, entry_key};
+ghost use Rattle.leveldb_mem.specs.MemTable.{IsNewTo, AreNewTo, HasRoom, KeepsRoom, AddsEntry};
+ghost use Rattle.leveldb_mem.specs.MemTable.{AddsAll, entry_of, value_length, entry_key};
 ghost use Rattle.leveldb_mem.specs.MemTable.{entry_from, inner_value, memory_of_entries, Grows};
-ghost use Rattle.leveldb_mem.specs.MemTable.{GrowsByAll, IsValueAt, PrepareResult, ReserveResult};
+ghost use Rattle.leveldb_mem.specs.MemTable.{IsValueAt, PrepareResult, ReserveResult};
 ghost use Rattle.leveldb_mem.specs.MemTable.{AddResult, PutResult};
 
 use crate::memtable::as_of::AsOf;
@@ -75,6 +75,7 @@ impl<C: UserCmp> MemTable<C> {
     pub fn new(alloc: Global, cmp: C) -> MemTable<C>
         ensures cmp { result.cmp ≡ cmp }
         ensures entries { result.kept.entries ≡ [] }
+        ensures places { result.kept.places ≡ 0 }
     {
         MemTable {
             map: SkipMap::new_memtable_map(alloc, cmp),
@@ -125,10 +126,7 @@ impl<C: UserCmp> MemTable<C> {
         requires room { HasRoom self.old.kept batch.now.items }
         requires new { AreNewTo self.old.kept.entries (placed first batch.now.items) }
         ensures cmp { self.new.cmp ≡ self.old.cmp }
-        ensures entries { IsUnion self.old.kept.entries (placed first batch.now.items)
-            self.new.kept.entries }
-        ensures grows { GrowsByAll self.old.kept.entries (placed first batch.now.items)
-            self.new.kept.entries }
+        ensures adds { AddsAll self.old.kept (placed first batch.now.items) self.new.kept }
     {
         let mut sequence = first;
         for (key, value) in batch.iter() {

@@ -1,4 +1,5 @@
-use Rattle.std.proofs.Common.{length, arith}
+use Rattle.std.proofs.Common.{◌∙◌, length, ap, arith}
+use Rattle.std.specs.Prelude.{max}
 use Rattle.std.proofs.lemmas.Result.{on_ok_weaker, IfErr-weaker}
 use Rattle.leveldb_mem.specs.MemTable.{FailsToPrepare, FailsToNumber, bytes_in}
 use Rattle.leveldb_mem.proofs.MemTableLemmas.{bytes_in-batch, batch-le, prepares}
@@ -13,6 +14,7 @@ returns-clause-kept g c =
     record {
       entries = kept.entries;
       ok = on_ok_weaker c.reserve.result (λ p. record { places = omega (arith, p.0, c.count.ensures); bytes = omega (arith, p.1, bytes_in-batch batch) }) kept.ok;
+      made = on_ok_weaker c.reserve.result (λ p. p.0 ∙ ap (λ n. max old.places n) c.count.ensures) kept.ok;
       places = kept.places;
       bytes = kept.kept_bytes;
       cause = IfErr-weaker c.reserve.result (FailsToNumber old c.count.result (length c.contents.result.now)) (FailsToPrepare old (length items) (bytes_in items))

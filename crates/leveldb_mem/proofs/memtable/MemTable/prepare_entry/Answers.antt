@@ -14,6 +14,7 @@ returns-clause-kept g c =
     record {
       entries = kept.entries;
       ok = on_ok_weaker c.reserve.result (λ p. record { places = omega (arith, p.0); bytes = omega (arith, p.1, c.byte_count.ensures) }) kept.ok;
+      made = on_ok_weaker c.reserve.result (λ p. p.0) kept.ok;
       places = kept.places;
       bytes = kept.kept_bytes;
       cause = IfErr-weaker c.reserve.result (FailsToNumber old 1 bytes) (FailsToPrepare old 1 (bytes_in (item ∷ [])))

@@ -33,11 +33,11 @@ insert_prepared-requires-clause-new g c =
 
 pub returns-clause-ok : goal.returns-clause-ok
 returns-clause-ok g c =
-    subst (λ (entries : List Entry). IsUnion entries (placed c.args.seq c.args.self.now.items) c.insert_prepared.new.self.kept.entries) c.in_ok-prepare.ensures.kept.entries c.insert_prepared.ensures.entries
+    subst (λ (entries : List Entry). IsUnion entries (placed c.args.seq c.args.self.now.items) c.insert_prepared.new.self.kept.entries) c.in_ok-prepare.ensures.kept.entries c.insert_prepared.ensures.adds.gains
 
 pub returns-clause-grows : goal.returns-clause-grows
 returns-clause-grows g c =
-    subst (λ (entries : List Entry). GrowsByAll entries (placed c.args.seq c.args.self.now.items) c.insert_prepared.new.self.kept.entries) c.in_ok-prepare.ensures.kept.entries c.insert_prepared.ensures.grows
+    subst (λ (entries : List Entry). GrowsByAll entries (placed c.args.seq c.args.self.now.items) c.insert_prepared.new.self.kept.entries) c.in_ok-prepare.ensures.kept.entries c.insert_prepared.ensures.adds.grows
 
 pub returns-clause-too_great : goal.returns-clause-too_great
 returns-clause-too_great g c =
