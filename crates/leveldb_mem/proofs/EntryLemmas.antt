@@ -1,7 +1,8 @@
 -- Sets of entries that gain some.
-use Rattle.std.proofs.Common.{◌≡◌, ◌≤◌, ◌<◌, ◌+◌, ⊎_elim, ℕ, List, [], ◌∷◌, ap, subst, arith, ◌^◌, Bool, true, ◌++◌, get_or, length-append, Result, Ok, Err, refl, sym, ◌∙◌, ◌⊎◌, inl, ◌-◌, length, append-nil, append_assoc}
+use Rattle.std.proofs.Common.{◌≡◌, ◌≤◌, ◌<◌, ◌+◌, ⊎_elim, ℕ, suc, List, [], ◌∷◌, ap, subst, arith, ◌^◌, Bool, true, false, ◌++◌, get_or, length-append, Result, Ok, Err, refl, sym, ◌∙◌, ◌⊎◌, inl, inr, ◌-◌, length, append-nil, append_assoc}
 use Rattle.std.proofs.lemmas.List.Sums.{sum_by-cons}
 use Rattle.std.specs.Prelude.{Contains, ◌↔◌, All, IsErrAnd, IfErr}
+use Rattle.std.proofs.lemmas.Bool.{OnTrue_at, OnFalse_at}
 use Rattle.std.proofs.lemmas.List.Elements.{Contains-push_cases, All-append, All-cons, All-tail, Contains-append_left, Contains-append_right, Contains-append_cases, at_from_Contains, Contains-get_or}
 use Rattle.std.proofs.lemmas.Cmp.{ranked}
 use Rattle.std.proofs.lemmas.List.{map-append, get_or_append_left}
@@ -17,8 +18,9 @@ use Rattle.leveldb_base.specs.KeyTypes.{memtable_cmp}
 use Rattle.leveldb_base.specs.Types.{Pair}
 use Rattle.leveldb_base.specs.Error.{IsOutOfMemory}
 use Rattle.leveldb_base.specs.declared.error.Status.{Status}
-use Rattle.leveldb_base.specs.declared.error.StatusCode.TheVariants.{NotSupported}
-use Rattle.leveldb_mem.specs.MemTable.{IsUnion, AreNewTo, entry_of, IsNewTo, entry_key, entry_from, entries_in, IsEntryPair, Kept, HasRoom, AddsEntry, Grows, GrowsByAll}
+use Rattle.leveldb_base.specs.declared.error.StatusCode.TheVariants.{AlreadyExists, NotSupported}
+use Rattle.leveldb_mem.specs.WriteBatch.{item_of}
+use Rattle.leveldb_mem.specs.MemTable.{KeepsRoom, AddResult, PutResult, PrepareResult, FailsToPrepare, bytes_in, value_length, IsUnion, AreNewTo, entry_of, IsNewTo, entry_key, entry_from, entries_in, IsEntryPair, Kept, HasRoom, AddsEntry, AddsAll, Grows, GrowsByAll}
 use Rattle.leveldb_mem.specs.Searching.{key_at}
 use Rattle.leveldb_mem.specs.SkipMap.{Inserts, HasKey}
 use Rattle.leveldb_mem.proofs.MemTableLemmas.{entry_again, entry_order, entry_place, entry_there}
@@ -139,10 +141,46 @@ module _ {accepts : List ℕ → Bool} {cmp : List ℕ → List ℕ → Ordering
       entry_order cmp (key_at pairs found.0) key ∙ ap (λ r. ordering_then r (nat_cmp mine.sequence his.sequence)) tied ∙ numbers in
       absent (get_or pairs found.0 ([], []), Contains-get_or pairs found.0 ([], []) found.1, equal)
 
--- an error with a cause that goes with a fact
-pub caused : {T E : Type 0} (P R : E → Type 0) (Q : Type 0) (r : Result T E) → IsErrAnd r P → Q → IfErr r (λ status. (P status × Q) ⊎ R status)
-caused P R Q (Ok x) h q = tt
-caused P R Q (Err e) h q = inl (h, q)
+-- ---- an entry is added
+
+module _ {old mid new : Kept} {entry : Entry} where
+  pub added : {put : Bool} → put ≡ true → mid.entries ≡ old.entries → PutResult mid entry put new → AddResult old entry (Ok tt) new
+  added is same puts = record {
+    absent = subst (λ (es : List Entry). IsNewTo es entry.sequence entry.key) same (OnTrue_at is puts.absent);
+    ok = subst (λ (es : List Entry). IsUnion es (entry ∷ []) new.entries) same (OnTrue_at is puts.adds).gains;
+    grows = subst (λ (es : List Entry). Grows es entry new.entries) same (OnTrue_at is puts.grows);
+    err = tt;
+    room = tt;
+    cause = tt;
+  }
+
+  -- an entry of its key and sequence was there
+  pub not_added : {put : Bool} → put ≡ false → mid.entries ≡ old.entries → KeepsRoom old mid → PutResult mid entry put new → (r : Result (Unit {0}) Status)
+      → IsErrAnd r (λ status. status.code ≡ AlreadyExists) → AddResult old entry r new
+  not_added is same keeps puts (Ok x) code = absurd code
+  not_added is same keeps puts (Err status) code = record {
+    absent = tt;
+    ok = tt;
+    grows = tt;
+    err = OnFalse_at is puts.entries ∙ same;
+    room = λ items has.
+        let room = keeps items has in
+        record { places = omega (arith, room.places, OnFalse_at is puts.places); bytes = omega (arith, room.bytes, OnFalse_at is puts.bytes) };
+    cause = inl (code, subst (λ (es : List Entry). IsNewTo es entry.sequence entry.key → ⊥) same (OnFalse_at is puts.present));
+  }
+
+-- no memory was taken for it
+pub not_prepared : {old mid : Kept} {entry : Entry} (status : Status) → PrepareResult old (item_of entry.key entry.value ∷ []) (Err status) mid → KeepsRoom old mid → AddResult old entry (Err status) mid
+not_prepared {old} {mid} {entry} status prepared keeps =
+    let one : bytes_in (item_of entry.key entry.value ∷ []) ≡ length entry.key + value_length entry.value = omega arith in
+    record {
+      absent = tt;
+      ok = tt;
+      grows = tt;
+      err = prepared.entries;
+      room = keeps;
+      cause = inr (subst (λ n. FailsToPrepare old 1 n status) one prepared.cause);
+    }
 
 -- ---- the changes of a batch come to a memtable one after another
 
@@ -199,37 +237,45 @@ pub none_fit : (first : ℕ) (items : List Item) → 2 ^ 56 - first < length ite
 none_fit first [] lt = absurd (omega arith)
 none_fit first (item ∷ items) lt = let last = last_of first item items in omega (arith, last)
 
--- out of memory has another code
-pub no_want : {T : Type 0} (r : Result T Status) → IsErrAnd r IsOutOfMemory → IsErrAnd r (λ status. status.code ≡ NotSupported) → ⊥
-no_want (Ok x) h k = absurd h
-no_want (Err e) h k = let a = h.0 in cc
-
 -- ---- on the way
 
 -- some changes have come, and these items are to come from this number on
-pub record Inserting (old all : List Entry) (kept : Kept) (sequence : ℕ) (rest : List Item) : Type 0 where
+pub record Inserting (old : Kept) (all : List Entry) (kept : Kept) (sequence : ℕ) (rest : List Item) : Type 0 where
   pub room : HasRoom kept rest
   pub fit : greatest (placed sequence rest) < 2 ^ 56
   pub new : AreNewTo kept.entries (placed sequence rest)
-  pub gains : (final : List Entry) → IsUnion kept.entries (placed sequence rest) final → IsUnion old all final
-  pub grows : (final : List Entry) → GrowsByAll kept.entries (placed sequence rest) final → GrowsByAll old all final
+  pub gains : (final : List Entry) → IsUnion kept.entries (placed sequence rest) final → IsUnion old.entries all final
+  pub grows : (final : List Entry) → GrowsByAll kept.entries (placed sequence rest) final → GrowsByAll old.entries all final
+  pub taken : kept.places + length all ≡ old.places + length rest
+
+length-placed : (first : ℕ) (items : List Item) → length (placed first items) ≡ length items
+length-placed first [] = refl
+length-placed first (item ∷ items) = ap (λ n. suc n) (length-placed (first + 1) items)
 
 pub inserting_from : (kept : Kept) (first : ℕ) (items rest : List Item) → rest ≡ items → HasRoom kept items → greatest (placed first items) < 2 ^ 56
-    → AreNewTo kept.entries (placed first items) → Inserting kept.entries (placed first items) kept first rest
+    → AreNewTo kept.entries (placed first items) → Inserting kept (placed first items) kept first rest
 inserting_from kept first items rest all room fit new =
-    subst (λ (z : List Item). Inserting kept.entries (placed first items) kept first z) (sym all)
-    (record { room = room; fit = fit; new = new; gains = λ final gains. gains; grows = λ final grows. grows })
+    subst (λ (z : List Item). Inserting kept (placed first items) kept first z) (sym all)
+    (record {
+      room = room;
+      fit = fit;
+      new = new;
+      gains = λ final gains. gains;
+      grows = λ final grows. grows;
+      taken = omega (arith, length-placed first items);
+    })
 
 -- no item is left
-pub inserted_all : (old all : List Entry) (kept : Kept) (sequence : ℕ) (rest : List Item) → rest ≡ [] → Inserting old all kept sequence rest → IsUnion old all kept.entries
+pub inserted_all : (old : Kept) (all : List Entry) (kept : Kept) (sequence : ℕ) (rest : List Item) → rest ≡ [] → Inserting old all kept sequence rest → AddsAll old all kept
 inserted_all old all kept sequence rest none inserting =
-    (subst (λ (items : List Item). Inserting old all kept sequence items) none inserting).gains kept.entries (same_gained kept.entries)
+    let last : Inserting old all kept sequence [] = subst (λ (items : List Item). Inserting old all kept sequence items) none inserting in
+    record {
+      gains = last.gains kept.entries (same_gained kept.entries);
+      grows = last.grows kept.entries (record { count = omega arith; memory = omega arith });
+      places = omega (arith, last.taken);
+    }
 
-pub inserted_growth : (old all : List Entry) (kept : Kept) (sequence : ℕ) (rest : List Item) → rest ≡ [] → Inserting old all kept sequence rest → GrowsByAll old all kept.entries
-inserted_growth old all kept sequence rest none inserting =
-    (subst (λ (items : List Item). Inserting old all kept sequence items) none inserting).grows kept.entries (record { count = omega arith; memory = omega arith })
-
-module _ (old all : List Entry) (kept : Kept) (sequence : ℕ) (rest : List Item) (item : Item) (others : List Item) (next : rest ≡ item ∷ others) (whole : Inserting old all kept sequence rest) where
+module _ (old : Kept) (all : List Entry) (kept : Kept) (sequence : ℕ) (rest : List Item) (item : Item) (others : List Item) (next : rest ≡ item ∷ others) (whole : Inserting old all kept sequence rest) where
   inserting : Inserting old all kept sequence (item ∷ others)
   inserting = subst (λ (items : List Item). Inserting old all kept sequence items) next whole
 
@@ -259,4 +305,5 @@ module _ (old all : List Entry) (kept : Kept) (sequence : ℕ) (rest : List Item
       new = still_new;
       gains = λ final gains. inserting.gains final (gained_before kept.entries after.entries final (placed (sequence + 1) others) (entry_of sequence item.key item.value) adds.gains gains);
       grows = λ final grows. inserting.grows final (grown_before kept.entries after.entries final (placed (sequence + 1) others) (entry_of sequence item.key item.value) one grows);
+      taken = omega (arith, inserting.taken, adds.places);
     }

@@ -1,13 +1,14 @@
 -- A record that is read part by part.
-use Rattle.std.proofs.Common.{◌≡◌, ◌≢◌, ℕ, ◌+◌, ◌<◌, Bool, true, false, List, [], ◌∷◌, ◌++◌, length, Result, refl, sym, subst, ◌∙◌, ap, arith, append_assoc, append-nil, length-append}
+use Rattle.std.proofs.Common.{◌≡◌, ◌≢◌, ℕ, ◌+◌, ◌-◌, ◌*◌, ◌^◌, ◌≤◌, ◌<◌, Bool, true, false, List, [], ◌∷◌, ◌++◌, length, Result, refl, sym, subst, ◌∙◌, ap, arith, append_assoc, append-nil, length-append}
 use Rattle.std.proofs.Math.Nat.{mod-lt}
 use Rattle.leveldb_base.specs.declared.error.Status.{Status}
+use Rattle.leveldb_base.specs.declared.error.StatusCode.TheVariants.{NotSupported}
 use Rattle.leveldb_env.specs.Source.{GivesSome, GivesAll}
 use Rattle.leveldb_mem.specs.Log.{IsBlockSize, offset_after, IsFragment, record_type, IsRemainder, IsDamaged, fragment_of, NoFragment}
 use Rattle.leveldb_mem.proofs.FragmentLemmas.{length-fragment, none_short}
 use Rattle.leveldb_mem.proofs.LogLemmas.{last_fragment, offset_after_both, offset_after_none}
 use Rattle.leveldb_mem.proofs.CrashLemmas.{breaks_here}
-use Rattle.leveldb_mem.specs.Log.Reader.{ReaderState, after_front, IsUnreadThenGiven, HoldsOfRest, at_end, whatever_follows, IsTorn, FindsRecord, FindsEnd, FindsWrongChecksum}
+use Rattle.leveldb_mem.specs.Log.Reader.{ReaderState, after_front, IsUnreadThenGiven, HoldsOfRest, at_end, whatever_follows, IsTorn, FindsRecord, FindsEnd, FindsWrongChecksum, GivesTooMuch}
 use Rattle.leveldb_mem.specs.Log.Taking.{IsNoFragment, with_unread, TakesPart, TakesDamaged}
 use Rattle.leveldb_mem.proofs.ReaderLemmas.{UnreadThenGiven-none, UnreadThenGiven-after, UnreadThenGivenAll-after, HoldsOfRest-after, same_reader}
 use Rattle.leveldb_mem.proofs.TakingLemmas.{nothing_before}
@@ -150,12 +151,23 @@ module _ {S : Type 0} (gives : S → ℕ → Result (List ℕ) Status → S → 
           (torn_at_other old.checked old.size old.offset inside block.most first front text joins.leads there (fragment_of type part) bytes is not_last not_more (new.unread ++ more)))
 
       -- a part that others follow
-      pub joins_more : type ≡ record_type first false → Joins gives old source false new to after
-      joins_more more = record {
-        front = front ++ bytes;
-        come = come;
-        reader = goes_on takes.bytes bytes takes.passes.reader;
-        leads = subst (λ z. BeginsRecord old.checked old.size old.offset false (front ++ bytes) z) (sym takes.passes.text_is) (begins_more old.checked old.size old.offset inside block.most first front text joins.leads there (fragment_of type part) bytes is more);
-        begun = λ e. cc;
-        going = λ e. (let long = length-fragment old.checked old.size (fragment_of type part) (offset_after old.size old.offset front) bytes is in let both = length-append front bytes in omega arith);
-      }
+      pub joins_more : type ≡ record_type first false → (joined : Joins gives old source false new to after) × (7 + length front ≤ length joined.front)
+      joins_more more = (
+        record {
+          front = front ++ bytes;
+          come = come;
+          reader = goes_on takes.bytes bytes takes.passes.reader;
+          leads = subst (λ z. BeginsRecord old.checked old.size old.offset false (front ++ bytes) z) (sym takes.passes.text_is) (begins_more old.checked old.size old.offset inside block.most first front text joins.leads there (fragment_of type part) bytes is more);
+          begun = λ e. cc;
+          going = λ e. (let long = length-fragment old.checked old.size (fragment_of type part) (offset_after old.size old.offset front) bytes is in let both = length-append front bytes in omega arith);
+        },
+        let long = length-fragment old.checked old.size (fragment_of type part) (offset_after old.size old.offset front) bytes is in let both = length-append front bytes in omega arith,
+      )
+
+    -- more fragments than can be counted
+    pub stops_long : 7 * (2 ^ 64 - 1) ≤ length front → length old.unread ≤ old.size → (status : Status) → status.code ≡ NotSupported → GivesTooMuch gives source status at
+    stops_long long unread status code =
+        let came = ap length joins.come.bytes_are in
+        let left = length-append front now.unread in
+        let right = length-append old.unread joins.come.given in
+        record { code = code; bytes = joins.come.given; given_before = joins.come.reads; many = omega (arith, came, left, right, block.most, unread, long) }

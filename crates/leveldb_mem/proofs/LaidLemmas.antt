@@ -1,5 +1,5 @@
 -- How the pairs of a map stay or change as bytes, a head and nodes come.
-use Rattle.std.proofs.Common.{◌≡◌, ◌≢◌, ℕ, zero, suc, ◌+◌, ◌-◌, ◌<◌, ◌≤◌, List, [], ◌∷◌, ◌++◌, length, get_or, take, drop, replicate, slice_index, slice_range, refl, sym, ◌∙◌, ap, subst, arith, ⊎_elim, length-append, length-drop, take-append-drop}
+use Rattle.std.proofs.Common.{◌≡◌, ◌≢◌, ℕ, zero, suc, ◌+◌, ◌*◌, ◌-◌, ◌<◌, ◌≤◌, List, [], ◌∷◌, ◌++◌, length, get_or, take, drop, replicate, slice_index, slice_range, refl, sym, ◌∙◌, ap, subst, arith, ⊎_elim, length-append, length-drop, take-append-drop}
 use Rattle.std.specs.Prelude.{All}
 use Rattle.std.specs.List.{insert}
 use Rattle.std.proofs.lemmas.Bool.{cases_lt}
@@ -117,6 +117,7 @@ pub record Opens (text words last : List ℕ) (count end : ℕ) (text' words' : 
   pub order' : nodes_after words' head count ≡ nodes_after words head count
   pub some : 0 < length words'
   pub most : length words' ≤ length words + 16
+  pub short : length words ≤ 16 * (count + 1) → length words' ≤ 16 * (count + 1)
   pub paths : (path : List ℕ) (at : ℕ) → IsPathTo words path 12 (take at (nodes_after words head count)) → IsPathTo words' path 12 (take at (nodes_after words' head count))
 
 pub opens : {text words last : List ℕ} {count end : ℕ} → IsLaid text words last count end → (text' words' : List ℕ) → text' ≡ text
@@ -136,6 +137,7 @@ opens {text} {words} {last} {count} {end} laid text' words' same none some =
       order' = all.2;
       some = omega (arith, size);
       most = omega (arith, size);
+      short = λ _. omega (arith, size);
       paths = λ path at to. path_nowhere words words' path at (nodes_after words head count) (nodes_after words' head count) none_before (all.2 ∙ none_before) to;
     })
     (λ (ge : 1 ≤ length words).
@@ -146,6 +148,7 @@ opens {text} {words} {last} {count} {end} laid text' words' same none some =
       order' = refl;
       some = omega (arith, ge);
       most = omega arith;
+      short = λ h. h;
       paths = λ path at to. to;
     }))
     (cases_lt (length words) 1))

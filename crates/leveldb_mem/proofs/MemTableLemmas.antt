@@ -1,9 +1,9 @@
 -- A memtable: keys of entries, walks over them, their memory, and the newest of a key.
-use Rattle.std.proofs.Common.{◌≡◌, ℕ, ◌+◌, ◌^◌, ◌<◌, ◌≤◌, Bool, true, List, [], ◌++◌, length, drop, Option, Some, None, refl, sym, ◌∙◌, ap, arith, append_assoc, append-nil, length-append, cond, ◌∷◌, get_or, map, subst, ◌⊎◌, ⊎_elim, flat_map, ◌≢◌, inl, inr}
+use Rattle.std.proofs.Common.{◌≡◌, ℕ, ◌+◌, ◌*◌, ◌^◌, ◌<◌, ◌≤◌, Bool, true, List, [], ◌++◌, length, drop, Option, Some, None, refl, sym, ◌∙◌, ap, arith, append_assoc, append-nil, length-append, cond, ◌∷◌, get_or, map, subst, ◌⊎◌, ⊎_elim, flat_map, ◌≢◌, inl, inr}
 use Rattle.std.proofs.lemmas.List.{drop_at, length-map, get_or-map, map-append}
 use Rattle.std.specs.declared.cmp.Ordering.{Ordering}
 use Rattle.std.specs.Ordering.{ordering_then, nat_cmp, is_lt}
-use Rattle.std.specs.Prelude.{All, slice_get, nat_eq, nat_lt, sum_by, Contains}
+use Rattle.std.specs.Prelude.{All, Result, Ok, Err, OnOk, OnErr, IfErr, min, max, ◌-◌, slice_get, nat_eq, nat_lt, sum_by, Contains}
 use Rattle.std.proofs.lemmas.Bool.{cases_order, lt-ltb, cases_lt}
 use Rattle.std.proofs.lemmas.Cmp.{ranked}
 use Rattle.std.proofs.lemmas.Option.{slice_get-get_or, slice_get_within}
@@ -21,13 +21,17 @@ use Rattle.leveldb_base.proofs.KeyTypesLemmas.{type_part-internal_key, inner_key
 use Rattle.leveldb_base.specs.declared.key_types.ValueType.{ValueType}
 use Rattle.leveldb_base.specs.Types.{Pair, count_before, position_within, last_position}
 use Rattle.leveldb_base.specs.declared.key_types.ValueType.TheVariants.{TypeValue}
-use Rattle.leveldb_mem.specs.MemTable.{value_length, entry_of, type_of, bytes_of_value, value_of, entry_key, entry_from, inner_value, entries_in, IsEntryPair, internal_pair, bytes_in, Kept, KeepsRoom, memory_of_entries, Grows, HasNewest, FindsNewest, IsValueAt}
+use Rattle.leveldb_base.specs.Error.{IsOutOfMemory}
+use Rattle.leveldb_base.specs.declared.error.Status.{Status}
+use Rattle.leveldb_base.specs.declared.error.StatusCode.TheVariants.{NotSupported}
+use Rattle.leveldb_base.specs.Entries.{type_of, bytes_of_value, value_of, internal_pair, HasNewest, FindsNewest}
+use Rattle.leveldb_mem.specs.MemTable.{FailsToPrepare, FailsToNumber, ReserveResult, most_beside, value_length, entry_of, entry_key, entry_from, inner_value, entries_in, IsEntryPair, bytes_in, Kept, KeepsRoom, memory_of_entries, Grows, IsValueAt}
 use Rattle.leveldb_mem.specs.WriteBatch.{change_encoding, entry_bytes, BatchOf}
 use Rattle.leveldb_mem.specs.Searching.{key_at, count_while, IsParted}
-use Rattle.leveldb_mem.specs.SkipMap.{IsSorted, memory_of, Inserts}
+use Rattle.leveldb_mem.specs.SkipMap.{IsSorted, Inserts}
 use Rattle.leveldb_mem.proofs.Rising.{is_less, rising_at, not_less}
 use Rattle.leveldb_mem.proofs.WriteBatchLemmas.{length-batch}
-use Rattle.leveldb_mem.specs.Placed.{bytes_of}
+use Rattle.leveldb_mem.specs.Placed.{bytes_of, memory_of, FailsToReserve}
 use Rattle.leveldb_mem.proofs.Halving.{before_count, at_count, count_before-is}
 
 -- ---- entries and their memtable keys
@@ -271,6 +275,20 @@ same_bytes (pair ∷ pairs) each =
 pub same_memory : (pairs : List Pair) → All IsEntryPair pairs → memory_of pairs ≡ memory_of_entries (entries_in pairs)
 same_memory pairs each = omega (arith, same_bytes pairs each, length-map pairs (λ (pair : Pair). entry_from pair.0))
 
+entry-le : (item : Item) → length (entry_bytes item) < 2 ^ 64 → length (entry_bytes item) ≤ 21 + length item.key + value_length item.value
+unfolding entry_bytes
+entry-le item short = by_value item.key item.value short
+  where
+    by_value : (key : List ℕ) (value : Option (List ℕ)) → length (change_encoding key value) < 2 ^ 64 → length (change_encoding key value) ≤ 21 + length key + value_length value
+    by_value key None short =
+        let one = length-append (varint (length key)) key in
+        omega (arith, short, one, length-varint_64 (length key) (omega (arith, short, one)))
+    by_value key (Some value) short =
+        let one = length-append (varint (length key)) key in
+        let two = length-append (varint (length value)) value in
+        let both = length-append (sized key) (sized value) in
+        omega (arith, short, one, two, both, length-varint_64 (length key) (omega (arith, short, one, both)), length-varint_64 (length value) (omega (arith, short, two, both)))
+
 bytes_in-le : (items : List Item) → bytes_in items ≤ length (flat_map entry_bytes items)
 bytes_in-le [] = omega arith
 bytes_in-le (item ∷ items) = omega (arith, bytes_in-le items, bytes_in-entry item, length-append (entry_bytes item) (flat_map entry_bytes items))
@@ -278,6 +296,57 @@ bytes_in-le (item ∷ items) = omega (arith, bytes_in-le items, bytes_in-entry i
 -- a batch's bytes are more than its keys and values have
 pub bytes_in-batch : {bytes : List ℕ} {first : ℕ} {items : List Item} → BatchOf bytes first items → bytes_in items ≤ length bytes
 bytes_in-batch {bytes} {first} {items} batch = omega (arith, length-batch batch, bytes_in-le items)
+
+-- and a few more for each of them
+entries-le : (items : List Item) → length (flat_map entry_bytes items) < 2 ^ 64 → length (flat_map entry_bytes items) ≤ 21 * length items + bytes_in items
+entries-le [] short = omega arith
+entries-le (item ∷ items) short =
+    let all = length-append (entry_bytes item) (flat_map entry_bytes items) in
+    omega (arith, all, entries-le items (omega (arith, all, short)), entry-le item (omega (arith, all, short)))
+
+pub batch-le : {bytes : List ℕ} {first : ℕ} {items : List Item} → BatchOf bytes first items → length bytes ≤ 12 + 21 * length items + bytes_in items
+batch-le {bytes} {first} {items} batch = omega (arith, length-batch batch, batch.limited, entries-le items (omega (arith, length-batch batch, batch.limited)))
+
+-- what is past the numbers of a map is past the limit of a memtable
+past_limit : (kept : Kept) (count bytes more : ℕ) → more ≤ 12 + 21 * count + bytes
+    → 2 ^ 32 ≤ memory_of_entries kept.entries + ((64 + most_beside) * (kept.places + count) + more)
+    → 2 ^ 31 ≤ memory_of_entries kept.entries + (64 * (kept.places + count) + bytes)
+past_limit kept count bytes more le past = omega arith
+
+-- the causes of `reserve` are causes of `prepare`
+pub prepares : (kept : Kept) (count bytes more : ℕ) → more ≤ 12 + 21 * count + bytes → (status : Status)
+    → FailsToNumber kept count more status → FailsToPrepare kept count bytes status
+prepares kept count bytes more le status why =
+    ⊎_elim
+    (λ (past : (status.code ≡ NotSupported) × (2 ^ 32 ≤ memory_of_entries kept.entries + ((64 + most_beside) * (kept.places + count) + more))). inl (past.0, past_limit kept count bytes more le past.1))
+    (λ (memory : IsOutOfMemory status). inr memory) why
+
+-- room that a map makes is room of the memtable
+module _ (pairs pairs' : List Pair) (each : All IsEntryPair pairs) (old_places old_bytes new_places new_bytes count bytes places sum : ℕ)
+    (places_are : places ≡ max old_places count) (sum_is : sum ≡ min (bytes + 28 * places) (2 ^ 64 - 1)) (beside : 28 * old_places ≤ old_bytes) where
+  pub reserves : (r : Result (Unit {0}) Status) → pairs' ≡ pairs → OnOk r ((new_places ≡ places) × (sum ≤ new_bytes) × (sum < 2 ^ 32)) → OnErr r (new_places ≡ old_places)
+      → old_bytes ≤ new_bytes → IfErr r (FailsToReserve pairs places sum)
+      → ReserveResult (record { entries = entries_in pairs; places = old_places; bytes = old_bytes - most_beside * old_places }) count bytes r
+      (record { entries = entries_in pairs'; places = new_places; bytes = new_bytes - most_beside * new_places })
+  reserves (Ok x) same ok err more cause = record {
+    entries = ap entries_in same;
+    ok = (ok.0 ∙ places_are, omega (arith, ok.0, ok.1, ok.2));
+    room = λ few. (omega (arith, ok.0), omega (arith, ok.0));
+    places = tt;
+    kept_bytes = tt;
+    cause = tt;
+  }
+  reserves (Err status) same ok err more cause = record {
+    entries = ap entries_in same;
+    ok = tt;
+    room = λ few. (err, omega (arith, err));
+    places = err;
+    kept_bytes = omega (arith, err);
+    cause =
+        ⊎_elim
+        (λ (past : (status.code ≡ NotSupported) × (2 ^ 32 ≤ memory_of pairs + (64 * places + sum))). inl (past.0, omega (arith, past.1, same_memory pairs each)))
+        (λ (memory : IsOutOfMemory status). inr memory) cause;
+  }
 
 -- memory for one entry takes no room from others
 pub keeps_room : (old new : Kept) → (1 ≤ old.places → (new.places ≡ old.places) × (old.bytes ≤ new.bytes)) → KeepsRoom old new

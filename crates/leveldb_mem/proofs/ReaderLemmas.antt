@@ -1,5 +1,5 @@
 -- A reader of a log: what a source gives, and the records of a log one after another.
-use Rattle.std.proofs.Common.{Err, ◌≡◌, ℕ, List, [], ◌∷◌, ◌++◌, Result, refl, sym, subst, ◌∙◌, ap, append_assoc, append-nil, ◌+◌, ◌<◌, Bool, true, false, length, arith, suc, ◌-◌, ◌≤◌, take, drop, slice_range, zero-add, inr}
+use Rattle.std.proofs.Common.{Err, ◌≡◌, ℕ, List, [], ◌∷◌, ◌++◌, Result, refl, sym, subst, ◌∙◌, ap, append_assoc, append-nil, ◌+◌, ◌<◌, Bool, true, false, length, arith, suc, ◌-◌, ◌≤◌, take, drop, slice_range, zero-add, inl, inr, length-append}
 use Rattle.std.specs.List.{concat}
 use Rattle.std.proofs.lemmas.List.Folds.{concat-append}
 use Rattle.std.specs.Prelude.{Option, None, Some, IfSome, IsTrue}
@@ -15,11 +15,11 @@ use Rattle.leveldb_env.specs.declared.env.Env.{Ghosts}
 use Rattle.leveldb_env.specs.declared.env.env_file.EnvFile.{EnvFile}
 use Rattle.leveldb_env.specs.Env.{bytes_of}
 use Rattle.leveldb_env.specs.EnvFile.{opened, opened_file, ChangesBorrowedFile, ReadsBorrowed, IsFurther}
-use Rattle.leveldb_env.proofs.EnvFileLemmas.{IsFurther-borrowed, IsReadOut-borrowed}
+use Rattle.leveldb_env.proofs.EnvFileLemmas.{IsFurther-borrowed, IsReadOut-borrowed, IsGivenUp-borrowed}
 use Rattle.leveldb_base.specs.Error.{IsOutOfMemory}
-use Rattle.leveldb_mem.specs.Log.Reader.{IsUnreadThenGiven, HoldsOfRest, at_end, whatever_follows, ReaderState, IsTorn, FindsRecord, FindsEnd, FindsWrongChecksum, ReadSoFar, FailsToRead, ReadResult}
+use Rattle.leveldb_mem.specs.Log.Reader.{IsUnreadThenGiven, HoldsOfRest, at_end, whatever_follows, ReaderState, IsTorn, FindsRecord, FindsEnd, FindsWrongChecksum, ReadSoFar, FailsToRead, given_up, too_long, StopsReading, ReadResult}
 use Rattle.leveldb_mem.specs.Log.{IsBlockSize, log_block_size, offset_after, IsRecord, End, clean, bad, Ends, LogOf, BreaksOff}
-use Rattle.leveldb_mem.specs.Log.Files.{IsReadAsLog}
+use Rattle.leveldb_mem.specs.Log.Files.{IsReadAsLog, IsStopped}
 use Rattle.leveldb_mem.proofs.LogLemmas.{offset_after_both, offset_after_none, log_append}
 use Rattle.leveldb_mem.proofs.CrashLemmas.{breaks_bad}
 use borrow.Rule.Slice.PartMut.{put_mid, post_of}
@@ -44,6 +44,16 @@ module _ {S : Type 0} (gives : S → ℕ → Result (List ℕ) Status → S → 
 
   pub GivesUp-after : {from mid to : S} {these : List ℕ} {status : Status} → GivesSome gives from these mid → GivesUp gives mid status to → GivesUp gives from status to
   GivesUp-after {these = these} first second = record { mid = second.mid; bytes = these ++ second.bytes; given_before = GivesSome-trans first second.given_before; why = second.why }
+
+  pub StopsReading-after : {from mid to : S} {these : List ℕ} {status : Status} → GivesSome gives from these mid → StopsReading gives mid status to → StopsReading gives from status to
+  StopsReading-after {these = these} first (inl up) = inl (GivesUp-after first up)
+  StopsReading-after {these = these} first (inr much) =
+      inr (record { code = much.code; bytes = these ++ much.bytes; given_before = GivesSome-trans first much.given_before; many = omega (arith, much.many, length-append these much.bytes) })
+
+  -- why a read fails that stops
+  pub read_stopped : {old new : ReaderState} {source to : S} {status : Status} → StopsReading gives source status to → new.failed ≡ true → FailsToRead gives old source status new to
+  read_stopped (inl up) failed = given_up up failed
+  read_stopped (inr much) failed = too_long much failed
 
   -- bytes that come after a front
   joins : (unread given front rest more whole bytes : List ℕ) → whole ≡ unread ++ given → whole ≡ front ++ rest → bytes ≡ rest ++ more → front ++ bytes ≡ unread ++ (given ++ more)
@@ -143,9 +153,9 @@ module _ {S : Type 0} (gives : S → ℕ → Result (List ℕ) Status → S → 
         (ends_badly ((part ++ new.unread) ++ more)
         (subst (λ c. Ends c size bad (offset_after size 0 front) ((part ++ new.unread) ++ more)) (sym asked) (subst (Ends true size bad (offset_after size 0 front)) (sym (append_assoc part new.unread more)) (breaks_bad size block.most (offset_after size 0 front) part (new.unread ++ more) inside off)))))
 
-    -- a reading that is given up
-    pub ReadSoFar-given_up : (status : Status) → GivesUp gives at status to → GivesUp gives from status to
-    ReadSoFar-given_up status up = GivesUp-after gives (given_all (GivesSome gives) from at (front ++ now.unread) has.come) up
+    -- a reading that stops
+    pub ReadSoFar-stopped : (status : Status) → StopsReading gives at status to → StopsReading gives from status to
+    ReadSoFar-stopped status stops = StopsReading-after gives (given_all (GivesSome gives) from at (front ++ now.unread) has.come) stops
 
 -- ---- what shows of a source
 
@@ -183,6 +193,15 @@ module _ {E F : Type 0} (env : Ghosts E F) where
   IsReadAsLog-borrowed shows =
       let read = HoldsOfRest-borrowed shows in
       record { changes = record { bytes = read.0; further = read.1.changes; log = read.2 }; same_env = read.1.same_env; same_file = read.1.same_file }
+
+  -- or isn't read to its end
+  pub IsStopped-borrowed : {status : Status} {from to : EnvFile E F} → StopsReading (ReadsBorrowed env) from status to → ChangesBorrowedFile (λ old new. IsStopped env old status new) from to
+  IsStopped-borrowed (inl up) =
+      let read = IsGivenUp-borrowed env up in
+      record { changes = inl read.changes; same_env = read.same_env; same_file = read.same_file }
+  IsStopped-borrowed (inr much) =
+      let read = IsFurther-borrowed env much.given_before in
+      record { changes = inr (record { code = much.code; bytes = much.bytes; further = read.changes; many = much.many }); same_env = read.same_env; same_file = read.same_file }
 
 -- ---- parts of lists: what is between two offsets of a buffer
 

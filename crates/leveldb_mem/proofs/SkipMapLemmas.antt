@@ -1,6 +1,6 @@
 -- Places of a walk over a map: nodes, and the indexes of their pairs.
-use Rattle.std.proofs.Common.{◌≡◌, ◌≢◌, ℕ, ◌-◌, ◌<◌, ◌≤◌, Bool, true, false, List, [], ◌∷◌, length, take, Option, Some, None, refl, sym, ◌∙◌, ap, subst, arith, ◌⊎◌, ⊎_elim}
-use Rattle.std.specs.Prelude.{nat_lt}
+use Rattle.std.proofs.Common.{◌≡◌, ◌≢◌, ℕ, ◌-◌, ◌<◌, ◌≤◌, Bool, true, false, List, [], ◌∷◌, ◌++◌, ◌+◌, length, length-append, take, Option, Some, None, Result, Ok, Err, inl, inr, refl, sym, ◌∙◌, ap, subst, arith, ◌⊎◌, ⊎_elim}
+use Rattle.std.specs.Prelude.{nat_lt, IsErrAnd, IfErr}
 use Rattle.std.specs.Option.{ForSome}
 use Rattle.std.proofs.lemmas.Bool.{cases_lt, cond-true, lt-ltb, cond_both, ltb-true}
 use Rattle.std.proofs.lemmas.Option.{same_Some}
@@ -8,11 +8,13 @@ use Rattle.std.proofs.lemmas.List.Elements.{All-get_or}
 use Rattle.std.specs.Ordering.{is_lt, ordering_reverse}
 use Rattle.std.specs.declared.cmp.Ordering.{Ordering}
 use Rattle.std.specs.declared.cmp.Ordering.TheVariants.{Less, Equal, Greater}
+use Rattle.leveldb_base.specs.declared.error.Status.{Status}
+use Rattle.leveldb_base.specs.declared.error.StatusCode.TheVariants.{InvalidArgument, AlreadyExists}
 use Rattle.leveldb_base.specs.Cmp.{IsPreorderOn}
 use Rattle.leveldb_base.specs.Types.{Pair, position_within, previous_position}
 use Rattle.leveldb_mem.specs.Searching.{key_at, count_while}
 use Rattle.leveldb_mem.specs.SkipMap.{IsSorted, HasNode, IsGap, position_of}
-use Rattle.leveldb_mem.specs.Placed.{head, rank, place_of, IsAt, IsPathTo}
+use Rattle.leveldb_mem.specs.Placed.{head, rank, place_of, IsAt, IsPathTo, FailsToReserve}
 use Rattle.leveldb_mem.proofs.Halving.{count_at, count-le, count_before-is}
 use Rattle.leveldb_mem.proofs.PlacedLemmas.{rank-zero, rank-later, rank-same}
 use Rattle.leveldb_mem.proofs.Rising.{rising_at, gap_at, gap_after}
@@ -97,6 +99,25 @@ module _ {accepts : List ℕ → Bool} {cmp : List ℕ → List ℕ → Ordering
       (λ (e : length pairs ≡ 0). absurd (omega (arith, e, ge)))
       (λ (less : cmp (key_at pairs (length pairs - 1)) key ≡ Less). gap_after o sorted key ok at end (omega (arith, ge)) less) which)
       (cases_lt (length pairs) 1)
+
+-- the causes for which there is no room have codes of their own
+pub not_empty : (pairs : List Pair) (count bytes : ℕ) {status : Status} → FailsToReserve pairs count bytes status → status.code ≡ InvalidArgument → ⊥
+not_empty pairs count bytes (inl past) e = let code = past.0 in cc
+not_empty pairs count bytes (inr memory) e = let code = memory.0 in cc
+
+pub not_present : (pairs : List Pair) (count bytes : ℕ) {status : Status} → FailsToReserve pairs count bytes status → status.code ≡ AlreadyExists → ⊥
+not_present pairs count bytes (inl past) e = let code = past.0 in cc
+not_present pairs count bytes (inr memory) e = let code = memory.0 in cc
+
+-- a key that comes in five parts
+pub length-five : (h u t s b : List ℕ) → length (h ++ u ++ t ++ s ++ b) ≡ length h + length u + length t + length s + length b
+length-five h u t s b =
+    length-append (h ++ u ++ t ++ s) b ∙ ap (λ n. n + length b) (length-append (h ++ u ++ t) s ∙ ap (λ n. n + length s) (length-append (h ++ u) t ∙ ap (λ n. n + length t) (length-append h u)))
+
+-- an error with a cause that goes with a fact
+pub caused : {T E : Type 0} (P R : E → Type 0) (Q : Type 0) (r : Result T E) → IsErrAnd r P → Q → IfErr r (λ status. (P status × Q) ⊎ R status)
+caused P R Q (Ok x) h q = tt
+caused P R Q (Err e) h q = inl (h, q)
 
 -- the position before an index, where a node is the last before it
 module _ (nodes : List ℕ) (index before : ℕ) (within : index ≤ length nodes) (is : rank (head ∷ nodes) before ≡ index) where

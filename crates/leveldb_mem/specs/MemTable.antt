@@ -1,15 +1,19 @@
 -- A memtable: its entries, the room for more, and the memtable keys that encode entries.
-use Rattle.std.specs.Prelude.{◌≡◌, ◌⊎◌, ◌<◌, ◌^◌, ◌≤◌, ◌+◌, ◌↔◌, ℕ, List, [], ◌∷◌, ◌++◌, length, Option, Some, None, Contains, ◌*◌, drop, map, sum_by, slice_get, refl}
+use Rattle.std.specs.Prelude.{◌≡◌, ◌⊎◌, ◌^◌, ◌≤◌, ◌+◌, ◌*◌, ◌↔◌, ℕ, Bool, List, [], ◌∷◌, ◌++◌}
+use Rattle.std.specs.Prelude.{length, drop, map, max, sum_by, slice_get, Contains, Option, Some}
+use Rattle.std.specs.Prelude.{None}
+use Rattle.std.specs.Prelude.{Result, OnOk, OnErr, IfErr, refl}
+use Rattle.std.specs.Bool.{OnTrue, OnFalse}
 use Rattle.std.specs.Coded.{Coded, code_by, coded×, coded_list, coded_option, coded_ℕ}
 use Rattle.leveldb_base.specs.Error.{IsOutOfMemory}
 use Rattle.leveldb_base.specs.declared.error.Status.{Status}
-use Rattle.leveldb_base.specs.declared.error.StatusCode.TheVariants.{NotSupported}
-use Rattle.leveldb_base.specs.History.{Item, Entry, IsNewest}
-use Rattle.leveldb_base.specs.KeyTypes.{internal_key, user_part, sequence_part, type_part, memtable_key, inner_key}
+use Rattle.leveldb_base.specs.declared.error.StatusCode.TheVariants.{AlreadyExists, NotSupported}
+use Rattle.leveldb_base.specs.Entries.{type_of, bytes_of_value, value_of}
+use Rattle.leveldb_base.specs.History.{Item, Entry}
+use Rattle.leveldb_base.specs.KeyTypes.{user_part, sequence_part, type_part, memtable_key}
+use Rattle.leveldb_base.specs.KeyTypes.{inner_key}
 use Rattle.leveldb_base.specs.Varint.{sized}
 use Rattle.leveldb_base.specs.Types.{Pair}
-use Rattle.leveldb_base.specs.declared.key_types.ValueType.{ValueType}
-use Rattle.leveldb_base.specs.declared.key_types.ValueType.TheVariants.{TypeDeletion, TypeValue}
 
 -- ---- sets of entries
 
@@ -21,24 +25,13 @@ IsUnion old more new = (entry : Entry) → Contains new entry ↔ Contains (old 
 
 -- no entry has this key at this sequence
 abbrev pub IsNewTo : List Entry → ℕ → List ℕ → Type 0
-IsNewTo entries sequence key = (entry : Entry) → Contains entries entry → entry.key ≡ key → entry.sequence ≡ sequence → ⊥
+IsNewTo entries sequence key = (entry : Entry) → Contains entries entry → entry.key ≡ key
+    → entry.sequence ≡ sequence → ⊥
 
 -- each of these is of another key or at another sequence than all entries
 abbrev pub AreNewTo : List Entry → List Entry → Type 0
-AreNewTo entries more = (entry : Entry) → Contains more entry → IsNewTo entries entry.sequence entry.key
-
--- the key's newest entry at or below s is this value or deletion, and no other entry is as new
-pub record HasNewest (entries : List Entry) (s : ℕ) (key : List ℕ) (value : Option (List ℕ)) : Type 0 where
-  pub entry : Entry
-  pub newest : IsNewest entries s entry
-  pub key_is : entry.key ≡ key
-  pub value_is : entry.value ≡ value
-  pub only : (other : Entry) → IsNewest entries s other → other.key ≡ key → other ≡ entry
-
--- what is found of a key at a sequence: its newest entry up to there, a value or a deletion; or that it has none
-abbrev pub FindsNewest : List Entry → ℕ → List ℕ → Option (Option (List ℕ)) → Type 0
-FindsNewest entries s key (Some value) = HasNewest entries s key value
-FindsNewest entries s key None = (entry : Entry) → Contains entries entry → entry.key ≡ key → entry.sequence ≤ s → ⊥
+AreNewTo entries more = (entry : Entry) → Contains more entry
+    → IsNewTo entries entry.sequence entry.key
 
 -- ---- room
 
@@ -67,15 +60,10 @@ pub record HasRoom (kept : Kept) (items : List Item) : Type 0 where
 abbrev pub KeepsRoom : Kept → Kept → Type 0
 KeepsRoom old new = (items : List Item) → HasRoom old items → HasRoom new items
 
--- why no memory was taken for an entry: its key and value have more than 2^63 bytes, or memory is out
-abbrev pub FailsToPrepare : Item → Status → Type 0
-FailsToPrepare item status =
-    ((status.code ≡ NotSupported) × (2 ^ 63 < length item.key + value_length item.value)) ⊎ IsOutOfMemory status
-
--- an entry has come, and took no more than its room
+-- an entry has come, and took one place and no more than its bytes
 pub record AddsEntry (old : Kept) (entry : Entry) (new : Kept) : Type 0 where
   pub gains : IsUnion old.entries (entry ∷ []) new.entries
-  pub places : old.places ≤ new.places + 1
+  pub places : old.places ≡ new.places + 1
   pub bytes : old.bytes ≤ new.bytes + length entry.key + value_length entry.value
 
 -- ---- the memtable
@@ -89,39 +77,32 @@ pub record MemTableState (C : Type 0) : Type 0 where
 -- an entry, as nested pairs of encodable parts
 abbrev pub entry_code : Coded Entry
 entry_code =
-    code_by (ℕ × (List ℕ × Option (List ℕ))) (coded× coded_ℕ (coded× (coded_list coded_ℕ) (coded_option (coded_list coded_ℕ))))
-    (λ e. (e.sequence, (e.key, e.value))) (λ p. record { sequence = p.0; key = p.1.0; value = p.1.1 }) (λ _. refl)
+    code_by (ℕ × (List ℕ × Option (List ℕ)))
+    (coded× coded_ℕ (coded× (coded_list coded_ℕ) (coded_option (coded_list coded_ℕ))))
+    (λ e. (e.sequence, (e.key, e.value)))
+    (λ p. record { sequence = p.0; key = p.1.0; value = p.1.1 }) (λ _. refl)
 
 -- a memtable, as nested pairs of encodable parts
 abbrev pub memtable_code : {C : Type 0} → Coded C → Coded (MemTableState C)
 memtable_code {C} c =
     code_by (C × (List Entry × (List ℕ × (ℕ × ℕ))))
-    (coded× c (coded× (coded_list entry_code) (coded× (coded_list coded_ℕ) (coded× coded_ℕ coded_ℕ))))
+    (coded× c
+    (coded× (coded_list entry_code) (coded× (coded_list coded_ℕ) (coded× coded_ℕ coded_ℕ))))
     (λ m. (m.cmp, (m.kept.entries, (m.nodes, (m.kept.places, m.kept.bytes)))))
-    (λ p. record { cmp = p.0; kept = record { entries = p.1.0; places = p.1.1.1.0; bytes = p.1.1.1.1 }; nodes = p.1.1.0 }) (λ _. refl)
+    (λ p. record {
+      cmp = p.0;
+      kept = record { entries = p.1.0; places = p.1.1.1.0; bytes = p.1.1.1.1 };
+      nodes = p.1.1.0;
+    }) (λ _. refl)
 
 -- an entry's number, key and value
 abbrev pub entry_of : ℕ → List ℕ → Option (List ℕ) → Entry
 entry_of sequence key value = record { sequence = sequence; key = key; value = value }
 
--- the type of what an entry gives its key
-abbrev pub type_of : Option (List ℕ) → ValueType
-type_of None = TypeDeletion
-type_of (Some value) = TypeValue
-
--- the bytes of a value; a deletion has none
-abbrev pub bytes_of_value : Option (List ℕ) → List ℕ
-bytes_of_value None = []
-bytes_of_value (Some value) = value
-
--- what a type and bytes give a key
-abbrev pub value_of : ValueType → List ℕ → Option (List ℕ)
-value_of TypeDeletion bytes = None
-value_of TypeValue bytes = Some bytes
-
 -- the memtable key of an entry
 unfoldable pub entry_key : Entry → List ℕ
-entry_key entry = memtable_key entry.key entry.sequence (type_of entry.value) (bytes_of_value entry.value)
+entry_key entry =
+    memtable_key entry.key entry.sequence (type_of entry.value) (bytes_of_value entry.value)
 
 -- the text after the internal key of a memtable key
 abbrev pub inner_value : List ℕ → List ℕ
@@ -131,7 +112,8 @@ inner_value key = inner_key (drop (length (sized (inner_key key))) key)
 unfoldable pub entry_from : List ℕ → Entry
 entry_from key =
     let internal = inner_key key in
-    entry_of (sequence_part internal) (user_part internal) (value_of (type_part internal) (inner_value key))
+    entry_of (sequence_part internal) (user_part internal)
+    (value_of (type_part internal) (inner_value key))
 
 -- a map's pair is the memtable key of an entry, and no value
 abbrev pub IsEntryPair : Pair → Type 0
@@ -141,10 +123,13 @@ IsEntryPair pair = (pair.0 ≡ entry_key (entry_from pair.0)) × (pair.1 ≡ [])
 abbrev pub entries_in : List Pair → List Entry
 entries_in pairs = map (λ pair. entry_from pair.0) pairs
 
--- the value or deletion of a key that the entry at an index has, or none where that is another key's or there is no entry
+-- the value or deletion of a key that the entry at an index has, or none where that is another
+-- key's or there is no entry
 abbrev pub IsValueAt : List Entry → ℕ → List ℕ → Option (Option (List ℕ)) → Type 0
-IsValueAt entries at key (Some value) = (sequence : ℕ) × (slice_get entries at ≡ Some (entry_of sequence key value))
-IsValueAt entries at key None = (entry : Entry) → slice_get entries at ≡ Some entry → entry.key ≡ key → ⊥
+IsValueAt entries at key (Some value) = (sequence : ℕ)
+    × (slice_get entries at ≡ Some (entry_of sequence key value))
+IsValueAt entries at key None = (entry : Entry) → slice_get entries at ≡ Some entry
+    → entry.key ≡ key → ⊥
 
 -- the most that an entry's memtable key has beside key and value: two lengths and a tag
 abbrev pub most_beside : ℕ
@@ -152,7 +137,8 @@ most_beside = 28
 
 -- what counts as the memory of entries: 128, and for each 64 and the length of its memtable key
 abbrev pub memory_of_entries : List Entry → ℕ
-memory_of_entries entries = 128 + (64 * length entries + sum_by (λ entry. length (entry_key entry)) entries)
+memory_of_entries entries =
+    128 + (64 * length entries + sum_by (λ entry. length (entry_key entry)) entries)
 
 -- one entry more, and as much more memory as counts for it
 pub record Grows (old : List Entry) (entry : Entry) (new : List Entry) : Type 0 where
@@ -165,6 +151,77 @@ pub record GrowsByAll (old more new : List Entry) : Type 0 where
   pub memory : memory_of_entries new ≡ memory_of_entries old
       + (64 * length more + sum_by (λ entry. length (entry_key entry)) more)
 
--- the internal key of an entry with its value; a deletion has the empty one
-abbrev pub internal_pair : Entry → Pair
-internal_pair entry = (internal_key entry.key entry.sequence (type_of entry.value), bytes_of_value entry.value)
+-- these entries have come, and each took one place
+pub record AddsAll (old : Kept) (more : List Entry) (new : Kept) : Type 0 where
+  pub gains : IsUnion old.entries more new.entries
+  pub grows : GrowsByAll old.entries more new.entries
+  pub places : old.places ≡ new.places + length more
+
+-- ---- what calls return and leave
+
+-- Why no memory was taken for `count` entries, whose keys and values have `bytes` bytes: memory is
+-- out, or they are past the limit of a memtable: with the entries and the room that there are, they
+-- count for 2^31 bytes of memory at least.
+abbrev pub FailsToPrepare : Kept → ℕ → ℕ → Status → Type 0
+FailsToPrepare kept count bytes status =
+    ((status.code ≡ NotSupported)
+    × (2 ^ 31 ≤ memory_of_entries kept.entries + (64 * (kept.places + count) + bytes)))
+    ⊎ IsOutOfMemory status
+
+-- the same of a map's memory: numbers of 32 bits would be too few for its offsets
+abbrev pub FailsToNumber : Kept → ℕ → ℕ → Status → Type 0
+FailsToNumber kept count bytes status =
+    ((status.code ≡ NotSupported)
+    × (2 ^ 32 ≤ memory_of_entries kept.entries
+    + ((64 + most_beside) * (kept.places + count) + bytes)))
+    ⊎ IsOutOfMemory status
+
+-- what taking memory for items returns and leaves
+pub record PrepareResult (old : Kept) (items : List Item) (result : Result (Unit {0}) Status)
+    (new : Kept) : Type 0 where
+  pub entries : new.entries ≡ old.entries
+  pub ok : OnOk result (HasRoom new items)
+  pub made : OnOk result (new.places ≡ max old.places (length items))
+  -- an error leaves the room
+  pub places : OnErr result (new.places ≡ old.places)
+  pub bytes : OnErr result (old.bytes ≤ new.bytes)
+  pub cause : IfErr result (FailsToPrepare old (length items) (bytes_in items))
+
+-- what making room for `count` entries with `bytes` bytes returns and leaves
+pub record ReserveResult (old : Kept) (count bytes : ℕ) (result : Result (Unit {0}) Status)
+    (new : Kept) : Type 0 where
+  pub entries : new.entries ≡ old.entries
+  pub ok : OnOk result ((new.places ≡ max old.places count) × (bytes ≤ new.bytes))
+  -- room for as many is only added to
+  pub room : count ≤ old.places → (new.places ≡ old.places) × (old.bytes ≤ new.bytes)
+  -- an error leaves the room
+  pub places : OnErr result (new.places ≡ old.places)
+  pub kept_bytes : OnErr result (old.bytes ≤ new.bytes)
+  pub cause : IfErr result (FailsToNumber old count bytes)
+
+-- what adding an entry returns and leaves
+pub record AddResult (old : Kept) (entry : Entry) (result : Result (Unit {0}) Status) (new : Kept)
+    : Type 0 where
+  -- no entry had its key and sequence, and it has come
+  pub absent : OnOk result (IsNewTo old.entries entry.sequence entry.key)
+  pub ok : OnOk result (IsUnion old.entries (entry ∷ []) new.entries)
+  pub grows : OnOk result (Grows old.entries entry new.entries)
+  -- an error leaves the entries, and room for what there was room for
+  pub err : OnErr result (new.entries ≡ old.entries)
+  pub room : OnErr result (KeepsRoom old new)
+  -- an entry had its key and sequence, or no memory was taken
+  pub cause : IfErr result (λ status.
+      ((status.code ≡ AlreadyExists) × (IsNewTo old.entries entry.sequence entry.key → ⊥))
+      ⊎ FailsToPrepare old 1 (length entry.key + value_length entry.value) status)
+
+-- what putting an entry for which there is room leaves, and whether it has come
+pub record PutResult (old : Kept) (entry : Entry) (has_come : Bool) (new : Kept) : Type 0 where
+  -- no entry had its key and sequence
+  pub absent : OnTrue has_come (IsNewTo old.entries entry.sequence entry.key)
+  pub adds : OnTrue has_come (AddsEntry old entry new)
+  pub grows : OnTrue has_come (Grows old.entries entry new.entries)
+  -- one had, and all stays
+  pub present : OnFalse has_come (IsNewTo old.entries entry.sequence entry.key → ⊥)
+  pub entries : OnFalse has_come (new.entries ≡ old.entries)
+  pub places : OnFalse has_come (new.places ≡ old.places)
+  pub bytes : OnFalse has_come (old.bytes ≤ new.bytes)

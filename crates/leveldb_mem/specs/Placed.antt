@@ -1,12 +1,19 @@
--- How the pairs of a map are stored: all keys and values in one text, and in one list of words the nodes of a skip list.
--- A node is the offset of its links, one for each height of its tower. In the four words before them are where its key
--- begins in the text, the lengths of its key and of its value, and the height of its tower. The first node is a head with
--- all twelve links, which has no pair. A link is the next node of its height, or 0 at the end.
-use Rattle.std.specs.Prelude.{◌≡◌, ◌≢◌, ℕ, zero, suc, ◌+◌, ◌-◌, ◌<◌, ◌≤◌, List, [], ◌∷◌, length, map, filter, nat_eq, nat_lt, sum_by, slice_range, slice_index, replicate, All, if◌then◌else◌}
+-- How the pairs of a map are stored: all keys and values in one text, and in one list of words the
+-- nodes of a skip list. A node is the offset of its links, one for each height of its tower. In the
+-- four words before them are where its key begins in the text, the lengths of its key and of its
+-- value, and the height of its tower. The first node is a head with all twelve links, which has no
+-- pair. A link is the next node of its height, or 0 at the end.
+use Rattle.std.specs.Prelude.{Result, OnOk, OnErr, IfErr, take, ◌⊎◌, ◌*◌, ◌^◌, ◌≡◌, ◌≢◌, ℕ, zero}
+use Rattle.std.specs.Prelude.{suc, ◌+◌, ◌-◌, ◌<◌, ◌≤◌, List, [], ◌∷◌, length, map, filter, nat_eq}
+use Rattle.std.specs.Prelude.{nat_lt, sum_by, slice_range, slice_index, replicate, All}
+use Rattle.std.specs.Prelude.{if◌then◌else◌}
+use Rattle.leveldb_base.specs.Error.{IsOutOfMemory}
+use Rattle.leveldb_base.specs.declared.error.Status.{Status}
+use Rattle.leveldb_base.specs.declared.error.StatusCode.TheVariants.{NotSupported}
 use Rattle.leveldb_base.specs.Types.{Pair}
 
--- pairs, what comes after them of a pair that is to come, room for `places` pairs and `bytes` bytes, and the nodes of the
--- pairs, in their order, among the words
+-- pairs, what comes after them of a pair that is to come, room for `places` pairs and `bytes`
+-- bytes, and the nodes of the pairs, in their order, among the words
 pub record Placed : Type 0 where
   pub pairs : List Pair
   pub tail : List ℕ
@@ -49,8 +56,10 @@ value_end words node = key_end words node + slice_index words (node - 2)
 
 -- the key and the value of a node
 abbrev pub pair_in : List ℕ → List ℕ → ℕ → Pair
-pair_in text words node =
-    (slice_range text (key_start words node) (key_end words node), slice_range text (key_end words node) (value_end words node))
+pair_in text words node = (
+  slice_range text (key_start words node) (key_end words node),
+  slice_range text (key_end words node) (value_end words node),
+)
 
 -- the pairs of these nodes
 abbrev pub pairs_in : List ℕ → List ℕ → List ℕ → List Pair
@@ -78,7 +87,8 @@ last_after node (next ∷ nodes) = last_after next nodes
 -- each of these nodes is linked to the next at the height, and the last to none
 abbrev pub AreLinked : List ℕ → ℕ → List ℕ → Type 0
 AreLinked words height [] = Unit {0}
-AreLinked words height (node ∷ nodes) = (link words height node ≡ first_of_nodes nodes) × AreLinked words height nodes
+AreLinked words height (node ∷ nodes) = (link words height node ≡ first_of_nodes nodes)
+    × AreLinked words height nodes
 
 -- two nodes share no word
 pub record IsApart (words : List ℕ) (a b : ℕ) : Type 0 where
@@ -99,17 +109,20 @@ pub record IsNode (words : List ℕ) (end node : ℕ) : Type 0 where
   pub within : node + tower words node ≤ length words
   pub cut : value_end words node ≤ end
 
--- A skip list with these nodes, in order: at each height those whose towers are high enough are linked.
+-- A skip list with these nodes, in order: at each height those whose towers are high enough are
+-- linked.
 pub record IsSkipList (words : List ℕ) (end : ℕ) (nodes : List ℕ) : Type 0 where
   pub high : tower words head ≡ most_height
   pub valid : All (IsNode words end) (head ∷ nodes)
   pub apart : AreApart words (head ∷ nodes)
-  pub levels : (height : ℕ) → height < most_height → AreLinked words height (level words height (head ∷ nodes))
+  pub levels : (height : ℕ) → height < most_height
+      → AreLinked words height (level words height (head ∷ nodes))
 
 -- at each height the last of the head and these nodes, as which a new node comes in after them
 abbrev pub IsPathTo : List ℕ → List ℕ → ℕ → List ℕ → Type 0
 IsPathTo words path from front =
-    (height : ℕ) → height < from → slice_index path height ≡ last_after head (level words height front)
+    (height : ℕ) → height < from
+    → slice_index path height ≡ last_after head (level words height front)
 
 -- how many nodes are before this one
 abbrev pub rank : List ℕ → ℕ → ℕ
@@ -129,7 +142,8 @@ place_of nodes path = rank (head ∷ nodes) (slice_index path 0)
 abbrev pub bytes_of : List Pair → ℕ
 bytes_of pairs = sum_by (λ pair. length pair.0 + length pair.1) pairs
 
--- What a map's pairs are: the head is there before the first node, and the pairs fill the text up to its end.
+-- What a map's pairs are: the head is there before the first node, and the pairs fill the text up
+-- to its end.
 pub record IsLaid (text words last : List ℕ) (count end : ℕ) : Type 0 where
   pub within : end ≤ length text
   pub none : length words ≡ 0 → count ≡ 0
@@ -137,3 +151,30 @@ pub record IsLaid (text words last : List ℕ) (count end : ℕ) : Type 0 where
   pub linked : 0 < length words → IsSkipList words end (nodes_after words head count)
   pub lasts : IsPathTo words last most_height (nodes_after words head count)
   pub filled : bytes_of (pairs_in text words (nodes_after words head count)) ≡ end
+
+-- ---- room
+
+-- what counts as memory: 128, and for each pair 64 and the lengths of key and value
+abbrev pub memory_of : List Pair → ℕ
+memory_of pairs = 128 + (64 * length pairs + bytes_of pairs)
+
+-- Why no room was made for `count` pairs with `bytes` bytes: memory is out, or 32 bits can't number
+-- them, which takes pairs that would count for 2^32 bytes of memory.
+abbrev pub FailsToReserve : List Pair → ℕ → ℕ → Status → Type 0
+FailsToReserve pairs count bytes status =
+    ((status.code ≡ NotSupported) × (2 ^ 32 ≤ memory_of pairs + (64 * count + bytes)))
+    ⊎ IsOutOfMemory status
+
+-- what making room for `count` pairs with `size` bytes returns and leaves
+pub record MakesRoom (old : Placed) (count size : ℕ) (result : Result (Unit {0}) Status)
+    (new : Placed) : Type 0 where
+  pub pairs : new.pairs ≡ old.pairs
+  pub order : new.order ≡ old.order
+  pub paths : (path : List ℕ) (at : ℕ) → IsPathTo old.words path 12 (take at old.order)
+      → IsPathTo new.words path 12 (take at new.order)
+  pub tail : new.tail ≡ old.tail
+  pub ok : OnOk result ((new.places ≡ count) × (size ≤ new.bytes) × (size < 2 ^ 32))
+  -- an error leaves the room
+  pub err : OnErr result (new.places ≡ old.places)
+  pub bytes : old.bytes ≤ new.bytes
+  pub cause : IfErr result (FailsToReserve old.pairs count (length old.tail + size))

@@ -1,5 +1,6 @@
 -- Indices in a list of pairs, by a test of their keys.
-use Rattle.std.specs.Prelude.{◌≡◌, ℕ, ◌+◌, ◌<◌, ◌≤◌, Bool, true, List, [], ◌∷◌, if◌then◌else◌, length, slice_index_or}
+use Rattle.std.specs.Prelude.{◌≡◌, ℕ, ◌+◌, ◌<◌, ◌≤◌, Bool, true, List, [], ◌∷◌, if◌then◌else◌}
+use Rattle.std.specs.Prelude.{length, slice_index_or}
 use Rattle.leveldb_base.specs.Types.{Pair}
 
 -- the key at an index
@@ -13,4 +14,5 @@ count_while test (pair ∷ pairs) = if test pair.0 then count_while test pairs +
 
 -- where a key passes, those before it do
 abbrev pub IsParted : (List ℕ → Bool) → List Pair → Type 0
-IsParted test pairs = (i j : ℕ) → i ≤ j → j < length pairs → test (key_at pairs j) ≡ true → test (key_at pairs i) ≡ true
+IsParted test pairs = (i j : ℕ) → i ≤ j → j < length pairs → test (key_at pairs j) ≡ true
+    → test (key_at pairs i) ≡ true

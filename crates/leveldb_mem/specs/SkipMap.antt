@@ -1,13 +1,19 @@
 -- A map's pairs, and what comes of an insertion.
-use Rattle.std.specs.Prelude.{◌≡◌, ◌≤◌, ◌<◌, ◌+◌, ◌*◌, ℕ, Bool, true, false, List, ◌∷◌, ◌++◌, length, nat_eq, Option, Some, None, All, Contains, refl}
+use Rattle.std.specs.Prelude.{◌≡◌, ◌≤◌, ◌<◌, ◌+◌, ◌⊎◌, ◌↔◌, ◌≢◌, ℕ, Bool, true, false, List, []}
+use Rattle.std.specs.Prelude.{◌∷◌, ◌++◌, length, nat_eq}
+use Rattle.std.specs.Prelude.{Option, Some, None, Result, OnOk, OnErr, IfErr, IsErrAnd, All}
+use Rattle.std.specs.Prelude.{Contains, refl}
 use Rattle.std.specs.List.{insert, starts_with}
+use Rattle.std.specs.Bool.{OnTrue, OnFalse}
 use Rattle.std.specs.Option.{option_map}
 use Rattle.std.specs.Coded.{Coded, code_by, coded×, coded_list, coded_ℕ}
 use Rattle.std.specs.declared.cmp.Ordering.{Ordering}
 use Rattle.std.specs.declared.cmp.Ordering.TheVariants.{Equal}
+use Rattle.leveldb_base.specs.declared.error.Status.{Status}
+use Rattle.leveldb_base.specs.declared.error.StatusCode.TheVariants.{InvalidArgument, AlreadyExists}
 use Rattle.leveldb_base.specs.Types.{Pair}
 use Rattle.leveldb_base.specs.History.{AreRising}
-use Rattle.leveldb_mem.specs.Placed.{bytes_of, rank}
+use Rattle.leveldb_mem.specs.Placed.{rank, FailsToReserve}
 
 -- a comparator, the pairs with their nodes, and room for `places` more with `bytes` bytes
 pub record Held (C : Type 0) : Type 0 where
@@ -21,12 +27,20 @@ pub record Held (C : Type 0) : Type 0 where
 abbrev pub held_code : {C : Type 0} → Coded C → Coded (Held C)
 held_code {C} c =
     code_by (C × (List Pair × (List ℕ × (ℕ × ℕ))))
-    (coded× c (coded× (coded_list (coded× (coded_list coded_ℕ) (coded_list coded_ℕ))) (coded× (coded_list coded_ℕ) (coded× coded_ℕ coded_ℕ))))
+    (coded× c (coded× (coded_list (coded× (coded_list coded_ℕ) (coded_list coded_ℕ)))
+    (coded× (coded_list coded_ℕ) (coded× coded_ℕ coded_ℕ))))
     (λ m. (m.cmp, (m.pairs, (m.nodes, (m.places, m.bytes)))))
-    (λ p. record { cmp = p.0; pairs = p.1.0; nodes = p.1.1.0; places = p.1.1.1.0; bytes = p.1.1.1.1 }) (λ _. refl)
+    (λ p. record {
+      cmp = p.0;
+      pairs = p.1.0;
+      nodes = p.1.1.0;
+      places = p.1.1.1.0;
+      bytes = p.1.1.1.1;
+    }) (λ _. refl)
 
 -- keys are accepted and rise strictly
-pub record IsSorted (accepts : List ℕ → Bool) (cmp : List ℕ → List ℕ → Ordering) (pairs : List Pair) : Type 0 where
+pub record IsSorted (accepts : List ℕ → Bool) (cmp : List ℕ → List ℕ → Ordering)
+    (pairs : List Pair) : Type 0 where
   pub rising : AreRising cmp pairs
   pub accepted : All (λ pair. accepts pair.0 ≡ true) pairs
 
@@ -50,7 +64,8 @@ abbrev pub HasKey : (List ℕ → List ℕ → Ordering) → List Pair → List 
 HasKey cmp pairs key = (pair : Pair) × Contains pairs pair × (cmp pair.0 key ≡ Equal)
 
 -- an index at which the key, with any value, comes between the others, and no key is Equal to it
-pub record IsGap (accepts : List ℕ → Bool) (cmp : List ℕ → List ℕ → Ordering) (pairs : List Pair) (key : List ℕ) (at : ℕ) : Type 0 where
+pub record IsGap (accepts : List ℕ → Bool) (cmp : List ℕ → List ℕ → Ordering) (pairs : List Pair)
+    (key : List ℕ) (at : ℕ) : Type 0 where
   pub within : at ≤ length pairs
   pub sorted : (value : List ℕ) → IsSorted accepts cmp (insert pairs at (key, value))
   pub alone : HasKey cmp pairs key → ⊥
@@ -60,6 +75,35 @@ abbrev pub key_begins : Option Pair → List ℕ → Bool
 key_begins None key = false
 key_begins (Some pair) key = starts_with nat_eq pair.0 key
 
--- 128, and for each pair 64 and the lengths of key and value
-abbrev pub memory_of : List Pair → ℕ
-memory_of pairs = 128 + (64 * length pairs + bytes_of pairs)
+-- what inserting a pair into a map returns and leaves
+pub record InsertResult {C : Type 0} (accepts : List ℕ → Bool) (order : List ℕ → List ℕ → Ordering)
+    (old : Held C) (pair : Pair) (result : Result (Unit {0}) Status) (new : Held C) : Type 0 where
+  pub cmp : new.cmp ≡ old.cmp
+  pub ok : OnOk result (Inserts old.pairs pair new.pairs)
+  pub sorted : IsSorted accepts order new.pairs
+  -- an error leaves the pairs, and their room
+  pub err : OnErr result (new.pairs ≡ old.pairs)
+  pub places : OnErr result (new.places ≡ old.places)
+  pub bytes : OnErr result (old.bytes ≤ new.bytes)
+  -- the key is empty, or a key that is there is Equal to it
+  pub empty : IsErrAnd result (λ status. status.code ≡ InvalidArgument) ↔ (pair.0 ≡ [])
+  pub present : IsErrAnd result (λ status. status.code ≡ AlreadyExists)
+      ↔ ((pair.0 ≢ []) × HasKey order old.pairs pair.0)
+  pub cause : IfErr result (λ status. (status.code ≡ InvalidArgument)
+      ⊎ (status.code ≡ AlreadyExists)
+      ⊎ FailsToReserve old.pairs 1 (length pair.0 + length pair.1) status)
+
+-- what putting a key with no value leaves, for which there is room, and whether it has come
+pub record PutKeyResult {C : Type 0} (order : List ℕ → List ℕ → Ordering) (old : Held C)
+    (key : List ℕ) (has_come : Bool) (new : Held C) : Type 0 where
+  pub cmp : new.cmp ≡ old.cmp
+  pub bytes : old.bytes ≤ new.bytes + length key
+  -- no key was Equal to it
+  pub absent : OnTrue has_come (HasKey order old.pairs key → ⊥)
+  pub put : OnTrue has_come (Inserts old.pairs (key, []) new.pairs)
+  pub place : OnTrue has_come (new.places + 1 ≡ old.places)
+  -- one was, and all stays
+  pub present : OnFalse has_come (HasKey order old.pairs key)
+  pub left : OnFalse has_come (new.pairs ≡ old.pairs)
+  pub places : OnFalse has_come (new.places ≡ old.places)
+  pub unused : OnFalse has_come (old.bytes ≤ new.bytes)

@@ -2,8 +2,8 @@
 use Rattle.std.specs.Prelude.{ℕ, zero, suc, ◌+◌, ◌%◌, nat_eq, if◌then◌else◌}
 use Rattle.rand_core.specs.Stream.{Stream, next_u64}
 
--- one link for each number of the stream that is a multiple of 4, up to the first that isn't, and at most `most`; and the
--- stream after the last number that is drawn
+-- one link for each number of the stream that is a multiple of 4, up to the first that isn't, and
+-- at most `most`; and the stream after the last number that is drawn
 unfoldable pub drawn_links : ℕ → Stream → ℕ × Stream
 drawn_links zero stream = (0, stream)
 drawn_links (suc most) stream =

@@ -1,5 +1,7 @@
 -- A write batch: changes of keys that are made together, and the bytes that encode them in the log.
-use Rattle.std.specs.Prelude.{◌≡◌, ℕ, ◌^◌, ◌<◌, ◌≤◌, List, [], ◌∷◌, ◌++◌, length, flat_map, Option, Some, None, IfSome, option_copied, Result, OnOk, OnErr, IfErr, IsErrAnd, ◌↔◌, ◌⊎◌}
+use Rattle.std.specs.Prelude.{◌≡◌, ℕ, ◌^◌, ◌<◌, ◌≤◌, List, [], ◌∷◌, ◌++◌, length, flat_map, Option}
+use Rattle.std.specs.Prelude.{Some, None, IfSome, option_copied, Result, OnOk, OnErr, IfErr}
+use Rattle.std.specs.Prelude.{IsErrAnd, ◌↔◌, ◌⊎◌}
 use Rattle.leveldb_base.specs.Error.{IsOutOfMemory}
 use Rattle.leveldb_base.specs.declared.error.Status.{Status}
 use Rattle.leveldb_base.specs.declared.error.StatusCode.TheVariants.{InvalidArgument}
@@ -45,7 +47,8 @@ batch_bytes first items = little 8 first ++ (little 4 (length items) ++ flat_map
 abbrev pub max_length : ℕ
 max_length = 2 ^ 30
 
--- the bytes are these items, the first at this number, within the limit, which keeps keys and values within it too
+-- the bytes are these items, the first at this number, within the limit, which keeps keys and
+-- values within it too
 pub record BatchOf (bytes : List ℕ) (first : ℕ) (items : List Item) : Type 0 where
   pub encoded : bytes ≡ batch_bytes first items
   pub numbered : first < 2 ^ 64
@@ -66,12 +69,14 @@ pub record AddChangeResult (old : Batch) (item : Item) (result : Result (Unit {0
   -- an error leaves the batch
   pub err : OnErr result (new ≡ old)
   -- a change for which there is no room is an error, and no other is `InvalidArgument`
-  pub too_long : IsErrAnd result (λ status. status.code ≡ InvalidArgument) ↔ IsTooLong (with_item old item)
+  pub too_long : IsErrAnd result (λ status. status.code ≡ InvalidArgument)
+      ↔ IsTooLong (with_item old item)
   pub cause : IfErr result (λ status. (status.code ≡ InvalidArgument) ⊎ IsOutOfMemory status)
 
 -- key and value are within the limit
 abbrev pub IsShort : Item → Type 0
-IsShort item = (length item.key ≤ max_length) × IfSome item.value (λ value. length value ≤ max_length)
+IsShort item = (length item.key ≤ max_length)
+    × IfSome item.value (λ value. length value ≤ max_length)
 
 -- the bytes are some entries, one after the other
 abbrev pub AreEntries : List ℕ → Type 0
@@ -79,12 +84,15 @@ AreEntries bytes = (items : List Item) × (bytes ≡ flat_map entry_bytes items)
 
 -- ---- reading
 
--- what counting the entries of some bytes gives: their number, or nothing where the bytes aren't entries
+-- what counting the entries of some bytes gives: their number, or nothing where the bytes aren't
+-- entries
 abbrev pub CountsEntries : List ℕ → Option ℕ → Type 0
-CountsEntries bytes (Some count) = (items : List Item) × (bytes ≡ flat_map entry_bytes items) × (length items ≡ count)
+CountsEntries bytes (Some count) = (items : List Item) × (bytes ≡ flat_map entry_bytes items)
+    × (length items ≡ count)
 CountsEntries bytes None = (items : List Item) → bytes ≡ flat_map entry_bytes items → ⊥
 
--- what reading an entry at the front of some bytes gives: the item and what follows it, or nothing where there is none
+-- what reading an entry at the front of some bytes gives: the item and what follows it, or nothing
+-- where there is none
 abbrev pub ReadsEntry : List ℕ → Option (Item × List ℕ) → Type 0
 ReadsEntry bytes (Some (item, rest)) = bytes ≡ entry_bytes item ++ rest
 ReadsEntry bytes None = (item : Item) (rest : List ℕ) → bytes ≡ entry_bytes item ++ rest → ⊥
@@ -94,6 +102,7 @@ abbrev pub borrowed_item : Bor (List ℕ) × Option (Bor (List ℕ)) → Item
 borrowed_item pair = item_of pair.0.now (option_copied pair.1)
 
 -- the item, and the bytes after it
-abbrev pub borrowed_entry : Option ((Bor (List ℕ) × Option (Bor (List ℕ))) × Bor (List ℕ)) → Option (Item × List ℕ)
+abbrev pub borrowed_entry : Option ((Bor (List ℕ) × Option (Bor (List ℕ))) × Bor (List ℕ))
+    → Option (Item × List ℕ)
 borrowed_entry None = None
 borrowed_entry (Some entry) = Some (borrowed_item entry.0, entry.1.now)

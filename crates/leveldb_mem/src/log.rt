@@ -1,7 +1,7 @@
 //! The record log, in LevelDB's format. A file is blocks of one size. A block has fragments: a
-//! masked checksum of what follows the length (4 bytes), the length of the data (2), a type (1), the
-//! data. A record is one Full fragment, or a First, any Middles and a Last; a fragment is within one
-//! block. Fewer than 7 bytes at a block's end are zeros.
+//! masked checksum of what follows the length (4 bytes), the length of the data (2), a type (1),
+//! the data. A record is one Full fragment, or a First, any Middles and a Last; a fragment is
+//! within one block. Fewer than 7 bytes at a block's end are zeros.
 ghost use Rattle.std.specs.Prelude.{◌≡◌};
 ghost use Rattle.leveldb_mem.specs.Log.{record_type};
 

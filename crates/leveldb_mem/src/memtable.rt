@@ -1,24 +1,22 @@
 //! The newest entries of a store, in memory.
-ghost use Rattle.std.specs.Prelude.{◌≡◌, ◌⊎◌, ◌+◌, ◌*◌, ◌<◌, ◌≤◌, ◌^◌, ℕ, List, [], ◌∷◌, ◌++◌, length};
-ghost use Rattle.std.specs.Prelude.{OnOk, OnErr, IfErr, IsTrue, ◌↔◌, Some, None, map, slice_get};
-ghost use Rattle.std.specs.Prelude.{option_copied};
-ghost use Rattle.std.specs.Bool.{OnTrue, OnFalse};
+ghost use Rattle.std.specs.Prelude.{◌≡◌, ◌+◌, ◌<◌, ◌≤◌, ◌^◌, ℕ, List, [], ◌∷◌, ◌++◌, length, map};
+ghost use Rattle.std.specs.Prelude.{IsTrue, ◌↔◌, Some, None, slice_get, option_copied};
 ghost use Rattle.std.specs.Option.{option_map, ForSome};
-ghost use Rattle.leveldb_base.specs.Error.{IsOutOfMemory};
-ghost use Rattle.leveldb_base.specs.declared.error.StatusCode.TheVariants.{AlreadyExists};
 ghost use Rattle.leveldb_base.specs.History.{placed, greatest, AreRising};
 ghost use Rattle.leveldb_base.specs.Varint.{varint, sized};
 ghost use Rattle.leveldb_base.specs.KeyTypes.{inner_key, internal_cmp, user_part, sequence_part};
 ghost use Rattle.leveldb_base.specs.Types.{position_within, previous_position, last_position};
 ghost use Rattle.leveldb_base.specs.Types.{seek_position};
+ghost use Rattle.leveldb_base.specs.Entries.{FindsNewest, type_of, bytes_of_value, value_of};
+ghost use Rattle.leveldb_base.specs.Entries.{internal_pair};
 ghost use Rattle.leveldb_mem.specs.WriteBatch.{item_of};
 ghost use Rattle.leveldb_mem.specs.Placed.{rank};
 ghost use Rattle.leveldb_mem.specs.SkipMap.{HasNode, position_of};
-ghost use Rattle.leveldb_mem.specs.MemTable.{IsUnion, IsNewTo, AreNewTo, FindsNewest, HasRoom, KeepsRoom};
-ghost use Rattle.leveldb_mem.specs.MemTable.{AddsEntry, entry_of, type_of, bytes_of_value, value_of};
-ghost use Rattle.leveldb_mem.specs.MemTable.{entry_key, entry_from, inner_value, internal_pair};
-ghost use Rattle.leveldb_mem.specs.MemTable.{memory_of_entries, Grows, GrowsByAll, IsValueAt};
-ghost use Rattle.leveldb_mem.specs.MemTable.{FailsToPrepare, value_length};
+ghost use Rattle.leveldb_mem.specs.MemTable.{IsNewTo, AreNewTo, HasRoom, KeepsRoom, AddsEntry};
+ghost use Rattle.leveldb_mem.specs.MemTable.{AddsAll, entry_of, value_length, entry_key};
+ghost use Rattle.leveldb_mem.specs.MemTable.{entry_from, inner_value, memory_of_entries, Grows};
+ghost use Rattle.leveldb_mem.specs.MemTable.{IsValueAt, PrepareResult, ReserveResult};
+ghost use Rattle.leveldb_mem.specs.MemTable.{AddResult, PutResult};
 
 use crate::memtable::as_of::AsOf;
 use crate::memtable::iterator::AtInternalKey;
@@ -41,9 +39,6 @@ pub use iterator::MemtableIterator;
 
 // The most bytes that a memtable key has beside key and value: two lengths of 10 and a tag of 8.
 const MOST_BESIDE: usize = 28;
-
-// The most bytes that the keys and values have for which memory is taken at once.
-const MAX_BYTES: usize = 1 << 63;
 
 /// Entries, each with a key and a sequence number that no other has, and room for those of a batch.
 #[derive(Drop)]
@@ -80,6 +75,7 @@ impl<C: UserCmp> MemTable<C> {
     pub fn new(alloc: Global, cmp: C) -> MemTable<C>
         ensures cmp { result.cmp ≡ cmp }
         ensures entries { result.kept.entries ≡ [] }
+        ensures places { result.kept.places ≡ 0 }
     {
         MemTable {
             map: SkipMap::new_memtable_map(alloc, cmp),
@@ -101,14 +97,11 @@ impl<C: UserCmp> MemTable<C> {
         self.map.approx_memory()
     }
 
-    /// Takes all memory that the changes of a batch need.
+    /// Takes all memory that the changes of a batch need. Returns `NotSupported` if the entries
+    /// would be too many for the table.
     pub fn prepare(&mut self, batch: &WriteBatch) -> Result<()>
         ensures cmp { self.new.cmp ≡ self.old.cmp }
-        ensures entries { self.new.kept.entries ≡ self.old.kept.entries }
-        ensures ok { OnOk result (HasRoom self.new.kept batch.now.items) }
-        ensures places { OnErr result (self.new.kept.places ≡ self.old.kept.places) }
-        ensures bytes { OnErr result (self.old.kept.bytes ≤ self.new.kept.bytes) }
-        ensures cause { IfErr result IsOutOfMemory }
+        ensures kept { PrepareResult self.old.kept batch.now.items result self.new.kept }
     {
         self.reserve(batch.count(), batch.contents().len())
     }
@@ -133,10 +126,7 @@ impl<C: UserCmp> MemTable<C> {
         requires room { HasRoom self.old.kept batch.now.items }
         requires new { AreNewTo self.old.kept.entries (placed first batch.now.items) }
         ensures cmp { self.new.cmp ≡ self.old.cmp }
-        ensures entries { IsUnion self.old.kept.entries (placed first batch.now.items)
-            self.new.kept.entries }
-        ensures grows { GrowsByAll self.old.kept.entries (placed first batch.now.items)
-            self.new.kept.entries }
+        ensures adds { AddsAll self.old.kept (placed first batch.now.items) self.new.kept }
     {
         let mut sequence = first;
         for (key, value) in batch.iter() {
@@ -146,8 +136,8 @@ impl<C: UserCmp> MemTable<C> {
     }
 
     /// Inserts an entry, and takes the memory for it. A deletion has no value, whatever `value` is.
-    /// Returns `AlreadyExists` if the key has an entry at this sequence, and `NotSupported` if key
-    /// and value have more than 2^63 bytes.
+    /// Returns `AlreadyExists` if the key has an entry at this sequence, and `NotSupported` if the
+    /// entries would be too many for the table.
     pub fn add(
         &mut self,
         sequence: SequenceNumber,
@@ -157,16 +147,8 @@ impl<C: UserCmp> MemTable<C> {
     ) -> Result<()>
         requires numbered { sequence < 2 ^ 56 }
         ensures cmp { self.new.cmp ≡ self.old.cmp }
-        ensures new { OnOk result (IsNewTo self.old.kept.entries sequence key.now) }
-        ensures ok { OnOk result (IsUnion self.old.kept.entries
-            (entry_of sequence key.now (value_of kind value.now) ∷ []) self.new.kept.entries) }
-        ensures grows { OnOk result (Grows self.old.kept.entries
-            (entry_of sequence key.now (value_of kind value.now)) self.new.kept.entries) }
-        ensures err { OnErr result (self.new.kept.entries ≡ self.old.kept.entries) }
-        ensures room { OnErr result (KeepsRoom self.old.kept self.new.kept) }
-        ensures cause { IfErr result (λ status. ((status.code ≡ AlreadyExists)
-            × (IsNewTo self.old.kept.entries sequence key.now → ⊥))
-            ⊎ FailsToPrepare (item_of key.now (value_of kind value.now)) status) }
+        ensures kept { AddResult self.old.kept
+            (entry_of sequence key.now (value_of kind value.now)) result self.new.kept }
     {
         let value = given(kind, value);
         self.prepare_entry(key, value)?;
@@ -311,41 +293,22 @@ impl<C: UserCmp> MemTable<C> {
     // Takes memory for one entry.
     fn prepare_entry(&mut self, key: &[u8], value: Option<&[u8]>) -> Result<()>
         ensures cmp { self.new.cmp ≡ self.old.cmp }
-        ensures entries { self.new.kept.entries ≡ self.old.kept.entries }
-        ensures ok { OnOk result
-            (HasRoom self.new.kept (item_of key.now (option_copied value.entry) ∷ [])) }
+        ensures kept { PrepareResult self.old.kept
+            (item_of key.now (option_copied value.entry) ∷ []) result self.new.kept }
         ensures room { KeepsRoom self.old.kept self.new.kept }
-        ensures cause { IfErr result
-            (FailsToPrepare (item_of key.now (option_copied value.entry))) }
     {
-        let bytes = byte_count(key, value);
-        if bytes > MAX_BYTES {
-            let alloc = self.map.allocator();
-            return err(
-                alloc,
-                StatusCode::NotSupported,
-                "key and value have at most 2^63 bytes",
-            );
-        }
-        self.reserve(1, bytes)
+        self.reserve(1, byte_count(key, value))
     }
 
-    // Makes room for `count` entries, whose keys and values have `bytes` bytes. Room for as many is
-    // only added to.
+    // Makes room for `count` entries, whose keys and values have `bytes` bytes.
     fn reserve(&mut self, count: u32, bytes: usize) -> Result<()>
-        requires { bytes ≤ 2 ^ 63 }
         ensures cmp { self.new.cmp ≡ self.old.cmp }
-        ensures entries { self.new.kept.entries ≡ self.old.kept.entries }
-        ensures ok { OnOk result ((count ≤ self.new.kept.places) × (bytes ≤ self.new.kept.bytes)) }
-        ensures room { count ≤ self.old.kept.places
-            → (self.new.kept.places ≡ self.old.kept.places)
-            × (self.old.kept.bytes ≤ self.new.kept.bytes) }
-        ensures places { OnErr result (self.new.kept.places ≡ self.old.kept.places) }
-        ensures bytes { OnErr result (self.old.kept.bytes ≤ self.new.kept.bytes) }
-        ensures cause { IfErr result IsOutOfMemory }
+        ensures kept { ReserveResult self.old.kept count bytes result self.new.kept }
     {
         let places = self.map.places().max(count as usize);
-        self.map.reserve(places, bytes + MOST_BESIDE * places)
+        // A sum past 64 bits is past the map's limit, too.
+        self.map
+            .reserve(places, bytes.saturating_add(MOST_BESIDE * places))
     }
 
     // Inserts an entry for which there is room. Returns whether it did: an entry of this key and
@@ -354,15 +317,8 @@ impl<C: UserCmp> MemTable<C> {
         requires numbered { sequence < 2 ^ 56 }
         requires room { HasRoom self.old.kept (item_of key.now (option_copied value) ∷ []) }
         ensures cmp { self.new.cmp ≡ self.old.cmp }
-        ensures put { OnTrue result (AddsEntry self.old.kept
-            (entry_of sequence key.now (option_copied value.entry)) self.new.kept) }
-        ensures grows { OnTrue result (Grows self.old.kept.entries
-            (entry_of sequence key.now (option_copied value.entry)) self.new.kept.entries) }
-        ensures new { OnTrue result (IsNewTo self.old.kept.entries sequence key.now) }
-        ensures left { OnFalse result (self.new.kept.entries ≡ self.old.kept.entries) }
-        ensures places { OnFalse result (self.new.kept.places ≡ self.old.kept.places) }
-        ensures bytes { OnFalse result (self.old.kept.bytes ≤ self.new.kept.bytes) }
-        ensures present { OnFalse result (IsNewTo self.old.kept.entries sequence key.now → ⊥) }
+        ensures kept { PutResult self.old.kept
+            (entry_of sequence key.now (option_copied value.entry)) result self.new.kept }
     {
         let parts = type_and_bytes(value);
         let tag = tag_bytes(sequence, parts.0);

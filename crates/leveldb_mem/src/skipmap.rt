@@ -1,17 +1,13 @@
 //! A map from keys to values in the order of a comparator.
-ghost use Rattle.std.specs.Prelude.{◌≡◌, ◌≢◌, ◌↔◌, ◌⊎◌, ◌+◌, ◌^◌, ◌<◌, ◌≤◌, ◌==◌, true, [], ◌++◌};
-ghost use Rattle.std.specs.Prelude.{length, OnOk, OnErr, IfErr, IsErrAnd, Some, None, slice_get};
-ghost use Rattle.std.specs.Bool.{OnTrue, OnFalse};
+ghost use Rattle.std.specs.Prelude.{◌≡◌, ◌⊎◌, ◌+◌, ◌^◌, ◌<◌, ◌≤◌, ◌==◌, true, [], ◌++◌, length};
+ghost use Rattle.std.specs.Prelude.{OnOk, OnErr, IfErr, Some, None, slice_get};
 ghost use Rattle.std.specs.Option.{ForSome};
-ghost use Rattle.leveldb_base.specs.Error.{IsOutOfMemory};
-ghost use Rattle.leveldb_base.specs.declared.error.StatusCode.TheVariants.{InvalidArgument};
-ghost use Rattle.leveldb_base.specs.declared.error.StatusCode.TheVariants.{AlreadyExists};
 ghost use Rattle.leveldb_base.specs.Types.{seek_position, position_within, previous_position};
 ghost use Rattle.leveldb_base.specs.Types.{last_position, pair_at};
-ghost use Rattle.leveldb_mem.specs.Placed.{rank};
+ghost use Rattle.leveldb_mem.specs.Placed.{rank, memory_of, FailsToReserve};
 ghost use Rattle.leveldb_mem.specs.Searching.{key_at, count_while, IsParted};
-ghost use Rattle.leveldb_mem.specs.SkipMap.{IsSorted, Inserts, HasKey, HasNode, position_of};
-ghost use Rattle.leveldb_mem.specs.SkipMap.{key_begins, memory_of};
+ghost use Rattle.leveldb_mem.specs.SkipMap.{IsSorted, HasNode, position_of, key_begins};
+ghost use Rattle.leveldb_mem.specs.SkipMap.{InsertResult, PutKeyResult};
 
 use crate::skipmap::placed::{HEAD, PlacedPairs};
 use crate::skipmap::search::{AtKey, Probe, find_gap, path_before};
@@ -104,30 +100,21 @@ impl<C: Cmp> SkipMap<C> {
         }
     }
 
-    /// Returns what counts as the map's memory: 128, and for each pair 64 and the lengths of key and
-    /// value.
+    /// Returns what counts as the map's memory: 128, and for each pair 64 and the lengths of key
+    /// and value.
     pub fn approx_memory(&self) -> usize
         ensures { result ≡ memory_of self.now.pairs }
     {
         128 + self.pairs.memory()
     }
 
-    /// Inserts a copy of the pair. Returns `InvalidArgument` if the key is empty, and
-    /// `AlreadyExists` if it is Equal to a key that is there.
+    /// Inserts a copy of the pair. Returns `InvalidArgument` if the key is empty, `AlreadyExists`
+    /// if it is Equal to a key that is there, and `NotSupported` if the map would grow past its
+    /// limit.
     pub fn insert(&mut self, key: &[u8], value: &[u8]) -> Result<()>
         requires { (key.now ≡ []) ⊎ (C.accepts self.old.cmp key.now ≡ true) }
-        ensures cmp { self.new.cmp ≡ self.old.cmp }
-        ensures ok { OnOk result (Inserts self.old.pairs (key.now, value.now) self.new.pairs) }
-        ensures sorted { IsSorted (C.accepts self.new.cmp) (C.cmp self.new.cmp) self.new.pairs }
-        ensures err { OnErr result (self.new.pairs ≡ self.old.pairs) }
-        ensures places { OnErr result (self.new.places ≡ self.old.places) }
-        ensures bytes { OnErr result (self.old.bytes ≤ self.new.bytes) }
-        ensures empty { IsErrAnd result (λ status. status.code ≡ InvalidArgument)
-            ↔ (key.now ≡ []) }
-        ensures present { IsErrAnd result (λ status. status.code ≡ AlreadyExists)
-            ↔ ((key.now ≢ []) × HasKey (C.cmp self.old.cmp) self.old.pairs key.now) }
-        ensures cause { IfErr result (λ status. (status.code ≡ InvalidArgument)
-            ⊎ (status.code ≡ AlreadyExists) ⊎ IsOutOfMemory status) }
+        ensures { InsertResult (C.accepts self.old.cmp) (C.cmp self.old.cmp) self.old
+            (key.now, value.now) result self.new }
     {
         let alloc = self.pairs.allocator();
         if key.is_empty() {
@@ -283,29 +270,25 @@ impl<C: Cmp> SkipMap<C> {
     pub(crate) fn reserve(&mut self, places: usize, bytes: usize) -> Result<()>
         ensures cmp { self.new.cmp ≡ self.old.cmp }
         ensures pairs { self.new.pairs ≡ self.old.pairs }
-        ensures ok { OnOk result ((self.new.places ≡ places) × (bytes ≤ self.new.bytes)) }
+        ensures ok { OnOk result ((self.new.places ≡ places) × (bytes ≤ self.new.bytes)
+            × (bytes < 2 ^ 32)) }
         ensures err { OnErr result (self.new.places ≡ self.old.places) }
         ensures bytes { self.old.bytes ≤ self.new.bytes }
-        ensures cause { IfErr result IsOutOfMemory }
+        ensures cause { IfErr result (FailsToReserve self.old.pairs places bytes) }
     {
         self.pairs.reserve(places, bytes)
     }
 
-    /// Inserts a key, which comes in five parts, with no value. Returns whether it did: an Equal key
-    /// is left.
+    /// Inserts a key, which comes in five parts, with no value. Returns whether it did: an Equal
+    /// key is left.
     pub(crate) fn put_parts(&mut self, a: &[u8], b: &[u8], c: &[u8], d: &[u8], e: &[u8]) -> bool
-        requires accepted { C.accepts self.old.cmp (a.now ++ b.now ++ c.now ++ d.now ++ e.now) ≡ true }
+        requires accepted { C.accepts self.old.cmp
+            (a.now ++ b.now ++ c.now ++ d.now ++ e.now) ≡ true }
         requires place { 0 < self.old.places }
-        requires bytes { length a.now + length b.now + length c.now + length d.now + length e.now ≤ self.old.bytes }
-        ensures cmp { self.new.cmp ≡ self.old.cmp }
-        ensures put { OnTrue result (Inserts self.old.pairs (a.now ++ b.now ++ c.now ++ d.now ++ e.now, []) self.new.pairs) }
-        ensures left { OnFalse result (self.new.pairs ≡ self.old.pairs) }
-        ensures present { OnFalse result (HasKey (C.cmp self.old.cmp) self.old.pairs (a.now ++ b.now ++ c.now ++ d.now ++ e.now)) }
-        ensures absent { OnTrue result (HasKey (C.cmp self.old.cmp) self.old.pairs (a.now ++ b.now ++ c.now ++ d.now ++ e.now) → ⊥) }
-        ensures place { OnTrue result (self.new.places + 1 ≡ self.old.places) }
-        ensures places { OnFalse result (self.new.places ≡ self.old.places) }
-        ensures bytes { self.old.bytes ≤ self.new.bytes + (length a.now + length b.now + length c.now + length d.now + length e.now) }
-        ensures unused { OnFalse result (self.old.bytes ≤ self.new.bytes) }
+        requires bytes { length a.now + length b.now + length c.now + length d.now + length e.now
+            ≤ self.old.bytes }
+        ensures { PutKeyResult (C.cmp self.old.cmp) self.old
+            (a.now ++ b.now ++ c.now ++ d.now ++ e.now) result self.new }
     {
         self.pairs.append(a);
         self.pairs.append(b);

@@ -1,8 +1,9 @@
 //! Write batches: changes of keys that are made together. A batch is held as the bytes that encode
 //! it in the log: the number of the first change (8 bytes), the number of changes (4), and the
-//! changes in order. A change is its kind (1 byte) and its key after its length; a put has its value
-//! after its length, too.
-ghost use Rattle.std.specs.Prelude.{◌≡◌, ◌↔◌, ◌⊎◌, ◌+◌, ◌^◌, ◌<◌, ◌≤◌, [], ◌∷◌, ◌++◌, length, take, drop};
+//! changes in order. A change is its kind (1 byte) and its key after its length; a put has its
+//! value after its length, too.
+ghost use Rattle.std.specs.Prelude.{◌≡◌, ◌↔◌, ◌⊎◌, ◌+◌, ◌^◌, ◌<◌, ◌≤◌, [], ◌∷◌, ◌++◌, length, take};
+ghost use Rattle.std.specs.Prelude.{drop};
 ghost use Rattle.std.specs.Prelude.{Some, None, IfOk, OnOk, OnErr, IfErr, IfSome, IsErrAnd, IsTrue};
 ghost use Rattle.std.specs.Prelude.{vec_len, vec_capacity, option_copied};
 ghost use Rattle.std.specs.Iterator.{YieldsFirstBy, item_count};
@@ -12,12 +13,14 @@ ghost use Rattle.leveldb_base.specs.declared.error.StatusCode.TheVariants.{Inval
 ghost use Rattle.leveldb_base.specs.declared.error.StatusCode.TheVariants.{NotSupported};
 ghost use Rattle.leveldb_base.specs.History.{placed, greatest};
 ghost use Rattle.leveldb_base.specs.Varint.{little, sized};
-ghost use Rattle.leveldb_mem.specs.WriteBatch.{item_of, batch_of, with_item, AddChangeResult, BatchOf};
+ghost use Rattle.leveldb_mem.specs.WriteBatch.{item_of, batch_of, with_item, AddChangeResult};
+ghost use Rattle.leveldb_mem.specs.WriteBatch.{BatchOf};
 ghost use Rattle.leveldb_mem.specs.WriteBatch.{IsBatch, IsTooLong, AreEntries, CountsEntries};
 ghost use Rattle.leveldb_mem.specs.WriteBatch.{change_encoding, ReadsEntry, borrowed_item};
 ghost use Rattle.leveldb_mem.specs.WriteBatch.{borrowed_entry};
 ghost use Rattle.leveldb_mem.specs.WriteBatchLaws.{IsBatch-prop, AreEntries-prop};
-ghost use Rattle.leveldb_mem.specs.MemTable.{IsUnion, AreNewTo, GrowsByAll};
+ghost use Rattle.leveldb_mem.specs.MemTable.{IsUnion, AreNewTo, GrowsByAll, FailsToPrepare};
+ghost use Rattle.leveldb_mem.specs.MemTable.{bytes_in};
 
 use crate::memtable::MemTable;
 use byteorder::{ByteOrder, LittleEndian};
@@ -176,7 +179,8 @@ impl WriteBatch {
 
     /// Inserts all changes into the memtable, the first of them with this number; after an error,
     /// none.
-    /// Returns `NotSupported` if a number is too great.
+    /// Returns `NotSupported` if a number is too great, or the entries would be too many for the
+    /// table.
     pub fn insert_into_memtable<C: UserCmp>(
         &self,
         seq: SequenceNumber,
@@ -189,10 +193,12 @@ impl WriteBatch {
         ensures grows { OnOk result (GrowsByAll memtable.old.kept.entries
             (placed seq self.now.items) memtable.new.kept.entries) }
         ensures err { OnErr result (memtable.new.kept.entries ≡ memtable.old.kept.entries) }
-        ensures too_great { IsErrAnd result (λ status. status.code ≡ NotSupported)
-            ↔ (2 ^ 56 ≤ greatest (placed seq self.now.items)) }
+        ensures too_great { 2 ^ 56 ≤ greatest (placed seq self.now.items)
+            → IsErrAnd result (λ status. status.code ≡ NotSupported) }
         ensures cause { IfErr result (λ status.
-            (status.code ≡ NotSupported) ⊎ IsOutOfMemory status) }
+            ((status.code ≡ NotSupported) × (2 ^ 56 ≤ greatest (placed seq self.now.items)))
+            ⊎ FailsToPrepare memtable.old.kept (length self.now.items)
+            (bytes_in self.now.items) status) }
     {
         if u64::from(self.count()) > (MAX_SEQUENCE_NUMBER + 1).saturating_sub(seq) {
             let alloc = *self.entries.allocator();

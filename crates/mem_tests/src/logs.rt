@@ -18,7 +18,8 @@ const TWENTY_TWO: &[u8] = b"0101010101010101010101";
 
 /// The records of a log in memory, and whether it ends between two of them.
 fn records_of(alloc: Global, bytes: &[u8]) -> Result<(Vec<Vec<u8>>, bool)>
-    ensures { IfOk result (λ found. IsLogFile bytes.now (map (λ v. v.items) found.0.items) (if found.1 then clean else bad)) }
+    ensures { IfOk result (λ found. IsLogFile bytes.now (map (λ v. v.items) found.0.items)
+        (if found.1 then clean else bad)) }
 {
     let mut source = bytes;
     read_records(alloc, &mut source, true)
@@ -27,7 +28,8 @@ fn records_of(alloc: Global, bytes: &[u8]) -> Result<(Vec<Vec<u8>>, bool)>
 /// Records, and how many bytes each adds to a log in blocks of 17.
 const SMALL_LOG: [(&[u8], usize); 4] = [(NINE, 16), (b"", 0), (TWELVE, 27), (TWENTY_TWO, 50)];
 
-/// Records of 9, 12 and 22 bytes in blocks of 17: they end at 16, 43 and 93, and a byte of filler is at 16.
+/// Records of 9, 12 and 22 bytes in blocks of 17: they end at 16, 43 and 93, and a byte of filler
+/// is at 16.
 fn small_log(rt: &(impl Abort + AllocGlobal)) -> Result<Vec<u8>> {
     let mut writer = LogWriter::sized(rt.alloc(), Vec::new(rt.alloc()), 17);
     for (record, length) in &SMALL_LOG {
@@ -143,8 +145,8 @@ fn has_records(alloc: Global, log: &[u8], wanted: &[&[u8]], is_whole: bool) -> R
     Ok(ends_well == is_whole && are_records(&records, wanted))
 }
 
-// How long a log of a record of this length is, and with a record of one byte after it. From LevelDB's format: a block
-// has 32768 bytes, a header 7.
+// How long a log of a record of this length is, and with a record of one byte after it. From
+// LevelDB's format: a block has 32768 bytes, a header 7.
 const LENGTHS: [(usize, usize, usize); 4] = [
     (32761, 32768, 32776),
     (32762, 32776, 32784),
@@ -277,8 +279,9 @@ fn each_byte_raised(rt: HostRuntime) -> Result<()> {
     Ok(())
 }
 
-/// Fragments of one byte after any checksum: of no type, a middle and a last one with no first, and of a type past
-/// the last; a first one and then a whole or a first one; and a whole one of no byte.
+/// Fragments of one byte after any checksum: of no type, a middle and a last one with no first, and
+/// of a type past the last; a first one and then a whole or a first one; and a whole one of no
+/// byte.
 const MISPLACED: [&[u8]; 7] = [
     b"\0\0\0\0\x01\0\0x",
     b"\0\0\0\0\x01\0\x03x",

@@ -1,4 +1,5 @@
-//! What is found of keys at sequence numbers before, at, between and after their versions, and what failed calls leave.
+//! What is found of keys at sequence numbers before, at, between and after their versions, and what
+//! failed calls leave.
 ghost use Rattle.std.specs.Prelude.{◌≡◌, ◌<◌, IfOk, OnErr};
 ghost use Rattle.leveldb_base.specs.History.{AreUpTo};
 
@@ -112,7 +113,8 @@ const VERSIONS: [(&[u8], &[u8]); 4] = [
     (b"abd\x01\x03\0\0\0\0\0\0", b""),
 ];
 
-/// Asserts that an iterator is at this pair, also once it went a step back and sought the key. It leaves it a step back.
+/// Asserts that an iterator is at this pair, also once it went a step back and sought the key. It
+/// leaves it a step back.
 fn assert_step_back(
     rt: &impl Abort,
     it: &mut MemtableIterator<'_, DefaultCmp>,
@@ -137,6 +139,7 @@ fn assert_steps(rt: &impl Abort, it: &mut MemtableIterator<'_, DefaultCmp>) -> R
 
 /// Asserts that a step back goes to each pair in turn, from the last on, and then to no position.
 fn assert_steps_back(rt: &impl Abort, it: &mut MemtableIterator<'_, DefaultCmp>) -> Result<()> {
+    it.seek_to_last()?;
     for pair in VERSIONS.iter().rev() {
         assert_step_back(rt, it, pair)?;
     }
@@ -195,7 +198,8 @@ fn assert_changes(rt: &impl Abort, table: &MemTable<DefaultCmp>) {
 /// What is found where none of the five changes came.
 const NEWEST_BEFORE: [Newest; 2] = [(b"abc", 99, Some(Some(b"xyz"))), (b"123", 99, None)];
 
-/// Puts the five changes after the versions: all of them, and where the call fails none, so that it can be made again.
+/// Puts the five changes after the versions: all of them, and where the call fails none, so that it
+/// can be made again.
 fn insert_changes(
     rt: &impl Abort,
     batch: &WriteBatch,
@@ -321,7 +325,8 @@ fn add(rt: &impl Abort, table: &mut MemTable<DefaultCmp>, row: &Row) -> Result<(
     table.add(sequence, kind, key, bytes)
 }
 
-/// Adds the last of these rows to the others. A failed call leaves the others as they were, and can be made again.
+/// Adds the last of these rows to the others. A failed call leaves the others as they were, and can
+/// be made again.
 fn add_last(rt: &impl Abort, table: &mut MemTable<DefaultCmp>, rows: &[Row]) -> Result<()> {
     let Some((row, others)) = rows.split_last() else {
         return Ok(());

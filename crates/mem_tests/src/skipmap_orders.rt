@@ -1,4 +1,5 @@
-//! A map of a thousand keys beside a sorted vector of them, which come in rising, falling and mixed order.
+//! A map of a thousand keys beside a sorted vector of them, which come in rising, falling and mixed
+//! order.
 use leveldb_base::cmp::DefaultCmp;
 use leveldb_base::error::Result;
 use leveldb_base::types::LdbIterator;
@@ -49,7 +50,7 @@ fn walks_forward(map: &SkipMap<DefaultCmp>, sorted: &[u32]) -> Result<bool> {
 // Whether a walk from the last key back does.
 fn walks_back(map: &SkipMap<DefaultCmp>, sorted: &[u32]) -> Result<bool> {
     let mut it = map.iter();
-    it.seek(&(COUNT - 1).to_be_bytes())?;
+    it.seek_to_last()?;
     for number in sorted.iter().rev() {
         if !is_at(&it, *number) {
             return Ok(false);

@@ -1,4 +1,5 @@
-//! The keys aba to abz, put out of order: what is there, walks with a turn at each position, seeks, and failed insertions.
+//! The keys aba to abz, put out of order: what is there, walks with a turn at each position, seeks,
+//! and failed insertions.
 use crate::checks::failed_with;
 use leveldb_base::cmp::{Cmp, DefaultCmp};
 use leveldb_base::error::{Result, StatusCode};
@@ -134,7 +135,8 @@ fn step<C: Cmp>(it: &mut SkipMapIter<'_, C>) -> Result<(bool, bool, Option<u8>)>
     Ok((is_there, it.valid(), letter(it)))
 }
 
-/// There is no position before the first key and after the last. From there a step goes to the first.
+/// There is no position before the first key and after the last. From there a step goes to the
+/// first.
 #[test]
 fn no_position_at_both_ends(rt: HostRuntime) -> Result<()> {
     let map = letters(rt.alloc())?;
@@ -179,6 +181,8 @@ fn memtable_keys(rt: HostRuntime) -> Result<()> {
     let key = build_memtable_key(rt.alloc(), b"abc", b"123", ValueType::TypeValue, 231)?;
     assert!(rt; !map.contains(key.as_slice()));
     assert!(rt; !map.contains(b"\x07short"));
-    assert!(rt; !map.iter().valid());
+    let mut it = map.iter();
+    it.seek_to_last()?;
+    assert!(rt; !it.valid());
     Ok(())
 }

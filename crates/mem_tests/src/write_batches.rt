@@ -42,8 +42,8 @@ fn five_changes_are_read(rt: HostRuntime) -> Result<()> {
     Ok(())
 }
 
-/// A cut text, a length with a second encoding, a count that isn't that of the entries, a kind that isn't there,
-/// a byte after the entries, and a cut header.
+/// A cut text, a length with a second encoding, a count that isn't that of the entries, a kind that
+/// isn't there, a byte after the entries, and a cut header.
 const MALFORMED: [&[u8]; 6] = [
     b"\x01\0\0\0\0\0\0\0\x01\0\0\0\x01\x01a",
     b"\x01\0\0\0\0\0\0\0\x01\0\0\0\x01\x81\0a\x011",

@@ -9,7 +9,7 @@ use Rattle.leveldb_base.specs.History.{Entry, entries_of, IsValueAt, SameView}
 use Rattle.leveldb_env.specs.declared.env.Env.{Ghosts}
 use Rattle.leveldb_env.specs.Env.{Disk}
 use Rattle.leveldb_mem.specs.WriteBatch.{max_length}
-use Rattle.leveldb_mem.specs.MemTable.{FindsNewest}
+use Rattle.leveldb_base.specs.Entries.{FindsNewest}
 use Rattle.rusty_leveldb.specs.declared.db_impl.engine.Mode.{Mode}
 use Rattle.rusty_leveldb.specs.declared.db_impl.engine.Mode.TheVariants.{Open, Broken, Closed}
 use Rattle.rusty_leveldb.specs.declared.db_impl.engine.Engine.{Engine}

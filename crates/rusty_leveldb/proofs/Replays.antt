@@ -1,18 +1,19 @@
 -- Records read as batches, one record more at a time.
-use Rattle.std.proofs.Common.{◌≡◌, ◌≤◌, ◌<◌, ◌+◌, ◌⊎◌, inl, inr, ⊎_elim, ℕ, List, [], ◌∷◌, ◌++◌, length, refl, sym, ◌∙◌, ap, subst, arith}
-use Rattle.std.specs.Prelude.{◌↔◌, Contains, max, Result, Ok, Err, IsErrAnd, IfErr}
+use Rattle.std.proofs.Common.{◌≡◌, ◌≤◌, ◌<◌, ◌+◌, ◌*◌, ◌⊎◌, inl, inr, ⊎_elim, ℕ, suc, List, [], ◌∷◌, ◌++◌, length, length-append, refl, sym, ◌∙◌, ap, subst, arith}
+use Rattle.std.proofs.lemmas.List.Sums.{sum_by-append}
+use Rattle.std.specs.Prelude.{◌↔◌, Contains, max, sum_by, Result, Ok, Err, IsErrAnd, IfErr}
 use Rattle.leveldb_base.specs.declared.error.Status.{Status}
 use Rattle.leveldb_base.specs.declared.error.StatusCode.{StatusCode}
-use Rattle.leveldb_base.specs.declared.error.StatusCode.TheVariants.{Corruption}
+use Rattle.leveldb_base.specs.declared.error.StatusCode.TheVariants.{Corruption, NotSupported}
 use Rattle.leveldb_base.specs.Error.{IsOutOfMemory}
 use Rattle.std.proofs.lemmas.List.Elements.{Contains-append_left, Contains-append_right, Contains-append_cases}
 use Rattle.leveldb_base.specs.History.{Item, Entry, placed, greatest}
 use Rattle.leveldb_mem.specs.WriteBatch.{Batch, IsBatch}
 use Rattle.leveldb_mem.specs.WriteBatchLaws.{BatchOf-one}
-use Rattle.leveldb_mem.specs.MemTable.{IsUnion}
+use Rattle.leveldb_mem.specs.MemTable.{IsUnion, AddsAll, FailsToPrepare, memory_of_entries, entry_key, bytes_in}
 use Rattle.rusty_leveldb.specs.OneLog.{Each, IsRecordOf, AreInOrder, entries_in, all_entries, max_sequence}
 use Rattle.rusty_leveldb.specs.Recent.{Numbered, Follows, Inserts}
-use Rattle.rusty_leveldb.specs.Replay.{AreBatches, IsReplayed, IsDamaged}
+use Rattle.rusty_leveldb.specs.Replay.{AreBatches, IsReplayed, IsDamaged, AreTooMany}
 use Rattle.rusty_leveldb.proofs.OneLog.Batches.{all_more, order_more}
 use Rattle.rusty_leveldb.proofs.Readings.{each_more, one_batches}
 use Rattle.rusty_leveldb.proofs.Histories.{greatest_append}
@@ -121,6 +122,46 @@ replayed_none recent entries last = record {
   last = last;
 }
 
+-- ---- what is in memory on the way
+
+-- what these entries count for as memory
+memory_append : (xs ys : List Entry) → memory_of_entries (xs ++ ys) ≡ memory_of_entries xs + (64 * length ys + sum_by (λ entry. length (entry_key entry)) ys)
+memory_append xs ys = omega (arith, length-append xs ys, sum_by-append (λ entry. length (entry_key entry)) xs ys)
+
+-- the records are replayed, and memory has each entry once and no room for others
+pub record Replaying (records : List (List ℕ)) (recent : Numbered) : Type 0 where
+  pub is : IsReplayed records recent
+  pub places : recent.kept.places ≡ 0
+  pub memory : memory_of_entries recent.kept.entries ≡ memory_of_entries (all_entries is.read.batches)
+
+pub replaying_none : (recent : Numbered) → recent.kept.entries ≡ [] → recent.last ≡ 0 → recent.kept.places ≡ 0 → Replaying [] recent
+unfolding replayed_none
+replaying_none recent entries last places = record {
+  is = replayed_none recent entries last;
+  places = places;
+  memory = ap memory_of_entries entries;
+}
+
+length-placed : (first : ℕ) (items : List Item) → length (placed first items) ≡ length items
+length-placed first [] = refl
+length-placed first (item ∷ items) = ap (λ n. suc n) (length-placed (first + 1) items)
+
+pub replaying_more : (records : List (List ℕ)) (text : List ℕ) (batch : Batch) (old mid new : Numbered) → Replaying records old → IsRecordOf text batch → Follows old.last batch
+    → mid.kept.entries ≡ old.kept.entries → mid.last ≡ old.last → mid.kept.places ≡ max old.kept.places (length batch.items) → Inserts mid batch new
+    → AddsAll mid.kept (placed batch.first batch.items) new.kept → Replaying (records ++ text ∷ []) new
+unfolding replayed_more
+replaying_more records text batch old mid new was is follows entries last made inserts adds = record {
+  is = replayed_more records text batch old mid new was.is is follows entries last inserts;
+  places = omega (arith, made, was.places, adds.places, length-placed batch.first batch.items);
+  memory =
+      let all = all_entries was.is.read.batches in
+      let items = placed batch.first batch.items in
+      let before : memory_of_entries mid.kept.entries ≡ memory_of_entries all = ap memory_of_entries entries ∙ was.memory in
+      let split : memory_of_entries (all_entries (was.is.read.batches ++ batch ∷ [])) ≡ memory_of_entries all + (64 * length items + sum_by (λ entry. length (entry_key entry)) items) =
+      ap memory_of_entries (all_more was.is.read.batches batch) ∙ memory_append all items in
+      adds.grows.memory ∙ ap (λ n. n + (64 * length items + sum_by (λ entry. length (entry_key entry)) items)) before ∙ sym split;
+}
+
 -- ---- refusals
 
 -- a refusal with this code, for a reason
@@ -138,6 +179,31 @@ not_batches all front text rest status split why =
     (λ (memory : IsOutOfMemory status). inl memory)
     (λ (bad : (status.code ≡ Corruption) × (IsBatch text → ⊥)). inr (record { code = bad.0; none = λ are. bad.1 (each_is_batch front text rest (subst AreBatches split are)) }))
     why
+
+-- the same of the record that is read next
+pub unread_batch : {Many : Type 0} (all front : List (List ℕ)) (text : List ℕ) (rest : List (List ℕ)) (status : Status) → all ≡ front ++ text ∷ rest
+    → IsOutOfMemory status ⊎ ((status.code ≡ Corruption) × (IsBatch text → ⊥)) → IsOutOfMemory status ⊎ IsDamaged all status ⊎ Many
+unread_batch all front text rest status split why =
+    ⊎_elim (λ memory. inl memory) (λ is. inr (inl is)) (not_batches all front text rest status split why)
+
+-- a batch that is too much for a memtable
+pub too_many : (all front : List (List ℕ)) (text : List ℕ) (rest : List (List ℕ)) (status : Status) (recent : Numbered) (batch : Batch) → all ≡ front ++ text ∷ rest
+    → Replaying front recent → IsRecordOf text batch → FailsToPrepare recent.kept (length batch.items) (bytes_in batch.items) status
+    → IsOutOfMemory status ⊎ IsDamaged all status ⊎ ((status.code ≡ NotSupported) × AreTooMany all)
+too_many all front text rest status recent batch split was is (inl full) = inr (inr (
+  full.0,
+  record {
+    front = front;
+    text = text;
+    back = rest;
+    are = split;
+    read = was.is.read;
+    batch = batch;
+    is = is;
+    past = let past = full.1 in omega (arith, past, was.places, was.memory);
+  },
+))
+too_many all front text rest status recent batch split was is (inr memory) = inl memory
 
 -- a batch that doesn't follow those before it
 pub not_in_order : (all front : List (List ℕ)) (text : List ℕ) (rest : List (List ℕ)) (status : Status) (recent : Numbered) (last : ℕ) (batch : Batch) → all ≡ front ++ text ∷ rest

@@ -16,6 +16,7 @@ pub data Cause : Type 0 where
   bad_operand : Cause
   store_exists : Cause
   used_up : Cause
+  too_large : Cause
   coder_failed : Cause
 
 -- what befell a call: how many calls of the device had failed before it and by its end, and the codes that coders answered in it
@@ -89,6 +90,12 @@ TakesMemory (release_snapshot one) = ⊥
 TakesMemory abandon = ⊥
 TakesMemory _ = Unit {0}
 
+-- requests that put entries into memory
+abbrev pub FillsMemory : Request → Type 0
+FillsMemory (open_store opening) = Unit {0}
+FillsMemory (write items sync) = Unit {0}
+FillsMemory _ = ⊥
+
 -- requests that reach the device
 abbrev pub ReachesDevice : Request → Type 0
 ReachesDevice get_snapshot = ⊥
@@ -104,7 +111,8 @@ ReachesBlocks (walk at moves) = Unit {0}
 ReachesBlocks (compact_range from to) = Unit {0}
 ReachesBlocks _ = ⊥
 
--- When a cause comes, and which code and text it has; damage is no cause, since the disk is whole.
+-- When a cause comes, and which code and text it has; damage is no cause, since the disk is whole. How much memory the entries take that
+-- are too large isn't in the state: the engine's clauses say it (`IsFull`, `IsTooLarge`).
 abbrev pub Comes : Faults → State → Request → Refusal → Cause → Type 0
 Comes faults old request refusal out_of_memory = TakesMemory request × (refusal.code ≡ OutOfMemory) × (refusal.text ≡ [])
 Comes faults old request refusal device_failed = ReachesDevice request × HasFailed faults.before faults.after
@@ -112,6 +120,7 @@ Comes faults old request refusal lock_is_held = TakesLock request × (refusal.co
 Comes faults old request refusal bad_operand = (refusal.code ≡ InvalidArgument) × Misfits old request
 Comes faults old request refusal store_exists = (refusal.code ≡ AlreadyExists) × Exists old request
 Comes faults old request refusal used_up = (refusal.code ≡ NotSupported) × IsUsedUp old request
+Comes faults old request refusal too_large = FillsMemory request × (refusal.code ≡ NotSupported)
 Comes faults old request refusal coder_failed = ReachesBlocks request × Contains faults.coders refusal.code
 
 -- the same of a move of a walk, which has an operand of its own; a reset is never refused

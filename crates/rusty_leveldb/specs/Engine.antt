@@ -15,7 +15,8 @@ use Rattle.rusty_leveldb.specs.declared.db_impl.engine.Mode.TheVariants.{Open, B
 use Rattle.rusty_leveldb.specs.declared.db_impl.engine.Engine.{Engine}
 use Rattle.leveldb_version.specs.Paths.{lock_path}
 use Rattle.rusty_leveldb.specs.OneLog.{log_path}
-use Rattle.rusty_leveldb.specs.Recent.{AreUsedUp}
+use Rattle.rusty_leveldb.specs.Recent.{AreUsedUp, IsFull}
+use Rattle.rusty_leveldb.specs.Replay.{IsLargeLog}
 use Rattle.rusty_leveldb.specs.State as machine
 use Rattle.rusty_leveldb.specs.State.{State, Opening, Request, Answer, open_mode, closed}
 use Rattle.rusty_leveldb.specs.Causes.{IsLongKey, IsLongBatch}
@@ -113,10 +114,11 @@ module _ {E C FP F I : Type 0} {D : I → Type 0} (env : Ghosts E F) where
       × ((env.observed at).disk.files (env.name_of engine.log) ≡ None)
       × (env.failures now ≡ env.failures at))
 
-  -- why a write may fail where the device didn't: the store is closed or broken, the batch is too long, no numbers are left, or the log vanished
+  -- why a write may fail where the device didn't: the store is closed or broken, the batch is too long, no numbers are left, its entries are too many in memory, or the log vanished
   abbrev pub WriteExcused : Engine E C FP F I D → E → E → List Item → Status → Type 0
   WriteExcused engine at now items e = ShutOut engine.mode e ⊎ ShutDown engine.mode engine.writer e
-      ⊎ ((e.code ≡ InvalidArgument) × IsLongBatch items) ⊎ ((e.code ≡ NotSupported) × AreUsedUp engine.recent.last (length items)) ⊎ LogExcused engine at now e
+      ⊎ ((e.code ≡ InvalidArgument) × IsLongBatch items) ⊎ ((e.code ≡ NotSupported) × (AreUsedUp engine.recent.last (length items)
+      ⊎ (IsFull engine.recent.kept items × (env.failures now ≡ env.failures at)))) ⊎ LogExcused engine at now e
 
   -- why a flush may fail where the device didn't: the store is closed or broken, or the log vanished
   abbrev pub SyncExcused : Engine E C FP F I D → E → E → Status → Type 0
@@ -151,3 +153,4 @@ OpenExcused models_disk name create_if_missing told e = IsOutOfMemory e
     ⊎ ((e.code ≡ InvalidArgument) × (create_if_missing ≡ false) × (IsTrue models_disk → told.disk.files (log_path name) ≡ None))
     ⊎ ((e.code ≡ LockError) × (IsTrue models_disk → told.disk.locked (lock_path name) ≡ true))
     ⊎ ((e.code ≡ Corruption) × (IsTrue models_disk → IsUnreadable (Reads name) told.disk.files))
+    ⊎ IsLargeLog models_disk (told.disk.files (log_path name)) e

@@ -1,10 +1,10 @@
 -- The entries that a store has in memory, and the number of the last.
-use Rattle.std.specs.Prelude.{◌≡◌, ◌≤◌, ◌<◌, ◌+◌, ℕ, List, Option, max, option_copied}
+use Rattle.std.specs.Prelude.{◌≡◌, ◌≤◌, ◌<◌, ◌+◌, ◌*◌, ◌^◌, ℕ, List, length, Option, max, option_copied}
 use Rattle.std.specs.Option.{option_map}
 use Rattle.std.specs.Borrow.{Bor}
-use Rattle.leveldb_base.specs.History.{placed, greatest}
+use Rattle.leveldb_base.specs.History.{Item, placed, greatest}
 use Rattle.leveldb_mem.specs.WriteBatch.{Batch}
-use Rattle.leveldb_mem.specs.MemTable.{Kept, IsUnion}
+use Rattle.leveldb_mem.specs.MemTable.{Kept, IsUnion, memory_of_entries, bytes_in}
 use Rattle.rusty_leveldb.specs.OneLog.{max_sequence}
 
 -- what a look-up lends: a value or a deletion, or that there is none
@@ -26,6 +26,10 @@ pub record Follows (last : ℕ) (batch : Batch) : Type 0 where
 pub record Inserts (old : Numbered) (batch : Batch) (new : Numbered) : Type 0 where
   pub gains : IsUnion old.kept.entries (placed batch.first batch.items) new.kept.entries
   pub last : new.last ≡ max old.last (greatest (placed batch.first batch.items))
+
+-- with these items, the entries in memory and those for which there is room count for 2^31 bytes at least
+abbrev pub IsFull : Kept → List Item → Type 0
+IsFull kept items = 2 ^ 31 ≤ memory_of_entries kept.entries + (64 * (kept.places + length items) + bytes_in items)
 
 -- so many entries don't fit behind the last number, or not even an empty batch's first number does
 abbrev pub AreUsedUp : ℕ → ℕ → Type 0

@@ -1,9 +1,12 @@
 -- What the records of a store's log say, one batch after another.
-use Rattle.std.specs.Prelude.{◌≡◌, ◌↔◌, ℕ, List, Contains}
+use Rattle.std.specs.Prelude.{◌≡◌, ◌↔◌, ◌≤◌, ◌+◌, ◌*◌, ◌^◌, ◌⊎◌, ℕ, Bool, List, ◌∷◌, ◌++◌, length, Option, Contains, IsSomeAnd, IsTrue}
 use Rattle.leveldb_base.specs.declared.error.Status.{Status}
-use Rattle.leveldb_base.specs.declared.error.StatusCode.TheVariants.{Corruption}
+use Rattle.leveldb_base.specs.declared.error.StatusCode.TheVariants.{Corruption, NotSupported}
 use Rattle.leveldb_base.specs.History.{Entry, greatest}
+use Rattle.leveldb_env.specs.Env.{File, bytes_of}
+use Rattle.leveldb_mem.specs.Log.{End, IsLogFile}
 use Rattle.leveldb_mem.specs.WriteBatch.{Batch}
+use Rattle.leveldb_mem.specs.MemTable.{memory_of_entries, bytes_in}
 use Rattle.rusty_leveldb.specs.OneLog.{Each, IsRecordOf, AreInOrder, all_entries}
 use Rattle.rusty_leveldb.specs.Recent.{Numbered}
 
@@ -23,3 +26,23 @@ pub record IsReplayed (records : List (List ℕ)) (recent : Numbered) : Type 0 w
 pub record IsDamaged (records : List (List ℕ)) (status : Status) : Type 0 where
   pub code : status.code ≡ Corruption
   pub none : AreBatches records → ⊥
+
+-- With the entries of the batches before it, those of a record's batch count for 2^31 bytes of memory at least.
+pub record AreTooMany (records : List (List ℕ)) : Type 0 where
+  pub front : List (List ℕ)
+  pub text : List ℕ
+  pub back : List (List ℕ)
+  pub are : records ≡ front ++ text ∷ back
+  pub read : AreBatches front
+  pub batch : Batch
+  pub is : IsRecordOf text batch
+  pub past : 2 ^ 31 ≤ memory_of_entries (all_entries read.batches) + (64 * length batch.items + bytes_in batch.items)
+
+-- a log's file has 2^64 bytes, or its entries are too many for a memtable
+abbrev pub IsTooLarge : Option File → Type 0
+IsTooLarge was = IsSomeAnd was (λ file. (2 ^ 64 ≤ length (bytes_of file))
+    ⊎ ((records : List (List ℕ)) × (end : End) × IsLogFile (bytes_of file) records end × AreTooMany records))
+
+-- the log of a disk that is modelled is too large
+abbrev pub IsLargeLog : Bool → Option File → Status → Type 0
+IsLargeLog models_disk was e = (e.code ≡ NotSupported) × (IsTrue models_disk → IsTooLarge was)

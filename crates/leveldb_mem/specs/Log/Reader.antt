@@ -1,11 +1,15 @@
 -- A reader of a log, and what its calls find.
-use Rattle.std.specs.Prelude.{◌≡◌, Ok, length, IfOk, IfErr, IsErrAnd, OnErr, ℕ, Bool, true, false, List, [], ◌++◌, Result, codes, string_bytes, IfSome, ◌<◌, ◌≤◌}
+use Rattle.std.specs.Prelude.{◌≡◌, Ok, length, IfOk, IfErr, IsErrAnd, OnErr, ℕ, Bool, true, false}
+use Rattle.std.specs.Prelude.{List, [], ◌++◌, Result, codes, string_bytes, IfSome, ◌⊎◌, ◌^◌, ◌<◌}
+use Rattle.std.specs.Prelude.{◌≤◌}
 use Rattle.leveldb_base.specs.declared.error.Status.{Status}
-use Rattle.leveldb_base.specs.declared.error.StatusCode.TheVariants.{Corruption}
+use Rattle.leveldb_base.specs.declared.error.StatusCode.TheVariants.{Corruption, NotSupported}
 use Rattle.leveldb_env.specs.Source.{GivesSome, GivesAll, GivesUp}
 use Rattle.leveldb_mem.specs.declared.log.reader.Found.{Found}
-use Rattle.leveldb_mem.specs.declared.log.reader.Found.TheVariants.{Record, End, WrongChecksum, Damage}
-use Rattle.leveldb_mem.specs.Log.{offset_after, IsRecord, clean, bad, Ends, LogOf, BreaksOff, IsBlockSize}
+use Rattle.leveldb_mem.specs.declared.log.reader.Found.TheVariants.{Record, End, WrongChecksum}
+use Rattle.leveldb_mem.specs.declared.log.reader.Found.TheVariants.{Damage}
+use Rattle.leveldb_mem.specs.Log.{offset_after, IsRecord, clean, bad, Ends, LogOf, BreaksOff}
+use Rattle.leveldb_mem.specs.Log.{IsBlockSize}
 
 -- a reader of a log
 pub record ReaderState : Type 0 where
@@ -22,15 +26,18 @@ pub record ReaderState : Type 0 where
 
 -- a reader at a log's start
 abbrev pub new_reader : Bool → ℕ → ReaderState
-new_reader checked size = record { checked = checked; size = size; offset = 0; unread = []; failed = false }
+new_reader checked size =
+    record { checked = checked; size = size; offset = 0; unread = []; failed = false }
 
 -- a reader after a front of the bytes, with these still to be read
 abbrev pub after_front : ReaderState → List ℕ → List ℕ → ReaderState
-after_front reader front unread = record reader { offset = offset_after reader.size reader.offset front; unread = unread }
+after_front reader front unread =
+    record reader { offset = offset_after reader.size reader.offset front; unread = unread }
 
 -- no front of the bytes breaks off with a wrong checksum
 abbrev pub NeverBreaks : ℕ → Bool → ℕ → List ℕ → Type 0
-NeverBreaks size first offset bytes = (front more : List ℕ) → bytes ≡ front ++ more → BreaksOff size first offset front → ⊥
+NeverBreaks size first offset bytes = (front more : List ℕ) → bytes ≡ front ++ more
+    → BreaksOff size first offset front → ⊥
 
 -- from this offset on the bytes are no record, for another cause than a wrong checksum
 pub record IsTorn (checked : Bool) (size offset : ℕ) (bytes : List ℕ) : Type 0 where
@@ -49,7 +56,8 @@ IsDamage found = ⊥
 
 module _ {S : Type 0} where
   -- first these bytes come that are still to be read, and then what reads of the source gave
-  pub record IsUnreadThenGiven (Gives : S → List ℕ → S → Type 0) (unread : List ℕ) (source : S) (bytes : List ℕ) (to : S) : Type 0 where
+  pub record IsUnreadThenGiven (Gives : S → List ℕ → S → Type 0) (unread : List ℕ) (source : S)
+      (bytes : List ℕ) (to : S) : Type 0 where
     pub given : List ℕ
     pub reads : Gives source given to
     pub bytes_are : bytes ≡ unread ++ given
@@ -57,11 +65,26 @@ module _ {S : Type 0} where
 module _ {S : Type 0} (gives : S → ℕ → Result (List ℕ) Status → S → Type 0) where
   -- All that comes up to the source's end is so: the end was reached, or it is so whatever follows.
   pub data HoldsOfRest (P : List ℕ → Type 0) (unread : List ℕ) (source to : S) : Type 0 where
-    at_end : (bytes : List ℕ) → IsUnreadThenGiven (GivesAll gives) unread source bytes to → P bytes → HoldsOfRest P unread source to
-    whatever_follows : (bytes : List ℕ) → IsUnreadThenGiven (GivesSome gives) unread source bytes to → ((more : List ℕ) → P (bytes ++ more)) → HoldsOfRest P unread source to
+    at_end : (bytes : List ℕ) → IsUnreadThenGiven (GivesAll gives) unread source bytes to → P bytes
+        → HoldsOfRest P unread source to
+    whatever_follows : (bytes : List ℕ)
+        → IsUnreadThenGiven (GivesSome gives) unread source bytes to
+        → ((more : List ℕ) → P (bytes ++ more)) → HoldsOfRest P unread source to
+
+  -- reads gave 2^64 bytes of one record, whose fragments aren't counted further
+  pub record GivesTooMuch (from : S) (status : Status) (to : S) : Type 0 where
+    pub code : status.code ≡ NotSupported
+    pub bytes : List ℕ
+    pub given_before : GivesSome gives from bytes to
+    pub many : 2 ^ 64 ≤ length bytes
+
+  -- why a reading stops before it finds what comes next
+  abbrev pub StopsReading : S → Status → S → Type 0
+  StopsReading from status to = GivesUp gives from status to ⊎ GivesTooMuch from status to
 
   -- a record comes next, and was read
-  pub record FindsRecord (old : ReaderState) (source : S) (text : List ℕ) (new : ReaderState) (to : S) : Type 0 where
+  pub record FindsRecord (old : ReaderState) (source : S) (text : List ℕ) (new : ReaderState)
+      (to : S) : Type 0 where
     pub front : List ℕ
     pub come : IsUnreadThenGiven (GivesSome gives) old.unread source (front ++ new.unread) to
     pub is_record : IsRecord old.checked old.size text old.offset front
@@ -73,7 +96,8 @@ module _ {S : Type 0} (gives : S → ℕ → Result (List ℕ) Status → S → 
     pub reader : new ≡ old
 
   -- what comes next breaks off with a wrong checksum, and the fragment that has it was passed
-  pub record FindsWrongChecksum (old : ReaderState) (source : S) (new : ReaderState) (to : S) : Type 0 where
+  pub record FindsWrongChecksum (old : ReaderState) (source : S) (new : ReaderState) (to : S)
+      : Type 0 where
     pub front : List ℕ
     pub asked : old.checked ≡ true
     pub come : IsUnreadThenGiven (GivesSome gives) old.unread source (front ++ new.unread) to
@@ -85,7 +109,8 @@ module _ {S : Type 0} (gives : S → ℕ → Result (List ℕ) Status → S → 
   FindsNext Record old source text new to = FindsRecord old source text new to
   FindsNext End old source text new to = FindsEnd old source new to × (text ≡ [])
   FindsNext WrongChecksum old source text new to = FindsWrongChecksum old source new to
-  FindsNext (Damage cause) old source text new to = HoldsOfRest (IsTorn old.checked old.size old.offset) old.unread source to
+  FindsNext (Damage cause) old source text new to =
+      HoldsOfRest (IsTorn old.checked old.size old.offset) old.unread source to
 
   -- why a read failed, and what that leaves
   pub data FailsToRead (old : ReaderState) (source : S) (status : Status)
@@ -97,8 +122,11 @@ module _ {S : Type 0} (gives : S → ℕ → Result (List ℕ) Status → S → 
         → new.failed ≡ true → FailsToRead old source status new to
     given_up : GivesUp gives source status to → new.failed ≡ true
         → FailsToRead old source status new to
+    too_long : GivesTooMuch source status to → new.failed ≡ true
+        → FailsToRead old source status new to
 
-  -- what reading a record returns, and what it leaves: of the target, only what is in it after the call
+  -- what reading a record returns, and what it leaves: of the target, only what is in it after the
+  -- call
   pub record ReadResult (old : ReaderState) (source : S) (result : Result ℕ Status)
       (text : List ℕ) (new : ReaderState) (to : S) : Type 0 where
     -- the length of the record
@@ -114,12 +142,14 @@ module _ {S : Type 0} (gives : S → ℕ → Result (List ℕ) Status → S → 
     -- no part of a record is left in the target
     pub cleared : OnErr result (text ≡ [])
 
-  -- So far these records were read, from the log's start on, and what the reader still has to read comes after them.
-  pub record ReadSoFar (checked : Bool) (size : ℕ) (from : S) (records : List (List ℕ)) (now : ReaderState) (at : S) : Type 0 where
+  -- So far these records were read, from the log's start on, and what the reader still has to read
+  -- comes after them.
+  pub record ReadSoFar (checked : Bool) (size : ℕ) (from : S) (records : List (List ℕ))
+      (now : ReaderState) (at : S) : Type 0 where
     pub front : List ℕ
     pub come : IsUnreadThenGiven (GivesSome gives) [] from (front ++ now.unread) at
     pub log : LogOf checked size records clean 0 front
-    pub reader : now ≡ record { checked = checked; size = size; offset = offset_after size 0 front; unread = now.unread; failed = false }
+    pub reader : now ≡ after_front (new_reader checked size) front now.unread
 
 -- ---- how the block is held
 

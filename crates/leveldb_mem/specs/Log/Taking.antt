@@ -1,13 +1,16 @@
 -- How a reader takes the next fragment.
-use Rattle.std.specs.Prelude.{◌≡◌, ◌≢◌, ◌+◌, ◌*◌, ℕ, true, false, List, [], ◌++◌, take, drop, slice_index, Result}
+use Rattle.std.specs.Prelude.{◌≡◌, ◌≢◌, ◌+◌, ◌*◌, ℕ, true, false, List, [], ◌++◌, take, drop}
+use Rattle.std.specs.Prelude.{slice_index, Result}
 use Rattle.leveldb_base.specs.declared.error.Status.{Status}
 use Rattle.leveldb_base.specs.Crc.{crc_of, masked}
 use Rattle.leveldb_base.specs.Varint.{little}
 use Rattle.leveldb_env.specs.Source.{GivesSome}
 use Rattle.leveldb_mem.specs.declared.log.reader.Taken.{Taken}
-use Rattle.leveldb_mem.specs.declared.log.reader.Taken.TheVariants.{End, Part, WrongChecksum, Damage}
+use Rattle.leveldb_mem.specs.declared.log.reader.Taken.TheVariants.{End, Part, WrongChecksum}
+use Rattle.leveldb_mem.specs.declared.log.reader.Taken.TheVariants.{Damage}
 use Rattle.leveldb_mem.specs.Log.{filler, IsFragment, IsDamaged, Fragment, fragment_of, NoFragment}
-use Rattle.leveldb_mem.specs.Log.Reader.{ReaderState, after_front, IsUnreadThenGiven, HoldsOfRest, FindsEnd}
+use Rattle.leveldb_mem.specs.Log.Reader.{ReaderState, after_front, IsUnreadThenGiven, HoldsOfRest}
+use Rattle.leveldb_mem.specs.Log.Reader.{FindsEnd}
 
 -- how long a header says that its data is
 abbrev pub declared_length : List ℕ → ℕ
@@ -23,7 +26,8 @@ pub record IsNoFragment (size offset : ℕ) (bytes : List ℕ) : Type 0 where
   pub none : NoFragment false size offset bytes
 
 -- a fragment that is at the front is passed, and its data is appended to the text
-pub record PassesPart (old : ReaderState) (text : List ℕ) (type : ℕ) (new : ReaderState) (text_after : List ℕ) : Type 0 where
+pub record PassesPart (old : ReaderState) (text : List ℕ) (type : ℕ) (new : ReaderState)
+    (text_after : List ℕ) : Type 0 where
   pub front : List ℕ
   pub part : List ℕ
   pub unread : old.unread ≡ front ++ new.unread
@@ -52,25 +56,32 @@ with_unread reader bytes = record reader { unread = bytes }
 
 module _ {S : Type 0} (gives : S → ℕ → Result (List ℕ) Status → S → Type 0) where
   -- filler comes, and is passed
-  pub record SkipsFiller (old : ReaderState) (source : S) (new : ReaderState) (to : S) : Type 0 where
-    pub come : IsUnreadThenGiven (GivesSome gives) old.unread source (filler old.size old.offset ++ new.unread) to
+  pub record SkipsFiller (old : ReaderState) (source : S) (new : ReaderState) (to : S)
+      : Type 0 where
+    pub come : IsUnreadThenGiven (GivesSome gives) old.unread source
+        (filler old.size old.offset ++ new.unread) to
     pub reader : new ≡ record old { offset = 0; unread = new.unread }
 
   -- a fragment comes, and is passed
-  pub record TakesPart (old : ReaderState) (source : S) (text : List ℕ) (type : ℕ) (new : ReaderState) (to : S) (text_after : List ℕ) : Type 0 where
+  pub record TakesPart (old : ReaderState) (source : S) (text : List ℕ) (type : ℕ)
+      (new : ReaderState) (to : S) (text_after : List ℕ) : Type 0 where
     pub bytes : List ℕ
     pub come : IsUnreadThenGiven (GivesSome gives) old.unread source bytes to
     pub passes : PassesPart (with_unread old bytes) text type new text_after
 
   -- a fragment with a wrong checksum comes, and is passed
-  pub record TakesDamaged (old : ReaderState) (source : S) (new : ReaderState) (to : S) : Type 0 where
+  pub record TakesDamaged (old : ReaderState) (source : S) (new : ReaderState) (to : S)
+      : Type 0 where
     pub bytes : List ℕ
     pub come : IsUnreadThenGiven (GivesSome gives) old.unread source bytes to
     pub passes : PassesDamaged (with_unread old bytes) new
 
   -- what comes next, by what is returned
   abbrev pub TakesNext : Taken → ReaderState → S → List ℕ → ReaderState → S → List ℕ → Type 0
-  TakesNext End old source text new to text_after = FindsEnd gives old source new to × (text_after ≡ text)
-  TakesNext (Part type) old source text new to text_after = TakesPart old source text type new to text_after
+  TakesNext End old source text new to text_after =
+      FindsEnd gives old source new to × (text_after ≡ text)
+  TakesNext (Part type) old source text new to text_after =
+      TakesPart old source text type new to text_after
   TakesNext WrongChecksum old source text new to text_after = TakesDamaged old source new to
-  TakesNext (Damage cause) old source text new to text_after = HoldsOfRest gives (IsNoFragment old.size old.offset) old.unread source to
+  TakesNext (Damage cause) old source text new to text_after =
+      HoldsOfRest gives (IsNoFragment old.size old.offset) old.unread source to

@@ -1,5 +1,7 @@
 -- A writer of a log, and what its calls do to it and to its sink.
-use Rattle.std.specs.Prelude.{◌≡◌, ◌≢◌, ◌⊎◌, ℕ, Bool, true, List, [], length, Result, Ok, Err, codes, string_bytes, IfSome, IfOk, IfErr, IsErrAnd, OnOk, OnErr, false}
+use Rattle.std.specs.Prelude.{◌≡◌, ◌≢◌, ◌⊎◌, ℕ, Bool, true, List, [], length, Result, Ok, Err}
+use Rattle.std.specs.Prelude.{codes, string_bytes, IfSome, IfOk, IfErr, IsErrAnd, OnOk, OnErr}
+use Rattle.std.specs.Prelude.{false}
 use Rattle.leveldb_base.specs.declared.error.Status.{Status}
 use Rattle.leveldb_base.specs.declared.error.StatusCode.TheVariants.{IOError}
 use Rattle.leveldb_base.specs.Error.{IsOutOfMemory}
@@ -29,20 +31,22 @@ frame writer text = framed_record writer.size text writer.offset
 
 -- a writer after the framing of a record
 abbrev pub after_frame : WriterState → List ℕ → WriterState
-after_frame writer text = record writer { offset = offset_after writer.size writer.offset (frame writer text) }
+after_frame writer text =
+    record writer { offset = offset_after writer.size writer.offset (frame writer text) }
 
 -- a writer after a call that failed in the sink
 abbrev pub broken_writer : WriterState → WriterState
 broken_writer writer = record writer { broken = true }
 
 -- writer and sink stay as they were
-pub record SameWriterAndSink {S : Type 0} (old : WriterState) (sink : S) (new : WriterState) (sink_after : S) : Type 0 where
+pub record SameWriterAndSink {S : Type 0} (old : WriterState) (sink : S) (new : WriterState)
+    (sink_after : S) : Type 0 where
   pub same_writer : new ≡ old
   pub same_sink : sink_after ≡ sink
 
 module _ {S : Type 0} (puts : S → List ℕ → Result (Unit {0}) Status → S → Type 0) where
-  -- A record was added, and its framing has `count` bytes: it was put into the sink in one piece. An
-  -- empty record puts nothing.
+  -- A record was added, and its framing has `count` bytes: it was put into the sink in one piece.
+  -- An empty record puts nothing.
   pub record AddsRecord (old : WriterState) (sink : S) (text : List ℕ) (count : ℕ)
       (new : WriterState) (sink_after : S) : Type 0 where
     pub counted : count ≡ length (frame old text)
@@ -64,9 +68,11 @@ module _ {S : Type 0} (puts : S → List ℕ → Result (Unit {0}) Status → S 
     -- the record was added, and the length of its framing is returned
     pub ok : IfOk result (λ count. AddsRecord old sink text count new sink_after)
     -- else memory was out, or the sink failed
-    pub err : old.broken ≡ false → IfErr result (λ status. FailsToAdd old sink text status new sink_after)
+    pub err : old.broken ≡ false
+        → IfErr result (λ status. FailsToAdd old sink text status new sink_after)
     -- a broken writer does nothing
-    pub broken : old.broken ≡ true → IsErrAnd result IsBroken × SameWriterAndSink old sink new sink_after
+    pub broken : old.broken ≡ true → IsErrAnd result IsBroken
+        × SameWriterAndSink old sink new sink_after
 
 module _ {S : Type 0} (flushes : S → Result (Unit {0}) Status → S → Type 0) where
   -- the sink was flushed, and an error of it breaks the writer
@@ -81,4 +87,5 @@ module _ {S : Type 0} (flushes : S → Result (Unit {0}) Status → S → Type 0
       (new : WriterState) (sink_after : S) : Type 0 where
     pub usable : old.broken ≡ false → Flushes old sink result new sink_after
     -- a broken writer does nothing
-    pub broken : old.broken ≡ true → IsErrAnd result IsBroken × SameWriterAndSink old sink new sink_after
+    pub broken : old.broken ≡ true → IsErrAnd result IsBroken
+        × SameWriterAndSink old sink new sink_after

@@ -1,11 +1,20 @@
 //! The reader of a log: it joins fragments to records.
-ghost use Rattle.std.specs.Prelude.{◌≡◌, ◌≢◌, ◌↔◌, ℕ, ◌+◌, ◌-◌, ◌*◌, ◌%◌, ◌≤◌, ◌<◌, true, false, [], take, drop, length, slice_index, slice_range, vec_len, List, IfOk, OnOk, IfErr, IfSome, IsErrAnd, IsTrue, MatchOption, All, string_bytes, map, if◌then◌else◌};
+ghost use Rattle.std.specs.Prelude.{◌≡◌, ◌≢◌, ◌↔◌, ℕ, ◌+◌, ◌-◌, ◌*◌, ◌%◌, ◌≤◌, ◌<◌, true, false};
+ghost use Rattle.std.specs.Prelude.{[], take};
+ghost use Rattle.std.specs.Prelude.{drop, length, slice_index, slice_range, vec_len, List, IfOk};
+ghost use Rattle.std.specs.Prelude.{OnOk};
+ghost use Rattle.std.specs.Prelude.{IfErr, IfSome, IsErrAnd, IsTrue, MatchOption, All};
+ghost use Rattle.std.specs.Prelude.{string_bytes, map};
+ghost use Rattle.std.specs.Prelude.{if◌then◌else◌};
 ghost use Rattle.leveldb_base.specs.Error.{status_text, IsOutOfMemory};
 ghost use Rattle.leveldb_base.specs.declared.error.StatusCode.TheVariants.{Corruption};
+ghost use Rattle.leveldb_base.specs.declared.error.StatusCode.TheVariants.{NotSupported};
 ghost use Rattle.leveldb_env.specs.Source.{GivesSome, GivesAll, GivesUp};
 ghost use Rattle.leveldb_mem.specs.Log.{IsBlockSize, log_block_size, clean, bad, LogOf};
-ghost use Rattle.leveldb_mem.specs.Log.Reader.{IsUnreadThenGiven, HoldsOfRest, FindsNext, IsDamage, ReadResult, new_reader};
-ghost use Rattle.leveldb_mem.specs.Log.Taking.{declared_length, HasRightChecksum, PassesFragment, TakesNext, SkipsFiller};
+ghost use Rattle.leveldb_mem.specs.Log.Reader.{IsUnreadThenGiven, HoldsOfRest, FindsNext, IsDamage};
+ghost use Rattle.leveldb_mem.specs.Log.Reader.{StopsReading, ReadResult, new_reader};
+ghost use Rattle.leveldb_mem.specs.Log.Taking.{declared_length, HasRightChecksum, PassesFragment};
+ghost use Rattle.leveldb_mem.specs.Log.Taking.{TakesNext, SkipsFiller};
 
 use super::{BLOCK_SIZE, HEADER_SIZE, type_of};
 use leveldb_base::crc::{crc32, mask_crc};
@@ -144,14 +153,14 @@ impl ReaderCore {
     /// Reads what comes next, a record into the target. If no record comes, the target holds some
     /// bytes of one, or none.
     ///
-    /// Damage other than a wrong checksum, a read of the source that fails and memory that runs out
-    /// fail the reader: every later call is `Corruption`.
+    /// Damage other than a wrong checksum, a read of the source that fails, memory that runs out
+    /// and a record of 2^64 bytes fail the reader: every later call is `Corruption`.
     pub fn next_record<S: Source>(&mut self, source: &mut S, target: &mut Vec<u8>) -> Result<Found>
         ensures found { IfOk result (λ found. FindsNext S.gives found self.old source.old
             target.new.items self.new source.new) }
         ensures damage { IfOk result (λ found. IsDamage found → self.new.failed ≡ true) }
         ensures err { self.old.failed ≡ false
-            → IfErr result (λ status. GivesUp S.gives source.old status source.new
+            → IfErr result (λ status. StopsReading S.gives source.old status source.new
             × (self.new.failed ≡ true)) }
         ensures failed { self.old.failed ≡ true
             → IsErrAnd result (λ status. status.code ≡ Corruption)
@@ -179,8 +188,8 @@ impl ReaderCore {
     /// records. After an error the target is empty.
     ///
     /// Any damage is `Corruption`. After a wrong checksum the next call goes on, as in a log of its
-    /// own. Other damage, a read of the source that fails and memory that runs out fail the reader:
-    /// every later call is `Corruption`.
+    /// own. Other damage, a read of the source that fails, memory that runs out and a record of
+    /// 2^64 bytes, which is `NotSupported`, fail the reader: every later call is `Corruption`.
     pub fn read<S: Source>(&mut self, source: &mut S, target: &mut Vec<u8>) -> Result<usize>
         ensures { ReadResult S.gives self.old source.old result target.new.items
             self.new source.new }
@@ -209,12 +218,14 @@ impl ReaderCore {
         requires empty { target.old.items ≡ [] }
         requires block { IsBlockSize self.old.size }
         requires inside { self.old.offset < self.old.size }
+        requires unread { length self.old.unread ≤ self.old.size }
         ensures ok { IfOk result (λ found. FindsNext S.gives found self.old source.old
             target.new.items self.new source.new) }
-        ensures err { IfErr result (λ status. GivesUp S.gives source.old status source.new) }
+        ensures err { IfErr result (λ status.
+            StopsReading S.gives source.old status source.new) }
     {
         let mut first = true;
-        for _ in 0..u64::MAX {
+        for taken in 0..u64::MAX {
             let kind = match self.take_fragment(source, target)? {
                 Taken::Part(kind) => kind,
                 Taken::End if first => return Ok(Found::End),
@@ -233,10 +244,18 @@ impl ReaderCore {
             }
             first = false;
         }
-        Err(Status {
-            code: StatusCode::OutOfMemory,
-            err: None,
-        })
+        self.too_long()
+    }
+
+    // The error of a record whose fragments can't be counted.
+    fn too_long<T>(&self) -> Result<T>
+        ensures { IsErrAnd result (λ status. status.code ≡ NotSupported) }
+    {
+        err(
+            *self.block.allocator(),
+            StatusCode::NotSupported,
+            "a record has less than 2^64 fragments",
+        )
     }
 
     // Takes what comes next. The data of a fragment is appended to the target.
@@ -477,7 +496,7 @@ pub fn read_records<S: Source>(
     ensures log { IfOk result (λ found. HoldsOfRest S.gives
         (LogOf check_crcs log_block_size (map (λ v. v.items) found.0.items)
         (if found.1 then clean else bad) 0) [] source.old source.new) }
-    ensures err { IfErr result (λ status. GivesUp S.gives source.old status source.new) }
+    ensures err { IfErr result (λ status. StopsReading S.gives source.old status source.new) }
 {
     let mut core = ReaderCore::new(alloc, check_crcs);
     let mut records = Vec::new(alloc);

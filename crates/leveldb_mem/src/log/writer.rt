@@ -1,7 +1,9 @@
 //! The writer of a log: it frames records and puts each into its sink in one piece.
-ghost use Rattle.std.specs.Prelude.{◌≡◌, ◌≢◌, ◌%◌, ◌<◌, ◌≤◌, ◌++◌, true, false, [], length, OnOk, IfErr};
+ghost use Rattle.std.specs.Prelude.{◌≡◌, ◌≢◌, ◌%◌, ◌<◌, ◌≤◌, ◌++◌, true, false, [], length, OnOk};
+ghost use Rattle.std.specs.Prelude.{IfErr};
 ghost use Rattle.leveldb_base.specs.Error.{IsOutOfMemory};
-ghost use Rattle.leveldb_mem.specs.Log.{IsBlockSize, log_block_size, filler, room, checksum, fragment_bytes, fragment_at, framed_record, fragment_of};
+ghost use Rattle.leveldb_mem.specs.Log.{IsBlockSize, log_block_size, filler, room, checksum};
+ghost use Rattle.leveldb_mem.specs.Log.{fragment_bytes, fragment_at, framed_record, fragment_of};
 ghost use Rattle.leveldb_mem.specs.Log.Writer.{IsBroken, AddRecordResult, FlushResult, new_writer};
 
 use super::{BLOCK_SIZE, HEADER_SIZE, type_of};

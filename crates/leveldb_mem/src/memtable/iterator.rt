@@ -4,7 +4,7 @@ ghost use Rattle.std.specs.Ordering.{is_lt};
 ghost use Rattle.std.specs.Option.{ForSome};
 ghost use Rattle.leveldb_base.specs.KeyTypes.{inner_key, internal_cmp};
 ghost use Rattle.leveldb_mem.specs.SkipMap.{HasNode, position_of};
-ghost use Rattle.leveldb_mem.specs.MemTable.{internal_pair};
+ghost use Rattle.leveldb_base.specs.Entries.{internal_pair};
 
 use crate::memtable::MemTable;
 use crate::skipmap::search::Probe;

@@ -1,16 +1,17 @@
 //! Pairs of a key and a value in a skip list, each after a path that is chosen at its insertion.
-ghost use Rattle.std.specs.Prelude.{◌≡◌, ◌+◌, ◌*◌, ◌^◌, ◌<◌, ◌≤◌, ◌⊎◌, ℕ, List, [], ◌∷◌, ◌++◌, length};
+ghost use Rattle.std.specs.Prelude.{◌≡◌, ◌+◌, ◌*◌, ◌^◌, ◌<◌, ◌≤◌, ◌⊎◌, ℕ, List, [], ◌∷◌, ◌++◌};
+ghost use Rattle.std.specs.Prelude.{length};
 ghost use Rattle.std.specs.Prelude.{take, drop, slice_index, slice_index_or, vec_len, vec_capacity};
 ghost use Rattle.std.specs.Prelude.{OnOk, OnErr, IfErr};
 ghost use Rattle.std.specs.List.{insert};
-ghost use Rattle.leveldb_base.specs.Error.{IsOutOfMemory};
-ghost use Rattle.leveldb_mem.specs.Placed.{head, head_words, rank, place_of, IsAt, IsPathTo, bytes_of};
+ghost use Rattle.leveldb_mem.specs.Placed.{head, head_words, rank, place_of, IsAt, IsPathTo};
+ghost use Rattle.leveldb_mem.specs.Placed.{bytes_of, MakesRoom};
 ghost use Rattle.leveldb_mem.specs.Searching.{key_at, count_while, IsParted};
 
 use crate::skipmap::search::Probe;
 use crate::skipmap::towers::{LINKS_AT, MAX_HEIGHT, MAX_WORDS, keep_last, link_node, node_words};
-use leveldb_base::error::{Result, Status};
-use std::alloc::{AllocError, Global};
+use leveldb_base::error::{Result, StatusCode, err};
+use std::alloc::Global;
 use std::marker::Model;
 
 /// The node before the first pair's.
@@ -61,7 +62,8 @@ impl Model for PlacedPairs {
         × (vec_len it.words + 16 * it.places ≤ vec_capacity it.words)
         × (vec_len it.words + 16 * it.places < 2 ^ 32)
         × (vec_len it.text + it.room ≤ vec_capacity it.text)
-        × (vec_len it.text + it.room < 2 ^ 32) };
+        × (vec_len it.text + it.room < 2 ^ 32)
+        × (vec_len it.words ≤ 16 * (it.count + 1)) };
 }
 
 impl PlacedPairs {
@@ -179,22 +181,17 @@ impl PlacedPairs {
         self.places
     }
 
-    /// Makes room for `places` pairs and `bytes` bytes. It fails as out of memory where 32 bits can't
+    /// Makes room for `places` pairs and `bytes` bytes. Returns `NotSupported` if 32 bits can't
     /// number them.
     pub(crate) fn reserve(&mut self, places: usize, bytes: usize) -> Result<()>
-        ensures pairs { self.new.pairs ≡ self.old.pairs }
-        ensures order { self.new.order ≡ self.old.order }
-        ensures paths { (path : List ℕ) (at : ℕ)
-            → IsPathTo self.old.words path 12 (take at self.old.order)
-            → IsPathTo self.new.words path 12 (take at self.new.order) }
-        ensures tail { self.new.tail ≡ self.old.tail }
-        ensures ok { OnOk result ((self.new.places ≡ places) × (bytes ≤ self.new.bytes)) }
-        ensures err { OnErr result (self.new.places ≡ self.old.places) }
-        ensures bytes { self.old.bytes ≤ self.new.bytes }
-        ensures cause { IfErr result IsOutOfMemory }
+        ensures { MakesRoom self.old places bytes result self.new }
     {
         if places >= (LIMIT - self.words.len()) / MAX_WORDS || bytes > LIMIT - self.text.len() {
-            return Err(Status::from(AllocError));
+            return err(
+                self.allocator(),
+                StatusCode::NotSupported,
+                "a map has less than 2^32 bytes of keys and values, and words of nodes",
+            );
         }
         self.words.reserve(MAX_WORDS * (places + 1))?;
         self.text.reserve(bytes)?;

@@ -1,5 +1,6 @@
 //! Paths to positions among a map's keys.
-ghost use Rattle.std.specs.Prelude.{◌≡◌, ◌+◌, ◌-◌, ◌⊎◌, ◌↔◌, ◌<◌, ◌≤◌, IsTrue, ℕ, Bool, true, List, []};
+ghost use Rattle.std.specs.Prelude.{◌≡◌, ◌+◌, ◌-◌, ◌⊎◌, ◌↔◌, ◌<◌, ◌≤◌, IsTrue, ℕ, Bool, true, List};
+ghost use Rattle.std.specs.Prelude.{[]};
 ghost use Rattle.std.specs.Prelude.{◌∷◌, length, take, MatchOption};
 ghost use Rattle.std.specs.Ordering.{is_lt};
 ghost use Rattle.std.specs.declared.cmp.Ordering.TheVariants.{Less, Equal};

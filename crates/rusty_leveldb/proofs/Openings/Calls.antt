@@ -1,6 +1,6 @@
 -- What the calls of an opening make of the log's file, and why they are refused.
 use Rattle.std.proofs.Common.{◌≡◌, ◌⊎◌, ◌%◌, inl, inr, ⊎_elim, ℕ, Bool, false, List, length, refl, sym, ◌∙◌, ap, subst, Option, Some, None, Result, Ok, Err}
-use Rattle.std.specs.Prelude.{if◌then◌else◌, IsTrue, OnOk}
+use Rattle.std.specs.Prelude.{if◌then◌else◌, IsTrue, IsSomeAnd, OnOk, ◌≤◌, ◌^◌, ◌∷◌, ◌++◌, []}
 use Rattle.std.specs.Option.{option_map}
 use Rattle.leveldb_base.specs.declared.error.Status.{Status}
 use Rattle.leveldb_base.specs.Error.{IsOutOfMemory}
@@ -9,8 +9,10 @@ use Rattle.leveldb_env.proofs.EnvLemmas.{Run-mono, Run-trans, at_same}
 use Rattle.leveldb_mem.specs.Log.{log_block_size, End, clean, bad}
 use Rattle.leveldb_mem.specs.Log.Writer.{WriterState}
 use Rattle.rusty_leveldb.specs.Recent.{Numbered}
-use Rattle.rusty_leveldb.specs.Replay.{AreBatches, IsReplayed, IsDamaged}
+use Rattle.rusty_leveldb.specs.Replay.{AreBatches, IsReplayed, IsDamaged, AreTooMany, IsTooLarge, IsLargeLog}
 use Rattle.rusty_leveldb.specs.Recovery.{IsFoundAs, framed_file, kept_log, IsMadeKept, SparesLog, IsRecovered, HasCauses, IsFoundOr, IsUntold, IsNotMade, IsNoLog}
+use Rattle.leveldb_mem.specs.Log.Files.{IsHuge}
+use Rattle.leveldb_base.specs.declared.error.StatusCode.TheVariants.{NotSupported}
 use Rattle.rusty_leveldb.proofs.Openings.Logs.{mending_spares, opening_spares, opened_recovers}
 use Rattle.rusty_leveldb.proofs.Openings.Refusals.{causes_after, causes_refused, excused, damaged, untold}
 
@@ -88,23 +90,40 @@ module _ (create : Bool) (first read mended now : Observed) (name path : List �
 
 -- ---- refusals
 
+no_middle : (front : List (List ℕ)) (text : List ℕ) (back : List (List ℕ)) → [] ≡ front ++ text ∷ back → ⊥
+no_middle [] text back e = cc
+no_middle (first ∷ front) text back e = cc
+
 -- why the log is not recovered
 abbrev pub RecoveryExcused : Bool → Bool → Option File → Status → Type 0
-RecoveryExcused models_disk create was e = IsOutOfMemory e ⊎ IsNotMade models_disk create was e ⊎ IsNoLog models_disk was e
+RecoveryExcused models_disk create was e = IsOutOfMemory e ⊎ IsNotMade models_disk create was e ⊎ IsNoLog models_disk was e ⊎ IsLargeLog models_disk was e
+
+-- a file of 2^64 bytes is too large
+huge_file : (was : Option File) → IsSomeAnd was (λ file. 2 ^ 64 ≤ length (bytes_of file)) → IsTooLarge was
+huge_file None huge = huge
+huge_file (Some file) huge = inl huge
+
+-- and so is one whose entries are too many for a memtable
+many_entries : (create : Bool) (was : Option File) (records : List (List ℕ)) (end : End) → IsFoundAs create was records end → AreTooMany records → IsTooLarge was
+many_entries create None records end found many = absurd (let none : [] ≡ many.front ++ many.text ∷ many.back = sym found.1 ∙ many.are in no_middle many.front many.text many.back none)
+many_entries create (Some file) records end found many = inr (records, end, found, many)
 
 -- a reading that is refused
 pub read_refused : {T U : Type 0} (models_disk create : Bool) (files : Files) {before now : ℕ} {status : Status} (name path : List ℕ) → name ≡ path
-    → HasCauses {T = T} (λ e. IsUntold models_disk e ⊎ IsNotMade models_disk create (files name) e) before now (Err status) → HasCauses {T = U} (RecoveryExcused models_disk create (files path)) before now (Err status)
+    → HasCauses {T = T} (λ e. IsUntold models_disk e ⊎ IsNotMade models_disk create (files name) e ⊎ IsHuge models_disk (files name) e) before now (Err status) → HasCauses {T = U} (RecoveryExcused models_disk create (files path)) before now (Err status)
 read_refused {U = U} models_disk create files {before = before} {now = now} {status = status} name path named causes =
     subst (λ p. HasCauses {T = U} (RecoveryExcused models_disk create (files p)) before now (Err status)) named
     (causes_refused (causes_after (Err status) refl
-    (λ e why. ⊎_elim (λ u. ⊎_elim (λ m. inl m) (λ n. inr (inr n)) (untold models_disk (files name) e u)) (λ n. inr (inl n)) why) causes))
+    (λ e why. ⊎_elim (λ u. ⊎_elim (λ m. inl m) (λ n. inr (inr (inl n))) (untold models_disk (files name) e u))
+    (λ others. ⊎_elim (λ n. inr (inl n)) (λ huge. inr (inr (inr (huge.0, λ modelled. huge_file (files name) (huge.1 modelled))))) others) why) causes))
 
 -- a replay that is refused
 pub replay_refused : {T : Type 0} (models_disk create : Bool) (files : Files) {before now : ℕ} {status : Status} (name path : List ℕ) (texts records : List (List ℕ)) (end : End) → name ≡ path → now ≡ before
-    → records ≡ texts → (IsTrue models_disk → IsFoundAs create (files name) texts end) → IsOutOfMemory status ⊎ IsDamaged records status
+    → records ≡ texts → (IsTrue models_disk → IsFoundAs create (files name) texts end) → IsOutOfMemory status ⊎ IsDamaged records status ⊎ ((status.code ≡ NotSupported) × AreTooMany records)
     → HasCauses {T = T} (RecoveryExcused models_disk create (files path)) before now (Err status)
 replay_refused {T = T} models_disk create files {before = before} {now = now} {status = status} name path texts records end named counted same found why =
     subst (λ p. HasCauses {T = T} (RecoveryExcused models_disk create (files p)) before now (Err status)) named
     (excused counted (⊎_elim (λ m. inl m)
-    (λ is. inr (inr (damaged models_disk create (files name) texts end status found (subst (λ rs. IsDamaged rs status) same is)))) why))
+    (λ others. ⊎_elim
+    (λ is. inr (inr (inl (damaged models_disk create (files name) texts end status found (subst (λ rs. IsDamaged rs status) same is)))))
+    (λ many. inr (inr (inr (many.0, λ modelled. many_entries create (files name) texts end (found modelled) (subst AreTooMany same many.1))))) others) why))

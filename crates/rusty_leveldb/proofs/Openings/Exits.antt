@@ -12,6 +12,7 @@ use Rattle.leveldb_version.specs.Paths.{lock_path}
 use Rattle.rusty_leveldb.specs.Recent.{Numbered}
 use Rattle.rusty_leveldb.specs.Serves.{Reads, IsUnreadable, SparesOthers}
 use Rattle.rusty_leveldb.specs.Engine.{OpenExcused}
+use Rattle.rusty_leveldb.specs.Replay.{IsTooLarge, IsLargeLog}
 use Rattle.rusty_leveldb.specs.Recovery.{IsFoundAs, SparesLog, IsUnusable, NeverOpens, ChangesLogAlone, IsRecovered, HasCauses}
 use Rattle.rusty_leveldb.proofs.Others.{log_kept, others_made, others_alone, others_then, alone_same, alone_then}
 use Rattle.rusty_leveldb.proofs.Openings.Logs.{usable}
@@ -47,7 +48,7 @@ given_up_early name create from to before after e near counts causes = record {
   later = causes.later;
   ends = omega arith;
   counts = counts;
-  why = ⊎_elim (λ why. ⊎_elim (λ m. inl m) (λ early. inr (inl (early, log_kept name from.files to.files near.files))) why) (λ counted. inr (inr (inr counted))) causes.cause;
+  why = ⊎_elim (λ why. ⊎_elim (λ m. inl m) (λ early. inr (inl (early, log_kept name from.files to.files near.files))) why) (λ counted. inr (inr (inr (inr counted)))) causes.cause;
 }
 
 -- the folder is made
@@ -131,11 +132,13 @@ module _ (name lock : List ℕ) (create : Bool) (from taken kept to : Disk) (bef
       (λ made. absurd (cc (sym (subst (λ w. IsFoundAs create w made.0 made.1) gone made.2).0 ∙ makes_none))) log
 
   reasons : IsOutOfMemory e ⊎ (IsEarlyWhy name create from e × (to.files (log_path name) ≡ from.files (log_path name))) ⊎ ((e.code ≡ Corruption) × IsUnreadable (Reads name) from.files)
-      ⊎ (before < mid) ⊎ (before ≡ 2 ^ 64 - 1)
+      ⊎ IsLargeLog true (from.files (log_path name)) e ⊎ (before < mid) ⊎ (before ≡ 2 ^ 64 - 1)
   reasons = ⊎_elim (λ excused. ⊎_elim (λ m. inl m) (λ others. ⊎_elim
       (λ unmade. inr (inl (inr (inl (unmade.0, unmade.1, sym took.log ∙ unmade.2 modelled)), same_log unmade.1 (unmade.2 modelled))))
-      (λ damage. inr (inr (inl (damage.0, λ contents read. damage.1 modelled contents (subst (λ w. IsRead w contents) (sym took.log) read))))) others) excused)
-      (λ counted. inr (inr (inr counted))) causes.cause
+      (λ others. ⊎_elim
+      (λ damage. inr (inr (inl (damage.0, λ contents read. damage.1 modelled contents (subst (λ w. IsRead w contents) (sym took.log) read)))))
+      (λ large. inr (inr (inr (inl (large.0, λ _. subst IsTooLarge took.log (large.1 modelled)))))) others) others) excused)
+      (λ counted. inr (inr (inr (inr counted)))) causes.cause
 
   -- where no store is opened, the lock's file was made at most
   untouched : NeverOpens name create from → BeforeOrAfter (created (lock_path name)) from.files to.files
@@ -182,6 +185,8 @@ late_causes name create models_disk from taken {before = before} {start = start}
   ok = tt;
   cause = ⊎_elim (λ excused. inl (⊎_elim (λ m. inl m) (λ others. ⊎_elim
       (λ unmade. inr (inr (inl (unmade.0, unmade.1, λ modelled. sym (same_log modelled) ∙ unmade.2 modelled))))
-      (λ damage. inr (inr (inr (inr (damage.0, λ modelled contents read. damage.1 modelled contents (subst (λ w. IsRead w contents) (sym (same_log modelled)) read)))))) others) excused))
+      (λ others. ⊎_elim
+      (λ damage. inr (inr (inr (inr (inl (damage.0, λ modelled contents read. damage.1 modelled contents (subst (λ w. IsRead w contents) (sym (same_log modelled)) read)))))))
+      (λ large. inr (inr (inr (inr (inr (large.0, λ modelled. subst IsTooLarge (same_log modelled) (large.1 modelled))))))) others) others) excused))
       (λ others. inr (⊎_elim (λ (more : start < mid). inl (omega (arith, counted, more, ended))) (λ full. inr (sym counted ∙ full)) others)) causes.cause;
 }

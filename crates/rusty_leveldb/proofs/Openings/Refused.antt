@@ -11,10 +11,11 @@ use Rattle.leveldb_version.specs.Contents.{Store, made, Contents, no_contents}
 use Rattle.rusty_leveldb.specs.OneLog.{log_path, IsRead}
 use Rattle.leveldb_version.specs.Paths.{lock_path}
 use Rattle.rusty_leveldb.specs.State.{State, IsState, IsAtRest, SuitsMode, Opening, open_store, refused}
-use Rattle.rusty_leveldb.specs.Causes.{Cause, Comes, Disagrees, out_of_memory, device_failed, lock_is_held, bad_operand}
+use Rattle.rusty_leveldb.specs.Causes.{Cause, Comes, Disagrees, out_of_memory, device_failed, lock_is_held, bad_operand, too_large}
 use Rattle.rusty_leveldb.specs.Machine.{IsEarly, UnlockFailed, StepIn}
 use Rattle.rusty_leveldb.specs.Serves.{Reads, SparesOthers, Represents, Goes, IsUnreadable, faults_between, refusal_of}
 use Rattle.rusty_leveldb.specs.Engine.{IsStoreName, IsOpening, OpenExcused, Recalls}
+use Rattle.rusty_leveldb.specs.Replay.{IsLargeLog}
 use Rattle.rusty_leveldb.specs.Recovery.{SparesLog, NeverOpens, FailedBeside, StaysUnopened}
 use Rattle.rusty_leveldb.proofs.Openings.Calls.{Sparing}
 use Rattle.rusty_leveldb.proofs.Openings.Moments.{opening_moments}
@@ -35,7 +36,7 @@ pub record IsGivenUp (name : List ℕ) (create : Bool) (from to : Disk) (before 
   pub ends : mid ≤ after
   pub counts : after < 2 ^ 64
   pub why : IsOutOfMemory e ⊎ (IsEarlyWhy name create from e × (to.files (log_path name) ≡ from.files (log_path name))) ⊎ ((e.code ≡ Corruption) × IsUnreadable (Reads name) from.files)
-      ⊎ (before < mid) ⊎ (before ≡ 2 ^ 64 - 1)
+      ⊎ IsLargeLog true (from.files (log_path name)) e ⊎ (before < mid) ⊎ (before ≡ 2 ^ 64 - 1)
 
 -- why it was refused, where the device has no part in it
 early_excused : (name : List ℕ) (create : Bool) (from : Observed) (e : Status) → IsEarlyWhy name create from.disk e → OpenExcused true name create from e
@@ -47,7 +48,8 @@ failed_beside : (name : List ℕ) (create : Bool) (from to : Observed) (before m
     → FailedBeside (OpenExcused true name create from e) before after
 failed_beside name create from to before mid after e up failed = ⊎_elim (λ (more : mid < after). ⊎_elim (λ memory. excused more (inl memory))
     (λ others. ⊎_elim (λ early. excused more (early_excused name create from e early.0))
-    (λ others. ⊎_elim (λ damage. excused more (inr (inr (inr (inr (damage.0, λ told. damage.1)))))) (λ counted. device more counted) others) others) up.why)
+    (λ others. ⊎_elim (λ damage. excused more (inr (inr (inr (inr (inl (damage.0, λ told. damage.1)))))))
+    (λ others. ⊎_elim (λ large. excused more (inr (inr (inr (inr (inr large)))))) (λ counted. device more counted) others) others) others) up.why)
     (λ full. inr (inr full)) failed
   where
     excused : mid < after → OpenExcused true name create from e → FailedBeside (OpenExcused true name create from e) before after
@@ -158,7 +160,8 @@ module _ {E C FP F I : Type 0} {D : I → Type 0} (env : Ghosts E F) (name : Lis
   pub given_up : Refuses
   given_up = ⊎_elim (λ m. goes left_over.0 left_over.1 out_of_memory (tt, m.0, ap text_of m.1) (λ never. absurd never) (λ never. absurd (cc)))
       (λ others. ⊎_elim (λ why. early why.0 why.1)
-      (λ others. ⊎_elim (λ damage. absurd (unreadable damage.1)) counted others) others) up.why
+      (λ others. ⊎_elim (λ damage. absurd (unreadable damage.1))
+      (λ others. ⊎_elim (λ large. goes left_over.0 left_over.1 too_large (tt, large.0) (λ never. absurd never) (λ never. absurd (cc))) counted others) others) others) up.why
     where
       unreadable : IsUnreadable (Reads name) from.disk.files → ⊥
       unreadable none = none read_of.contents read_of.read

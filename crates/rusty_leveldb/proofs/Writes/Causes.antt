@@ -1,5 +1,5 @@
 -- Why a write is refused behind its preparation: each failure of the device is counted, and nothing else.
-use Rattle.std.proofs.Common.{◌≡◌, ◌≤◌, ◌<◌, ◌+◌, inl, inr, ⊎_elim, ℕ, List, refl, sym, ◌∙◌, ap, arith, Option, Some, None, Result, Ok, Err, IsTrue, true, false}
+use Rattle.std.proofs.Common.{◌≡◌, ◌≤◌, ◌<◌, ◌+◌, ◌⊎◌, inl, inr, ⊎_elim, ℕ, List, length, refl, sym, ◌∙◌, ap, arith, Option, Some, None, Result, Ok, Err, IsTrue, true, false}
 use Rattle.std.specs.Option.{option_map}
 use Rattle.leveldb_base.specs.declared.error.Status.{Status}
 use Rattle.leveldb_base.specs.History.{Item}
@@ -7,6 +7,7 @@ use Rattle.leveldb_env.specs.declared.env.Env.{Ghosts}
 use Rattle.leveldb_env.specs.Env.{File, Files, longer_file, HasCause, IsGone}
 use Rattle.leveldb_env.proofs.EnvLemmas.{at_same, cause_after, cause_same}
 use Rattle.leveldb_env.specs.EnvFile.{opened, Appends, Syncs}
+use Rattle.leveldb_mem.specs.MemTable.{FailsToPrepare, bytes_in}
 use Rattle.leveldb_mem.specs.Log.Writer.{AddsRecord, FailsToAdd, Flushes}
 use Rattle.leveldb_mem.specs.Log.Writer as writing
 use Rattle.rusty_leveldb.specs.declared.db_impl.engine.Mode.TheVariants.{Open, Broken, Closed}
@@ -22,23 +23,38 @@ none_before : (file : Option File) (bytes : List ℕ) → option_map (longer_fil
 none_before None bytes gone = refl
 none_before (Some file) bytes gone = cc
 
+-- a write for which no memory was taken
+pub prepare_excused : {E C FP F I : Type 0} {D : I → Type 0} (env : Ghosts E F) (engine : Engine E C FP F I D) (from : E) (items : List Item) (e : Status)
+    → FailsToPrepare engine.recent.kept (length items) (bytes_in items) e → WriteExcused env engine from from items e
+prepare_excused env engine from items e (inl full) = inr (inr (inr (inl (full.0, inr (full.1, refl)))))
+prepare_excused env engine from items e (inr memory) = inr (inr (inr (inr (inl memory))))
+
 module _ {E C FP F I : Type 0} {D : I → Type 0} (env : Ghosts E F) (engine : Engine E C FP F I D) (from : E) (open_now : engine.mode ≡ Open) (sound : engine.writer.broken ≡ false) (items : List Item) (bytes : List ℕ)
     (next : IsNext engine.recent.last items bytes) where
   -- the log's own excuses are the only ones that are left
   to_write : (to : E) (e : Status) → LogExcused env engine from to e → WriteExcused env engine from to items e
   to_write to e gone = inr (inr (inr (inr gone)))
 
-  to_log : (to : E) (e : Status) → WriteExcused env engine from to items e → LogExcused env engine from to e
+  -- or nothing was counted, and the entries are too many in memory
+  to_log : (to : E) (e : Status) → WriteExcused env engine from to items e → LogExcused env engine from to e ⊎ (env.failures to ≡ env.failures from)
   to_log to e (inl out) = absurd (let never : Open ≡ Closed = sym open_now ∙ out.0 in cc)
   to_log to e (inr (inl down)) = ⊎_elim
       (λ broke. absurd (let never : Open ≡ Broken = sym open_now ∙ broke in cc))
       (λ broke. absurd (let never : false ≡ true = sym sound ∙ broke in cc)) down.0
   to_log to e (inr (inr (inl long))) = absurd (not_long bytes (engine.recent.last + 1) items next.is_batch long.1)
-  to_log to e (inr (inr (inr (inl past)))) = absurd (let first = next.first_fits in let all = next.all_fit in let used = past.1 in omega arith)
-  to_log to e (inr (inr (inr (inr gone)))) = gone
+  to_log to e (inr (inr (inr (inl past)))) = ⊎_elim
+      (λ used. absurd (let first = next.first_fits in let all = next.all_fit in omega (arith, first, all, used)))
+      (λ full. inr full.1) past.1
+  to_log to e (inr (inr (inr (inr gone)))) = inl gone
 
-  write_cause : (to : E) (before after : ℕ) (status : Status) → HasCause {T = Unit {0}} (LogExcused env engine from to) before after (Err status) → HasCause {T = Unit {0}} (WriteExcused env engine from to items) before after (Err status)
-  write_cause to before after status cause = cause_same (Err status) (to_write to) (to_log to) cause
+  write_cause : (to : E) (status : Status) → HasCause {T = Unit {0}} (LogExcused env engine from to) (env.failures from) (env.failures to) (Err status)
+      → HasCause {T = Unit {0}} (WriteExcused env engine from to items) (env.failures from) (env.failures to) (Err status)
+  write_cause to status cause = record {
+    later = cause.later;
+    ok = tt;
+    uncounted = λ excused. ⊎_elim (λ gone. cause.uncounted gone) (λ same. same) (to_log to status excused);
+    cause = ⊎_elim (λ gone. inl (to_write to status gone)) (λ counted. inr counted) cause.cause;
+  }
 
   -- a refused append
   pub append_cause : (e : Status) (writer : writing.WriterState) (log : F) (to : E)
@@ -48,7 +64,7 @@ module _ {E C FP F I : Type 0} {D : I → Type 0} (env : Ghosts E F) (engine : E
       (λ kept.
       let same : env.failures to ≡ env.failures from = ap (λ o. env.failures o.env) kept.1.same_sink in
       record { later = omega (arith, same); ok = tt; uncounted = λ excused. same; cause = inl (to_write to e (inl (memory_found refusal.0 e refusal.1 kept.0))) })
-      (λ put. write_cause to (env.failures from) (env.failures to) e (found_cause refusal.0 e refusal.1 env.models_disk (env.name_of engine.log) (env.observed from) (env.failures from) (env.failures to) put.0.cause)) refusal.2.why
+      (λ put. write_cause to e (found_cause refusal.0 e refusal.1 env.models_disk (env.name_of engine.log) (env.observed from) (env.failures from) (env.failures to) put.0.cause)) refusal.2.why
 
   -- where the device refused it, the writer is broken
   pub append_breaks : (e : Status) (writer : writing.WriterState) (log : F) (to : E)
@@ -99,7 +115,7 @@ module _ {E C FP F I : Type 0} {D : I → Type 0} (env : Ghosts E F) (engine : E
     -- a refused sync
     pub sync_cause : (e : Status) (after : writing.WriterState) (log_after : F) (to : E) → (raw : Status) × IsErrorFor raw e × Flushes (Syncs env) writer (opened mid log) (Err raw) after (opened to log_after)
         → HasCause {T = Unit {0}} (WriteExcused env engine from to items) (env.failures from) (env.failures to) (Err e)
-    sync_cause e after log_after to refusal = write_cause to (env.failures from) (env.failures to) e
+    sync_cause e after log_after to refusal = write_cause to e
         (found_cause refusal.0 e refusal.1 env.models_disk (env.name_of engine.log) (env.observed from) (env.failures from) (env.failures to)
         (cause_after append_counted (cause_same (Err refusal.0) gone_before gone_still refusal.2.flushed.cause)))
 

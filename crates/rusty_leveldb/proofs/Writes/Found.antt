@@ -8,7 +8,7 @@ use Rattle.leveldb_base.specs.Error.{IsOutOfMemory}
 use Rattle.leveldb_base.proofs.HistoryLemmas.{in_none}
 use Rattle.leveldb_env.specs.Env.{Disk, Observed, HasCause, IsGone}
 use Rattle.rusty_leveldb.specs.State.{State, open_mode, Request, refused}
-use Rattle.rusty_leveldb.specs.Causes.{Cause, out_of_memory, device_failed, lock_is_held, bad_operand, store_exists, used_up, coder_failed, Comes}
+use Rattle.rusty_leveldb.specs.Causes.{Cause, out_of_memory, device_failed, lock_is_held, bad_operand, store_exists, used_up, too_large, coder_failed, Comes}
 use Rattle.rusty_leveldb.specs.Machine.{Responds, StepIn}
 use Rattle.rusty_leveldb.specs.Serves.{Scene, Reads, Goes, faults_between, refusal_of}
 use Rattle.rusty_leveldb.specs.Recovery.{IsErrorFor, IsFoundOr}
@@ -79,6 +79,7 @@ module _ (before now : ℕ) (old : State) (request : Request) (raw e : Status)
       ∙ c.0 in cc)
   comes_again store_exists c = absurd (let never : NotFound ≡ AlreadyExists = sym gone ∙ c.0 in cc)
   comes_again used_up c = absurd (let never : NotFound ≡ NotSupported = sym gone ∙ c.0 in cc)
+  comes_again too_large c = absurd (let never : NotFound ≡ NotSupported = sym gone ∙ c.1 in cc)
   comes_again coder_failed c = absurd (in_none raw.code c.1)
 
   responds_again : (cmp : List ℕ → List ℕ → Ordering) (new : State)

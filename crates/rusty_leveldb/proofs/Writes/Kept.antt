@@ -1,5 +1,5 @@
 -- A write that is refused before its append, which leaves the store as it was.
-use Rattle.std.proofs.Common.{◌≡◌, ◌<◌, ◌+◌, ◌⊎◌, inl, ⊎_elim, ℕ, List, [], ◌∷◌, length, refl, sym, ap, subst, arith, Some, Bool}
+use Rattle.std.proofs.Common.{◌≡◌, ◌<◌, ◌+◌, ◌⊎◌, inl, inr, ⊎_elim, ℕ, List, [], ◌∷◌, length, refl, sym, ap, subst, arith, Some, Bool}
 use Rattle.std.specs.Prelude.{max}
 use Rattle.std.specs.declared.cmp.Ordering.{Ordering}
 use Rattle.leveldb_base.specs.declared.error.Status.{Status}
@@ -7,13 +7,14 @@ use Rattle.leveldb_base.specs.declared.error.StatusCode.TheVariants.{InvalidArgu
 use Rattle.leveldb_base.specs.Error.{IsOutOfMemory, text_of}
 use Rattle.leveldb_base.specs.History.{Item}
 use Rattle.leveldb_env.specs.declared.env.Env.{Ghosts}
+use Rattle.leveldb_mem.specs.MemTable.{Kept, FailsToPrepare}
 use Rattle.leveldb_mem.specs.WriteBatch.{Batch, batch_of, with_item, IsTooLong}
 use Rattle.rusty_leveldb.specs.declared.db_impl.engine.Mode.TheVariants.{Open}
 use Rattle.rusty_leveldb.specs.declared.db_impl.engine.Engine.{Engine}
 use Rattle.rusty_leveldb.specs.Recent.{Numbered, AreUsedUp}
 use Rattle.rusty_leveldb.specs.OneLog.{max_sequence}
 use Rattle.rusty_leveldb.specs.State.{State, write, refused}
-use Rattle.rusty_leveldb.specs.Causes.{Faults, Cause, out_of_memory, used_up, bad_operand, Comes}
+use Rattle.rusty_leveldb.specs.Causes.{Faults, Cause, out_of_memory, used_up, too_large, bad_operand, Comes}
 use Rattle.rusty_leveldb.specs.Machine.{StepIn, Responds}
 use Rattle.rusty_leveldb.specs.Serves.{Reads, Goes, faults_between, refusal_of}
 use Rattle.rusty_leveldb.specs.Engine.{scene, Recalls}
@@ -68,6 +69,12 @@ module _ {E C FP F I : Type 0} {D : I → Type 0} (env : Ghosts E F) (store : Li
     pub memory_goes : (after : Engine E C FP F I D) → Was env store after from old → IsOutOfMemory status
         → Goes store (Reads store) (Recalls env store) cmp (scene env cmp (Some engine) from) (write items sync) (refused (refusal_of status)) (scene env cmp (Some after) from) old
     memory_goes after now memory = kept_goes after now out_of_memory (tt, memory.0, ap text_of memory.1)
+
+    -- the entries are too many for a memtable, or want of memory
+    pub unprepared_goes : (after : Engine E C FP F I D) → Was env store after from old → (kept : Kept) (count bytes : ℕ) → FailsToPrepare kept count bytes status
+        → Goes store (Reads store) (Recalls env store) cmp (scene env cmp (Some engine) from) (write items sync) (refused (refusal_of status)) (scene env cmp (Some after) from) old
+    unprepared_goes after now kept count bytes (inl full) = kept_goes after now too_large (tt, full.0)
+    unprepared_goes after now kept count bytes (inr memory) = memory_goes after now memory
 
     -- the batch is too long, or want of memory
     pub unmade_goes : (batch : Batch) (item : Item) → batch ≡ batch_of 0 [] → items ≡ item ∷ [] → (status.code ≡ InvalidArgument) ⊎ IsOutOfMemory status → (status.code ≡ InvalidArgument → IsTooLong (with_item batch item))

@@ -3,7 +3,9 @@ ghost use Rattle.std.specs.Prelude.{◌≡◌, ◌⊎◌, if◌then◌else◌, l
 ghost use Rattle.leveldb_env.specs.Env.{bytes_of, HasCause, SameLocks, FilesUnchanged, SameBut, Run};
 ghost use Rattle.leveldb_base.specs.Error.{IsOutOfMemory};
 ghost use Rattle.leveldb_mem.specs.Log.{clean, bad};
+ghost use Rattle.leveldb_mem.specs.Log.Files.{IsHuge};
 ghost use Rattle.rusty_leveldb.specs.OneLog.{log_path};
+ghost use Rattle.rusty_leveldb.specs.Replay.{IsLargeLog};
 ghost use Rattle.rusty_leveldb.specs.State.{Opening, open_store};
 ghost use Rattle.rusty_leveldb.specs.Serves.{done_or, given_engine};
 ghost use Rattle.rusty_leveldb.specs.Engine.{IsStoreName, IsOpening, TimeGoesOn, AnswersAs, OpenExcused};
@@ -83,7 +85,8 @@ fn recover<E: Env, C: UserCmp + Copy>(
     ensures ok { IfOk result (λ got. IsTrue E.models_disk → IsRecovered create_if_missing ((E.observed env.old).disk.files (log_path name.now)) ((E.observed env.new).disk.files (log_path name.now)) got.1 got.2) }
     ensures log { IfOk result (λ got. IsTrue E.models_disk → E.name_of got.0 ≡ log_path name.now) }
     ensures sound { IfOk result (λ got. got.1.broken ≡ false) }
-    ensures cause { HasCauses (λ e. IsOutOfMemory e ⊎ IsNotMade E.models_disk create_if_missing ((E.observed env.old).disk.files (log_path name.now)) e ⊎ IsNoLog E.models_disk ((E.observed env.old).disk.files (log_path name.now)) e)
+    ensures cause { HasCauses (λ e. IsOutOfMemory e ⊎ IsNotMade E.models_disk create_if_missing ((E.observed env.old).disk.files (log_path name.now)) e ⊎ IsNoLog E.models_disk ((E.observed env.old).disk.files (log_path name.now)) e
+        ⊎ IsLargeLog E.models_disk ((E.observed env.old).disk.files (log_path name.now)) e)
         (E.failures env.old) (E.failures env.new) result }
 {
     let full_name = file_name(alloc, name, "000003.log")?;
@@ -107,7 +110,8 @@ fn read_log<E: Env>(
     ensures locks { SameLocks E.models_disk (E.observed env.old) (E.observed env.new) }
     ensures log { IfOk result (λ found. IsTrue E.models_disk → IsFoundAs create_if_missing ((E.observed env.old).disk.files log_name.now)
         (map (λ v. v.items) found.0.items) (if found.1 then clean else bad)) }
-    ensures cause { HasCauses (λ e. IsUntold E.models_disk e ⊎ IsNotMade E.models_disk create_if_missing ((E.observed env.old).disk.files log_name.now) e)
+    ensures cause { HasCauses (λ e. IsUntold E.models_disk e ⊎ IsNotMade E.models_disk create_if_missing ((E.observed env.old).disk.files log_name.now) e
+        ⊎ IsHuge E.models_disk ((E.observed env.old).disk.files log_name.now) e)
         (E.failures env.old) (E.failures env.new) result }
 {
     if env.exists(log_name)? {

@@ -1,9 +1,9 @@
 //! The entries of a store in memory, and the number of the last.
-ghost use Rattle.std.specs.Prelude.{◌≡◌, ◌≤◌, ◌+◌, [], OnOk, IfOk, IfErr};
-ghost use Rattle.leveldb_base.specs.Error.{IsOutOfMemory};
-ghost use Rattle.leveldb_base.specs.History.{AreUpTo};
+ghost use Rattle.std.specs.Prelude.{◌≡◌, ◌≤◌, ◌+◌, [], length, max, OnOk, IfOk, IfErr};
+ghost use Rattle.leveldb_base.specs.History.{AreUpTo, placed};
 ghost use Rattle.leveldb_base.specs.declared.error.StatusCode.TheVariants.{NotSupported};
-ghost use Rattle.leveldb_mem.specs.MemTable.{HasRoom, FindsNewest};
+ghost use Rattle.leveldb_base.specs.Entries.{FindsNewest};
+ghost use Rattle.leveldb_mem.specs.MemTable.{HasRoom, FailsToPrepare, AddsAll, bytes_in};
 ghost use Rattle.rusty_leveldb.specs.Recent.{Follows, Inserts, AreUsedUp, lent_newest};
 ghost use Rattle.rusty_leveldb.specs.OneLog.{max_sequence};
 
@@ -39,6 +39,7 @@ impl<C: UserCmp> Recent<C> {
     /// No entry yet, and keys in the order of `cmp`.
     pub fn new(alloc: Global, cmp: C) -> Recent<C>
         ensures entries { result.kept.entries ≡ [] }
+        ensures places { result.kept.places ≡ 0 }
         ensures last { result.last ≡ 0 }
     {
         Recent {
@@ -73,11 +74,13 @@ impl<C: UserCmp> Recent<C> {
     }
 
     /// Takes all the memory that the batch's entries need.
+    /// `NotSupported` if the entries would be too many for a memtable.
     pub fn prepare(&mut self, batch: &WriteBatch) -> Result<()>
         ensures entries { self.new.kept.entries ≡ self.old.kept.entries }
         ensures last { self.new.last ≡ self.old.last }
         ensures room { OnOk result (HasRoom self.new.kept batch.now.items) }
-        ensures memory { IfErr result IsOutOfMemory }
+        ensures made { OnOk result (self.new.kept.places ≡ max self.old.kept.places (length batch.now.items)) }
+        ensures cause { IfErr result (FailsToPrepare self.old.kept (length batch.now.items) (bytes_in batch.now.items)) }
     {
         self.memtable.prepare(batch)
     }
@@ -86,7 +89,8 @@ impl<C: UserCmp> Recent<C> {
     pub fn insert(&mut self, batch: &WriteBatch)
         requires room { HasRoom self.old.kept batch.now.items }
         requires follows { Follows self.old.last batch.now }
-        ensures { Inserts self.old batch.now self.new }
+        ensures inserts { Inserts self.old batch.now self.new }
+        ensures adds { AddsAll self.old.kept (placed batch.now.first batch.now.items) self.new.kept }
     {
         let first = batch.sequence();
         let count = u64::from(batch.count());

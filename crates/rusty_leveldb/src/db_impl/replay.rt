@@ -1,12 +1,12 @@
 //! What the records of a store's log say.
 ghost use Rattle.std.specs.Prelude.{◌≡◌, ◌⊎◌, OnOk, IfOk, IfErr, map};
 ghost use Rattle.leveldb_base.specs.Error.{IsOutOfMemory};
-ghost use Rattle.leveldb_base.specs.declared.error.StatusCode.TheVariants.{Corruption};
+ghost use Rattle.leveldb_base.specs.declared.error.StatusCode.TheVariants.{Corruption, NotSupported};
 ghost use Rattle.leveldb_mem.specs.WriteBatch.{IsBatch};
 ghost use Rattle.leveldb_mem.specs.Log.{log_block_size, framed};
 ghost use Rattle.rusty_leveldb.specs.OneLog.{IsRecordOf};
 ghost use Rattle.rusty_leveldb.specs.Recent.{Follows};
-ghost use Rattle.rusty_leveldb.specs.Replay.{IsReplayed, IsDamaged};
+ghost use Rattle.rusty_leveldb.specs.Replay.{IsReplayed, IsDamaged, AreTooMany};
 
 use super::recent::Recent;
 use leveldb_base::cmp::UserCmp;
@@ -23,7 +23,8 @@ pub(crate) fn replay<C: UserCmp + Copy>(
     records: &[Vec<u8>],
 ) -> Result<Recent<C>>
     ensures ok { IfOk result (λ recent. IsReplayed (map (λ v. v.items) records.now) recent) }
-    ensures cause { IfErr result (λ status. IsOutOfMemory status ⊎ IsDamaged (map (λ v. v.items) records.now) status) }
+    ensures cause { IfErr result (λ status. IsOutOfMemory status ⊎ IsDamaged (map (λ v. v.items) records.now) status
+        ⊎ ((status.code ≡ NotSupported) × AreTooMany (map (λ v. v.items) records.now))) }
 {
     let mut recent = Recent::new(alloc, cmp);
     let mut batch = WriteBatch::new(alloc)?;

@@ -7,5 +7,5 @@ returns c =
     one_up_to 9 _ _ _
     (one_up_to 9 _ _ _
     (one_up_to 9 _ _ _
-    (one_up_to 9 _ _ _ (none_up_to 9 _ c.new-table.ensures.entries) c.in_ok-add.ensures.ok (omega arith)) c.in_ok-add-2.ensures.ok (omega arith)) c.in_ok-add-3.ensures.ok (omega arith))
-    c.in_ok-add-4.ensures.ok (omega arith)
+    (one_up_to 9 _ _ _ (none_up_to 9 _ c.new-table.ensures.entries) c.in_ok-add.ensures.kept.ok (omega arith)) c.in_ok-add-2.ensures.kept.ok (omega arith)) c.in_ok-add-3.ensures.kept.ok (omega arith))
+    c.in_ok-add-4.ensures.kept.ok (omega arith)

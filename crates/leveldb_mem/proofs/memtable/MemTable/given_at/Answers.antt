@@ -1,7 +1,8 @@
 use Rattle.std.proofs.Common.{◌≡◌, [], List, Option, Some, ℕ, sym, subst, arith}
 use Rattle.std.proofs.lemmas.Bool.{iff_false}
 use Rattle.leveldb_mem.specs.Placed.{rank}
-use Rattle.leveldb_mem.specs.MemTable.{entries_in, value_of, IsValueAt}
+use Rattle.leveldb_base.specs.Entries.{value_of}
+use Rattle.leveldb_mem.specs.MemTable.{entries_in, IsValueAt}
 use Rattle.leveldb_mem.proofs.MemTableLemmas.{length-walked, gives_other, gives_read}
 use Rattle.leveldb_mem.proofs.memtable.MemTable.given_at.Goals as goal
 

@@ -1,6 +1,6 @@
 use Rattle.std.proofs.Common.{◌∙◌, refl, option_copied}
 use Rattle.leveldb_mem.specs.WriteBatch.{item_of}
-use Rattle.leveldb_mem.proofs.EntryLemmas.{inserting_from, inserting_next, inserted_all, inserted_growth, next_fits, next_room, next_new}
+use Rattle.leveldb_mem.proofs.EntryLemmas.{inserting_from, inserting_next, inserted_all, next_fits, next_room, next_new}
 use Rattle.leveldb_mem.proofs.memtable.MemTable.insert_prepared.Goals as goal
 
 pub loop-key-init : goal.loop-key-init
@@ -32,8 +32,5 @@ loop-key-preserved g c = record {
       c.add_prepared.new.self.kept c.add_prepared.ensures.adds c.add_prepared.ensures.grows;
 }
 
-pub returns-clause-entries : goal.returns-clause-entries
-returns-clause-entries g c = inserted_all _ _ _ _ _ c.in-None.ensures.steps.0 c.loop-key.invariant.inserting
-
-pub returns-clause-grows : goal.returns-clause-grows
-returns-clause-grows g c = inserted_growth _ _ _ _ _ c.in-None.ensures.steps.0 c.loop-key.invariant.inserting
+pub returns-clause-adds : goal.returns-clause-adds
+returns-clause-adds g c = inserted_all _ _ _ _ _ c.in-None.ensures.steps.0 c.loop-key.invariant.inserting

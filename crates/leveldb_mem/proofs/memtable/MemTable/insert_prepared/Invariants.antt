@@ -8,5 +8,5 @@ invariant-loop-key g l = record {
   can : (goal.iterator-loop-key g).can_next l.key-iterator;
   ends : (goal.iterator-loop-key g).is_finite l.key-iterator;
   cmp : l.self.cmp ≡ l.fn.self.cmp;
-  inserting : Inserting l.fn.self.kept.entries (placed l.first l.batch.items) l.self.kept l.sequence l.key-iterator;
+  inserting : Inserting l.fn.self.kept (placed l.first l.batch.items) l.self.kept l.sequence l.key-iterator;
 }

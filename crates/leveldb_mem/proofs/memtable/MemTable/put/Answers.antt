@@ -3,8 +3,10 @@ use Rattle.std.proofs.lemmas.Bool.{cases_Bool, OnTrue_at, OnTrue_from, OnFalse_a
 use Rattle.std.specs.Prelude.{All}
 use Rattle.leveldb_base.specs.Cmp.{memtable_accepts}
 use Rattle.leveldb_base.specs.Types.{Pair}
-use Rattle.leveldb_mem.specs.MemTable.{entry_of, entry_key, entry_from, type_of, bytes_of_value, IsEntryPair, entries_in}
+use Rattle.leveldb_base.specs.Entries.{type_of, bytes_of_value}
+use Rattle.leveldb_mem.specs.MemTable.{entry_of, entry_key, entry_from, IsEntryPair, entries_in}
 use Rattle.leveldb_mem.proofs.MemTableLemmas.{key_of_parts, length-parts, entry_again, accepted_key, grows}
+use Rattle.leveldb_mem.proofs.SkipMapLemmas.{length-five}
 use Rattle.leveldb_mem.proofs.EntryLemmas.{gains_entry, still_entries, not_new, is_new}
 use Rattle.leveldb_mem.proofs.memtable.MemTable.put.Goals as goal
 
@@ -39,12 +41,14 @@ invariant_of-self g c =
     length-parts c.encode_length-head.result.now c.args.key.now c.tag_bytes-tag.result c.encode_length-size.result.now c.type_and_bytes-parts.result.1.now c.args.sequence
     c.type_and_bytes-parts.result.0 value c.type_and_bytes-parts.ensures.kind c.type_and_bytes-parts.ensures.bytes c.encode_length-head.ensures c.tag_bytes-tag.ensures c.encode_length-size.ensures
     (omega arith) (omega arith) in
+    let five = length-five c.encode_length-head.result.now c.args.key.now c.tag_bytes-tag.result c.encode_length-size.result.now c.type_and_bytes-parts.result.1.now in
     ⊎_elim
     (λ (t : c.put_parts.result ≡ true). (
       still_entries (OnTrue_at t c.put_parts.ensures.put) entry whole c.requires.numbered c.self.invariant.0,
       omega (
         arith,
         size,
+        five,
         OnTrue_at t c.put_parts.ensures.place,
         c.put_parts.ensures.bytes,
         c.self.invariant.1,
@@ -60,11 +64,15 @@ invariant_of-self g c =
     ))
     (cases_Bool c.put_parts.result)
 
-pub returns-clause-put : goal.returns-clause-put
-returns-clause-put g c =
+pub returns-clause-kept : goal.returns-clause-kept
+returns-clause-kept g c =
     let value = option_copied c.args.value in
     let entry = entry_of c.args.sequence c.args.key.now value in
     let it = c.self.inside.map in
+    let put = c.put_parts.ensures in
+    let o = g.met.C.Cmp.preorder it.cmp.0 in
+    let all = g.met.C.UserCmp.accepts_all it.cmp.0 in
+    let exact = g.met.C.UserCmp.exact it.cmp.0 in
     let key = c.encode_length-head.result.now ++ c.args.key.now ++ c.tag_bytes-tag.result ++ c.encode_length-size.result.now ++ c.type_and_bytes-parts.result.1.now in
     let whole : key ≡ entry_key entry =
     key_of_parts c.encode_length-head.result.now c.args.key.now c.tag_bytes-tag.result c.encode_length-size.result.now c.type_and_bytes-parts.result.1.now c.args.sequence
@@ -74,46 +82,17 @@ returns-clause-put g c =
     length-parts c.encode_length-head.result.now c.args.key.now c.tag_bytes-tag.result c.encode_length-size.result.now c.type_and_bytes-parts.result.1.now c.args.sequence
     c.type_and_bytes-parts.result.0 value c.type_and_bytes-parts.ensures.kind c.type_and_bytes-parts.ensures.bytes c.encode_length-head.ensures c.tag_bytes-tag.ensures c.encode_length-size.ensures
     (omega arith) (omega arith) in
-    rw (← c.self.view_is) (OnTrue_from c.put_parts.result _ (λ t. record {
-      gains = gains_entry (OnTrue_at t c.put_parts.ensures.put) entry again;
-      places = omega (arith, OnTrue_at t c.put_parts.ensures.place);
-      bytes = omega (arith, size, OnTrue_at t c.put_parts.ensures.place, c.put_parts.ensures.bytes, c.self.invariant.1);
-    }))
-
-pub returns-clause-grows : goal.returns-clause-grows
-returns-clause-grows g c =
-    let value = option_copied c.args.value in
-    let entry = entry_of c.args.sequence c.args.key.now value in
-    let key = c.encode_length-head.result.now ++ c.args.key.now ++ c.tag_bytes-tag.result ++ c.encode_length-size.result.now ++ c.type_and_bytes-parts.result.1.now in
-    let whole : key ≡ entry_key entry =
-    key_of_parts c.encode_length-head.result.now c.args.key.now c.tag_bytes-tag.result c.encode_length-size.result.now c.type_and_bytes-parts.result.1.now c.args.sequence
-    c.type_and_bytes-parts.result.0 value c.type_and_bytes-parts.ensures.kind c.type_and_bytes-parts.ensures.bytes c.encode_length-head.ensures c.tag_bytes-tag.ensures c.encode_length-size.ensures in
-    let again : entry_from key ≡ entry = ap entry_from whole ∙ entry_again entry c.requires.numbered in
-    rw (← c.self.view_is) (OnTrue_from c.put_parts.result _ (λ t. grows (OnTrue_at t c.put_parts.ensures.put) entry again))
-
-pub returns-clause-new : goal.returns-clause-new
-returns-clause-new g c =
-    let value = option_copied c.args.value in
-    let entry = entry_of c.args.sequence c.args.key.now value in
-    let it = c.self.inside.map in
-    let key = c.encode_length-head.result.now ++ c.args.key.now ++ c.tag_bytes-tag.result ++ c.encode_length-size.result.now ++ c.type_and_bytes-parts.result.1.now in
-    let whole : key ≡ entry_key entry =
-    key_of_parts c.encode_length-head.result.now c.args.key.now c.tag_bytes-tag.result c.encode_length-size.result.now c.type_and_bytes-parts.result.1.now c.args.sequence
-    c.type_and_bytes-parts.result.0 value c.type_and_bytes-parts.ensures.kind c.type_and_bytes-parts.ensures.bytes c.encode_length-head.ensures c.tag_bytes-tag.ensures c.encode_length-size.ensures in
-    let again : entry_from key ≡ entry = ap entry_from whole ∙ entry_again entry c.requires.numbered in
-    rw (← c.self.view_is) (OnTrue_from c.put_parts.result _ (λ t. is_new (g.met.C.Cmp.preorder it.cmp.0) (g.met.C.UserCmp.accepts_all it.cmp.0) (g.met.C.UserCmp.exact it.cmp.0) it.pairs key entry again (OnTrue_at t c.put_parts.ensures.absent)))
-
-pub returns-clause-left : goal.returns-clause-left
-returns-clause-left g c = rw (← c.self.view_is) (OnFalse_from c.put_parts.result _ (λ f. ap entries_in (OnFalse_at f c.put_parts.ensures.left)))
-
-pub returns-clause-present : goal.returns-clause-present
-returns-clause-present g c =
-    let value = option_copied c.args.value in
-    let entry = entry_of c.args.sequence c.args.key.now value in
-    let it = c.self.inside.map in
-    let key = c.encode_length-head.result.now ++ c.args.key.now ++ c.tag_bytes-tag.result ++ c.encode_length-size.result.now ++ c.type_and_bytes-parts.result.1.now in
-    let whole : key ≡ entry_key entry =
-    key_of_parts c.encode_length-head.result.now c.args.key.now c.tag_bytes-tag.result c.encode_length-size.result.now c.type_and_bytes-parts.result.1.now c.args.sequence
-    c.type_and_bytes-parts.result.0 value c.type_and_bytes-parts.ensures.kind c.type_and_bytes-parts.ensures.bytes c.encode_length-head.ensures c.tag_bytes-tag.ensures c.encode_length-size.ensures in
-    let again : entry_from key ≡ entry = ap entry_from whole ∙ entry_again entry c.requires.numbered in
-    rw (← c.self.view_is) (OnFalse_from c.put_parts.result _ (λ f. not_new (g.met.C.Cmp.preorder it.cmp.0) (g.met.C.UserCmp.accepts_all it.cmp.0) (g.met.C.UserCmp.exact it.cmp.0) it.pairs key entry again (OnFalse_at f c.put_parts.ensures.present)))
+    let five = length-five c.encode_length-head.result.now c.args.key.now c.tag_bytes-tag.result c.encode_length-size.result.now c.type_and_bytes-parts.result.1.now in
+    rw (← c.self.view_is) (record {
+      absent = OnTrue_from c.put_parts.result _ (λ t. is_new o all exact it.pairs key entry again (OnTrue_at t put.absent));
+      adds = OnTrue_from c.put_parts.result _ (λ t. record {
+        gains = gains_entry (OnTrue_at t put.put) entry again;
+        places = omega (arith, OnTrue_at t put.place);
+        bytes = omega (arith, size, five, OnTrue_at t put.place, put.bytes, c.self.invariant.1);
+      });
+      grows = OnTrue_from c.put_parts.result _ (λ t. grows (OnTrue_at t put.put) entry again);
+      present = OnFalse_from c.put_parts.result _ (λ f. not_new o all exact it.pairs key entry again (OnFalse_at f put.present));
+      entries = OnFalse_from c.put_parts.result _ (λ f. ap entries_in (OnFalse_at f put.left));
+      places = OnFalse_from c.put_parts.result _ (λ f. OnFalse_at f put.places);
+      bytes = OnFalse_from c.put_parts.result _ (λ f. omega (arith, OnFalse_at f put.places, OnFalse_at f put.unused));
+    })

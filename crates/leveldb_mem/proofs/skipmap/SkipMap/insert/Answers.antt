@@ -1,17 +1,34 @@
-use Rattle.std.proofs.Common.{◌≡◌, ◌++◌, ◌∙◌, ap, sym, subst, refl, length, List, arith, ap}
+use Rattle.std.proofs.Common.{◌≡◌, ◌+◌, ◌++◌, ◌∙◌, inr, ap, sym, subst, refl, length, List, arith, ap}
 use Rattle.std.specs.List.{insert}
+use Rattle.std.proofs.lemmas.Bool.{eqb-false}
 use Rattle.std.proofs.lemmas.Result.{err_from_is_err_and}
 use Rattle.leveldb_base.specs.Types.{Pair}
-use Rattle.leveldb_mem.specs.Placed.{place_of}
+use Rattle.leveldb_mem.specs.Placed.{place_of, FailsToReserve}
 use Rattle.leveldb_mem.specs.SkipMap.{IsSorted}
 use Rattle.leveldb_mem.proofs.Rising.{placed_at, inserts_at}
-use Rattle.leveldb_mem.proofs.SkipMapLemmas.{same_path}
+use Rattle.leveldb_mem.proofs.SkipMapLemmas.{same_path, not_empty, not_present}
 use Rattle.leveldb_mem.proofs.skipmap.SkipMap.insert.Goals as goal
 
-pub returns-in_err-reserve-clause-present : goal.returns-in_err-reserve-clause-present
-returns-in_err-reserve-clause-present g c =
+pub returns-in_err-reserve : goal.returns-in_err-reserve
+returns-in_err-reserve g c =
+    let it = c.self.inside in
+    let pairs = it.pairs.pairs in
+    let bytes = length c.args.key.now + length c.args.value.now in
     let p = err_from_is_err_and c.from_residual.result c.from_residual.ensures.1 in
-    rw (p.1, p.2, ← c.self.view_is) (λ h. let wants = c.in_err-reserve.ensures.cause.0 in absurd (cc), λ h. absurd (c.in-Some.ensures.0.alone h.1))
+    let failed = c.in_err-reserve.ensures in
+    let none : length it.pairs.tail + bytes ≡ bytes = omega (arith, ap length c.self.invariant.1) in
+    let cause = subst (λ n. FailsToReserve pairs 1 n c.in_err-reserve.field-0.0) none failed.cause in
+    rw (p.1, p.2, ← c.self.view_is) (record {
+      cmp = refl;
+      ok = tt;
+      sorted = subst (λ (ps : List Pair). IsSorted (g.C.Cmp.accepts it.cmp) (g.C.Cmp.cmp it.cmp) ps) (sym failed.pairs) c.self.invariant.0;
+      err = failed.pairs;
+      places = failed.err;
+      bytes = failed.bytes;
+      empty = (λ h. absurd (not_empty pairs 1 bytes cause h), λ none. absurd (eqb-false (length c.args.key.now) 0 (sym c.if-is_empty.ensures) (ap length none)));
+      present = (λ h. absurd (not_present pairs 1 bytes cause h), λ h. absurd (c.in-Some.ensures.0.alone h.1));
+      cause = inr (inr cause);
+    })
 
 pub place-requires-clause-at : goal.place-requires-clause-at
 place-requires-clause-at g c =
@@ -46,8 +63,8 @@ invariant_of-self-2 g c =
     ∙ ap (λ o. insert it.pairs.pairs (place_of o path) (key, value)) order_is in
     (subst (λ (ps : List Pair). IsSorted (g.C.Cmp.accepts it.cmp) (g.C.Cmp.cmp it.cmp) ps) (sym new) (c.in-Some.ensures.0.sorted value), c.place.ensures.tail, c.place.ensures.nodes)
 
-pub returns-clause-ok : goal.returns-clause-ok
-returns-clause-ok g c =
+pub returns : goal.returns
+returns g c =
     let it = c.self.inside in
     let key = c.args.key.now in
     let value = c.args.value.now in
@@ -59,22 +76,14 @@ returns-clause-ok g c =
     let new : c.place.new.self.pairs ≡ insert it.pairs.pairs (place_of it.pairs.order path) (key, value) =
     placed_at it.pairs.pairs c.append-2.new.self.pairs c.place.new.self.pairs c.append-2.new.self.tail key value (place_of c.append-2.new.self.order path) (length key) same tail refl c.place.ensures.pairs
     ∙ ap (λ o. insert it.pairs.pairs (place_of o path) (key, value)) order_is in
-    rw (← c.self.view_is) (inserts_at it.pairs.pairs c.place.new.self.pairs (place_of it.pairs.order path) (key, value) new)
-
-pub returns-clause-sorted : goal.returns-clause-sorted
-returns-clause-sorted g c =
-    let it = c.self.inside in
-    let key = c.args.key.now in
-    let value = c.args.value.now in
-    let path = c.in-Some.path in
-    let same = c.append-2.ensures.pairs ∙ c.append.ensures.pairs ∙ c.in_ok-reserve.ensures.pairs in
-    let order_is = c.append-2.ensures.order ∙ c.append.ensures.order ∙ c.in_ok-reserve.ensures.order in
-    let tail : c.append-2.new.self.tail ≡ key ++ value =
-    c.append-2.ensures.tail ∙ ap (λ z. z ++ value) (c.append.ensures.tail ∙ ap (λ z. z ++ key) (c.in_ok-reserve.ensures.tail ∙ c.self.invariant.1)) in
-    let new : c.place.new.self.pairs ≡ insert it.pairs.pairs (place_of it.pairs.order path) (key, value) =
-    placed_at it.pairs.pairs c.append-2.new.self.pairs c.place.new.self.pairs c.append-2.new.self.tail key value (place_of c.append-2.new.self.order path) (length key) same tail refl c.place.ensures.pairs
-    ∙ ap (λ o. insert it.pairs.pairs (place_of o path) (key, value)) order_is in
-    subst (λ (ps : List Pair). IsSorted (g.C.Cmp.accepts it.cmp) (g.C.Cmp.cmp it.cmp) ps) (sym new) (c.in-Some.ensures.0.sorted value)
-
-pub returns-clause-present : goal.returns-clause-present
-returns-clause-present g c = rw (← c.self.view_is) (λ h. absurd h, λ h. absurd (c.in-Some.ensures.0.alone h.1))
+    rw (← c.self.view_is) (record {
+      cmp = refl;
+      ok = inserts_at it.pairs.pairs c.place.new.self.pairs (place_of it.pairs.order path) (key, value) new;
+      sorted = subst (λ (ps : List Pair). IsSorted (g.C.Cmp.accepts it.cmp) (g.C.Cmp.cmp it.cmp) ps) (sym new) (c.in-Some.ensures.0.sorted value);
+      err = tt;
+      places = tt;
+      bytes = tt;
+      empty = (λ h. absurd h, λ none. absurd (eqb-false (length key) 0 (sym c.if-is_empty.ensures) (ap length none)));
+      present = (λ h. absurd h, λ h. absurd (c.in-Some.ensures.0.alone h.1));
+      cause = tt;
+    })

@@ -1,7 +1,7 @@
 use Rattle.std.proofs.Common.{◌∙◌}
 use Rattle.std.proofs.lemmas.Result.{err_from_is_err_and}
-use Rattle.leveldb_mem.specs.Log.Reader.{wrong_checksum, torn, given_up}
-use Rattle.leveldb_mem.proofs.ReaderLemmas.{read_failed}
+use Rattle.leveldb_mem.specs.Log.Reader.{wrong_checksum, torn}
+use Rattle.leveldb_mem.proofs.ReaderLemmas.{read_failed, read_stopped}
 use Rattle.leveldb_mem.proofs.log.reader.ReaderCore.read.Goals as goal
 use Rattle.leveldb_mem.proofs.log.reader.ReaderCore.read.Goals.{in-Ok-WrongChecksum, in-Ok-Damage, in-Err}
 
@@ -19,5 +19,5 @@ returns g c =
           let found = rw w.in-Ok-Damage.field-0-is at w.in-Ok-Damage.ensures.found in
           let broken = rw w.in-Ok-Damage.field-0-is at w.in-Ok-Damage.ensures.damage in
           fails p.0 _ _ _ (w.failed-is ∙ p.1) c.clear.ensures.items (λ usable. torn p.2 found (broken tt)) (λ failed. absurd (w.in-Ok-Damage.ensures.failed failed).0))
-      | in-Err w ↦ fails _ _ _ _ w.failed-is c.clear.ensures.items (λ usable. given_up (w.in-Err.ensures.err usable).0 (w.in-Err.ensures.err usable).1) (λ failed. w.in-Err.ensures.failed failed)
+      | in-Err w ↦ fails _ _ _ _ w.failed-is c.clear.ensures.items (λ usable. read_stopped g.S.Source.gives (w.in-Err.ensures.err usable).0 (w.in-Err.ensures.err usable).1) (λ failed. w.in-Err.ensures.failed failed)
     ]

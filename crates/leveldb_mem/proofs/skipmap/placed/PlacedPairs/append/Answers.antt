@@ -19,6 +19,7 @@ invariant_of-self c =
       laid.3,
       omega (arith, laid.4, room, c.requires, size, length-append text.items c.args.part.now, c.extend_from_slice.ensures.capacity, text.ok.0, c.extend_from_slice.new.self.ok.0),
       omega (arith, laid.5, room, c.requires, size, length-append text.items c.args.part.now, text.ok.0, c.extend_from_slice.new.self.ok.0),
+      laid.6,
     )
 
 pub returns-clause-pairs : goal.returns-clause-pairs

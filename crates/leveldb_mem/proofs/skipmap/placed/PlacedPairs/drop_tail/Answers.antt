@@ -13,6 +13,7 @@ invariant_of-self c =
       laid.3,
       omega (arith, laid.4, c.truncate.ensures.len, c.truncate.ensures.capacity, c.len.ensures, laid.0.within, it.text.ok.0),
       omega (arith, laid.5, c.truncate.ensures.len, c.len.ensures, laid.0.within, it.text.ok.0),
+      laid.6,
     )
 
 pub returns-clause-pairs : goal.returns-clause-pairs

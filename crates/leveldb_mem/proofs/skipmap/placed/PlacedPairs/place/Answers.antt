@@ -107,6 +107,7 @@ invariant_of-self c =
       omega (arith, size, c.extend_from_slice.new.self.ok.0, it.words.ok.0, c.requires.height.1, room, c.self.invariant.3),
       c.self.invariant.4,
       c.self.invariant.5,
+      omega (arith, size, c.extend_from_slice.new.self.ok.0, it.words.ok.0, c.requires.height.1, c.self.invariant.6),
     )
 
 pub returns-clause-pairs : goal.returns-clause-pairs

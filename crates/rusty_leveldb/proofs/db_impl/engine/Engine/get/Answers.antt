@@ -1,7 +1,7 @@
 use Rattle.std.proofs.Common.{ℕ, List, Option, ap, subst}
 use Rattle.std.specs.Prelude.{option_copied}
 use Rattle.std.specs.Borrow.{Bor}
-use Rattle.leveldb_mem.specs.MemTable.{FindsNewest}
+use Rattle.leveldb_base.specs.Entries.{FindsNewest}
 use Rattle.rusty_leveldb.specs.Recent.{lent_newest}
 use Rattle.rusty_leveldb.proofs.GetSteps.{get_long, get_starved, get_missing, get_deleted, get_value, within}
 use Rattle.rusty_leveldb.proofs.db_impl.engine.Engine.get.Goals as goal

@@ -1,14 +1,14 @@
 -- A write at each of its exits: no number is left, no memory, a refused append, a refused sync, and done with a sync or without.
-use Rattle.std.proofs.Common.{◌≡◌, ◌+◌, ◌∙◌, ap, inl, inr, arith, ◌≤◌, subst, sym}
+use Rattle.std.proofs.Common.{◌≡◌, ◌+◌, ◌∙◌, length, refl, ap, inl, inr, arith, ◌≤◌, subst, sym}
 use Rattle.std.proofs.lemmas.Result.{err_from_is_err_and}
 use Rattle.leveldb_mem.specs.WriteBatch.{batch_of}
 use Rattle.rusty_leveldb.specs.State.{write}
-use Rattle.rusty_leveldb.proofs.Writes.Kept.{prepared_was, used_up_goes, memory_goes}
+use Rattle.rusty_leveldb.proofs.Writes.Kept.{prepared_was, used_up_goes, unprepared_goes}
 use Rattle.rusty_leveldb.proofs.Writes.Append.{IsNext}
-use Rattle.rusty_leveldb.proofs.Writes.Causes.{append_cause, append_breaks, append_counted, append_time, sync_time, still_sound, sync_cause, sync_counted, done_cause}
+use Rattle.rusty_leveldb.proofs.Writes.Causes.{append_cause, append_breaks, append_counted, append_time, sync_time, still_sound, sync_cause, sync_counted, done_cause, prepare_excused}
 use Rattle.rusty_leveldb.proofs.Writes.Shut.{not_halted, shut}
 use Rattle.rusty_leveldb.proofs.Writes.Write.{batch_behind, is_next, follows, refused_append, refused_sync, done_plain, done_with_sync, last_plain, last_synced, room_plain, room_synced, options_plain, options_synced, stays_plain, stays_synced, stays_refused}
-use Rattle.leveldb_mem.specs.MemTable.{HasRoom}
+use Rattle.leveldb_mem.specs.MemTable.{HasRoom, bytes_in}
 use Rattle.rusty_leveldb.proofs.db_impl.engine.Engine.write.Goals as goal
 use Rattle.rusty_leveldb.proofs.db_impl.engine.Engine.write.Goals.{then-sync+in_ok-sync, else-sync}
 
@@ -26,8 +26,18 @@ returns-in_err-first-clause-step g c store tells old was =
 pub returns-in_err-prepare-clause-step : goal.returns-in_err-prepare-clause-step
 returns-in_err-prepare-clause-step g c store tells old was =
     let p = err_from_is_err_and c.from_residual-in_err-prepare.result c.from_residual-in_err-prepare.ensures.1 in
-    rw (p.1, p.2) (memory_goes g.E.Env store c.args.self.now c.args.env.now old was (g.C.Cmp.cmp c.args.self.now.options.cmp) c.in_ok-check_open.ensures.ok.0 c.args.batch.items c.args.sync c.in_err-prepare.field-0.0
-    (record c.args.self.now { recent = c.prepare.new.self }) (prepared_was g.E.Env store c.args.self.now c.args.env.now old was c.prepare.new.self c.prepare.ensures.entries c.prepare.ensures.last) c.in_err-prepare.ensures.memory)
+    rw (p.1, p.2) (unprepared_goes g.E.Env store c.args.self.now c.args.env.now old was (g.C.Cmp.cmp c.args.self.now.options.cmp) c.in_ok-check_open.ensures.ok.0 c.args.batch.items c.args.sync c.in_err-prepare.field-0.0
+    (record c.args.self.now { recent = c.prepare.new.self }) (prepared_was g.E.Env store c.args.self.now c.args.env.now old was c.prepare.new.self c.prepare.ensures.entries c.prepare.ensures.last) c.args.self.now.recent.kept (length c.args.batch.items) (bytes_in c.args.batch.items) c.in_err-prepare.ensures.cause)
+
+pub returns-in_err-prepare-clause-cause : goal.returns-in_err-prepare-clause-cause
+returns-in_err-prepare-clause-cause g c =
+    let p = err_from_is_err_and c.from_residual-in_err-prepare.result c.from_residual-in_err-prepare.ensures.1 in
+    rw (p.1, p.2) (record {
+      later = omega arith;
+      ok = tt;
+      uncounted = λ excused. refl;
+      cause = inl (prepare_excused g.E.Env c.args.self.now c.args.env.now c.args.batch.items c.in_err-prepare.field-0.0 c.in_err-prepare.ensures.cause);
+    })
 
 pub returns-in_err-append-clause-step : goal.returns-in_err-append-clause-step
 returns-in_err-append-clause-step g c store tells old was =
@@ -73,10 +83,10 @@ returns-clause-step g c store tells old was =
     let next : IsNext c.args.self.now.recent.last c.args.batch.items c.contents.result.now = is_next c.args.self.now.recent.last c.in_ok-first.first c.count.result c.args.batch.items c.set_sequence.new.self c.contents.result.now c.in_ok-first.ensures.ok.0 c.in_ok-first.ensures.ok.1 c.in_ok-first.ensures.ok.2 c.count.ensures c.set_sequence.ensures c.contents.ensures c.append.ensures.bytes in
     let batch_is : c.set_sequence.new.self ≡ batch_of (c.args.self.now.recent.last + 1) c.args.batch.items = batch_behind c.args.self.now.recent.last c.in_ok-first.first c.args.batch.items c.set_sequence.new.self c.in_ok-first.ensures.ok.0 c.set_sequence.ensures in
     elim c.if-sync.branch [
-      | then-sync+in_ok-sync w ↦ done_with_sync g.E.Env tells store (g.C.Cmp.cmp c.args.self.now.options.cmp) c.args.self.now c.args.env.now old was c.in_ok-check_open.ensures.ok.0 c.prepare.new.self c.prepare.ensures.entries c.prepare.ensures.last c.args.batch.items c.args.sync c.contents.result.now next c.append.new.self c.append.new.env c.append.ensures.rest c.append.ensures.mode c.in_ok-append.ensures.ok.0 c.in_ok-append.ensures.ok.1 c.set_sequence.new.self batch_is c.next.ensures.numbered c.insert.new.self c.if-sync.self c.insert.ensures c.if-sync.env
+      | then-sync+in_ok-sync w ↦ done_with_sync g.E.Env tells store (g.C.Cmp.cmp c.args.self.now.options.cmp) c.args.self.now c.args.env.now old was c.in_ok-check_open.ensures.ok.0 c.prepare.new.self c.prepare.ensures.entries c.prepare.ensures.last c.args.batch.items c.args.sync c.contents.result.now next c.append.new.self c.append.new.env c.append.ensures.rest c.append.ensures.mode c.in_ok-append.ensures.ok.0 c.in_ok-append.ensures.ok.1 c.set_sequence.new.self batch_is c.next.ensures.numbered c.insert.new.self c.if-sync.self c.insert.ensures.inserts c.if-sync.env
           w.sync.new.self w.sync.new.env w.sync.ensures.rest w.in_ok-sync.ensures.mode_ok
           (w.in_ok-sync.ensures.synced (still_sound g.E.Env c.args.self.now c.args.env.now c.in_ok-check_open.ensures.ok.0 c.in_ok-check_open.ensures.ok.1 c.args.batch.items c.contents.result.now next c.append.new.self.writer c.append.new.self.log c.append.new.env c.in_ok-append.ensures.ok.0 c.in_ok-append.ensures.ok.1)) w.self-is w.env-is
-      | else-sync w ↦ done_plain g.E.Env tells store (g.C.Cmp.cmp c.args.self.now.options.cmp) c.args.self.now c.args.env.now old was c.in_ok-check_open.ensures.ok.0 c.prepare.new.self c.prepare.ensures.entries c.prepare.ensures.last c.args.batch.items c.args.sync c.contents.result.now next c.append.new.self c.append.new.env c.append.ensures.rest c.append.ensures.mode c.in_ok-append.ensures.ok.0 c.in_ok-append.ensures.ok.1 c.set_sequence.new.self batch_is c.next.ensures.numbered c.insert.new.self c.if-sync.self c.insert.ensures c.if-sync.env w.if-sync.false w.self-is w.env-is
+      | else-sync w ↦ done_plain g.E.Env tells store (g.C.Cmp.cmp c.args.self.now.options.cmp) c.args.self.now c.args.env.now old was c.in_ok-check_open.ensures.ok.0 c.prepare.new.self c.prepare.ensures.entries c.prepare.ensures.last c.args.batch.items c.args.sync c.contents.result.now next c.append.new.self c.append.new.env c.append.ensures.rest c.append.ensures.mode c.in_ok-append.ensures.ok.0 c.in_ok-append.ensures.ok.1 c.set_sequence.new.self batch_is c.next.ensures.numbered c.insert.new.self c.if-sync.self c.insert.ensures.inserts c.if-sync.env w.if-sync.false w.self-is w.env-is
     ]
 
 pub returns-clause-cause : goal.returns-clause-cause
