@@ -1,6 +1,6 @@
 -- What a table's builder, its file, its look-ups and its walks make of a list of pairs.
-use Rattle.std.proofs.Common.{◌≡◌, ◌≢◌, ◌⊎◌, ℕ, ◌+◌, ◌-◌, ◌<◌, ◌≤◌, ◌^◌, Bool, true, false, List, [], ◌∷◌, ◌++◌, length, take, get_or, Option, None, Some, Result, Ok, Err, refl, sym, ◌∙◌, ap, subst, inl, inr, ⊎_elim, arith, zero, suc, map, nat_lt, append_assoc, if◌then◌else◌}
-use Rattle.std.specs.Prelude.{is_some, IsSomeAnd, IfOk, OnOk, IfSome, IsTrue, flat_map}
+use Rattle.std.proofs.Common.{◌≡◌, ℕ, ◌+◌, ◌-◌, ◌<◌, ◌^◌, Bool, true, false, List, [], ◌∷◌, ◌++◌, length, take, get_or, Option, None, Some, Result, Ok, Err, refl, sym, ◌∙◌, ap, subst, inl, inr, ⊎_elim, arith, zero, suc, map, append_assoc, if◌then◌else◌}
+use Rattle.std.specs.Prelude.{is_some, IsSomeAnd, IfOk, OnOk, IfSome, IsTrue}
 use Rattle.std.specs.List.{slice_get}
 use Rattle.std.specs.Option.{option_map}
 use Rattle.std.proofs.lemmas.Bool.{lt-ltb}
@@ -14,21 +14,19 @@ use Rattle.std.specs.Cmp.{IsTotalOrder}
 use Rattle.std.specs.Str.{bytes_eq}
 use Rattle.leveldb_base.proofs.EntriesLemmas.{internal_is_total, first_is_newest}
 use Rattle.leveldb_base.proofs.OrderLemmas.{not_lt, same_bytes}
-use Rattle.leveldb_base.specs.BlockHandle.{Handle}
 use Rattle.leveldb_base.specs.Cmp.{IsPreorderOn, IsExactOrder}
 use Rattle.leveldb_base.specs.Entries.{value_of, entries_of_pairs, found_at, FindsNewest}
 use Rattle.leveldb_base.specs.History.{IsBeforeAll, AreRising}
 use Rattle.leveldb_base.specs.KeyTypes.{user_part, sequence_part, type_part, internal_cmp}
-use Rattle.leveldb_base.specs.Types.{Pair, pair_at, position_within, previous_position, next_position, seek_position, count_before}
+use Rattle.leveldb_base.specs.Types.{Pair, pair_at, position_within, previous_position, next_position, count_before}
 use Rattle.leveldb_base.specs.declared.cmp.Cmp.{Ghosts as CmpGhosts}
 use Rattle.leveldb_base.specs.declared.error.Status.{Status}
 use Rattle.leveldb_env.proofs.EnvLemmas.{at_same, extended-same, synced-same}
 use Rattle.leveldb_env.proofs.EnvFileLemmas.{IsLonger-borrowed}
 use Rattle.leveldb_env.specs.Compressor.{Codings, Decodes}
 use Rattle.leveldb_env.specs.Env.{ChangesFiles, BeforeOrAfter, FilesUnchanged, same, bytes_of, emptied, extended, synced, kept_file, longer_file, Files}
-use Rattle.leveldb_env.specs.EnvFile.{Opened, opened, IsLonger, Syncs, ChangesBorrowedFile, AppendsBorrowed, SyncsBorrowed, done}
+use Rattle.leveldb_env.specs.EnvFile.{Opened, opened, ChangesBorrowedFile, AppendsBorrowed, SyncsBorrowed}
 use Rattle.leveldb_env.specs.FilterBlock.{FiltersRead, passes}
-use Rattle.leveldb_env.specs.Sink.{PutsAll}
 use Rattle.leveldb_env.proofs.SinkLemmas.{PutsAll-none, PutsAll-trans}
 use Rattle.leveldb_env.specs.declared.env.Env.{Ghosts as EnvGhosts}
 use Rattle.leveldb_env.specs.declared.env.env_file.EnvFile.{EnvFile}
@@ -43,7 +41,7 @@ use Rattle.leveldb_table.specs.Table.{Part, index_pair, named_part, first_from, 
 use Rattle.leveldb_table.specs.TableBlock.{FileHas, ForBytesOf, KeepsDisk}
 use Rattle.leveldb_table.specs.TableBuilder.{MatchesByUser, AddsPair, IsBuiltTable}
 use Rattle.leveldb_table.specs.TableReader.{HasParts, KeepsUsersTogether, HasNoneFrom, pairs_in, found_in, lines_of, filters_in, filters_of, lets, OpensAs}
-use Rattle.leveldb_table.specs.TableReaderWalk.{MovesInTable, IsAtPosition, Outcome, inner_position, pairs_over}
+use Rattle.leveldb_table.specs.TableReaderWalk.{MovesInTable, Outcome, inner_position, pairs_over}
 use Rattle.leveldb_table.specs.declared.block_cache.CachedBlock.{CachedBlock}
 use Rattle.leveldb_table.specs.declared.table_reader.Table.{Table}
 use Rattle.leveldb_table.specs.declared.table_reader.walk.TableCore.{TableCore}

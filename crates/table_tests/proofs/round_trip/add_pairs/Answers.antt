@@ -1,7 +1,4 @@
-use Rattle.std.proofs.Common.{◌≡◌, ◌+◌, refl, sym, ◌∙◌, ap, subst, rules, arith, take}
-use Rattle.leveldb_env.specs.contracts.compressor.CompressorListCompressors.TheImpl.{ghosts as compressors}
-use Rattle.leveldb_table.specs.TableBuilder.{IsBegun, KeepsChoices}
-use Rattle.table_tests.specs.RoundTrip.{given, AddsAll}
+use Rattle.std.proofs.Common.{refl, ◌∙◌, arith}
 use Rattle.table_tests.proofs.RoundTripLemmas.{adds_none, adds_next, no_given}
 use Rattle.table_tests.proofs.round_trip.add_pairs.Goals as goal
 

@@ -1,6 +1,5 @@
-use Rattle.std.proofs.Common.{arith, refl, sym, Some, ◌≡◌, ◌<◌, ◌^◌, length, subst}
-use Rattle.leveldb_env.specs.contracts.compressor.CompressorListCompressors.TheImpl.{ghosts as compressors}
-use Rattle.table_tests.specs.RoundTrip.{given, IsOpen}
+use Rattle.std.proofs.Common.{arith, refl, Some, ◌<◌, ◌^◌, length}
+use Rattle.table_tests.specs.RoundTrip.{given}
 use Rattle.table_tests.proofs.round_trip.build_and_read.Goals as goal
 
 pub returns : goal.returns

@@ -1,4 +1,4 @@
-use Rattle.std.proofs.Common.{arith, refl, ◌∙◌, ap, sym, ◌≡◌, ◌-◌, ◌<◌, Some, length}
+use Rattle.std.proofs.Common.{arith, refl, ◌∙◌, ap, ◌≡◌, ◌-◌, ◌<◌, Some, length}
 use Rattle.leveldb_base.specs.Types.{previous_position}
 use Rattle.table_tests.proofs.RoundTripLemmas.{walks_back, walks_at, previous_is, given_at, no_given, is_nowhere}
 use Rattle.table_tests.proofs.round_trip.goes_back.Goals as goal
