@@ -58,6 +58,28 @@ impl Compressor for Raised {
     }
 }
 
+/// The options by default but for an order of keys and a filter policy.
+pub fn options_under<C, FP>(cmp: C, filter_policy: FP) -> Options<C, FP> {
+    let defaults = Options::default();
+    Options {
+        cmp,
+        filter_policy,
+        create_if_missing: defaults.create_if_missing,
+        error_if_exists: defaults.error_if_exists,
+        paranoid_checks: defaults.paranoid_checks,
+        write_buffer_size: defaults.write_buffer_size,
+        max_open_files: defaults.max_open_files,
+        max_file_size: defaults.max_file_size,
+        block_cache_capacity_bytes: defaults.block_cache_capacity_bytes,
+        block_size: defaults.block_size,
+        block_restart_interval: defaults.block_restart_interval,
+        compressor: defaults.compressor,
+        compressor_list: defaults.compressor_list,
+        reuse_logs: defaults.reuse_logs,
+        reuse_manifest: defaults.reuse_manifest,
+    }
+}
+
 /// Options with restart points at every third entry, and the compressor of the id 7.
 pub fn compressed(alloc: Global) -> Result<Options<DefaultCmp, BloomPolicy>> {
     let mut options = Options::default();

@@ -12,6 +12,8 @@ mod checks;
 #[cfg(test)]
 mod footers;
 #[cfg(test)]
+mod round_trip;
+#[cfg(test)]
 mod short_reads;
 #[cfg(test)]
 mod table_blocks;

@@ -1,7 +1,7 @@
 //! Tables built, opened, looked up and walked over, and compared with the lists of their pairs.
 use crate::checks::{
     EIGHT, Given, ONE, change_byte, compressed, failed_saying, failed_with, footer_of, has_pairs,
-    internal_table, table_of,
+    internal_table, options_under, table_of,
 };
 use crate::short_reads::ShortReads;
 use bytes::Bytes;
@@ -279,24 +279,10 @@ fn in_memory(rt: HostRuntime) -> Result<()> {
 
 /// Options for tables without filters.
 fn unfiltered(block_size: usize) -> Options<DefaultCmp, NoFilterPolicy> {
-    let defaults = Options::default();
-    Options {
-        cmp: DefaultCmp,
-        filter_policy: NoFilterPolicy,
-        create_if_missing: defaults.create_if_missing,
-        error_if_exists: defaults.error_if_exists,
-        paranoid_checks: defaults.paranoid_checks,
-        write_buffer_size: defaults.write_buffer_size,
-        max_open_files: defaults.max_open_files,
-        max_file_size: defaults.max_file_size,
-        block_cache_capacity_bytes: defaults.block_cache_capacity_bytes,
-        block_size,
-        block_restart_interval: 3,
-        compressor: defaults.compressor,
-        compressor_list: CompressorList::default(),
-        reuse_logs: defaults.reuse_logs,
-        reuse_manifest: defaults.reuse_manifest,
-    }
+    let mut options = options_under(DefaultCmp, NoFilterPolicy);
+    options.block_size = block_size;
+    options.block_restart_interval = 3;
+    options
 }
 
 /// Tables without filters, whose reads are short.
