@@ -3,7 +3,7 @@ use crate::set::FileSet;
 use crate::table::{Pair, table_pairs};
 use leveldb_base::cmp::Cmp;
 use leveldb_base::error::{Result, StatusCode, err};
-use leveldb_base::key_types::{ValueType, parse_internal_key};
+use leveldb_base::key_types::{TAG_LEN, ValueType, parse_internal_key};
 use leveldb_base::names::{log_file_name, parse_file_name, table_file_name};
 use leveldb_base::types::{FileMetaData, FileNum, FileType, MAX_SEQUENCE_NUMBER, SequenceNumber};
 use leveldb_env::env::Env;
@@ -149,10 +149,21 @@ fn read_logs<E: Env>(
 
 // ---- tables
 
+/// Whether a key has a tag whose kind is a deletion's or a value's.
+fn is_internal_key(key: &[u8]) -> bool {
+    let Some(from) = key.len().checked_sub(TAG_LEN) else {
+        return false;
+    };
+    match key.get(from) {
+        Some(kind) => *kind <= 1,
+        None => false,
+    }
+}
+
 /// The entry that a table's pair is. The value beside a deletion's key is ignored.
 fn entry_of(alloc: Global, pair: Pair) -> Result<Entry> {
     let (key, value) = pair;
-    if key.len() < 8 {
+    if key.len() < TAG_LEN || !is_internal_key(key.as_slice()) {
         return damaged(alloc);
     }
     let (kind, sequence, user) = parse_internal_key(key.as_slice());
@@ -177,16 +188,17 @@ fn has_range(pairs: &[Pair], file: &FileMetaData) -> bool {
 }
 
 /// The table that a file is.
-fn read_table<E: Env>(
+fn read_table<E: Env, C: Cmp>(
     alloc: Global,
     env: &mut E,
+    cmp: &C,
     store: &str,
     level: usize,
     file: FileMetaData,
 ) -> Result<LiveTable> {
     let path = table_file_name(alloc, store, file.num)?;
     let bytes = read_file(alloc, env, &path)?;
-    let Some(pairs) = table_pairs(alloc, bytes.as_slice())? else {
+    let Some(pairs) = table_pairs(alloc, cmp, bytes.as_slice())? else {
         return damaged(alloc);
     };
     if bytes.len() != file.size || !has_range(pairs.as_slice(), &file) {
@@ -219,7 +231,8 @@ fn is_older(older: &[Entry], newer: &[Entry]) -> bool {
 
 /// The user key of an internal key of eight bytes or more.
 fn user_key(key: &[u8]) -> &[u8] {
-    key.get(..key.len().saturating_sub(8)).unwrap_or_default()
+    key.get(..key.len().saturating_sub(TAG_LEN))
+        .unwrap_or_default()
 }
 
 /// Whether the keys of one end before those of the other begin.
@@ -328,7 +341,7 @@ pub fn read_store<E: Env, C: Cmp>(
     };
     let mut tables = Vec::new(alloc);
     for (level, file) in set.files {
-        tables.push(read_table(alloc, env, store, level, file)?)?;
+        tables.push(read_table(alloc, env, cmp, store, level, file)?)?;
     }
     let logged = read_logs(alloc, env, store, numbers.as_slice())?;
     Ok(Some(gather(alloc, cmp, comparator, last, tables, logged)?))

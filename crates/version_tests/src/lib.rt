@@ -4,6 +4,10 @@
 #[cfg(test)]
 mod checks;
 #[cfg(test)]
+mod store_files;
+#[cfg(test)]
+mod store_sweeps;
+#[cfg(test)]
 mod stores;
 #[cfg(test)]
 mod version_edits;

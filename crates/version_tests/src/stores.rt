@@ -1,223 +1,167 @@
 //! What the files of small stores hold, by the slow reading of them: the expected contents are
 //! written by hand.
 use crate::checks::failed_with;
-use bytes::Bytes;
-use leveldb_base::cmp::DefaultCmp;
+use crate::store_files::{
+    A, B, C, NEW_MANIFEST, NEXT_MANIFEST, PAIR_EDIT, PAIR_TABLE, PAST_EDIT, Row, TABLE, TABLE_EDIT,
+    are_rows, bytes_of, put, put_log, read, store_of,
+};
 use leveldb_base::error::{Result, StatusCode};
-use leveldb_base::types::{FileMetaData, FileNum, SequenceNumber};
-use leveldb_env::env::whole_files::replace_file;
 use leveldb_env::mem_env::MemEnv;
-use leveldb_mem::log::LogWriter;
-use leveldb_mem::write_batch::WriteBatch;
-use leveldb_version::version_edit::VersionEdit;
-use slow_store::{Contents, read_store};
 use std::alloc::Global;
 use std::process::Abort;
 
-/// A number, a key, and its value or a deletion.
-type Row = (SequenceNumber, &'static [u8], Option<&'static [u8]>);
+/// The last entry of a log of 72 bytes.
+const THIRD: Row = (3, b"c", Some(b"3"));
 
-const A: Row = (1, b"a", Some(b"1"));
-
-const B: Row = (2, b"b", None);
-
-/// A table of the entry `A`, 114 bytes: a data block, an empty metaindex, the index, the footer.
-const TABLE: [u8; 114] = [
-    0, 9, 1, 97, 1, 1, 0, 0, 0, 0, 0, 0, 49, 0, 0, 0, 0, 1, 0, 0, 0, 0, 0, 0, 0, 0, 0, 0, 0, 0, 1,
-    0, 0, 0, 0, 0, 0, 0, 0, 0, 9, 2, 97, 1, 1, 0, 0, 0, 0, 0, 0, 0, 21, 0, 0, 0, 0, 1, 0, 0, 0, 0,
-    0, 0, 0, 0, 26, 8, 39, 22, 0, 0, 0, 0, 0, 0, 0, 0, 0, 0, 0, 0, 0, 0, 0, 0, 0, 0, 0, 0, 0, 0, 0,
-    0, 0, 0, 0, 0, 0, 0, 0, 0, 0, 0, 0, 0, 0x57, 0xfb, 0x80, 0x8b, 0x24, 0x75, 0x47, 0xdb,
-];
-
-const KEY: [u8; 9] = [97, 1, 1, 0, 0, 0, 0, 0, 0];
-
-// ---- the files
-
-fn put(alloc: Global, env: &mut MemEnv, name: &str, bytes: &[u8]) -> Result<()> {
-    let path = format!(in alloc; "db/{name}")?;
-    if path.as_str() == "temp" {
-        return Ok(());
-    }
-    replace_file(alloc, env, "temp", &path, bytes)
-}
-
-/// An edit that sets a log's number and the last sequence number.
-fn edit(alloc: Global, log: FileNum, last: SequenceNumber) -> Result<VersionEdit> {
-    let mut edit = VersionEdit::new(alloc);
-    edit.set_log_num(log);
-    edit.set_last_seq(last);
-    Ok(edit)
-}
-
-/// The edit of a new store.
-fn first_edit(alloc: Global) -> Result<VersionEdit> {
-    let mut edit = edit(alloc, 0, 0)?;
-    edit.set_comparator_name("leveldb.BytewiseComparator")?;
-    edit.set_next_file(2);
-    Ok(edit)
-}
-
-/// The edit that has the table in place of the logs below 6.
-fn table_edit(alloc: Global) -> Result<VersionEdit> {
-    let mut edit = edit(alloc, 6, 1)?;
-    let key = Bytes::copy_from_slice(alloc, &KEY)?;
-    let file = FileMetaData {
-        allowed_seeks: 0,
-        num: 5,
-        size: 114,
-        smallest: key.clone()?,
-        largest: key,
-    };
-    edit.add_file(0, file)?;
-    Ok(edit)
-}
-
-/// The bytes of a log of these records.
-fn framed(alloc: Global, records: &[Vec<u8>]) -> Result<Vec<u8>> {
-    let mut writer = LogWriter::new(alloc, Vec::new(alloc));
-    for record in records {
-        writer.add_record(record.as_slice())?;
-    }
-    Ok(writer.sink)
-}
-
-/// The bytes of a log of these rows, each in a batch of its own.
-fn log_of(alloc: Global, rows: &[Row]) -> Result<Vec<u8>> {
-    let mut records = Vec::new(alloc);
-    for (sequence, key, value) in rows {
-        let mut batch = WriteBatch::new(alloc)?;
-        match value {
-            Some(value) => batch.put(key, value)?,
-            None => batch.delete(key)?,
-        }
-        records.push(batch.encode(*sequence))?;
-    }
-    framed(alloc, records.as_slice())
-}
-
-/// A store of these edits, the last of them without its last byte where that is said.
-fn store_of(alloc: Global, edits: &[VersionEdit], torn: bool) -> Result<MemEnv> {
-    let mut env = MemEnv::new(alloc);
-    let mut records = Vec::new(alloc);
-    for edit in edits {
-        records.push(edit.encode(alloc)?)?;
-    }
-    let mut manifest = framed(alloc, records.as_slice())?;
-    if torn {
-        manifest.pop();
-    }
-    put(alloc, &mut env, "MANIFEST-000001", manifest.as_slice())?;
-    put(alloc, &mut env, "CURRENT", b"MANIFEST-000001\n")?;
-    Ok(env)
-}
-
-fn new_store(alloc: Global) -> Result<MemEnv> {
-    let mut edits = Vec::new(alloc);
-    edits.push(first_edit(alloc)?)?;
-    store_of(alloc, edits.as_slice(), false)
-}
-
-/// A store of two edits, and logs 3 and 6.
-fn two_edits(alloc: Global, torn: bool) -> Result<MemEnv> {
-    let mut edits = Vec::new(alloc);
-    edits.push(first_edit(alloc)?)?;
-    edits.push(table_edit(alloc)?)?;
-    let mut env = store_of(alloc, edits.as_slice(), torn)?;
-    put(alloc, &mut env, "000005.ldb", &TABLE)?;
-    put(
-        alloc,
-        &mut env,
-        "000003.log",
-        log_of(alloc, &[A])?.as_slice(),
-    )?;
-    put(
-        alloc,
-        &mut env,
-        "000006.log",
-        log_of(alloc, &[B])?.as_slice(),
-    )?;
-    Ok(env)
-}
-
-// ---- what they hold
-
-fn read(alloc: Global, env: &mut MemEnv) -> Result<Option<Contents>> {
-    read_store(alloc, env, &DefaultCmp, "db")
-}
-
-/// Whether contents are these rows, in their order, up to a last number.
-fn are_rows(contents: Option<Contents>, rows: &[Row], last: SequenceNumber) -> bool {
-    let Some(contents) = contents else {
-        return false;
-    };
-    contents.last == last
-        && contents.comparator.as_str() == "leveldb.BytewiseComparator"
-        && contents.entries.len() == rows.len()
-        && contents.entries.iter().zip(rows.iter()).all(|(entry, row)| {
-            entry.sequence == row.0
-                && entry.key.as_slice() == row.1
-                && entry.value.as_ref().map(|value| value.as_slice()) == row.2
-        })
+/// Whether the files are no store.
+fn is_damaged(alloc: Global, env: &mut MemEnv) -> Result<bool> {
+    failed_with(read(alloc, env), StatusCode::Corruption)
 }
 
 #[test]
 fn no_store(rt: HostRuntime) -> Result<()> {
     let mut env = MemEnv::new(rt.alloc());
     assert!(rt; read(rt.alloc(), &mut env)?.is_none());
+    put(rt.alloc(), &mut env, "MANIFEST-000001", NEW_MANIFEST)?;
+    assert!(rt; read(rt.alloc(), &mut env)?.is_none());
     put(rt.alloc(), &mut env, "000003.log", b"")?;
-    assert!(rt; failed_with(read(rt.alloc(), &mut env), StatusCode::Corruption)?);
+    assert!(rt; is_damaged(rt.alloc(), &mut env)?);
     Ok(())
 }
 
+/// A new store has no log yet, and then an empty one.
 #[test]
-fn new_and_reopened(rt: HostRuntime) -> Result<()> {
-    let mut env = new_store(rt.alloc())?;
+fn new_store(rt: HostRuntime) -> Result<()> {
+    let mut env = store_of(rt.alloc(), b"")?;
     assert!(rt; are_rows(read(rt.alloc(), &mut env)?, &[], 0));
-    let log = log_of(rt.alloc(), &[A, B])?;
-    put(rt.alloc(), &mut env, "000003.log", log.as_slice())?;
-    assert!(rt; are_rows(read(rt.alloc(), &mut env)?, &[A, B], 2));
+    put(rt.alloc(), &mut env, "000003.log", b"")?;
+    assert!(rt; are_rows(read(rt.alloc(), &mut env)?, &[], 0));
     Ok(())
 }
 
-/// A log is read up to its torn record, and the later ones must be empty.
+/// What a crash leaves of a log whose last batch isn't kept: nothing of that one, all of it, or
+/// another last byte.
 #[test]
 fn torn_log(rt: HostRuntime) -> Result<()> {
-    let mut env = new_store(rt.alloc())?;
-    let mut log = log_of(rt.alloc(), &[A, B])?;
+    let mut env = store_of(rt.alloc(), b"")?;
+    put_log(rt.alloc(), &mut env, "000003.log", &[A, B, THIRD])?;
+    assert!(rt; are_rows(read(rt.alloc(), &mut env)?, &[A, B, THIRD], 3));
+    let mut log = bytes_of(rt.alloc(), &mut env, "000003.log")?;
     log.pop();
+    log.push(0x34)?;
     put(rt.alloc(), &mut env, "000003.log", log.as_slice())?;
-    put(rt.alloc(), &mut env, "000004.log", b"")?;
-    assert!(rt; are_rows(read(rt.alloc(), &mut env)?, &[A], 1));
-    put(rt.alloc(), &mut env, "000004.log", b"x")?;
-    assert!(rt; failed_with(read(rt.alloc(), &mut env), StatusCode::Corruption)?);
+    assert!(rt; log.len() == 72 && are_rows(read(rt.alloc(), &mut env)?, &[A, B], 2));
+    log.truncate(48);
+    put(rt.alloc(), &mut env, "000003.log", log.as_slice())?;
+    assert!(rt; are_rows(read(rt.alloc(), &mut env)?, &[A, B], 2));
     Ok(())
 }
 
-/// The table has what log 3 had, which isn't replayed any more.
+/// After a log with a bad end the later ones are empty.
+#[test]
+fn after_a_bad_end(rt: HostRuntime) -> Result<()> {
+    let mut env = store_of(rt.alloc(), b"")?;
+    put(rt.alloc(), &mut env, "000003.log", b"x")?;
+    put(rt.alloc(), &mut env, "000004.log", b"")?;
+    assert!(rt; are_rows(read(rt.alloc(), &mut env)?, &[], 0));
+    put(rt.alloc(), &mut env, "000004.log", b"x")?;
+    assert!(rt; is_damaged(rt.alloc(), &mut env)?);
+    Ok(())
+}
+
+/// A store that was opened again after a torn log: what that one had is in a table.
+#[test]
+fn reopened(rt: HostRuntime) -> Result<()> {
+    let mut env = store_of(rt.alloc(), PAIR_EDIT)?;
+    put(rt.alloc(), &mut env, "000004.ldb", PAIR_TABLE)?;
+    put_log(rt.alloc(), &mut env, "000003.log", &[A, B, C])?;
+    put_log(rt.alloc(), &mut env, "000005.log", &[C])?;
+    assert!(rt; are_rows(read(rt.alloc(), &mut env)?, &[A, B, C], 3));
+    Ok(())
+}
+
+/// The table has what log 3 had. Under another name that tables may have it is missing.
 #[test]
 fn with_a_table(rt: HostRuntime) -> Result<()> {
-    let mut env = two_edits(rt.alloc(), false)?;
+    let mut env = store_of(rt.alloc(), TABLE_EDIT)?;
+    put(rt.alloc(), &mut env, "000005.sst", TABLE)?;
+    put_log(rt.alloc(), &mut env, "000004.log", &[B])?;
+    assert!(rt; is_damaged(rt.alloc(), &mut env)?);
+    put(rt.alloc(), &mut env, "000005.ldb", TABLE)?;
     assert!(rt; are_rows(read(rt.alloc(), &mut env)?, &[A, B], 2));
-    put(rt.alloc(), &mut env, "000005.ldb", &TABLE[..113])?;
-    assert!(rt; failed_with(read(rt.alloc(), &mut env), StatusCode::Corruption)?);
     Ok(())
 }
 
-/// Without its last byte the second edit isn't read, and the logs are replayed from 3 on.
+/// Without its last byte the second edit isn't read, nor its table, and all logs are replayed.
 #[test]
 fn torn_manifest(rt: HostRuntime) -> Result<()> {
-    let mut env = two_edits(rt.alloc(), true)?;
-    assert!(rt; are_rows(read(rt.alloc(), &mut env)?, &[A, B], 2));
+    let torn = TABLE_EDIT.get(..39).unwrap_or_default();
+    let mut env = store_of(rt.alloc(), torn)?;
     put(rt.alloc(), &mut env, "000005.ldb", b"")?;
+    put_log(rt.alloc(), &mut env, "000003.log", &[A])?;
+    put_log(rt.alloc(), &mut env, "000004.log", &[B])?;
     assert!(rt; are_rows(read(rt.alloc(), &mut env)?, &[A, B], 2));
+    Ok(())
+}
+
+/// A new manifest is read once `CURRENT` names it, and shows the same. Its first edit alone has no
+/// numbers.
+#[test]
+fn next_manifest(rt: HostRuntime) -> Result<()> {
+    let mut env = store_of(rt.alloc(), b"")?;
+    put_log(rt.alloc(), &mut env, "000003.log", &[A])?;
+    let first = NEXT_MANIFEST.get(..35).unwrap_or_default();
+    put(rt.alloc(), &mut env, "MANIFEST-000004", first)?;
+    assert!(rt; are_rows(read(rt.alloc(), &mut env)?, &[A], 1));
+    put(rt.alloc(), &mut env, "CURRENT", b"MANIFEST-000004\n")?;
+    assert!(rt; is_damaged(rt.alloc(), &mut env)?);
+    put(rt.alloc(), &mut env, "MANIFEST-000004", NEXT_MANIFEST)?;
+    assert!(rt; are_rows(read(rt.alloc(), &mut env)?, &[A], 1));
     Ok(())
 }
 
 /// A log under another encoding of its number is none of the store's.
 #[test]
 fn misnamed_log(rt: HostRuntime) -> Result<()> {
-    let mut env = new_store(rt.alloc())?;
+    let mut env = store_of(rt.alloc(), b"")?;
     put(rt.alloc(), &mut env, "3.log", b"")?;
-    assert!(rt; failed_with(read(rt.alloc(), &mut env), StatusCode::Corruption)?);
+    assert!(rt; is_damaged(rt.alloc(), &mut env)?);
+    Ok(())
+}
+
+/// The rows of a log beside a table that has number 1: one that begins at 0, two that don't rise,
+/// one that isn't above the table's, one past the greatest number.
+const UNFIT: [&[Row]; 4] = [
+    &[(0, b"b", None)],
+    &[(3, b"b", None), (3, b"c", None)],
+    &[(1, b"b", None)],
+    &[(1 << 56, b"b", None)],
+];
+
+#[test]
+fn unfit_numbers(rt: HostRuntime) -> Result<()> {
+    let mut env = store_of(rt.alloc(), TABLE_EDIT)?;
+    put(rt.alloc(), &mut env, "000005.ldb", TABLE)?;
+    for rows in &UNFIT {
+        put_log(rt.alloc(), &mut env, "000004.log", rows)?;
+        assert!(rt; is_damaged(rt.alloc(), &mut env)?);
+    }
+    Ok(())
+}
+
+/// Two edits after a new store's: a last number that is too great, and one that sets another; and
+/// tables in two levels that have one entry.
+const UNFIT_EDITS: [(&[u8], &[u8]); 2] = [(PAST_EDIT, TABLE_EDIT), (TABLE_EDIT, PAIR_EDIT)];
+
+#[test]
+fn unfit_edits(rt: HostRuntime) -> Result<()> {
+    for (first, second) in &UNFIT_EDITS {
+        let mut edits = Vec::from_slice(rt.alloc(), first)?;
+        edits.extend_from_slice(second)?;
+        let mut env = store_of(rt.alloc(), edits.as_slice())?;
+        put(rt.alloc(), &mut env, "000004.ldb", PAIR_TABLE)?;
+        put(rt.alloc(), &mut env, "000005.ldb", TABLE)?;
+        assert!(rt; is_damaged(rt.alloc(), &mut env)?);
+    }
     Ok(())
 }
