@@ -283,6 +283,7 @@ fn unfiltered(block_size: usize) -> Options<DefaultCmp, NoFilterPolicy> {
     Options {
         cmp: DefaultCmp,
         filter_policy: NoFilterPolicy,
+        log: None,
         create_if_missing: defaults.create_if_missing,
         error_if_exists: defaults.error_if_exists,
         paranoid_checks: defaults.paranoid_checks,
