@@ -6,8 +6,8 @@ const LARGEST: [u8; 20] = [
     0xff, 0xff, 0xff, 1,
 ];
 
-/// Offsets and sizes, and the bytes of their handles: LevelDB's varints, two by two, and the handle of the crate's own
-/// test.
+/// Offsets and sizes, and the bytes of their handles: LevelDB's varints, two by two, and the handle
+/// of the crate's own test.
 const HANDLES: [(usize, usize, &[u8]); 5] = [
     (0, 0, &[0, 0]),
     (300, 127, &[0xac, 2, 0x7f]),

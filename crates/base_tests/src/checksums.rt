@@ -1,4 +1,5 @@
-//! Checksums of catalogues, masked ones, and those of texts in pieces beside a slow one, bit by bit.
+//! Checksums of catalogues, masked ones, and those of texts in pieces beside a slow one, bit by
+//! bit.
 use leveldb_base::crc::{crc32, digest, mask_crc, unmask_crc};
 
 // Bit by bit.

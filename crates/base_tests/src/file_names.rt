@@ -170,7 +170,8 @@ fn assert_read_alike(rt: &(impl Abort + AllocGlobal), name: &[u8]) {
     }
 }
 
-/// A name with the byte at `offset` changed to some of those that names have, and to some beside them.
+/// A name with the byte at `offset` changed to some of those that names have, and to some beside
+/// them.
 fn assert_changes(rt: &(impl Abort + AllocGlobal), name: &[u8], offset: usize) -> Result<()> {
     let mut changed = name.to_vec(rt.alloc())?;
     for byte in b"+./09:bl" {

@@ -4,13 +4,15 @@ use leveldb_base::error::Result;
 use leveldb_base::key_types::LookupKey;
 use std::cmp::Ordering;
 
-// What a comparator returns through its bound: the order, whether the first key is accepted, and the name.
+// What a comparator returns through its bound: the order, whether the first key is accepted, and
+// the name.
 fn order_and_name<C: Cmp + Copy>(cmp: C, a: &[u8], b: &[u8]) -> (Ordering, bool, &'static str) {
     (cmp.cmp(a, b), cmp.accepts(a), cmp.id())
 }
 
-// Two internal keys, and the separator between them: those of docs/FORMATS.md, worked by hand. After the user key come
-// the type, 1, and seven bytes of the number, of which the largest is all ones.
+// Two internal keys, and the separator between them: those of docs/FORMATS.md, worked by hand.
+// After the user key come the type, 1, and seven bytes of the number, of which the largest is all
+// ones.
 const SEPARATORS: [(&[u8], &[u8], &[u8]); 7] = [
     (
         b"abc\x01\x01\0\0\0\0\0\0",

@@ -1,4 +1,5 @@
-//! An iterator over pairs in memory, one that fails, and either of two, which show that the trait can be met.
+//! An iterator over pairs in memory, one that fails, and either of two, which show that the trait
+//! can be met.
 ghost use Rattle.std.specs.Prelude.{◌≡◌, ◌+◌, ◌^◌, ◌<◌, ◌⊎◌, [], None, length, IfOk, IfErr, IsErrAnd};
 ghost use Rattle.std.specs.Option.{ForSome, option_map_or};
 ghost use Rattle.leveldb_base.specs.Cmp.{bytewise};
@@ -163,7 +164,10 @@ impl<A: LdbIterator, B: LdbIterator> LdbIterator for Either<A, B> {
 
     ghost order = { elim [ Left it ↦ A.order it | Right it ↦ B.order it ] };
 
-    ghost fails = { λ a b status. elim a [ Left old ↦ elim b [ Left new ↦ A.fails old new status | Right _ ↦ ⊥ ] | Right old ↦ elim b [ Left _ ↦ ⊥ | Right new ↦ B.fails old new status ] ] };
+    ghost fails = { λ a b status. elim a [
+      | Left old ↦ elim b [ Left new ↦ A.fails old new status | Right _ ↦ ⊥ ]
+      | Right old ↦ elim b [ Left _ ↦ ⊥ | Right new ↦ B.fails old new status ]
+    ] };
 
     fn advance(&mut self) -> Result<bool> {
         match self {
@@ -221,10 +225,12 @@ impl<A: LdbIterator, B: LdbIterator> LdbIterator for Either<A, B> {
 fn count_left<I: LdbIterator>(it: &mut I) -> Result<usize>
     requires { length (I.pairs it.old) < 2 ^ 64 }
     ensures same_pairs { I.pairs it.new ≡ I.pairs it.old }
-    ensures count { IfOk result (λ n. n + option_map_or (λ i. i + 1) (I.position it.old) 0 ≡ length (I.pairs it.old)) }
+    ensures count { IfOk result
+        (λ n. n + option_map_or (λ i. i + 1) (I.position it.old) 0 ≡ length (I.pairs it.old)) }
     ensures no_place { I.position it.new ≡ None }
     ensures cause { IfErr result (I.fails it.old it.new) }
-    ensures excuses { (other : I) (status : Status) → I.fails it.new other status → I.fails it.old other status }
+    ensures excuses { (other : I) (status : Status)
+        → I.fails it.new other status → I.fails it.old other status }
 {
     let mut n = 0;
     while it.advance()? {
@@ -348,7 +354,8 @@ fn is_copy(copied: &Option<(Vec<u8>, Vec<u8>)>, wanted: Option<(&[u8], &[u8])>) 
     }
 }
 
-// Whether a step to the next pair gives a copy of the one with this index, and the iterator is then at it.
+// Whether a step to the next pair gives a copy of the one with this index, and the iterator is then
+// at it.
 fn next_is<I: LdbIterator>(alloc: Global, it: &mut I, index: usize) -> Result<bool> {
     let next = it.next(alloc)?;
     let current = current_key_val(alloc, it)?;

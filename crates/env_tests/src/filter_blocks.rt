@@ -84,8 +84,8 @@ const LETTERS: &[u8] = b"abcdefghijklmnopqrstuvwxyz";
 
 /// Two blocks of the same four keys, at 0 and at 5000, so that the second of three filters is
 /// empty.
-const BLOCK: &[u8] =
-    b"abcdefghijklmnopqrstuvwxyzabcdefghijklmnopqrstuvwxyz\0\0\0\0\x1a\0\0\0\x1a\0\0\0\x34\0\0\0\x0b";
+const BLOCK: &[u8] = b"abcdefghijklmnopqrstuvwxyzabcdefghijklmnopqrstuvwxyz\
+\0\0\0\0\x1a\0\0\0\x1a\0\0\0\x34\0\0\0\x0b";
 
 fn add_keys<FP: FilterPolicy>(builder: &mut FilterBlockBuilder<FP>) -> Result<()>
     ensures { OnOk result (builder.new.filters ≡ builder.old.filters) }

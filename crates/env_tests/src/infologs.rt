@@ -2,6 +2,7 @@
 use leveldb_base::error::{Result, StatusCode, err};
 use leveldb_env::infolog::{InfoSink, Logger};
 use leveldb_env::log;
+use leveldb_env::options::Options;
 use std::alloc::Global;
 use std::cell::Cell;
 use std::rc::Rc;
@@ -27,7 +28,7 @@ impl InfoSink for Counts {
     }
 }
 
-/// How many lines and bytes come of two lines, with a sink.
+/// How many lines and bytes come of two lines, with a sink in the options.
 fn logged(alloc: Global, is_broken: bool) -> Result<[usize; 2]> {
     let lines = Rc::new(alloc, Cell::new(0))?;
     let bytes = Rc::new(alloc, Cell::new(0))?;
@@ -37,10 +38,11 @@ fn logged(alloc: Global, is_broken: bool) -> Result<[usize; 2]> {
         bytes: bytes.clone()?,
         is_broken,
     };
-    let mut logger = Some(Logger(Box::new(alloc, sink)?));
+    let mut options = Options::default();
+    options.log = Some(Logger(Box::new(alloc, sink)?));
     let count = 12;
-    log!(logger, alloc; "{count} files in level {}", 3);
-    log!(logger, alloc; "done");
+    log!(options.log, alloc; "{count} files in level {}", 3);
+    log!(options.log, alloc; "done");
     Ok([lines.get(), bytes.get()])
 }
 
@@ -50,11 +52,12 @@ fn lines_are_handed_to_the_sink(rt: HostRuntime) -> Result<()> {
     Ok(())
 }
 
-/// A sink that fails changes nothing, and nor does none.
+/// A sink that fails changes nothing, and nor does none, which is the default.
 #[test]
 fn lost_lines_are_no_error(rt: HostRuntime) -> Result<()> {
     assert!(rt; logged(rt.alloc(), true)? == [0, 0]);
-    let mut logger: Option<Logger> = None;
-    log!(logger, rt.alloc(); "nobody reads this");
+    let mut options = Options::default();
+    log!(options.log, rt.alloc(); "nobody reads this");
+    assert!(rt; options.log.is_none());
     Ok(())
 }

@@ -3,8 +3,8 @@ use leveldb_base::error::Result;
 use leveldb_env::filter::{BloomPolicy, FilterPolicy, InternalFilterPolicy};
 
 // The keys of the Bloom filter's vector, each with eight bytes after it.
-const KEYS: &[u8] =
-    b"abc123def456 8 bytesxxx111xxx222________ab00cd00ab00000000908070605040302010\0\0\0\0\0\0\0\x01";
+const KEYS: &[u8] = b"abc123def456 8 bytesxxx111xxx222________ab00cd00ab00000000908070605040302010\
+\0\0\0\0\0\0\0\x01";
 
 const OFFSETS: &[usize] = &[0, 20, 40, 58];
 

@@ -1,5 +1,5 @@
 -- What options may be, and what they are if nothing else is chosen.
-use Rattle.std.specs.Prelude.{◌≡◌, ◌≤◌, ◌^◌, ◌*◌, ℕ, true, false}
+use Rattle.std.specs.Prelude.{◌≡◌, ◌≤◌, ◌^◌, ◌*◌, ℕ, true, false, None}
 use Rattle.leveldb_base.specs.declared.error.Status.{Status}
 use Rattle.leveldb_base.specs.declared.error.StatusCode.TheVariants.{InvalidArgument}
 use Rattle.leveldb_env.specs.declared.options.Options.{Options}
@@ -8,9 +8,29 @@ use Rattle.leveldb_env.specs.declared.options.Options.{Options}
 abbrev pub IsWithin : ℕ → ℕ → Type 0
 IsWithin least n = (least ≤ n) × (n ≤ 2 ^ 30)
 
-module _ {C FP I : Type 0} {D : I → Type 0} where
+-- the types of what options own in boxes: the sink of their log, and compressors
+pub record Boxed : Type 1 where
+  pub sinks : Type 0
+  pub compressors : Type 0
+  pub sink : sinks → Type 0
+  pub compressor : compressors → Type 0
+
+-- of options that aren't there
+abbrev pub nothing_boxed : Boxed
+nothing_boxed = record {
+  sinks = Unit {0};
+  compressors = Unit {0};
+  sink = λ unit. Unit {0};
+  compressor = λ unit. Unit {0};
+}
+
+-- options that own boxes of these types
+abbrev pub OptionsOf : Type 0 → Type 0 → Boxed → Type 0
+OptionsOf C FP B = Options C FP B.sinks B.compressors B.sink B.compressor
+
+module _ {C FP : Type 0} {B : Boxed} where
   -- the limits of sizes and counts
-  pub record AreWithinLimits (options : Options C FP I D) : Type 0 where
+  pub record AreWithinLimits (options : OptionsOf C FP B) : Type 0 where
     pub write_buffer : IsWithin 1 options.write_buffer_size
     pub open_files : IsWithin 11 options.max_open_files
     pub file : IsWithin 1 options.max_file_size
@@ -19,11 +39,12 @@ module _ {C FP I : Type 0} {D : I → Type 0} where
     pub block_cache : IsWithin options.block_size options.block_cache_capacity_bytes
 
   -- `InvalidArgument` where they aren't kept
-  abbrev pub IsLimitError : Options C FP I D → Status → Type 0
+  abbrev pub IsLimitError : OptionsOf C FP B → Status → Type 0
   IsLimitError options e = (e.code ≡ InvalidArgument) × (AreWithinLimits options → ⊥)
 
   -- the choices if nothing else is chosen
-  pub record HasDefaultChoices (options : Options C FP I D) : Type 0 where
+  pub record HasDefaultChoices (options : OptionsOf C FP B) : Type 0 where
+    pub log : options.log ≡ None
     pub create : options.create_if_missing ≡ true
     pub no_error : options.error_if_exists ≡ false
     pub paranoid : options.paranoid_checks ≡ false

@@ -6,6 +6,7 @@ ghost use Rattle.leveldb_env.specs.Options.{IsWithin, AreWithinLimits, IsLimitEr
 
 use crate::compressor::{CompressorId, CompressorList, Compressors, NoneCompressor};
 use crate::filter::BloomPolicy;
+use crate::infolog::Logger;
 use crate::mem_env::MemEnv;
 use leveldb_base::cmp::DefaultCmp;
 use leveldb_base::error::{Result, StatusCode, err};
@@ -16,6 +17,10 @@ use std::alloc::Global;
 pub struct Options<C, FP> {
     pub cmp: C,
     pub filter_policy: FP,
+
+    /// Where the store says what it does; none by default.
+    pub log: Option<Logger>,
+
     pub create_if_missing: bool,
 
     /// Whether a store that is there is an error.
@@ -69,6 +74,7 @@ impl Options<DefaultCmp, BloomPolicy> {
         Options {
             cmp: DefaultCmp,
             filter_policy: BloomPolicy::new(10),
+            log: None,
             create_if_missing: true,
             error_if_exists: false,
             paranoid_checks: false,

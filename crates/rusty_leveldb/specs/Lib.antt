@@ -1,3 +1,4 @@
+pub mod Boxes
 pub mod OneLog
 pub mod State
 pub mod Unread

@@ -64,6 +64,7 @@ pub fn options_under<C, FP>(cmp: C, filter_policy: FP) -> Options<C, FP> {
     Options {
         cmp,
         filter_policy,
+        log: None,
         create_if_missing: defaults.create_if_missing,
         error_if_exists: defaults.error_if_exists,
         paranoid_checks: defaults.paranoid_checks,
@@ -74,7 +75,7 @@ pub fn options_under<C, FP>(cmp: C, filter_policy: FP) -> Options<C, FP> {
         block_size: defaults.block_size,
         block_restart_interval: defaults.block_restart_interval,
         compressor: defaults.compressor,
-        compressor_list: defaults.compressor_list,
+        compressor_list: CompressorList::default(),
         reuse_logs: defaults.reuse_logs,
         reuse_manifest: defaults.reuse_manifest,
     }
