@@ -2,6 +2,8 @@ pub mod VersionEditLemmas
 pub mod FieldsLemmas
 pub mod CurrentLemmas
 pub mod VersionSetLemmas
+pub mod FullEditLemmas
+pub mod SummaryLemmas
 pub mod NumbersLemmas
 pub mod BatchesLemmas
 pub mod ViewsLemmas

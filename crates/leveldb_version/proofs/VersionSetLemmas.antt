@@ -23,11 +23,11 @@ file_after edits more at =
     ∙ ap (last_one None) (filter_map-append (left_by at) (flat_map file_changes edits) (flat_map file_changes more))
     ∙ last_one-append None (filter_map (left_by at) (flat_map file_changes edits)) (filter_map (left_by at) (flat_map file_changes more))
 
-last_or-append : {A : Type 0} (value : Option A) (xs ys : List A) → last_or value (xs ++ ys) ≡ last_or (last_or value xs) ys
+pub last_or-append : {A : Type 0} (value : Option A) (xs ys : List A) → last_or value (xs ++ ys) ≡ last_or (last_or value xs) ys
 last_or-append value [] ys = refl
 last_or-append value (x ∷ xs) ys = last_or-append (Some x) xs ys
 
-last_or-single : {A : Type 0} (next value : Option A) → last_or value (cons_option next []) ≡ option_or next value
+pub last_or-single : {A : Type 0} (next value : Option A) → last_or value (cons_option next []) ≡ option_or next value
 last_or-single None value = refl
 last_or-single (Some x) value = refl
 
@@ -52,7 +52,7 @@ last_or_some o x [] = refl
 last_or_some o x (y ∷ xs) = last_or_some o y xs
 
 -- the last of some values, or the one before them
-last_or-start : {A : Type 0} (o : Option A) (xs : List A) → last_or o xs ≡ option_or (last_or None xs) o
+pub last_or-start : {A : Type 0} (o : Option A) (xs : List A) → last_or o xs ≡ option_or (last_or None xs) o
 last_or-start o [] = refl
 last_or-start o (x ∷ xs) = sym (last_or_some o x xs)
 
@@ -120,7 +120,7 @@ found_last h value before x later found e none =
 
 -- ---- live files
 
-none_is_some : {A : Type 0} {a : A} → None ≡ Some a → ⊥
+pub none_is_some : {A : Type 0} {a : A} → None ≡ Some a → ⊥
 none_is_some e = cc
 
 deleted_leaves_none : (same : Bool) (file : NewFile) → (if same then Some None else None) ≡ Some (Some file) → ⊥
@@ -131,7 +131,7 @@ added_leaves_it : (same : Bool) (it file : NewFile) → (if same then Some (Some
 added_leaves_it true it file e = cc
 added_leaves_it false it file e = absurd (none_is_some e)
 
-is_same_file-refl : (at : LevelFile) → is_same_file at at ≡ true
+pub is_same_file-refl : (at : LevelFile) → is_same_file at at ≡ true
 is_same_file-refl at = ap (λ z. z && (at.1 == at.1)) (eq-eqb at.0 at.0 refl) ∙ eq-eqb at.1 at.1 refl
 
 -- only the addition of a file leaves it
@@ -186,7 +186,7 @@ not_same_again a b true e other =
     let back : is_same_file a b ≡ true = subst (λ z. is_same_file z b ≡ true) (same_is_equal b a e) (is_same_file-refl b) in
     absurd (let never : true ≡ false = sym back ∙ other in cc)
 
-not_same : (a b : LevelFile) → is_same_file a b ≡ false → is_same_file b a ≡ false
+pub not_same : (a b : LevelFile) → is_same_file a b ≡ false → is_same_file b a ≡ false
 not_same a b other = not_same_again a b (is_same_file b a) refl other
 
 -- whether one of the changes is at this level and number
@@ -403,7 +403,7 @@ numbers_set_later some others more has = record {
 abbrev is_pointed : ℕ → List Pointer → Bool
 is_pointed level later = list_any (λ next. is_some (key_for level next)) later
 
-last_or-cons : {A : Type 0} (o p : Option A) (xs : List A) → last_or o (cons_option p xs) ≡ last_or (option_or p o) xs
+pub last_or-cons : {A : Type 0} (o p : Option A) (xs : List A) → last_or o (cons_option p xs) ≡ last_or (option_or p o) xs
 last_or-cons o None xs = refl
 last_or-cons o (Some x) xs = refl
 

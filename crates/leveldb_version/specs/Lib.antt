@@ -2,6 +2,10 @@ pub mod VersionEdit
 pub mod Fields
 pub mod Current
 pub mod VersionSet
+pub mod CurrentFile
+pub mod FullEdit
+pub mod Summary
+pub mod VersionSetValue
 pub mod Contents
 pub mod Paths
 pub mod Holds
@@ -12,3 +16,4 @@ pub mod StoreSteps
 pub mod StoreLaws
 pub mod HoldsLaws
 pub mod StoreStays
+pub mod VersionSetLaws

@@ -9,6 +9,7 @@ ghost use Rattle.leveldb_version.specs.VersionSet.{Applied, IsLive, ListsFiles, 
 
 pub mod levels;
 pub mod stores;
+pub mod version_sets;
 
 /// The same bytes are one edit only, and what is written for an edit is that edit. So decoding what
 /// was encoded gives the edit back, but for the seeks that its new files may take.

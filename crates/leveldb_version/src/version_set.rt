@@ -11,10 +11,17 @@ use leveldb_base::types::{FileMetaData, FileNum};
 use std::alloc::Global;
 
 mod current;
+mod current_file;
+mod full_edit;
+mod manifest;
+mod set;
+mod summary;
 
 pub use current::{
     current_file_name, current_text, manifest_file_name, parse_current_text, temp_file_name,
 };
+pub use current_file::{read_current_file, set_current_file};
+pub use set::VersionSet;
 
 /// Whether the file's keys are internal keys, of eight bytes at least, and the smallest is not
 /// after the largest.
