@@ -1,13 +1,13 @@
 -- An edit of all that there is stays one when it becomes what another edit leaves.
-use Rattle.std.proofs.Common.{◌≡◌, ◌⊎◌, inl, inr, ⊎_elim, if◌then◌else◌, ◌==◌, ℕ, List, [], ◌∷◌, ◌++◌, map, cond, Option, None, Some, Bool, true, false, not, refl, sym, ◌∙◌, ap, subst, append-nil}
-use Rattle.std.specs.Prelude.{◌↔◌, fold, flat_map, Contains}
+use Rattle.std.proofs.Common.{◌≡◌, ◌⊎◌, inl, inr, ⊎_elim, if◌then◌else◌, ◌==◌, ℕ, List, [], ◌∷◌, ◌++◌, map, cond, Option, None, Some, Bool, true, false, not, refl, sym, ◌∙◌, ap, subst}
+use Rattle.std.specs.Prelude.{◌↔◌, fold, Contains}
 use Rattle.std.specs.List.{filter, filter_map, cons_option, last_or, AllByRecursion, IsDistinct}
 use Rattle.std.specs.Option.{option_or}
 use Rattle.std.proofs.lemmas.Bool.{eqb-true}
 use Rattle.std.proofs.lemmas.List.Elements.{filter_map-append, Contains-append_left, Contains-push, Contains-push_cases}
 use Rattle.leveldb_base.proofs.HistoryLemmas.{in_none, in_front, in_rest, in_cases}
 use Rattle.leveldb_version.specs.VersionEdit.{LevelFile, Pointer, NewFile, Edit}
-use Rattle.leveldb_version.specs.VersionSet.{FileChange, deleting, adding, file_changes, level_file, is_same_file, left_by, key_for, last_one, pointer_at, live_at, live_after, ListsFiles, IsFullEdit}
+use Rattle.leveldb_version.specs.VersionSet.{deleting, adding, level_file, is_same_file, left_by, key_for, last_one, pointer_at, live_at, live_after, ListsFiles, IsFullEdit}
 use Rattle.leveldb_version.specs.FullEdit.{files_without, files_with, files_after, pointers_with, full_after}
 use Rattle.leveldb_version.proofs.VersionSetLemmas.{applies_in_order, is_same_file-refl, last_or-append, last_or-single, last_or-start, last_or-cons, not_same, none_is_some}
 

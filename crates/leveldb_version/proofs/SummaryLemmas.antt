@@ -1,6 +1,6 @@
 -- The text of levels, one file and one level after another.
-use Rattle.std.specs.Prelude.{◌≢◌, codes, flat_map, sum_by, min}
-use Rattle.std.proofs.Common.{◌≡◌, ◌∙◌, ◌++◌, ◌∷◌, ◌<◌, ◌≤◌, ◌+◌, ◌-◌, ◌^◌, ◌==◌, ℕ, zero, suc, Bool, true, false, cond, List, [], append-nil, append_assoc, ap, arith, get_or, length, length-append, map, refl, subst, sym, take}
+use Rattle.std.specs.Prelude.{◌≢◌, codes, sum_by, min}
+use Rattle.std.proofs.Common.{◌≡◌, ◌∙◌, ◌++◌, ◌∷◌, ◌<◌, ◌+◌, ◌-◌, ◌^◌, ◌==◌, ℕ, zero, suc, Bool, true, false, cond, List, [], append-nil, append_assoc, ap, arith, get_or, length, map, refl, sym, take}
 use Rattle.std.specs.Fmt.{decimal}
 use Rattle.std.specs.List.{filter}
 use Rattle.std.proofs.lemmas.Bool.{eq-eqb, eqb-true}

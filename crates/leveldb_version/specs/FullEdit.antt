@@ -1,5 +1,5 @@
 -- One edit that has all that a store's files are, and what it becomes by another.
-use Rattle.std.specs.Prelude.{◌≤◌, ◌+◌, ◌==◌, not, ℕ, List, [], ◌∷◌, ◌++◌, fold, vec_len, vec_capacity}
+use Rattle.std.specs.Prelude.{◌≤◌, ◌+◌, ◌==◌, not, List, [], ◌∷◌, ◌++◌, fold, vec_len, vec_capacity}
 use Rattle.std.specs.List.{filter}
 use Rattle.std.specs.Option.{option_or}
 use Rattle.leveldb_version.specs.declared.version_edit.VersionEdit.{VersionEdit}

@@ -12,4 +12,6 @@ mod stores;
 #[cfg(test)]
 mod version_edits;
 #[cfg(test)]
+mod version_set_calls;
+#[cfg(test)]
 mod version_sets;

@@ -1,4 +1,4 @@
-use Rattle.std.proofs.Common.{◌≡◌, ◌≤◌, map, take}
+use Rattle.std.proofs.Common.{◌≡◌, map, take}
 use Rattle.std.specs.Prelude.{string_bytes}
 use Rattle.leveldb_version.specs.Summary.{levels_text}
 use Rattle.leveldb_version.specs.VersionEdit.{new_file_of}
