@@ -13,6 +13,7 @@ use Rattle.leveldb_env.specs.declared.env.Env.{Ghosts}
 use Rattle.leveldb_env.specs.Env.{Disk}
 use Rattle.leveldb_mem.specs.WriteBatch.{Batch, with_item, entry_bytes, batch_bytes, IsTooLong}
 use Rattle.leveldb_mem.proofs.WriteBatchLemmas.{length-batch_bytes}
+use Rattle.rusty_leveldb.specs.declared.db_impl.engine.Engine.{Engine}
 use Rattle.rusty_leveldb.specs.declared.shell.commands.Item as item
 use Rattle.rusty_leveldb.specs.Shell.{change_of}
 use Rattle.rusty_leveldb.specs.State.{State, open_mode, write, refused}
@@ -22,8 +23,6 @@ use Rattle.rusty_leveldb.specs.Serves.{faults_between, refusal_of}
 use Rattle.rusty_leveldb.specs.Engine.{Recalls, AnswersStill}
 use Rattle.rusty_leveldb.proofs.Writes.Moments.{moments_none}
 use Rattle.rusty_leveldb.proofs.Others.{others_still, spared_still}
-use Rattle.leveldb_env.specs.Options.{Boxed}
-use Rattle.rusty_leveldb.specs.Boxes.{EngineOf}
 
 -- a batch whose front is too long is too long
 pub longer_too : (first : ℕ) (front more : List Item) → 2 ^ 30 < length (batch_bytes first front) → IsLongBatch (front ++ more)
@@ -47,7 +46,7 @@ too_long_among batch items i one below is so_far long =
 abbrev pub IsUnmade : List Item → Status → Type 0
 IsUnmade items status = IsOutOfMemory status ⊎ ((status.code ≡ InvalidArgument) × IsLongBatch items)
 
-module _ {E C FP F : Type 0} {B : Boxed} (env : Ghosts E F) (cmp : List ℕ → List ℕ → Ordering) (engine : EngineOf E C FP F B)
+module _ {E C FP F I : Type 0} {D : I → Type 0} (env : Ghosts E F) (cmp : List ℕ → List ℕ → Ordering) (engine : Engine E C FP F I D)
     (is_open : (store : List ℕ) (disk : Disk) (state : State) → Recalls env store engine disk state → state.mode ≡ open_mode) (items : List Item) (sync : Bool) (status : Status) (why : IsUnmade items status) where
   pub not_written : AnswersStill env cmp engine (write items sync) (refused (refusal_of status))
   not_written at store tells old represents = record {

@@ -12,6 +12,7 @@ use Rattle.leveldb_env.specs.EnvFile.{opened, Syncs}
 use Rattle.leveldb_mem.specs.Log.Writer.{Flushes}
 use Rattle.rusty_leveldb.specs.declared.db_impl.engine.Mode.{Mode}
 use Rattle.rusty_leveldb.specs.declared.db_impl.engine.Mode.TheVariants.{Open, Broken, Closed}
+use Rattle.rusty_leveldb.specs.declared.db_impl.engine.Engine.{Engine}
 use Rattle.leveldb_version.specs.Paths.{lock_path}
 use Rattle.rusty_leveldb.specs.OneLog.{log_path}
 use Rattle.rusty_leveldb.specs.State as machine
@@ -26,8 +27,6 @@ use Rattle.rusty_leveldb.proofs.Writes.Stands.{is_open as open_store}
 use Rattle.rusty_leveldb.proofs.Writes.Found.{found_goes}
 use Rattle.rusty_leveldb.proofs.Writes.Moments.{risk_at, moments_none, moments_still, sync_moments, with_none}
 use Rattle.rusty_leveldb.proofs.Others.{beside_but, but_same, others_with, others_but_log, others_still, spared_still, bytes_same, bytes_synced}
-use Rattle.leveldb_env.specs.Options.{Boxed}
-use Rattle.rusty_leveldb.specs.Boxes.{EngineOf}
 
 -- ---- causes
 
@@ -79,23 +78,23 @@ abandons cmp faults old new answer Closed differs responds = absurd (differs ref
 
 -- ---- the exits
 
-module _ {E C FP F : Type 0} {B : Boxed} (env : Ghosts E F) (cmp : List ℕ → List ℕ → Ordering) where
+module _ {E C FP F I : Type 0} {D : I → Type 0} (env : Ghosts E F) (cmp : List ℕ → List ℕ → Ordering) where
   -- only the engine's log, its writer and its mode changed
-  abbrev pub OnlyLog : EngineOf E C FP F B → EngineOf E C FP F B → Type 0
+  abbrev pub OnlyLog : Engine E C FP F I D → Engine E C FP F I D → Type 0
   OnlyLog before after = after ≡ record before { log = after.log; writer = after.writer; mode = after.mode }
 
   -- an engine that broke remembers what it did
-  recalls_broke : (store : List ℕ) (before after : EngineOf E C FP F B) (disk now : Disk) (old : State) (covered : ℕ) → Recalls env store before disk old → old.mode ≡ open_mode
+  recalls_broke : (store : List ℕ) (before after : Engine E C FP F I D) (disk now : Disk) (old : State) (covered : ℕ) → Recalls env store before disk old → old.mode ≡ open_mode
       → OnlyLog before after → after.mode ≡ Broken → Recalls env store after now (broke old covered)
   recalls_broke store before after disk now old covered recalls opened only is_broken =
       let shown = recalls.shows (λ is. absurd (not_closed old.mode opened is)) in
       record {
         mode = ap mode_of is_broken;
-        lock = ap (λ (e : EngineOf E C FP F B). string_bytes e.lock) only ∙ recalls.lock;
+        lock = ap (λ (e : Engine E C FP F I D). string_bytes e.lock) only ∙ recalls.lock;
         shows = λ not. record {
-          last = ap (λ (e : EngineOf E C FP F B). e.recent.last) only ∙ shown.last;
-          same = λ t most. subst (λ entries. SameView entries (entries_of old.history) t) (sym (ap (λ (e : EngineOf E C FP F B). e.recent.kept.entries) only)) (shown.same t most);
-          up_to = λ entry c. shown.up_to entry (subst (λ entries. Contains entries entry) (ap (λ (e : EngineOf E C FP F B). e.recent.kept.entries) only) c);
+          last = ap (λ (e : Engine E C FP F I D). e.recent.last) only ∙ shown.last;
+          same = λ t most. subst (λ entries. SameView entries (entries_of old.history) t) (sym (ap (λ (e : Engine E C FP F I D). e.recent.kept.entries) only)) (shown.same t most);
+          up_to = λ entry c. shown.up_to entry (subst (λ entries. Contains entries entry) (ap (λ (e : Engine E C FP F I D). e.recent.kept.entries) only) c);
         };
         writes = λ is. absurd (cc);
       }
@@ -104,7 +103,7 @@ module _ {E C FP F : Type 0} {B : Boxed} (env : Ghosts E F) (cmp : List ℕ → 
       not_closed mode a b = cc
 
   -- the log refused the sync: the store is broken
-  log_refused : (before after : EngineOf E C FP F B) (at now : E) (status : Status) → before.mode ≡ Open → OnlyLog before after → after.mode ≡ Broken
+  log_refused : (before after : Engine E C FP F I D) (at now : E) (status : Status) → before.mode ≡ Open → OnlyLog before after → after.mode ≡ Broken
       → Flushes (Syncs env) before.writer (opened at before.log) (Err status) after.writer (opened now after.log)
       → Answers env cmp (Some before) at close (refused (refusal_of status)) (Some after) now
   log_refused before after at now status is_open only is_broken flushed store told old represents =
@@ -129,7 +128,7 @@ module _ {E C FP F : Type 0} {B : Boxed} (env : Ghosts E F) (cmp : List ℕ → 
       }
 
   -- and that is told, or damage where the log is missing
-  pub sync_refused : (before after : EngineOf E C FP F B) (at now : E) (status : Status) → before.mode ≡ Open → OnlyLog before after → after.mode ≡ Broken
+  pub sync_refused : (before after : Engine E C FP F I D) (at now : E) (status : Status) → before.mode ≡ Open → OnlyLog before after → after.mode ≡ Broken
       → (raw : Status) × IsErrorFor raw status × Flushes (Syncs env) before.writer (opened at before.log) (Err raw) after.writer (opened now after.log)
       → Answers env cmp (Some before) at close (refused (refusal_of status)) (Some after) now
   sync_refused before after at now status is_open only is_broken refusal store told old represents =
@@ -138,18 +137,18 @@ module _ {E C FP F : Type 0} {B : Boxed} (env : Ghosts E F) (cmp : List ℕ → 
       (log_refused before after at now refusal.0 is_open only is_broken refusal.2 store told old represents)
 
   -- an engine that was closed remembers that alone
-  recalls_ended : (store : List ℕ) (before after : EngineOf E C FP F B) (disk now : Disk) (old : State) (covered : ℕ) (locked : Bool) → Recalls env store before disk old
+  recalls_ended : (store : List ℕ) (before after : Engine E C FP F I D) (disk now : Disk) (old : State) (covered : ℕ) (locked : Bool) → Recalls env store before disk old
       → OnlyLog before after → after.mode ≡ Closed → Recalls env store after now (ended old covered locked)
   recalls_ended store before after disk now old covered locked recalls only is_closed = record {
     mode = ap mode_of is_closed;
-    lock = ap (λ (e : EngineOf E C FP F B). string_bytes e.lock) only ∙ recalls.lock;
+    lock = ap (λ (e : Engine E C FP F I D). string_bytes e.lock) only ∙ recalls.lock;
     shows = λ not. absurd (not refl);
     writes = λ is. absurd (cc);
   }
 
   -- ---- the sync was done, and the lock was to be given back
 
-  module _ (before after : EngineOf E C FP F B) (at mid now : E) (is_open : before.mode ≡ Open) (only : OnlyLog before after)
+  module _ (before after : Engine E C FP F I D) (at mid now : E) (is_open : before.mode ≡ Open) (only : OnlyLog before after)
       (flushed : Flushes (Syncs env) before.writer (opened at before.log) (Ok tt) after.writer (opened mid after.log)) (lock : List ℕ) (lock_is : lock ≡ string_bytes after.lock) where
     module _ (told : IsTrue env.models_disk) (store : List ℕ) (old : State) (represents : Represents store (Reads store) (Recalls env store) (Some before) (env.observed at).disk old)
         (still : (env.observed now).disk.files ≡ (env.observed mid).disk.files) where
@@ -169,7 +168,7 @@ module _ {E C FP F : Type 0} {B : Boxed} (env : Ghosts E F) (cmp : List ℕ → 
       synced_bytes = bytes_synced (log_path store) (env.observed at).disk.files (env.observed now).disk.files all
 
       same_lock : lock ≡ lock_path store
-      same_lock = lock_is ∙ ap (λ (e : EngineOf E C FP F B). string_bytes e.lock) only ∙ represents.memory_is.lock
+      same_lock = lock_is ∙ ap (λ (e : Engine E C FP F I D). string_bytes e.lock) only ∙ represents.memory_is.lock
 
       -- broken, with all covered, where the lock is as it was
       broke_now : (env.observed now).disk.locked ≡ (env.observed mid).disk.locked → StandsFor store (Reads store) (env.observed now).disk (broke old (length old.history))
@@ -200,7 +199,7 @@ module _ {E C FP F : Type 0} {B : Boxed} (env : Ghosts E F) (cmp : List ℕ → 
           new = broke old (length old.history);
           represents = record {
             disk_is = broke_now told store old represents (does.now told) (relocks told);
-            memory_is = recalls_broke store before (record after { mode = Broken }) (env.observed at).disk (env.observed now).disk old (length old.history) represents.memory_is is (ap (λ (e : EngineOf E C FP F B). record e { mode = Broken }) only) refl;
+            memory_is = recalls_broke store before (record after { mode = Broken }) (env.observed at).disk (env.observed now).disk old (length old.history) represents.memory_is is (ap (λ (e : Engine E C FP F I D). record e { mode = Broken }) only) refl;
           };
           step = record {
             later = omega (arith, caused.later);
@@ -223,7 +222,7 @@ module _ {E C FP F : Type 0} {B : Boxed} (env : Ghosts E F) (cmp : List ℕ → 
           new = ended old (length old.history) false;
           represents = record {
             disk_is = ended_now told store old represents (does.now told) (relocks told);
-            memory_is = recalls_ended store before (record after { mode = Closed }) (env.observed at).disk (env.observed now).disk old (length old.history) false represents.memory_is (ap (λ (e : EngineOf E C FP F B). record e { mode = Closed }) only) refl;
+            memory_is = recalls_ended store before (record after { mode = Closed }) (env.observed at).disk (env.observed now).disk old (length old.history) false represents.memory_is (ap (λ (e : Engine E C FP F I D). record e { mode = Closed }) only) refl;
           };
           step = record {
             later = omega (arith, caused.later);
@@ -241,7 +240,7 @@ module _ {E C FP F : Type 0} {B : Boxed} (env : Ghosts E F) (cmp : List ℕ → 
   -- ---- a store that is abandoned
 
   -- it was closed before
-  pub abandoned_closed : (before : EngineOf E C FP F B) (at : E) → before.mode ≡ Closed → Answers env cmp (Some before) at abandon done None at
+  pub abandoned_closed : (before : Engine E C FP F I D) (at : E) → before.mode ≡ Closed → Answers env cmp (Some before) at abandon done None at
   abandoned_closed before at is_closed store told old represents =
       let is : old.mode ≡ closed = sym represents.memory_is.mode ∙ ap mode_of is_closed in
       record {
@@ -254,7 +253,7 @@ module _ {E C FP F : Type 0} {B : Boxed} (env : Ghosts E F) (cmp : List ℕ → 
         beside = λ opens_not path apart. refl;
       }
 
-  module _ (before : EngineOf E C FP F B) (at now : E) (differs : before.mode ≡ Closed → ⊥) (lock : List ℕ) (lock_is : lock ≡ string_bytes before.lock) where
+  module _ (before : Engine E C FP F I D) (at now : E) (differs : before.mode ≡ Closed → ⊥) (lock : List ℕ) (lock_is : lock ≡ string_bytes before.lock) where
     -- the lock wasn't given back
     pub abandon_refused : (status : Status) → ChangesFiles {T = Unit {0}} env.models_disk same FilesUnchanged (env.observed at) (env.observed now) (Err status)
         → ChangesLocks {T = Unit {0}} env.models_disk (lock_set lock false) (env.observed at) (env.observed now) (Err status) → HasCause {T = Unit {0}} (λ _. ⊥) (env.failures at) (env.failures now) (Err status)

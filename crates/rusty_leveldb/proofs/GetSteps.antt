@@ -12,6 +12,7 @@ use Rattle.leveldb_mem.specs.WriteBatch.{max_length}
 use Rattle.leveldb_base.specs.Entries.{FindsNewest}
 use Rattle.rusty_leveldb.specs.declared.db_impl.engine.Mode.{Mode}
 use Rattle.rusty_leveldb.specs.declared.db_impl.engine.Mode.TheVariants.{Open, Broken, Closed}
+use Rattle.rusty_leveldb.specs.declared.db_impl.engine.Engine.{Engine}
 use Rattle.rusty_leveldb.specs.State as machine
 use Rattle.rusty_leveldb.specs.State.{State, IsState, get, Answer, found, refused}
 use Rattle.rusty_leveldb.specs.Causes.{Faults, bad_operand, out_of_memory, Misfits, IsLongKey}
@@ -20,8 +21,6 @@ use Rattle.rusty_leveldb.specs.Serves.{refusal_of, found_or}
 use Rattle.rusty_leveldb.specs.Engine.{IsShut, mode_of, Remembers, Recalls, AnswersStill}
 use Rattle.rusty_leveldb.proofs.Writes.Moments.{moments_none}
 use Rattle.rusty_leveldb.proofs.Others.{others_still, spared_still}
-use Rattle.leveldb_env.specs.Options.{Boxed}
-use Rattle.rusty_leveldb.specs.Boxes.{EngineOf}
 
 -- ---- what is found
 
@@ -49,7 +48,7 @@ shut_mode Open e = absurd (cc)
 shut_mode Broken e = absurd (cc)
 shut_mode Closed e = refl
 
-module _ {E C FP F : Type 0} {B : Boxed} (env : Ghosts E F) (cmp : List ℕ → List ℕ → Ordering) (engine : EngineOf E C FP F B) (key : List ℕ) where
+module _ {E C FP F I : Type 0} {D : I → Type 0} (env : Ghosts E F) (cmp : List ℕ → List ℕ → Ordering) (engine : Engine E C FP F I D) (key : List ℕ) where
   -- the state answers so and stays
   abbrev Stays : Answer → State → Type 0
   Stays answer old = (faults : Faults) → StepIn cmp old.mode faults old (get None key) answer old

@@ -16,17 +16,17 @@ use Rattle.leveldb_env.specs.Env.{Files, kept_file}
 use Rattle.leveldb_env.specs.Picks.{picked, tails_of}
 use Rattle.leveldb_env.specs.Record.{record_observed, moment_of, failures_of, files_in, files_then, SameObserved}
 use Rattle.rusty_leveldb.specs.declared.shell.crash_runs.Report.{Report}
+use Rattle.rusty_leveldb.specs.declared.shell.crash_runs.Life.{Life}
 use Rattle.rusty_leveldb.specs.State.{State, Opening, Request, Answer, closed}
 use Rattle.leveldb_version.specs.Holds.{IsHonest}
 use Rattle.rusty_leveldb.specs.Runs as machine
 use Rattle.rusty_leveldb.specs.Runs.{Event, events_of, Run, CrashBefore, StopsAt, LifeLeads, Lives, new_state, goes_on, crashes}
 use Rattle.rusty_leveldb.specs.Serves.{Reads, StandsFor, Represents, IsConversation}
 use Rattle.rusty_leveldb.specs.Engine.{Recalls, IsStoreName, IsOpening}
+use Rattle.rusty_leveldb.specs.Shell.{NoCoder}
 use Rattle.rusty_leveldb.specs.Lives.{requests_of, IsLife, IsAlwaysLife, opening_of, ending_of, IsCrash, IsHonestCrash, IsNextDevice, IsReportOf, IsLifeOn, AreReports, AreReportsFromNone, IsLifeOf, AreLivesOf, AreOneRun, HasNoCrash, ReportsLives}
 use Rattle.rusty_leveldb.proofs.OneLog.LogFile.{front_honest}
 use Rattle.rusty_leveldb.proofs.Bounds.{nothing_stands}
-use Rattle.leveldb_env.specs.Options.{Boxed, nothing_boxed}
-use Rattle.rusty_leveldb.specs.Boxes.{LifeOf}
 
 -- ---- moments from a life's start
 
@@ -75,9 +75,9 @@ module _ (cmp : List ℕ → List ℕ → Ordering) (start : ℕ) where
 
 -- ---- one life more
 
-module _ {C FP : Type 0} {B : Boxed} (order : C → List ℕ → List ℕ → Ordering) (store : List ℕ) (Crash : RecordEnv → ℕ → Pick → RecordEnv → Type 0) where
+module _ {C FP I : Type 0} {D : I → Type 0} (order : C → List ℕ → List ℕ → Ordering) (store : List ℕ) (Crash : RecordEnv → ℕ → Pick → RecordEnv → Type 0) where
   -- one life after others
-  pub reports_more : (device : RecordEnv) (lives : List (LifeOf C FP B)) (reports : List Report) (mid to end : RecordEnv) (life : LifeOf C FP B) (report : Report) → AreReports ghosts order store Crash device lives reports mid
+  pub reports_more : (device : RecordEnv) (lives : List (Life C FP I D)) (reports : List Report) (mid to end : RecordEnv) (life : Life C FP I D) (report : Report) → AreReports ghosts order store Crash device lives reports mid
       → IsLifeOn ghosts order store mid life report to → IsNextDevice Crash (moment_of mid) life.moment life.pick to end → AreReports ghosts order store Crash device (lives ++ life ∷ []) (reports ++ report ∷ []) end
   reports_more device [] [] mid to end life report are is next = subst (λ d. AreReports ghosts order store Crash d (life ∷ []) (report ∷ []) end) are (to, is, end, next, refl)
   reports_more device (one ∷ lives) (first ∷ reports) mid to end life report are is next = (are.0, are.1, are.2, are.3, reports_more are.2 lives reports mid to end life report are.4 is next)
@@ -96,17 +96,17 @@ same_disk device from same = λ i. record { files = same.files i; locked = same.
 
 -- the disk represents a state
 abbrev pub Stands : Type 0 → Type 0 → List ℕ → RecordEnv → State → Type 0
-Stands C FP store device old = Represents store (Reads store) (Recalls {C = C} {FP = FP} {B = nothing_boxed} ghosts store) None (record_observed device).disk old
+Stands C FP store device old = Represents store (Reads store) (Recalls {C = C} {FP = FP} {I = Unit {0}} {D = NoCoder} ghosts store) None (record_observed device).disk old
 
 opens_so : (store : List ℕ) (fits create : Bool) → (IsTrue fits ↔ IsStoreName store) → IsOpening store create (opening_of fits create)
 opens_so store fits create name_fits = record { create = refl; exists = refl; fits = name_fits; compresses = refl }
 
-module _ {C FP : Type 0} {B : Boxed} (order : C → List ℕ → List ℕ → Ordering) (store : List ℕ) (cmp : List ℕ → List ℕ → Ordering) (fits : Bool) where
-  abbrev RunFrom : List (LifeOf C FP B) → List Report → RecordEnv → State → Type 0
+module _ {C FP I : Type 0} {D : I → Type 0} (order : C → List ℕ → List ℕ → Ordering) (store : List ℕ) (cmp : List ℕ → List ℕ → Ordering) (fits : Bool) where
+  abbrev RunFrom : List (Life C FP I D) → List Report → RecordEnv → State → Type 0
   RunFrom lives reports device old = (of_machine : List machine.Life) × AreLivesOf ghosts order store fits lives reports of_machine × (failures : ℕ) × (last : State) × Lives cmp (failures_of device) old of_machine failures last
 
   -- one life, and what comes after it
-  module _ (name_fits : IsTrue fits ↔ IsStoreName store) (device to next : RecordEnv) (life : LifeOf C FP B) (lives : List (LifeOf C FP B)) (report : Report) (reports : List Report) (old : State) (stands : Stands C FP store device old)
+  module _ (name_fits : IsTrue fits ↔ IsStoreName store) (device to next : RecordEnv) (life : Life C FP I D) (lives : List (Life C FP I D)) (report : Report) (reports : List Report) (old : State) (stands : Stands C FP store device old)
       (same_order : order life.options.cmp ≡ cmp) (is : IsLifeOn ghosts order store device life report to) (rest : (then : State) → Stands C FP store next then → RunFrom lives reports next then) where
     abbrev start : ℕ
     start = moment_of device
@@ -115,7 +115,7 @@ module _ {C FP : Type 0} {B : Boxed} (order : C → List ℕ → List ℕ → Or
     opening = opening_of fits life.options.create_if_missing
 
     stands_from : Stands C FP store is.from old
-    stands_from = subst (λ disk. Represents store (Reads store) (Recalls {C = C} {FP = FP} {B = nothing_boxed} ghosts store) None disk old) (sym (same_disk device is.from is.same)) stands
+    stands_from = subst (λ disk. Represents store (Reads store) (Recalls {C = C} {FP = FP} {I = Unit {0}} {D = NoCoder} ghosts store) None disk old) (sym (same_disk device is.from is.same)) stands
 
     lived : IsLife C FP ghosts cmp store is.from opening life.commands.items report to old
     lived = subst (λ o. IsAlwaysLife C FP ghosts o store is.from life.options.create_if_missing life.commands.items report to) same_order is.life_is opening (opens_so store fits life.options.create_if_missing name_fits) old stands_from
@@ -154,7 +154,7 @@ module _ {C FP : Type 0} {B : Boxed} (order : C → List ℕ → List ℕ → Or
         (subst (λ m. LifeLeads cmp (failures_of device) old answered (ending_of m) (failures_of next) stops.0) (sym ends)
         ((failures_of to, lived.run.new, stops_from cmp start (failures_of device) old lived.run.answered moment (failures_of to) lived.run.new stops.0 stopped), crash.fresh.failures))
 
-  pub lives_run : (IsTrue fits ↔ IsStoreName store) → (device : RecordEnv) (lives : List (LifeOf C FP B)) (reports : List Report) (end : RecordEnv) (old : State) → Stands C FP store device old → All (λ life. order life.options.cmp ≡ cmp) lives
+  pub lives_run : (IsTrue fits ↔ IsStoreName store) → (device : RecordEnv) (lives : List (Life C FP I D)) (reports : List Report) (end : RecordEnv) (old : State) → Stands C FP store device old → All (λ life. order life.options.cmp ≡ cmp) lives
       → AreReports ghosts order store (IsHonestCrash store) device lives reports end → RunFrom lives reports device old
   lives_run name_fits device [] [] end old stands orders are = ([], tt, failures_of device, old, (refl, refl))
   lives_run name_fits device (life ∷ lives) (report ∷ reports) end old stands orders are =
@@ -179,8 +179,8 @@ honest_next store start (Some moment) pick to next none crash =
 
 -- ---- from an empty device on
 
-module _ {C FP : Type 0} {B : Boxed} (order : C → List ℕ → List ℕ → Ordering) (store : List ℕ) where
-  one_run : (lives : List (LifeOf C FP B)) (reports : List Report) → AreReportsFromNone ghosts order store (IsHonestCrash store) lives reports → AreOneRun ghosts order store lives reports
+module _ {C FP I : Type 0} {D : I → Type 0} (order : C → List ℕ → List ℕ → Ordering) (store : List ℕ) where
+  one_run : (lives : List (Life C FP I D)) (reports : List Report) → AreReportsFromNone ghosts order store (IsHonestCrash store) lives reports → AreOneRun ghosts order store lives reports
   one_run lives reports are cmp fits name_fits orders =
       let first = are.1.first in
       let fresh = are.1.fresh in
@@ -189,7 +189,7 @@ module _ {C FP : Type 0} {B : Boxed} (order : C → List ℕ → List ℕ → Or
       (all.0, all.1, all.2, all.3, subst (λ n. Lives cmp n new_state all.0 all.2 all.3) fresh.failures all.4)
 
   -- so lives without tails are honest
-  honest_lives : (device : RecordEnv) (lives : List (LifeOf C FP B)) (reports : List Report) (end : RecordEnv) → All (λ life. life.pick.tails.items ≡ []) lives
+  honest_lives : (device : RecordEnv) (lives : List (Life C FP I D)) (reports : List Report) (end : RecordEnv) → All (λ life. life.pick.tails.items ≡ []) lives
       → AreReports ghosts order store IsCrash device lives reports end → AreReports ghosts order store (IsHonestCrash store) device lives reports end
   honest_lives device [] [] end none are = are
   honest_lives device (life ∷ lives) (report ∷ reports) end none are = (
@@ -204,7 +204,7 @@ module _ {C FP : Type 0} {B : Boxed} (order : C → List ℕ → List ℕ → Or
 
   -- ---- what is returned
 
-  pub all_reported : (lives : List (LifeOf C FP B)) (reports : Vec Report Global) → AreReportsFromNone ghosts order store IsCrash lives reports.items → ReportsLives ghosts order store lives (Ok reports)
+  pub all_reported : (lives : List (Life C FP I D)) (reports : Vec Report Global) → AreReportsFromNone ghosts order store IsCrash lives reports.items → ReportsLives ghosts order store lives (Ok reports)
   all_reported lives reports are = record {
     reports = are;
     run = one_run lives reports.items;
@@ -212,7 +212,7 @@ module _ {C FP : Type 0} {B : Boxed} (order : C → List ℕ → List ℕ → Or
     error = tt;
   }
 
-  pub fails_for : (lives : List (LifeOf C FP B)) (e : Status) → IsOutOfMemory e ⊎ ((e.code ≡ InvalidArgument) × HasNoCrash ghosts order store lives) → ReportsLives ghosts order store lives (Err e)
+  pub fails_for : (lives : List (Life C FP I D)) (e : Status) → IsOutOfMemory e ⊎ ((e.code ≡ InvalidArgument) × HasNoCrash ghosts order store lives) → ReportsLives ghosts order store lives (Err e)
   fails_for lives e cause = record { reports = tt; run = tt; kept = tt; error = cause }
 
 -- the device that comes next, by whether the life has a crash

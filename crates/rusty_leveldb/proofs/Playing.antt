@@ -9,6 +9,8 @@ use Rattle.std.proofs.lemmas.List.Elements.{All-nil, All-cons, All-append}
 use Rattle.leveldb_base.specs.declared.error.Status.{Status}
 use Rattle.leveldb_env.specs.declared.env.Env.{Ghosts}
 use Rattle.leveldb_env.specs.Env.{Files, Disk, FilesCrashTo}
+use Rattle.leveldb_env.specs.declared.options.Options.{Options}
+use Rattle.rusty_leveldb.specs.declared.db_impl.engine.Engine.{Engine}
 use Rattle.rusty_leveldb.specs.declared.shell.commands.Command.{Command}
 use Rattle.rusty_leveldb.specs.declared.shell.commands.Reply.{Reply}
 use Rattle.leveldb_version.specs.Contents.{Contents}
@@ -20,9 +22,7 @@ use Rattle.rusty_leveldb.specs.Serves.{Reads, StandsFor, Represents, Goes, Runs,
 use Rattle.rusty_leveldb.specs.Engine.{scene, Recalls, Answers, AnswersAs, IsOpening, no_engine}
 use Rattle.rusty_leveldb.proofs.Crashes.{crash_between, crash_inside}
 use Rattle.rusty_leveldb.proofs.Others.{others_still, others_then}
-use Rattle.rusty_leveldb.specs.Shell.{LeadsAt, Leads, LeadsThrough, Plays, PlaysAlways, request_of, answer_of}
-use Rattle.leveldb_env.specs.Options.{Boxed, OptionsOf, nothing_boxed}
-use Rattle.rusty_leveldb.specs.Boxes.{EngineOf}
+use Rattle.rusty_leveldb.specs.Shell.{NoCoder, LeadsAt, Leads, LeadsThrough, Plays, PlaysAlways, request_of, answer_of}
 
 -- what holds anyway holds of a refusal
 pub OnErr-always : {T E P : Type 0} (result : Result T E) → P → OnErr result P
@@ -99,9 +99,9 @@ module _ {E F : Type 0} (env : Ghosts E F) (only_now : OnlyNow env) (store : Lis
       let same = only_now at files (subst (λ n. (env.observed at).at_moment n files) is crash.stood) in
       crash_between store old (env.observed at).disk left stands (record { files = subst (λ f. FilesCrashTo f left.files) same crash.leaves; free = crash.free }) (subst (λ f. IsHonest store f left.files) same crash.honest)
 
-module _ {E F C FP : Type 0} {B : Boxed} (env : Ghosts E F) (only_now : OnlyNow env) (cmp : List ℕ → List ℕ → Ordering) (store : List ℕ) (modelled : IsTrue env.models_disk) where
+module _ {E F C FP I : Type 0} {D : I → Type 0} (env : Ghosts E F) (only_now : OnlyNow env) (cmp : List ℕ → List ℕ → Ordering) (store : List ℕ) (modelled : IsTrue env.models_disk) where
   -- nothing was asked yet
-  no_requests : (from : E) (engine : Option (EngineOf E C FP F B)) (old : State) → Represents store (Reads store) (Recalls {C = C} {FP = FP} {B = B} env store) engine (env.observed from).disk old
+  no_requests : (from : E) (engine : Option (Engine E C FP F I D)) (old : State) → Represents store (Reads store) (Recalls {C = C} {FP = FP} {I = I} {D = D} env store) engine (env.observed from).disk old
       → Runs store (Reads store) (Recalls env store) cmp (scene env cmp engine from) [] [] [] (scene env cmp engine from) old
   no_requests from engine old is = record {
     answered = [];
@@ -130,7 +130,7 @@ module _ {E F C FP : Type 0} {B : Boxed} (env : Ghosts E F) (only_now : OnlyNow 
   }
 
   -- one request more
-  pub next_one : (before : Option (EngineOf E C FP F B)) (from mid to : E) (requests : List Request) (answers : List Answer) (moments : List ℕ) (engine after : Option (EngineOf E C FP F B)) (request : Request) (answer : Answer) (old : State)
+  pub next_one : (before : Option (Engine E C FP F I D)) (from mid to : E) (requests : List Request) (answers : List Answer) (moments : List ℕ) (engine after : Option (Engine E C FP F I D)) (request : Request) (answer : Answer) (old : State)
       → Runs store (Reads store) (Recalls env store) cmp (scene env cmp before from) requests answers moments (scene env cmp engine mid) old → AnswersAs env cmp store engine mid request answer after to
       → Runs store (Reads store) (Recalls env store) cmp (scene env cmp before from) (requests ++ request ∷ []) (answers ++ answer ∷ []) (moments ++ (env.observed to).moment ∷ []) (scene env cmp after to) old
   next_one before from mid to requests answers moments engine after request answer old led answers_so = record {
@@ -204,28 +204,28 @@ module _ {E F C FP : Type 0} {B : Boxed} (env : Ghosts E F) (only_now : OnlyNow 
       by_now moment low most = All-append (λ (one : ℕ × Event). one.0 ≤ moment) led.answered (now ∷ []) ((led.ends moment low).1 (omega (arith, most, goes.moments.time.later)))
           (All-cons (λ (one : ℕ × Event). one.0 ≤ moment) now [] most (All-nil (λ (one : ℕ × Event). one.0 ≤ moment)))
 
-  pub one_more : (from mid to : E) (requests : List Request) (answers : List Answer) (engine after : Option (EngineOf E C FP F B)) (request : Request) (answer : Answer) (old : State)
+  pub one_more : (from mid to : E) (requests : List Request) (answers : List Answer) (engine after : Option (Engine E C FP F I D)) (request : Request) (answer : Answer) (old : State)
       → Leads C FP env cmp store from requests answers engine mid old → Answers env cmp engine mid request answer after to
       → Leads C FP env cmp store from (requests ++ request ∷ []) (answers ++ answer ∷ []) after to old
   one_more from mid to requests answers engine after request answer old led answers_so = (led.0 ++ (env.observed to).moment ∷ [], next_one None from mid to requests answers led.0 engine after request answer old led.1 (answers_so store))
 
-  pub first_at : (from to : E) (after : Option (EngineOf E C FP F B)) (request : Request) (answer : Answer) (old : State)
-      → Represents store (Reads store) (Recalls {C = C} {FP = FP} {B = B} env store) None (env.observed from).disk old → AnswersAs env cmp store None from request answer after to
+  pub first_at : (from to : E) (after : Option (Engine E C FP F I D)) (request : Request) (answer : Answer) (old : State)
+      → Represents store (Reads store) (Recalls {C = C} {FP = FP} {I = I} {D = D} env store) None (env.observed from).disk old → AnswersAs env cmp store None from request answer after to
       → LeadsAt C FP env cmp store from (request ∷ []) (answer ∷ []) ((env.observed to).moment ∷ []) after to old
   first_at from to after request answer old is answers_so = next_one None from from to [] [] [] None after request answer old (no_requests from None old is) answers_so
 
-  pub first_one : (from to : E) (after : Option (EngineOf E C FP F B)) (request : Request) (answer : Answer) (old : State)
-      → Represents store (Reads store) (Recalls {C = C} {FP = FP} {B = B} env store) None (env.observed from).disk old → AnswersAs env cmp store None from request answer after to
+  pub first_one : (from to : E) (after : Option (Engine E C FP F I D)) (request : Request) (answer : Answer) (old : State)
+      → Represents store (Reads store) (Recalls {C = C} {FP = FP} {I = I} {D = D} env store) None (env.observed from).disk old → AnswersAs env cmp store None from request answer after to
       → Leads C FP env cmp store from (request ∷ []) (answer ∷ []) after to old
   first_one from to after request answer old is answers_so = ((env.observed to).moment ∷ [], first_at from to after request answer old is answers_so)
 
 -- the same in an order that is the same
-pub in_order : {E F C FP : Type 0} {B : Boxed} {env : Ghosts E F} {this that : List ℕ → List ℕ → Ordering} {before after : Option (EngineOf E C FP F B)} {from to : E} {request : Request} {answer : Answer}
+pub in_order : {E F C FP I : Type 0} {D : I → Type 0} {env : Ghosts E F} {this that : List ℕ → List ℕ → Ordering} {before after : Option (Engine E C FP F I D)} {from to : E} {request : Request} {answer : Answer}
     → this ≡ that → Answers env this before from request answer after to → Answers env that before from request answer after to
 in_order {env = env} {before = before} {after = after} {from = from} {to = to} {request = request} {answer = answer} same so = subst (λ order. Answers env order before from request answer after to) same so
 
 -- the same of a command and its reply
-pub answered : {E F C FP : Type 0} {B : Boxed} {env : Ghosts E F} {cmp : List ℕ → List ℕ → Ordering} {before after : Option (EngineOf E C FP F B)} {from to : E}
+pub answered : {E F C FP I : Type 0} {D : I → Type 0} {env : Ghosts E F} {cmp : List ℕ → List ℕ → Ordering} {before after : Option (Engine E C FP F I D)} {from to : E}
     (command : Command) (request : Request) (reply : Reply) (answer : Answer) → request_of command ≡ request → answer_of reply ≡ answer
     → Answers env cmp before from request answer after to → Answers env cmp before from (request_of command) (answer_of reply) after to
 answered {env = env} {cmp = cmp} {before = before} {after = after} {from = from} {to = to} command request reply answer asks gives so =
@@ -238,21 +238,21 @@ pub no_other : {M N : Type 0} {store : List ℕ} {reads : Files → Contents →
     → Represents store reads this None disk state → Represents store reads that None disk state
 no_other disk state represents = record { disk_is = represents.disk_is; memory_is = represents.memory_is }
 
-module _ {E F : Type 0} {B : Boxed} (C FP : Type 0) (env : Ghosts E F) (cmp : List ℕ → List ℕ → Ordering) (store : List ℕ) where
+module _ {E F I : Type 0} {D : I → Type 0} (C FP : Type 0) (env : Ghosts E F) (cmp : List ℕ → List ℕ → Ordering) (store : List ℕ) where
   -- so far the store was opened and these commands were given these replies, from every state that the disk stood for
-  abbrev pub PlaysSoFar : E → Bool → List Command → List Reply → EngineOf E C FP F B → E → Type 0
+  abbrev pub PlaysSoFar : E → Bool → List Command → List Reply → Engine E C FP F I D → E → Type 0
   PlaysSoFar from create_if_missing commands given engine to = IsTrue env.models_disk → (opening : Opening) → IsOpening store create_if_missing opening
-      → (old : State) → Represents store (Reads store) (Recalls {C = C} {FP = FP} {B = B} env store) None (env.observed from).disk old
+      → (old : State) → Represents store (Reads store) (Recalls {C = C} {FP = FP} {I = I} {D = D} env store) None (env.observed from).disk old
       → Leads C FP env cmp store from (open_store opening ∷ map request_of commands) (done ∷ map answer_of given) (Some engine) to old
 
   -- what an opening of the store answers
-  abbrev pub OpensAs : E → Bool → Answer → Option (EngineOf E C FP F B) → E → Type 0
+  abbrev pub OpensAs : E → Bool → Answer → Option (Engine E C FP F I D) → E → Type 0
   OpensAs from create_if_missing answer engine to = (opening : Opening) → IsOpening store create_if_missing opening → AnswersAs env cmp store None from (open_store opening) answer engine to
 
-module _ {E F : Type 0} {B : Boxed} (C FP : Type 0) (env : Ghosts E F) (only_now : OnlyNow env) (cmp : List ℕ → List ℕ → Ordering) (store : List ℕ) where
+module _ {E F I : Type 0} {D : I → Type 0} (C FP : Type 0) (env : Ghosts E F) (only_now : OnlyNow env) (cmp : List ℕ → List ℕ → Ordering) (store : List ℕ) where
   -- the same of a run at whose end no engine stands
   pub at_none : (from : E) (requests : List Request) (answers : List Answer) (moments : List ℕ) (to : E) (old : State)
-      → LeadsAt C FP {B = B} env cmp store from requests answers moments None to old → LeadsAt C FP {B = nothing_boxed} env cmp store from requests answers moments None to old
+      → LeadsAt C FP {I = I} {D = D} env cmp store from requests answers moments None to old → LeadsAt C FP {I = Unit {0}} {D = NoCoder} env cmp store from requests answers moments None to old
   at_none from requests answers moments to old led = record {
     answered = led.answered;
     asked = led.asked;
@@ -265,13 +265,13 @@ module _ {E F : Type 0} {B : Boxed} (C FP : Type 0) (env : Ghosts E F) (only_now
   }
 
   leads_to_none : (from : E) (requests : List Request) (answers : List Answer) (to : E) (old : State)
-      → Leads C FP {B = B} env cmp store from requests answers None to old → Leads C FP {B = nothing_boxed} env cmp store from requests answers None to old
+      → Leads C FP {I = I} {D = D} env cmp store from requests answers None to old → Leads C FP {I = Unit {0}} {D = NoCoder} env cmp store from requests answers None to old
   leads_to_none from requests answers to old led = (led.0, at_none from requests answers led.0 to old led.1)
 
-  pub play_first : (from to : E) (create_if_missing : Bool) (engine : EngineOf E C FP F B) → OpensAs C FP env cmp store from create_if_missing done (Some engine) to → PlaysSoFar C FP env cmp store from create_if_missing [] [] engine to
+  pub play_first : (from to : E) (create_if_missing : Bool) (engine : Engine E C FP F I D) → OpensAs C FP env cmp store from create_if_missing done (Some engine) to → PlaysSoFar C FP env cmp store from create_if_missing [] [] engine to
   play_first from to create_if_missing engine opens modelled opening is old represents = first_one env only_now cmp store modelled from to (Some engine) (open_store opening) done old represents (opens opening is)
 
-  pub play_more : (from mid to : E) (create_if_missing : Bool) (commands : List Command) (given : List Reply) (engine after : EngineOf E C FP F B) (command : Command) (reply : Reply)
+  pub play_more : (from mid to : E) (create_if_missing : Bool) (commands : List Command) (given : List Reply) (engine after : Engine E C FP F I D) (command : Command) (reply : Reply)
       → PlaysSoFar C FP env cmp store from create_if_missing commands given engine mid → Answers env cmp (Some engine) mid (request_of command) (answer_of reply) (Some after) to
       → PlaysSoFar C FP env cmp store from create_if_missing (commands ++ command ∷ []) (given ++ reply ∷ []) after to
   play_more from mid to create_if_missing commands given engine after command reply plays answers_so modelled opening is old represents =
@@ -280,7 +280,7 @@ module _ {E F : Type 0} {B : Boxed} (C FP : Type 0) (env : Ghosts E F) (only_now
       subst (λ as'. Leads C FP env cmp store from (open_store opening ∷ map request_of (commands ++ command ∷ [])) (done ∷ as') (Some after) to old) (sym (map-append answer_of given (reply ∷ [])))
       (subst (λ rs. Leads C FP env cmp store from (open_store opening ∷ rs) (done ∷ (map answer_of given ++ answer_of reply ∷ [])) (Some after) to old) (sym (map-append request_of commands (command ∷ []))) led)
 
-  pub play_end : (from mid to : E) (create_if_missing : Bool) (commands : List Command) (given : List Reply) (engine : EngineOf E C FP F B) (result : Result (Unit {0}) Status)
+  pub play_end : (from mid to : E) (create_if_missing : Bool) (commands : List Command) (given : List Reply) (engine : Engine E C FP F I D) (result : Result (Unit {0}) Status)
       → PlaysSoFar C FP env cmp store from create_if_missing commands given engine mid → Answers env cmp (Some engine) mid abandon (done_or result) None to
       → PlaysAlways C FP env cmp store from create_if_missing commands given result to
   play_end from mid to create_if_missing commands given engine result plays answers_so modelled opening is old represents = by_result result
@@ -292,7 +292,7 @@ module _ {E F : Type 0} {B : Boxed} (C FP : Type 0) (env : Ghosts E F) (only_now
       by_result (Ok ended) led = led
       by_result (Err status) led = inl led
 
-  pub not_opened : (options : OptionsOf C FP B) (from to : E) (create_if_missing : Bool) (commands : List Command) (given : List Reply) (status : Status) → given ≡ []
+  pub not_opened : (options : Options C FP I D) (from to : E) (create_if_missing : Bool) (commands : List Command) (given : List Reply) (status : Status) → given ≡ []
       → OpensAs C FP env cmp store from create_if_missing (refused (refusal_of status)) (no_engine options) to → PlaysAlways C FP env cmp store from create_if_missing commands given (Err status) to
   not_opened options from to create_if_missing commands given status none opens modelled opening is old represents =
       inr (inl (

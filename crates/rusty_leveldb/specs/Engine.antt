@@ -7,10 +7,12 @@ use Rattle.leveldb_base.specs.History.{Item, Entry, entries_of, greatest, SameVi
 use Rattle.leveldb_env.specs.declared.env.Env.{Ghosts}
 use Rattle.leveldb_env.specs.Env.{File, Disk, bytes_of, AreBytes, Observed}
 use Rattle.leveldb_base.specs.Error.{IsOutOfMemory}
+use Rattle.leveldb_env.specs.declared.options.Options.{Options}
 use Rattle.leveldb_mem.specs.Log.{log_block_size, clean, IsLogFile}
 use Rattle.leveldb_mem.specs.Log.Writer.{WriterState, IsBroken}
 use Rattle.rusty_leveldb.specs.declared.db_impl.engine.Mode.{Mode}
 use Rattle.rusty_leveldb.specs.declared.db_impl.engine.Mode.TheVariants.{Open, Broken, Closed}
+use Rattle.rusty_leveldb.specs.declared.db_impl.engine.Engine.{Engine}
 use Rattle.leveldb_version.specs.Paths.{lock_path}
 use Rattle.rusty_leveldb.specs.OneLog.{log_path}
 use Rattle.rusty_leveldb.specs.Recent.{AreUsedUp, IsFull}
@@ -19,8 +21,6 @@ use Rattle.rusty_leveldb.specs.State as machine
 use Rattle.rusty_leveldb.specs.State.{State, Opening, Request, Answer, open_mode, closed}
 use Rattle.rusty_leveldb.specs.Causes.{IsLongKey, IsLongBatch}
 use Rattle.rusty_leveldb.specs.Serves.{Reads, Serves, Scene, IsUnreadable}
-use Rattle.leveldb_env.specs.Options.{Boxed, OptionsOf}
-use Rattle.rusty_leveldb.specs.Boxes.{EngineOf}
 
 -- the store is closed: every call but `abandon` is refused
 abbrev pub IsShut : Mode → Type 0
@@ -40,9 +40,9 @@ mode_of Open = machine.open_mode
 mode_of Broken = machine.broken
 mode_of Closed = machine.closed
 
-module _ {E C FP F : Type 0} {B : Boxed} (env : Ghosts E F) (store : List ℕ) where
+module _ {E C FP F I : Type 0} {D : I → Type 0} (env : Ghosts E F) (store : List ℕ) where
   -- the log ends cleanly, and the engine's writer stands at its end
-  pub record WritesOn (engine : EngineOf E C FP F B) (disk : Disk) : Type 0 where
+  pub record WritesOn (engine : Engine E C FP F I D) (disk : Disk) : Type 0 where
     pub file : File
     pub there : disk.files (log_path store) ≡ Some file
     pub since : AreBytes file.since
@@ -52,13 +52,13 @@ module _ {E C FP F : Type 0} {B : Boxed} (env : Ghosts E F) (store : List ℕ) w
     pub writer : engine.writer ≡ record { size = log_block_size; offset = length (bytes_of file) % log_block_size; broken = false }
 
   -- memory shows what the history shows, from its end on, and no entry of it is past that end
-  pub record Remembers (engine : EngineOf E C FP F B) (state : State) : Type 0 where
+  pub record Remembers (engine : Engine E C FP F I D) (state : State) : Type 0 where
     pub last : engine.recent.last ≡ state.last
     pub same : (t : ℕ) → greatest (entries_of state.history) ≤ t → SameView engine.recent.kept.entries (entries_of state.history) t
     pub up_to : (entry : Entry) → Contains engine.recent.kept.entries entry → entry.sequence ≤ greatest (entries_of state.history)
 
   -- what the engine's memory has to do with the disk and the state
-  pub record Recalls (engine : EngineOf E C FP F B) (disk : Disk) (state : State) : Type 0 where
+  pub record Recalls (engine : Engine E C FP F I D) (disk : Disk) (state : State) : Type 0 where
     pub mode : mode_of engine.mode ≡ state.mode
     pub lock : string_bytes engine.lock ≡ lock_path store
     pub shows : (state.mode ≡ closed → ⊥) → Remembers engine state
@@ -71,24 +71,24 @@ abbrev pub TimeGoesOn : {E F : Type 0} → Ghosts E F → E → E → Type 0
 TimeGoesOn env from to = IsTrue env.models_disk → (env.observed from).moment ≤ (env.observed to).moment
 
 -- no engine of these options
-abbrev pub no_engine : {E C FP F : Type 0} {B : Boxed} → OptionsOf C FP B → Option (EngineOf E C FP F B)
+abbrev pub no_engine : {E C FP F I : Type 0} {D : I → Type 0} → Options C FP I D → Option (Engine E C FP F I D)
 no_engine options = None
 
-module _ {E C FP F : Type 0} {B : Boxed} (env : Ghosts E F) (cmp : List ℕ → List ℕ → Ordering) where
+module _ {E C FP F I : Type 0} {D : I → Type 0} (env : Ghosts E F) (cmp : List ℕ → List ℕ → Ordering) where
   -- what stands around a call
-  abbrev pub scene : Option (EngineOf E C FP F B) → E → Scene (EngineOf E C FP F B)
+  abbrev pub scene : Option (Engine E C FP F I D) → E → Scene (Engine E C FP F I D)
   scene memory at = (memory, env.observed at, env.failures at)
 
   -- where the disk is told, the call is a step of the machine, for the store under this name
-  abbrev pub AnswersAs : List ℕ → Option (EngineOf E C FP F B) → E → Request → Answer → Option (EngineOf E C FP F B) → E → Type 0
+  abbrev pub AnswersAs : List ℕ → Option (Engine E C FP F I D) → E → Request → Answer → Option (Engine E C FP F I D) → E → Type 0
   AnswersAs store before from request answer after to = IsTrue env.models_disk → Serves store (Reads store) (Recalls env store) cmp (scene before from) request answer (scene after to)
 
   -- the same, whatever store engine and disk stand for
-  abbrev pub Answers : Option (EngineOf E C FP F B) → E → Request → Answer → Option (EngineOf E C FP F B) → E → Type 0
+  abbrev pub Answers : Option (Engine E C FP F I D) → E → Request → Answer → Option (Engine E C FP F I D) → E → Type 0
   Answers before from request answer after to = (store : List ℕ) → AnswersAs store before from request answer after to
 
   -- the same of a call that leaves engine and environment as they are
-  abbrev pub AnswersStill : EngineOf E C FP F B → Request → Answer → Type 0
+  abbrev pub AnswersStill : Engine E C FP F I D → Request → Answer → Type 0
   AnswersStill engine request answer = (at : E) → Answers (Some engine) at request answer (Some engine) at
 
 -- ---- why a call may be refused with no failure of the device
@@ -105,28 +105,28 @@ ShutDown mode writer e = IsStuck mode writer × IsBroken e
 abbrev pub HaltedBy : Mode → WriterState → Status → Type 0
 HaltedBy mode writer e = (ShutOut mode e ⊎ ShutDown mode writer e) × (e.code ≡ IOError → IsShut mode → ⊥)
 
-module _ {E C FP F : Type 0} {B : Boxed} (env : Ghosts E F) where
+module _ {E C FP F I : Type 0} {D : I → Type 0} (env : Ghosts E F) where
   -- an append to the log or a sync of it: out of memory, or a disk that is observed has lost the log, which is
   -- damage and isn't counted
-  abbrev pub LogExcused : EngineOf E C FP F B → E → E → Status → Type 0
+  abbrev pub LogExcused : Engine E C FP F I D → E → E → Status → Type 0
   LogExcused engine at now e = IsOutOfMemory e
       ⊎ ((e.code ≡ Corruption) × IsTrue env.models_disk
       × ((env.observed at).disk.files (env.name_of engine.log) ≡ None)
       × (env.failures now ≡ env.failures at))
 
   -- why a write may fail where the device didn't: the store is closed or broken, the batch is too long, no numbers are left, its entries are too many in memory, or the log vanished
-  abbrev pub WriteExcused : EngineOf E C FP F B → E → E → List Item → Status → Type 0
+  abbrev pub WriteExcused : Engine E C FP F I D → E → E → List Item → Status → Type 0
   WriteExcused engine at now items e = ShutOut engine.mode e ⊎ ShutDown engine.mode engine.writer e
       ⊎ ((e.code ≡ InvalidArgument) × IsLongBatch items) ⊎ ((e.code ≡ NotSupported) × (AreUsedUp engine.recent.last (length items)
       ⊎ (IsFull engine.recent.kept items × (env.failures now ≡ env.failures at)))) ⊎ LogExcused engine at now e
 
   -- why a flush may fail where the device didn't: the store is closed or broken, or the log vanished
-  abbrev pub SyncExcused : EngineOf E C FP F B → E → E → Status → Type 0
+  abbrev pub SyncExcused : Engine E C FP F I D → E → E → Status → Type 0
   SyncExcused engine at now e = ShutOut engine.mode e ⊎ ShutDown engine.mode engine.writer e
       ⊎ LogExcused engine at now e
 
   -- as a sync, where nothing was counted: giving back the lock may be refused with the same code, and that is counted
-  abbrev pub CloseExcused : EngineOf E C FP F B → E → E → Status → Type 0
+  abbrev pub CloseExcused : Engine E C FP F I D → E → E → Status → Type 0
   CloseExcused engine at now e = SyncExcused engine at now e × (env.failures now ≡ env.failures at)
 
 -- why a look-up may fail: the store is closed, the key is too long, or memory ran out

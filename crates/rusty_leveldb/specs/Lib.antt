@@ -1,4 +1,3 @@
-pub mod Boxes
 pub mod OneLog
 pub mod State
 pub mod Unread

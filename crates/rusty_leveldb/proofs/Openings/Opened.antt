@@ -16,6 +16,7 @@ use Rattle.rusty_leveldb.specs.Causes.{Misfits, Disagrees}
 use Rattle.rusty_leveldb.specs.Machine.{MayOpen, Opens, StepIn}
 use Rattle.rusty_leveldb.specs.Serves.{Reads, StandsFor, Represents, Goes, faults_between, SparesOthers}
 use Rattle.rusty_leveldb.specs.Engine.{IsStoreName, IsOpening, Recalls, Remembers, WritesOn, mode_of}
+use Rattle.rusty_leveldb.specs.declared.db_impl.engine.Engine.{Engine}
 use Rattle.rusty_leveldb.specs.Recovery.{IsFoundAs, IsKeptLog, IsRecovered}
 use Rattle.rusty_leveldb.proofs.Histories.{history_part}
 use Rattle.rusty_leveldb.proofs.OneLog.LogFile.{carried}
@@ -26,8 +27,6 @@ use Rattle.rusty_leveldb.proofs.Openings.Logs.{carried_over, kept_is_kept}
 use Rattle.rusty_leveldb.proofs.Openings.Calls.{Sparing}
 use Rattle.rusty_leveldb.proofs.Openings.Moments.{opening_moments}
 use Rattle.rusty_leveldb.proofs.Openings.Survives.{Found, found_in, stays_made}
-use Rattle.leveldb_env.specs.Options.{Boxed}
-use Rattle.rusty_leveldb.specs.Boxes.{EngineOf}
 
 -- sets of the same entries show the same
 shows_same : (these those : List Entry) (t : ℕ) (key value : List ℕ) → ((entry : Entry) → Contains these entry ↔ Contains those entry) → HasValueAt these t key value → HasValueAt those t key value
@@ -51,11 +50,11 @@ store_found create (Some file) records end s found contents read is = inr (sym i
 no_bytes : AreBytes []
 no_bytes i = omega arith
 
-module _ {E C FP F : Type 0} {B : Boxed} (env : Ghosts E F) (name : List ℕ) (cmp : List ℕ → List ℕ → Ordering) (opening_is : Opening) (create : Bool) (is : IsOpening name create opening_is) (is_name : IsStoreName name)
-    (from to : Observed) (before after : ℕ) (engine : EngineOf E C FP F B) (got : IsRecovered create (from.disk.files (log_path name)) (to.disk.files (log_path name)) engine.writer engine.recent)
+module _ {E C FP F I : Type 0} {D : I → Type 0} (env : Ghosts E F) (name : List ℕ) (cmp : List ℕ → List ℕ → Ordering) (opening_is : Opening) (create : Bool) (is : IsOpening name create opening_is) (is_name : IsStoreName name)
+    (from to : Observed) (before after : ℕ) (engine : Engine E C FP F I D) (got : IsRecovered create (from.disk.files (log_path name)) (to.disk.files (log_path name)) engine.writer engine.recent)
     (mode : mode_of engine.mode ≡ open_mode) (lock : string_bytes engine.lock ≡ lock_path name) (log : env.name_of engine.log ≡ log_path name)
     (was_free : from.disk.locked (lock_path name) ≡ false) (held : to.disk.locked (lock_path name) ≡ true) (others : SparesOthers name from.disk to.disk)
-    (counted : after ≡ before) (passed : Run (Sparing create (from.disk.files (log_path name)) (log_path name)) from to) (old : State) (represents : Represents name (Reads name) (Recalls {E = E} {C = C} {FP = FP} {F = F} {B = B} env name) None from.disk old) where
+    (counted : after ≡ before) (passed : Run (Sparing create (from.disk.files (log_path name)) (log_path name)) from to) (old : State) (represents : Represents name (Reads name) (Recalls {E = E} {C = C} {FP = FP} {F = F} {I = I} {D = D} env name) None from.disk old) where
   found : opening.Finds name (λ now. now ≡ old.store) from.disk.files old.history (old.last + count_of old.pending) old.covered old.pending
   found = opening.opening_finds name from.disk.files old.history old.last old.covered old.pending represents.disk_is.is_state.covered represents.disk_is.holds
 
@@ -165,7 +164,7 @@ module _ {E C FP F : Type 0} {B : Boxed} (env : Ghosts E F) (name : List ℕ) (c
       (λ there. subst (Disagrees opening_is) there misfit) which
 
   -- the step
-  pub opened : Goes name (Reads name) (Recalls {E = E} {C = C} {FP = FP} {F = F} {B = B} env name) cmp (None, from, before) (open_store opening_is) done (Some engine, to, after) old
+  pub opened : Goes name (Reads name) (Recalls {E = E} {C = C} {FP = FP} {F = F} {I = I} {D = D} env name) cmp (None, from, before) (open_store opening_is) done (Some engine, to, after) old
   opened = record {
     new = now;
     represents = record { disk_is = stands; memory_is = record { mode = mode; lock = lock; shows = λ never. remembers; writes = λ open_is. writes } };

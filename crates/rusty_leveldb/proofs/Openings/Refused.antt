@@ -20,7 +20,6 @@ use Rattle.rusty_leveldb.specs.Recovery.{SparesLog, NeverOpens, FailedBeside, St
 use Rattle.rusty_leveldb.proofs.Openings.Calls.{Sparing}
 use Rattle.rusty_leveldb.proofs.Openings.Moments.{opening_moments}
 use Rattle.rusty_leveldb.proofs.Openings.Survives.{Survives, Found, found_in, survives_now, survives_same, survives_kept}
-use Rattle.leveldb_env.specs.Options.{Boxed}
 
 -- why an opening is refused before anything is made
 abbrev pub IsEarlyWhy : List ℕ → Bool → Disk → Status → Type 0
@@ -86,9 +85,9 @@ unlock_failed before mid after device_failed later ended counts device failed = 
     (λ (full : before ≡ 2 ^ 64 - 1). inr (omega (arith, full, later, ended, counts))) (device refl)
 unlock_failed before mid after other later ended counts device failed = ⊎_elim (λ (more : mid < after). inl (omega (arith, later, more))) (λ full. inr full) failed
 
-module _ {E C FP F : Type 0} {B : Boxed} (env : Ghosts E F) (name : List ℕ) (cmp : List ℕ → List ℕ → Ordering) (opening : Opening) (create : Bool) (is : IsOpening name create opening)
+module _ {E C FP F I : Type 0} {D : I → Type 0} (env : Ghosts E F) (name : List ℕ) (cmp : List ℕ → List ℕ → Ordering) (opening : Opening) (create : Bool) (is : IsOpening name create opening)
     (from to : Observed) (before mid after : ℕ) (e : Status) (up : IsGivenUp name create from.disk to.disk before mid after e)
-    (passed : Run (Sparing create (from.disk.files (log_path name)) (log_path name)) from to) (old : State) (represents : Represents name (Reads name) (Recalls {E = E} {C = C} {FP = FP} {F = F} {B = B} env name) None from.disk old) where
+    (passed : Run (Sparing create (from.disk.files (log_path name)) (log_path name)) from to) (old : State) (represents : Represents name (Reads name) (Recalls {E = E} {C = C} {FP = FP} {F = F} {I = I} {D = D} env name) None from.disk old) where
   -- the store is closed, and this store is there
   abbrev left : Store → State
   left there = record old { store = there; locked = to.disk.locked (lock_path name) }
@@ -109,7 +108,7 @@ module _ {E C FP F : Type 0} {B : Boxed} (env : Ghosts E F) (name : List ℕ) (c
       }
 
   abbrev Refuses : Type 0
-  Refuses = Goes name (Reads name) (Recalls {E = E} {C = C} {FP = FP} {F = F} {B = B} env name) cmp (None, from, before) (open_store opening) (refused (refusal_of e)) (None, to, after) old
+  Refuses = Goes name (Reads name) (Recalls {E = E} {C = C} {FP = FP} {F = F} {I = I} {D = D} env name) cmp (None, from, before) (open_store opening) (refused (refusal_of e)) (None, to, after) old
 
   -- refused for this cause
   goes : (there : Store) → Survives name opening old there to.disk.files → (cause : Cause) → Comes (faults_between before after) old (open_store opening) (refusal_of e) cause

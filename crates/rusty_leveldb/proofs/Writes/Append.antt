@@ -10,6 +10,7 @@ use Rattle.leveldb_env.proofs.EnvLemmas.{SameBut-appending}
 use Rattle.leveldb_mem.specs.Log.{frame_at}
 use Rattle.leveldb_mem.specs.WriteBatch.{BatchOf}
 use Rattle.rusty_leveldb.specs.declared.db_impl.engine.Mode.TheVariants.{Broken}
+use Rattle.rusty_leveldb.specs.declared.db_impl.engine.Engine.{Engine}
 use Rattle.rusty_leveldb.specs.OneLog.{log_path, max_sequence}
 use Rattle.rusty_leveldb.specs.State.{State, open_mode, broken, write, refused}
 use Rattle.rusty_leveldb.specs.Causes.{Faults, out_of_memory, device_failed}
@@ -20,8 +21,6 @@ use Rattle.rusty_leveldb.proofs.Histories.{entries_more, greatest_append, placed
 use Rattle.rusty_leveldb.proofs.OneLog.Writing.{appending_holds}
 use Rattle.rusty_leveldb.proofs.Others.{beside_but, others_but_log}
 use Rattle.rusty_leveldb.proofs.Writes.Stands.{Fails, IsOpen, IsStill, broken_with, Broke, broken_is}
-use Rattle.leveldb_env.specs.Options.{Boxed}
-use Rattle.rusty_leveldb.specs.Boxes.{EngineOf}
 
 -- a batch that may follow, and its record
 pub record IsNext (last : ℕ) (items : List Item) (bytes : List ℕ) : Type 0 where
@@ -30,7 +29,7 @@ pub record IsNext (last : ℕ) (items : List Item) (bytes : List ℕ) : Type 0 w
   pub all_fit : last + length items ≤ max_sequence
   pub are : AreBytes bytes
 
-module _ {E C FP F : Type 0} {B : Boxed} (env : Ghosts E F) (store : List ℕ) (engine : EngineOf E C FP F B) (from : E) (old : State) (was : IsOpen env store engine from old)
+module _ {E C FP F I : Type 0} {D : I → Type 0} (env : Ghosts E F) (store : List ℕ) (engine : Engine E C FP F I D) (from : E) (old : State) (was : IsOpen env store engine from old)
     (items : List Item) (bytes : List ℕ) (next : IsNext old.last items bytes) where
   abbrev pub batch : List Entry
   batch = batch_of old items
@@ -61,7 +60,7 @@ module _ {E C FP F : Type 0} {B : Boxed} (env : Ghosts E F) (store : List ℕ) (
 
   -- ---- an append that was refused, or whose sync was
 
-  module _ (cmp : List ℕ → List ℕ → Ordering) (sync : Bool) (after : EngineOf E C FP F B) (to : E) where
+  module _ (cmp : List ℕ → List ℕ → Ordering) (sync : Bool) (after : Engine E C FP F I D) (to : E) where
     abbrev faults : Faults
     faults = faults_between (env.failures from) (env.failures to)
 

@@ -13,6 +13,7 @@ use Rattle.leveldb_mem.proofs.LawsLemmas.{log_laws}
 use Rattle.leveldb_mem.specs.Log.Writer.{after_frame}
 use Rattle.leveldb_mem.specs.WriteBatch.{batch_of}
 use Rattle.rusty_leveldb.specs.declared.db_impl.engine.Mode.TheVariants.{Open}
+use Rattle.rusty_leveldb.specs.declared.db_impl.engine.Engine.{Engine}
 use Rattle.leveldb_version.specs.Paths.{lock_path}
 use Rattle.rusty_leveldb.specs.OneLog.{log_path}
 use Rattle.leveldb_version.specs.Holds.{Holds}
@@ -30,11 +31,9 @@ use Rattle.rusty_leveldb.proofs.Writes.Stands.{IsOpen}
 use Rattle.rusty_leveldb.proofs.Writes.Moments.{risk_behind, append_moments, synced_moments, done_moments}
 use Rattle.rusty_leveldb.proofs.Writes.Batches.{placed_last, not_long, same_set, same_by}
 use Rattle.rusty_leveldb.proofs.Writes.Append.{IsNext, batch, longer, frame, longer_history, longer_reached}
-use Rattle.leveldb_env.specs.Options.{Boxed}
-use Rattle.rusty_leveldb.specs.Boxes.{EngineOf}
 
-module _ {E C FP F : Type 0} {B : Boxed} (env : Ghosts E F) (store : List ℕ) (engine : EngineOf E C FP F B) (from : E) (old : State) (was : IsOpen env store engine from old)
-    (items : List Item) (bytes : List ℕ) (next : IsNext old.last items bytes) (after : EngineOf E C FP F B) (to : E) where
+module _ {E C FP F I : Type 0} {D : I → Type 0} (env : Ghosts E F) (store : List ℕ) (engine : Engine E C FP F I D) (from : E) (old : State) (was : IsOpen env store engine from old)
+    (items : List Item) (bytes : List ℕ) (next : IsNext old.last items bytes) (after : Engine E C FP F I D) (to : E) where
   abbrev the_batch : List Entry
   the_batch = batch env store engine from old was items bytes next
 

@@ -12,6 +12,7 @@ use Rattle.leveldb_mem.specs.WriteBatch.{batch_of}
 use Rattle.leveldb_mem.specs.Log.Writer.{AddsRecord, FailsToAdd, Flushes}
 use Rattle.leveldb_mem.specs.Log.Writer as writing
 use Rattle.rusty_leveldb.specs.declared.db_impl.engine.Mode.TheVariants.{Open, Broken}
+use Rattle.rusty_leveldb.specs.declared.db_impl.engine.Engine.{Engine}
 use Rattle.rusty_leveldb.specs.OneLog.{log_path}
 use Rattle.rusty_leveldb.specs.Recent.{Numbered, Inserts}
 use Rattle.rusty_leveldb.specs.State.{State, Request, write, Answer, done, refused}
@@ -23,15 +24,13 @@ use Rattle.rusty_leveldb.proofs.Writes.Kept.{memory_goes}
 use Rattle.rusty_leveldb.proofs.Writes.Append.{IsNext, frame, write_broke}
 use Rattle.rusty_leveldb.proofs.Writes.Moments.{append_moments, synced_moments}
 use Rattle.rusty_leveldb.proofs.Writes.Done.{Added, wrote_goes, unsynced, synced_then}
-use Rattle.leveldb_env.specs.Options.{Boxed}
-use Rattle.rusty_leveldb.specs.Boxes.{EngineOf}
 
 -- the same step, whatever memory it began with
 pub begun_with : {M : Type 0} (store : List ℕ) (Recalls : M → _ → State → Type 0) (cmp : List ℕ → List ℕ → Ordering) (one other : Option M) (told : _) (failures : ℕ) (request : Request) (answer : Answer) (to : _) (old : State)
     → Goes store (Reads store) Recalls cmp (one, told, failures) request answer to old → Goes store (Reads store) Recalls cmp (other, told, failures) request answer to old
 begun_with store Recalls cmp one other told failures request answer to old goes = record { new = goes.new; represents = goes.represents; step = goes.step; moments = goes.moments; files = goes.files; others = goes.others; beside = goes.beside }
 
-module _ {E C FP F : Type 0} {B : Boxed} (env : Ghosts E F) (modelled : IsTrue env.models_disk) (store : List ℕ) (engine : EngineOf E C FP F B) (from : E) (old : State) (stood : Was env store engine from old) (open_now : engine.mode ≡ Open)
+module _ {E C FP F I : Type 0} {D : I → Type 0} (env : Ghosts E F) (modelled : IsTrue env.models_disk) (store : List ℕ) (engine : Engine E C FP F I D) (from : E) (old : State) (stood : Was env store engine from old) (open_now : engine.mode ≡ Open)
     (items : List Item) (bytes : List ℕ) (ready : IsNext engine.recent.last items bytes) where
   was : IsOpen env store engine from old
   was = is_open env store engine from old open_now stood
@@ -58,7 +57,7 @@ module _ {E C FP F : Type 0} {B : Boxed} (env : Ghosts E F) (modelled : IsTrue e
 
   -- ---- a refused append
 
-  module _ (cmp : List ℕ → List ℕ → Ordering) (sync : Bool) (after : EngineOf E C FP F B) (to : E) (rest : after ≡ record engine { log = after.log; writer = after.writer; mode = after.mode })
+  module _ (cmp : List ℕ → List ℕ → Ordering) (sync : Bool) (after : Engine E C FP F I D) (to : E) (rest : after ≡ record engine { log = after.log; writer = after.writer; mode = after.mode })
       (mode : after.mode ≡ (if after.writer.broken then Broken else engine.mode)) where
     abbrev Refused : Status → Type 0
     Refused status = Goes store (Reads store) (Recalls env store) cmp (scene env cmp (Some engine) from) (write items sync) (refused (refusal_of status)) (scene env cmp (Some after) to) old
@@ -89,7 +88,7 @@ module _ {E C FP F : Type 0} {B : Boxed} (env : Ghosts E F) (modelled : IsTrue e
 
   -- ---- an append that was done
 
-  module _ (middle : EngineOf E C FP F B) (mid : E) (rest : middle ≡ record engine { log = middle.log; writer = middle.writer; mode = middle.mode })
+  module _ (middle : Engine E C FP F I D) (mid : E) (rest : middle ≡ record engine { log = middle.log; writer = middle.writer; mode = middle.mode })
       (mode : middle.mode ≡ (if middle.writer.broken then Broken else engine.mode)) (count : ℕ) (adds : AddsRecord (Appends env) engine.writer (opened from engine.log) bytes count middle.writer (opened mid middle.log)) where
     put : Appends env (opened from engine.log) (writing.frame engine.writer bytes) (Ok tt) (opened mid middle.log)
     put = adds.put (batch_some bytes (old.last + 1) items next.is_batch)
@@ -117,7 +116,7 @@ module _ {E C FP F : Type 0} {B : Boxed} (env : Ghosts E F) (modelled : IsTrue e
     open_then : middle.mode ≡ Open
     open_then = mode ∙ ap (λ (b : Bool). if b then Broken else engine.mode) sound_then ∙ open_now
 
-    added : (after : EngineOf E C FP F B) (to : E) → (env.observed to).disk.locked ≡ (env.observed mid).disk.locked → after.lock ≡ middle.lock → after.mode ≡ middle.mode → after.writer ≡ middle.writer → env.name_of after.log ≡ env.name_of middle.log
+    added : (after : Engine E C FP F I D) (to : E) → (env.observed to).disk.locked ≡ (env.observed mid).disk.locked → after.lock ≡ middle.lock → after.mode ≡ middle.mode → after.writer ≡ middle.writer → env.name_of after.log ≡ env.name_of middle.log
         → env.failures to ≡ env.failures mid → Inserts engine.recent (batch_of (old.last + 1) items) after.recent → AreUpTo engine.recent.last engine.recent.kept.entries → Added env store engine from old was items bytes next after to
     added after to locks lock same_mode writer log counted inserts below = record {
       locks = locks ∙ put.locks modelled;
@@ -131,7 +130,7 @@ module _ {E C FP F : Type 0} {B : Boxed} (env : Ghosts E F) (modelled : IsTrue e
     }
 
     module _ (cmp : List ℕ → List ℕ → Ordering) (sync : Bool) where
-      abbrev Done : EngineOf E C FP F B → E → Type 0
+      abbrev Done : Engine E C FP F I D → E → Type 0
       Done after to = Goes store (Reads store) (Recalls env store) cmp (scene env cmp (Some engine) from) (write items sync) done (scene env cmp (Some after) to) old
 
       -- done with no sync
@@ -143,7 +142,7 @@ module _ {E C FP F : Type 0} {B : Boxed} (env : Ghosts E F) (modelled : IsTrue e
 
       -- ---- the sync behind it
 
-      module _ (after : EngineOf E C FP F B) (to : E) (rest_after : after ≡ record middle { log = after.log; writer = after.writer; mode = after.mode }) where
+      module _ (after : Engine E C FP F I D) (to : E) (rest_after : after ≡ record middle { log = after.log; writer = after.writer; mode = after.mode }) where
         -- done with a sync
         pub done_synced : after.mode ≡ middle.mode → Flushes (Syncs env) middle.writer (opened mid middle.log) (Ok tt) after.writer (opened to after.log) → (recent : Numbered) → Inserts engine.recent (batch_of (old.last + 1) items) recent
             → AreUpTo engine.recent.last engine.recent.kept.entries → Done (record after { recent = recent }) to

@@ -12,6 +12,7 @@ use Rattle.leveldb_env.specs.EnvFile.{opened, Syncs}
 use Rattle.leveldb_mem.specs.Log.{log_block_size, clean, IsLogFile}
 use Rattle.leveldb_mem.specs.Log.Writer.{Flushes}
 use Rattle.rusty_leveldb.specs.declared.db_impl.engine.Mode.TheVariants.{Open, Broken, Closed}
+use Rattle.rusty_leveldb.specs.declared.db_impl.engine.Engine.{Engine}
 use Rattle.leveldb_version.specs.Paths.{lock_path}
 use Rattle.rusty_leveldb.specs.OneLog.{log_path}
 use Rattle.leveldb_version.specs.Holds.{Holds}
@@ -26,10 +27,8 @@ use Rattle.rusty_leveldb.proofs.Others.{beside_but, but_same, others_but_log, by
 use Rattle.rusty_leveldb.proofs.Writes.Found.{found_cause, found_goes}
 use Rattle.rusty_leveldb.proofs.Writes.Moments.{risk_at, sync_moments, with_none}
 use Rattle.rusty_leveldb.proofs.Writes.Stands.{Fails, fails, Was, IsOpen, is_open, IsStill, remembers_still, broken_with, Broke, broken_is}
-use Rattle.leveldb_env.specs.Options.{Boxed}
-use Rattle.rusty_leveldb.specs.Boxes.{EngineOf}
 
-module _ {E C FP F : Type 0} {B : Boxed} (env : Ghosts E F) (cmp : List ℕ → List ℕ → Ordering) (store : List ℕ) (engine after : EngineOf E C FP F B) (from to : E) (old : State) (was : IsOpen env store engine from old) where
+module _ {E C FP F I : Type 0} {D : I → Type 0} (env : Ghosts E F) (cmp : List ℕ → List ℕ → Ordering) (store : List ℕ) (engine after : Engine E C FP F I D) (from to : E) (old : State) (was : IsOpen env store engine from old) where
   abbrev Flushed : Answer → Type 0
   Flushed answer = Goes store (Reads store) (Recalls env store) cmp (scene env cmp (Some engine) from) flush answer (scene env cmp (Some after) to) old
 
@@ -123,7 +122,7 @@ module _ {E C FP F : Type 0} {B : Boxed} (env : Ghosts E F) (cmp : List ℕ → 
       }
 
 -- what the sync answered and did is a step of the machine
-module _ {E C FP F : Type 0} {B : Boxed} (env : Ghosts E F) (cmp : List ℕ → List ℕ → Ordering) (engine after : EngineOf E C FP F B) (from to : E) (open_now : engine.mode ≡ Open)
+module _ {E C FP F I : Type 0} {D : I → Type 0} (env : Ghosts E F) (cmp : List ℕ → List ℕ → Ordering) (engine after : Engine E C FP F I D) (from to : E) (open_now : engine.mode ≡ Open)
     (rest : after ≡ record engine { log = after.log; writer = after.writer; mode = after.mode }) (modelled : IsTrue env.models_disk) (store : List ℕ) (old : State) (stood : Was env store engine from old) where
   was : IsOpen env store engine from old
   was = is_open env store engine from old open_now stood
@@ -157,7 +156,7 @@ module _ {E C FP F : Type 0} {B : Boxed} (env : Ghosts E F) (cmp : List ℕ → 
 
 -- ---- causes of a sync
 
-module _ {E C FP F : Type 0} {B : Boxed} (env : Ghosts E F) (engine after : EngineOf E C FP F B) (from to : E) (open_now : engine.mode ≡ Open) (sound : engine.writer.broken ≡ false) where
+module _ {E C FP F I : Type 0} {D : I → Type 0} (env : Ghosts E F) (engine after : Engine E C FP F I D) (from to : E) (open_now : engine.mode ≡ Open) (sound : engine.writer.broken ≡ false) where
   pub unsynced_cause : (status : Status) → (raw : Status) × IsErrorFor raw status × Flushes (Syncs env) engine.writer (opened from engine.log) (Err raw) after.writer (opened to after.log)
       → HasCause {T = Unit {0}} (SyncExcused env engine from to) (env.failures from) (env.failures to) (Err status)
   unsynced_cause status unsynced =

@@ -10,6 +10,7 @@ use Rattle.leveldb_env.specs.declared.env.Env.{Ghosts}
 use Rattle.leveldb_mem.specs.MemTable.{Kept, FailsToPrepare}
 use Rattle.leveldb_mem.specs.WriteBatch.{Batch, batch_of, with_item, IsTooLong}
 use Rattle.rusty_leveldb.specs.declared.db_impl.engine.Mode.TheVariants.{Open}
+use Rattle.rusty_leveldb.specs.declared.db_impl.engine.Engine.{Engine}
 use Rattle.rusty_leveldb.specs.Recent.{Numbered, AreUsedUp}
 use Rattle.rusty_leveldb.specs.OneLog.{max_sequence}
 use Rattle.rusty_leveldb.specs.State.{State, write, refused}
@@ -20,10 +21,8 @@ use Rattle.rusty_leveldb.specs.Engine.{scene, Recalls}
 use Rattle.rusty_leveldb.proofs.Others.{others_still, spared_still}
 use Rattle.rusty_leveldb.proofs.Writes.Moments.{moments_none}
 use Rattle.rusty_leveldb.proofs.Writes.Stands.{Was, is_open, remembers_still}
-use Rattle.leveldb_env.specs.Options.{Boxed}
-use Rattle.rusty_leveldb.specs.Boxes.{EngineOf}
 
-module _ {E C FP F : Type 0} {B : Boxed} (env : Ghosts E F) (store : List ℕ) (engine : EngineOf E C FP F B) (from : E) (old : State) (was : Was env store engine from old) where
+module _ {E C FP F I : Type 0} {D : I → Type 0} (env : Ghosts E F) (store : List ℕ) (engine : Engine E C FP F I D) (from : E) (old : State) (was : Was env store engine from old) where
   -- more room changes nothing of what memory stands for
   pub prepared_was : (recent : Numbered) → recent.kept.entries ≡ engine.recent.kept.entries → recent.last ≡ engine.recent.last → Was env store (record engine { recent = recent }) from old
   prepared_was recent entries last = record {
@@ -43,7 +42,7 @@ module _ {E C FP F : Type 0} {B : Boxed} (env : Ghosts E F) (store : List ℕ) (
     faults = faults_between (env.failures from) (env.failures from)
 
     -- the store stays open
-    pub kept_goes : (after : EngineOf E C FP F B) → Was env store after from old → (cause : Cause) → Comes faults old (write items sync) (refusal_of status) cause
+    pub kept_goes : (after : Engine E C FP F I D) → Was env store after from old → (cause : Cause) → Comes faults old (write items sync) (refusal_of status) cause
         → Goes store (Reads store) (Recalls env store) cmp (scene env cmp (Some engine) from) (write items sync) (refused (refusal_of status)) (scene env cmp (Some after) from) old
     kept_goes after now cause comes = record {
       new = old;
@@ -67,12 +66,12 @@ module _ {E C FP F : Type 0} {B : Boxed} (env : Ghosts E F) (store : List ℕ) (
         more = let last = (is_open env store engine from old open_now was).memory_is.last in rw (← counted, ← last) past
 
     -- want of memory
-    pub memory_goes : (after : EngineOf E C FP F B) → Was env store after from old → IsOutOfMemory status
+    pub memory_goes : (after : Engine E C FP F I D) → Was env store after from old → IsOutOfMemory status
         → Goes store (Reads store) (Recalls env store) cmp (scene env cmp (Some engine) from) (write items sync) (refused (refusal_of status)) (scene env cmp (Some after) from) old
     memory_goes after now memory = kept_goes after now out_of_memory (tt, memory.0, ap text_of memory.1)
 
     -- the entries are too many for a memtable, or want of memory
-    pub unprepared_goes : (after : EngineOf E C FP F B) → Was env store after from old → (kept : Kept) (count bytes : ℕ) → FailsToPrepare kept count bytes status
+    pub unprepared_goes : (after : Engine E C FP F I D) → Was env store after from old → (kept : Kept) (count bytes : ℕ) → FailsToPrepare kept count bytes status
         → Goes store (Reads store) (Recalls env store) cmp (scene env cmp (Some engine) from) (write items sync) (refused (refusal_of status)) (scene env cmp (Some after) from) old
     unprepared_goes after now kept count bytes (inl full) = kept_goes after now too_large (tt, full.0)
     unprepared_goes after now kept count bytes (inr memory) = memory_goes after now memory

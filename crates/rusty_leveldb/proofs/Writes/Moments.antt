@@ -5,6 +5,7 @@ use Rattle.leveldb_base.specs.History.{Item, Entry, History, with_batch, count_o
 use Rattle.leveldb_env.specs.declared.env.Env.{Ghosts}
 use Rattle.leveldb_env.specs.Env.{Files, Disk, extended, synced, Observed, ChangesFiles, BeforeOrAfter, PrefixAppended, FilesUnchanged, Run}
 use Rattle.leveldb_env.proofs.EnvLemmas.{begun, Run-call, Run-mono}
+use Rattle.rusty_leveldb.specs.declared.db_impl.engine.Engine.{Engine}
 use Rattle.rusty_leveldb.specs.OneLog.{log_path}
 use Rattle.leveldb_version.specs.Holds.{Holds}
 use Rattle.rusty_leveldb.specs.State.{State, Request, open_store}
@@ -16,8 +17,6 @@ use Rattle.rusty_leveldb.proofs.Bounds.{safe_more, safe_allow}
 use Rattle.rusty_leveldb.proofs.Moments.{spared_now, spared_more, steps_join, grows_same}
 use Rattle.rusty_leveldb.proofs.Writes.Stands.{IsOpen}
 use Rattle.rusty_leveldb.proofs.Writes.Append.{IsNext, batch, longer, frame}
-use Rattle.leveldb_env.specs.Options.{Boxed}
-use Rattle.rusty_leveldb.specs.Boxes.{EngineOf}
 
 -- a request that changes nothing of the state
 spared_still : (store : List ℕ) (request : Request) (disk : Disk) (old : State) → StandsFor store (Reads store) disk old → IsSpared store (Reads store) old (risk_of request old old) disk.files
@@ -38,7 +37,7 @@ moments_still {old = old} store was modelled stands does =
 abbrev pub risk_at : History → ℕ → Risk
 risk_at history bound = record { history = history; bound = bound; opening = None }
 
-module _ {E C FP F : Type 0} {B : Boxed} (env : Ghosts E F) (store : List ℕ) (engine : EngineOf E C FP F B) (from : E) (old : State) (was : IsOpen env store engine from old) where
+module _ {E C FP F I : Type 0} {D : I → Type 0} (env : Ghosts E F) (store : List ℕ) (engine : Engine E C FP F I D) (from : E) (old : State) (was : IsOpen env store engine from old) where
   -- a sync in flight
   sync_spared : (files : Files) → BeforeOrAfter (synced (log_path store)) (env.observed from).disk.files files → IsSpared store (Reads store) old (risk_at old.history (old.last + 0)) files
   sync_spared files passes = syncing_safe store (env.observed from).disk.files old.history old.last old.covered was.holds was.disk_is.is_state.covered files passes

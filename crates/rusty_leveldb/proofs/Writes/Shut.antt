@@ -10,6 +10,7 @@ use Rattle.leveldb_env.specs.declared.env.Env.{Ghosts}
 use Rattle.leveldb_mem.specs.Log.Writer.{WriterState}
 use Rattle.rusty_leveldb.specs.declared.db_impl.engine.Mode.{Mode}
 use Rattle.rusty_leveldb.specs.declared.db_impl.engine.Mode.TheVariants.{Open, Broken, Closed}
+use Rattle.rusty_leveldb.specs.declared.db_impl.engine.Engine.{Engine}
 use Rattle.rusty_leveldb.specs.State.{State, broken, closed, Request, write, flush, refused, Refusal, close}
 use Rattle.rusty_leveldb.specs.Causes.{Faults, IsClosedRefusal, IsBrokenRefusal}
 use Rattle.rusty_leveldb.specs.Machine.{StepIn}
@@ -18,8 +19,6 @@ use Rattle.rusty_leveldb.specs.Engine.{scene, Recalls, IsShut, IsHalted, ShutOut
 use Rattle.rusty_leveldb.proofs.Others.{others_still, spared_still}
 use Rattle.rusty_leveldb.proofs.Writes.Moments.{moments_none}
 use Rattle.rusty_leveldb.proofs.Writes.Stands.{Was, is_open}
-use Rattle.leveldb_env.specs.Options.{Boxed}
-use Rattle.rusty_leveldb.specs.Boxes.{EngineOf}
 
 broken_text : (err : Option (String Global)) → IfSome err (λ text. string_bytes text ≡ codes "IOError: reopen the store") → (text_of err ≡ []) ⊎ (text_of err ≡ codes "IOError: reopen the store")
 broken_text None is = inl refl
@@ -55,7 +54,7 @@ module _ (cmp : List ℕ → List ℕ → Ordering) (faults : Faults) (old : Sta
   broken_step close logs refusal says = (says, refl)
   broken_step request logs refusal says = absurd logs
 
-module _ {E C FP F : Type 0} {B : Boxed} (env : Ghosts E F) (cmp : List ℕ → List ℕ → Ordering) (store : List ℕ) (engine : EngineOf E C FP F B) (at : E) (old : State) (was : Was env store engine at old)
+module _ {E C FP F I : Type 0} {D : I → Type 0} (env : Ghosts E F) (cmp : List ℕ → List ℕ → Ordering) (store : List ℕ) (engine : Engine E C FP F I D) (at : E) (old : State) (was : Was env store engine at old)
     (request : Request) (logs : IsRefusedByMode request) (status : Status) where
   abbrev faults : Faults
   faults = faults_between (env.failures at) (env.failures at)
