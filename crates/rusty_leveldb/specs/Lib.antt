@@ -1,3 +1,4 @@
+pub mod Format
 pub mod OneLog
 pub mod State
 pub mod Unread

@@ -1,5 +1,5 @@
 -- The entries that a store has in memory, and the number of the last.
-use Rattle.std.specs.Prelude.{◌≡◌, ◌≤◌, ◌<◌, ◌+◌, ℕ, List, Option, max, option_copied}
+use Rattle.std.specs.Prelude.{◌≡◌, ◌≤◌, ◌<◌, ℕ, List, Option, max, option_copied}
 use Rattle.std.specs.Option.{option_map}
 use Rattle.std.specs.Borrow.{Bor}
 use Rattle.leveldb_base.specs.History.{placed, greatest}
@@ -26,7 +26,3 @@ pub record Follows (last : ℕ) (batch : Batch) : Type 0 where
 pub record Inserts (old : Numbered) (batch : Batch) (new : Numbered) : Type 0 where
   pub gains : IsUnion old.kept.entries (placed batch.first batch.items) new.kept.entries
   pub last : new.last ≡ max old.last (greatest (placed batch.first batch.items))
-
--- so many entries don't fit behind the last number, or not even an empty batch's first number does
-abbrev pub AreUsedUp : ℕ → ℕ → Type 0
-AreUsedUp last count = max_sequence < last + max 1 count

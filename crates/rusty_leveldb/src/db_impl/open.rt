@@ -6,7 +6,7 @@ ghost use Rattle.leveldb_mem.specs.Log.{clean, bad};
 ghost use Rattle.rusty_leveldb.specs.OneLog.{log_path};
 ghost use Rattle.rusty_leveldb.specs.State.{Opening, open_store};
 ghost use Rattle.rusty_leveldb.specs.Serves.{done_or, given_engine};
-ghost use Rattle.rusty_leveldb.specs.Engine.{IsStoreName, IsOpening, TimeGoesOn, AnswersAs, OpenExcused};
+ghost use Rattle.rusty_leveldb.specs.Engine.{IsStoreName, IsOpening, TimeGoesOn, AnswersAs, OpenExcused, opening_of};
 ghost use Rattle.rusty_leveldb.specs.Recovery.{IsFoundAs, framed_file, kept_log, IsMadeKept, SparesLog, IsUnusable, NeverOpens, ChangesLogAlone, StaysUnopened, IsRecovered, HasCauses, IsFoundOr, IsUntold, IsNotMade, IsNoLog};
 
 use super::close::give_back;
@@ -37,8 +37,8 @@ impl<E: Env, C: UserCmp + Copy, FP: FilterPolicy + Copy> Engine<E, C, FP> {
     ) -> Result<Engine<E, C, FP>>
         ensures options { IfOk result (λ engine. engine.options ≡ options) }
         ensures opened { IfOk result (λ engine. (engine.mode ≡ Mode.Open) × (engine.writer.broken ≡ false)) }
-        ensures step { (opening : Opening) → IsOpening name.now options.create_if_missing opening
-            → AnswersAs E.Env (C.cmp options.cmp) name.now None env.old (open_store opening) (done_or result) (given_engine result) env.new }
+        ensures step { (opening : Opening) → IsOpening name.now (opening_of C.Cmp FP.FilterPolicy options) opening
+            → AnswersAs E.Env name.now None env.old (open_store opening) (done_or result) (given_engine result) env.new }
         ensures time { TimeGoesOn E.Env env.old env.new }
         ensures misnamed { (IsStoreName name.now → ⊥) → (env.new ≡ env.old) × OnOk result ⊥ }
         ensures log { OnOk result (IsTrue E.models_disk → SparesLog options.create_if_missing ((E.observed env.old).disk.files (log_path name.now)) ((E.observed env.new).disk.files (log_path name.now))) }

@@ -6,4 +6,4 @@ use Rattle.rusty_leveldb.proofs.shell.crash_runs.lives.Given as goal
 abbrev pub invariant-loop-life : goal.invariant-loop-life
 invariant-loop-life g l =
     (vec_len l.reports + length l.life-iterator.rest.items ≤ vec_capacity l.reports) × (l.yielded ++ l.life-iterator.rest.items ≡ l.fn.lives.items)
-    × AreReportsTo ghosts g.C.Cmp.cmp l.name IsCrash l.yielded l.reports.items l.env
+    × AreReportsTo ghosts g.C.Cmp g.FP.FilterPolicy l.name IsCrash l.yielded l.reports.items l.env
