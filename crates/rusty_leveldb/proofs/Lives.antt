@@ -3,6 +3,8 @@ use Rattle.std.proofs.Common.{◌≡◌, ◌<◌, ◌≤◌, ◌+◌, ◌-◌, �
 use Rattle.std.specs.Prelude.{◌↔◌, ◌⊎◌, All, map, Vec}
 use Rattle.std.specs.declared.alloc.Global.{Global}
 use Rattle.leveldb_base.specs.declared.cmp.Cmp.{Ghosts as CmpGhosts}
+use Rattle.leveldb_env.specs.declared.compressor.CompressorList.{CompressorList}
+use Rattle.leveldb_env.specs.Compressor.{Codings}
 use Rattle.leveldb_env.specs.declared.filter.FilterPolicy.{Ghosts as FilterGhosts}
 use Rattle.std.specs.Option.{option_map}
 use Rattle.std.proofs.lemmas.List.{map-append}
@@ -62,11 +64,11 @@ between_calls device moment files stood even = record {
 
 -- ---- one life more
 
-module _ {C FP I : Type 0} {D : I → Type 0} (cmp : CmpGhosts C) (filters : FilterGhosts FP) (store : List ℕ) (Crash : RecordEnv → ℕ → Pick → RecordEnv → Type 0) where
+module _ {C FP I : Type 0} {D : I → Type 0} (cmp : CmpGhosts C) (filters : FilterGhosts FP) (codings : CompressorList I D → Codings) (store : List ℕ) (Crash : RecordEnv → ℕ → Pick → RecordEnv → Type 0) where
   -- one life after others
-  pub reports_more : (device : RecordEnv) (lives : List (Life C FP I D)) (reports : List Report) (mid to end : RecordEnv) (life : Life C FP I D) (report : Report) → AreReports ghosts cmp filters store Crash device lives reports mid
-      → IsLifeOn ghosts cmp filters store mid life report to → IsNextDevice Crash (moment_of mid) life.moment life.pick to end → AreReports ghosts cmp filters store Crash device (lives ++ life ∷ []) (reports ++ report ∷ []) end
-  reports_more device [] [] mid to end life report are is next = subst (λ d. AreReports ghosts cmp filters store Crash d (life ∷ []) (report ∷ []) end) are (to, is, end, next, refl)
+  pub reports_more : (device : RecordEnv) (lives : List (Life C FP I D)) (reports : List Report) (mid to end : RecordEnv) (life : Life C FP I D) (report : Report) → AreReports ghosts cmp filters codings store Crash device lives reports mid
+      → IsLifeOn ghosts cmp filters codings store mid life report to → IsNextDevice Crash (moment_of mid) life.moment life.pick to end → AreReports ghosts cmp filters codings store Crash device (lives ++ life ∷ []) (reports ++ report ∷ []) end
+  reports_more device [] [] mid to end life report are is next = subst (λ d. AreReports ghosts cmp filters codings store Crash d (life ∷ []) (report ∷ []) end) are (to, is, end, next, refl)
   reports_more device (one ∷ lives) (first ∷ reports) mid to end life report are is next = (are.0, are.1, are.2, are.3, reports_more are.2 lives reports mid to end life report are.4 is next)
   reports_more device [] (first ∷ reports) mid to end life report are is next = absurd are
   reports_more device (one ∷ lives) [] mid to end life report are is next = absurd are
@@ -90,24 +92,24 @@ Stands C FP store device old = Represents store (Recalls {C = C} {FP = FP} {I = 
 opens_so : (store : List ℕ) (fits : Bool) (wanted : Opening) → (IsTrue fits ↔ IsStoreName store) → IsOpening store wanted (with_name fits wanted)
 opens_so store fits wanted name_fits = record { same = refl; fits = name_fits }
 
-module _ {C FP I : Type 0} {D : I → Type 0} (cmp : CmpGhosts C) (filters : FilterGhosts FP) (store : List ℕ) (fits : Bool) where
+module _ {C FP I : Type 0} {D : I → Type 0} (cmp : CmpGhosts C) (filters : FilterGhosts FP) (codings : CompressorList I D → Codings) (store : List ℕ) (fits : Bool) where
   abbrev RunFrom : List (Life C FP I D) → List Report → RecordEnv → State → Type 0
-  RunFrom lives reports device old = (of_machine : List machine.Life) × AreLivesOf ghosts cmp filters store fits lives reports of_machine × (failures : ℕ) × (last : State) × Lives (failures_of device) old of_machine failures last
+  RunFrom lives reports device old = (of_machine : List machine.Life) × AreLivesOf ghosts cmp filters codings store fits lives reports of_machine × (failures : ℕ) × (last : State) × Lives (failures_of device) old of_machine failures last
 
   -- one life, and what comes after it
   module _ (name_fits : IsTrue fits ↔ IsStoreName store) (device to next : RecordEnv) (life : Life C FP I D) (lives : List (Life C FP I D)) (report : Report) (reports : List Report) (old : State) (stands : Stands C FP store device old)
-      (is : IsLifeOn ghosts cmp filters store device life report to) (rest : (then : State) → Stands C FP store next then → RunFrom lives reports next then) where
+      (is : IsLifeOn ghosts cmp filters codings store device life report to) (rest : (then : State) → Stands C FP store next then → RunFrom lives reports next then) where
     abbrev start : ℕ
     start = moment_of device
 
     abbrev opening : Opening
-    opening = with_name fits (opening_of cmp filters life.options)
+    opening = with_name fits (opening_of cmp filters codings life.options)
 
     stands_from : Stands C FP store is.from old
     stands_from = subst (λ disk. Represents store (Recalls {C = C} {FP = FP} {I = Unit {0}} {D = NoCoder} ghosts store) None disk old) (sym (same_disk device is.from is.same)) stands
 
     lived : IsLife C FP ghosts store is.from opening life.commands.items report to old
-    lived = is.life_is opening (opens_so store fits (opening_of cmp filters life.options) name_fits) old stands_from
+    lived = is.life_is opening (opens_so store fits (opening_of cmp filters codings life.options) name_fits) old stands_from
 
     -- the machine's life
     of_life : machine.Life
@@ -120,7 +122,7 @@ module _ {C FP I : Type 0} {D : I → Type 0} (cmp : CmpGhosts C) (filters : Fil
     again = subst (λ ms. map (λ m. start + m) (map (λ m. m - start) ms) ≡ ms) lived.run.asked.moments_are
         (moments_again start lived.run.events (subst (λ n. All (λ (event : Event). n ≤ event.moment) lived.run.events) same_start lived.run.since))
 
-    life_of : IsLifeOf ghosts cmp filters store fits life report of_life
+    life_of : IsLifeOf ghosts cmp filters codings store fits life report of_life
     life_of = record {
       answers = lived.answers;
       moments = map (λ m. m - start) lived.moments;
@@ -158,7 +160,7 @@ module _ {C FP I : Type 0} {D : I → Type 0} (cmp : CmpGhosts C) (filters : Fil
         ((failures_of to, lived.run.new, stopped), crash.fresh.failures))
 
   pub lives_run : (IsTrue fits ↔ IsStoreName store) → (device : RecordEnv) (lives : List (Life C FP I D)) (reports : List Report) (end : RecordEnv) (old : State) → Stands C FP store device old
-      → AreReports ghosts cmp filters store (IsHonestCrash store) device lives reports end → RunFrom lives reports device old
+      → AreReports ghosts cmp filters codings store (IsHonestCrash store) device lives reports end → RunFrom lives reports device old
   lives_run name_fits device [] [] end old stands are = ([], tt, failures_of device, old, (refl, refl))
   lives_run name_fits device (life ∷ lives) (report ∷ reports) end old stands are =
       by_end name_fits device are.0 are.2 life lives report reports old stands are.1
@@ -182,18 +184,18 @@ honest_next store start (Some moment) pick to next none crash =
 
 -- ---- from an empty device on
 
-module _ {C FP I : Type 0} {D : I → Type 0} (cmp : CmpGhosts C) (filters : FilterGhosts FP) (store : List ℕ) where
-  one_run : (lives : List (Life C FP I D)) (reports : List Report) → AreReportsFromNone ghosts cmp filters store (IsHonestCrash store) lives reports → AreOneRun ghosts cmp filters store lives reports
+module _ {C FP I : Type 0} {D : I → Type 0} (cmp : CmpGhosts C) (filters : FilterGhosts FP) (codings : CompressorList I D → Codings) (store : List ℕ) where
+  one_run : (lives : List (Life C FP I D)) (reports : List Report) → AreReportsFromNone ghosts cmp filters codings store (IsHonestCrash store) lives reports → AreOneRun ghosts cmp filters codings store lives reports
   one_run lives reports are format fits name_fits =
       let first = are.1.first in
       let fresh = are.1.fresh in
       let stands : StandsFor store (record_observed first).disk (new_state format) = nothing_stands store format (record_observed first).disk (are.1.empty _) (fresh.free _) in
-      let all = lives_run cmp filters store fits name_fits first lives reports are.0 (new_state format) (record { disk_is = stands; memory_is = refl }) are.1.reports_are in
+      let all = lives_run cmp filters codings store fits name_fits first lives reports are.0 (new_state format) (record { disk_is = stands; memory_is = refl }) are.1.reports_are in
       (all.0, all.1, all.2, all.3, subst (λ n. Lives n (new_state format) all.0 all.2 all.3) fresh.failures all.4)
 
   -- so lives without tails are honest
   honest_lives : (device : RecordEnv) (lives : List (Life C FP I D)) (reports : List Report) (end : RecordEnv) → All (λ life. life.pick.tails.items ≡ []) lives
-      → AreReports ghosts cmp filters store IsCrash device lives reports end → AreReports ghosts cmp filters store (IsHonestCrash store) device lives reports end
+      → AreReports ghosts cmp filters codings store IsCrash device lives reports end → AreReports ghosts cmp filters codings store (IsHonestCrash store) device lives reports end
   honest_lives device [] [] end none are = are
   honest_lives device (life ∷ lives) (report ∷ reports) end none are = (
     are.0,
@@ -207,7 +209,7 @@ module _ {C FP I : Type 0} {D : I → Type 0} (cmp : CmpGhosts C) (filters : Fil
 
   -- ---- what is returned
 
-  pub all_reported : (lives : List (Life C FP I D)) (reports : Vec Report Global) → AreReportsFromNone ghosts cmp filters store IsCrash lives reports.items → ReportsLives ghosts cmp filters store lives (Ok reports)
+  pub all_reported : (lives : List (Life C FP I D)) (reports : Vec Report Global) → AreReportsFromNone ghosts cmp filters codings store IsCrash lives reports.items → ReportsLives ghosts cmp filters codings store lives (Ok reports)
   all_reported lives reports are = record {
     reports = are;
     run = one_run lives reports.items;
@@ -215,7 +217,7 @@ module _ {C FP I : Type 0} {D : I → Type 0} (cmp : CmpGhosts C) (filters : Fil
     error = tt;
   }
 
-  pub fails_for : (lives : List (Life C FP I D)) (e : Status) → IsOutOfMemory e ⊎ ((e.code ≡ InvalidArgument) × HasNoCrash ghosts cmp filters store lives) → ReportsLives ghosts cmp filters store lives (Err e)
+  pub fails_for : (lives : List (Life C FP I D)) (e : Status) → IsOutOfMemory e ⊎ ((e.code ≡ InvalidArgument) × HasNoCrash ghosts cmp filters codings store lives) → ReportsLives ghosts cmp filters codings store lives (Err e)
   fails_for lives e cause = record { reports = tt; run = tt; kept = tt; error = cause }
 
 -- the device that comes next, by whether the life has a crash

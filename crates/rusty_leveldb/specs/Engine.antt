@@ -6,7 +6,8 @@ use Rattle.leveldb_base.specs.declared.error.StatusCode.TheVariants.{InvalidArgu
 use Rattle.leveldb_base.specs.History.{Item, Entry, entries_of, greatest, SameView}
 use Rattle.leveldb_env.specs.declared.env.Env.{Ghosts}
 use Rattle.leveldb_env.specs.declared.filter.FilterPolicy.{Ghosts as FilterGhosts}
-use Rattle.leveldb_env.specs.contracts.compressor.CompressorListCompressors.TheImpl.{ghosts as compressors}
+use Rattle.leveldb_env.specs.declared.compressor.CompressorList.{CompressorList}
+use Rattle.leveldb_env.specs.Compressor.{Codings}
 use Rattle.leveldb_env.specs.Env.{File, Disk, bytes_of, AreBytes, Observed}
 use Rattle.leveldb_base.specs.Error.{IsOutOfMemory}
 use Rattle.leveldb_env.specs.declared.options.Options.{Options}
@@ -148,13 +149,14 @@ GetExcused mode key e = RefusedAsClosed mode e ⊎ ((e.code ≡ InvalidArgument)
 abbrev pub IsStoreName : List ℕ → Type 0
 IsStoreName name = (name ≢ []) × ((front : List ℕ) → name ≡ front ++ 47 ∷ [] → ⊥)
 
--- the format of a store with these options
+-- the format of a store with these options, where the ghosts say what comparators and filter policies mean,
+-- and `codings` which compressors a list has
 abbrev pub format_of : {C FP I : Type 0} {D : I → Type 0} → CmpGhosts C → FilterGhosts FP
-    → Options C FP I D → Format
-format_of cmp filters options = record {
+    → (CompressorList I D → Codings) → Options C FP I D → Format
+format_of cmp filters codings options = record {
   order = cmp.cmp options.cmp;
   order_name = cmp.name options.cmp;
-  codings = compressors.codings options.compressor_list;
+  codings = codings options.compressor_list;
   policy_name = filters.name options.filter_policy;
   matches = filters.matches options.filter_policy;
 }
@@ -162,9 +164,9 @@ format_of cmp filters options = record {
 -- The opening that the options ask for. A store that is there may be there, whatever they say, and since a
 -- store that is one log has no blocks, no compressor is asked for.
 abbrev pub opening_of : {C FP I : Type 0} {D : I → Type 0} → CmpGhosts C → FilterGhosts FP
-    → Options C FP I D → Opening
-opening_of cmp filters options = record {
-  format = format_of cmp filters options;
+    → (CompressorList I D → Codings) → Options C FP I D → Opening
+opening_of cmp filters codings options = record {
+  format = format_of cmp filters codings options;
   create_if_missing = options.create_if_missing;
   error_if_exists = false;
   fits = true;

@@ -6,6 +6,8 @@ use Rattle.leveldb_base.specs.declared.cmp.Cmp.{Ghosts as CmpGhosts}
 use Rattle.leveldb_base.specs.declared.error.Status.{Status}
 use Rattle.leveldb_base.specs.declared.error.StatusCode.TheVariants.{InvalidArgument}
 use Rattle.leveldb_env.specs.declared.env.Env.{Ghosts}
+use Rattle.leveldb_env.specs.declared.compressor.CompressorList.{CompressorList}
+use Rattle.leveldb_env.specs.Compressor.{Codings}
 use Rattle.leveldb_env.specs.declared.filter.FilterPolicy.{Ghosts as FilterGhosts}
 use Rattle.leveldb_env.specs.declared.mem_env.record.RecordEnv.{RecordEnv}
 use Rattle.leveldb_env.specs.declared.mem_env.picks.Pick.{Pick}
@@ -100,13 +102,13 @@ with_name fits asked = record asked { fits = fits }
 -- ---- lives, one after another
 
 module _ {C FP F I : Type 0} {D : I → Type 0} (env : Ghosts RecordEnv F) (cmp : CmpGhosts C)
-    (filters : FilterGhosts FP) (store : List ℕ) where
+    (filters : FilterGhosts FP) (codings : CompressorList I D → Codings) (store : List ℕ) where
   -- the report of one life on this device, where the call that the life names was chosen to fail, 0 being none
   pub record IsLifeOn (device : RecordEnv) (life : Life C FP I D) (report : Report) (to : RecordEnv) : Type 0 where
     pub from : RecordEnv
     pub same : SameObserved device from
     pub failing : (fails_in from, fails_done from) ≡ unwrap_or life.fail (0, false)
-    pub life_is : IsAlwaysLife C FP env store from (opening_of cmp filters life.options) life.commands.items report to
+    pub life_is : IsAlwaysLife C FP env store from (opening_of cmp filters codings life.options) life.commands.items report to
 
   -- the reports of lives one after another with crashes of this kind, from this device to that
   abbrev pub AreReports : (RecordEnv → ℕ → Pick → RecordEnv → Type 0) → RecordEnv → List (Life C FP I D) → List Report → RecordEnv → Type 0
@@ -132,7 +134,7 @@ module _ {C FP F I : Type 0} {D : I → Type 0} (env : Ghosts RecordEnv F) (cmp 
     pub moments : List ℕ
     pub reported : IsReportOf report answers moments
     pub asked : IsConversation
-        (requests_of (with_name fits (opening_of cmp filters life.options)) life.commands.items report.opened)
+        (requests_of (with_name fits (opening_of cmp filters codings life.options)) life.commands.items report.opened)
         answers (map (λ moment. of_machine.start + moment) moments) of_machine.events
     pub ending : of_machine.ending ≡ ending_of of_machine.start life.moment
 

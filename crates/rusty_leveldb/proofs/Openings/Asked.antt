@@ -2,6 +2,8 @@
 use Rattle.std.proofs.Common.{◌≡◌, ℕ, Bool, true, false, List, ap, IsTrue}
 use Rattle.std.specs.Prelude.{◌↔◌}
 use Rattle.leveldb_base.specs.declared.cmp.Cmp.{Ghosts as CmpGhosts}
+use Rattle.leveldb_env.specs.declared.compressor.CompressorList.{CompressorList}
+use Rattle.leveldb_env.specs.Compressor.{Codings}
 use Rattle.leveldb_env.specs.declared.filter.FilterPolicy.{Ghosts as FilterGhosts}
 use Rattle.leveldb_env.specs.declared.options.Options.{Options}
 use Rattle.rusty_leveldb.specs.State.{Opening}
@@ -14,8 +16,8 @@ pub record IsAsked (name : List ℕ) (create : Bool) (opening : Opening) : Type 
   pub fits : IsTrue opening.fits ↔ IsStoreName name
   pub compresses : opening.compresses ≡ true
 
-pub asked : {C FP I : Type 0} {D : I → Type 0} {cmp : CmpGhosts C} {filters : FilterGhosts FP} {options : Options C FP I D} {name : List ℕ} {opening : Opening}
-    → IsOpening name (opening_of cmp filters options) opening → IsAsked name options.create_if_missing opening
+pub asked : {C FP I : Type 0} {D : I → Type 0} {cmp : CmpGhosts C} {filters : FilterGhosts FP} {codings : CompressorList I D → Codings} {options : Options C FP I D} {name : List ℕ} {opening : Opening}
+    → IsOpening name (opening_of cmp filters codings options) opening → IsAsked name options.create_if_missing opening
 asked is = record {
   create = ap (λ (o : Opening). o.create_if_missing) is.same;
   exists = ap (λ (o : Opening). o.error_if_exists) is.same;

@@ -16,6 +16,7 @@ use super::recent::Recent;
 use super::replay::{frame_all, replay};
 use leveldb_base::cmp::UserCmp;
 use leveldb_base::error::{Result, StatusCode, err};
+use leveldb_env::compressor::{CompressorList, Compressors};
 use leveldb_env::env::Env;
 use leveldb_env::env::whole_files::replace_file;
 use leveldb_env::filter::FilterPolicy;
@@ -37,7 +38,8 @@ impl<E: Env, C: UserCmp + Copy, FP: FilterPolicy + Copy> Engine<E, C, FP> {
     ) -> Result<Engine<E, C, FP>>
         ensures options { IfOk result (λ engine. engine.options ≡ options) }
         ensures opened { IfOk result (λ engine. (engine.mode ≡ Mode.Open) × (engine.writer.broken ≡ false)) }
-        ensures step { (opening : Opening) → IsOpening name.now (opening_of C.Cmp FP.FilterPolicy options) opening
+        ensures step { (opening : Opening) → IsOpening name.now (opening_of C.Cmp FP.FilterPolicy
+            ⟦<CompressorList as Compressors>⟧.codings options) opening
             → AnswersAs E.Env name.now None env.old (open_store opening) (done_or result) (given_engine result) env.new }
         ensures time { TimeGoesOn E.Env env.old env.new }
         ensures misnamed { (IsStoreName name.now → ⊥) → (env.new ≡ env.old) × OnOk result ⊥ }

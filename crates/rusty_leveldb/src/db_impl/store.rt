@@ -14,6 +14,7 @@ use super::engine::Engine;
 use bytes::Bytes;
 use leveldb_base::cmp::UserCmp;
 use leveldb_base::error::Result;
+use leveldb_env::compressor::{CompressorList, Compressors};
 use leveldb_env::env::Env;
 use leveldb_env::filter::FilterPolicy;
 use leveldb_env::options::Options;
@@ -66,7 +67,8 @@ impl<'e, E: Env, C: UserCmp + Copy, FP: FilterPolicy + Copy> Store<'e, E, Engine
         ensures same_reference { IfOk result (λ db. db.env.ghost_name ≡ env.entry.ghost_name) }
         ensures options { IfOk result (λ db. db.state.options ≡ options) }
         ensures opened { IfOk result (λ db. (db.state.mode ≡ Open) × (db.state.writer.broken ≡ false)) }
-        ensures step { IfOk result (λ db. (opening : Opening) → IsOpening name.now (opening_of C.Cmp FP.FilterPolicy options) opening
+        ensures step { IfOk result (λ db. (opening : Opening) → IsOpening name.now (opening_of C.Cmp FP.FilterPolicy
+            ⟦<CompressorList as Compressors>⟧.codings options) opening
             → AnswersAs E.Env name.now None env.old (open_store opening) done (Some db.state) db.env.now) }
         ensures log { IfOk result (λ db. IsTrue E.models_disk
             → SparesLog options.create_if_missing ((E.observed env.old).disk.files (log_path name.now)) ((E.observed db.env.now).disk.files (log_path name.now))) }
@@ -75,7 +77,8 @@ impl<'e, E: Env, C: UserCmp + Copy, FP: FilterPolicy + Copy> Store<'e, E, Engine
         ensures never_opens { IsTrue E.models_disk → NeverOpens name.now options.create_if_missing (E.observed env.old).disk → OnOk result ⊥ }
         ensures cause { IfOk result (λ db. E.failures db.env.now ≡ E.failures env.old) }
         ensures refused { IfErr result (λ status. (left : E)
-            × ((opening : Opening) → IsOpening name.now (opening_of C.Cmp FP.FilterPolicy options) opening
+            × ((opening : Opening) → IsOpening name.now (opening_of C.Cmp FP.FilterPolicy
+            ⟦<CompressorList as Compressors>⟧.codings options) opening
             → AnswersAs E.Env name.now (no_engine options) env.old (open_store opening) (refused (refusal_of status)) (no_engine options) left)
             × (OpenExcused E.models_disk name.now options.create_if_missing (E.observed env.old) status ⊎ HasFailed (E.failures env.old) (E.failures left))
             × TimeGoesOn E.Env env.old left

@@ -13,6 +13,7 @@ use super::commands::{Command, Item, Reply};
 use crate::db_impl::Engine;
 use leveldb_base::cmp::UserCmp;
 use leveldb_base::error::{Result, StatusCode};
+use leveldb_env::compressor::{CompressorList, Compressors};
 use leveldb_env::env::Env;
 use leveldb_env::filter::FilterPolicy;
 use leveldb_env::options::Options;
@@ -30,7 +31,8 @@ pub fn run<E: Env, C: UserCmp + Copy, FP: FilterPolicy + Copy>(
     commands: &[Command],
     replies: &mut Vec<Reply>,
 ) -> Result<()>
-    ensures plays { PlaysAlways C FP E.Env name.now env.old (opening_of C.Cmp FP.FilterPolicy opt) commands.now
+    ensures plays { PlaysAlways C FP E.Env name.now env.old (opening_of C.Cmp FP.FilterPolicy
+        ⟦<CompressorList as Compressors>⟧.codings opt) commands.now
         (drop (length replies.old.items) replies.new.items) result env.new }
     ensures behind { (given : List Reply) × (replies.new.items ≡ replies.old.items ++ given) × OnOk result (length given ≡ length commands.now) }
     ensures misnamed { (IsStoreName name.now → ⊥) → (env.new ≡ env.old) × (replies.new.items ≡ replies.old.items) × OnOk result ⊥ }
