@@ -85,6 +85,6 @@ pub asks_so : {I : Type 0} {D : I → Type 0} (codings : CompressorList I D → 
     → options.create_if_missing ≡ true → codings options.compressor_list ≡ plain_codings
     → opening_of order filters codings options ≡ ldb_opening
 asks_so codings options bits create same = λ i. record ldb_opening {
-  format = record ldb_opening.format { codings = same i };
+  format = record (ldb_opening.format) { codings = same i };
   create_if_missing = create i;
 }

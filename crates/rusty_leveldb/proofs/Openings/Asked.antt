@@ -10,8 +10,8 @@ use Rattle.rusty_leveldb.specs.State.{Opening}
 use Rattle.rusty_leveldb.specs.Engine.{IsStoreName, IsOpening, opening_of}
 
 -- a store that is missing is made or not, one that is there may be, the name fits or not, and no compressor is asked for
-pub record IsAsked (name : List ℕ) (create : Bool) (opening : Opening) : Type 0 where
-  pub create : opening.create_if_missing ≡ create
+pub record IsAsked (name : List ℕ) (makes : Bool) (opening : Opening) : Type 0 where
+  pub create : opening.create_if_missing ≡ makes
   pub exists : opening.error_if_exists ≡ false
   pub fits : IsTrue opening.fits ↔ IsStoreName name
   pub compresses : opening.compresses ≡ true
