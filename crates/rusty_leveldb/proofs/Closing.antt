@@ -253,7 +253,7 @@ module _ {E C FP F I : Type 0} {D : I → Type 0} (env : Ghosts E F) where
           };
           later = caused.later;
           step = subst (λ m. Step m (faults_between (env.failures at) (env.failures now)) old abandon (refused (refusal_of status)) (ended old old.durable old.locked)) represents.memory_is.mode
-                (abandons (faults_between (env.failures at) (env.failures now)) old (ended old old.durable old.locked) (refused (refusal_of status)) before.mode differs (record { cause = cause.0; comes = cause.1; leaves = record { state = refl } }));
+              (abandons (faults_between (env.failures at) (env.failures now)) old (ended old old.durable old.locked) (refused (refusal_of status)) before.mode differs (record { cause = cause.0; comes = cause.1; leaves = record { state = refl } }));
           moments = moments_still store old told represents.disk_is does;
           files = record { untouched = λ touches. does.now told; refused = λ never. absurd never; stopped = λ not_open takes. does.now told; bytes = λ never. absurd never };
           others = others_but_log store (env.observed at).disk (env.observed now).disk (but_same (log_path store) (env.observed at).disk.files (env.observed now).disk.files (does.now told)) (relocks told);
@@ -275,7 +275,7 @@ module _ {E C FP F I : Type 0} {D : I → Type 0} (env : Ghosts E F) where
           };
           later = caused.later;
           step = subst (λ m. Step m (faults_between (env.failures at) (env.failures now)) old abandon done (ended old old.durable false)) represents.memory_is.mode
-                (abandons (faults_between (env.failures at) (env.failures now)) old (ended old old.durable false) done before.mode differs (record { operands = λ never. never; numbers = λ never. never }, record { state = refl }));
+              (abandons (faults_between (env.failures at) (env.failures now)) old (ended old old.durable false) done before.mode differs (record { operands = λ never. never; numbers = λ never. never }, record { state = refl }));
           moments = moments_still store old told represents.disk_is does;
           files = record { untouched = λ touches. does.now told; refused = λ never. absurd never; stopped = λ not_open takes. does.now told; bytes = λ never. absurd never };
           others = others_with store (env.observed at).disk (env.observed now).disk (but_same (log_path store) (env.observed at).disk.files (env.observed now).disk.files (does.now told))

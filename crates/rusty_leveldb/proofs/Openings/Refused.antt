@@ -118,17 +118,17 @@ module _ {E C FP F I : Type 0} {D : I → Type 0} (env : Ghosts E F) (name : Lis
     };
     later = omega (arith, up.later, up.ends);
     step = subst (λ m. Step m (faults_between before after) old (open_store opening) (refused (refusal_of e)) (left there)) (sym represents.memory_is) (record {
-        cause = cause;
-        comes = comes_later before mid after old (open_store opening) (refusal_of e) cause up.ends comes;
-        leaves = record {
-          state = refl;
-          durable = inl refl;
-          stays = survives.stays;
-          early = early;
-          lock = ⊎_elim (λ same. inl (same ∙ represents.disk_is.locked))
-              (λ held. inr (held.0, record { mid = mid; later = up.later; comes = comes; failed = held.1 })) up.lock;
-        };
-      });
+      cause = cause;
+      comes = comes_later before mid after old (open_store opening) (refusal_of e) cause up.ends comes;
+      leaves = record {
+        state = refl;
+        durable = inl refl;
+        stays = survives.stays;
+        early = early;
+        lock = ⊎_elim (λ same. inl (same ∙ represents.disk_is.locked))
+            (λ held. inr (held.0, record { mid = mid; later = up.later; comes = comes; failed = held.1 })) up.lock;
+      };
+    });
     moments = opening_moments create name opening old represents.disk_is passed;
     files = record { untouched = λ never. absurd never; refused = λ never. absurd never; stopped = λ not_open takes. absurd (takes tt); bytes = λ never. absurd never };
     others = up.others;

@@ -152,7 +152,7 @@ module _ {E C FP F I : Type 0} {D : I → Type 0} (env : Ghosts E F) (store : Li
       represents = record { disk_is = stands; memory_is = recalls };
       later = omega (arith, added.counted);
       step = subst (λ m. Step m (faults_between (env.failures from) (env.failures to)) old (write items sync) done new) (sym was.mode)
-            (record { operands = not_long bytes (old.last + 1) items next.is_batch; numbers = not_used_up }, record { state = refl; durable = wrote.covers; synced = wrote.synced_is });
+          (record { operands = not_long bytes (old.last + 1) items next.is_batch; numbers = not_used_up }, record { state = refl; durable = wrote.covers; synced = wrote.synced_is });
       moments = done_moments env store engine from old was items bytes next wrote.moments;
       files = record { untouched = λ never. absurd never; refused = λ logging is_refused. absurd is_refused; stopped = λ not_open takes. absurd (not_open was.mode); bytes = λ never. absurd never };
       others = others_but_log store (env.observed from).disk (env.observed to).disk wrote.but added.locks;
