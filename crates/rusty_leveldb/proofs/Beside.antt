@@ -7,7 +7,6 @@ use Rattle.std.specs.Str.{bytes_eq}
 use Rattle.leveldb_env.specs.Env.{Files, bytes_of, FileCrashesTo, FilesCrashTo}
 use Rattle.leveldb_mem.specs.Log.{log_block_size, HonestTail}
 use Rattle.std.specs.Cmp.Lexicographic.{bytes_decides}
-use Rattle.leveldb_version.specs.Contents.{Contents}
 use Rattle.leveldb_version.specs.Holds.{IsHonest}
 use Rattle.rusty_leveldb.specs.State.{State}
 use Rattle.rusty_leveldb.specs.Machine.{Risk}

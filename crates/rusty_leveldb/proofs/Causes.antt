@@ -1,5 +1,5 @@
 -- Each refusal has a cause.
-use Rattle.std.proofs.Common.{◌≡◌, ◌⊎◌, inl, inr, refl, ℕ, List}
+use Rattle.std.proofs.Common.{◌≡◌, ◌⊎◌, inl, inr, refl}
 use Rattle.rusty_leveldb.specs.State.{State, Mode, broken, closed, Request, open_store, write, flush, compact_range, close, abandon, Refusal, refused}
 use Rattle.rusty_leveldb.specs.Causes.{Faults, Cause, Comes, IsClosedRefusal, IsBrokenRefusal}
 use Rattle.rusty_leveldb.specs.Machine.{Step}

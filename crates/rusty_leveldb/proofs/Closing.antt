@@ -15,11 +15,11 @@ use Rattle.rusty_leveldb.specs.declared.db_impl.engine.Engine.{Engine}
 use Rattle.leveldb_version.specs.Paths.{lock_path}
 use Rattle.rusty_leveldb.specs.OneLog.{log_path}
 use Rattle.rusty_leveldb.specs.State as machine
-use Rattle.rusty_leveldb.specs.State.{State, Request, close, abandon, Answer, done, refused, open_mode, broken, closed}
+use Rattle.rusty_leveldb.specs.State.{State, Request, close, abandon, Answer, done, refused, open_mode, closed}
 use Rattle.rusty_leveldb.specs.Causes.{Faults, Cause, out_of_memory, device_failed, Comes, ReachesDevice}
 use Rattle.rusty_leveldb.specs.Machine.{Step, Responds}
 use Rattle.rusty_leveldb.specs.Serves.{SameBytes, StandsFor, IsSpared, Represents, done_or, refusal_of, faults_between}
-use Rattle.rusty_leveldb.specs.Engine.{Recalls, WritesOn, mode_of, scene, Answers}
+use Rattle.rusty_leveldb.specs.Engine.{Recalls, WritesOn, mode_of, Answers}
 use Rattle.rusty_leveldb.specs.Recovery.{IsErrorFor}
 use Rattle.rusty_leveldb.proofs.Ended.{broke, ended, broke_still, ended_still, broke_covered, ended_covered}
 use Rattle.rusty_leveldb.proofs.Writes.Stands.{is_open as open_store}

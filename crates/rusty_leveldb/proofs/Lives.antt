@@ -7,7 +7,6 @@ use Rattle.leveldb_env.specs.declared.compressor.CompressorList.{CompressorList}
 use Rattle.leveldb_env.specs.Compressor.{Codings}
 use Rattle.leveldb_env.specs.declared.filter.FilterPolicy.{Ghosts as FilterGhosts}
 use Rattle.std.specs.Option.{option_map}
-use Rattle.std.proofs.lemmas.List.{map-append}
 use Rattle.leveldb_base.specs.declared.error.Status.{Status}
 use Rattle.leveldb_base.specs.declared.error.StatusCode.TheVariants.{InvalidArgument}
 use Rattle.leveldb_env.specs.declared.mem_env.record.RecordEnv.{RecordEnv}
@@ -22,14 +21,14 @@ use Rattle.leveldb_env.specs.Picks.{picked, tails_of}
 use Rattle.leveldb_env.specs.Record.{record_observed, moment_of, failures_of, files_in, files_then, SameObserved}
 use Rattle.rusty_leveldb.specs.declared.shell.crash_runs.Report.{Report}
 use Rattle.rusty_leveldb.specs.declared.shell.crash_runs.Life.{Life}
-use Rattle.rusty_leveldb.specs.State.{State, Opening, Request, Answer, closed}
+use Rattle.rusty_leveldb.specs.State.{State, Opening, closed}
 use Rattle.leveldb_version.specs.Holds.{IsHonest}
 use Rattle.rusty_leveldb.specs.Runs as machine
-use Rattle.rusty_leveldb.specs.Runs.{Event, Run, CrashBefore, last_moment, StopsAt, LifeLeads, Lives, new_state, goes_on, crashes}
+use Rattle.rusty_leveldb.specs.Runs.{Event, Run, CrashBefore, last_moment, StopsAt, LifeLeads, Lives, new_state}
 use Rattle.rusty_leveldb.specs.Serves.{StandsFor, Represents, IsBetweenCalls, IsConversation}
 use Rattle.rusty_leveldb.specs.Engine.{Recalls, IsStoreName, IsOpening, opening_of}
 use Rattle.rusty_leveldb.specs.Shell.{NoCoder}
-use Rattle.rusty_leveldb.specs.Lives.{requests_of, IsLife, IsAlwaysLife, with_name, ending_of, IsCrash, IsHonestCrash, IsNextDevice, IsReportOf, IsLifeOn, AreReports, AreReportsFromNone, IsLifeOf, AreLivesOf, AreOneRun, HasNoCrash, ReportsLives}
+use Rattle.rusty_leveldb.specs.Lives.{requests_of, IsLife, with_name, ending_of, IsCrash, IsHonestCrash, IsNextDevice, IsReportOf, IsLifeOn, AreReports, AreReportsFromNone, IsLifeOf, AreLivesOf, AreOneRun, HasNoCrash, ReportsLives}
 use Rattle.rusty_leveldb.proofs.OneLog.LogFile.{front_honest}
 use Rattle.rusty_leveldb.proofs.Bounds.{nothing_stands}
 

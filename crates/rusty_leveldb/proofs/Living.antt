@@ -1,5 +1,5 @@
 -- One life of a store: its opening, its commands one after another, and its end.
-use Rattle.std.proofs.Common.{◌≡◌, ◌-◌, ℕ, Bool, List, [], ◌∷◌, ◌++◌, sym, ◌∙◌, ap, subst, Some, None, Ok, Err, IsTrue}
+use Rattle.std.proofs.Common.{◌≡◌, ◌-◌, ℕ, List, [], ◌∷◌, ◌++◌, sym, ◌∙◌, ap, subst, Some, None, Ok, Err, IsTrue}
 use Rattle.std.specs.Prelude.{map, OnErr}
 use Rattle.std.proofs.lemmas.List.{map-append}
 use Rattle.leveldb_base.specs.declared.error.Status.{Status}

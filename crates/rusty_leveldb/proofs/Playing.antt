@@ -12,7 +12,6 @@ use Rattle.leveldb_env.specs.declared.options.Options.{Options}
 use Rattle.rusty_leveldb.specs.declared.db_impl.engine.Engine.{Engine}
 use Rattle.rusty_leveldb.specs.declared.shell.commands.Command.{Command}
 use Rattle.rusty_leveldb.specs.declared.shell.commands.Reply.{Reply}
-use Rattle.leveldb_version.specs.Contents.{Contents}
 use Rattle.rusty_leveldb.specs.State.{State, Opening, Request, open_store, abandon, Answer, done, refused}
 use Rattle.leveldb_version.specs.Holds.{IsHonest}
 use Rattle.rusty_leveldb.specs.Machine.{Step, Crashes, risk_between}

@@ -1,5 +1,5 @@
 -- How a store's files are read: what the names and ids in them mean.
-use Rattle.std.specs.Prelude.{◌≡◌, ◌⊎◌, ℕ, Bool, List, Option, Some, None, IsTrue}
+use Rattle.std.specs.Prelude.{◌≡◌, ◌⊎◌, ℕ, Bool, List, Some, None, IsTrue}
 use Rattle.std.specs.declared.cmp.Ordering.{Ordering}
 use Rattle.leveldb_base.specs.declared.error.StatusCode.{StatusCode}
 use Rattle.leveldb_env.specs.Compressor.{Coding, Codings}

@@ -10,7 +10,7 @@ use Rattle.leveldb_version.specs.Contents.{Store, made, Contents, no_contents}
 use Rattle.rusty_leveldb.specs.OneLog.{log_path, IsRead, IsOneLog}
 use Rattle.leveldb_version.specs.Paths.{lock_path}
 use Rattle.rusty_leveldb.specs.State.{State, IsState, IsAtRest, SuitsMode, Opening, Request, Refusal, open_store, refused}
-use Rattle.rusty_leveldb.specs.Causes.{Faults, HasFailed, Cause, Comes, Disagrees, out_of_memory, device_failed, lock_is_held, bad_operand, store_exists, used_up, compressor_failed}
+use Rattle.rusty_leveldb.specs.Causes.{HasFailed, Cause, Comes, Disagrees, out_of_memory, device_failed, lock_is_held, bad_operand}
 use Rattle.rusty_leveldb.specs.Machine.{IsEarly, format_left, Step}
 use Rattle.rusty_leveldb.specs.Serves.{SparesOthers, Represents, Goes, IsUnreadable, faults_between, refusal_of}
 use Rattle.rusty_leveldb.specs.Engine.{IsStoreName, OpenExcused, Recalls}

@@ -1,4 +1,4 @@
-use Rattle.std.proofs.Common.{rules, ◌≡◌, ◌++◌, ◌∷◌, [], ◌-◌, take, refl, sym, subst, Some, None, ◌+◌, ◌∙◌}
+use Rattle.std.proofs.Common.{rules, ◌≡◌, ◌++◌, ◌∷◌, [], ◌-◌, take, refl, sym, subst, ◌+◌, ◌∙◌}
 use Rattle.std.proofs.lemmas.List.{take_all}
 use Rattle.leveldb_env.specs.MemEnvLaws.{record_only_now, record_counts_now}
 use Rattle.leveldb_env.specs.contracts.mem_env.record.RecordEnvEnv.TheImpl.{ghosts}
