@@ -11,12 +11,8 @@ use Rattle.rusty_leveldb.specs.declared.shell.commands.Command.{Command}
 use Rattle.rusty_leveldb.specs.declared.shell.commands.Reply.{Reply}
 use Rattle.rusty_leveldb.specs.State.{Opening}
 use Rattle.rusty_leveldb.specs.Language.{reply_lines}
-use Rattle.rusty_leveldb.specs.Engine.{IsStoreName, opening_of}
-use Rattle.leveldb_base.specs.contracts.cmp.DefaultCmpCmp.TheImpl.{ghosts as order}
-use Rattle.leveldb_env.specs.contracts.filter.bloom.BloomPolicyFilterPolicy.TheImpl.{ghosts as filters}
-use Rattle.leveldb_env.specs.declared.compressor.CompressorList.{CompressorList}
+use Rattle.rusty_leveldb.specs.Engine.{IsStoreName}
 use Rattle.leveldb_env.specs.Compressor.{Codings, plain_codings}
-use Rattle.leveldb_env.specs.declared.options.Options.{Options}
 use Rattle.rusty_leveldb.specs.Recovery.{NeverOpens}
 use Rattle.rusty_leveldb.specs.Shell.{PlaysAlways, IsUnopened}
 use Rattle.rusty_leveldb.specs.declared.shell.program.Fault.{Fault}
@@ -80,11 +76,7 @@ played env folder commands from to held holds old new told wanted create ended (
       subst T (same ∙ behind.1 ∙ ap (λ (list : List Reply). list ++ given) none) appends,
     )
 
--- the default options ask for the program's opening
-pub asks_so : {I : Type 0} {D : I → Type 0} (codings : CompressorList I D → Codings) (options : Options DefaultCmp ℕ I D) → options.filter_policy ≡ 10
-    → options.create_if_missing ≡ true → codings options.compressor_list ≡ plain_codings
-    → opening_of order filters codings options ≡ ldb_opening
-asks_so codings options bits create same = λ i. record ldb_opening {
-  format = record (ldb_opening.format) { codings = same i };
-  create_if_missing = create i;
-}
+-- options with plain blocks that make a missing store ask for the program's opening
+pub asks_so : {codings : Codings} {create : Bool} → codings ≡ plain_codings → create ≡ true
+    → (record ldb_opening { format = record (ldb_opening.format) { codings = codings }; create_if_missing = create }) ≡ ldb_opening
+asks_so same create = λ i. record ldb_opening { format = record (ldb_opening.format) { codings = same i }; create_if_missing = create i }

@@ -111,7 +111,7 @@ module _ {C FP I : Type 0} {D : I → Type 0} (cmp : CmpGhosts C) (filters : Fil
     lived = is.life_is opening (opens_so store fits (opening_of cmp filters codings life.options) name_fits) old stands_from
 
     -- the machine's life
-    of_life : machine.Life
+    abbrev of_life : machine.Life
     of_life = record { start = start; events = lived.run.events; ending = ending_of start life.moment }
 
     same_start : (record_observed is.from).moment ≡ start

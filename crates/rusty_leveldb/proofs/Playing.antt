@@ -145,8 +145,8 @@ module _ {E F : Type 0} (env : Ghosts E F) (only_now : OnlyNow env) (store : Lis
 
 -- it is inside a call or not
 by_inside : {P : Type 0} (inside : Bool) → (inside ≡ true → P) → (inside ≡ false → P) → P
-by_inside true yes no = yes refl
-by_inside false yes no = no refl
+by_inside true inner outer = inner refl
+by_inside false inner outer = outer refl
 
 module _ {E F C FP I : Type 0} {D : I → Type 0} (env : Ghosts E F) (only_now : OnlyNow env) (store : List ℕ) (modelled : IsTrue env.models_disk) where
   -- nothing was asked yet
@@ -186,14 +186,21 @@ module _ {E F C FP I : Type 0} {D : I → Type 0} (env : Ghosts E F) (only_now :
     goes : Goes store (Recalls env store) (scene env engine mid) request answer (scene env after to) led.new
     goes = answers_so modelled led.new led.represents
 
-    now : Event
+    abbrev now : Event
     now = event_of (env.observed to).moment request answer (env.failures to)
+
+    -- time doesn't fall, and the last answer came as the run so far ended
+    time : (env.observed mid).moment ≤ (env.observed to).moment
+    time = goes.moments.time.later
+
+    last_is : last_moment (env.observed from).moment led.events ≡ (env.observed mid).moment
+    last_is = led.last
 
     run_now : Run (env.failures from) old (led.events ++ now ∷ []) (env.failures to) goes.new
     run_now = run_more (env.failures from) (env.failures mid) old led.new goes.new led.events now led.run goes.later goes.step
 
     by_now : (moment : ℕ) → (env.observed from).moment ≤ moment → (env.observed to).moment ≤ moment → All (λ (event : Event). event.moment ≤ moment) (led.events ++ now ∷ [])
-    by_now moment low most = All-append (λ (event : Event). event.moment ≤ moment) led.events (now ∷ []) ((led.ends moment low).1 (omega (arith, most, goes.moments.time.later)))
+    by_now moment low most = All-append (λ (event : Event). event.moment ≤ moment) led.events (now ∷ []) ((led.ends moment low).1 (omega (arith, most, time)))
         (All-cons (λ (event : Event). event.moment ≤ moment) now [] most (All-nil (λ (event : Event). event.moment ≤ moment)))
 
     -- a crash at this moment
@@ -237,7 +244,7 @@ module _ {E F C FP I : Type 0} {D : I → Type 0} (env : Ghosts E F) (only_now :
         let here = goes.moments.time.kept (env.observed mid).moment (env.observed mid).disk.files (omega arith) (only_now.1 mid between.modelled) in
         let same = between.alone (env.observed mid).disk.files (subst (λ n. (env.observed to).at_moment n (env.observed mid).disk.files) (sym at) here) in
         let c = crash_same env only_now store mid led.new led.represents.disk_is (env.observed to) moment files left (sym same) crash in
-        stops_in moment inside left low (omega (arith, at)) early (c.0, inl (at ∙ sym led.last, out, c.1), c.2)
+        stops_in moment inside left low (omega (arith, at)) early (c.0, inl (at ∙ sym last_is, out, c.1), c.2)
 
     -- after it
     stops_after : (moment : ℕ) (inside : Bool) (files : Files) (left : Disk) → (env.observed from).moment ≤ moment → (env.observed to).moment ≤ moment
@@ -267,7 +274,7 @@ module _ {E F C FP I : Type 0} {D : I → Type 0} (env : Ghosts E F) (only_now :
         let s = led.stops moment inside files left low (record { come = omega (arith, early); stood = goes.moments.time.before moment files early crash.stood; leaves = crash.leaves; honest = crash.honest; free = crash.free })
         (λ out. let b = between out in record { modelled = b.modelled; alone = λ others stood. b.alone others (goes.moments.time.kept moment others (omega (arith, early)) stood) }) in (
           s.0,
-          stops_more (env.observed from).moment (env.failures from) moment inside (env.failures mid) old led.new goes.new s.0 led.events now (omega (arith, early, goes.moments.time.later))
+          stops_more (env.observed from).moment (env.failures from) moment inside (env.failures mid) old led.new goes.new s.0 led.events now (omega (arith, early, time))
               (λ all. let past = (led.ends moment low).0 all in absurd (omega (arith, early, past))) goes.later goes.step s.1,
           s.2,
         )
@@ -280,14 +287,14 @@ module _ {E F C FP I : Type 0} {D : I → Type 0} (env : Ghosts E F) (only_now :
         (λ (early : moment < (env.observed to).moment). by_inside inside
         (λ is. stops_inside moment inside files left low late early crash (inr is))
         (λ out. ⊎_elim
-        (λ (past : (env.observed mid).moment < moment). stops_inside moment inside files left low late early crash (inl (let last = led.last in omega (arith, past, last))))
+        (λ (past : (env.observed mid).moment < moment). stops_inside moment inside files left low late early crash (inl (omega (arith, past, last_is))))
         (λ (at : moment ≤ (env.observed mid).moment). stops_before moment inside files left low (omega (arith, at, late)) early crash out (between out))
         (cases_lt (env.observed mid).moment moment)))
         (λ (end : (env.observed to).moment ≤ moment). stops_after moment inside files left low end crash)
         (cases_lt moment (env.observed to).moment)) (cases_lt moment (env.observed mid).moment)
 
     from_first : (env.observed from).moment ≤ (env.observed to).moment
-    from_first = let low = last_low (env.observed from).moment (env.observed from).moment led.events (omega arith) led.since in omega (arith, low, led.last, goes.moments.time.later)
+    from_first = let low = last_low (env.observed from).moment (env.observed from).moment led.events (omega arith) led.since in omega (arith, low, last_is, time)
 
     pub next_one : Runs store (Recalls env store) env.models_moments (scene env before from) (requests ++ request ∷ []) (answers ++ answer ∷ []) (moments ++ (env.observed to).moment ∷ []) (scene env after to) old
     next_one = record {
