@@ -11,25 +11,26 @@ use Rattle.leveldb_mem.specs.MemTable.{FailsToPrepare, bytes_in}
 use Rattle.leveldb_mem.specs.Log.Writer.{AddsRecord, FailsToAdd, Flushes}
 use Rattle.leveldb_mem.specs.Log.Writer as writing
 use Rattle.rusty_leveldb.specs.declared.db_impl.engine.Mode.TheVariants.{Open, Broken, Closed}
-use Rattle.rusty_leveldb.specs.declared.db_impl.engine.Engine.{Engine}
 use Rattle.rusty_leveldb.specs.Engine.{WriteExcused, LogExcused}
 use Rattle.rusty_leveldb.specs.Recovery.{IsErrorFor}
 use Rattle.rusty_leveldb.proofs.OneLog.Appending.{batch_some}
 use Rattle.rusty_leveldb.proofs.Writes.Batches.{not_long}
 use Rattle.rusty_leveldb.proofs.Writes.Append.{IsNext}
 use Rattle.rusty_leveldb.proofs.Writes.Found.{memory_found, found_cause}
+use Rattle.leveldb_env.specs.Options.{Boxed}
+use Rattle.rusty_leveldb.specs.Boxes.{EngineOf}
 
 none_before : (file : Option File) (bytes : List ℕ) → option_map (longer_file bytes) file ≡ None → file ≡ None
 none_before None bytes gone = refl
 none_before (Some file) bytes gone = cc
 
 -- a write for which no memory was taken
-pub prepare_excused : {E C FP F I : Type 0} {D : I → Type 0} (env : Ghosts E F) (engine : Engine E C FP F I D) (from : E) (items : List Item) (e : Status)
+pub prepare_excused : {E C FP F : Type 0} {B : Boxed} (env : Ghosts E F) (engine : EngineOf E C FP F B) (from : E) (items : List Item) (e : Status)
     → FailsToPrepare engine.recent.kept (length items) (bytes_in items) e → WriteExcused env engine from from items e
 prepare_excused env engine from items e (inl full) = inr (inr (inr (inl (full.0, inr (full.1, refl)))))
 prepare_excused env engine from items e (inr memory) = inr (inr (inr (inr (inl memory))))
 
-module _ {E C FP F I : Type 0} {D : I → Type 0} (env : Ghosts E F) (engine : Engine E C FP F I D) (from : E) (open_now : engine.mode ≡ Open) (sound : engine.writer.broken ≡ false) (items : List Item) (bytes : List ℕ)
+module _ {E C FP F : Type 0} {B : Boxed} (env : Ghosts E F) (engine : EngineOf E C FP F B) (from : E) (open_now : engine.mode ≡ Open) (sound : engine.writer.broken ≡ false) (items : List Item) (bytes : List ℕ)
     (next : IsNext engine.recent.last items bytes) where
   -- the log's own excuses are the only ones that are left
   to_write : (to : E) (e : Status) → LogExcused env engine from to e → WriteExcused env engine from to items e

@@ -7,14 +7,15 @@ use Rattle.leveldb_env.specs.declared.env.Env.{Ghosts}
 use Rattle.leveldb_env.specs.Env.{File, Observed, HasCause, IsGone, SameBut}
 use Rattle.leveldb_base.specs.Error.{IsOutOfMemory}
 use Rattle.rusty_leveldb.specs.declared.db_impl.engine.Mode.TheVariants.{Open, Broken}
-use Rattle.rusty_leveldb.specs.declared.db_impl.engine.Engine.{Engine}
 use Rattle.leveldb_version.specs.Paths.{lock_path}
-use Rattle.rusty_leveldb.specs.OneLog.{log_path}
+use Rattle.rusty_leveldb.specs.OneLog.{log_path, IsOneLog}
 use Rattle.leveldb_version.specs.Holds.{Holds}
 use Rattle.rusty_leveldb.specs.State.{State, SuitsMode, open_mode, broken, closed}
 use Rattle.rusty_leveldb.specs.Causes.{HasFailed}
-use Rattle.rusty_leveldb.specs.Serves.{Reads, StandsFor, Represents}
+use Rattle.rusty_leveldb.specs.Serves.{StandsFor, Represents}
 use Rattle.rusty_leveldb.specs.Engine.{mode_of, WritesOn, Remembers, Recalls}
+use Rattle.leveldb_env.specs.Options.{Boxed}
+use Rattle.rusty_leveldb.specs.Boxes.{EngineOf}
 
 -- why a log refused a call
 abbrev pub Fails : Status → ℕ → ℕ → Type 0
@@ -31,24 +32,24 @@ fails models_disk name told file before after status there cause = ⊎_elim
 abbrev pub broken_with : State → Option (List Entry) → State
 broken_with old batch = record old { pending = batch; mode = broken }
 
-module _ {E C FP F I : Type 0} {D : I → Type 0} (env : Ghosts E F) (store : List ℕ) where
-  abbrev pub Was : Engine E C FP F I D → E → State → Type 0
-  Was engine at old = Represents store (Reads store) (Recalls env store) (Some engine) (env.observed at).disk old
+module _ {E C FP F : Type 0} {B : Boxed} (env : Ghosts E F) (store : List ℕ) where
+  abbrev pub Was : EngineOf E C FP F B → E → State → Type 0
+  Was engine at old = Represents store (Recalls env store) (Some engine) (env.observed at).disk old
 
   -- ---- an open store
 
   -- the store is open, and the engine's memory and the disk stand for it
-  pub record IsOpen (engine : Engine E C FP F I D) (at : E) (old : State) : Type 0 where
+  pub record IsOpen (engine : EngineOf E C FP F B) (at : E) (old : State) : Type 0 where
     pub mode : old.mode ≡ open_mode
     pub none : old.pending ≡ None
     pub held : IsTrue old.locked
-    pub disk_is : StandsFor store (Reads store) (env.observed at).disk old
-    pub holds : Holds store (Reads store) (λ now. now ≡ old.store) (env.observed at).disk.files old.history old.last old.covered None
+    pub disk_is : StandsFor store (env.observed at).disk old
+    pub holds : Holds store (IsOneLog (log_path store)) (λ now. now ≡ old.store) (env.observed at).disk.files old.history old.last old.durable None
     pub lock : string_bytes engine.lock ≡ lock_path store
     pub memory_is : Remembers env store engine old
     pub writes : WritesOn env store engine (env.observed at).disk
 
-  pub is_open : (engine : Engine E C FP F I D) (at : E) (old : State) → engine.mode ≡ Open → Was engine at old → IsOpen engine at old
+  pub is_open : (engine : EngineOf E C FP F B) (at : E) (old : State) → engine.mode ≡ Open → Was engine at old → IsOpen engine at old
   is_open engine at old open_now was = record {
     mode = mode;
     none = suits.0;
@@ -66,8 +67,8 @@ module _ {E C FP F I : Type 0} {D : I → Type 0} (env : Ghosts E F) (store : Li
       suits : (old.pending ≡ None) × IsTrue old.locked
       suits = subst (λ m. SuitsMode m old) mode was.disk_is.is_state.mode
 
-      holds : Holds store (Reads store) (λ now. now ≡ old.store) (env.observed at).disk.files old.history old.last old.covered None
-      holds = subst (λ p. Holds store (Reads store) (λ now. now ≡ old.store) (env.observed at).disk.files old.history old.last old.covered p) suits.0 was.disk_is.holds
+      holds : Holds store (IsOneLog (log_path store)) (λ now. now ≡ old.store) (env.observed at).disk.files old.history old.last old.durable None
+      holds = subst (λ p. Holds store (IsOneLog (log_path store)) (λ now. now ≡ old.store) (env.observed at).disk.files old.history old.last old.durable p) suits.0 was.disk_is.holds
 
       writes : WritesOn env store engine (env.observed at).disk
       writes = was.memory_is.writes mode
@@ -75,12 +76,12 @@ module _ {E C FP F I : Type 0} {D : I → Type 0} (env : Ghosts E F) (store : Li
   -- ---- memory
 
   -- the entries, their last number and the lock's name are as they were
-  pub record IsStill (engine after : Engine E C FP F I D) : Type 0 where
+  pub record IsStill (engine after : EngineOf E C FP F B) : Type 0 where
     pub lock : after.lock ≡ engine.lock
     pub entries : after.recent.kept.entries ≡ engine.recent.kept.entries
     pub last : after.recent.last ≡ engine.recent.last
 
-  pub remembers_still : (engine after : Engine E C FP F I D) (old new : State) → new.history ≡ old.history → new.last ≡ old.last → IsStill engine after → Remembers env store engine old → Remembers env store after new
+  pub remembers_still : (engine after : EngineOf E C FP F B) (old new : State) → new.history ≡ old.history → new.last ≡ old.last → IsStill engine after → Remembers env store engine old → Remembers env store after new
   remembers_still engine after old new history last still memory = record {
     last = still.last ∙ memory.last ∙ sym last;
     same = λ t most. subst (λ h. SameView after.recent.kept.entries (entries_of h) t) (sym history)
@@ -91,23 +92,23 @@ module _ {E C FP F I : Type 0} {D : I → Type 0} (env : Ghosts E F) (store : Li
   -- ---- a broken store
 
   -- the log refused a call, and the disk holds what it did, with this batch pending
-  pub record Broke (engine after : Engine E C FP F I D) (from to : E) (old : State) (batch : Option (List Entry)) : Type 0 where
+  pub record Broke (engine after : EngineOf E C FP F B) (from to : E) (old : State) (batch : Option (List Entry)) : Type 0 where
     pub still : IsStill engine after
     pub mode : after.mode ≡ Broken
     pub history : IsHistory (with_batch old.history batch)
     pub reached : greatest (entries_of (with_batch old.history batch)) ≤ old.last + count_of batch
-    pub holds : Holds store (Reads store) (λ now. now ≡ old.store) (env.observed to).disk.files old.history old.last old.covered batch
+    pub holds : Holds store (IsOneLog (log_path store)) (λ now. now ≡ old.store) (env.observed to).disk.files old.history old.last old.durable batch
     pub locks : (env.observed to).disk.locked ≡ (env.observed from).disk.locked
     pub but : SameBut (log_path store) (env.observed from).disk.files (env.observed to).disk.files
 
-  pub broken_is : (engine after : Engine E C FP F I D) (from to : E) (old : State) (batch : Option (List Entry)) → IsOpen engine from old → Broke engine after from to old batch → Was after to (broken_with old batch)
+  pub broken_is : (engine after : EngineOf E C FP F B) (from to : E) (old : State) (batch : Option (List Entry)) → IsOpen engine from old → Broke engine after from to old batch → Was after to (broken_with old batch)
   broken_is engine after from to old batch was broke = record {
     disk_is = record {
       is_state = record {
         history = broke.history;
         reached = was.disk_is.is_state.reached;
         pending = broke.reached;
-        covered = was.disk_is.is_state.covered;
+        durable = was.disk_is.is_state.durable;
         held = was.disk_is.is_state.held;
         mode = was.held;
       };

@@ -1,7 +1,6 @@
 -- A write is a step of the machine, at each of its exits, from the engine as it was before the preparation.
 use Rattle.std.proofs.Common.{◌≡◌, ◌⊎◌, inl, inr, ◌≤◌, ◌+◌, ◌++◌, ◌∷◌, [], ℕ, List, length, refl, sym, ◌∙◌, ap, subst, arith, Some, Ok, Err, Bool, IsTrue, true, false}
 use Rattle.std.specs.Prelude.{if◌then◌else◌}
-use Rattle.std.specs.declared.cmp.Ordering.{Ordering}
 use Rattle.leveldb_base.specs.declared.error.Status.{Status}
 use Rattle.leveldb_base.specs.History.{Item, AreUpTo}
 use Rattle.leveldb_env.specs.declared.env.Env.{Ghosts}
@@ -12,19 +11,19 @@ use Rattle.leveldb_mem.specs.MemTable.{HasRoom}
 use Rattle.leveldb_mem.specs.Log.Writer.{WriterState, broken_writer, AddsRecord, FailsToAdd, Flushes}
 use Rattle.rusty_leveldb.specs.declared.db_impl.engine.Mode.{Mode}
 use Rattle.rusty_leveldb.specs.declared.db_impl.engine.Mode.TheVariants.{Open, Broken}
-use Rattle.rusty_leveldb.specs.declared.db_impl.engine.Engine.{Engine}
 use Rattle.rusty_leveldb.specs.OneLog.{max_sequence}
 use Rattle.rusty_leveldb.specs.Recent.{Numbered, Follows, Inserts}
 use Rattle.rusty_leveldb.specs.State.{State, open_mode, closed, write, Answer, done, refused}
-use Rattle.rusty_leveldb.specs.Serves.{Reads, Goes, refusal_of}
+use Rattle.rusty_leveldb.specs.Serves.{Goes, refusal_of}
 use Rattle.rusty_leveldb.specs.Engine.{scene, Recalls, mode_of}
 use Rattle.rusty_leveldb.specs.Recovery.{IsErrorFor}
 use Rattle.rusty_leveldb.proofs.Histories.{placed_greatest}
 use Rattle.rusty_leveldb.proofs.Writes.Stands.{Was}
 use Rattle.rusty_leveldb.proofs.Writes.Kept.{prepared_was}
 use Rattle.rusty_leveldb.proofs.Writes.Append.{IsNext}
-use Rattle.rusty_leveldb.proofs.Writes.Found.{found_goes}
 use Rattle.rusty_leveldb.proofs.Writes.Exits.{begun_with, append_refused, done_unsynced, done_synced, sync_refused}
+use Rattle.leveldb_env.specs.Options.{Boxed}
+use Rattle.rusty_leveldb.specs.Boxes.{EngineOf}
 
 -- ---- the batch
 
@@ -56,15 +55,15 @@ follows last now items batch bytes next is same = subst (λ b. Follows now b) (s
 
 -- ---- the exits
 
-module _ {E C FP F I : Type 0} {D : I → Type 0} (env : Ghosts E F) (store : List ℕ) (cmp : List ℕ → List ℕ → Ordering) (engine : Engine E C FP F I D) (from : E) (old : State) (items : List Item) (sync : Bool) (after : Engine E C FP F I D) (to : E) where
+module _ {E C FP F : Type 0} {B : Boxed} (env : Ghosts E F) (store : List ℕ) (engine : EngineOf E C FP F B) (from : E) (old : State) (items : List Item) (sync : Bool) (after : EngineOf E C FP F B) (to : E) where
   abbrev pub Wrote : Answer → Type 0
-  Wrote answer = Goes store (Reads store) (Recalls env store) cmp (scene env cmp (Some engine) from) (write items sync) answer (scene env cmp (Some after) to) old
+  Wrote answer = Goes store (Recalls env store) (scene env (Some engine) from) (write items sync) answer (scene env (Some after) to) old
 
-module _ {E C FP F I : Type 0} {D : I → Type 0} (env : Ghosts E F) (modelled : IsTrue env.models_disk) (store : List ℕ) (cmp : List ℕ → List ℕ → Ordering) (engine : Engine E C FP F I D) (from : E) (old : State) (stood : Was env store engine from old)
+module _ {E C FP F : Type 0} {B : Boxed} (env : Ghosts E F) (modelled : IsTrue env.models_disk) (store : List ℕ) (engine : EngineOf E C FP F B) (from : E) (old : State) (stood : Was env store engine from old)
     (open_now : engine.mode ≡ Open) (recent : Numbered) (entries : recent.kept.entries ≡ engine.recent.kept.entries) (last : recent.last ≡ engine.recent.last) (items : List Item) (sync : Bool) (bytes : List ℕ)
     (next : IsNext engine.recent.last items bytes) where
   -- the engine behind the preparation
-  abbrev prepared : Engine E C FP F I D
+  abbrev prepared : EngineOf E C FP F B
   prepared = record engine { recent = recent }
 
   now : Was env store prepared from old
@@ -73,34 +72,27 @@ module _ {E C FP F I : Type 0} {D : I → Type 0} (env : Ghosts E F) (modelled :
   next_now : IsNext recent.last items bytes
   next_now = subst (λ n. IsNext n items bytes) (sym last) next
 
-  from_prepared : (answer : Answer) (after : Engine E C FP F I D) (to : E) → Wrote env store cmp prepared from old items sync after to answer → Wrote env store cmp engine from old items sync after to answer
-  from_prepared answer after to goes = begun_with store (Recalls env store) cmp (Some prepared) (Some engine) (env.observed from) (env.failures from) (write items sync) answer (scene env cmp (Some after) to) old goes
-
-  -- the error is the log's, or damage where the log is missing
-  tells : (after : Engine E C FP F I D) (to : E) (raw status : Status) → IsErrorFor raw status → Wrote env store cmp prepared from old items sync after to (refused (refusal_of raw)) → Wrote env store cmp prepared from old items sync after to (refused (refusal_of status))
-  tells after to raw status error goes =
-      found_goes store (Recalls env store) cmp (scene env cmp (Some prepared) from) (write items sync) (scene env cmp (Some after) to) old (sym stood.memory_is.mode ∙ ap mode_of open_now)
-      (λ s new. (λ step. step, λ responds. responds)) raw status error goes
+  from_prepared : (answer : Answer) (after : EngineOf E C FP F B) (to : E) → Wrote env store prepared from old items sync after to answer → Wrote env store engine from old items sync after to answer
+  from_prepared answer after to goes = begun_with store (Recalls env store) (Some prepared) (Some engine) (env.observed from) (env.failures from) (write items sync) answer (scene env (Some after) to) old goes
 
   -- the append was refused
-  pub refused_append : (after : Engine E C FP F I D) (to : E) (status : Status) → after ≡ record prepared { log = after.log; writer = after.writer; mode = after.mode } → after.mode ≡ (if after.writer.broken then Broken else engine.mode)
+  pub refused_append : (after : EngineOf E C FP F B) (to : E) (status : Status) → after ≡ record prepared { log = after.log; writer = after.writer; mode = after.mode } → after.mode ≡ (if after.writer.broken then Broken else engine.mode)
       → (raw : Status) × IsErrorFor raw status × FailsToAdd (Appends env) engine.writer (opened from engine.log) bytes raw after.writer (opened to after.log)
-      → Wrote env store cmp engine from old items sync after to (refused (refusal_of status))
+      → Wrote env store engine from old items sync after to (refused (refusal_of status))
   refused_append after to status rest mode refusal = from_prepared (refused (refusal_of status)) after to
-      (tells after to refusal.0 status refusal.1 (append_refused env modelled store prepared from old now open_now items bytes next_now cmp sync after to rest mode refusal.0 refusal.2))
+      (append_refused env modelled store prepared from old now open_now items bytes next_now sync after to rest mode refusal.0 status refusal.1 refusal.2)
 
   -- it was done
-  module _ (middle : Engine E C FP F I D) (mid : E) (rest : middle ≡ record prepared { log = middle.log; writer = middle.writer; mode = middle.mode }) (mode : middle.mode ≡ (if middle.writer.broken then Broken else engine.mode))
+  module _ (middle : EngineOf E C FP F B) (mid : E) (rest : middle ≡ record prepared { log = middle.log; writer = middle.writer; mode = middle.mode }) (mode : middle.mode ≡ (if middle.writer.broken then Broken else engine.mode))
       (count : ℕ) (adds : AddsRecord (Appends env) engine.writer (opened from engine.log) bytes count middle.writer (opened mid middle.log)) where
     -- and the sync was refused
-    pub refused_sync : (after : Engine E C FP F I D) (to : E) (status : Status) → after ≡ record middle { log = after.log; writer = after.writer; mode = after.mode } → after.mode ≡ Broken
+    pub refused_sync : (after : EngineOf E C FP F B) (to : E) (status : Status) → after ≡ record middle { log = after.log; writer = after.writer; mode = after.mode } → after.mode ≡ Broken
         → (raw : Status) × IsErrorFor raw status × Flushes (Syncs env) middle.writer (opened mid middle.log) (Err raw) after.writer (opened to after.log)
-        → Wrote env store cmp engine from old items sync after to (refused (refusal_of status))
+        → Wrote env store engine from old items sync after to (refused (refusal_of status))
     refused_sync after to status rest_after broke refusal = from_prepared (refused (refusal_of status)) after to
-        (tells after to refusal.0 status refusal.1
-        (sync_refused env modelled store prepared from old now open_now items bytes next_now middle mid rest mode count adds cmp sync after to rest_after refusal.0 broke refusal.2))
+        (sync_refused env modelled store prepared from old now open_now items bytes next_now middle mid rest mode count adds sync after to rest_after refusal.0 status refusal.1 broke refusal.2)
 
-    module _ (batch : Batch) (batch_is : batch ≡ batch_of (engine.recent.last + 1) items) (below : AreUpTo engine.recent.last engine.recent.kept.entries) (inserted : Numbered) (self : Engine E C FP F I D) (inserts : Inserts self.recent batch inserted) (at : E) where
+    module _ (batch : Batch) (batch_is : batch ≡ batch_of (engine.recent.last + 1) items) (below : AreUpTo engine.recent.last engine.recent.kept.entries) (inserted : Numbered) (self : EngineOf E C FP F B) (inserts : Inserts self.recent batch inserted) (at : E) where
       last_is : engine.recent.last ≡ old.last
       last_is = sym last ∙ last_now
         where
@@ -117,50 +109,50 @@ module _ {E C FP F I : Type 0} {D : I → Type 0} (env : Ghosts E F) (modelled :
       below_now = subst (λ n. AreUpTo n recent.kept.entries) (sym last) (subst (λ es. AreUpTo engine.recent.last es) (sym entries) below)
 
       -- it was all that was asked for
-      pub done_plain : sync ≡ false → self ≡ middle → at ≡ mid → Wrote env store cmp engine from old items sync (record self { recent = inserted }) at done
-      done_plain plain self_is at_is = subst (λ (e : E). Wrote env store cmp engine from old items sync (record self { recent = inserted }) e done) (sym at_is)
-          (subst (λ (m : Engine E C FP F I D). Wrote env store cmp engine from old items sync (record m { recent = inserted }) mid done) (sym self_is)
+      pub done_plain : sync ≡ false → self ≡ middle → at ≡ mid → Wrote env store engine from old items sync (record self { recent = inserted }) at done
+      done_plain plain self_is at_is = subst (λ (e : E). Wrote env store engine from old items sync (record self { recent = inserted }) e done) (sym at_is)
+          (subst (λ (m : EngineOf E C FP F B). Wrote env store engine from old items sync (record m { recent = inserted }) mid done) (sym self_is)
           (from_prepared done (record middle { recent = inserted }) mid
-          (done_unsynced env modelled store prepared from old now open_now items bytes next_now middle mid rest mode count adds cmp sync plain inserted
-          (inserts_now (ap (λ (m : Engine E C FP F I D). m.recent) self_is ∙ ap (λ (m : Engine E C FP F I D). m.recent) rest)) below_now)))
+          (done_unsynced env modelled store prepared from old now open_now items bytes next_now middle mid rest mode count adds sync plain inserted
+          (inserts_now (ap (λ (m : EngineOf E C FP F B). m.recent) self_is ∙ ap (λ (m : EngineOf E C FP F B). m.recent) rest)) below_now)))
 
       -- the sync was done too
-      pub done_with_sync : (after : Engine E C FP F I D) (to : E) → after ≡ record middle { log = after.log; writer = after.writer; mode = after.mode } → after.mode ≡ middle.mode
-          → Flushes (Syncs env) middle.writer (opened mid middle.log) (Ok tt) after.writer (opened to after.log) → self ≡ after → at ≡ to → Wrote env store cmp engine from old items sync (record self { recent = inserted }) at done
-      done_with_sync after to rest_after same_mode flushed self_is at_is = subst (λ (e : E). Wrote env store cmp engine from old items sync (record self { recent = inserted }) e done) (sym at_is)
-          (subst (λ (m : Engine E C FP F I D). Wrote env store cmp engine from old items sync (record m { recent = inserted }) to done) (sym self_is)
+      pub done_with_sync : (after : EngineOf E C FP F B) (to : E) → after ≡ record middle { log = after.log; writer = after.writer; mode = after.mode } → after.mode ≡ middle.mode
+          → Flushes (Syncs env) middle.writer (opened mid middle.log) (Ok tt) after.writer (opened to after.log) → self ≡ after → at ≡ to → Wrote env store engine from old items sync (record self { recent = inserted }) at done
+      done_with_sync after to rest_after same_mode flushed self_is at_is = subst (λ (e : E). Wrote env store engine from old items sync (record self { recent = inserted }) e done) (sym at_is)
+          (subst (λ (m : EngineOf E C FP F B). Wrote env store engine from old items sync (record m { recent = inserted }) to done) (sym self_is)
           (from_prepared done (record after { recent = inserted }) to
-          (done_synced env modelled store prepared from old now open_now items bytes next_now middle mid rest mode count adds cmp sync after to rest_after same_mode flushed inserted
-          (inserts_now (ap (λ (m : Engine E C FP F I D). m.recent) self_is ∙ ap (λ (m : Engine E C FP F I D). m.recent) rest_after ∙ ap (λ (m : Engine E C FP F I D). m.recent) rest)) below_now)))
+          (done_synced env modelled store prepared from old now open_now items bytes next_now middle mid rest mode count adds sync after to rest_after same_mode flushed inserted
+          (inserts_now (ap (λ (m : EngineOf E C FP F B). m.recent) self_is ∙ ap (λ (m : EngineOf E C FP F B). m.recent) rest_after ∙ ap (λ (m : EngineOf E C FP F B). m.recent) rest)) below_now)))
 
 -- the last number is the engine's, before the insertion
-pub last_plain : {E C FP F I : Type 0} {D : I → Type 0} (engine : Engine E C FP F I D) (recent : Numbered) → recent.last ≡ engine.recent.last → (middle self : Engine E C FP F I D)
+pub last_plain : {E C FP F : Type 0} {B : Boxed} (engine : EngineOf E C FP F B) (recent : Numbered) → recent.last ≡ engine.recent.last → (middle self : EngineOf E C FP F B)
     → middle ≡ record engine { recent = recent; log = middle.log; writer = middle.writer; mode = middle.mode } → self ≡ middle → self.recent.last ≡ engine.recent.last
 last_plain engine recent last middle self rest self_is = ap (λ m. m.recent.last) self_is ∙ ap (λ m. m.recent.last) rest ∙ last
 
-pub last_synced : {E C FP F I : Type 0} {D : I → Type 0} (engine : Engine E C FP F I D) (recent : Numbered) → recent.last ≡ engine.recent.last → (middle after self : Engine E C FP F I D)
+pub last_synced : {E C FP F : Type 0} {B : Boxed} (engine : EngineOf E C FP F B) (recent : Numbered) → recent.last ≡ engine.recent.last → (middle after self : EngineOf E C FP F B)
     → middle ≡ record engine { recent = recent; log = middle.log; writer = middle.writer; mode = middle.mode } → after ≡ record middle { log = after.log; writer = after.writer; mode = after.mode } → self ≡ after
     → self.recent.last ≡ engine.recent.last
 last_synced engine recent last middle after self rest rest_after self_is = ap (λ m. m.recent.last) self_is ∙ ap (λ m. m.recent.last) rest_after ∙ ap (λ m. m.recent.last) rest ∙ last
 
 -- the room that was made in memory is there still
-pub room_plain : {E C FP F I : Type 0} {D : I → Type 0} (engine : Engine E C FP F I D) (recent : Numbered) (items : List Item) → HasRoom recent.kept items → (middle self : Engine E C FP F I D)
+pub room_plain : {E C FP F : Type 0} {B : Boxed} (engine : EngineOf E C FP F B) (recent : Numbered) (items : List Item) → HasRoom recent.kept items → (middle self : EngineOf E C FP F B)
     → middle ≡ record engine { recent = recent; log = middle.log; writer = middle.writer; mode = middle.mode } → self ≡ middle → HasRoom self.recent.kept items
 room_plain engine recent items room middle self rest self_is =
     subst (λ r. HasRoom r.kept items) (sym (ap (λ m. m.recent) self_is ∙ ap (λ m. m.recent) rest)) room
 
-pub room_synced : {E C FP F I : Type 0} {D : I → Type 0} (engine : Engine E C FP F I D) (recent : Numbered) (items : List Item) → HasRoom recent.kept items → (middle after self : Engine E C FP F I D)
+pub room_synced : {E C FP F : Type 0} {B : Boxed} (engine : EngineOf E C FP F B) (recent : Numbered) (items : List Item) → HasRoom recent.kept items → (middle after self : EngineOf E C FP F B)
     → middle ≡ record engine { recent = recent; log = middle.log; writer = middle.writer; mode = middle.mode } → after ≡ record middle { log = after.log; writer = after.writer; mode = after.mode } → self ≡ after
     → HasRoom self.recent.kept items
 room_synced engine recent items room middle after self rest rest_after self_is =
     subst (λ r. HasRoom r.kept items) (sym (ap (λ m. m.recent) self_is ∙ ap (λ m. m.recent) rest_after ∙ ap (λ m. m.recent) rest)) room
 
 -- the options are the engine's
-pub options_plain : {E C FP F I : Type 0} {D : I → Type 0} (engine : Engine E C FP F I D) (recent : Numbered) (middle self : Engine E C FP F I D)
+pub options_plain : {E C FP F : Type 0} {B : Boxed} (engine : EngineOf E C FP F B) (recent : Numbered) (middle self : EngineOf E C FP F B)
     → middle ≡ record engine { recent = recent; log = middle.log; writer = middle.writer; mode = middle.mode } → self ≡ middle → self.options ≡ engine.options
 options_plain engine recent middle self rest self_is = ap (λ m. m.options) self_is ∙ ap (λ m. m.options) rest
 
-pub options_synced : {E C FP F I : Type 0} {D : I → Type 0} (engine : Engine E C FP F I D) (recent : Numbered) (middle after self : Engine E C FP F I D)
+pub options_synced : {E C FP F : Type 0} {B : Boxed} (engine : EngineOf E C FP F B) (recent : Numbered) (middle after self : EngineOf E C FP F B)
     → middle ≡ record engine { recent = recent; log = middle.log; writer = middle.writer; mode = middle.mode } → after ≡ record middle { log = after.log; writer = after.writer; mode = after.mode } → self ≡ after
     → self.options ≡ engine.options
 options_synced engine recent middle after self rest rest_after self_is = ap (λ m. m.options) self_is ∙ ap (λ m. m.options) rest_after ∙ ap (λ m. m.options) rest
@@ -171,11 +163,11 @@ stays_if : (broken : Bool) (now old : Mode) → now ≡ (if broken then Broken e
 stays_if true now old is = inl refl
 stays_if false now old is = inr is
 
-pub stays_plain : {E C FP F I : Type 0} {D : I → Type 0} (old : Mode) (middle self : Engine E C FP F I D) → middle.mode ≡ (if middle.writer.broken then Broken else old) → self ≡ middle
+pub stays_plain : {E C FP F : Type 0} {B : Boxed} (old : Mode) (middle self : EngineOf E C FP F B) → middle.mode ≡ (if middle.writer.broken then Broken else old) → self ≡ middle
     → IsTrue self.writer.broken ⊎ (self.mode ≡ old)
 stays_plain old middle self mode self_is = subst (λ m. IsTrue m.writer.broken ⊎ (m.mode ≡ old)) (sym self_is) (stays_if middle.writer.broken middle.mode old mode)
 
-pub stays_synced : {E C FP F I : Type 0} {D : I → Type 0} (old : Mode) (middle after self : Engine E C FP F I D) → middle.mode ≡ (if middle.writer.broken then Broken else old)
+pub stays_synced : {E C FP F : Type 0} {B : Boxed} (old : Mode) (middle after self : EngineOf E C FP F B) → middle.mode ≡ (if middle.writer.broken then Broken else old)
     → after.writer ≡ middle.writer → after.mode ≡ middle.mode → self ≡ after → IsTrue self.writer.broken ⊎ (self.mode ≡ old)
 stays_synced old middle after self mode writer same self_is =
     stays_plain old after self (same ∙ mode ∙ ap (λ (w : WriterState). if w.broken then Broken else old) (sym writer)) self_is
