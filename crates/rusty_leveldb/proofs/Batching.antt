@@ -1,7 +1,6 @@
 -- Changes that are put together to a batch, and a batch that is refused before it is written.
 use Rattle.std.proofs.Common.{◌≡◌, ◌<◌, ◌+◌, ◌^◌, ◌⊎◌, inl, ⊎_elim, ℕ, List, [], ◌∷◌, ◌++◌, length, take, drop, flat_map, refl, sym, ◌∙◌, ap, subst, arith, Bool, length-append}
 use Rattle.std.specs.Prelude.{map}
-use Rattle.std.specs.declared.cmp.Ordering.{Ordering}
 use Rattle.std.proofs.Math.ListN.{get_or}
 use Rattle.std.proofs.lemmas.List.{map-append, take_more, take-append-drop}
 use Rattle.std.proofs.lemmas.List.Concat.{flat_map-append}
@@ -17,7 +16,7 @@ use Rattle.rusty_leveldb.specs.declared.shell.commands.Item as item
 use Rattle.rusty_leveldb.specs.Shell.{change_of}
 use Rattle.rusty_leveldb.specs.State.{State, open_mode, write, refused}
 use Rattle.rusty_leveldb.specs.Causes.{Faults, out_of_memory, bad_operand, IsLongBatch}
-use Rattle.rusty_leveldb.specs.Machine.{Keeps, StepIn}
+use Rattle.rusty_leveldb.specs.Machine.{Keeps, Step}
 use Rattle.rusty_leveldb.specs.Serves.{faults_between, refusal_of}
 use Rattle.rusty_leveldb.specs.Engine.{Recalls, AnswersStill}
 use Rattle.rusty_leveldb.proofs.Writes.Moments.{moments_none}
@@ -47,13 +46,14 @@ too_long_among batch items i one below is so_far long =
 abbrev pub IsUnmade : List Item → Status → Type 0
 IsUnmade items status = IsOutOfMemory status ⊎ ((status.code ≡ InvalidArgument) × IsLongBatch items)
 
-module _ {E C FP F : Type 0} {B : Boxed} (env : Ghosts E F) (cmp : List ℕ → List ℕ → Ordering) (engine : EngineOf E C FP F B)
+module _ {E C FP F : Type 0} {B : Boxed} (env : Ghosts E F) (engine : EngineOf E C FP F B)
     (is_open : (store : List ℕ) (disk : Disk) (state : State) → Recalls env store engine disk state → state.mode ≡ open_mode) (items : List Item) (sync : Bool) (status : Status) (why : IsUnmade items status) where
-  pub not_written : AnswersStill env cmp engine (write items sync) (refused (refusal_of status))
+  pub not_written : AnswersStill env engine (write items sync) (refused (refusal_of status))
   not_written at store tells old represents = record {
     new = old;
     represents = represents;
-    step = record { later = omega arith; step = subst (λ mode. StepIn cmp mode faults old (write items sync) (refused (refusal_of status)) old) (sym (is_open store disk old represents.memory_is)) (⊎_elim for_memory for_length why) };
+    later = omega arith;
+    step = subst (λ mode. Step mode faults old (write items sync) (refused (refusal_of status)) old) (sym (is_open store disk old represents.memory_is)) (⊎_elim for_memory for_length why);
     moments = moments_none store (write items sync) old (env.observed at) represents.disk_is;
     files = spared_still (write items sync) (refused (refusal_of status)) old old (env.observed at).disk.files;
     others = others_still store (env.observed at).disk;
@@ -67,10 +67,10 @@ module _ {E C FP F : Type 0} {B : Boxed} (env : Ghosts E F) (cmp : List ℕ → 
       faults = faults_between (env.failures at) (env.failures at)
 
       kept : Keeps old old
-      kept = record { state = refl; covered = inl refl }
+      kept = record { state = refl; durable = inl refl }
 
-      for_memory : IsOutOfMemory status → StepIn cmp open_mode faults old (write items sync) (refused (refusal_of status)) old
-      for_memory none = (out_of_memory, (tt, none.0, ap text_of none.1), inl (refl, kept))
+      for_memory : IsOutOfMemory status → Step open_mode faults old (write items sync) (refused (refusal_of status)) old
+      for_memory none = record { cause = out_of_memory; comes = (tt, none.0, ap text_of none.1); leaves = inl kept }
 
-      for_length : (status.code ≡ InvalidArgument) × IsLongBatch items → StepIn cmp open_mode faults old (write items sync) (refused (refusal_of status)) old
-      for_length long = (bad_operand, long, inl (refl, kept))
+      for_length : (status.code ≡ InvalidArgument) × IsLongBatch items → Step open_mode faults old (write items sync) (refused (refusal_of status)) old
+      for_length long = record { cause = bad_operand; comes = long; leaves = inl kept }

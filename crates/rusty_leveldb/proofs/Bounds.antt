@@ -4,9 +4,8 @@ use Rattle.leveldb_base.specs.History.{History}
 use Rattle.leveldb_base.proofs.HistoryLemmas.{in_none}
 use Rattle.leveldb_env.specs.Env.{Files, FileCrashesTo}
 use Rattle.leveldb_version.specs.Contents.{Store, missing, Contents, no_contents}
-use Rattle.rusty_leveldb.specs.OneLog.{IsRead, log_path}
+use Rattle.rusty_leveldb.specs.OneLog.{IsRead, log_path, IsOneLog}
 use Rattle.leveldb_version.specs.Holds.{Carries, IsSafe}
-use Rattle.rusty_leveldb.specs.Serves.{Reads}
 use Rattle.rusty_leveldb.specs.Laws.{NothingStands}
 
 module _ (store : List ℕ) (reads : Files → Contents → Type 0) where
@@ -17,8 +16,8 @@ module _ (store : List ℕ) (reads : Files → Contents → Type 0) where
       let low = c.matches.bounded in
       record { contents = c.contents; read = c.read; matches = record { same = c.matches.same; up_to = c.matches.up_to; reached = c.matches.reached; bounded = omega arith; store = c.matches.store } }
 
-  pub safe_more : {allowed : Store → Type 0} (bound more covered : ℕ) → bound ≤ more → (history : History) (files : Files) → IsSafe store reads allowed bound covered history files → IsSafe store reads allowed more covered history files
-  safe_more bound more covered le history files safe left leaves honest =
+  pub safe_more : {allowed : Store → Type 0} (bound more durable : ℕ) → bound ≤ more → (history : History) (files : Files) → IsSafe store reads allowed bound durable history files → IsSafe store reads allowed more durable history files
+  safe_more bound more durable le history files safe left leaves honest =
       let c = safe left leaves honest in
       record { part = c.part; prefix = c.prefix; carries = carries_more bound more le c.part left c.carries }
 
@@ -40,15 +39,15 @@ module _ (store : List ℕ) (reads : Files → Contents → Type 0) where
     matches = record { same = c.matches.same; up_to = c.matches.up_to; reached = c.matches.reached; bounded = c.matches.bounded; store = refl };
   }
 
-  pub safe_allow : {allowed other : Store → Type 0} (bound covered : ℕ) (history : History) (files : Files) → ((there : Store) → allowed there → other there)
-      → IsSafe store reads allowed bound covered history files → IsSafe store reads other bound covered history files
-  safe_allow bound covered history files may safe left leaves honest =
+  pub safe_allow : {allowed other : Store → Type 0} (bound durable : ℕ) (history : History) (files : Files) → ((there : Store) → allowed there → other there)
+      → IsSafe store reads allowed bound durable history files → IsSafe store reads other bound durable history files
+  safe_allow bound durable history files may safe left leaves honest =
       let c = safe left leaves honest in
       record { part = c.part; prefix = c.prefix; carries = carries_allow bound c.part left may c.carries }
 
 -- ---- where nothing is
 
-carries_nothing : (store : List ℕ) (files : Files) → files (log_path store) ≡ None → Carries store (Reads store) (λ now. now ≡ missing) 0 [] files
+carries_nothing : (store : List ℕ) (files : Files) → files (log_path store) ≡ None → Carries store (IsOneLog (log_path store)) (λ now. now ≡ missing) 0 [] files
 carries_nothing store files none = record {
   contents = no_contents;
   read = subst (λ file. IsRead file no_contents) (sym none) refl;
@@ -56,12 +55,12 @@ carries_nothing store files none = record {
 }
 
 pub nothing_stands : NothingStands
-nothing_stands store disk none free = record {
+nothing_stands store format disk none free = record {
   is_state = record {
     history = record { placed = λ k d lt. absurd (let never : ⊥ = omega arith in never); rising = tt };
     reached = omega arith;
     pending = omega arith;
-    covered = omega arith;
+    durable = omega arith;
     held = λ one c. absurd (in_none one c);
     mode = record { held = refl; given = refl };
   };

@@ -1,17 +1,16 @@
 -- Each refusal has a cause.
-use Rattle.std.proofs.Common.{◌≡◌, ◌⊎◌, inl, inr, refl, ℕ, List}
-use Rattle.std.specs.declared.cmp.Ordering.{Ordering}
+use Rattle.std.proofs.Common.{◌≡◌, ◌⊎◌, inl, inr, refl}
 use Rattle.rusty_leveldb.specs.State.{State, Mode, broken, closed, Request, open_store, write, flush, compact_range, close, abandon, Refusal, refused}
 use Rattle.rusty_leveldb.specs.Causes.{Faults, Cause, Comes, IsClosedRefusal, IsBrokenRefusal}
-use Rattle.rusty_leveldb.specs.Machine.{StepIn}
+use Rattle.rusty_leveldb.specs.Machine.{Step}
 use Rattle.rusty_leveldb.specs.Laws.{RefusalHasCause}
 
-module _ (cmp : List ℕ → List ℕ → Ordering) (faults : Faults) (old new : State) (refusal : Refusal) where
+module _ (faults : Faults) (old new : State) (refusal : Refusal) where
   abbrev HasReason : Mode → Request → Type 0
   HasReason mode request = ((cause : Cause) × Comes faults old request refusal cause) ⊎ ((mode ≡ closed) × IsClosedRefusal refusal) ⊎ ((mode ≡ broken) × IsBrokenRefusal refusal)
 
-  reason : (mode : Mode) (request : Request) → StepIn cmp mode faults old request (refused refusal) new → HasReason mode request
-  reason closed (open_store opening) step = inl (step.0, step.1)
+  reason : (mode : Mode) (request : Request) → Step mode faults old request (refused refusal) new → HasReason mode request
+  reason closed (open_store opening) step = inl (step.cause, step.comes)
   reason closed abandon step = absurd (cc)
   reason closed request step = inr (inl (refl, step.0))
   reason mode (open_store opening) step = absurd step
@@ -19,7 +18,7 @@ module _ (cmp : List ℕ → List ℕ → Ordering) (faults : Faults) (old new :
   reason broken flush step = inr (inr (refl, step.0))
   reason broken (compact_range from to) step = inr (inr (refl, step.0))
   reason broken close step = inr (inr (refl, step.0))
-  reason mode request step = inl (step.0, step.1)
+  reason mode request step = inl (step.cause, step.comes)
 
 pub refusal_has_cause : RefusalHasCause
-refusal_has_cause cmp faults old new request refusal step = reason cmp faults old new refusal old.mode request step.step
+refusal_has_cause faults old new request refusal step = reason faults old new refusal old.mode request step

@@ -1,7 +1,6 @@
 -- The steps by which a store that is one log is closed or abandoned: one for each way in which the calls end.
 use Rattle.std.proofs.Common.{◌≡◌, ◌≢◌, ◌+◌, ◌-◌, ◌^◌, ◌⊎◌, cond, ⊎_elim, inl, inr, ℕ, Bool, false, List, length, refl, sym, ◌∙◌, ap, subst, arith, Some, None, Ok, Err}
 use Rattle.std.specs.Prelude.{Contains, IsTrue, Result, string_bytes}
-use Rattle.std.specs.declared.cmp.Ordering.{Ordering}
 use Rattle.leveldb_base.specs.declared.error.Status.{Status}
 use Rattle.leveldb_base.specs.Error.{text_of}
 use Rattle.leveldb_base.specs.History.{entries_of, SameView}
@@ -15,15 +14,15 @@ use Rattle.rusty_leveldb.specs.declared.db_impl.engine.Mode.TheVariants.{Open, B
 use Rattle.leveldb_version.specs.Paths.{lock_path}
 use Rattle.rusty_leveldb.specs.OneLog.{log_path}
 use Rattle.rusty_leveldb.specs.State as machine
-use Rattle.rusty_leveldb.specs.State.{State, Request, close, abandon, Answer, done, refused, open_mode, broken, closed}
+use Rattle.rusty_leveldb.specs.State.{State, Request, close, abandon, Answer, done, refused, open_mode, closed}
 use Rattle.rusty_leveldb.specs.Causes.{Faults, Cause, out_of_memory, device_failed, Comes, ReachesDevice}
-use Rattle.rusty_leveldb.specs.Machine.{StepIn, Responds}
-use Rattle.rusty_leveldb.specs.Serves.{Reads, SameBytes, StandsFor, IsSpared, Represents, done_or, refusal_of, faults_between}
-use Rattle.rusty_leveldb.specs.Engine.{Recalls, WritesOn, mode_of, scene, Answers}
+use Rattle.rusty_leveldb.specs.Machine.{Step, Responds}
+use Rattle.rusty_leveldb.specs.Serves.{SameBytes, StandsFor, IsSpared, Represents, done_or, refusal_of, faults_between}
+use Rattle.rusty_leveldb.specs.Engine.{Recalls, WritesOn, mode_of, Answers}
 use Rattle.rusty_leveldb.specs.Recovery.{IsErrorFor}
 use Rattle.rusty_leveldb.proofs.Ended.{broke, ended, broke_still, ended_still, broke_covered, ended_covered}
 use Rattle.rusty_leveldb.proofs.Writes.Stands.{is_open as open_store}
-use Rattle.rusty_leveldb.proofs.Writes.Found.{found_goes}
+use Rattle.rusty_leveldb.proofs.Writes.Found.{memory_found}
 use Rattle.rusty_leveldb.proofs.Writes.Moments.{risk_at, moments_none, moments_still, sync_moments, with_none}
 use Rattle.rusty_leveldb.proofs.Others.{beside_but, but_same, others_with, others_but_log, others_still, spared_still, bytes_same, bytes_synced}
 use Rattle.leveldb_env.specs.Options.{Boxed}
@@ -35,10 +34,10 @@ none_some : {A : Type 0} {x : A} → None ≡ Some x → ⊥
 none_some e = cc
 
 -- why a sync of a log that is there was refused
-sync_cause : (models_disk : Bool) (name : List ℕ) (told : Observed) (file : File) (before now : ℕ) (old : State) (status : Status) → told.disk.files name ≡ Some file
-    → HasCause {T = Unit {0}} (IsGone models_disk name told) before now (Err status) → (cause : Cause) × Comes (faults_between before now) old close (refusal_of status) cause
-sync_cause models_disk name told file before now old status there cause = ⊎_elim
-    (λ gone. ⊎_elim (λ memory. (out_of_memory, (tt, memory.0, ap text_of memory.1))) (λ missing. absurd (none_some (sym missing.2 ∙ there))) gone)
+sync_cause : (models_disk : Bool) (name : List ℕ) (told : Observed) (file : File) (before now : ℕ) (old : State) (raw status : Status) → IsErrorFor raw status → told.disk.files name ≡ Some file
+    → HasCause {T = Unit {0}} (IsGone models_disk name told) before now (Err raw) → (cause : Cause) × Comes (faults_between before now) old close (refusal_of status) cause
+sync_cause models_disk name told file before now old raw status error there cause = ⊎_elim
+    (λ gone. ⊎_elim (λ memory. let found = memory_found raw status error memory in (out_of_memory, (tt, found.0, ap text_of found.1))) (λ missing. absurd (none_some (sym missing.2 ∙ there))) gone)
     (λ counted. (device_failed, (tt, ⊎_elim (λ more. inl (omega arith)) (λ full. inr full.0) counted)))
     cause.cause
 
@@ -71,23 +70,23 @@ freed_other lock name locked differs = ap (λ b. cond b false (locked name)) (by
 -- ---- modes
 
 -- an engine that isn't closed responds to an abandon
-abandons : (cmp : List ℕ → List ℕ → Ordering) (faults : Faults) (old new : State) (answer : Answer) (mode : Mode) → (mode ≡ Closed → ⊥) → Responds cmp faults old abandon answer new
-    → StepIn cmp (mode_of mode) faults old abandon answer new
-abandons cmp faults old new answer Open differs responds = responds
-abandons cmp faults old new answer Broken differs responds = responds
-abandons cmp faults old new answer Closed differs responds = absurd (differs refl)
+abandons : (faults : Faults) (old new : State) (answer : Answer) (mode : Mode) → (mode ≡ Closed → ⊥) → Responds faults old abandon answer new
+    → Step (mode_of mode) faults old abandon answer new
+abandons faults old new answer Open differs responds = responds
+abandons faults old new answer Broken differs responds = responds
+abandons faults old new answer Closed differs responds = absurd (differs refl)
 
 -- ---- the exits
 
-module _ {E C FP F : Type 0} {B : Boxed} (env : Ghosts E F) (cmp : List ℕ → List ℕ → Ordering) where
+module _ {E C FP F : Type 0} {B : Boxed} (env : Ghosts E F) where
   -- only the engine's log, its writer and its mode changed
   abbrev pub OnlyLog : EngineOf E C FP F B → EngineOf E C FP F B → Type 0
   OnlyLog before after = after ≡ record before { log = after.log; writer = after.writer; mode = after.mode }
 
   -- an engine that broke remembers what it did
-  recalls_broke : (store : List ℕ) (before after : EngineOf E C FP F B) (disk now : Disk) (old : State) (covered : ℕ) → Recalls env store before disk old → old.mode ≡ open_mode
-      → OnlyLog before after → after.mode ≡ Broken → Recalls env store after now (broke old covered)
-  recalls_broke store before after disk now old covered recalls opened only is_broken =
+  recalls_broke : (store : List ℕ) (before after : EngineOf E C FP F B) (disk now : Disk) (old : State) (durable : ℕ) → Recalls env store before disk old → old.mode ≡ open_mode
+      → OnlyLog before after → after.mode ≡ Broken → Recalls env store after now (broke old durable)
+  recalls_broke store before after disk now old durable recalls opened only is_broken =
       let shown = recalls.shows (λ is. absurd (not_closed old.mode opened is)) in
       record {
         mode = ap mode_of is_broken;
@@ -103,44 +102,33 @@ module _ {E C FP F : Type 0} {B : Boxed} (env : Ghosts E F) (cmp : List ℕ → 
       not_closed : (mode : machine.Mode) → mode ≡ open_mode → mode ≡ closed → ⊥
       not_closed mode a b = cc
 
-  -- the log refused the sync: the store is broken
-  log_refused : (before after : EngineOf E C FP F B) (at now : E) (status : Status) → before.mode ≡ Open → OnlyLog before after → after.mode ≡ Broken
-      → Flushes (Syncs env) before.writer (opened at before.log) (Err status) after.writer (opened now after.log)
-      → Answers env cmp (Some before) at close (refused (refusal_of status)) (Some after) now
-  log_refused before after at now status is_open only is_broken flushed store told old represents =
-      let syncs = flushed.flushed in
+  -- the log refused the sync: the store is broken, and the error is damage where the log is missing
+  pub sync_refused : (before after : EngineOf E C FP F B) (at now : E) (status : Status) → before.mode ≡ Open → OnlyLog before after → after.mode ≡ Broken
+      → (raw : Status) × IsErrorFor raw status × Flushes (Syncs env) before.writer (opened at before.log) (Err raw) after.writer (opened now after.log)
+      → Answers env (Some before) at close (refused (refusal_of status)) (Some after) now
+  sync_refused before after at now status is_open only is_broken refusal store told old represents =
+      let syncs = refusal.2.flushed in
       let mode : old.mode ≡ open_mode = sym represents.memory_is.mode ∙ ap mode_of is_open in
       let writes = represents.memory_is.writes mode in
-      let cause = sync_cause env.models_disk (env.name_of before.log) (env.observed at) writes.file (env.failures at) (env.failures now) old status (ap (env.observed at).disk.files writes.name ∙ writes.there) syncs.cause in
+      let cause = sync_cause env.models_disk (env.name_of before.log) (env.observed at) writes.file (env.failures at) (env.failures now) old refusal.0 status refusal.1 (ap (env.observed at).disk.files writes.name ∙ writes.there) syncs.cause in
       record {
-        new = broke old old.covered;
+        new = broke old old.durable;
         represents = record {
           disk_is = broke_still store (env.observed at).disk (env.observed now).disk old represents.disk_is (syncs.undone told) mode (ap (λ (locked : List ℕ → Bool). locked (lock_path store)) (syncs.locks told) ∙ represents.disk_is.locked);
-          memory_is = recalls_broke store before after (env.observed at).disk (env.observed now).disk old old.covered represents.memory_is mode only is_broken;
+          memory_is = recalls_broke store before after (env.observed at).disk (env.observed now).disk old old.durable represents.memory_is mode only is_broken;
         };
-        step = record {
-          later = syncs.cause.later;
-          step = subst (λ m. StepIn cmp m (faults_between (env.failures at) (env.failures now)) old close (refused (refusal_of status)) (broke old old.covered)) (sym mode) (cause.0, cause.1, record { state = refl; covered = inl refl });
-        };
+        later = syncs.cause.later;
+        step = subst (λ m. Step m (faults_between (env.failures at) (env.failures now)) old close (refused (refusal_of status)) (broke old old.durable)) (sym mode) (record { cause = cause.0; comes = cause.1; leaves = record { state = refl; durable = inl refl } });
         moments = sync_moments env store before at old (open_store env store before at old is_open represents) now told syncs.does;
         files = record { untouched = λ never. absurd never; refused = λ never. absurd never; stopped = λ not_open takes. absurd (not_open mode); bytes = λ syncing. bytes_same (env.observed at).disk.files (env.observed now).disk.files (syncs.undone told) };
         others = others_but_log store (env.observed at).disk (env.observed now).disk (but_same (log_path store) (env.observed at).disk.files (env.observed now).disk.files (syncs.undone told)) (syncs.locks told);
         beside = λ opens_not. beside_but store (env.observed at).disk.files (env.observed now).disk.files (but_same (log_path store) (env.observed at).disk.files (env.observed now).disk.files (syncs.undone told));
       }
 
-  -- and that is told, or damage where the log is missing
-  pub sync_refused : (before after : EngineOf E C FP F B) (at now : E) (status : Status) → before.mode ≡ Open → OnlyLog before after → after.mode ≡ Broken
-      → (raw : Status) × IsErrorFor raw status × Flushes (Syncs env) before.writer (opened at before.log) (Err raw) after.writer (opened now after.log)
-      → Answers env cmp (Some before) at close (refused (refusal_of status)) (Some after) now
-  sync_refused before after at now status is_open only is_broken refusal store told old represents =
-      found_goes store (Recalls env store) cmp (scene env cmp (Some before) at) close (scene env cmp (Some after) now) old (sym represents.memory_is.mode ∙ ap mode_of is_open)
-      (λ s new. (λ step. step, λ responds. responds)) refusal.0 status refusal.1
-      (log_refused before after at now refusal.0 is_open only is_broken refusal.2 store told old represents)
-
   -- an engine that was closed remembers that alone
-  recalls_ended : (store : List ℕ) (before after : EngineOf E C FP F B) (disk now : Disk) (old : State) (covered : ℕ) (locked : Bool) → Recalls env store before disk old
-      → OnlyLog before after → after.mode ≡ Closed → Recalls env store after now (ended old covered locked)
-  recalls_ended store before after disk now old covered locked recalls only is_closed = record {
+  recalls_ended : (store : List ℕ) (before after : EngineOf E C FP F B) (disk now : Disk) (old : State) (durable : ℕ) (locked : Bool) → Recalls env store before disk old
+      → OnlyLog before after → after.mode ≡ Closed → Recalls env store after now (ended old durable locked)
+  recalls_ended store before after disk now old durable locked recalls only is_closed = record {
     mode = ap mode_of is_closed;
     lock = ap (λ (e : EngineOf E C FP F B). string_bytes e.lock) only ∙ recalls.lock;
     shows = λ not. absurd (not refl);
@@ -151,7 +139,7 @@ module _ {E C FP F : Type 0} {B : Boxed} (env : Ghosts E F) (cmp : List ℕ → 
 
   module _ (before after : EngineOf E C FP F B) (at mid now : E) (is_open : before.mode ≡ Open) (only : OnlyLog before after)
       (flushed : Flushes (Syncs env) before.writer (opened at before.log) (Ok tt) after.writer (opened mid after.log)) (lock : List ℕ) (lock_is : lock ≡ string_bytes after.lock) where
-    module _ (told : IsTrue env.models_disk) (store : List ℕ) (old : State) (represents : Represents store (Reads store) (Recalls env store) (Some before) (env.observed at).disk old)
+    module _ (told : IsTrue env.models_disk) (store : List ℕ) (old : State) (represents : Represents store (Recalls env store) (Some before) (env.observed at).disk old)
         (still : (env.observed now).disk.files ≡ (env.observed mid).disk.files) where
       mode : old.mode ≡ open_mode
       mode = sym represents.memory_is.mode ∙ ap mode_of is_open
@@ -171,27 +159,27 @@ module _ {E C FP F : Type 0} {B : Boxed} (env : Ghosts E F) (cmp : List ℕ → 
       same_lock : lock ≡ lock_path store
       same_lock = lock_is ∙ ap (λ (e : EngineOf E C FP F B). string_bytes e.lock) only ∙ represents.memory_is.lock
 
-      -- broken, with all covered, where the lock is as it was
-      broke_now : (env.observed now).disk.locked ≡ (env.observed mid).disk.locked → StandsFor store (Reads store) (env.observed now).disk (broke old (length old.history))
+      -- broken, with all durable, where the lock is as it was
+      broke_now : (env.observed now).disk.locked ≡ (env.observed mid).disk.locked → StandsFor store (env.observed now).disk (broke old (length old.history))
       broke_now same_locks = broke_covered store (env.observed at).disk (env.observed now).disk old represents.disk_is mode all
           (ap (λ (locked : List ℕ → Bool). locked (lock_path store)) (same_locks ∙ flushed.flushed.locks told) ∙ represents.disk_is.locked)
 
-      -- closed, with all covered, where the lock is free
-      ended_now : (env.observed now).disk.locked ≡ lock_set lock false (env.observed mid).disk.locked → StandsFor store (Reads store) (env.observed now).disk (ended old (length old.history) false)
+      -- closed, with all durable, where the lock is free
+      ended_now : (env.observed now).disk.locked ≡ lock_set lock false (env.observed mid).disk.locked → StandsFor store (env.observed now).disk (ended old (length old.history) false)
       ended_now relocked = ended_covered store (env.observed at).disk (env.observed now).disk old represents.disk_is mode all false
           (ap (λ (locked : List ℕ → Bool). locked (lock_path store)) relocked ∙ ap (λ l. lock_set l false (env.observed mid).disk.locked (lock_path store)) same_lock ∙ freed (lock_path store) (env.observed mid).disk.locked)
 
     -- the moments of both
-    given_back : {result : Result (Unit {0}) Status} (told : IsTrue env.models_disk) (store : List ℕ) (old : State) (represents : Represents store (Reads store) (Recalls env store) (Some before) (env.observed at).disk old)
-        → ChangesFiles env.models_disk same FilesUnchanged (env.observed mid) (env.observed now) result → Run (IsSpared store (Reads store) old (risk_at old.history (old.last + 0))) (env.observed at) (env.observed now)
+    given_back : {result : Result (Unit {0}) Status} (told : IsTrue env.models_disk) (store : List ℕ) (old : State) (represents : Represents store (Recalls env store) (Some before) (env.observed at).disk old)
+        → ChangesFiles env.models_disk same FilesUnchanged (env.observed mid) (env.observed now) result → Run (IsSpared store old (risk_at old.format old.history (old.last + 0))) (env.observed at) (env.observed now)
     given_back told store old represents does =
         let run = sync_moments env store before at old (open_store env store before at old is_open represents) mid told flushed.flushed.does in
-        call told run (λ files still. subst (IsSpared store (Reads store) old (risk_at old.history (old.last + 0))) (sym still) run.has) does
+        call told run (λ files still. subst (IsSpared store old (risk_at old.format old.history (old.last + 0))) (sym still) run.has) does
 
     -- it was refused: the store is broken
     pub unlock_refused : (status : Status) → ChangesFiles {T = Unit {0}} env.models_disk same FilesUnchanged (env.observed mid) (env.observed now) (Err status)
         → ChangesLocks {T = Unit {0}} env.models_disk (lock_set lock false) (env.observed mid) (env.observed now) (Err status) → HasCause {T = Unit {0}} (λ _. ⊥) (env.failures mid) (env.failures now) (Err status)
-        → Answers env cmp (Some before) at close (refused (refusal_of status)) (Some (record after { mode = Broken })) now
+        → Answers env (Some before) at close (refused (refusal_of status)) (Some (record after { mode = Broken })) now
     unlock_refused status does relocks caused store told old represents =
         let is = mode told store old represents (does.now told) in
         let counted : env.failures mid ≡ env.failures at = flushed.flushed.cause.ok in
@@ -202,10 +190,8 @@ module _ {E C FP F : Type 0} {B : Boxed} (env : Ghosts E F) (cmp : List ℕ → 
             disk_is = broke_now told store old represents (does.now told) (relocks told);
             memory_is = recalls_broke store before (record after { mode = Broken }) (env.observed at).disk (env.observed now).disk old (length old.history) represents.memory_is is (ap (λ (e : EngineOf E C FP F B). record e { mode = Broken }) only) refl;
           };
-          step = record {
-            later = omega (arith, caused.later);
-            step = subst (λ m. StepIn cmp m (faults_between (env.failures at) (env.failures now)) old close (refused (refusal_of status)) (broke old (length old.history))) (sym is) (cause.0, cause.1, record { state = refl; covered = inr refl });
-          };
+          later = omega (arith, caused.later);
+          step = subst (λ m. Step m (faults_between (env.failures at) (env.failures now)) old close (refused (refusal_of status)) (broke old (length old.history))) (sym is) (record { cause = cause.0; comes = cause.1; leaves = record { state = refl; durable = inr refl } });
           moments = given_back told store old represents does;
           files = record { untouched = λ never. absurd never; refused = λ never. absurd never; stopped = λ not_open takes. absurd (not_open is); bytes = λ syncing. synced_bytes told store old represents (does.now told) };
           others = others_but_log store (env.observed at).disk (env.observed now).disk (but_log told store old represents (does.now told)) (relocks told ∙ flushed.flushed.locks told);
@@ -215,7 +201,7 @@ module _ {E C FP F : Type 0} {B : Boxed} (env : Ghosts E F) (cmp : List ℕ → 
     -- it was done: the store is closed
     pub unlocked : ChangesFiles {T = Unit {0}} env.models_disk same FilesUnchanged (env.observed mid) (env.observed now) (Ok tt)
         → ChangesLocks {T = Unit {0}} env.models_disk (lock_set lock false) (env.observed mid) (env.observed now) (Ok tt) → HasCause {T = Unit {0}} (λ _. ⊥) (env.failures mid) (env.failures now) (Ok tt)
-        → Answers env cmp (Some before) at close done (Some (record after { mode = Closed })) now
+        → Answers env (Some before) at close done (Some (record after { mode = Closed })) now
     unlocked does relocks caused store told old represents =
         let is = mode told store old represents (does.now told) in
         let counted : env.failures mid ≡ env.failures at = flushed.flushed.cause.ok in
@@ -225,10 +211,8 @@ module _ {E C FP F : Type 0} {B : Boxed} (env : Ghosts E F) (cmp : List ℕ → 
             disk_is = ended_now told store old represents (does.now told) (relocks told);
             memory_is = recalls_ended store before (record after { mode = Closed }) (env.observed at).disk (env.observed now).disk old (length old.history) false represents.memory_is (ap (λ (e : EngineOf E C FP F B). record e { mode = Closed }) only) refl;
           };
-          step = record {
-            later = omega (arith, caused.later);
-            step = subst (λ m. StepIn cmp m (faults_between (env.failures at) (env.failures now)) old close done (ended old (length old.history) false)) (sym is) (λ never. never, record { state = refl });
-          };
+          later = omega (arith, caused.later);
+          step = subst (λ m. Step m (faults_between (env.failures at) (env.failures now)) old close done (ended old (length old.history) false)) (sym is) (record { operands = λ never. never; numbers = λ never. never }, record { state = refl });
           moments = with_none env store before at old (open_store env store before at old is_open represents) now (given_back told store old represents does);
           files = record { untouched = λ never. absurd never; refused = λ never. absurd never; stopped = λ not_open takes. absurd (not_open is); bytes = λ syncing. synced_bytes told store old represents (does.now told) };
           others = others_with store (env.observed at).disk (env.observed now).disk (but_log told store old represents (does.now told))
@@ -241,13 +225,14 @@ module _ {E C FP F : Type 0} {B : Boxed} (env : Ghosts E F) (cmp : List ℕ → 
   -- ---- a store that is abandoned
 
   -- it was closed before
-  pub abandoned_closed : (before : EngineOf E C FP F B) (at : E) → before.mode ≡ Closed → Answers env cmp (Some before) at abandon done None at
+  pub abandoned_closed : (before : EngineOf E C FP F B) (at : E) → before.mode ≡ Closed → Answers env (Some before) at abandon done None at
   abandoned_closed before at is_closed store told old represents =
       let is : old.mode ≡ closed = sym represents.memory_is.mode ∙ ap mode_of is_closed in
       record {
         new = old;
         represents = record { disk_is = represents.disk_is; memory_is = is };
-        step = record { later = omega arith; step = subst (λ m. StepIn cmp m (faults_between (env.failures at) (env.failures at)) old abandon done old) (sym is) (refl, refl) };
+        later = omega arith;
+        step = subst (λ m. Step m (faults_between (env.failures at) (env.failures at)) old abandon done old) (sym is) (refl, refl);
         moments = moments_none store abandon old (env.observed at) represents.disk_is;
         files = spared_still abandon done old old (env.observed at).disk.files;
         others = others_still store (env.observed at).disk;
@@ -258,20 +243,18 @@ module _ {E C FP F : Type 0} {B : Boxed} (env : Ghosts E F) (cmp : List ℕ → 
     -- the lock wasn't given back
     pub abandon_refused : (status : Status) → ChangesFiles {T = Unit {0}} env.models_disk same FilesUnchanged (env.observed at) (env.observed now) (Err status)
         → ChangesLocks {T = Unit {0}} env.models_disk (lock_set lock false) (env.observed at) (env.observed now) (Err status) → HasCause {T = Unit {0}} (λ _. ⊥) (env.failures at) (env.failures now) (Err status)
-        → Answers env cmp (Some before) at abandon (refused (refusal_of status)) None now
+        → Answers env (Some before) at abandon (refused (refusal_of status)) None now
     abandon_refused status does relocks caused store told old represents =
         let cause = unlock_cause (env.failures at) (env.failures at) (env.failures now) old abandon status tt refl caused in
         record {
-          new = ended old old.covered old.locked;
+          new = ended old old.durable old.locked;
           represents = record {
             disk_is = ended_still store (env.observed at).disk (env.observed now).disk old represents.disk_is (does.now told) old.locked (ap (λ (locked : List ℕ → Bool). locked (lock_path store)) (relocks told) ∙ represents.disk_is.locked);
             memory_is = refl;
           };
-          step = record {
-            later = caused.later;
-            step = subst (λ m. StepIn cmp m (faults_between (env.failures at) (env.failures now)) old abandon (refused (refusal_of status)) (ended old old.covered old.locked)) represents.memory_is.mode
-                (abandons cmp (faults_between (env.failures at) (env.failures now)) old (ended old old.covered old.locked) (refused (refusal_of status)) before.mode differs (cause.0, cause.1, record { state = refl }));
-          };
+          later = caused.later;
+          step = subst (λ m. Step m (faults_between (env.failures at) (env.failures now)) old abandon (refused (refusal_of status)) (ended old old.durable old.locked)) represents.memory_is.mode
+              (abandons (faults_between (env.failures at) (env.failures now)) old (ended old old.durable old.locked) (refused (refusal_of status)) before.mode differs (record { cause = cause.0; comes = cause.1; leaves = record { state = refl } }));
           moments = moments_still store old told represents.disk_is does;
           files = record { untouched = λ touches. does.now told; refused = λ never. absurd never; stopped = λ not_open takes. does.now told; bytes = λ never. absurd never };
           others = others_but_log store (env.observed at).disk (env.observed now).disk (but_same (log_path store) (env.observed at).disk.files (env.observed now).disk.files (does.now told)) (relocks told);
@@ -281,21 +264,19 @@ module _ {E C FP F : Type 0} {B : Boxed} (env : Ghosts E F) (cmp : List ℕ → 
     -- the lock is free
     pub abandoned : ChangesFiles {T = Unit {0}} env.models_disk same FilesUnchanged (env.observed at) (env.observed now) (Ok tt)
         → ChangesLocks {T = Unit {0}} env.models_disk (lock_set lock false) (env.observed at) (env.observed now) (Ok tt) → HasCause {T = Unit {0}} (λ _. ⊥) (env.failures at) (env.failures now) (Ok tt)
-        → Answers env cmp (Some before) at abandon done None now
+        → Answers env (Some before) at abandon done None now
     abandoned does relocks caused store told old represents =
         let same_lock : lock ≡ lock_path store = lock_is ∙ represents.memory_is.lock in
         record {
-          new = ended old old.covered false;
+          new = ended old old.durable false;
           represents = record {
             disk_is = ended_still store (env.observed at).disk (env.observed now).disk old represents.disk_is (does.now told) false
                 (ap (λ (locked : List ℕ → Bool). locked (lock_path store)) (relocks told) ∙ ap (λ l. lock_set l false (env.observed at).disk.locked (lock_path store)) same_lock ∙ freed (lock_path store) (env.observed at).disk.locked);
             memory_is = refl;
           };
-          step = record {
-            later = caused.later;
-            step = subst (λ m. StepIn cmp m (faults_between (env.failures at) (env.failures now)) old abandon done (ended old old.covered false)) represents.memory_is.mode
-                (abandons cmp (faults_between (env.failures at) (env.failures now)) old (ended old old.covered false) done before.mode differs (λ never. never, record { state = refl }));
-          };
+          later = caused.later;
+          step = subst (λ m. Step m (faults_between (env.failures at) (env.failures now)) old abandon done (ended old old.durable false)) represents.memory_is.mode
+              (abandons (faults_between (env.failures at) (env.failures now)) old (ended old old.durable false) done before.mode differs (record { operands = λ never. never; numbers = λ never. never }, record { state = refl }));
           moments = moments_still store old told represents.disk_is does;
           files = record { untouched = λ touches. does.now told; refused = λ never. absurd never; stopped = λ not_open takes. does.now told; bytes = λ never. absurd never };
           others = others_with store (env.observed at).disk (env.observed now).disk (but_same (log_path store) (env.observed at).disk.files (env.observed now).disk.files (does.now told))
@@ -306,6 +287,6 @@ module _ {E C FP F : Type 0} {B : Boxed} (env : Ghosts E F) (cmp : List ℕ → 
     -- either
     pub abandon_answers : (result : Result (Unit {0}) Status) → ChangesFiles env.models_disk same FilesUnchanged (env.observed at) (env.observed now) result
         → ChangesLocks env.models_disk (lock_set lock false) (env.observed at) (env.observed now) result → HasCause (λ _. ⊥) (env.failures at) (env.failures now) result
-        → Answers env cmp (Some before) at abandon (done_or result) None now
+        → Answers env (Some before) at abandon (done_or result) None now
     abandon_answers (Ok nothing) does relocks caused = abandoned does relocks caused
     abandon_answers (Err status) does relocks caused = abandon_refused status does relocks caused

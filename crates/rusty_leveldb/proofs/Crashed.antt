@@ -1,4 +1,4 @@
--- After a crash the disk that is left holds what it carries, all of it covered; and so on through later crashes.
+-- After a crash the disk that is left holds what it carries, all of it durable; and so on through later crashes.
 use Rattle.std.proofs.Common.{◌≡◌, ◌≤◌, ◌+◌, inl, ℕ, List, [], ◌∷◌, ◌++◌, length, refl, sym, ◌∙◌, ap, subst, arith, false, Option, Some, None, append-nil}
 use Rattle.std.proofs.lemmas.List.{take_all}
 use Rattle.leveldb_base.specs.History.{History, IsHistory, entries_of, greatest}
@@ -9,7 +9,7 @@ use Rattle.leveldb_version.specs.Contents.{Store, Contents}
 use Rattle.leveldb_version.specs.Holds.{Carries, CarriesPrefix, IsSafe, Holds, IsHonest}
 use Rattle.rusty_leveldb.specs.State.{State, closed}
 use Rattle.rusty_leveldb.specs.Machine.{Risk, Crashes}
-use Rattle.rusty_leveldb.specs.Serves.{StandsFor, IsSpared}
+use Rattle.rusty_leveldb.specs.Serves.{Reads, StandsFor, IsSpared}
 use Rattle.rusty_leveldb.proofs.Bounds.{carries_more, carries_just}
 use Rattle.rusty_leveldb.proofs.Histories.{history_part, greatest_part}
 
@@ -30,9 +30,9 @@ files_again files left again first second = λ i name. left_again (files name) (
 
 module _ (store : List ℕ) (reads : Files → Contents → Type 0) where
   -- the disk that is left holds what it carries, with the store that it has
-  pub crash_holds : {allowed : Store → Type 0} (files left : Files) (bound covered : ℕ) (history : History) → IsSafe store reads allowed bound covered history files → FilesCrashTo files left → IsHonest store files left
-      → (c : CarriesPrefix store reads allowed bound covered history left) × Holds store reads (λ now. now ≡ c.carries.contents.store) left c.part bound (length c.part) None
-  crash_holds files left bound covered history safe leaves honest =
+  pub crash_holds : {allowed : Store → Type 0} (files left : Files) (bound durable : ℕ) (history : History) → IsSafe store reads allowed bound durable history files → FilesCrashTo files left → IsHonest store files left
+      → (c : CarriesPrefix store reads allowed bound durable history left) × Holds store reads (λ now. now ≡ c.carries.contents.store) left c.part bound (length c.part) None
+  crash_holds files left bound durable history safe leaves honest =
       let c = safe left leaves honest in
       let now = carries_more store reads bound (bound + 0) (omega arith) c.part left (carries_just store reads bound c.part left c.carries) in (
         c,
@@ -46,32 +46,34 @@ module _ (store : List ℕ) (reads : Files → Contents → Type 0) where
         },
       )
 
-  -- the crash row
-  pub crash_row : (old : State) (risk : Risk) (files : Files) (left : Disk) → IsHistory risk.history → greatest (entries_of risk.history) ≤ risk.bound → IsSpared store reads old risk files
-      → FilesCrashTo files left.files → IsHonest store files left.files → ((name : List ℕ) → left.locked name ≡ false) → (then : State) × Crashes old risk then × StandsFor store reads left then
+-- the crash row
+module _ (store : List ℕ) where
+  pub crash_row : (old : State) (risk : Risk) (files : Files) (left : Disk) → IsHistory risk.history → greatest (entries_of risk.history) ≤ risk.bound → IsSpared store old risk files
+      → FilesCrashTo files left.files → IsHonest store files left.files → ((name : List ℕ) → left.locked name ≡ false) → (then : State) × Crashes old risk then × StandsFor store left then
   crash_row old risk files left is reached spared leaves honest free =
-      let found = crash_holds files left.files risk.bound old.covered risk.history spared leaves honest in
+      let found = crash_holds store (Reads store risk.format) files left.files risk.bound old.durable risk.history spared leaves honest in
       let c = found.0 in
-      let low = greatest_part old.covered risk.history c.part c.prefix in
+      let low = greatest_part old.durable risk.history c.part c.prefix in
       let then : State = record {
         history = c.part;
         last = risk.bound;
-        covered = length c.part;
+        durable = length c.part;
         held = [];
         given = [];
         pending = None;
         mode = closed;
         locked = false;
         store = c.carries.contents.store;
+        format = risk.format;
       } in (
         then,
         record { prefix = c.prefix; stays = c.carries.matches.store; state = refl },
         record {
           is_state = record {
-            history = history_part old.covered risk.history c.part is c.prefix;
+            history = history_part old.durable risk.history c.part is c.prefix;
             reached = omega arith;
             pending = omega arith;
-            covered = omega arith;
+            durable = omega arith;
             held = λ one' there. absurd (in_none one' there);
             mode = record { held = refl; given = refl };
           };

@@ -1,7 +1,6 @@
 -- A look-up is a step of the machine that leaves the state as it is.
 use Rattle.std.proofs.Common.{◌≡◌, ◌≤◌, inl, inr, ℕ, List, length, Option, Some, None, refl, sym, ◌∙◌, ap, subst, arith}
 use Rattle.std.specs.Prelude.{IsErrAnd, Result, Ok, Err}
-use Rattle.std.specs.declared.cmp.Ordering.{Ordering}
 use Rattle.leveldb_base.specs.declared.error.Status.{Status}
 use Rattle.leveldb_base.specs.declared.error.StatusCode.TheVariants.{InvalidArgument}
 use Rattle.leveldb_base.specs.Error.{text_of, IsOutOfMemory}
@@ -15,9 +14,9 @@ use Rattle.rusty_leveldb.specs.declared.db_impl.engine.Mode.TheVariants.{Open, B
 use Rattle.rusty_leveldb.specs.State as machine
 use Rattle.rusty_leveldb.specs.State.{State, IsState, get, Answer, found, refused}
 use Rattle.rusty_leveldb.specs.Causes.{Faults, bad_operand, out_of_memory, Misfits, IsLongKey}
-use Rattle.rusty_leveldb.specs.Machine.{StepIn, Responds}
+use Rattle.rusty_leveldb.specs.Machine.{Step, Responds}
 use Rattle.rusty_leveldb.specs.Serves.{refusal_of, found_or}
-use Rattle.rusty_leveldb.specs.Engine.{IsShut, mode_of, Remembers, Recalls, AnswersStill}
+use Rattle.rusty_leveldb.specs.Engine.{IsClosed, mode_of, Remembers, Recalls, AnswersStill}
 use Rattle.rusty_leveldb.proofs.Writes.Moments.{moments_none}
 use Rattle.rusty_leveldb.proofs.Others.{others_still, spared_still}
 use Rattle.leveldb_env.specs.Options.{Boxed}
@@ -44,22 +43,23 @@ same_looks_up these those s key (Some value) same shows = (same key value).0 sho
 
 -- ---- a call that leaves all as it is
 
-shut_mode : (mode : Mode) → mode_of mode ≡ machine.closed → IsShut mode
+shut_mode : (mode : Mode) → mode_of mode ≡ machine.closed → IsClosed mode
 shut_mode Open e = absurd (cc)
 shut_mode Broken e = absurd (cc)
 shut_mode Closed e = refl
 
-module _ {E C FP F : Type 0} {B : Boxed} (env : Ghosts E F) (cmp : List ℕ → List ℕ → Ordering) (engine : EngineOf E C FP F B) (key : List ℕ) where
+module _ {E C FP F : Type 0} {B : Boxed} (env : Ghosts E F) (engine : EngineOf E C FP F B) (key : List ℕ) where
   -- the state answers so and stays
   abbrev Stays : Answer → State → Type 0
-  Stays answer old = (faults : Faults) → StepIn cmp old.mode faults old (get None key) answer old
+  Stays answer old = (faults : Faults) → Step old.mode faults old (get None key) answer old
 
   still : (answer : Answer) → ((store : List ℕ) (disk : Disk) (old : State) → IsState old → Recalls env store engine disk old → Stays answer old)
-      → AnswersStill env cmp engine (get None key) answer
+      → AnswersStill env engine (get None key) answer
   still answer stays at store told old represents = record {
     new = old;
     represents = represents;
-    step = record { later = omega arith; step = stays store (env.observed at).disk old represents.disk_is.is_state represents.memory_is _ };
+    later = omega arith;
+    step = stays store (env.observed at).disk old represents.disk_is.is_state represents.memory_is _;
     moments = moments_none store (get None key) old (env.observed at) represents.disk_is;
     files = spared_still (get None key) answer old old (env.observed at).disk.files;
     others = others_still store (env.observed at).disk;
@@ -67,33 +67,33 @@ module _ {E C FP F : Type 0} {B : Boxed} (env : Ghosts E F) (cmp : List ℕ → 
   }
 
   -- a store that isn't closed responds in either mode
-  responds_in : (mode : machine.Mode) (faults : Faults) (old : State) (answer : Answer) → (mode ≡ machine.closed → ⊥) → Responds cmp faults old (get None key) answer old
-      → StepIn cmp mode faults old (get None key) answer old
+  responds_in : (mode : machine.Mode) (faults : Faults) (old : State) (answer : Answer) → (mode ≡ machine.closed → ⊥) → Responds faults old (get None key) answer old
+      → Step mode faults old (get None key) answer old
   responds_in machine.open_mode faults old answer usable responds = responds
   responds_in machine.broken faults old answer usable responds = responds
   responds_in machine.closed faults old answer usable responds = absurd (usable refl)
 
-  in_use : (answer : Answer) → (IsShut engine.mode → ⊥)
-      → ((faults : Faults) (store : List ℕ) (old : State) → IsState old → Remembers env store engine old → Responds cmp faults old (get None key) answer old)
-      → AnswersStill env cmp engine (get None key) answer
+  in_use : (answer : Answer) → (IsClosed engine.mode → ⊥)
+      → ((faults : Faults) (store : List ℕ) (old : State) → IsState old → Remembers env store engine old → Responds faults old (get None key) answer old)
+      → AnswersStill env engine (get None key) answer
   in_use answer usable responds = still answer
       (λ store disk old is recalls faults.
       let not_closed : old.mode ≡ machine.closed → ⊥ = λ e. usable (shut_mode engine.mode (recalls.mode ∙ e)) in
       responds_in old.mode faults old answer not_closed (responds faults store old is (recalls.shows not_closed)))
 
-  module _ (usable : IsShut engine.mode → ⊥) where
-    long_refused : (status : Status) → status.code ≡ InvalidArgument → IsLongKey key → AnswersStill env cmp engine (get None key) (refused (refusal_of status))
-    long_refused status code long = in_use (refused (refusal_of status)) usable (λ faults store old is remembers. (bad_operand, (code, inr long), refl))
+  module _ (usable : IsClosed engine.mode → ⊥) where
+    long_refused : (status : Status) → status.code ≡ InvalidArgument → IsLongKey key → AnswersStill env engine (get None key) (refused (refusal_of status))
+    long_refused status code long = in_use (refused (refusal_of status)) usable (λ faults store old is remembers. record { cause = bad_operand; comes = (code, inr long); leaves = refl })
 
     pub get_long : (result : Result (Option (List ℕ)) Status) → IsErrAnd result (λ status. status.code ≡ InvalidArgument) → IsLongKey key
-        → AnswersStill env cmp engine (get None key) (found_or result)
+        → AnswersStill env engine (get None key) (found_or result)
     get_long (Ok value) fails long = absurd fails
     get_long (Err status) code long = long_refused status code long
 
-    starved_refused : (status : Status) → IsOutOfMemory status → AnswersStill env cmp engine (get None key) (refused (refusal_of status))
-    starved_refused status (code, none) = in_use (refused (refusal_of status)) usable (λ faults store old is remembers. (out_of_memory, (tt, code, ap text_of none), refl))
+    starved_refused : (status : Status) → IsOutOfMemory status → AnswersStill env engine (get None key) (refused (refusal_of status))
+    starved_refused status (code, none) = in_use (refused (refusal_of status)) usable (λ faults store old is remembers. record { cause = out_of_memory; comes = (tt, code, ap text_of none); leaves = refl })
 
-    pub get_starved : (result : Result (Option (List ℕ)) Status) → IsErrAnd result IsOutOfMemory → AnswersStill env cmp engine (get None key) (found_or result)
+    pub get_starved : (result : Result (Option (List ℕ)) Status) → IsErrAnd result IsOutOfMemory → AnswersStill env engine (get None key) (found_or result)
     get_starved (Ok value) fails = absurd fails
     get_starved (Err status) starved = starved_refused status starved
 
@@ -105,10 +105,10 @@ module _ {E C FP F : Type 0} {B : Boxed} (env : Ghosts E F) (cmp : List ℕ → 
         (subst (λ (last : ℕ). FindsNewest engine.recent.kept.entries last key newest) remembers.last finds))
 
     found_answer : (newest : Option (Option (List ℕ))) → (IsLongKey key → ⊥) → FindsNewest engine.recent.kept.entries engine.recent.last key newest
-        → AnswersStill env cmp engine (get None key) (found (value_found newest))
+        → AnswersStill env engine (get None key) (found (value_found newest))
     found_answer newest short finds = in_use (found (value_found newest)) usable
         (λ faults store old is remembers. (
-          fits old,
+          record { operands = fits old; numbers = λ never. never },
           (record { sequence = old.last; at_is = refl; looks = found_now newest finds store old is remembers }, refl),
         ))
       where
@@ -118,18 +118,18 @@ module _ {E C FP F : Type 0} {B : Boxed} (env : Ghosts E F) (cmp : List ℕ → 
 
     module _ (short : IsLongKey key → ⊥) where
       -- no entry of the key
-      pub get_missing : FindsNewest engine.recent.kept.entries engine.recent.last key None → AnswersStill env cmp engine (get None key) (found None)
+      pub get_missing : FindsNewest engine.recent.kept.entries engine.recent.last key None → AnswersStill env engine (get None key) (found None)
       get_missing finds = found_answer None short finds
 
       -- a deletion
       pub get_deleted : (value : Option (List ℕ)) → value ≡ None → FindsNewest engine.recent.kept.entries engine.recent.last key (Some value)
-          → AnswersStill env cmp engine (get None key) (found None)
+          → AnswersStill env engine (get None key) (found None)
       get_deleted value none finds =
           found_answer (Some None) short (subst (λ (v : Option (List ℕ)). FindsNewest engine.recent.kept.entries engine.recent.last key (Some v)) none finds)
 
       -- a value, and a copy of it is answered
       pub get_value : (newest : Option (List ℕ)) (value copy : List ℕ) → newest ≡ Some value → copy ≡ value
-          → FindsNewest engine.recent.kept.entries engine.recent.last key (Some newest) → AnswersStill env cmp engine (get None key) (found (Some copy))
+          → FindsNewest engine.recent.kept.entries engine.recent.last key (Some newest) → AnswersStill env engine (get None key) (found (Some copy))
       get_value newest value copy is same finds =
           found_answer (Some (Some copy)) short
           (subst (λ (v : Option (List ℕ)). FindsNewest engine.recent.kept.entries engine.recent.last key (Some v)) (is ∙ ap (λ (v : List ℕ). Some v) (sym same)) finds)

@@ -3,14 +3,14 @@ use Rattle.std.proofs.Common.{◌≡◌, ◌≢◌, ◌≤◌, ◌<◌, ◌+◌,
 use Rattle.std.proofs.lemmas.List.{take-append-drop, map-append}
 use Rattle.std.proofs.lemmas.List.Concat.{flat_map-append}
 use Rattle.std.proofs.lemmas.List.Elements.{All-nil, All-head, All-tail, Contains-append_right, Contains-append_cases}
-use Rattle.std.specs.declared.cmp.Ordering.{Ordering}
 use Rattle.leveldb_base.specs.History.{Item, Entry, History, entries_of, greatest, with_batch, placed, HasValueAt, IsValueAt}
 use Rattle.leveldb_base.proofs.HistoryLemmas.{in_none, in_front, in_rest, in_cases}
 use Rattle.leveldb_base.proofs.EntriesLemmas.{map_in}
+use Rattle.rusty_leveldb.specs.Format.{Format}
 use Rattle.rusty_leveldb.specs.State.{Mode, open_mode, broken, closed, State, IsState, Request, write, get, flush, close, Answer, done, found}
 use Rattle.rusty_leveldb.specs.Causes.{Faults}
-use Rattle.rusty_leveldb.specs.Machine.{Gets, StepIn, Step}
-use Rattle.rusty_leveldb.specs.Runs.{Event, faults_of, events_of, Run, StopsAt, Ending, goes_on, crashes, Life, Lives, new_state}
+use Rattle.rusty_leveldb.specs.Machine.{Gets, Step}
+use Rattle.rusty_leveldb.specs.Runs.{Event, faults_of, Run, CrashBefore, last_moment, StopsAt, Ending, goes_on, crashes, Life, Lives, new_state}
 use Rattle.rusty_leveldb.specs.Laws.{LivesFit, MakesDurable, DurableStays, SyncedStays, IsInTime, EachAnswerParts, items_of, batches_of, IsSubsequence, asked_in, HistoryIsAsked, MoreIsAsked, NoneHasKey, SyncedIsRead}
 use Rattle.rusty_leveldb.proofs.Histories.{up_to, up_to_greatest, entries_more}
 use Rattle.rusty_leveldb.proofs.MachineLemmas.{none_pending, step_fits}
@@ -20,45 +20,45 @@ use Rattle.rusty_leveldb.proofs.RunsLemmas.{Since, since_lives, some_all, some_f
 
 -- any state is one since its durable part
 since_state : (old : State) → IsState old
-    → Since (take old.covered old.history) (batches_of (with_batch
-    (drop old.covered old.history) old.pending)) old
+    → Since (take old.durable old.history) (batches_of (with_batch
+    (drop old.durable old.history) old.pending)) old
 since_state old is = record {
   is = is;
-  more = drop old.covered old.history;
-  history = sym (take-append-drop old.covered old.history);
-  durable = let l = length-take old.covered old.history in omega arith;
-  some = some_all (batches_of (with_batch (drop old.covered old.history) old.pending));
+  more = drop old.durable old.history;
+  history = sym (take-append-drop old.durable old.history);
+  durable = let l = length-take old.durable old.history in omega arith;
+  some = some_all (batches_of (with_batch (drop old.durable old.history) old.pending));
 }
 
 pub lives_fit : LivesFit
-lives_fit cmp lives before after old new is leads =
-    let since = since_lives cmp (take old.covered old.history) (batches_of (with_batch
-    (drop old.covered old.history) old.pending)) before old lives after new
+lives_fit lives before after old new is leads =
+    let since = since_lives (take old.durable old.history) (batches_of (with_batch
+    (drop old.durable old.history) old.pending)) before old lives after new
     (since_state old is) leads in
     since.is
 
 pub durable_stays : DurableStays
-durable_stays cmp lives before after old last is leads =
-    let since = since_lives cmp (take old.covered old.history) (batches_of (with_batch
-    (drop old.covered old.history) old.pending)) before old lives after last
+durable_stays lives before after old last is leads =
+    let since = since_lives (take old.durable old.history) (batches_of (with_batch
+    (drop old.durable old.history) old.pending)) before old lives after last
     (since_state old is) leads in
     (since.more, since.history)
 
-module _ (cmp : List ℕ → List ℕ → Ordering) (faults : Faults) (old new : State)
+module _ (faults : Faults) (old new : State)
     (is : IsState old) where
   durable_in : (mode : Mode) (request : Request) (answer : Answer) → old.mode ≡ mode
-      → MakesDurable request answer → StepIn cmp mode faults old request answer new
-      → (new.covered ≡ length new.history) × (new.pending ≡ None)
+      → MakesDurable request answer → Step mode faults old request answer new
+      → (new.durable ≡ length new.history) × (new.pending ≡ None)
   durable_in open_mode (write items sync) done m by s =
       (s.1.synced by, ap (λ (s : State). s.pending) s.1.state ∙ none_pending old is m)
   durable_in open_mode flush done m by s = (
-    ap (λ (s : State). s.covered) s.1.state
+    ap (λ (s : State). s.durable) s.1.state
         ∙ sym (ap (λ (s : State). length s.history) s.1.state),
     ap
         (λ (s : State). s.pending) s.1.state ∙ none_pending old is m,
   )
   durable_in open_mode close done m by s = (
-    ap (λ (s : State). s.covered) s.1.state
+    ap (λ (s : State). s.durable) s.1.state
         ∙ sym (ap (λ (s : State). length s.history) s.1.state),
     ap
         (λ (s : State). s.pending) s.1.state ∙ none_pending old is m,
@@ -72,12 +72,12 @@ module _ (cmp : List ℕ → List ℕ → Ordering) (faults : Faults) (old new :
   durable_in mode request answer m by s = absurd by
 
   -- what is done so is a new beginning
-  since_done : (request : Request) (answer : Answer) → Step cmp faults old request answer new
+  since_done : (request : Request) (answer : Answer) → Step old.mode faults old request answer new
       → MakesDurable request answer → Since new.history [] new
   since_done request answer step by =
-      let now = durable_in old.mode request answer refl by step.step in
+      let now = durable_in old.mode request answer refl by step in
       record {
-        is = step_fits cmp faults old new request answer is step;
+        is = step_fits faults old new request answer is step;
         more = [];
         history = sym (append-nil new.history);
         durable = let c = now.0 in omega arith;
@@ -96,32 +96,32 @@ asked_alone part asked state since =
     ∙ map-append items_of since.more rest.0) since.some)
 
 pub more_is_asked : MoreIsAsked
-more_is_asked cmp faults old next last request answer lives before after is step by leads =
-    let since = since_lives cmp next.history [] before next lives after last
-    (since_done cmp faults old next is request answer step by) leads in
+more_is_asked faults old next last request answer lives before after is step by leads =
+    let since = since_lives next.history [] before next lives after last
+    (since_done faults old next is request answer step by) leads in
     (since.more, since.history, asked_alone next.history (asked_in lives) last since)
 
 pub synced_stays : SyncedStays
-synced_stays cmp faults old next last request answer lives before after is step by leads =
-    let more = more_is_asked cmp faults old next last request answer lives before after is step by
+synced_stays faults old next last request answer lives before after is step by leads =
+    let more = more_is_asked faults old next last request answer lives before after is step by
     leads in
     (more.0, more.1)
 
-new_is_state : IsState new_state
-new_is_state = record {
+new_is_state : (format : Format) → IsState (new_state format)
+new_is_state format = record {
   history = record { placed = All-nil _; rising = tt };
   reached = omega arith;
   pending = omega arith;
-  covered = omega arith;
+  durable = omega arith;
   held = λ one there. absurd (in_none one there);
   mode = record { held = refl; given = refl };
 }
 
 pub history_is_asked : HistoryIsAsked
-history_is_asked cmp lives after last leads =
-    let since = since_lives cmp [] [] 0 new_state lives after last (record {
+history_is_asked format lives after last leads =
+    let since = since_lives [] [] 0 (new_state format) lives after last (record {
       is =
-          new_is_state;
+          new_is_state format;
       more = [];
       history = refl;
       durable = omega arith;
@@ -132,16 +132,21 @@ history_is_asked cmp lives after last leads =
 
 -- ---- the states at the answers of lives
 
-module _ (cmp : List ℕ → List ℕ → Ordering) where
-  -- a run that goes on from another
-  run_part : (answered undone : List (ℕ × Event)) (before after : ℕ) (old last : State)
-      → Run cmp before old (events_of (answered ++ undone)) after last
-      → (failures : ℕ) × (state : State) × Run cmp before old (events_of answered) failures state
-      × Run cmp failures state (events_of undone) after last
-  run_part [] undone before after old last run = (before, old, (refl, refl), run)
-  run_part (one ∷ answered) undone before after old last run =
-      let rest = run_part answered undone one.1.failures after run.0 last run.2 in
-      (rest.0, rest.1, (run.0, run.1, rest.2), rest.3)
+-- a run that goes on from another
+run_part : (answered undone : List Event) (before after : ℕ) (old last : State)
+    → Run before old (answered ++ undone) after last
+    → (failures : ℕ) × (state : State) × Run before old answered failures state
+    × Run failures state undone after last
+run_part [] undone before after old last run = (before, old, (refl, refl), run)
+run_part (one ∷ answered) undone before after old last run =
+    let rest = run_part answered undone one.failures after run.1 last run.3 in
+    (rest.0, rest.1, (run.0, run.1, run.2, rest.2), rest.3)
+
+-- the last moment of events that go on after one of them
+last_after : (start : ℕ) (answered rest : List Event) (one : Event)
+    → last_moment start (answered ++ one ∷ rest) ≡ last_moment one.moment rest
+last_after start [] rest one = refl
+last_after start (x ∷ answered) rest one = last_after x.moment answered rest one
 
 -- an element of a list, and what comes after the front of one
 all_at : {A : Type 0} (P : A → Type 0) (front rest : List A) (one : A)
@@ -156,77 +161,77 @@ all_after P [] rest all = all
 all_after P (x ∷ front) rest all = all_after P front rest (All-tail P x (front ++ rest) all)
 
 -- an answer that had come is among those that had
-cut_after : (moment : ℕ) (answered undone come late : List (ℕ × Event)) (one : ℕ × Event)
-    → one.0 ≤ moment → answered ++ one ∷ undone ≡ come ++ late
-    → All (λ other. moment < other.0) late
-    → (rest : List (ℕ × Event)) × (come ≡ answered ++ one ∷ rest) × (undone ≡ rest ++ late)
+cut_after : (moment : ℕ) (answered undone come late : List Event) (one : Event)
+    → one.moment ≤ moment → answered ++ one ∷ undone ≡ come ++ late
+    → All (λ other. moment < other.moment) late
+    → (rest : List Event) × (come ≡ answered ++ one ∷ rest) × (undone ≡ rest ++ late)
 cut_after moment answered undone [] late one by e not_yet =
-    absurd (let lt = all_at (λ (other : ℕ × Event). moment < other.0) answered undone one (subst
-    (λ xs. All (λ other. moment < other.0) xs) (sym e) not_yet) in omega arith)
+    absurd (let lt = all_at (λ (other : Event). moment < other.moment) answered undone one (subst
+    (λ xs. All (λ other. moment < other.moment) xs) (sym e) not_yet) in omega arith)
 cut_after moment [] undone (first ∷ come) late one by e not_yet = (come, cc, cc)
 cut_after moment (x ∷ answered) undone (first ∷ come) late one by e not_yet =
     let rest = cut_after moment answered undone come late one by (cc) not_yet in
     let same : first ≡ x = cc in
     (rest.0, ap (λ xs. first ∷ xs) rest.1 ∙ ap (λ y. y ∷ (answered ++ one ∷ rest.0)) same, rest.2)
 
-module _ (cmp : List ℕ → List ℕ → Ordering) (later : List Life) (answered undone : List (ℕ
-    × Event)) (one : ℕ × Event) (after : ℕ) (last : State) where
+module _ (later : List Life) (start : ℕ) (answered undone : List Event) (one : Event) (after : ℕ)
+    (last : State) where
+  -- the life of all these events, that of those before the one, and that of those after it
+  abbrev whole : Ending → Life
+  whole ending = record { start = start; events = answered ++ one ∷ undone; ending = ending }
+
+  abbrev front : Life
+  front = record { start = start; events = answered; ending = goes_on }
+
+  abbrev rest : Ending → Life
+  rest ending = record { start = one.moment; events = undone; ending = ending }
+
   -- what is to be shown
   abbrev Parts : List Life → Ending → ℕ → State → Type 0
   Parts earlier ending before old =
       (failures : ℕ) × (state : State) × (next : State)
-      × Lives cmp before old (earlier ++ record {
-        answered = answered;
-        ending =
-            goes_on;
-      } ∷ []) failures state
-      × Step cmp (faults_of failures one.1) state one.1.request one.1.answer next
-      × Lives cmp one.1.failures next (record {
-        answered = undone;
-        ending =
-            ending;
-      } ∷ later) after last
+      × Lives before old (earlier ++ front ∷ []) failures state
+      × Step state.mode (faults_of failures one) state one.request one.answer next
+      × Lives one.failures next (rest ending ∷ later) after last
 
-  parts_now : (ending : Ending) (before : ℕ) (old : State) → IsInTime one.0 ending
-      → Lives cmp before old (record {
-        answered = answered ++ one ∷ undone;
-        ending =
-            ending;
-      } ∷ later) after last → Parts [] ending before old
+  parts_now : (ending : Ending) (before : ℕ) (old : State) → IsInTime one.moment ending
+      → Lives before old (whole ending ∷ later) after last → Parts [] ending before old
   parts_now goes_on before old in_time leads =
-      let run = run_part cmp answered (one ∷ undone) before leads.0 old leads.1 leads.2 in (
+      let run = run_part answered (one ∷ undone) before leads.0 old leads.1 leads.2 in (
         run.0,
         run.1,
-        run.3.0,
-        (run.0, run.1, run.2, (refl, refl)),
         run.3.1,
-        (leads.0, leads.1, run.3.2, leads.3),
+        (run.0, run.1, run.2, (refl, refl)),
+        run.3.2,
+        (leads.0, leads.1, run.3.3, leads.3),
       )
-  parts_now (crashes moment counted) before old in_time leads =
+  parts_now (crashes moment inside counted) before old in_time leads =
       let stops = leads.2.0.2 in
       let cut = cut_after moment answered undone stops.done stops.undone one in_time stops.split
       stops.not_yet in
-      let run = run_part cmp answered (one ∷ cut.0) before stops.failures old stops.state (subst
-      (λ xs. Run cmp before old (events_of xs) stops.failures stops.state) cut.1 stops.run) in
-      let stops_then : StopsAt cmp one.1.failures run.3.0 undone moment leads.2.0.0 leads.2.0.1
-      leads.1 = record {
+      let run = run_part answered (one ∷ cut.0) before stops.failures old stops.state (subst
+      (λ xs. Run before old xs stops.failures stops.state) cut.1 stops.run) in
+      let stops_then : StopsAt one.moment one.failures run.3.1 undone moment inside leads.2.0.0
+      leads.2.0.1 leads.1 = record {
         done = cut.0;
         undone = stops.undone;
         split = cut.2;
-        by_then = all_after (λ (other : ℕ × Event). other.0 ≤ moment) (one ∷ []) cut.0
-            (all_after (λ (other : ℕ × Event). other.0 ≤ moment) answered (one ∷ cut.0) (subst
-            (λ xs. All (λ other. other.0 ≤ moment) xs) cut.1 stops.by_then));
+        by_then = all_after (λ (other : Event). other.moment ≤ moment) (one ∷ []) cut.0
+            (all_after (λ (other : Event). other.moment ≤ moment) answered (one ∷ cut.0) (subst
+            (λ xs. All (λ other. other.moment ≤ moment) xs) cut.1 stops.by_then));
         not_yet = stops.not_yet;
         failures = stops.failures;
         state = stops.state;
-        run = run.3.2;
-        crash = stops.crash;
+        run = run.3.3;
+        crash = subst (λ n. CrashBefore n moment inside stops.failures stops.state stops.undone
+            leads.2.0.0 leads.2.0.1 leads.1) (ap (last_moment start) cut.1
+            ∙ last_after start answered cut.0 one) stops.crash;
       } in (
         run.0,
         run.1,
-        run.3.0,
-        (run.0, run.1, run.2, (refl, refl)),
         run.3.1,
+        (run.0, run.1, run.2, (refl, refl)),
+        run.3.2,
         (
           leads.0,
           leads.1,
@@ -236,11 +241,7 @@ module _ (cmp : List ℕ → List ℕ → Ordering) (later : List Life) (answere
       )
 
   parts : (earlier : List Life) (ending : Ending) (before : ℕ) (old : State)
-      → IsInTime one.0 ending → Lives cmp before old (earlier ++ record {
-        answered =
-            answered ++ one ∷ undone;
-        ending = ending;
-      } ∷ later) after last
+      → IsInTime one.moment ending → Lives before old (earlier ++ whole ending ∷ later) after last
       → Parts earlier ending before old
   parts [] ending before old in_time leads = parts_now ending before old in_time leads
   parts (life ∷ earlier) ending before old in_time leads =
@@ -248,8 +249,8 @@ module _ (cmp : List ℕ → List ℕ → Ordering) (later : List Life) (answere
       (rest.0, rest.1, rest.2, (leads.0, leads.1, leads.2, rest.3), rest.4, rest.5)
 
 pub each_answer_parts : EachAnswerParts
-each_answer_parts cmp earlier later ending answered undone one before after old last in_time leads
-    = parts cmp later answered undone one after last earlier ending before old in_time leads
+each_answer_parts earlier later start ending answered undone one before after old last in_time leads
+    = parts later start answered undone one after last earlier ending before old in_time leads
 
 -- ---- what a look-up finds
 
@@ -333,17 +334,17 @@ module _ (earlier more : List Entry) (last s : ℕ) (key value : List ℕ)
       (λ e. sym looks.value_is ∙ ap (λ (x : Entry). x.value) (sym e))
       looks.newest.there
 
-module _ (cmp : List ℕ → List ℕ → Ordering) (faults : Faults) (old new : State) where
+module _ (faults : Faults) (old new : State) where
   -- a look-up that isn't refused was one in the state
   looked_in : (mode : Mode) (key : List ℕ) (looked : Option (List ℕ))
-      → StepIn cmp mode faults old (get None key) (found looked) new → Gets old None key looked
+      → Step mode faults old (get None key) (found looked) new → Gets old None key looked
   looked_in open_mode key looked s = s.1.0
   looked_in broken key looked s = s.1.0
   looked_in closed key looked s = absurd s
 
   -- a write of one item that was done adds a batch of one entry
   one_in : (mode : Mode) (item : Item)
-      → StepIn cmp mode faults old (write (item ∷ []) true) done new
+      → Step mode faults old (write (item ∷ []) true) done new
       → (new.history ≡ old.history ++ (record {
         sequence = old.last + 1;
         key = item.key;
@@ -363,7 +364,7 @@ abbrev entry_of : State → List ℕ → List ℕ → Entry
 entry_of old key value = record { sequence = old.last + 1; key = key; value = Some value }
 
 pub synced_is_read : SyncedIsRead
-synced_is_read cmp faults later old next last new key value lives before after looked is step none
+synced_is_read faults later old next last new key value lives before after looked is step none
     leads looks =
     found_alone (entries_of old.history)
     (entries_of more) old.last gets.sequence key value is.reached seen
@@ -375,17 +376,17 @@ synced_is_read cmp faults later old next last new key value lives before after l
 
     since : (more : History) × (last.history ≡ next.history ++ more)
         × IsSubsequence (batches_of more) (asked_in lives)
-    since = more_is_asked cmp faults old next last (write
+    since = more_is_asked faults old next last (write
         (item ∷ []) true) done lives before after is step refl leads
 
     more : History
     more = since.0
 
     gets : Gets last None key looked
-    gets = looked_in cmp later last new last.mode key looked looks.step
+    gets = looked_in later last new last.mode key looked looks
 
     fits : IsState last
-    fits = lives_fit cmp lives before after next last (step_fits cmp faults old next (write
+    fits = lives_fit lives before after next last (step_fits faults old next (write
         (item ∷ []) true) done is step) leads
 
     batch : List Entry
@@ -395,7 +396,7 @@ synced_is_read cmp faults later old next last new key value lives before after l
         entries_of more
     whole =
         ap entries_of (since.1 ∙ ap (λ h. h ++ more)
-        (one_in cmp faults old next old.mode item step.step).0)
+        (one_in faults old next old.mode item step).0)
         ∙ flat_map-append (λ (b : List Entry). b) (old.history ++ batch ∷ []) more
         ∙ ap (λ es. es ++ entries_of more) (entries_more old.history batch)
         ∙ append_assoc (entries_of old.history) batch (entries_of more)

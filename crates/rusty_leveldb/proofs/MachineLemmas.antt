@@ -2,12 +2,11 @@
 use Rattle.std.proofs.Common.{◌≡◌, ◌≤◌, ◌+◌, ◌⊎◌, ⊎_elim, inl, inr, ℕ, Bool, false, List, [], ◌∷◌, ◌++◌, length, refl, sym, ◌∙◌, ap, subst, arith, Option, Some, None, IsTrue, Contains, length-append}
 use Rattle.std.proofs.Math.Seq.{take-append_seam}
 use Rattle.std.proofs.lemmas.List.Elements.{Contains-append_left, Contains-append_right, Contains-push, Contains-push_cases, Contains-append_cases}
-use Rattle.std.specs.declared.cmp.Ordering.{Ordering}
 use Rattle.leveldb_base.specs.History.{Item, Entry, History, IsHistory, placed, entries_of, greatest, with_batch, count_of}
 use Rattle.leveldb_base.proofs.HistoryLemmas.{in_none, in_rest}
 use Rattle.rusty_leveldb.specs.State.{Mode, open_mode, broken, closed, Snapshot, Opening, State, SuitsMode, IsState, Request, open_store, write, get, walk, get_snapshot, release_snapshot, flush, compact_range, close, abandon, Refusal, Answer, done, found, walked, snapshot, refused}
 use Rattle.rusty_leveldb.specs.Causes.{Faults, Cause, device_failed, IsClosedRefusal, IsBrokenRefusal}
-use Rattle.rusty_leveldb.specs.Machine.{MayCover, Keeps, batch_of, Writes, Covers, Breaks, Gives, Releases, Closes, Abandons, Opens, StaysClosed, KeepsOrBreaks, Succeeds, Refuses, Responds, Rejects, StepIn, Step, Risk, risk_between, risk_of, Crashes}
+use Rattle.rusty_leveldb.specs.Machine.{MayGrow, Keeps, next_batch, Writes, AllDurable, Breaks, Gives, Releases, Closes, Abandons, Opens, StaysClosed, format_left, MayBreak, KeepsOrBreaks, Succeeds, LeavesRefused, Responds, Rejects, Step, Risk, risk_between, risk_of, Crashes}
 use Rattle.rusty_leveldb.specs.Laws.{asked_by, StepFits, CrashFits, CrashInsideFits}
 use Rattle.rusty_leveldb.proofs.Histories.{entries_more, greatest_append, placed_greatest, placed_length, history_more, history_part, greatest_part}
 
@@ -16,15 +15,16 @@ use Rattle.rusty_leveldb.proofs.Histories.{entries_more, greatest_append, placed
 pub data Change (old : State) (request : Request) (new : State) : Type 0 where
   same : new ≡ old → Change old request new
   opens : (opening : Opening) → Opens old opening new → Change old request new
-  stays : (opening : Opening) (faults : Faults) (cause : Cause) → old.mode ≡ closed
-      → StaysClosed old opening faults cause new → Change old request new
+  stays : (opening : Opening) (faults : Faults) (refusal : Refusal) (cause : Cause)
+      → old.mode ≡ closed → StaysClosed faults old opening refusal cause new
+      → Change old request new
   keeps : Keeps old new → Change old request new
   writes : (items : List Item) (sync : Bool) → asked_by request ≡ items ∷ []
       → old.mode ≡ open_mode → Writes old items sync new → Change old request new
-  covers : Covers old new → Change old request new
+  covers : AllDurable old new → Change old request new
   breaks : old.mode ≡ open_mode → Breaks old None new → Change old request new
   breaks_with : (items : List Item) → asked_by request ≡ items ∷ [] → old.mode ≡ open_mode
-      → Breaks old (Some (batch_of old items)) new → Change old request new
+      → Breaks old (Some (next_batch old items)) new → Change old request new
   gives : (one : Snapshot) → (old.mode ≡ closed → ⊥) → Gives old one new → Change old request new
   releases : (one : Snapshot) → (old.mode ≡ closed → ⊥) → Releases old one new
       → Change old request new
@@ -42,9 +42,9 @@ NeedsMode get_snapshot old = old.mode ≡ closed → ⊥
 NeedsMode (release_snapshot one) old = old.mode ≡ closed → ⊥
 NeedsMode request old = Unit {0}
 
-module _ (cmp : List ℕ → List ℕ → Ordering) (faults : Faults) (old new : State) where
+module _ (faults : Faults) (old new : State) where
   succeeded : (request : Request) (answer : Answer) → NeedsMode request old
-      → Succeeds cmp faults old request answer new → Change old request new
+      → Succeeds faults old request answer new → Change old request new
   succeeded (open_store opening) done m s = opens opening s
   succeeded (write items sync) done m s = writes items sync refl m s
   succeeded (get at key) (found value) m s = same s.1
@@ -58,43 +58,38 @@ module _ (cmp : List ℕ → List ℕ → Ordering) (faults : Faults) (old new :
   succeeded request answer m s = absurd s
 
   kept_or_broken : (request : Request) (cause : Cause) → old.mode ≡ open_mode
-      → KeepsOrBreaks cmp faults old cause None new → Change old request new
-  kept_or_broken request cause m (inl kept) = keeps kept.1
+      → Keeps old new ⊎ (MayBreak cause × Breaks old None new) → Change old request new
+  kept_or_broken request cause m (inl kept) = keeps kept
   kept_or_broken request cause m (inr broke) = breaks m broke.1
 
   kept_or_broken_with : (items : List Item) (sync : Bool) (cause : Cause) → old.mode ≡ open_mode
-      → KeepsOrBreaks cmp faults old cause (Some (batch_of old items)) new
-      → Change old (write items sync) new
-  kept_or_broken_with items sync cause m (inl kept) = keeps kept.1
-  kept_or_broken_with items sync cause m (inr broke) = breaks_with items refl m broke.1
+      → KeepsOrBreaks old cause (next_batch old items) new → Change old (write items sync) new
+  kept_or_broken_with items sync cause m (inl kept) = keeps kept
+  kept_or_broken_with items sync cause m (inr broke) =
+      ⊎_elim (λ b. breaks m b) (λ b. breaks_with items refl m b) broke.1
 
-  compacted_or_broken : (from to : List ℕ) (cause : Cause) → old.mode ≡ open_mode
-      → Refuses cmp faults old (compact_range from to) cause new
-      → Change old (compact_range from to) new
-  compacted_or_broken from to cause m (inl kept) = keeps kept
-  compacted_or_broken from to cause m (inr broke) = breaks m broke.1
-
-  refused_for : (request : Request) (cause : Cause) → NeedsMode request old
-      → Refuses cmp faults old request cause new → Change old request new
-  refused_for (open_store opening) cause m s = stays opening faults cause m s
-  refused_for (write items sync) cause m s = kept_or_broken_with items sync cause m s
-  refused_for flush device_failed m s = breaks m s
-  refused_for flush cause m s = kept_or_broken flush cause m s
-  refused_for (compact_range from to) cause m s = compacted_or_broken from to cause m s
-  refused_for close cause m s = breaks m s
-  refused_for abandon cause m s = abandons _ s
-  refused_for request cause m s = same s
+  refused_for : (request : Request) (refusal : Refusal) (cause : Cause) → NeedsMode request old
+      → LeavesRefused faults old request refusal cause new → Change old request new
+  refused_for (open_store opening) refusal cause m s = stays opening faults refusal cause m s
+  refused_for (write items sync) refusal cause m s = kept_or_broken_with items sync cause m s
+  refused_for flush refusal device_failed m s = breaks m s
+  refused_for flush refusal cause m s = kept_or_broken flush cause m s
+  refused_for (compact_range from to) refusal cause m s =
+      kept_or_broken (compact_range from to) cause m s
+  refused_for close refusal cause m s = breaks m s
+  refused_for abandon refusal cause m s = abandons _ s
+  refused_for request refusal cause m s = same s
 
   responded : (request : Request) (answer : Answer) → NeedsMode request old
-      → Responds cmp faults old request answer new → Change old request new
-  responded request (refused refusal) m s = refused_for request s.0 m s.2
+      → Responds faults old request answer new → Change old request new
+  responded request (refused refusal) m s = refused_for request refusal s.cause m s.leaves
   responded request done m s = succeeded request done m s.1
   responded request (found value) m s = succeeded request (found value) m s.1
   responded request (walked landings) m s = succeeded request (walked landings) m s.1
   responded request (snapshot one) m s = succeeded request (snapshot one) m s.1
 
   rejected : (Says : Refusal → Type 0) (request : Request) (answer : Answer)
-      → Rejects cmp Says old answer new → Change old request new
+      → Rejects Says old answer new → Change old request new
   rejected Says request (refused refusal) s = same s.1
   rejected Says request done s = absurd s
   rejected Says request (found value) s = absurd s
@@ -102,7 +97,7 @@ module _ (cmp : List ℕ → List ℕ → Ordering) (faults : Faults) (old new :
   rejected Says request (snapshot one) s = absurd s
 
   changed : (mode : Mode) (request : Request) (answer : Answer) → old.mode ≡ mode
-      → StepIn cmp mode faults old request answer new → Change old request new
+      → Step mode faults old request answer new → Change old request new
   changed closed (open_store opening) answer m s = responded (open_store opening) answer m s
   changed closed abandon answer m s = same s.1
   changed closed request answer m s = rejected IsClosedRefusal request answer s
@@ -139,9 +134,9 @@ module _ (cmp : List ℕ → List ℕ → Ordering) (faults : Faults) (old new :
   changed open_mode abandon answer m s = responded abandon answer tt s
 
   -- a step is one of these changes
-  pub change : (request : Request) (answer : Answer) → Step cmp faults old request answer new
+  pub change : (request : Request) (answer : Answer) → Step old.mode faults old request answer new
       → Change old request new
-  change request answer step = changed old.mode request answer refl step.step
+  change request answer step = changed old.mode request answer refl step
 
 -- ---- histories with what is pending
 
@@ -204,10 +199,10 @@ module _ (old : State) (is : IsState old) where
   open_locked m = let suits : SuitsMode open_mode old =
       subst (λ x. SuitsMode x old) m is.mode in suits.1
 
-  covered_fits : (covered : ℕ) → MayCover old.covered old.history covered
-      → covered ≤ length old.history
-  covered_fits covered (inl e) = let c = is.covered in omega arith
-  covered_fits covered (inr e) = omega arith
+  covered_fits : (durable : ℕ) → MayGrow old.durable old.history durable
+      → durable ≤ length old.history
+  covered_fits durable (inl e) = let c = is.durable in omega arith
+  covered_fits durable (inr e) = omega arith
 
   -- ---- what each change keeps
 
@@ -216,11 +211,11 @@ module _ (old : State) (is : IsState old) where
     history = is.history;
     reached = is.reached;
     pending = is.pending;
-    covered = covered_fits new.covered k.covered;
+    durable = covered_fits new.durable k.durable;
     held = is.held;
     mode = suits_as old.mode old (record old {
-      covered =
-          new.covered;
+      durable =
+          new.durable;
     }) refl refl refl refl is.mode;
   })
 
@@ -231,18 +226,18 @@ module _ (old : State) (is : IsState old) where
     reached = reached;
     pending = subst (λ p. greatest (entries_of (with_batch whole p)) ≤
         (old.last + length items) + count_of p) (sym none) (let r = reached in omega arith);
-    covered = covered w.covered;
+    durable = durable w.durable;
     held = λ one there. let h = is.held one there in (omega arith, h.1);
     mode = suits_as old.mode old (record old {
       history = whole;
       last =
           old.last + length items;
-      covered = new.covered;
+      durable = new.durable;
     }) refl refl refl refl is.mode;
   })
     where
       whole : History
-      whole = old.history ++ batch_of old items ∷ []
+      whole = old.history ++ next_batch old items ∷ []
 
       none : old.pending ≡ None
       none = none_pending m
@@ -255,22 +250,22 @@ module _ (old : State) (is : IsState old) where
       reached = greatest_more old.history old.last items is.reached
 
       more : length whole ≡ length old.history + 1
-      more = length-append old.history (batch_of old items ∷ [])
+      more = length-append old.history (next_batch old items ∷ [])
 
-      covered : MayCover old.covered old.history new.covered ⊎ (new.covered ≡ length new.history)
-          → new.covered ≤ length whole
-      covered (inl may) = let c = covered_fits new.covered may in let m = more in omega arith
-      covered (inr e) = let l = ap (λ (s : State). length s.history) w.state in omega arith
+      durable : MayGrow old.durable old.history new.durable ⊎ (new.durable ≡ length new.history)
+          → new.durable ≤ length whole
+      durable (inl may) = let c = covered_fits new.durable may in let m = more in omega arith
+      durable (inr e) = let l = ap (λ (s : State). length s.history) w.state in omega arith
 
-  covers_fits : (new : State) → Covers old new → IsState new
+  covers_fits : (new : State) → AllDurable old new → IsState new
   covers_fits new c = keeps_fits new (record {
     state = c.state
-        ∙ ap (λ n. record old { covered = n }) (sym e);
-    covered = inr e;
+        ∙ ap (λ n. record old { durable = n }) (sym e);
+    durable = inr e;
   })
     where
-      e : new.covered ≡ length old.history
-      e = ap (λ (s : State). s.covered) c.state
+      e : new.durable ≡ length old.history
+      e = ap (λ (s : State). s.durable) c.state
 
   breaks_fits : (batch : Option (List Entry)) (new : State)
       → IsHistory (with_batch old.history batch)
@@ -281,7 +276,7 @@ module _ (old : State) (is : IsState old) where
     history = history;
     reached = is.reached;
     pending = pending;
-    covered = covered_fits new.covered b.covered;
+    durable = covered_fits new.durable b.durable;
     held = is.held;
     mode = open_locked m;
   })
@@ -291,9 +286,9 @@ module _ (old : State) (is : IsState old) where
       (before_pending old.history old.pending is.history) (let r = is.reached in omega arith) m b
 
   breaks_with_fits : (items : List Item) (new : State) → old.mode ≡ open_mode
-      → Breaks old (Some (batch_of old items)) new → IsState new
+      → Breaks old (Some (next_batch old items)) new → IsState new
   breaks_with_fits items new m b =
-      breaks_fits (Some (batch_of old items)) new
+      breaks_fits (Some (next_batch old items)) new
       (history_more old.history old.last items is.reached
       (before_pending old.history old.pending is.history))
       (let g = greatest_more old.history old.last items is.reached in let l =
@@ -305,7 +300,7 @@ module _ (old : State) (is : IsState old) where
     history = is.history;
     reached = is.reached;
     pending = is.pending;
-    covered = is.covered;
+    durable = is.durable;
     held = λ other there. ⊎_elim
         (λ (was : Contains old.held other). let h =
         is.held other was in (
@@ -333,7 +328,7 @@ module _ (old : State) (is : IsState old) where
     history = is.history;
     reached = is.reached;
     pending = is.pending;
-    covered = is.covered;
+    durable = is.durable;
     held = λ other there. is.held other (subst (λ held. Contains held other) (sym r.was) (⊎_elim
         (λ (left : Contains r.before other). Contains-append_left r.before
         (one ∷ r.after) other left)
@@ -346,37 +341,42 @@ module _ (old : State) (is : IsState old) where
     }) refl refl is.mode;
   })
 
-  closed_fits : (covered : ℕ) (locked : Bool) → covered ≤ length old.history
+  closed_fits : (durable : ℕ) (locked : Bool) → durable ≤ length old.history
       → IsState (record old {
         held = [];
         given = [];
         mode = closed;
-        covered = covered;
+        durable = durable;
         locked =
             locked;
       })
-  closed_fits covered locked le = record {
+  closed_fits durable locked le = record {
     history = is.history;
     reached = is.reached;
     pending = is.pending;
-    covered = le;
+    durable = le;
     held = λ one there. absurd (in_none one there);
     mode = record { held = refl; given = refl };
   }
 
-  stays_fits : (opening : Opening) (faults : Faults) (cause : Cause) (new : State)
-      → old.mode ≡ closed → StaysClosed old opening faults cause new → IsState new
-  stays_fits opening faults cause new m s = subst IsState (sym s.state) (record {
+  stays_fits : (opening : Opening) (faults : Faults) (refusal : Refusal) (cause : Cause) (new : State)
+      → old.mode ≡ closed → StaysClosed faults old opening refusal cause new → IsState new
+  stays_fits opening faults refusal cause new m s = subst IsState (sym s.state) (record {
     history = is.history;
     reached = is.reached;
     pending = is.pending;
-    covered = covered_fits new.covered s.covered;
+    durable = covered_fits new.durable s.durable;
     held = is.held;
     mode = subst (λ x. SuitsMode x then) (sym m) (record { held = rest.held; given = rest.given });
   })
     where
       then : State
-      then = record old { covered = new.covered; locked = new.locked; store = new.store }
+      then = record old {
+        durable = new.durable;
+        locked = new.locked;
+        store = new.store;
+        format = format_left opening old.store old.format;
+      }
 
       rest : SuitsMode closed old
       rest = subst (λ x. SuitsMode x old) m is.mode
@@ -400,11 +400,11 @@ module _ (old : State) (is : IsState old) where
     history = (joined new.history o.joins).0;
     reached = o.reached;
     pending = let r = o.reached in omega arith;
-    covered = ⊎_elim
-        (λ (e : new.covered ≡ old.covered). let l = (joined new.history o.joins).1 in let c =
-        is.covered in omega arith)
-        (λ (e : new.covered ≡ length new.history). omega arith)
-        o.covered;
+    durable = ⊎_elim
+        (λ (e : new.durable ≡ old.durable). let l = (joined new.history o.joins).1 in let c =
+        is.durable in omega arith)
+        (λ (e : new.durable ≡ length new.history). omega arith)
+        o.durable;
     held = λ one there. absurd (in_none one there);
     mode = (refl, refl);
   })
@@ -412,8 +412,8 @@ module _ (old : State) (is : IsState old) where
   change_fits : (request : Request) (new : State) → Change old request new → IsState new
   change_fits request new (same e) = subst IsState (sym e) is
   change_fits request new (opens opening o) = opens_fits opening new o
-  change_fits request new (stays opening faults cause m s) =
-      stays_fits opening faults cause new m s
+  change_fits request new (stays opening faults refusal cause m s) =
+      stays_fits opening faults refusal cause new m s
   change_fits request new (keeps k) = keeps_fits new k
   change_fits request new (writes items sync asked m w) = writes_fits items sync new m w
   change_fits request new (covers c) = covers_fits new c
@@ -424,45 +424,50 @@ module _ (old : State) (is : IsState old) where
   change_fits request new (closes c) =
       subst IsState (sym c.state) (closed_fits (length old.history) false (omega arith))
   change_fits request new (abandons locked a) =
-      subst IsState (sym a.state) (closed_fits old.covered locked is.covered)
+      subst IsState (sym a.state) (closed_fits old.durable locked is.durable)
 
   crash_fits : (risk : Risk) (new : State) → IsHistory risk.history
       → greatest (entries_of risk.history) ≤ risk.bound → Crashes old risk new → IsState new
   crash_fits risk new history reached c = subst IsState (sym c.state) (record {
-    history = history_part old.covered risk.history new.history history c.prefix;
+    history = history_part old.durable risk.history new.history history c.prefix;
     reached = low;
     pending = let l = low in omega arith;
-    covered = omega arith;
+    durable = omega arith;
     held = λ one there. absurd (in_none one there);
     mode = record { held = refl; given = refl };
   })
     where
       low : greatest (entries_of new.history) ≤ risk.bound
-      low = let g = greatest_part old.covered risk.history new.history c.prefix in omega arith
+      low = let g = greatest_part old.durable risk.history new.history c.prefix in omega arith
 
 pub step_fits : StepFits
-step_fits cmp faults old new request answer is step =
-    change_fits old is request new (change cmp faults old new request answer step)
+step_fits faults old new request answer is step =
+    change_fits old is request new (change faults old new request answer step)
 
 pub crash_between_fits : CrashFits
 crash_between_fits old new is c = crash_fits old is (risk_between old) new is.history is.pending c
 
+-- what is at risk in an opening
+abbrev pub risk_opening : Opening → State → Risk
+risk_opening opening old = record (risk_between old) {
+  format = format_left opening old.store old.format;
+  opening = Some opening;
+}
+
 -- what is at risk in a request, by whether it is an opening
 pub risk_cases : (request : Request) (old new : State)
     → (risk_of request old new ≡ risk_between new) ⊎ ((opening : Opening)
-    × (risk_of request old new ≡ record (risk_between old) { opening = Some opening }))
+    × (risk_of request old new ≡ risk_opening opening old))
 risk_cases (open_store opening) old new = inr (opening, refl)
 risk_cases request old new = inl refl
 
 pub crash_inside_fits : CrashInsideFits
-crash_inside_fits cmp faults old next new request answer is step c = ⊎_elim
+crash_inside_fits faults old next new request answer is step c = ⊎_elim
     (λ (e : risk_of request old next ≡ risk_between next). let then =
-    step_fits cmp faults old next request answer is step in
+    step_fits faults old next request answer is step in
     crash_fits old is (risk_between next) new then.history then.pending (subst
     (λ r. Crashes old r new) e c))
-    (λ (o : (opening : Opening) × (risk_of request old next ≡ record (risk_between old) { opening = Some opening })).
-    crash_fits old is (record (risk_between old) {
-      opening =
-          Some o.0;
-    }) new is.history is.pending (subst (λ r. Crashes old r new) o.1 c))
+    (λ (o : (opening : Opening) × (risk_of request old next ≡ risk_opening opening old)).
+    crash_fits old is (risk_opening o.0 old) new is.history is.pending
+    (subst (λ r. Crashes old r new) o.1 c))
     (risk_cases request old next)

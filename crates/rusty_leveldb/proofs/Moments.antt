@@ -7,11 +7,11 @@ use Rattle.std.proofs.lemmas.List.{length-take}
 use Rattle.leveldb_base.specs.History.{Entry, History, IsPrefixAtLeast}
 use Rattle.leveldb_env.specs.Env.{Files, Disk, Observed, Since, Run}
 use Rattle.leveldb_env.proofs.EnvLemmas.{Run-mono, Run-trans, since_start}
-use Rattle.leveldb_version.specs.Contents.{Store, Contents}
+use Rattle.leveldb_version.specs.Contents.{Store}
 use Rattle.leveldb_version.specs.Holds.{IsHonest, CarriesPrefix}
 use Rattle.rusty_leveldb.specs.State.{State}
 use Rattle.rusty_leveldb.specs.Machine.{StaysOr, Risk, risk_between}
-use Rattle.rusty_leveldb.specs.Serves.{StandsFor, IsSpared}
+use Rattle.rusty_leveldb.specs.Serves.{Reads, StandsFor, IsSpared}
 use Rattle.rusty_leveldb.proofs.Bounds.{carries_more, carries_allow}
 
 -- ---- a greater risk
@@ -54,8 +54,8 @@ abbrev pub Allows : State → Risk → State → Risk → Type 0
 Allows middle risk old more = (there : Store) → StaysOr risk.opening middle.store there → StaysOr more.opening old.store there
 
 -- a prefix of a prefix
-prefix_within : (least covered : ℕ) (risk more : Risk) (part : History) → least ≤ covered → Grows risk more → IsPrefixAtLeast covered risk.history part → IsPrefixAtLeast least more.history part
-prefix_within least covered risk more part few grows b =
+prefix_within : (least durable : ℕ) (risk more : Risk) (part : History) → least ≤ durable → Grows risk more → IsPrefixAtLeast durable risk.history part → IsPrefixAtLeast least more.history part
+prefix_within least durable risk more part few grows b =
     let fits : b.count ≤ length (take grows.count more.history) = subst (λ h. b.count ≤ length h) grows.first b.there in
     let short = length-take grows.count more.history in
     record {
@@ -65,30 +65,30 @@ prefix_within least covered risk more part few grows b =
       first = b.first ∙ ap (take b.count) grows.first ∙ take_twice grows.count b.count more.history fits;
     }
 
-module _ (store : List ℕ) (reads : Files → Contents → Type 0) where
+module _ (store : List ℕ) where
   -- what is spared in a later step is spared in the whole call
-  pub spared_more : (old middle : State) (risk more : Risk) → old.covered ≤ middle.covered → Allows middle risk old more → Grows risk more
-      → (files : Files) → IsSpared store reads middle risk files → IsSpared store reads old more files
+  pub spared_more : (old middle : State) (risk more : Risk) → old.durable ≤ middle.durable → Allows middle risk old more → Grows risk more
+      → (files : Files) → IsSpared store middle risk files → IsSpared store old more files
   spared_more old middle risk more few allows grows files spared left leaves honest =
       let c = spared left leaves honest in
       record {
         part = c.part;
-        prefix = prefix_within old.covered middle.covered risk more c.part few grows c.prefix;
-        carries = carries_more store reads risk.bound more.bound grows.bound c.part left (carries_allow store reads risk.bound c.part left allows c.carries);
+        prefix = prefix_within old.durable middle.durable risk more c.part few grows c.prefix;
+        carries = carries_more store (Reads store risk.format) risk.bound more.bound grows.bound c.part left (carries_allow store (Reads store risk.format) risk.bound c.part left allows c.carries);
       }
 
   -- One step after another: the first is spared with the state in which the call began, the second with the one between them.
-  pub steps_join : {first mid now : Observed} (old middle : State) (risk more : Risk) → old.covered ≤ middle.covered → Allows old risk old more → Allows middle more old more → Grows risk more
-      → Run (IsSpared store reads old risk) first mid → Run (IsSpared store reads middle more) mid now → Run (IsSpared store reads old more) first now
+  pub steps_join : {first mid now : Observed} (old middle : State) (risk more : Risk) → old.durable ≤ middle.durable → Allows old risk old more → Allows middle more old more → Grows risk more
+      → Run (IsSpared store old risk) first mid → Run (IsSpared store middle more) mid now → Run (IsSpared store old more) first now
   steps_join old middle risk more few first then grows before after = Run-trans
       (Run-mono (spared_more old old risk more (omega arith) first grows) before)
       (spared_more old middle more more few then (grows_same more more.bound (omega arith))) after
 
   -- between two calls
-  pub spared_now : (disk : Disk) (state : State) → StandsFor store reads disk state → IsSpared store reads state (risk_between state) disk.files
+  pub spared_now : (disk : Disk) (state : State) → StandsFor store disk state → IsSpared store state (risk_between state) disk.files
   spared_now disk state stands = stands.holds.crash
 
-  -- Each honest disk that a crash leaves since the call began carries a prefix of what is at risk, with all that was covered then.
-  pub spared_since : {first now : Observed} (old : State) (risk : Risk) → Run (IsSpared store reads old risk) first now → ((files : Files) → now.at_moment now.moment files → files ≡ now.disk.files)
-      → (files left : Files) → Since now first.moment files left → IsHonest store files left → CarriesPrefix store reads (StaysOr risk.opening old.store) risk.bound old.covered risk.history left
+  -- Each honest disk that a crash leaves since the call began carries a prefix of what is at risk, with all that was durable then.
+  pub spared_since : {first now : Observed} (old : State) (risk : Risk) → Run (IsSpared store old risk) first now → ((files : Files) → now.at_moment now.moment files → files ≡ now.disk.files)
+      → (files left : Files) → Since now first.moment files left → IsHonest store files left → CarriesPrefix store (Reads store risk.format) (StaysOr risk.opening old.store) risk.bound old.durable risk.history left
   spared_since old risk run only files left since honest = since_start run only since.0 files since.1 since.2 since.3 left since.4 honest

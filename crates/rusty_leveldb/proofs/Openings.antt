@@ -5,5 +5,6 @@ pub mod Survives
 pub mod Moments
 pub mod Calls
 pub mod Refused
+pub mod Asked
 pub mod Opened
 pub mod Exits

@@ -4,14 +4,13 @@ use Rattle.std.proofs.Math.Seq.{take-append-add}
 use Rattle.std.proofs.lemmas.List.{take-append-drop, map-append}
 use Rattle.std.proofs.lemmas.List.Concat.{flat_map-append}
 use Rattle.std.proofs.lemmas.List.Elements.{All-head, All-tail}
-use Rattle.std.specs.declared.cmp.Ordering.{Ordering}
 use Rattle.leveldb_base.specs.History.{Item, Entry, History, IsPrefixAtLeast, placed, with_batch}
 use Rattle.rusty_leveldb.specs.State.{open_mode, State, IsState, Request, Answer}
 use Rattle.rusty_leveldb.specs.Causes.{Faults}
-use Rattle.rusty_leveldb.specs.Machine.{MayCover, batch_of, Writes, Breaks, Step, Risk, risk_between, risk_of, Crashes}
-use Rattle.rusty_leveldb.specs.Runs.{Event, faults_of, events_of, Run, CrashBefore, Ending, goes_on, crashes, Life, LifeLeads, Lives}
+use Rattle.rusty_leveldb.specs.Machine.{MayGrow, next_batch, Writes, Breaks, Step, Risk, risk_between, risk_of, Crashes}
+use Rattle.rusty_leveldb.specs.Runs.{Event, faults_of, Run, CrashesIn, CrashBefore, last_moment, Ending, goes_on, crashes, Life, LifeLeads, Lives}
 use Rattle.rusty_leveldb.specs.Laws.{asked_by, items_of, batches_of, IsSubsequence, begun_by, begun_until, asked_in}
-use Rattle.rusty_leveldb.proofs.MachineLemmas.{Change, same, opens, stays, keeps, writes, covers, breaks, breaks_with, gives, releases, closes, abandons, change, none_pending, step_fits, crash_between_fits, crash_inside_fits, risk_cases}
+use Rattle.rusty_leveldb.proofs.MachineLemmas.{Change, same, opens, stays, keeps, writes, covers, breaks, breaks_with, gives, releases, closes, abandons, change, none_pending, step_fits, crash_between_fits, crash_inside_fits, risk_opening, risk_cases}
 
 -- ---- some elements of a list
 
@@ -66,14 +65,14 @@ pub record Since (part : History) (asked : List (List Item)) (state : State) : T
   pub is : IsState state
   pub more : History
   pub history : state.history ≡ part ++ more
-  pub durable : length part ≤ state.covered
+  pub durable : length part ≤ state.durable
   pub some : IsSubsequence (batches_of (with_batch more state.pending)) asked
 
 module _ (part : History) (asked : List (List Item)) (old : State)
     (since : Since part asked old) where
   -- no batch is new
   fewer : (new : State) (more rest : History) (others : List (List Item)) → IsState new
-      → new.history ≡ part ++ more → length part ≤ new.covered
+      → new.history ≡ part ++ more → length part ≤ new.durable
       → with_batch since.more old.pending ≡ with_batch more new.pending ++ rest
       → Since part (asked ++ others) new
   fewer new more rest others is history durable split = record {
@@ -89,7 +88,7 @@ module _ (part : History) (asked : List (List Item)) (old : State)
 
   -- one batch is new
   newer : (new : State) (more : History) (first : ℕ) (items : List Item) → IsState new
-      → new.history ≡ part ++ more → length part ≤ new.covered
+      → new.history ≡ part ++ more → length part ≤ new.durable
       → with_batch more new.pending ≡ with_batch since.more old.pending ++ placed first items ∷ []
       → Since part (asked ++ items ∷ []) new
   newer new more first items is history durable split = record {
@@ -107,13 +106,13 @@ module _ (part : History) (asked : List (List Item)) (old : State)
   part_fits : length part ≤ length old.history
   part_fits = let l = ap length since.history ∙ length-append part since.more in omega arith
 
-  covers_part : (covered : ℕ) → MayCover old.covered old.history covered → length part ≤ covered
-  covers_part covered (inl e) = let d = since.durable in omega arith
-  covers_part covered (inr e) = let l = part_fits in omega arith
+  covers_part : (durable : ℕ) → MayGrow old.durable old.history durable → length part ≤ durable
+  covers_part durable (inl e) = let d = since.durable in omega arith
+  covers_part durable (inr e) = let l = part_fits in omega arith
 
   -- neither the history nor what is pending has changed
   as_before : (new : State) (others : List (List Item)) → IsState new → new.history ≡ old.history
-      → new.pending ≡ old.pending → length part ≤ new.covered → Since part (asked ++ others) new
+      → new.pending ≡ old.pending → length part ≤ new.durable → Since part (asked ++ others) new
   as_before new others is history pending durable =
       fewer new since.more [] others is (history
       ∙ since.history) durable (ap (λ p. with_batch since.more p) (sym pending)
@@ -121,14 +120,14 @@ module _ (part : History) (asked : List (List Item)) (old : State)
 
   wrote : (items : List Item) (sync : Bool) (new : State) → IsState new → old.mode ≡ open_mode
       → Writes old items sync new → Since part (asked ++ items ∷ []) new
-  wrote items sync new is m w = newer new (since.more ++ batch_of old items ∷ [])
+  wrote items sync new is m w = newer new (since.more ++ next_batch old items ∷ [])
       (old.last + 1) items is
       (ap (λ (s : State). s.history) w.state
-      ∙ ap (λ h. h ++ batch_of old items ∷ []) since.history
-      ∙ append_assoc part since.more (batch_of old items ∷ []))
-      (durable w.covered)
-      (ap (λ p. with_batch (since.more ++ batch_of old items ∷ []) p) none_then
-      ∙ sym (ap (λ p. with_batch since.more p ++ batch_of old items ∷ []) none))
+      ∙ ap (λ h. h ++ next_batch old items ∷ []) since.history
+      ∙ append_assoc part since.more (next_batch old items ∷ []))
+      (durable w.durable)
+      (ap (λ p. with_batch (since.more ++ next_batch old items ∷ []) p) none_then
+      ∙ sym (ap (λ p. with_batch since.more p ++ next_batch old items ∷ []) none))
     where
       none : old.pending ≡ None
       none = none_pending old since.is m
@@ -136,26 +135,26 @@ module _ (part : History) (asked : List (List Item)) (old : State)
       none_then : new.pending ≡ None
       none_then = ap (λ (s : State). s.pending) w.state ∙ none
 
-      durable : MayCover old.covered old.history new.covered ⊎ (new.covered ≡ length new.history)
-          → length part ≤ new.covered
-      durable (inl may) = covers_part new.covered may
+      durable : MayGrow old.durable old.history new.durable ⊎ (new.durable ≡ length new.history)
+          → length part ≤ new.durable
+      durable (inl may) = covers_part new.durable may
       durable (inr e) =
           let l = ap (λ (s : State). length s.history) w.state
-          ∙ length-append old.history (batch_of old items ∷ []) in
+          ∙ length-append old.history (next_batch old items ∷ []) in
           let f = part_fits in
           omega arith
 
   broke : (batch : Option (List Entry)) (new : State) → Breaks old batch new
-      → (new.history ≡ old.history) × (new.pending ≡ batch) × (length part ≤ new.covered)
+      → (new.history ≡ old.history) × (new.pending ≡ batch) × (length part ≤ new.durable)
   broke batch new b = (
     ap (λ (s : State). s.history) b.state,
     ap
         (λ (s : State). s.pending) b.state,
-    covers_part new.covered b.covered,
+    covers_part new.durable b.durable,
   )
 
   opened : (others : List (List Item)) (new : State) → IsState new → new.pending ≡ None
-      → length part ≤ new.covered → (new.history ≡ old.history)
+      → length part ≤ new.durable → (new.history ≡ old.history)
       ⊎ (new.history ≡ with_batch old.history old.pending) → Since part (asked ++ others) new
   opened others new is none durable (inl e) =
       let rest = without since.more old.pending in
@@ -182,58 +181,57 @@ module _ (part : History) (asked : List (List Item)) (old : State)
       → Since part (asked ++ asked_by request) new
   changes request new is (same e) = as_before new (asked_by request) is (ap
       (λ (s : State). s.history) e) (ap (λ (s : State). s.pending) e) (let c =
-      ap (λ (s : State). s.covered) e in let d = since.durable in omega arith)
+      ap (λ (s : State). s.durable) e in let d = since.durable in omega arith)
   changes request new is (opens opening o) =
       opened (asked_by request) new is (ap (λ (s : State). s.pending) o.state)
-      (⊎_elim (λ (e : new.covered ≡ old.covered). let d =
-      since.durable in omega arith) (λ (e : new.covered ≡ length new.history). let l =
-      joined_fits new o.joins in omega arith) o.covered)
+      (⊎_elim (λ (e : new.durable ≡ old.durable). let d =
+      since.durable in omega arith) (λ (e : new.durable ≡ length new.history). let l =
+      joined_fits new o.joins in omega arith) o.durable)
       o.joins
-  changes request new is (stays opening faults cause m s) =
+  changes request new is (stays opening faults refusal cause m s) =
       as_before new (asked_by request) is (ap (λ (s : State). s.history) s.state) (ap
-      (λ (s : State). s.pending) s.state) (covers_part new.covered s.covered)
+      (λ (s : State). s.pending) s.state) (covers_part new.durable s.durable)
   changes request new is (keeps k) =
       as_before new (asked_by request) is (ap (λ (s : State). s.history) k.state) (ap
-      (λ (s : State). s.pending) k.state) (covers_part new.covered k.covered)
+      (λ (s : State). s.pending) k.state) (covers_part new.durable k.durable)
   changes request new is (writes items sync by m w) =
       subst (λ others. Since part (asked ++ others) new) (sym by) (wrote items sync new is m w)
   changes request new is (covers c) =
       as_before new (asked_by request) is (ap (λ (s : State). s.history) c.state) (ap
-      (λ (s : State). s.pending) c.state) (covers_part new.covered (inr (ap
-      (λ (s : State). s.covered) c.state)))
+      (λ (s : State). s.pending) c.state) (covers_part new.durable (inr (ap
+      (λ (s : State). s.durable) c.state)))
   changes request new is (breaks m b) =
       let e = broke None new b in
       as_before new (asked_by request) is e.0 (e.1 ∙ sym (none_pending old since.is m)) e.2
   changes request new is (breaks_with items by m b) =
-      let e = broke (Some (batch_of old items)) new b in
+      let e = broke (Some (next_batch old items)) new b in
       subst (λ others. Since part (asked ++ others) new) (sym by)
       (newer new since.more (old.last + 1) items is (e.0 ∙ since.history) e.2
       (ap (λ p. with_batch since.more p) e.1
-      ∙ sym (ap (λ p. with_batch since.more p ++ batch_of old items ∷ [])
+      ∙ sym (ap (λ p. with_batch since.more p ++ next_batch old items ∷ [])
       (none_pending old since.is m))))
   changes request new is (gives one m g) =
       as_before new (asked_by request) is (ap (λ (s : State). s.history) g.state) (ap
       (λ (s : State). s.pending) g.state) (let c =
-      ap (λ (s : State). s.covered) g.state in let d = since.durable in omega arith)
+      ap (λ (s : State). s.durable) g.state in let d = since.durable in omega arith)
   changes request new is (releases one m r) =
       as_before new (asked_by request) is (ap (λ (s : State). s.history) r.state) (ap
       (λ (s : State). s.pending) r.state) (let c =
-      ap (λ (s : State). s.covered) r.state in let d = since.durable in omega arith)
+      ap (λ (s : State). s.durable) r.state in let d = since.durable in omega arith)
   changes request new is (closes c) =
       as_before new (asked_by request) is (ap (λ (s : State). s.history) c.state) (ap
-      (λ (s : State). s.pending) c.state) (covers_part new.covered (inr (ap
-      (λ (s : State). s.covered) c.state)))
+      (λ (s : State). s.pending) c.state) (covers_part new.durable (inr (ap
+      (λ (s : State). s.durable) c.state)))
   changes request new is (abandons locked a) =
       as_before new (asked_by request) is (ap (λ (s : State). s.history) a.state) (ap
       (λ (s : State). s.pending) a.state) (let c =
-      ap (λ (s : State). s.covered) a.state in let d = since.durable in omega arith)
+      ap (λ (s : State). s.durable) a.state in let d = since.durable in omega arith)
 
-  pub since_step : (cmp : List ℕ → List ℕ
-      → Ordering) (faults : Faults) (request : Request) (answer : Answer) (new : State)
-      → Step cmp faults old request answer new → Since part (asked ++ asked_by request) new
-  since_step cmp faults request answer new step =
-      changes request new (step_fits cmp faults old new request answer since.is step)
-      (change cmp faults old new request answer step)
+  pub since_step : (faults : Faults) (request : Request) (answer : Answer) (new : State)
+      → Step old.mode faults old request answer new → Since part (asked ++ asked_by request) new
+  since_step faults request answer new step =
+      changes request new (step_fits faults old new request answer since.is step)
+      (change faults old new request answer step)
 
 -- ---- crashes
 
@@ -242,8 +240,8 @@ module _ (part : History) (asked : List (List Item)) where
   crash_since : (old : State) (least : ℕ) (risk : History) (new : State) → Since part asked old
       → length part ≤ least → risk ≡ with_batch old.history old.pending → IsState new
       → IsPrefixAtLeast least risk new.history
-      → new.pending ≡ None → new.covered ≡ length new.history → Since part asked new
-  crash_since old least risk new since low at is prefix none covered =
+      → new.pending ≡ None → new.durable ≡ length new.history → Since part asked new
+  crash_since old least risk new since low at is prefix none all_durable =
       subst (λ all. Since part all new) (append-nil asked)
       (fewer part asked old since new front rest [] is history durable (sym
       (take-append-drop count whole) ∙ ap (λ p. with_batch front p ++ rest) (sym none)))
@@ -270,130 +268,142 @@ module _ (part : History) (asked : List (List Item)) where
           ∙ with_append part since.more old.pending)
           ∙ ap (λ n. take n (part ++ whole)) sum ∙ take-append-add part whole count
 
-      durable : length part ≤ new.covered
+      durable : length part ≤ new.durable
       durable = let l = ap length history ∙ length-append part front in omega arith
 
   between_since : (old new : State) → Since part asked old → Crashes old (risk_between old) new
       → Since part asked new
-  between_since old new since c = crash_since old old.covered
+  between_since old new since c = crash_since old old.durable
       (risk_between old).history new since since.durable refl
       (crash_between_fits old new since.is c) c.prefix
-      (ap (λ (s : State). s.pending) c.state) (ap (λ (s : State). s.covered) c.state)
+      (ap (λ (s : State). s.pending) c.state) (ap (λ (s : State). s.durable) c.state)
 
-module _ (cmp : List ℕ → List ℕ → Ordering) (part : History) where
+module _ (part : History) where
+  more_asked : (asked others : List (List Item)) (new : State) → Since part asked new
+      → Since part (asked ++ others) new
+  more_asked asked others new since = record {
+    is = since.is;
+    more = since.more;
+    history = since.history;
+    durable = since.durable;
+    some = some_more (batches_of (with_batch since.more new.pending)) asked others since.some;
+  }
+
   inside_since : (asked : List (List Item)) (faults : Faults) (old next new : State)
       (request : Request) (answer : Answer) → Since part asked old
-      → Step cmp faults old request answer next
+      → Step old.mode faults old request answer next
       → Crashes old (risk_of request old next) new → Since part (asked ++ asked_by request) new
   inside_since asked faults old next new request answer since step c =
-      let is = crash_inside_fits cmp faults old next new request answer since.is step c in
+      let is = crash_inside_fits faults old next new request answer since.is step c in
       let none = ap (λ (s : State). s.pending) c.state in
-      let covered = ap (λ (s : State). s.covered) c.state in
+      let durable = ap (λ (s : State). s.durable) c.state in
       ⊎_elim
       (λ (e : risk_of request old next ≡ risk_between next).
-      crash_since part (asked ++ asked_by request) next old.covered
+      crash_since part (asked ++ asked_by request) next old.durable
       (risk_of request old next).history new
-      (since_step part asked old since cmp faults request answer next step) since.durable
-      (ap (λ (r : Risk). r.history) e) is c.prefix none covered)
-      (λ (o : (opening : _) × (risk_of request old next ≡ record (risk_between old) { opening = Some opening })).
+      (since_step part asked old since faults request answer next step) since.durable
+      (ap (λ (r : Risk). r.history) e) is c.prefix none durable)
+      (λ (o : (opening : _) × (risk_of request old next ≡ risk_opening opening old)).
       more_asked asked (asked_by request) new
-      (crash_since part asked old old.covered
+      (crash_since part asked old old.durable
       (risk_of request old next).history new since since.durable (ap
-      (λ (r : Risk). r.history) o.1) is c.prefix none covered))
+      (λ (r : Risk). r.history) o.1) is c.prefix none durable))
       (risk_cases request old next)
-    where
-      more_asked : (asked others : List (List Item)) (new : State) → Since part asked new
-          → Since part (asked ++ others) new
-      more_asked asked others new since = record {
-        is = since.is;
-        more = since.more;
-        history = since.history;
-        durable = since.durable;
-        some = some_more (batches_of (with_batch since.more new.pending)) asked others since.some;
-      }
+
+  -- a crash in a request, whether it had called the device or not
+  in_since : (asked : List (List Item)) (faults : Faults) (last_answer moment : ℕ) (inside : Bool)
+      (old next new : State) (request : Request) (answer : Answer) → Since part asked old
+      → Step old.mode faults old request answer next
+      → CrashesIn last_answer moment inside old request next new
+      → Since part (asked ++ asked_by request) new
+  in_since asked faults last_answer moment inside old next new request answer since step (inl none) =
+      more_asked asked (asked_by request) new (between_since part asked old new since none.2)
+  in_since asked faults last_answer moment inside old next new request answer since step (inr some) =
+      inside_since asked faults old next new request answer since step some.1
 
   -- ---- runs and lives
 
-  -- the batches that these answers' writes asked for
-  abbrev asked_of : List (ℕ × Event) → List (List Item)
-  asked_of answered = flat_map (λ one. asked_by one.1.request) answered
+  -- the batches that these events' writes asked for
+  abbrev asked_of : List Event → List (List Item)
+  asked_of events = flat_map (λ event. asked_by event.request) events
 
-  run_since : (asked : List (List Item)) (before : ℕ) (old : State) (answered : List (ℕ
-      × Event)) (after : ℕ) (new : State) → Since part asked old
-      → Run cmp before old (events_of answered) after new
-      → Since part (asked ++ asked_of answered) new
+  run_since : (asked : List (List Item)) (before : ℕ) (old : State) (events : List Event)
+      (after : ℕ) (new : State) → Since part asked old → Run before old events after new
+      → Since part (asked ++ asked_of events) new
   run_since asked before old [] after new since run =
       subst (λ all. Since part all new) (sym (append-nil asked)) (subst (λ s. Since part asked s)
       (sym run.1) since)
-  run_since asked before old (one ∷ answered) after new since run =
-      subst (λ all. Since part all new) (append_assoc asked (asked_by one.1.request)
-      (asked_of answered))
-      (run_since (asked ++ asked_by one.1.request) one.1.failures run.0 answered after new
-      (since_step part asked old since cmp
-      (faults_of before one.1) one.1.request one.1.answer run.0 run.1) run.2)
+  run_since asked before old (event ∷ events) after new since run =
+      subst (λ all. Since part all new) (append_assoc asked (asked_by event.request)
+      (asked_of events))
+      (run_since (asked ++ asked_by event.request) event.failures run.1 events after new
+      (since_step part asked old since (faults_of before event) event.request event.answer run.1
+      run.2) run.3)
 
   -- none of these had come, and only the first had begun
-  begun_none : (moment : ℕ) (one : ℕ × Event) (undone : List (ℕ × Event)) → moment < one.0
-      → begun_by moment (one ∷ undone) ≡ one ∷ []
-  begun_none moment one undone lt = by_test (nat_le one.0 moment) refl
+  begun_none : (moment : ℕ) (event : Event) (undone : List Event) → moment < event.moment
+      → begun_by moment (event ∷ undone) ≡ event ∷ []
+  begun_none moment event undone lt = by_test (nat_le event.moment moment) refl
     where
-      by_test : (b : Bool) → nat_le one.0 moment ≡ b
-          → one ∷ (if b then begun_by moment undone else []) ≡ one ∷ []
-      by_test true e = absurd (let le = leb-true one.0 moment e in omega arith)
+      by_test : (b : Bool) → nat_le event.moment moment ≡ b
+          → event ∷ (if b then begun_by moment undone else []) ≡ event ∷ []
+      by_test true e = absurd (let le = leb-true event.moment moment e in omega arith)
       by_test false e = refl
 
   -- all of these had come
-  begun_all : (moment : ℕ) (come undone : List (ℕ × Event)) → All (λ one. one.0 ≤ moment) come
+  begun_all : (moment : ℕ) (come undone : List Event) → All (λ event. event.moment ≤ moment) come
       → begun_by moment (come ++ undone) ≡ come ++ begun_by moment undone
   begun_all moment [] undone by = refl
-  begun_all moment (one ∷ come) undone by =
-      ap (λ b. one ∷ (if b then begun_by moment (come ++ undone) else [])) (le-leb one.0 moment
-      (All-head (λ one. one.0 ≤ moment) one come by))
-      ∙ ap (λ rest. one ∷ rest) (begun_all moment come undone (All-tail
-      (λ one. one.0 ≤ moment) one come by))
+  begun_all moment (event ∷ come) undone by =
+      ap (λ b. event ∷ (if b then begun_by moment (come ++ undone) else [])) (le-leb event.moment
+      moment (All-head (λ event. event.moment ≤ moment) event come by))
+      ∙ ap (λ rest. event ∷ rest) (begun_all moment come undone (All-tail
+      (λ event. event.moment ≤ moment) event come by))
 
-  cut_since : (asked : List (List Item)) (moment failures : ℕ) (old : State) (undone : List (ℕ
-      × Event)) (end : ℕ) (last new : State) → All (λ one. moment < one.0) undone
-      → Since part asked old
-      → CrashBefore cmp failures old undone end last new
+  cut_since : (asked : List (List Item)) (last_answer moment : ℕ) (inside : Bool) (failures : ℕ)
+      (old : State) (undone : List Event) (end : ℕ) (last new : State)
+      → All (λ event. moment < event.moment) undone → Since part asked old
+      → CrashBefore last_answer moment inside failures old undone end last new
       → Since part (asked ++ asked_of (begun_by moment undone)) new
-  cut_since asked moment failures old [] end last new not_yet since cut =
+  cut_since asked last_answer moment inside failures old [] end last new not_yet since cut =
       subst (λ all. Since part all new) (sym (append-nil asked))
       (between_since part asked old new since cut.2)
-  cut_since asked moment failures old (one ∷ undone) end last new not_yet since cut =
-      subst (λ begun. Since part (asked ++ asked_of begun) new) (sym (begun_none moment one undone
-      (All-head (λ one. moment < one.0) one undone not_yet)))
-      (subst (λ all. Since part (asked ++ all) new) (sym (append-nil (asked_by one.1.request)))
-      (inside_since asked (faults_of failures one.1) old cut.0 new one.1.request one.1.answer
-      since cut.1 cut.3))
+  cut_since asked last_answer moment inside failures old (event ∷ undone) end last new not_yet since
+      cut =
+      subst (λ begun. Since part (asked ++ asked_of begun) new) (sym (begun_none moment event undone
+      (All-head (λ event. moment < event.moment) event undone not_yet)))
+      (subst (λ all. Since part (asked ++ all) new) (sym (append-nil (asked_by event.request)))
+      (in_since asked (faults_of failures event) last_answer moment inside old cut.1 new
+      event.request event.answer since cut.2 cut.4))
 
-  life_since : (asked : List (List Item)) (before : ℕ) (old : State) (answered : List (ℕ
-      × Event)) (ending : Ending) (after : ℕ) (new : State) → Since part asked old
-      → LifeLeads cmp before old answered ending after new
-      → Since part (asked ++ asked_of (begun_until ending answered)) new
-  life_since asked before old answered goes_on after new since leads =
-      run_since asked before old answered after new since leads
-  life_since asked before old answered (crashes moment counted) after new since leads =
+  life_since : (asked : List (List Item)) (start before : ℕ) (old : State) (events : List Event)
+      (ending : Ending) (after : ℕ) (new : State) → Since part asked old
+      → LifeLeads start before old events ending after new
+      → Since part (asked ++ asked_of (begun_until ending events)) new
+  life_since asked start before old events goes_on after new since leads =
+      run_since asked before old events after new since leads
+  life_since asked start before old events (crashes moment inside counted) after new since leads =
       let s = leads.0.2 in
       subst (λ all. Since part all new)
       (append_assoc asked (asked_of s.done) (asked_of (begun_by moment s.undone))
       ∙ ap (λ all. asked ++ all) (sym (flat_map-append
-      (λ (one : ℕ × Event). asked_by one.1.request) s.done (begun_by moment s.undone)))
+      (λ (event : Event). asked_by event.request) s.done (begun_by moment s.undone)))
       ∙ ap (λ all. asked ++ asked_of all) (sym (ap (begun_by moment) s.split
       ∙ begun_all moment s.done s.undone s.by_then)))
-      (cut_since (asked ++ asked_of s.done) moment s.failures s.state s.undone leads.0.0 leads.0.1
-      new s.not_yet (run_since asked before old s.done s.failures s.state since s.run) s.crash)
+      (cut_since (asked ++ asked_of s.done) (last_moment start s.done) moment inside s.failures
+      s.state s.undone leads.0.0 leads.0.1 new s.not_yet
+      (run_since asked before old s.done s.failures s.state since s.run) s.crash)
 
   pub since_lives : (asked : List (List Item)) (before : ℕ) (old : State) (lives : List Life)
-      (after : ℕ) (new : State) → Since part asked old → Lives cmp before old lives after new
+      (after : ℕ) (new : State) → Since part asked old → Lives before old lives after new
       → Since part (asked ++ asked_in lives) new
   since_lives asked before old [] after new since leads =
       subst (λ all. Since part all new) (sym (append-nil asked)) (subst (λ s. Since part asked s)
       (sym leads.1) since)
   since_lives asked before old (life ∷ lives) after new since leads =
       subst (λ all. Since part all new) (append_assoc asked (asked_of
-      (begun_until life.ending life.answered)) (asked_in lives))
-      (since_lives (asked ++ asked_of (begun_until life.ending life.answered)) leads.0 leads.1
+      (begun_until life.ending life.events)) (asked_in lives))
+      (since_lives (asked ++ asked_of (begun_until life.ending life.events)) leads.0 leads.1
       lives after new
-      (life_since asked before old life.answered life.ending leads.0 leads.1 since leads.2)
+      (life_since asked life.start before old life.events life.ending leads.0 leads.1 since leads.2)
       leads.3)

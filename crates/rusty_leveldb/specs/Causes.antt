@@ -5,6 +5,7 @@ use Rattle.leveldb_base.specs.declared.error.StatusCode.TheVariants.{OutOfMemory
 use Rattle.leveldb_base.specs.History.{Item}
 use Rattle.leveldb_mem.specs.WriteBatch.{batch_bytes, max_length}
 use Rattle.leveldb_version.specs.Contents.{Store, missing, made}
+use Rattle.rusty_leveldb.specs.Format.{Format, HasCompressorError}
 use Rattle.rusty_leveldb.specs.OneLog.{max_sequence}
 use Rattle.rusty_leveldb.specs.State.{State, Opening, Snapshot, Refusal, Request, open_store, write, get, walk, get_snapshot, release_snapshot, compact_range, abandon, Move, seek, reset}
 
@@ -17,15 +18,14 @@ pub data Cause : Type 0 where
   store_exists : Cause
   used_up : Cause
   too_large : Cause
-  coder_failed : Cause
+  compressor_failed : Cause
 
--- what befell a call: how many calls of the device had failed before it and by its end, and the codes that coders answered in it
+-- how many calls of the device had failed before a request, and by its end
 pub record Faults : Type 0 where
   pub before : ℕ
   pub after : ℕ
-  pub coders : List StatusCode
 
--- between these counts of failed calls of the device one was counted, or the count stood at its greatest
+-- between these counts of failed calls one was counted, or the count was at its greatest
 abbrev pub HasFailed : ℕ → ℕ → Type 0
 HasFailed before after = (before < after) ⊎ (before ≡ 2 ^ 64 - 1)
 
@@ -48,7 +48,7 @@ IsNotHeld old (Some named) = Contains old.held named → ⊥
 abbrev pub Disagrees : Opening → Store → Type 0
 Disagrees opening missing = opening.create_if_missing ≡ false
 Disagrees opening (made None) = ⊥
-Disagrees opening (made (Some name)) = name ≢ opening.comparator
+Disagrees opening (made (Some name)) = name ≢ opening.format.order_name
 
 -- an operand, an option or a name is one that is refused
 abbrev pub Misfits : State → Request → Type 0
@@ -70,12 +70,21 @@ abbrev pub Exists : State → Request → Type 0
 Exists old (open_store opening) = IsTrue opening.error_if_exists × (old.store ≢ missing)
 Exists old _ = ⊥
 
--- numbers are used up, or the compressor that is asked for isn't set; an empty batch needs a number that fits, too
+-- after this last number there are none for so many entries, or not even one for an empty batch
+abbrev pub AreUsedUp : ℕ → ℕ → Type 0
+AreUsedUp last count = max_sequence < last + max 1 count
+
+-- the state has no number left for the request, or the compressor that is asked for isn't set
 abbrev pub IsUsedUp : State → Request → Type 0
 IsUsedUp old (open_store opening) = opening.compresses ≡ false
-IsUsedUp old (write items sync) = max_sequence < old.last + max 1 (length items)
+IsUsedUp old (write items sync) = AreUsedUp old.last (length items)
 IsUsedUp old get_snapshot = 2 ^ 64 - 1 ≤ length old.given
 IsUsedUp old _ = ⊥
+
+-- the request's operands fit, and there are numbers for it
+pub record Fits (old : State) (request : Request) : Type 0 where
+  pub operands : Misfits old request → ⊥
+  pub numbers : IsUsedUp old request → ⊥
 
 -- ---- causes
 
@@ -102,37 +111,50 @@ ReachesDevice get_snapshot = ⊥
 ReachesDevice (release_snapshot one) = ⊥
 ReachesDevice _ = Unit {0}
 
--- requests that read or write blocks of tables
-abbrev pub ReachesBlocks : Request → Type 0
-ReachesBlocks (open_store opening) = Unit {0}
-ReachesBlocks (write items sync) = Unit {0}
-ReachesBlocks (get at key) = Unit {0}
-ReachesBlocks (walk at moves) = Unit {0}
-ReachesBlocks (compact_range from to) = Unit {0}
-ReachesBlocks _ = ⊥
+-- the format in which a request reads or writes blocks of tables, if it does
+abbrev pub block_format : State → Request → Option Format
+block_format old (open_store opening) = Some opening.format
+block_format old (write items sync) = Some old.format
+block_format old (get at key) = Some old.format
+block_format old (walk at moves) = Some old.format
+block_format old (compact_range from to) = Some old.format
+block_format old _ = None
+
+-- a compressor of the format fails with the code
+abbrev pub CompressorFails : Option Format → StatusCode → Type 0
+CompressorFails None code = ⊥
+CompressorFails (Some format) code = HasCompressorError format code
 
 -- When a cause comes, and which code and text it has; damage is no cause, since the disk is whole. How much memory the entries take that
 -- are too large isn't in the state: the engine's clauses say it (`IsFull`, `IsTooLarge`).
 abbrev pub Comes : Faults → State → Request → Refusal → Cause → Type 0
-Comes faults old request refusal out_of_memory = TakesMemory request × (refusal.code ≡ OutOfMemory) × (refusal.text ≡ [])
-Comes faults old request refusal device_failed = ReachesDevice request × HasFailed faults.before faults.after
-Comes faults old request refusal lock_is_held = TakesLock request × (refusal.code ≡ LockError) × IsTrue old.locked
-Comes faults old request refusal bad_operand = (refusal.code ≡ InvalidArgument) × Misfits old request
-Comes faults old request refusal store_exists = (refusal.code ≡ AlreadyExists) × Exists old request
+Comes faults old request refusal out_of_memory =
+    TakesMemory request × (refusal.code ≡ OutOfMemory) × (refusal.text ≡ [])
+Comes faults old request refusal device_failed =
+    ReachesDevice request × HasFailed faults.before faults.after
+Comes faults old request refusal lock_is_held =
+    TakesLock request × (refusal.code ≡ LockError) × IsTrue old.locked
+Comes faults old request refusal bad_operand =
+    (refusal.code ≡ InvalidArgument) × Misfits old request
+Comes faults old request refusal store_exists =
+    (refusal.code ≡ AlreadyExists) × Exists old request
 Comes faults old request refusal used_up = (refusal.code ≡ NotSupported) × IsUsedUp old request
 Comes faults old request refusal too_large = FillsMemory request × (refusal.code ≡ NotSupported)
-Comes faults old request refusal coder_failed = ReachesBlocks request × Contains faults.coders refusal.code
+Comes faults old request refusal compressor_failed =
+    CompressorFails (block_format old request) refusal.code
 
 -- the same of a move of a walk, which has an operand of its own; a reset is never refused
 abbrev pub MoveComes : Faults → State → Request → Move → Refusal → Cause → Type 0
 MoveComes faults old request reset refusal cause = ⊥
-MoveComes faults old request move refusal bad_operand = (refusal.code ≡ InvalidArgument) × MoveMisfits move
+MoveComes faults old request move refusal bad_operand =
+    (refusal.code ≡ InvalidArgument) × MoveMisfits move
 MoveComes faults old request move refusal cause = Comes faults old request refusal cause
 
--- the store is closed
+-- the refusal of a closed store
 abbrev pub IsClosedRefusal : Refusal → Type 0
 IsClosedRefusal refusal = refusal.code ≡ InvalidArgument
 
--- the store broke earlier; there may be no memory for the text
+-- the refusal of a store that broke earlier; there may be no memory for the text
 abbrev pub IsBrokenRefusal : Refusal → Type 0
-IsBrokenRefusal refusal = (refusal.code ≡ IOError) × ((refusal.text ≡ []) ⊎ (refusal.text ≡ codes "IOError: reopen the store"))
+IsBrokenRefusal refusal = (refusal.code ≡ IOError)
+    × ((refusal.text ≡ []) ⊎ (refusal.text ≡ codes "IOError: reopen the store"))

@@ -1,10 +1,13 @@
 -- What the engine of a store that is one log has in memory, what that has to do with the disk, and what its calls answer.
 use Rattle.std.specs.Prelude.{◌≡◌, ◌≢◌, ◌≤◌, ◌%◌, ◌⊎◌, ◌↔◌, ℕ, Bool, true, false, List, [], ◌∷◌, ◌++◌, length, Option, Some, None, IsTrue, string_bytes, Contains}
-use Rattle.std.specs.declared.cmp.Ordering.{Ordering}
+use Rattle.leveldb_base.specs.declared.cmp.Cmp.{Ghosts as CmpGhosts}
 use Rattle.leveldb_base.specs.declared.error.Status.{Status}
 use Rattle.leveldb_base.specs.declared.error.StatusCode.TheVariants.{InvalidArgument, NotSupported, Corruption, IOError, LockError}
 use Rattle.leveldb_base.specs.History.{Item, Entry, entries_of, greatest, SameView}
 use Rattle.leveldb_env.specs.declared.env.Env.{Ghosts}
+use Rattle.leveldb_env.specs.declared.filter.FilterPolicy.{Ghosts as FilterGhosts}
+use Rattle.leveldb_env.specs.declared.compressor.CompressorList.{CompressorList}
+use Rattle.leveldb_env.specs.Compressor.{Codings}
 use Rattle.leveldb_env.specs.Env.{File, Disk, bytes_of, AreBytes, Observed}
 use Rattle.leveldb_base.specs.Error.{IsOutOfMemory}
 use Rattle.leveldb_mem.specs.Log.{log_block_size, clean, IsLogFile}
@@ -12,27 +15,28 @@ use Rattle.leveldb_mem.specs.Log.Writer.{WriterState, IsBroken}
 use Rattle.rusty_leveldb.specs.declared.db_impl.engine.Mode.{Mode}
 use Rattle.rusty_leveldb.specs.declared.db_impl.engine.Mode.TheVariants.{Open, Broken, Closed}
 use Rattle.leveldb_version.specs.Paths.{lock_path}
-use Rattle.rusty_leveldb.specs.OneLog.{log_path}
-use Rattle.rusty_leveldb.specs.Recent.{AreUsedUp, IsFull}
+use Rattle.rusty_leveldb.specs.OneLog.{log_path, IsOneLog}
+use Rattle.rusty_leveldb.specs.Recent.{IsFull}
 use Rattle.rusty_leveldb.specs.Replay.{IsLargeLog}
+use Rattle.rusty_leveldb.specs.Format.{Format}
 use Rattle.rusty_leveldb.specs.State as machine
 use Rattle.rusty_leveldb.specs.State.{State, Opening, Request, Answer, open_mode, closed}
-use Rattle.rusty_leveldb.specs.Causes.{IsLongKey, IsLongBatch}
-use Rattle.rusty_leveldb.specs.Serves.{Reads, Serves, Scene, IsUnreadable}
+use Rattle.rusty_leveldb.specs.Causes.{AreUsedUp, IsLongKey, IsLongBatch}
+use Rattle.rusty_leveldb.specs.Serves.{Serves, Scene, IsUnreadable}
 use Rattle.leveldb_env.specs.Options.{Boxed, OptionsOf}
 use Rattle.rusty_leveldb.specs.Boxes.{EngineOf}
 
 -- the store is closed: every call but `abandon` is refused
-abbrev pub IsShut : Mode → Type 0
-IsShut mode = mode ≡ Closed
+abbrev pub IsClosed : Mode → Type 0
+IsClosed mode = mode ≡ Closed
 
 -- it broke, or the writer of its log did: every call that writes is refused
-abbrev pub IsStuck : Mode → WriterState → Type 0
-IsStuck mode writer = (mode ≡ Broken) ⊎ IsTrue writer.broken
+abbrev pub HasBroken : Mode → WriterState → Type 0
+HasBroken mode writer = (mode ≡ Broken) ⊎ IsTrue writer.broken
 
 -- it is closed, or it broke: every call that writes is refused
-abbrev pub IsHalted : Mode → WriterState → Type 0
-IsHalted mode writer = IsShut mode ⊎ IsStuck mode writer
+abbrev pub IsClosedOrBroken : Mode → WriterState → Type 0
+IsClosedOrBroken mode writer = IsClosed mode ⊎ HasBroken mode writer
 
 -- the machine's mode
 abbrev pub mode_of : Mode → machine.Mode
@@ -74,36 +78,45 @@ TimeGoesOn env from to = IsTrue env.models_disk → (env.observed from).moment �
 abbrev pub no_engine : {E C FP F : Type 0} {B : Boxed} → OptionsOf C FP B → Option (EngineOf E C FP F B)
 no_engine options = None
 
-module _ {E C FP F : Type 0} {B : Boxed} (env : Ghosts E F) (cmp : List ℕ → List ℕ → Ordering) where
-  -- what stands around a call
+module _ {E C FP F : Type 0} {B : Boxed} (env : Ghosts E F) where
+  -- before or after a call
   abbrev pub scene : Option (EngineOf E C FP F B) → E → Scene (EngineOf E C FP F B)
-  scene memory at = (memory, env.observed at, env.failures at)
+  scene engine at = record {
+    memory = engine;
+    observed = env.observed at;
+    failures = env.failures at;
+  }
 
-  -- where the disk is told, the call is a step of the machine, for the store under this name
-  abbrev pub AnswersAs : List ℕ → Option (EngineOf E C FP F B) → E → Request → Answer → Option (EngineOf E C FP F B) → E → Type 0
-  AnswersAs store before from request answer after to = IsTrue env.models_disk → Serves store (Reads store) (Recalls env store) cmp (scene before from) request answer (scene after to)
+  -- where the disk is observed, the call is a step of the machine, for the store under this name
+  abbrev pub AnswersAs : List ℕ → Option (EngineOf E C FP F B) → E → Request → Answer
+      → Option (EngineOf E C FP F B) → E → Type 0
+  AnswersAs store before from request answer after to = IsTrue env.models_disk
+      → Serves store (Recalls env store) (scene before from) request answer (scene after to)
 
-  -- the same, whatever store engine and disk stand for
-  abbrev pub Answers : Option (EngineOf E C FP F B) → E → Request → Answer → Option (EngineOf E C FP F B) → E → Type 0
-  Answers before from request answer after to = (store : List ℕ) → AnswersAs store before from request answer after to
+  -- the same, whatever store engine and disk represent
+  abbrev pub Answers : Option (EngineOf E C FP F B) → E → Request → Answer
+      → Option (EngineOf E C FP F B) → E → Type 0
+  Answers before from request answer after to =
+      (store : List ℕ) → AnswersAs store before from request answer after to
 
   -- the same of a call that leaves engine and environment as they are
   abbrev pub AnswersStill : EngineOf E C FP F B → Request → Answer → Type 0
-  AnswersStill engine request answer = (at : E) → Answers (Some engine) at request answer (Some engine) at
+  AnswersStill engine request answer =
+      (at : E) → Answers (Some engine) at request answer (Some engine) at
 
 -- ---- why a call may be refused with no failure of the device
 
 -- the store is closed
-abbrev pub ShutOut : Mode → Status → Type 0
-ShutOut mode e = IsShut mode × (e.code ≡ InvalidArgument)
+abbrev pub RefusedAsClosed : Mode → Status → Type 0
+RefusedAsClosed mode e = IsClosed mode × (e.code ≡ InvalidArgument)
 
 -- the store broke earlier
-abbrev pub ShutDown : Mode → WriterState → Status → Type 0
-ShutDown mode writer e = IsStuck mode writer × IsBroken e
+abbrev pub RefusedAsBroken : Mode → WriterState → Status → Type 0
+RefusedAsBroken mode writer e = HasBroken mode writer × IsBroken e
 
 -- one of the two, and of a closed store the first
-abbrev pub HaltedBy : Mode → WriterState → Status → Type 0
-HaltedBy mode writer e = (ShutOut mode e ⊎ ShutDown mode writer e) × (e.code ≡ IOError → IsShut mode → ⊥)
+abbrev pub RefusedByMode : Mode → WriterState → Status → Type 0
+RefusedByMode mode writer e = (RefusedAsClosed mode e ⊎ RefusedAsBroken mode writer e) × (e.code ≡ IOError → IsClosed mode → ⊥)
 
 module _ {E C FP F : Type 0} {B : Boxed} (env : Ghosts E F) where
   -- an append to the log or a sync of it: out of memory, or a disk that is observed has lost the log, which is
@@ -116,13 +129,13 @@ module _ {E C FP F : Type 0} {B : Boxed} (env : Ghosts E F) where
 
   -- why a write may fail where the device didn't: the store is closed or broken, the batch is too long, no numbers are left, its entries are too many in memory, or the log vanished
   abbrev pub WriteExcused : EngineOf E C FP F B → E → E → List Item → Status → Type 0
-  WriteExcused engine at now items e = ShutOut engine.mode e ⊎ ShutDown engine.mode engine.writer e
+  WriteExcused engine at now items e = RefusedAsClosed engine.mode e ⊎ RefusedAsBroken engine.mode engine.writer e
       ⊎ ((e.code ≡ InvalidArgument) × IsLongBatch items) ⊎ ((e.code ≡ NotSupported) × (AreUsedUp engine.recent.last (length items)
       ⊎ (IsFull engine.recent.kept items × (env.failures now ≡ env.failures at)))) ⊎ LogExcused engine at now e
 
   -- why a flush may fail where the device didn't: the store is closed or broken, or the log vanished
   abbrev pub SyncExcused : EngineOf E C FP F B → E → E → Status → Type 0
-  SyncExcused engine at now e = ShutOut engine.mode e ⊎ ShutDown engine.mode engine.writer e
+  SyncExcused engine at now e = RefusedAsClosed engine.mode e ⊎ RefusedAsBroken engine.mode engine.writer e
       ⊎ LogExcused engine at now e
 
   -- as a sync, where nothing was counted: giving back the lock may be refused with the same code, and that is counted
@@ -131,7 +144,7 @@ module _ {E C FP F : Type 0} {B : Boxed} (env : Ghosts E F) where
 
 -- why a look-up may fail: the store is closed, the key is too long, or memory ran out
 abbrev pub GetExcused : Mode → List ℕ → Status → Type 0
-GetExcused mode key e = ShutOut mode e ⊎ ((e.code ≡ InvalidArgument) × IsLongKey key) ⊎ IsOutOfMemory e
+GetExcused mode key e = RefusedAsClosed mode e ⊎ ((e.code ≡ InvalidArgument) × IsLongKey key) ⊎ IsOutOfMemory e
 
 -- ---- opening
 
@@ -139,12 +152,34 @@ GetExcused mode key e = ShutOut mode e ⊎ ((e.code ≡ InvalidArgument) × IsLo
 abbrev pub IsStoreName : List ℕ → Type 0
 IsStoreName name = (name ≢ []) × ((front : List ℕ) → name ≡ front ++ 47 ∷ [] → ⊥)
 
--- the request that an opening is; a store that is one log keeps no comparator's name, so any will do
-pub record IsOpening (name : List ℕ) (create_if_missing : Bool) (opening : Opening) : Type 0 where
-  pub create : opening.create_if_missing ≡ create_if_missing
-  pub exists : opening.error_if_exists ≡ false
+-- the format of a store with these options, where the ghosts say what comparators and filter policies mean,
+-- and `codings` which compressors a list has
+abbrev pub format_of : {C FP : Type 0} {B : Boxed} → CmpGhosts C → FilterGhosts FP
+    → (CompressorList B.compressors B.compressor → Codings) → OptionsOf C FP B → Format
+format_of cmp filters codings options = record {
+  order = cmp.cmp options.cmp;
+  order_name = cmp.name options.cmp;
+  codings = codings options.compressor_list;
+  policy_name = filters.name options.filter_policy;
+  matches = filters.matches options.filter_policy;
+}
+
+-- The opening that the options ask for. A store that is there may be there, whatever they say, and since a
+-- store that is one log has no blocks, no compressor is asked for.
+abbrev pub opening_of : {C FP : Type 0} {B : Boxed} → CmpGhosts C → FilterGhosts FP
+    → (CompressorList B.compressors B.compressor → Codings) → OptionsOf C FP B → Opening
+opening_of cmp filters codings options = record {
+  format = format_of cmp filters codings options;
+  create_if_missing = options.create_if_missing;
+  error_if_exists = false;
+  fits = true;
+  compresses = true;
+}
+
+-- the opening that is asked for, under a name that is a store's exactly if it fits
+pub record IsOpening (name : List ℕ) (asked opening : Opening) : Type 0 where
+  pub same : opening ≡ record asked { fits = opening.fits }
   pub fits : IsTrue opening.fits ↔ IsStoreName name
-  pub compresses : opening.compresses ≡ true
 
 -- why an opening may be refused with no failure of the device: damage, where nothing can be read of the files
 abbrev pub OpenExcused : Bool → List ℕ → Bool → Observed → Status → Type 0
@@ -152,5 +187,5 @@ OpenExcused models_disk name create_if_missing told e = IsOutOfMemory e
     ⊎ ((e.code ≡ InvalidArgument) × (IsStoreName name → ⊥))
     ⊎ ((e.code ≡ InvalidArgument) × (create_if_missing ≡ false) × (IsTrue models_disk → told.disk.files (log_path name) ≡ None))
     ⊎ ((e.code ≡ LockError) × (IsTrue models_disk → told.disk.locked (lock_path name) ≡ true))
-    ⊎ ((e.code ≡ Corruption) × (IsTrue models_disk → IsUnreadable (Reads name) told.disk.files))
+    ⊎ ((e.code ≡ Corruption) × (IsTrue models_disk → IsUnreadable (IsOneLog (log_path name)) told.disk.files))
     ⊎ IsLargeLog models_disk (told.disk.files (log_path name)) e

@@ -1,11 +1,11 @@
 -- What holds of the machine and of disks that hold its history, in the format of this store.
 use Rattle.std.specs.Prelude.{◌≡◌, ◌≢◌, ◌≤◌, ◌⊎◌, ℕ, List, [], ◌∷◌, ◌++◌, map, flat_map, take, Option, Some, None, Contains, true, false, IsTrue, nat_le, if◌then◌else◌}
-use Rattle.std.specs.declared.cmp.Ordering.{Ordering}
 use Rattle.leveldb_base.specs.History.{Item, Entry, History}
 use Rattle.leveldb_env.specs.declared.env.Env.{Ghosts}
 use Rattle.leveldb_env.specs.Env.{Files, Disk, FilesCrashTo, DiskCrashesTo, Since}
 use Rattle.leveldb_version.specs.Paths.{lock_path}
 use Rattle.leveldb_version.specs.Contents.{Contents}
+use Rattle.rusty_leveldb.specs.Format.{Format}
 use Rattle.rusty_leveldb.specs.OneLog.{log_path}
 use Rattle.leveldb_version.specs.Holds.{IsHonest, CarriesPrefix}
 use Rattle.rusty_leveldb.specs.State.{State, IsState, broken, closed, Opening, Request, open_store, write, get, flush, close, Answer, done, found, Refusal, refused}
@@ -18,50 +18,50 @@ use Rattle.rusty_leveldb.specs.Serves.{Reads, StandsFor, IsSpared, AtEachMoment}
 
 -- files have one reading
 abbrev pub OneReading : Type 0
-OneReading = (store : List ℕ) (files : Files) (these those : Contents)
-    → Reads store files these → Reads store files those → these ≡ those
+OneReading = (store : List ℕ) (format : Format) (files : Files) (these those : Contents)
+    → Reads store format files these → Reads store format files those → these ≡ those
 
 -- where neither a log nor a lock is, a new store is represented
 abbrev pub NothingStands : Type 0
-NothingStands = (store : List ℕ) (disk : Disk)
+NothingStands = (store : List ℕ) (format : Format) (disk : Disk)
     → disk.files (log_path store) ≡ None → disk.locked (lock_path store) ≡ false
-    → StandsFor store (Reads store) disk new_state
+    → StandsFor store disk (new_state format)
 
 -- an honest crash between two requests leaves a disk that represents a state of the crash row
 abbrev pub CrashBetween : Type 0
 CrashBetween = (store : List ℕ) (old : State) (disk left : Disk)
-    → StandsFor store (Reads store) disk old → DiskCrashesTo disk left
+    → StandsFor store disk old → DiskCrashesTo disk left
     → IsHonest store disk.files left.files
     → (after : State) × Crashes old (risk_between old) after
-    × StandsFor store (Reads store) left after
+    × StandsFor store left after
 
 -- and so does one at a moment inside a request that led from the old state to the new one
 abbrev pub CrashInside : Type 0
 CrashInside = (store : List ℕ) (old new : State) (request : Request) (files : Files) (left : Disk)
-    → IsState old → IsState new → IsSpared store (Reads store) old (risk_of request old new) files
+    → IsState old → IsState new → IsSpared store old (risk_of request old new) files
     → FilesCrashTo files left.files → IsHonest store files left.files
     → ((name : List ℕ) → left.locked name ≡ false)
     → (after : State) × Crashes old (risk_of request old new) after
-    × StandsFor store (Reads store) left after
+    × StandsFor store left after
 
 -- From a call's moments: wherever an honest crash comes since the call began, what is left carries
 -- a prefix of what was at risk, the pending batch included, with all that was durable as the call
 -- began.
 abbrev pub CrashSince : {E F : Type 0} → Ghosts E F → Type 0
 CrashSince {E = E} env = (store : List ℕ) (old new : State) (request : Request) (from to : E)
-    → AtEachMoment store (Reads store) request old new (env.observed from) (env.observed to)
+    → AtEachMoment store request old new (env.observed from) (env.observed to)
     → (files left : Files) → Since (env.observed to) (env.observed from).moment files left
     → IsHonest store files left
     → let risk = risk_of request old new in
-    CarriesPrefix store (Reads store) (StaysOr risk.opening old.store) risk.bound old.covered
+    CarriesPrefix store (Reads store risk.format) (StaysOr risk.opening old.store) risk.bound old.durable
     risk.history left
 
 -- ---- refusals
 
 -- a refusal has one of the causes, or the store was closed, or it broke earlier
 abbrev pub RefusalHasCause : Type 0
-RefusalHasCause = (cmp : List ℕ → List ℕ → Ordering) (faults : Faults) (old new : State)
-    (request : Request) (refusal : Refusal) → Step cmp faults old request (refused refusal) new
+RefusalHasCause = (faults : Faults) (old new : State)
+    (request : Request) (refusal : Refusal) → Step old.mode faults old request (refused refusal) new
     → ((cause : Cause) × Comes faults old request refusal cause)
     ⊎ ((old.mode ≡ closed) × IsClosedRefusal refusal)
     ⊎ ((old.mode ≡ broken) × IsBrokenRefusal refusal)
@@ -70,9 +70,9 @@ RefusalHasCause = (cmp : List ℕ → List ℕ → Ordering) (faults : Faults) (
 
 -- a step leads from a state to a state
 abbrev pub StepFits : Type 0
-StepFits = (cmp : List ℕ → List ℕ → Ordering) (faults : Faults) (old new : State)
+StepFits = (faults : Faults) (old new : State)
     (request : Request) (answer : Answer)
-    → IsState old → Step cmp faults old request answer new → IsState new
+    → IsState old → Step old.mode faults old request answer new → IsState new
 
 -- and so does a crash between two requests
 abbrev pub CrashFits : Type 0
@@ -80,14 +80,14 @@ CrashFits = (old new : State) → IsState old → Crashes old (risk_between old)
 
 -- or inside one that would have led on
 abbrev pub CrashInsideFits : Type 0
-CrashInsideFits = (cmp : List ℕ → List ℕ → Ordering) (faults : Faults) (old next new : State)
-    (request : Request) (answer : Answer) → IsState old → Step cmp faults old request answer next
+CrashInsideFits = (faults : Faults) (old next new : State)
+    (request : Request) (answer : Answer) → IsState old → Step old.mode faults old request answer next
     → Crashes old (risk_of request old next) new → IsState new
 
 -- so do lives, one after another
 abbrev pub LivesFit : Type 0
-LivesFit = (cmp : List ℕ → List ℕ → Ordering) (lives : List Life) (before after : ℕ)
-    (old new : State) → IsState old → Lives cmp before old lives after new → IsState new
+LivesFit = (lives : List Life) (before after : ℕ)
+    (old new : State) → IsState old → Lives before old lives after new → IsState new
 
 -- ---- what is durable
 
@@ -104,36 +104,36 @@ MakesDurable request answer = ⊥
 
 -- whatever lives follow, the history begins with the batches that were durable
 abbrev pub DurableStays : Type 0
-DurableStays = (cmp : List ℕ → List ℕ → Ordering) (lives : List Life) (before after : ℕ)
-    (old last : State) → IsState old → Lives cmp before old lives after last
-    → BeginsWith last.history (take old.covered old.history)
+DurableStays = (lives : List Life) (before after : ℕ)
+    (old last : State) → IsState old → Lives before old lives after last
+    → BeginsWith last.history (take old.durable old.history)
 
 -- and after a synced write, a flush or a close that was done it begins with the history as of that
 -- answer
 abbrev pub SyncedStays : Type 0
-SyncedStays = (cmp : List ℕ → List ℕ → Ordering) (faults : Faults) (old next last : State)
+SyncedStays = (faults : Faults) (old next last : State)
     (request : Request) (answer : Answer) (lives : List Life) (before after : ℕ)
-    → IsState old → Step cmp faults old request answer next → MakesDurable request answer
-    → Lives cmp before next lives after last → BeginsWith last.history next.history
+    → IsState old → Step old.mode faults old request answer next → MakesDurable request answer
+    → Lives before next lives after last → BeginsWith last.history next.history
 
 -- an answer came by the end of its life
 abbrev pub IsInTime : ℕ → Ending → Type 0
 IsInTime moment goes_on = Unit {0}
-IsInTime moment (crashes at counted) = moment ≤ at
+IsInTime moment (crashes at inside counted) = moment ≤ at
 
 -- Lives have a state before and after each answer that came in time: what was answered before it
 -- leads there, and the rest of its life and the later ones lead on.
 abbrev pub EachAnswerParts : Type 0
-EachAnswerParts = (cmp : List ℕ → List ℕ → Ordering) (earlier later : List Life) (ending : Ending)
-    (answered undone : List (ℕ × Event)) (one : ℕ × Event) (before after : ℕ) (old last : State)
-    → let whole : Life = record { answered = answered ++ one ∷ undone; ending = ending } in
-    let front : Life = record { answered = answered; ending = goes_on } in
-    let rest : Life = record { answered = undone; ending = ending } in
-    IsInTime one.0 ending → Lives cmp before old (earlier ++ whole ∷ later) after last
+EachAnswerParts = (earlier later : List Life) (start : ℕ) (ending : Ending)
+    (answered undone : List Event) (one : Event) (before after : ℕ) (old last : State)
+    → let whole : Life = record { start = start; events = answered ++ one ∷ undone; ending = ending }
+    in let front : Life = record { start = start; events = answered; ending = goes_on } in
+    let rest : Life = record { start = one.moment; events = undone; ending = ending } in
+    IsInTime one.moment ending → Lives before old (earlier ++ whole ∷ later) after last
     → (failures : ℕ) × (state : State) × (next : State)
-    × Lives cmp before old (earlier ++ front ∷ []) failures state
-    × Step cmp (faults_of failures one.1) state one.1.request one.1.answer next
-    × Lives cmp one.1.failures next (rest ∷ later) after last
+    × Lives before old (earlier ++ front ∷ []) failures state
+    × Step state.mode (faults_of failures one) state one.request one.answer next
+    × Lives one.failures next (rest ∷ later) after last
 
 -- ---- what a history is made of
 
@@ -157,35 +157,35 @@ abbrev pub asked_by : Request → List (List Item)
 asked_by (write items sync) = items ∷ []
 asked_by request = []
 
--- of these answers those whose request had begun by a moment: they came by then, or next
-abbrev pub begun_by : ℕ → List (ℕ × Event) → List (ℕ × Event)
+-- of these events those whose request had begun by a moment: their answers came by then, or next
+abbrev pub begun_by : ℕ → List Event → List Event
 begun_by moment [] = []
-begun_by moment (one ∷ answered) =
-    one ∷ (if nat_le one.0 moment then begun_by moment answered else [])
+begun_by moment (event ∷ events) =
+    event ∷ (if nat_le event.moment moment then begun_by moment events else [])
 
--- the answers whose request had begun by the end of a life
-abbrev pub begun_until : Ending → List (ℕ × Event) → List (ℕ × Event)
-begun_until goes_on answered = answered
-begun_until (crashes moment counted) answered = begun_by moment answered
+-- the events whose request had begun by the end of a life
+abbrev pub begun_until : Ending → List Event → List Event
+begun_until goes_on events = events
+begun_until (crashes moment inside counted) events = begun_by moment events
 
 -- the batches that were asked for in these lives by writes that had begun, in order
 abbrev pub asked_in : List Life → List (List Item)
 asked_in lives = flat_map
-    (λ life. flat_map (λ one. asked_by one.1.request) (begun_until life.ending life.answered))
+    (λ life. flat_map (λ event. asked_by event.request) (begun_until life.ending life.events))
     lives
 
 -- the batches of every history that lives lead to were asked for by writes, whole and in order
 abbrev pub HistoryIsAsked : Type 0
-HistoryIsAsked = (cmp : List ℕ → List ℕ → Ordering) (lives : List Life) (after : ℕ) (last : State)
-    → Lives cmp 0 new_state lives after last
+HistoryIsAsked = (format : Format) (lives : List Life) (after : ℕ) (last : State)
+    → Lives 0 (new_state format) lives after last
     → IsSubsequence (batches_of last.history) (asked_in lives)
 
 -- after a synced write, a flush or a close that was done so were all after that answer's history
 abbrev pub MoreIsAsked : Type 0
-MoreIsAsked = (cmp : List ℕ → List ℕ → Ordering) (faults : Faults) (old next last : State)
+MoreIsAsked = (faults : Faults) (old next last : State)
     (request : Request) (answer : Answer) (lives : List Life) (before after : ℕ)
-    → IsState old → Step cmp faults old request answer next → MakesDurable request answer
-    → Lives cmp before next lives after last
+    → IsState old → Step old.mode faults old request answer next → MakesDurable request answer
+    → Lives before next lives after last
     → (more : History) × (last.history ≡ next.history ++ more)
     × IsSubsequence (batches_of more) (asked_in lives)
 
@@ -199,44 +199,49 @@ NoneHasKey key batches = (batch : List Item) → Contains batches batch
 -- After a synced write of a value that was done, and no later write of its key, a look-up of the key
 -- in any life finds that value, if it isn't refused.
 abbrev pub SyncedIsRead : Type 0
-SyncedIsRead = (cmp : List ℕ → List ℕ → Ordering) (faults later : Faults)
+SyncedIsRead = (faults later : Faults)
     (old written last new : State) (key value : List ℕ) (lives : List Life) (before after : ℕ)
     (looked : Option (List ℕ))
     → IsState old
-    → Step cmp faults old (write (record { key = key; value = Some value } ∷ []) true) done written
-    → NoneHasKey key (asked_in lives) → Lives cmp before written lives after last
-    → Step cmp later last (get None key) (found looked) new → looked ≡ Some value
+    → Step old.mode faults old (write (record { key = key; value = Some value } ∷ []) true) done written
+    → NoneHasKey key (asked_in lives) → Lives before written lives after last
+    → Step last.mode later last (get None key) (found looked) new → looked ≡ Some value
 
 -- ---- an example
 
 -- an answer that came at this moment, with no failure
-abbrev pub told_at : ℕ → Request → Answer → ℕ × Event
-told_at moment request answer =
-    (moment, record { request = request; answer = answer; failures = 0; coders = [] })
+abbrev pub answered_at : ℕ → Request → Answer → Event
+answered_at moment request answer =
+    record { moment = moment; request = request; answer = answer; failures = 0 }
 
--- a life that makes a store and writes a value with a sync, cut short after that, and one that finds
--- the value
+-- a life that makes a store and writes a value with a sync, cut short right after that, and one that
+-- finds the value
 abbrev pub written_and_found : Opening → List ℕ → List ℕ → List Life
 written_and_found opening key value =
     record {
-      answered =
-          told_at 1 (open_store opening) done
-          ∷ told_at 2 (write (record { key = key; value = Some value } ∷ []) true) done
-          ∷ told_at 3 (get None key) (found (Some value))
+      start = 0;
+      events =
+          answered_at 1 (open_store opening) done
+          ∷ answered_at 2 (write (record { key = key; value = Some value } ∷ []) true) done
+          ∷ answered_at 3 (get None key) (found (Some value))
           ∷ [];
-      ending = crashes 2 0;
+      ending = crashes 2 false 0;
     }
     ∷ record {
-      answered =
-          told_at 1 (open_store opening) done ∷ told_at 2 (get None key) (found (Some value)) ∷ [];
+      start = 0;
+      events =
+          answered_at 1 (open_store opening) done
+          ∷ answered_at 2 (get None key) (found (Some value))
+          ∷ [];
       ending = goes_on;
     }
     ∷ []
 
--- these lives may be, where neither the key nor the batch is too long
+-- these lives may be, if neither the key nor the batch is too long
 abbrev pub SyncedCanBeFound : Type 0
-SyncedCanBeFound = (cmp : List ℕ → List ℕ → Ordering) (opening : Opening) (key value : List ℕ)
+SyncedCanBeFound = (opening : Opening) (key value : List ℕ)
     → (IsLongKey key → ⊥) → (IsLongBatch (record { key = key; value = Some value } ∷ []) → ⊥)
     → IsTrue opening.fits → IsTrue opening.compresses → IsTrue opening.create_if_missing
     → opening.error_if_exists ≡ false
-    → (last : State) × Lives cmp 0 new_state (written_and_found opening key value) 0 last
+    → (last : State)
+    × Lives 0 (new_state opening.format) (written_and_found opening key value) 0 last

@@ -1,4 +1,5 @@
 pub mod Boxes
+pub mod Format
 pub mod OneLog
 pub mod State
 pub mod Unread

@@ -1,11 +1,14 @@
 -- Lives of a store on a device that records its calls: what a report says of its life, and what reports say of lives one after another, with
 -- crashes between them.
-use Rattle.std.specs.Prelude.{◌≡◌, ◌≤◌, ◌↔◌, ◌⊎◌, ◌+◌, ◌-◌, ℕ, Bool, true, false, All, List, [], ◌∷◌, ◌++◌, map, Option, Some, None, unwrap_or, Result, Ok, Err, OnErr, IfOk, IfErr, IsTrue, Vec}
+use Rattle.std.specs.Prelude.{◌≡◌, ◌≤◌, ◌↔◌, ◌⊎◌, ◌+◌, ◌-◌, ◌%◌, ◌==◌, ℕ, Bool, false, All, List, [], ◌∷◌, ◌++◌, map, Option, Some, None, unwrap_or, Result, Ok, Err, OnErr, IfOk, IfErr, IsTrue, Vec}
 use Rattle.std.specs.declared.alloc.Global.{Global}
-use Rattle.std.specs.declared.cmp.Ordering.{Ordering}
+use Rattle.leveldb_base.specs.declared.cmp.Cmp.{Ghosts as CmpGhosts}
 use Rattle.leveldb_base.specs.declared.error.Status.{Status}
 use Rattle.leveldb_base.specs.declared.error.StatusCode.TheVariants.{InvalidArgument}
 use Rattle.leveldb_env.specs.declared.env.Env.{Ghosts}
+use Rattle.leveldb_env.specs.declared.compressor.CompressorList.{CompressorList}
+use Rattle.leveldb_env.specs.Compressor.{Codings}
+use Rattle.leveldb_env.specs.declared.filter.FilterPolicy.{Ghosts as FilterGhosts}
 use Rattle.leveldb_env.specs.declared.mem_env.record.RecordEnv.{RecordEnv}
 use Rattle.leveldb_env.specs.declared.mem_env.picks.Pick.{Pick}
 use Rattle.leveldb_base.specs.Error.{IsOutOfMemory}
@@ -15,12 +18,13 @@ use Rattle.leveldb_env.specs.Record.{record_observed, moment_of, fails_in, fails
 use Rattle.rusty_leveldb.specs.declared.shell.commands.Command.{Command}
 use Rattle.rusty_leveldb.specs.declared.shell.commands.Reply.{Reply}
 use Rattle.rusty_leveldb.specs.declared.shell.crash_runs.Report.{Report}
+use Rattle.rusty_leveldb.specs.Format.{Format}
 use Rattle.rusty_leveldb.specs.State.{State, Opening, Request, open_store, abandon, Answer, done, refused}
 use Rattle.leveldb_version.specs.Holds.{IsHonest}
 use Rattle.rusty_leveldb.specs.Runs as machine
 use Rattle.rusty_leveldb.specs.Runs.{Ending, goes_on, crashes, Lives, new_state}
-use Rattle.rusty_leveldb.specs.Serves.{Reads, Represents, IsConversation, refusal_of}
-use Rattle.rusty_leveldb.specs.Engine.{Recalls, IsStoreName, IsOpening}
+use Rattle.rusty_leveldb.specs.Serves.{Represents, IsConversation, refusal_of}
+use Rattle.rusty_leveldb.specs.Engine.{Recalls, IsStoreName, IsOpening, opening_of}
 use Rattle.rusty_leveldb.specs.Shell.{LeadsAt, request_of, answer_of}
 use Rattle.leveldb_env.specs.Options.{Boxed, nothing_boxed}
 use Rattle.rusty_leveldb.specs.Boxes.{LifeOf}
@@ -51,18 +55,20 @@ pub record IsReportOf (report : Report) (answers : List Answer) (moments : List 
   pub moments_are : moments ≡ moments_of report.opened report.replies.items first last
   pub no_replies : OnErr report.opened (report.replies.items ≡ [])
 
-module _ {E F : Type 0} (C FP : Type 0) (env : Ghosts E F) (cmp : List ℕ → List ℕ → Ordering) (store : List ℕ) where
+module _ {E F : Type 0} (C FP : Type 0) (env : Ghosts E F) (store : List ℕ) where
   -- the report of a run of the machine, from this state on, over the environment as it was to what it is
   pub record IsLife (from : E) (opening : Opening) (commands : List Command) (report : Report) (to : E) (old : State) : Type 0 where
     pub answers : List Answer
     pub moments : List ℕ
     pub reported : IsReportOf report answers (map (λ moment. moment - (env.observed from).moment) moments)
-    pub run : LeadsAt C FP {B = nothing_boxed} env cmp store from (requests_of opening commands report.opened) answers moments None to old
+    pub run : LeadsAt C FP {B = nothing_boxed} env store from (requests_of opening commands report.opened) answers moments None to old
 
   -- the same from every state that the disk represents
-  abbrev pub IsAlwaysLife : E → Bool → List Command → Report → E → Type 0
-  IsAlwaysLife from create_if_missing commands report to = (opening : Opening) → IsOpening store create_if_missing opening
-      → (old : State) → Represents store (Reads store) (Recalls {C = C} {FP = FP} {B = nothing_boxed} env store) None (env.observed from).disk old
+  abbrev pub IsAlwaysLife : E → Opening → List Command → Report → E → Type 0
+  IsAlwaysLife from asked commands report to = (opening : Opening) → IsOpening store asked opening
+      → (old : State)
+      → Represents store (Recalls {C = C} {FP = FP} {B = nothing_boxed} env store) None
+      (env.observed from).disk old
       → IsLife from opening commands report to old
 
 -- ---- what follows a life
@@ -85,24 +91,25 @@ abbrev pub IsNextDevice : (RecordEnv → ℕ → Pick → RecordEnv → Type 0) 
 IsNextDevice Crash start None pick device next = next ≡ device
 IsNextDevice Crash start (Some moment) pick device next = Crash device (start + moment) pick next
 
--- how the machine's life ends, by the moment of its crash
-abbrev pub ending_of : Option ℕ → Ending
-ending_of None = goes_on
-ending_of (Some moment) = crashes moment 0
+-- how the machine's life ends, by the moment of its crash from its start; an odd one is inside a call
+abbrev pub ending_of : ℕ → Option ℕ → Ending
+ending_of start None = goes_on
+ending_of start (Some moment) = crashes (start + moment) ((start + moment) % 2 == 1) 0
 
--- the opening of a store that is one log, which needs no comparator's name
-abbrev pub opening_of : Bool → Bool → Opening
-opening_of fits create = record { comparator = []; create_if_missing = create; error_if_exists = false; fits = fits; compresses = true }
+-- the opening that is asked for, under a name that fits or not
+abbrev pub with_name : Bool → Opening → Opening
+with_name fits asked = record asked { fits = fits }
 
 -- ---- lives, one after another
 
-module _ {C FP F : Type 0} {B : Boxed} (env : Ghosts RecordEnv F) (order : C → List ℕ → List ℕ → Ordering) (store : List ℕ) where
+module _ {C FP F : Type 0} {B : Boxed} (env : Ghosts RecordEnv F) (cmp : CmpGhosts C)
+    (filters : FilterGhosts FP) (codings : CompressorList B.compressors B.compressor → Codings) (store : List ℕ) where
   -- the report of one life on this device, where the call that the life names was chosen to fail, 0 being none
   pub record IsLifeOn (device : RecordEnv) (life : LifeOf C FP B) (report : Report) (to : RecordEnv) : Type 0 where
     pub from : RecordEnv
     pub same : SameObserved device from
     pub failing : (fails_in from, fails_done from) ≡ unwrap_or life.fail (0, false)
-    pub life_is : IsAlwaysLife C FP env (order life.options.cmp) store from life.options.create_if_missing life.commands.items report to
+    pub life_is : IsAlwaysLife C FP env store from (opening_of cmp filters codings life.options) life.commands.items report to
 
   -- the reports of lives one after another with crashes of this kind, from this device to that
   abbrev pub AreReports : (RecordEnv → ℕ → Pick → RecordEnv → Type 0) → RecordEnv → List (LifeOf C FP B) → List Report → RecordEnv → Type 0
@@ -122,13 +129,15 @@ module _ {C FP F : Type 0} {B : Boxed} (env : Ghosts RecordEnv F) (order : C →
   abbrev pub AreReportsFromNone : (RecordEnv → ℕ → Pick → RecordEnv → Type 0) → List (LifeOf C FP B) → List Report → Type 0
   AreReportsFromNone Crash lives reports = (end : RecordEnv) × AreReportsTo Crash lives reports end
 
-  -- the machine's life of a life and its report, with moments from the life's start
+  -- the machine's life of a life and its report, whose moments are from the life's start
   pub record IsLifeOf (fits : Bool) (life : LifeOf C FP B) (report : Report) (of_machine : machine.Life) : Type 0 where
     pub answers : List Answer
     pub moments : List ℕ
     pub reported : IsReportOf report answers moments
-    pub asked : IsConversation (requests_of (opening_of fits life.options.create_if_missing) life.commands.items report.opened) answers moments of_machine.answered
-    pub ending : of_machine.ending ≡ ending_of life.moment
+    pub asked : IsConversation
+        (requests_of (with_name fits (opening_of cmp filters codings life.options)) life.commands.items report.opened)
+        answers (map (λ moment. of_machine.start + moment) moments) of_machine.events
+    pub ending : of_machine.ending ≡ ending_of of_machine.start life.moment
 
   -- each in turn
   abbrev pub AreLivesOf : Bool → List (LifeOf C FP B) → List Report → List machine.Life → Type 0
@@ -136,11 +145,11 @@ module _ {C FP F : Type 0} {B : Boxed} (env : Ghosts RecordEnv F) (order : C →
   AreLivesOf fits (life ∷ lives) (report ∷ reports) (one ∷ others) = IsLifeOf fits life report one × AreLivesOf fits lives reports others
   AreLivesOf fits _ _ _ = ⊥
 
-  -- the reports of all lives are one run of the machine with its crash rows, from a missing store on, where all lives have one order
+  -- the reports of all lives are one run of the machine with its crash rows, from a missing store on
   abbrev pub AreOneRun : List (LifeOf C FP B) → List Report → Type 0
-  AreOneRun lives reports = (cmp : List ℕ → List ℕ → Ordering) (fits : Bool) → (IsTrue fits ↔ IsStoreName store) → All (λ life. order life.options.cmp ≡ cmp) lives
+  AreOneRun lives reports = (format : Format) (fits : Bool) → (IsTrue fits ↔ IsStoreName store)
       → (of_machine : List machine.Life) × AreLivesOf fits lives reports of_machine
-      × (failures : ℕ) × (last : State) × Lives cmp 0 new_state of_machine failures last
+      × (failures : ℕ) × (last : State) × Lives 0 (new_state format) of_machine failures last
 
   -- a life that ran after those before it has a crash that can't be: its moment is still to come, or no crash leaves what its pick says
   pub record HasNoCrash (lives : List (LifeOf C FP B)) : Type 0 where

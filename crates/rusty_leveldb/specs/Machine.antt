@@ -1,54 +1,58 @@
--- The store as a machine: which answer a request may have in a state, and in which state the store then is.
-use Rattle.std.specs.Prelude.{◌≡◌, ◌≤◌, ◌+◌, ◌-◌, ◌^◌, ◌⊎◌, ℕ, Bool, true, false, List, [], ◌∷◌, ◌++◌, length, max, Option, Some, None, Contains, IsTrue}
+-- The store as a machine: the answers that a request may have in a state, and the states to which they
+-- lead.
+use Rattle.std.specs.Prelude.{◌≡◌, ◌≤◌, ◌+◌, ◌⊎◌, ℕ, Bool, true, false, List, [], ◌∷◌, ◌++◌, length, Option, Some, None, Contains, IsTrue}
 use Rattle.std.specs.declared.cmp.Ordering.{Ordering}
 use Rattle.leveldb_base.specs.History.{Item, Entry, History, placed, entries_of, greatest, with_batch, count_of, IsPrefixAtLeast, IsValueAt, IsView}
 use Rattle.leveldb_base.specs.Types.{Pair, position_within, next_position, previous_position, seek_position, pair_at}
 use Rattle.leveldb_version.specs.Contents.{Store, missing, made}
-use Rattle.rusty_leveldb.specs.OneLog.{max_sequence}
+use Rattle.rusty_leveldb.specs.Format.{Format}
 use Rattle.rusty_leveldb.specs.State.{Mode, open_mode, broken, closed, Snapshot, Opening, State, Move, seek_to_first, advance, prev, seek, reset, Request, open_store, write, get, walk, get_snapshot, release_snapshot, flush, compact_range, close, abandon, Refusal, Landing, stands_on, nowhere, move_refused, Answer, done, found, walked, snapshot, refused}
-use Rattle.rusty_leveldb.specs.Causes.{Faults, Cause, out_of_memory, device_failed, lock_is_held, bad_operand, store_exists, Misfits, MoveMisfits, Comes, MoveComes, IsClosedRefusal, IsBrokenRefusal}
+use Rattle.rusty_leveldb.specs.Causes.{Faults, Cause, out_of_memory, device_failed, lock_is_held, bad_operand, store_exists, HasFailed, Fits, MoveMisfits, Comes, MoveComes, IsClosedRefusal, IsBrokenRefusal}
 
--- ---- what a request leaves
+-- ---- writing
 
--- as many batches are covered as before, or all of this history
-abbrev pub MayCover : ℕ → History → ℕ → Type 0
-MayCover before history covered = (covered ≡ before) ⊎ (covered ≡ length history)
+-- as many batches are durable as before, or all of this history
+abbrev pub MayGrow : ℕ → History → ℕ → Type 0
+MayGrow before history durable = (durable ≡ before) ⊎ (durable ≡ length history)
 
--- nothing has changed but what is covered
+-- nothing has changed but what is durable
 pub record Keeps (old new : State) : Type 0 where
-  pub state : new ≡ record old { covered = new.covered }
-  pub covered : MayCover old.covered old.history new.covered
+  pub state : new ≡ record old { durable = new.durable }
+  pub durable : MayGrow old.durable old.history new.durable
 
 -- the batch that a write adds: it takes the next numbers
-abbrev pub batch_of : State → List Item → List Entry
-batch_of old items = placed (old.last + 1) items
+abbrev pub next_batch : State → List Item → List Entry
+next_batch old items = placed (old.last + 1) items
 
--- A batch whose numbers fit is at the end of the history, and all is covered where that was asked for. Of an
--- empty batch the first number has to fit, too.
+-- the batch is the history's last, and all is durable if that was asked for
 pub record Writes (old : State) (items : List Item) (sync : Bool) (new : State) : Type 0 where
-  pub numbers : old.last + max 1 (length items) ≤ max_sequence
   pub state : new ≡ record old {
-    history = old.history ++ batch_of old items ∷ [];
+    history = old.history ++ next_batch old items ∷ [];
     last = old.last + length items;
-    covered = new.covered;
+    durable = new.durable;
   }
-  pub covered : MayCover old.covered old.history new.covered ⊎ (new.covered ≡ length new.history)
-  pub synced : IsTrue sync → new.covered ≡ length new.history
+  pub durable : MayGrow old.durable old.history new.durable ⊎ (new.durable ≡ length new.history)
+  pub synced : IsTrue sync → new.durable ≡ length new.history
 
--- all is covered
-pub record Covers (old new : State) : Type 0 where
-  pub state : new ≡ record old { covered = length old.history }
+-- all is durable
+pub record AllDurable (old new : State) : Type 0 where
+  pub state : new ≡ record old { durable = length old.history }
 
 -- the store is broken, and this batch, if there is one, is pending
 pub record Breaks (old : State) (batch : Option (List Entry)) (new : State) : Type 0 where
-  pub state : new ≡ record old { covered = new.covered; pending = batch; mode = broken }
-  pub covered : MayCover old.covered old.history new.covered
+  pub state : new ≡ record old { durable = new.durable; pending = batch; mode = broken }
+  pub durable : MayGrow old.durable old.history new.durable
+
+-- ---- snapshots
 
 -- one more snapshot is held, of the last number, under a number that wasn't given out before
 pub record Gives (old : State) (one : Snapshot) (new : State) : Type 0 where
   pub sequence : one.sequence ≡ old.last
   pub fresh : Contains old.given one.number → ⊥
-  pub state : new ≡ record old { held = old.held ++ one ∷ []; given = old.given ++ one.number ∷ [] }
+  pub state : new ≡ record old {
+    held = old.held ++ one ∷ [];
+    given = old.given ++ one.number ∷ [];
+  }
 
 -- a snapshot that was held isn't any more
 pub record Releases (old : State) (one : Snapshot) (new : State) : Type 0 where
@@ -57,13 +61,15 @@ pub record Releases (old : State) (one : Snapshot) (new : State) : Type 0 where
   pub was : old.held ≡ before ++ one ∷ after
   pub state : new ≡ record old { held = before ++ after }
 
+-- ---- closing
+
 -- closed, with nothing held
 abbrev pub closed_state : State → State
 closed_state old = record old { held = []; given = []; mode = closed }
 
--- all is covered and the lock is free
+-- all is durable and the lock is free
 pub record Closes (old new : State) : Type 0 where
-  pub state : new ≡ record (closed_state old) { covered = length old.history; locked = false }
+  pub state : new ≡ record (closed_state old) { durable = length old.history; locked = false }
 
 -- the lock is as said
 pub record Abandons (old : State) (locked : Bool) (new : State) : Type 0 where
@@ -71,16 +77,21 @@ pub record Abandons (old : State) (locked : Bool) (new : State) : Type 0 where
 
 -- ---- opening
 
--- a store is there, and its comparator is the opening's where its files name one
+-- a store is there, and its comparator is the opening's if its files name one
 abbrev pub IsStoreOf : Opening → Store → Type 0
 IsStoreOf opening missing = ⊥
 IsStoreOf opening (made None) = Unit {0}
-IsStoreOf opening (made (Some name)) = name ≡ opening.comparator
+IsStoreOf opening (made (Some name)) = name ≡ opening.format.order_name
 
--- The store is as it was; or it was missing and is now one of the opening's, if an opening is at work.
+-- the store is as it was; or it was missing and is now one of the opening that is at work
 abbrev pub StaysOr : Option Opening → Store → Store → Type 0
 StaysOr None old now = now ≡ old
 StaysOr (Some opening) old now = (now ≡ old) ⊎ ((old ≡ missing) × IsStoreOf opening now)
+
+-- the format of the files that an opening at work leaves: a store that was there has its own
+abbrev pub format_left : Opening → Store → Format → Format
+format_left opening missing format = opening.format
+format_left opening (made name) format = format
 
 -- a store may be opened so: a missing one is to be made, and one that is there may be there
 abbrev pub MayOpen : Opening → Store → Type 0
@@ -89,7 +100,6 @@ MayOpen opening (made name) = opening.error_if_exists ≡ false
 
 -- what was pending is in the history or forgotten, and the last number is one that both allow
 pub record Opens (old : State) (opening : Opening) (new : State) : Type 0 where
-  pub fits : IsTrue opening.fits × IsTrue opening.compresses
   pub free : old.locked ≡ false
   pub may : MayOpen opening old.store
   pub stays : StaysOr (Some opening) old.store new.store
@@ -97,23 +107,19 @@ pub record Opens (old : State) (opening : Opening) (new : State) : Type 0 where
   pub joins : (new.history ≡ old.history) ⊎ (new.history ≡ with_batch old.history old.pending)
   pub reached : greatest (entries_of new.history) ≤ new.last
   pub bounded : new.last ≤ old.last + count_of old.pending
-  pub covered : MayCover old.covered new.history new.covered
+  pub durable : MayGrow old.durable new.history new.durable
   pub state : new ≡ record {
     history = new.history;
     last = new.last;
-    covered = new.covered;
+    durable = new.durable;
     held = [];
     given = [];
     pending = None;
     mode = open_mode;
     locked = true;
     store = new.store;
+    format = opening.format;
   }
-
--- the lock couldn't be given back: beside the failure that is the cause another call of the device failed
-abbrev pub UnlockFailed : Faults → Cause → Type 0
-UnlockFailed faults device_failed = (faults.before + 2 ≤ faults.after) ⊎ (faults.after ≡ 2 ^ 64 - 1)
-UnlockFailed faults cause = (faults.before + 1 ≤ faults.after) ⊎ (faults.after ≡ 2 ^ 64 - 1)
 
 -- refused before anything is made
 abbrev pub IsEarly : Cause → Type 0
@@ -122,13 +128,30 @@ IsEarly bad_operand = Unit {0}
 IsEarly store_exists = Unit {0}
 IsEarly cause = ⊥
 
--- Not opened: but for what is covered, and a store that was made meanwhile, all is as before. The lock is given back.
-pub record StaysClosed (old : State) (opening : Opening) (faults : Faults) (cause : Cause) (new : State) : Type 0 where
-  pub state : new ≡ record old { covered = new.covered; locked = new.locked; store = new.store }
-  pub covered : MayCover old.covered old.history new.covered
+-- the lock is held still, since after the cause had come another call of the device failed
+pub record KeepsLock (faults : Faults) (old : State) (request : Request) (refusal : Refusal) (cause : Cause)
+    : Type 0 where
+  -- how many calls had failed when the cause had come
+  pub mid : ℕ
+  pub later : faults.before ≤ mid
+  pub comes : Comes (record faults { after = mid }) old request refusal cause
+  pub failed : HasFailed mid faults.after
+
+-- Not opened: but for what is durable, and a store that was made meanwhile, all is as before. The lock is
+-- given back.
+pub record StaysClosed (faults : Faults) (old : State) (opening : Opening) (refusal : Refusal) (cause : Cause)
+    (new : State) : Type 0 where
+  pub state : new ≡ record old {
+    durable = new.durable;
+    locked = new.locked;
+    store = new.store;
+    format = format_left opening old.store old.format;
+  }
+  pub durable : MayGrow old.durable old.history new.durable
   pub stays : StaysOr (Some opening) old.store new.store
   pub early : IsEarly cause → new.store ≡ old.store
-  pub lock : (new.locked ≡ old.locked) ⊎ ((new.locked ≡ true) × UnlockFailed faults cause)
+  pub lock : (new.locked ≡ old.locked)
+      ⊎ ((new.locked ≡ true) × KeepsLock faults old (open_store opening) refusal cause)
 
 -- ---- reading
 
@@ -143,110 +166,123 @@ pub record Gets (old : State) (at : Option Snapshot) (key : List ℕ) (value : O
   pub at_is : IsSequenceOf old at sequence
   pub looks : IsValueAt (entries_of old.history) sequence key value
 
-module _ (cmp : List ℕ → List ℕ → Ordering) where
-  -- where a move leads from a place
-  abbrev pub place_after : List Pair → Option ℕ → Move → Option ℕ
-  place_after pairs place seek_to_first = position_within pairs 0
-  place_after pairs place advance = next_position pairs place
-  place_after pairs place prev = previous_position place
-  place_after pairs place (seek key) = seek_position cmp pairs key
-  place_after pairs place reset = None
+-- the position to which a move leads
+abbrev pub position_after : (List ℕ → List ℕ → Ordering) → List Pair → Option ℕ → Move → Option ℕ
+position_after order pairs position seek_to_first = position_within pairs 0
+position_after order pairs position advance = next_position pairs position
+position_after order pairs position prev = previous_position position
+position_after order pairs position (seek key) = seek_position order pairs key
+position_after order pairs position reset = None
 
-  -- Each move leads where an iterator over the pairs goes; a refused one leaves no place, and its cause is one of this move's
-  -- own faults, which go from the last move's end to some count at or above it.
-  abbrev pub Moves : Faults → State → Request → List Pair → Option ℕ → List Move → List Landing → Type 0
-  Moves faults old request pairs place [] [] = faults.before ≡ faults.after
-  Moves faults old request pairs place (move ∷ moves) (stands_on pair ∷ landings) =
-      (MoveMisfits move → ⊥) × (pair_at pairs (place_after pairs place move) ≡ Some pair)
-      × ((next : ℕ) × (faults.before ≤ next) × Moves (record faults { before = next }) old request pairs (place_after pairs place move) moves landings)
-  Moves faults old request pairs place (move ∷ moves) (nowhere ∷ landings) =
-      (MoveMisfits move → ⊥) × (place_after pairs place move ≡ None)
-      × ((next : ℕ) × (faults.before ≤ next) × Moves (record faults { before = next }) old request pairs None moves landings)
-  Moves faults old request pairs place (move ∷ moves) (move_refused refusal ∷ landings) =
-      (next : ℕ) × (faults.before ≤ next) × ((cause : Cause) × MoveComes (record faults { after = next }) old request move refusal cause)
-      × Moves (record faults { before = next }) old request pairs None moves landings
-  Moves faults old request pairs place [] (landing ∷ landings) = ⊥
-  Moves faults old request pairs place (move ∷ moves) [] = ⊥
+-- A move leads where an iterator over the pairs goes. One that is refused has a cause in what befell this
+-- very move, and leaves no position.
+abbrev pub MovesTo : Faults → State → Request → List Pair → Option ℕ → Move → Landing → Option ℕ → Type 0
+MovesTo faults old request pairs position move (stands_on pair) next = (MoveMisfits move → ⊥)
+    × (next ≡ position_after old.format.order pairs position move) × (pair_at pairs next ≡ Some pair)
+MovesTo faults old request pairs position move nowhere next = (MoveMisfits move → ⊥)
+    × (position_after old.format.order pairs position move ≡ None) × (next ≡ None)
+MovesTo faults old request pairs position move (move_refused refusal) next =
+    ((cause : Cause) × MoveComes faults old request move refusal cause) × (next ≡ None)
 
-  -- an iterator over the view, from no place on
-  pub record Walks (faults : Faults) (old : State) (at : Option Snapshot) (moves : List Move) (landings : List Landing) : Type 0 where
-    pub sequence : ℕ
-    pub at_is : IsSequenceOf old at sequence
-    pub pairs : List Pair
-    pub view : IsView cmp (entries_of old.history) sequence pairs
-    pub goes : Moves faults old (walk at moves) pairs None moves landings
+-- moves, one after another, each with the faults from the end of the one before to its own
+abbrev pub Moves : Faults → State → Request → List Pair → Option ℕ → List Move → List Landing → Type 0
+Moves faults old request pairs position [] [] = faults.after ≡ faults.before
+Moves faults old request pairs position (move ∷ moves) (landing ∷ landings) =
+    (mid : ℕ) × (faults.before ≤ mid) × (next : Option ℕ)
+    × MovesTo (record faults { after = mid }) old request pairs position move landing next
+    × Moves (record faults { before = mid }) old request pairs next moves landings
+Moves faults old request pairs position _ _ = ⊥
 
-  -- ---- the steps
+-- an iterator over the view, from no position on
+pub record Walks (faults : Faults) (old : State) (at : Option Snapshot) (moves : List Move)
+    (landings : List Landing) : Type 0 where
+  pub sequence : ℕ
+  pub at_is : IsSequenceOf old at sequence
+  pub pairs : List Pair
+  pub view : IsView old.format.order (entries_of old.history) sequence pairs
+  pub moves_are : Moves faults old (walk at moves) pairs None moves landings
 
-  -- done in a mode that allows it
-  abbrev pub Succeeds : Faults → State → Request → Answer → State → Type 0
-  Succeeds faults old (open_store opening) done new = Opens old opening new
-  Succeeds faults old (write items sync) done new = Writes old items sync new
-  Succeeds faults old (get at key) (found value) new = Gets old at key value × (new ≡ old)
-  Succeeds faults old (walk at moves) (walked landings) new = Walks faults old at moves landings × (new ≡ old)
-  Succeeds faults old get_snapshot (snapshot one) new = Gives old one new
-  Succeeds faults old (release_snapshot one) done new = Releases old one new
-  Succeeds faults old flush done new = Covers old new
-  Succeeds faults old (compact_range from to) done new = Keeps old new
-  Succeeds faults old close done new = Closes old new
-  Succeeds faults old abandon done new = Abandons old false new
-  Succeeds faults old _ _ new = ⊥
+-- ---- the steps
 
-  -- a failed write to log or manifest breaks the store: for want of memory or by the device alone
-  abbrev pub MayBreak : Cause → Type 0
-  MayBreak out_of_memory = Unit {0}
-  MayBreak device_failed = Unit {0}
-  MayBreak cause = ⊥
+-- a request that is done
+abbrev pub Succeeds : Faults → State → Request → Answer → State → Type 0
+Succeeds faults old (open_store opening) done new = Opens old opening new
+Succeeds faults old (write items sync) done new = Writes old items sync new
+Succeeds faults old (get at key) (found value) new = Gets old at key value × (new ≡ old)
+Succeeds faults old (walk at moves) (walked landings) new =
+    Walks faults old at moves landings × (new ≡ old)
+Succeeds faults old get_snapshot (snapshot one) new = Gives old one new
+Succeeds faults old (release_snapshot one) done new = Releases old one new
+Succeeds faults old flush done new = AllDurable old new
+Succeeds faults old (compact_range from to) done new = Keeps old new
+Succeeds faults old close done new = Closes old new
+Succeeds faults old abandon done new = Abandons old false new
+Succeeds faults old _ _ new = ⊥
 
-  -- As before, where no call of the device failed; or broken, with this batch pending. All that is asked of the device is an
-  -- append to the log or a sync of it.
-  abbrev pub KeepsOrBreaks : Faults → State → Cause → Option (List Entry) → State → Type 0
-  KeepsOrBreaks faults old cause batch new = ((faults.after ≡ faults.before) × Keeps old new) ⊎ (MayBreak cause × Breaks old batch new)
+-- a failed write to a log or manifest breaks the store: out of memory or by the device alone
+abbrev pub MayBreak : Cause → Type 0
+MayBreak out_of_memory = Unit {0}
+MayBreak device_failed = Unit {0}
+MayBreak cause = ⊥
 
-  -- refused for this cause in a mode that allows it; a failed sync is what refuses a flush by the device
-  abbrev pub Refuses : Faults → State → Request → Cause → State → Type 0
-  Refuses faults old (open_store opening) cause new = StaysClosed old opening faults cause new
-  Refuses faults old (write items sync) cause new = KeepsOrBreaks faults old cause (Some (batch_of old items)) new
-  Refuses faults old flush device_failed new = Breaks old None new
-  Refuses faults old flush cause new = KeepsOrBreaks faults old cause None new
-  Refuses faults old (compact_range from to) cause new = Keeps old new ⊎ (MayBreak cause × Breaks old None new)
-  Refuses faults old close cause new = Breaks old None new
-  Refuses faults old abandon cause new = Abandons old old.locked new
-  Refuses faults old _ cause new = new ≡ old
+-- as before; or broken, with the batch pending if its append had begun
+abbrev pub KeepsOrBreaks : State → Cause → List Entry → State → Type 0
+KeepsOrBreaks old cause batch new =
+    Keeps old new ⊎ (MayBreak cause × (Breaks old None new ⊎ Breaks old (Some batch) new))
 
-  -- done, where no operand is one that is refused; or refused for a cause
-  abbrev pub Responds : Faults → State → Request → Answer → State → Type 0
-  Responds faults old request (refused refusal) new = (cause : Cause) × Comes faults old request refusal cause × Refuses faults old request cause new
-  Responds faults old request answer new = (Misfits old request → ⊥) × Succeeds faults old request answer new
+-- what a request leaves that was refused for this cause; all that a flush asks of the device is a sync
+abbrev pub LeavesRefused : Faults → State → Request → Refusal → Cause → State → Type 0
+LeavesRefused faults old (open_store opening) refusal cause new =
+    StaysClosed faults old opening refusal cause new
+LeavesRefused faults old (write items sync) refusal cause new =
+    KeepsOrBreaks old cause (next_batch old items) new
+LeavesRefused faults old flush refusal device_failed new = Breaks old None new
+LeavesRefused faults old flush refusal cause new =
+    Keeps old new ⊎ (MayBreak cause × Breaks old None new)
+LeavesRefused faults old (compact_range from to) refusal cause new =
+    Keeps old new ⊎ (MayBreak cause × Breaks old None new)
+LeavesRefused faults old close refusal cause new = Breaks old None new
+LeavesRefused faults old abandon refusal cause new = Abandons old old.locked new
+LeavesRefused faults old _ refusal cause new = new ≡ old
 
-  -- refused by the mode, and the state hasn't changed
-  abbrev pub Rejects : (Refusal → Type 0) → State → Answer → State → Type 0
-  Rejects Says old (refused refusal) new = Says refusal × (new ≡ old)
-  Rejects Says old _ new = ⊥
+-- a request that is refused for a cause
+pub record Refuses (faults : Faults) (old : State) (request : Request) (refusal : Refusal) (new : State)
+    : Type 0 where
+  pub cause : Cause
+  pub comes : Comes faults old request refusal cause
+  pub leaves : LeavesRefused faults old request refusal cause new
 
-  -- By the mode, which is looked at first; a store is opened where none of this name is open.
-  abbrev pub StepIn : Mode → Faults → State → Request → Answer → State → Type 0
-  StepIn closed faults old (open_store opening) answer new = Responds faults old (open_store opening) answer new
-  StepIn closed faults old abandon answer new = (answer ≡ done) × (new ≡ old)
-  StepIn closed faults old request answer new = Rejects IsClosedRefusal old answer new
-  StepIn mode faults old (open_store opening) answer new = ⊥
-  StepIn broken faults old (write items sync) answer new = Rejects IsBrokenRefusal old answer new
-  StepIn broken faults old flush answer new = Rejects IsBrokenRefusal old answer new
-  StepIn broken faults old (compact_range from to) answer new = Rejects IsBrokenRefusal old answer new
-  StepIn broken faults old close answer new = Rejects IsBrokenRefusal old answer new
-  StepIn mode faults old request answer new = Responds faults old request answer new
+-- refused by the mode, and the state hasn't changed
+abbrev pub Rejects : (Refusal → Type 0) → State → Answer → State → Type 0
+Rejects IsRefusal old (refused refusal) new = IsRefusal refusal × (new ≡ old)
+Rejects IsRefusal old _ new = ⊥
 
-  -- from the old state the store may answer so, and then it is in the new one
-  pub record Step (faults : Faults) (old : State) (request : Request) (answer : Answer) (new : State) : Type 0 where
-    pub later : faults.before ≤ faults.after
-    pub step : StepIn old.mode faults old request answer new
+-- done, and the request fits; or refused for a cause
+abbrev pub Responds : Faults → State → Request → Answer → State → Type 0
+Responds faults old request (refused refusal) new = Refuses faults old request refusal new
+Responds faults old request answer new = Fits old request × Succeeds faults old request answer new
+
+-- A step, by the mode, which is looked at first; a store is opened if none of its name is open.
+abbrev pub Step : Mode → Faults → State → Request → Answer → State → Type 0
+Step closed faults old (open_store opening) answer new =
+    Responds faults old (open_store opening) answer new
+Step closed faults old abandon answer new = (answer ≡ done) × (new ≡ old)
+Step closed faults old request answer new = Rejects IsClosedRefusal old answer new
+Step mode faults old (open_store opening) answer new = ⊥
+Step broken faults old (write items sync) answer new = Rejects IsBrokenRefusal old answer new
+Step broken faults old flush answer new = Rejects IsBrokenRefusal old answer new
+Step broken faults old (compact_range from to) answer new = Rejects IsBrokenRefusal old answer new
+Step broken faults old close answer new = Rejects IsBrokenRefusal old answer new
+Step mode faults old request answer new = Responds faults old request answer new
 
 -- ---- a crash
 
--- what a crash may leave: a prefix of this history, numbers up to this bound, and a store that an opening makes
+-- what a crash may leave: a prefix of this history, numbers up to this bound, files in this format, and a
+-- store that an opening makes
 pub record Risk : Type 0 where
   pub history : History
   pub bound : ℕ
+  pub format : Format
   -- the opening that is at work, if one is
   pub opening : Option Opening
 
@@ -255,29 +291,33 @@ abbrev pub risk_between : State → Risk
 risk_between state = record {
   history = with_batch state.history state.pending;
   bound = state.last + count_of state.pending;
+  format = state.format;
   opening = None;
 }
 
--- At a moment of a request: the history after it, and what is pending then; so a batch is at risk from its
--- write's first moment on. While a store is opened it is the history before it, since what was pending may yet
--- be found.
+-- At a moment of a request, once it has called the device: the history after it, and what is pending then.
+-- While a store is opened it is the history before it, since what was pending may yet be found.
 abbrev pub risk_of : Request → State → State → Risk
-risk_of (open_store opening) old new = record (risk_between old) { opening = Some opening }
+risk_of (open_store opening) old new = record (risk_between old) {
+  format = format_left opening old.store old.format;
+  opening = Some opening;
+}
 risk_of request old new = risk_between new
 
--- A crash leaves a prefix with all that was covered, whole batches only, and all of it is covered from then on. It leaves the store that was
--- there, or one that the opening at work has made.
+-- A crash leaves a prefix with all that was durable, whole batches only, and all of it is durable from then
+-- on. It leaves the store that was there, or one that the opening at work has made.
 pub record Crashes (old : State) (risk : Risk) (new : State) : Type 0 where
-  pub prefix : IsPrefixAtLeast old.covered risk.history new.history
+  pub prefix : IsPrefixAtLeast old.durable risk.history new.history
   pub stays : StaysOr risk.opening old.store new.store
   pub state : new ≡ record {
     history = new.history;
     last = risk.bound;
-    covered = length new.history;
+    durable = length new.history;
     held = [];
     given = [];
     pending = None;
     mode = closed;
     locked = false;
     store = new.store;
+    format = risk.format;
   }

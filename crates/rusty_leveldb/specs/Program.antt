@@ -1,16 +1,19 @@
 -- What the program does: it reads commands, runs them, and writes the replies.
-use Rattle.std.specs.Prelude.{◌≡◌, ◌≢◌, ◌⊎◌, ◌<◌, ◌≤◌, ◌^◌, ℕ, List, [], ◌∷◌, length, Option, Result, Ok, OnOk, IfSome, IsTrue, true, String, string_bytes}
+use Rattle.std.specs.Prelude.{◌≡◌, ◌≢◌, ◌⊎◌, ◌<◌, ◌≤◌, ◌^◌, ℕ, List, [], ◌∷◌, length, Option, Result, Ok, OnOk, IfSome, IsTrue, true, String, string_bytes, false, codes}
 use Rattle.std.specs.Io.KnownBytes.{Appends}
 use Rattle.std.specs.declared.alloc.Global.{Global}
 use Rattle.leveldb_base.specs.Cmp.{bytewise}
 use Rattle.leveldb_base.specs.declared.cmp.DefaultCmp.{DefaultCmp}
 use Rattle.leveldb_base.specs.declared.error.Status.{Status}
 use Rattle.leveldb_env.specs.declared.env.Env.{Ghosts}
+use Rattle.leveldb_env.specs.Bloom.{bloom_matches}
+use Rattle.leveldb_env.specs.Compressor.{plain_codings}
 use Rattle.rusty_leveldb.specs.declared.shell.commands.Command.{Command}
 use Rattle.rusty_leveldb.specs.declared.shell.commands.Reply.{Reply}
 use Rattle.rusty_leveldb.specs.declared.shell.program.Fault.{Fault}
 use Rattle.rusty_leveldb.specs.declared.shell.program.Fault.TheVariants as fault
 use Rattle.rusty_leveldb.specs.Language.{IsScript, IsBadLine, reply_lines}
+use Rattle.rusty_leveldb.specs.State.{Opening}
 use Rattle.rusty_leveldb.specs.Engine.{IsStoreName}
 use Rattle.rusty_leveldb.specs.Recovery.{NeverOpens}
 use Rattle.rusty_leveldb.specs.Shell.{PlaysAlways, IsUnopened}
@@ -49,11 +52,28 @@ IsMisasked args input = (why : Fault) × (status_of why ≡ 2) × IsFault args i
 abbrev pub IsInput : Option (List ℕ) → List Command → Type 0
 IsInput input commands = (text : List ℕ) × IfSome input (λ bytes. text ≡ bytes) × (length text ≤ 2 ^ 26) × IsScript text commands
 
+-- What the program opens a store with: LevelDB's order of bytes, its filters with ten bits a key, and blocks stored as
+-- they are; a missing store is made.
+abbrev pub ldb_opening : Opening
+ldb_opening = record {
+  format = record {
+    order = bytewise;
+    order_name = codes "leveldb.BytewiseComparator";
+    codings = plain_codings;
+    policy_name = codes "leveldb.BuiltinBloomFilter2";
+    matches = bloom_matches;
+  };
+  create_if_missing = true;
+  error_if_exists = false;
+  fits = true;
+  compresses = true;
+}
+
 module _ {E F : Type 0} (env : Ghosts E F) where
   -- The commands were run in a folder, with these replies, and the run ended so. Where the store is damaged or locked, or the folder's name is none
   -- of a store's, it was refused with no reply. The filter policy is seen as its number of bits a key.
   abbrev pub HasRun : List ℕ → List Command → E → List Reply → Result (Unit {0}) Status → E → Type 0
-  HasRun folder commands from given ended to = PlaysAlways DefaultCmp ℕ env bytewise folder from true commands given ended to
+  HasRun folder commands from given ended to = PlaysAlways DefaultCmp ℕ env folder from ldb_opening commands given ended to
       × (IsTrue env.models_disk → NeverOpens folder true (env.observed from).disk → (given ≡ []) × IsUnopened env folder true from ended to)
       × ((IsStoreName folder → ⊥) → (to ≡ from) × (given ≡ []) × OnOk ended ⊥)
 

@@ -30,7 +30,3 @@ pub record Inserts (old : Numbered) (batch : Batch) (new : Numbered) : Type 0 wh
 -- with these items, the entries in memory and those for which there is room count for 2^31 bytes at least
 abbrev pub IsFull : Kept → List Item → Type 0
 IsFull kept items = 2 ^ 31 ≤ memory_of_entries kept.entries + (64 * (kept.places + length items) + bytes_in items)
-
--- so many entries don't fit behind the last number, or not even an empty batch's first number does
-abbrev pub AreUsedUp : ℕ → ℕ → Type 0
-AreUsedUp last count = max_sequence < last + max 1 count

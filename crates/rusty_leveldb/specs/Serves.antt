@@ -1,25 +1,26 @@
--- What the engine's clauses say: from every state that memory and disk stand for, a step of the machine.
--- `store` is the store's path, `reads files contents` says that the files are a whole store with these contents,
--- and `Recalls memory disk state` what the engine's memory has to do with them.
-use Rattle.std.specs.Prelude.{◌≡◌, ◌≢◌, ◌≤◌, ◌⊎◌, ◌↔◌, ℕ, List, [], Option, Some, None, Result, Ok, Err, All, false, map}
+-- What the engine's clauses say: from every state that memory and disk represent, a step of the machine.
+--
+-- `store` is the store's path, and `Recalls memory disk state` what the engine's memory has to do with the
+-- files and the state.
+use Rattle.std.specs.Prelude.{◌≡◌, ◌≢◌, ◌≤◌, ◌⊎◌, ◌↔◌, ℕ, Bool, List, [], Option, Some, None, Result, Ok, Err, All, false, map, IsTrue}
 use Rattle.std.specs.Option.{option_map}
-use Rattle.std.specs.declared.cmp.Ordering.{Ordering}
 use Rattle.leveldb_base.specs.declared.error.Status.{Status}
 use Rattle.leveldb_base.specs.Error.{text_of}
 use Rattle.leveldb_env.specs.Env.{File, Files, Disk, FilesCrashTo, bytes_of, or_empty, Observed}
 use Rattle.leveldb_env.specs.Env as calls
 use Rattle.leveldb_version.specs.Paths.{lock_path}
 use Rattle.leveldb_version.specs.Contents.{Contents}
+use Rattle.rusty_leveldb.specs.Format.{Format}
 use Rattle.rusty_leveldb.specs.OneLog.{IsOneLog, log_path, temp_path}
 use Rattle.leveldb_version.specs.Holds.{IsHonest, IsSafe, Holds}
 use Rattle.rusty_leveldb.specs.State.{State, IsState, open_mode, closed, Request, write, get, walk, get_snapshot, release_snapshot, flush, close, abandon, Refusal, Answer, done, found, refused}
 use Rattle.rusty_leveldb.specs.Causes.{Faults, TakesLock}
 use Rattle.rusty_leveldb.specs.Machine.{Step, StaysOr, Risk, risk_of}
-use Rattle.rusty_leveldb.specs.Runs.{Event, events_of, Run, StopsAt}
+use Rattle.rusty_leveldb.specs.Runs.{Event, Run, last_moment, StopsAt}
 
--- how the store's files are read
-abbrev pub Reads : List ℕ → Files → Contents → Type 0
-Reads store = IsOneLog (log_path store)
+-- how the store's files are read in a format; a store that is one log has no tables, so any will do
+abbrev pub Reads : List ℕ → Format → Files → Contents → Type 0
+Reads store format = IsOneLog (log_path store)
 
 -- ---- results as answers
 
@@ -44,20 +45,23 @@ given_engine (Err status) = None
 
 -- ---- around a call
 
--- what stands around a call: the engine's memory, where there is one, what the environment tells, and how many of its calls have failed
-abbrev pub Scene : Type 0 → Type 1
-Scene M = Option M × Observed × ℕ
+-- before or after a call: the engine's memory, if there is an engine, what is observed of the environment,
+-- and how many of its calls have failed
+pub record Scene (M : Type 0) : Type 1 where
+  pub memory : Option M
+  pub observed : Observed
+  pub failures : ℕ
 
--- the faults of a call in which no coder took part
+-- the faults of a call between these counts
 abbrev pub faults_between : ℕ → ℕ → Faults
-faults_between before after = record { before = before; after = after; coders = [] }
+faults_between before after = record { before = before; after = after }
 
--- these requests had these answers at these moments, and no coder took part
-pub record IsConversation (requests : List Request) (answers : List Answer) (moments : List ℕ) (answered : List (ℕ × Event)) : Type 0 where
-  pub requests_are : map (λ one. one.1.request) answered ≡ requests
-  pub answers_are : map (λ one. one.1.answer) answered ≡ answers
-  pub moments_are : map (λ one. one.0) answered ≡ moments
-  pub no_coder : All (λ one. one.1.coders ≡ []) answered
+-- these requests had these answers at these moments
+pub record IsConversation (requests : List Request) (answers : List Answer) (moments : List ℕ)
+    (events : List Event) : Type 0 where
+  pub requests_are : map (λ event. event.request) events ≡ requests
+  pub answers_are : map (λ event. event.answer) events ≡ answers
+  pub moments_are : map (λ event. event.moment) events ≡ moments
 
 -- ---- what befalls the files
 
@@ -112,7 +116,7 @@ pub record SparesOthers (store : List ℕ) (before after : Disk) : Type 0 where
 
 -- ---- damage
 
--- nothing can be read of the files, so they stand for no state
+-- nothing can be read of the files, so they represent no state
 abbrev pub IsUnreadable : (Files → Contents → Type 0) → Files → Type 0
 IsUnreadable reads files = (contents : Contents) → reads files contents → ⊥
 
@@ -126,61 +130,83 @@ pub record IsHonestlyLeft (store : List ℕ) (now : Observed) (moment : ℕ) (fi
   pub honest : IsHonest store files left.files
   pub free : (path : List ℕ) → left.locked path ≡ false
 
+-- where moments are observed: at this one the files were these alone, so it is inside no call that changes them
+pub record IsBetweenCalls (models_moments : Bool) (now : Observed) (moment : ℕ) (files : Files)
+    : Type 0 where
+  pub modelled : IsTrue models_moments
+  pub alone : (others : Files) → now.at_moment moment others → others ≡ files
+
 -- ---- the engine's clauses
 
-module _ (store : List ℕ) (reads : Files → Contents → Type 0) where
+module _ (store : List ℕ) where
   -- the disk represents a state: it holds the state's store and history, and the lock is as said
   pub record StandsFor (disk : Disk) (state : State) : Type 0 where
     pub is_state : IsState state
-    pub holds : Holds store reads (λ now. now ≡ state.store) disk.files state.history state.last state.covered state.pending
+    pub holds : Holds store (Reads store state.format) (λ now. now ≡ state.store) disk.files
+        state.history state.last state.durable state.pending
     pub locked : disk.locked (lock_path store) ≡ state.locked
 
-  -- a crash now leaves a prefix of what is at risk, with at least what was covered before the request, and the store that was there or one
-  -- that the opening at work has made
+  -- a crash now leaves a prefix of what is at risk, with at least what was durable before the request, and
+  -- the store that was there or one that the opening at work has made
   abbrev pub IsSpared : State → Risk → Files → Type 0
-  IsSpared old risk files = IsSafe store reads (StaysOr risk.opening old.store) risk.bound old.covered risk.history files
+  IsSpared old risk files = IsSafe store (Reads store risk.format) (StaysOr risk.opening old.store)
+      risk.bound old.durable risk.history files
 
-  -- the same at each moment of a request, its end among them; what was told of the moments before it stays
+  -- the same at each moment of a request, its end among them; what was observed before stays
   abbrev pub AtEachMoment : Request → State → State → Observed → Observed → Type 0
-  AtEachMoment request old new before after = calls.Run (IsSpared old (risk_of request old new)) before after
+  AtEachMoment request old new before after =
+      calls.Run (IsSpared old (risk_of request old new)) before after
 
   module _ {M : Type 0} (Recalls : M → Disk → State → Type 0) where
-    -- what memory there is stands for the state; of a store that is closed there may be none
-    abbrev pub Remembers : Option M → Disk → State → Type 0
-    Remembers None disk state = state.mode ≡ closed
-    Remembers (Some memory) disk state = Recalls memory disk state
+    -- what memory there is represents the state; of a store that is closed there may be none
+    abbrev pub IsRecalled : Option M → Disk → State → Type 0
+    IsRecalled None disk state = state.mode ≡ closed
+    IsRecalled (Some memory) disk state = Recalls memory disk state
 
-    -- memory and disk stand for the state
+    -- memory and disk represent the state
     pub record Represents (memory : Option M) (disk : Disk) (state : State) : Type 0 where
       pub disk_is : StandsFor disk state
-      pub memory_is : Remembers memory disk state
+      pub memory_is : IsRecalled memory disk state
 
-    module _ (cmp : List ℕ → List ℕ → Ordering) where
-      -- From this state, a step to one for which memory and disk stand then, and at each moment of the call what a crash leaves is spared;
-      -- what isn't the store's stays as it is, and but for an opening the log alone is touched.
-      pub record Goes (from : Scene M) (request : Request) (answer : Answer) (to : Scene M) (old : State) : Type 0 where
-        pub new : State
-        pub represents : Represents to.0 to.1.disk new
-        pub step : Step cmp (faults_between from.2 to.2) old request answer new
-        pub moments : AtEachMoment request old new from.1 to.1
-        pub files : SparesFiles request answer old new from.1.disk.files to.1.disk.files
-        pub others : SparesOthers store from.1.disk to.1.disk
-        pub beside : (TakesLock request → ⊥) → (path : List ℕ) → path ≢ log_path store → to.1.disk.files path ≡ from.1.disk.files path
+    -- From this state, a step to one that memory and disk represent then, and at each moment of the call
+    -- what a crash leaves is spared; what isn't the store's stays as it is, and but for an opening the log
+    -- alone is touched.
+    pub record Goes (from : Scene M) (request : Request) (answer : Answer) (to : Scene M) (old : State)
+        : Type 0 where
+      pub new : State
+      pub represents : Represents to.memory to.observed.disk new
+      pub later : from.failures ≤ to.failures
+      pub step : Step old.mode (faults_between from.failures to.failures) old request answer new
+      pub moments : AtEachMoment request old new from.observed to.observed
+      pub files : SparesFiles request answer old new from.observed.disk.files to.observed.disk.files
+      pub others : SparesOthers store from.observed.disk to.observed.disk
+      pub beside : (TakesLock request → ⊥) → (path : List ℕ) → path ≢ log_path store
+          → to.observed.disk.files path ≡ from.observed.disk.files path
 
-      -- from every state that memory and disk stand for
-      abbrev pub Serves : Scene M → Request → Answer → Scene M → Type 0
-      Serves from request answer to = (old : State) → Represents from.0 from.1.disk old → Goes from request answer to old
+    -- from every state that memory and disk represent
+    abbrev pub Serves : Scene M → Request → Answer → Scene M → Type 0
+    Serves from request answer to = (old : State) → Represents from.memory from.observed.disk old
+        → Goes from request answer to old
 
-      -- A run of these requests with these answers, each given at its moment, to a state that memory and disk represent then; what isn't the
-      -- store's stays as it is. All answers were given by a moment exactly if the run has ended by then. Wherever an honest crash comes in the run,
-      -- it stops there, and the disk that is left represents the state of the crash.
-      pub record Runs (from : Scene M) (requests : List Request) (answers : List Answer) (moments : List ℕ) (to : Scene M) (old : State) : Type 0 where
-        pub answered : List (ℕ × Event)
-        pub asked : IsConversation requests answers moments answered
-        pub new : State
-        pub run : Run cmp from.2 old (events_of answered) to.2 new
-        pub represents : Represents to.0 to.1.disk new
-        pub others : SparesOthers store from.1.disk to.1.disk
-        pub ends : (moment : ℕ) → from.1.moment ≤ moment → All (λ one. one.0 ≤ moment) answered ↔ (to.1.moment ≤ moment)
-        pub stops : (moment : ℕ) (files : Files) (left : Disk) → from.1.moment ≤ moment → IsHonestlyLeft store to.1 moment files left
-            → (then : State) × StopsAt cmp from.2 old answered moment to.2 new then × StandsFor left then
+    -- A run of these requests with these answers, each given at its moment, to a state that memory and disk
+    -- represent then; what isn't the store's stays as it is. No answer came before the run began, the last as
+    -- it ended, and all of them had come by a moment exactly if the run had ended by then. Wherever an honest crash comes in the run, it stops there, and the disk
+    -- that is left represents the state of the crash.
+    pub record Runs (models_moments : Bool) (from : Scene M) (requests : List Request)
+        (answers : List Answer) (moments : List ℕ) (to : Scene M) (old : State) : Type 0 where
+      pub events : List Event
+      pub asked : IsConversation requests answers moments events
+      pub new : State
+      pub run : Run from.failures old events to.failures new
+      pub represents : Represents to.memory to.observed.disk new
+      pub others : SparesOthers store from.observed.disk to.observed.disk
+      pub since : All (λ event. from.observed.moment ≤ event.moment) events
+      pub last : last_moment from.observed.moment events ≡ to.observed.moment
+      pub ends : (moment : ℕ) → from.observed.moment ≤ moment
+          → All (λ event. event.moment ≤ moment) events ↔ (to.observed.moment ≤ moment)
+      pub stops : (moment : ℕ) (inside : Bool) (files : Files) (left : Disk)
+          → from.observed.moment ≤ moment → IsHonestlyLeft store to.observed moment files left
+          → (inside ≡ false → IsBetweenCalls models_moments to.observed moment files)
+          → (then : State)
+          × StopsAt from.observed.moment from.failures old events moment inside to.failures new then
+          × StandsFor left then

@@ -1,9 +1,10 @@
--- The store as a machine: its state, what is asked of it and what it answers.
+-- The store as a machine: its state, what it is asked and what it answers.
 use Rattle.std.specs.Prelude.{◌≡◌, ◌≤◌, ◌+◌, ℕ, Bool, List, [], Option, None, Contains, length, IsTrue}
 use Rattle.leveldb_base.specs.declared.error.StatusCode.{StatusCode}
 use Rattle.leveldb_base.specs.History.{Item, Entry, History, IsHistory, entries_of, greatest, with_batch, count_of}
 use Rattle.leveldb_base.specs.Types.{Pair}
 use Rattle.leveldb_version.specs.Contents.{Store}
+use Rattle.rusty_leveldb.specs.Format.{Format}
 
 -- ---- the state
 
@@ -20,8 +21,7 @@ pub record Snapshot : Type 0 where
 
 -- the options of an opening, as far as they decide what is answered
 pub record Opening : Type 0 where
-  -- the comparator's name
-  pub comparator : List ℕ
+  pub format : Format
   pub create_if_missing : Bool
   pub error_if_exists : Bool
   -- the store's name and each number are within their limits
@@ -34,8 +34,8 @@ pub record State : Type 0 where
   pub history : History
   -- the last number, at or above the history's
   pub last : ℕ
-  -- how many batches are covered by a sync
-  pub covered : ℕ
+  -- how many batches no crash takes away
+  pub durable : ℕ
   -- the snapshots that are held, and the numbers that this opening gave out
   pub held : List Snapshot
   pub given : List ℕ
@@ -44,15 +44,17 @@ pub record State : Type 0 where
   pub mode : Mode
   -- whether the store's lock is held
   pub locked : Bool
-  -- whether the store is there
+  -- which store is there
   pub store : Store
+  -- how its files are read, by its last opening
+  pub format : Format
 
--- nothing is held or was given out by a store that is closed
+-- a closed store holds no snapshot and has given out none
 pub record IsAtRest (state : State) : Type 0 where
   pub held : state.held ≡ []
   pub given : state.given ≡ []
 
--- by the mode: an open store has nothing pending, and a closed one is at rest
+-- an open store has nothing pending and holds its lock, a broken one holds it, a closed one is at rest
 abbrev pub SuitsMode : Mode → State → Type 0
 SuitsMode open_mode state = (state.pending ≡ None) × IsTrue state.locked
 SuitsMode broken state = IsTrue state.locked
@@ -62,9 +64,11 @@ SuitsMode closed state = IsAtRest state
 pub record IsState (state : State) : Type 0 where
   pub history : IsHistory (with_batch state.history state.pending)
   pub reached : greatest (entries_of state.history) ≤ state.last
-  pub pending : greatest (entries_of (with_batch state.history state.pending)) ≤ state.last + count_of state.pending
-  pub covered : state.covered ≤ length state.history
-  pub held : (one : Snapshot) → Contains state.held one → (one.sequence ≤ state.last) × Contains state.given one.number
+  pub pending : greatest (entries_of (with_batch state.history state.pending))
+      ≤ state.last + count_of state.pending
+  pub durable : state.durable ≤ length state.history
+  pub held : (one : Snapshot) → Contains state.held one
+      → (one.sequence ≤ state.last) × Contains state.given one.number
   pub mode : SuitsMode state.mode state
 
 -- ---- requests and answers
@@ -101,7 +105,7 @@ pub data Landing : Type 0 where
   nowhere : Landing
   move_refused : Refusal → Landing
 
--- what a request is answered with
+-- the answer to a request
 pub data Answer : Type 0 where
   done : Answer
   found : Option (List ℕ) → Answer

@@ -5,7 +5,7 @@ use Rattle.leveldb_env.specs.Env.{Files, FilesCrashTo, SameBut}
 use Rattle.leveldb_version.specs.Contents.{Contents}
 use Rattle.rusty_leveldb.specs.State.{State}
 use Rattle.rusty_leveldb.specs.Machine.{Risk}
-use Rattle.rusty_leveldb.specs.Serves.{IsSpared}
+use Rattle.rusty_leveldb.specs.Serves.{Reads, IsSpared}
 
 -- where P holds, it holds after any change of the file of this name alone
 abbrev pub Ignores : List ℕ → (Files → Type 0) → Type 0
@@ -22,6 +22,7 @@ AreUnread reads beside files = (left one other : Files) (contents : Contents) �
     → reads one contents → reads other contents
 
 -- what a crash leaves of these files is spared, and the names in this set are unread
-pub record IsSparedBeside (store : List ℕ) (reads : Files → Contents → Type 0) (beside : List ℕ → Bool) (old : State) (risk : Risk) (files : Files) : Type 0 where
-  pub spared : IsSpared store reads old risk files
-  pub unread : AreUnread reads beside files
+pub record IsSparedBeside (store : List ℕ) (beside : List ℕ → Bool) (old : State) (risk : Risk) (files : Files)
+    : Type 0 where
+  pub spared : IsSpared store old risk files
+  pub unread : AreUnread (Reads store risk.format) beside files

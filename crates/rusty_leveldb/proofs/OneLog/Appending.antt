@@ -66,9 +66,9 @@ bytes_append (byte ∷ these) those a b (suc i) = bytes_append these those (λ k
 -- ---- the first of the records that stand
 
 -- Of a safe file each number of records, from those of the kept bytes on, carries a prefix.
-module _ {allowed : Store → Type 0} (file : File) (history : History) (bound covered : ℕ) (safe : Safe allowed bound covered history (Some file)) (since : AreBytes file.since) (now : Reading allowed (bytes_of file) bound history) where
+module _ {allowed : Store → Type 0} (file : File) (history : History) (bound durable : ℕ) (safe : Safe allowed bound durable history (Some file)) (since : AreBytes file.since) (now : Reading allowed (bytes_of file) bound history) where
   -- what is left with so many of the bytes that were appended since
-  pub left_at : (k : ℕ) → CarriedPrefix allowed bound covered history (Some (kept_file (file.kept ++ take k file.since)))
+  pub left_at : (k : ℕ) → CarriedPrefix allowed bound durable history (Some (kept_file (file.kept ++ take k file.since)))
   left_at k = safe (Some (kept_file (file.kept ++ take k file.since))) (take k file.since, bytes_take k file.since since, omega (arith, length-take k file.since), refl)
       (front_honest file (take k file.since) (drop k file.since) (sym (take-append-drop k file.since)))
 
@@ -88,7 +88,7 @@ module _ {allowed : Store → Type 0} (file : File) (history : History) (bound c
   -- so many of the records carry a prefix
   pub record Part (n : ℕ) : Type 0 where
     pub part : History
-    pub prefix : IsPrefixAtLeast covered history part
+    pub prefix : IsPrefixAtLeast durable history part
     pub matches : MatchesHistory allowed bound (contents_of (take n now.batches)) part
 
   pub part_of : (n : ℕ) → length first ≤ n → n ≤ length now.records → Part n
@@ -104,7 +104,7 @@ module _ {allowed : Store → Type 0} (file : File) (history : History) (bound c
           record { part = (left_at k).part; prefix = (left_at k).prefix; matches = subst (λ bs. MatchesHistory allowed bound (contents_of bs) (left_at k).part) same_batches r.matches }
 
   -- and so do the first of the records that are found behind a crash
-  pub some_carried : (left : File) (n : ℕ) (e : End) → length first ≤ n → n ≤ length now.records → IsLogFile (bytes_of left) (take n now.records) e → CarriedPrefix allowed bound covered history (Some left)
+  pub some_carried : (left : File) (n : ℕ) (e : End) → length first ≤ n → n ≤ length now.records → IsLogFile (bytes_of left) (take n now.records) e → CarriedPrefix allowed bound durable history (Some left)
   some_carried left n e low high read =
       let p = part_of n low high in
       record {
@@ -116,8 +116,8 @@ module _ {allowed : Store → Type 0} (file : File) (history : History) (bound c
 -- ---- one batch more
 
 -- a prefix of a history is one of a longer history
-pub prefix_longer : (covered : ℕ) (history part : History) (batch : List Entry) → IsPrefixAtLeast covered history part → IsPrefixAtLeast covered (history ++ batch ∷ []) part
-prefix_longer covered history part batch b = record {
+pub prefix_longer : (durable : ℕ) (history part : History) (batch : List Entry) → IsPrefixAtLeast durable history part → IsPrefixAtLeast durable (history ++ batch ∷ []) part
+prefix_longer durable history part batch b = record {
   count = b.count;
   enough = b.enough;
   there = omega (arith, b.there, length-append history (batch ∷ []));
@@ -128,20 +128,20 @@ prefix_longer covered history part batch b = record {
 pub prefix_whole : (least : ℕ) (history : History) → least ≤ length history → IsPrefixAtLeast least history history
 prefix_whole least history few = record { count = length history; enough = few; there = omega arith; first = sym (take_all (length history) history (omega arith)) }
 
-pub begun_longer : {allowed : Store → Type 0} (bound more covered : ℕ) (history : History) (batch : List Entry) (file : Option File) → bound ≤ more → CarriedPrefix allowed bound covered history file → CarriedPrefix allowed more covered (history ++ batch ∷ []) file
-begun_longer bound more covered history batch file most c = record {
+pub begun_longer : {allowed : Store → Type 0} (bound more durable : ℕ) (history : History) (batch : List Entry) (file : Option File) → bound ≤ more → CarriedPrefix allowed bound durable history file → CarriedPrefix allowed more durable (history ++ batch ∷ []) file
+begun_longer bound more durable history batch file most c = record {
   part = c.part;
-  prefix = prefix_longer covered history c.part batch c.prefix;
+  prefix = prefix_longer durable history c.part batch c.prefix;
   carried = carried_more bound more c.part file most c.carried;
 }
 
 -- what is safe stays so with one batch more that may come
-pub safe_longer : {allowed : Store → Type 0} (bound more covered : ℕ) (history : History) (batch : List Entry) (file : Option File) → bound ≤ more → Safe allowed bound covered history file → Safe allowed more covered (history ++ batch ∷ []) file
-safe_longer bound more covered history batch file most safe left leaves honest = begun_longer bound more covered history batch left most (safe left leaves honest)
+pub safe_longer : {allowed : Store → Type 0} (bound more durable : ℕ) (history : History) (batch : List Entry) (file : Option File) → bound ≤ more → Safe allowed bound durable history file → Safe allowed more durable (history ++ batch ∷ []) file
+safe_longer bound more durable history batch file most safe left leaves honest = begun_longer bound more durable history batch left most (safe left leaves honest)
 
 -- A log at a clean end, safe with its history, to which the record of one batch more is appended.
-module _ {allowed : Store → Type 0} (file : File) (history : History) (last covered : ℕ) (has : Carried allowed last history (Some file)) (safe : Safe allowed last covered history (Some file)) (since : AreBytes file.since)
-    (covered_there : covered ≤ length history) (reached : greatest (entries_of history) ≤ last) (old_records : List (List ℕ)) (is_clean : IsLogFile (bytes_of file) old_records clean)
+module _ {allowed : Store → Type 0} (file : File) (history : History) (last durable : ℕ) (has : Carried allowed last history (Some file)) (safe : Safe allowed last durable history (Some file)) (since : AreBytes file.since)
+    (covered_there : durable ≤ length history) (reached : greatest (entries_of history) ≤ last) (old_records : List (List ℕ)) (is_clean : IsLogFile (bytes_of file) old_records clean)
     (items : List Item) (record' : List ℕ) (is_batch : BatchOf record' (last + 1) items) (first_fits : last + 1 ≤ max_sequence) (all_fit : last + length items ≤ max_sequence) where
   abbrev batch : List Entry
   batch = placed (last + 1) items
@@ -212,10 +212,10 @@ module _ {allowed : Store → Type 0} (file : File) (history : History) (last co
   whole_carries = with_batch (longer_file frame file) clean whole_read
 
   -- each is safe, with the batch in hand
-  pub grown_safe : (n : ℕ) → Safe allowed bound covered longer (Some (grown n))
-  grown_safe n left leaves honest = subst (CarriedPrefix allowed bound covered longer) (sym leaves.3)
-      (by_records (log_laws.torn file.kept file.since leaves.0 (first file history last covered safe since now) now.records s.records record' n (first_end file history last covered safe since now) s.end some
-      (first_read file history last covered safe since now) now_read stood no_longer honest_here))
+  pub grown_safe : (n : ℕ) → Safe allowed bound durable longer (Some (grown n))
+  grown_safe n left leaves honest = subst (CarriedPrefix allowed bound durable longer) (sym leaves.3)
+      (by_records (log_laws.torn file.kept file.since leaves.0 (first file history last durable safe since now) now.records s.records record' n (first_end file history last durable safe since now) s.end some
+      (first_read file history last durable safe since now) now_read stood no_longer honest_here))
     where
       s : Stands n
       s = stands n
@@ -235,29 +235,29 @@ module _ {allowed : Store → Type 0} (file : File) (history : History) (last co
       honest_here = subst (λ b. HonestTail log_block_size b (file.kept ++ leaves.0)) (regrouped n)
           (subst (λ b. HonestTail log_block_size (bytes_of (grown n)) b) (append-nil (file.kept ++ leaves.0)) (honest (grown n) g refl leaves.3))
 
-      by_records : (found : List (List ℕ)) × (e : End) × IsLogFile (file.kept ++ leaves.0) found e × AreFirst (length (first file history last covered safe since now)) s.records found
-          → CarriedPrefix allowed bound covered longer (Some (kept_file (file.kept ++ leaves.0)))
+      by_records : (found : List (List ℕ)) × (e : End) × IsLogFile (file.kept ++ leaves.0) found e × AreFirst (length (first file history last durable safe since now)) s.records found
+          → CarriedPrefix allowed bound durable longer (Some (kept_file (file.kept ++ leaves.0)))
       by_records (found, e, read, some_of) = ⊎_elim none one s.which
         where
           here : (records : List (List ℕ)) → found ≡ records → IsLogFile (bytes_of g) records e
           here records same = subst (λ b. IsLogFile b records e) (sym (append-nil (file.kept ++ leaves.0))) (subst (λ rs. IsLogFile (file.kept ++ leaves.0) rs e) same read)
 
-          fewer : (count : ℕ) → length (first file history last covered safe since now) ≤ count → count ≤ length now.records → found ≡ take count now.records → CarriedPrefix allowed bound covered longer (Some g)
-          fewer count low high same = begun_longer last bound covered history batch (Some g) (omega arith) (some_carried file history last covered safe since now g count e low high (here (take count now.records) same))
+          fewer : (count : ℕ) → length (first file history last durable safe since now) ≤ count → count ≤ length now.records → found ≡ take count now.records → CarriedPrefix allowed bound durable longer (Some g)
+          fewer count low high same = begun_longer last bound durable history batch (Some g) (omega arith) (some_carried file history last durable safe since now g count e low high (here (take count now.records) same))
 
-          all : found ≡ now.records ++ record' ∷ [] → CarriedPrefix allowed bound covered longer (Some g)
+          all : found ≡ now.records ++ record' ∷ [] → CarriedPrefix allowed bound durable longer (Some g)
           all same = record {
             part = longer;
-            prefix = prefix_whole covered longer (omega (arith, covered_there, length-append history (batch ∷ [])));
+            prefix = prefix_whole durable longer (omega (arith, covered_there, length-append history (batch ∷ [])));
             carried = with_batch g e (here (now.records ++ record' ∷ []) same);
           }
 
-          none : s.records ≡ now.records → CarriedPrefix allowed bound covered longer (Some g)
+          none : s.records ≡ now.records → CarriedPrefix allowed bound durable longer (Some g)
           none same =
               let n = ap length same in
               fewer some_of.count some_of.enough (omega (arith, some_of.there, n)) (some_of.first ∙ ap (take some_of.count) same)
 
-          one : s.records ≡ now.records ++ record' ∷ [] → CarriedPrefix allowed bound covered longer (Some g)
+          one : s.records ≡ now.records ++ record' ∷ [] → CarriedPrefix allowed bound durable longer (Some g)
           one same =
               let n = ap length same in
               ⊎_elim (λ (past : length now.records < some_of.count).

@@ -21,8 +21,8 @@ module _ (store : List ℕ) where
   pub carries_more : {allowed : Store → Type 0} (bound more : ℕ) (history : History) (files : Files) → bound ≤ more → Carries store reads allowed bound history files → Carries store reads allowed more history files
   carries_more bound more history files most c = carries store more history files (carried_more bound more history (files name) most (carried store bound history files c))
 
-  pub safe_more : {allowed : Store → Type 0} (bound more covered : ℕ) (history : History) (files : Files) → bound ≤ more → IsSafe store reads allowed bound covered history files → IsSafe store reads allowed more covered history files
-  safe_more bound more covered history files most safe left leaves honest =
+  pub safe_more : {allowed : Store → Type 0} (bound more durable : ℕ) (history : History) (files : Files) → bound ≤ more → IsSafe store reads allowed bound durable history files → IsSafe store reads allowed more durable history files
+  safe_more bound more durable history files most safe left leaves honest =
       let c = safe left leaves honest in
       record { part = c.part; prefix = c.prefix; carries = carries_more bound more c.part left most c.carries }
 
@@ -32,14 +32,14 @@ module _ (store : List ℕ) where
   pub carries_on : {allowed : Store → Type 0} (bound : ℕ) (history : History) (old files : Files) → files name ≡ old name → Carries store reads allowed bound history old → Carries store reads allowed bound history files
   carries_on {allowed} bound history old files same c = carries store bound history files (subst (Carried allowed bound history) (sym same) (carried store bound history old c))
 
-  pub safe_on : {allowed : Store → Type 0} (bound covered : ℕ) (history : History) (old files : Files) → files name ≡ old name → IsSafe store reads allowed bound covered history old → IsSafe store reads allowed bound covered history files
-  safe_on {allowed} bound covered history old files same safe = is_safe store bound covered history files (subst (Safe allowed bound covered history) (sym same) (safe_of store bound covered history old safe))
+  pub safe_on : {allowed : Store → Type 0} (bound durable : ℕ) (history : History) (old files : Files) → files name ≡ old name → IsSafe store reads allowed bound durable history old → IsSafe store reads allowed bound durable history files
+  safe_on {allowed} bound durable history old files same safe = is_safe store bound durable history files (subst (Safe allowed bound durable history) (sym same) (safe_of store bound durable history old safe))
 
   -- it holds what it did: creating, appending to, syncing or deleting another file, as the lock's, changes nothing that is read
-  pub holds_on : {allowed : Store → Type 0} (old files : Files) (history : History) (last covered : ℕ) (pending : Option (List Entry)) → files name ≡ old name → Holds store reads allowed old history last covered pending → Holds store reads allowed files history last covered pending
-  holds_on old files history last covered pending same holds = record {
+  pub holds_on : {allowed : Store → Type 0} (old files : Files) (history : History) (last durable : ℕ) (pending : Option (List Entry)) → files name ≡ old name → Holds store reads allowed old history last durable pending → Holds store reads allowed files history last durable pending
+  holds_on old files history last durable pending same holds = record {
     now = ⊎_elim (λ c. inl (carries_on (last + count_of pending) history old files same c)) (λ c. inr (carries_on (last + count_of pending) (with_batch history pending) old files same c)) holds.now;
-    crash = safe_on (last + count_of pending) covered (with_batch history pending) old files same holds.crash;
+    crash = safe_on (last + count_of pending) durable (with_batch history pending) old files same holds.crash;
   }
 
   -- ---- the store that is there
@@ -54,7 +54,7 @@ module _ (store : List ℕ) where
 
   -- ---- a log that is kept
 
-  -- where the log is kept, or none is there, the disk holds what it carries, all of it covered
+  -- where the log is kept, or none is there, the disk holds what it carries, all of it durable
   pub kept_holds : {allowed : Store → Type 0} (files : Files) (history : History) (bound : ℕ) → IsKept (files name) → Carries store reads allowed bound history files → Holds store reads allowed files history bound (length history) None
   kept_holds files history bound is c =
       let more = carries_more bound (bound + 0) history files (omega arith) c in

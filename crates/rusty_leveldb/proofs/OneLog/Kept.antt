@@ -57,8 +57,8 @@ left_of_kept {allowed} bound history (Some file) left is leaves c =
     subst (Carried allowed bound history) (sym leaves.3) (same_bytes bound history file (kept_file (file.kept ++ leaves.0)) same c)
 
 -- so it is safe with what it carries
-pub kept_safe : {allowed : Store → Type 0} (bound covered : ℕ) (history part : History) (file : Option File) → IsKept file → IsPrefixAtLeast covered history part → Carried allowed bound part file → Safe allowed bound covered history file
-kept_safe bound covered history part file is prefix c left leaves honest = record { part = part; prefix = prefix; carried = left_of_kept bound part file left is leaves c }
+pub kept_safe : {allowed : Store → Type 0} (bound durable : ℕ) (history part : History) (file : Option File) → IsKept file → IsPrefixAtLeast durable history part → Carried allowed bound part file → Safe allowed bound durable history file
+kept_safe bound durable history part file is prefix c left leaves honest = record { part = part; prefix = prefix; carried = left_of_kept bound part file left is leaves c }
 
 -- ---- a log that is made
 

@@ -33,9 +33,9 @@ pub record Carried (allowed : Store → Type 0) (bound : ℕ) (history : History
   pub matches : MatchesHistory allowed bound contents history
 
 -- the file carries a prefix of the history that has at least so many batches
-pub record CarriedPrefix (allowed : Store → Type 0) (bound covered : ℕ) (history : History) (file : Option File) : Type 0 where
+pub record CarriedPrefix (allowed : Store → Type 0) (bound durable : ℕ) (history : History) (file : Option File) : Type 0 where
   pub part : History
-  pub prefix : IsPrefixAtLeast covered history part
+  pub prefix : IsPrefixAtLeast durable history part
   pub carried : Carried allowed bound part file
 
 -- a crash left no record that was never written
@@ -44,7 +44,7 @@ Honest file left = (was is : File) → file ≡ Some was → left ≡ Some is �
 
 -- whatever an honest crash leaves of the file carries such a prefix
 abbrev pub Safe : (Store → Type 0) → ℕ → ℕ → History → Option File → Type 0
-Safe allowed bound covered history file = (left : Option File) → FileCrashesTo file left → Honest file left → CarriedPrefix allowed bound covered history left
+Safe allowed bound durable history file = (left : Option File) → FileCrashesTo file left → Honest file left → CarriedPrefix allowed bound durable history left
 
 -- a bound that is greater
 pub carried_more : {allowed : Store → Type 0} (bound more : ℕ) (history : History) (file : Option File) → bound ≤ more → Carried allowed bound history file → Carried allowed more history file
@@ -122,14 +122,14 @@ module _ (store : List ℕ) where
     carries bound history files c = record { contents = c.contents; read = c.read; matches = c.matches }
 
     -- where a crash of the log is safe, one of the disk is
-    pub is_safe : (bound covered : ℕ) (history : History) (files : Files) → Safe allowed bound covered history (files name) → IsSafe store reads allowed bound covered history files
-    is_safe bound covered history files safe left leaves honest =
+    pub is_safe : (bound durable : ℕ) (history : History) (files : Files) → Safe allowed bound durable history (files name) → IsSafe store reads allowed bound durable history files
+    is_safe bound durable history files safe left leaves honest =
         let c = safe (left name) (leaves name) (λ was is same_was same_is. honest name was is is_journal same_was same_is) in
         record { part = c.part; prefix = c.prefix; carries = carries bound c.part left c.carried }
 
     -- and where one of the disk is, one of the log is
-    pub safe_of : (bound covered : ℕ) (history : History) (files : Files) → IsSafe store reads allowed bound covered history files → Safe allowed bound covered history (files name)
-    safe_of bound covered history files safe left leaves honest =
+    pub safe_of : (bound durable : ℕ) (history : History) (files : Files) → IsSafe store reads allowed bound durable history files → Safe allowed bound durable history (files name)
+    safe_of bound durable history files safe left leaves honest =
         let c = safe others all_leaves all_honest in
         record { part = c.part; prefix = c.prefix; carried = subst (Carried allowed bound c.part) here (carried bound c.part others c.carries) }
       where

@@ -11,23 +11,23 @@ module _ (store : List ℕ) where
   abbrev reads : Files → Contents → Type 0
   reads = IsOneLog (log_path store)
 
-  -- The disk carries `part`: the history, or that with what was pending, and it has all that was covered.
-  pub record Finds (allowed : Store → Type 0) (files : Files) (history : History) (bound covered : ℕ) (pending : Option (List Entry)) : Type 0 where
+  -- The disk carries `part`: the history, or that with what was pending, and it has all that was durable.
+  pub record Finds (allowed : Store → Type 0) (files : Files) (history : History) (bound durable : ℕ) (pending : Option (List Entry)) : Type 0 where
     pub part : History
     pub which : (part ≡ history) ⊎ (part ≡ with_batch history pending)
-    pub prefix : IsPrefixAtLeast covered (with_batch history pending) part
+    pub prefix : IsPrefixAtLeast durable (with_batch history pending) part
     pub carries : Carries store reads allowed bound part files
 
-  pub opening_finds : {allowed : Store → Type 0} (files : Files) (history : History) (last covered : ℕ) (pending : Option (List Entry)) → covered ≤ length history → Holds store reads allowed files history last covered pending
-      → Finds allowed files history (last + count_of pending) covered pending
-  opening_finds files history last covered pending few holds = ⊎_elim
+  pub opening_finds : {allowed : Store → Type 0} (files : Files) (history : History) (last durable : ℕ) (pending : Option (List Entry)) → durable ≤ length history → Holds store reads allowed files history last durable pending
+      → Finds allowed files history (last + count_of pending) durable pending
+  opening_finds files history last durable pending few holds = ⊎_elim
       (λ c. record { part = history; which = inl refl; prefix = without pending; carries = c })
       (λ c. record { part = with_batch history pending; which = inr refl; prefix = with pending; carries = c }) holds.now
     where
-      without : (batch : Option (List Entry)) → IsPrefixAtLeast covered (with_batch history batch) history
-      without None = prefix_whole covered history few
-      without (Some batch) = prefix_longer covered history history batch (prefix_whole covered history few)
+      without : (batch : Option (List Entry)) → IsPrefixAtLeast durable (with_batch history batch) history
+      without None = prefix_whole durable history few
+      without (Some batch) = prefix_longer durable history history batch (prefix_whole durable history few)
 
-      with : (batch : Option (List Entry)) → IsPrefixAtLeast covered (with_batch history batch) (with_batch history batch)
-      with None = prefix_whole covered history few
-      with (Some batch) = prefix_whole covered (history ++ batch ∷ []) (omega (arith, few, length-append history (batch ∷ [])))
+      with : (batch : Option (List Entry)) → IsPrefixAtLeast durable (with_batch history batch) (with_batch history batch)
+      with None = prefix_whole durable history few
+      with (Some batch) = prefix_whole durable (history ++ batch ∷ []) (omega (arith, few, length-append history (batch ∷ [])))

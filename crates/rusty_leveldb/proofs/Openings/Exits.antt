@@ -7,10 +7,11 @@ use Rattle.leveldb_env.specs.Env.{File, Files, Disk, created, lock_set, same, Ob
 use Rattle.leveldb_mem.specs.Log.Writer.{WriterState}
 use Rattle.leveldb_base.specs.Error.{IsOutOfMemory}
 use Rattle.leveldb_env.proofs.EnvLemmas.{bytes_eq-same, bytes_eq-apart}
-use Rattle.rusty_leveldb.specs.OneLog.{log_path, IsRead}
+use Rattle.rusty_leveldb.specs.OneLog.{log_path, IsRead, IsOneLog}
 use Rattle.leveldb_version.specs.Paths.{lock_path}
+use Rattle.rusty_leveldb.specs.Causes.{HasFailed}
 use Rattle.rusty_leveldb.specs.Recent.{Numbered}
-use Rattle.rusty_leveldb.specs.Serves.{Reads, IsUnreadable, SparesOthers}
+use Rattle.rusty_leveldb.specs.Serves.{IsUnreadable, SparesOthers}
 use Rattle.rusty_leveldb.specs.Engine.{OpenExcused}
 use Rattle.rusty_leveldb.specs.Replay.{IsTooLarge, IsLargeLog}
 use Rattle.rusty_leveldb.specs.Recovery.{IsFoundAs, SparesLog, IsUnusable, NeverOpens, ChangesLogAlone, IsRecovered, HasCauses}
@@ -131,7 +132,7 @@ module _ (name lock : List ℕ) (create : Bool) (from taken kept to : Disk) (bef
   same_log makes_none gone = ap (λ (f : Files). f (log_path name)) files ∙ ⊎_elim (λ s. s ∙ took.log)
       (λ made. absurd (cc (sym (subst (λ w. IsFoundAs create w made.0 made.1) gone made.2).0 ∙ makes_none))) log
 
-  reasons : IsOutOfMemory e ⊎ (IsEarlyWhy name create from e × (to.files (log_path name) ≡ from.files (log_path name))) ⊎ ((e.code ≡ Corruption) × IsUnreadable (Reads name) from.files)
+  reasons : IsOutOfMemory e ⊎ (IsEarlyWhy name create from e × (to.files (log_path name) ≡ from.files (log_path name))) ⊎ ((e.code ≡ Corruption) × IsUnreadable (IsOneLog (log_path name)) from.files)
       ⊎ IsLargeLog true (from.files (log_path name)) e ⊎ (before < mid) ⊎ (before ≡ 2 ^ 64 - 1)
   reasons = ⊎_elim (λ excused. ⊎_elim (λ m. inl m) (λ others. ⊎_elim
       (λ unmade. inr (inl (inr (inl (unmade.0, unmade.1, sym took.log ∙ unmade.2 modelled)), same_log unmade.1 (unmade.2 modelled))))
@@ -164,7 +165,7 @@ module _ (name lock : List ℕ) (create : Bool) (from taken kept to : Disk) (bef
         why = reasons;
       }
 
-  not_given_back : to.locked ≡ kept.locked → (mid < after) ⊎ (after ≡ 2 ^ 64 - 1) → IsGivenUp name create from to before mid after e
+  not_given_back : to.locked ≡ kept.locked → HasFailed mid after → IsGivenUp name create from to before mid after e
   not_given_back same failed =
       let still = still_taken name from taken to took (same ∙ locks) rest_now in
       record { log = spares; lock = inr (still.0, failed); untouched = untouched; others = still.1; later = causes.later; ends = ended; counts = counts; why = reasons }
@@ -174,7 +175,7 @@ module _ (name lock : List ℕ) (create : Bool) (from taken kept to : Disk) (bef
       → IsGivenUp name create from to before mid after e
   given_up_late (Ok value) set cause = given_back set
   given_up_late (Err status) set cause = not_given_back set
-      (⊎_elim (λ never. absurd never) (λ counted. ⊎_elim (λ (one : after ≡ mid + 1). inl (omega (arith, one))) (λ full. inr (full.1 ∙ full.0)) counted) cause.cause)
+      (⊎_elim (λ never. absurd never) (λ counted. ⊎_elim (λ (one : after ≡ mid + 1). inl (omega (arith, one))) (λ full. inr full.0) counted) cause.cause)
 
 -- the same refusal, whatever the disk tells
 pub late_causes : {T U : Type 0} (name : List ℕ) (create models_disk : Bool) (from taken : Observed) {before start mid after : ℕ} {e : Status} → (IsTrue models_disk → taken.disk.files (log_path name) ≡ from.disk.files (log_path name))

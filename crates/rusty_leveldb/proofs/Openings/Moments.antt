@@ -6,11 +6,12 @@ use Rattle.leveldb_env.specs.Env.{Files, created, same, Observed, ChangesFiles, 
 use Rattle.leveldb_env.proofs.EnvLemmas.{begun, call, Run-call, Run-mono, Run-trans}
 use Rattle.leveldb_version.specs.Paths.{lock_path}
 use Rattle.leveldb_version.specs.Contents.{Store, made}
-use Rattle.rusty_leveldb.specs.OneLog.{log_path}
+use Rattle.rusty_leveldb.specs.OneLog.{log_path, IsOneLog}
 use Rattle.rusty_leveldb.specs.State.{State, Opening}
-use Rattle.rusty_leveldb.specs.Machine.{StaysOr, risk_between}
-use Rattle.rusty_leveldb.specs.Serves.{Reads, StandsFor, IsSpared}
+use Rattle.rusty_leveldb.specs.Machine.{StaysOr}
+use Rattle.rusty_leveldb.specs.Serves.{StandsFor, IsSpared}
 use Rattle.rusty_leveldb.specs.Recovery.{SparesLog}
+use Rattle.rusty_leveldb.proofs.MachineLemmas.{risk_opening}
 use Rattle.rusty_leveldb.proofs.Bounds.{safe_allow}
 use Rattle.rusty_leveldb.proofs.Others.{log_kept}
 use Rattle.rusty_leveldb.proofs.Openings.Calls.{Sparing}
@@ -19,17 +20,17 @@ use Rattle.rusty_leveldb.proofs.Openings.Survives.{Survives, survives_now, survi
 -- ---- what is spared
 
 spared_of : (store : List ℕ) (opening : Opening) (old : State) (there : Store) (files : Files) → Survives store opening old there files
-    → IsSpared store (Reads store) old (record (risk_between old) { opening = Some opening }) files
-spared_of store opening old there files s = safe_allow store (Reads store) (old.last + count_of old.pending) old.covered (with_batch old.history old.pending) files
+    → IsSpared store old (risk_opening opening old) files
+spared_of store opening old there files s = safe_allow store (IsOneLog (log_path store)) (old.last + count_of old.pending) old.durable (with_batch old.history old.pending) files
     (λ now is. subst (StaysOr (Some opening) old.store) (sym is) s.stays) s.holds.crash
 
 -- from a disk that stands for the state
-pub opening_moments : {first now : Observed} (create : Bool) (store : List ℕ) (opening : Opening) (old : State) → StandsFor store (Reads store) first.disk old
-    → Run (Sparing create (first.disk.files (log_path store)) (log_path store)) first now → Run (IsSpared store (Reads store) old (record (risk_between old) { opening = Some opening })) first now
+pub opening_moments : {first now : Observed} (create : Bool) (store : List ℕ) (opening : Opening) (old : State) → StandsFor store first.disk old
+    → Run (Sparing create (first.disk.files (log_path store)) (log_path store)) first now → Run (IsSpared store old (risk_opening opening old)) first now
 opening_moments {first} create store opening old stands run = Run-mono
     (λ files spares. ⊎_elim
     (λ is. spared_of store opening old old.store files (survives_same store opening old first.disk.files files old.store is (survives_now store opening old first.disk stands)))
-    (λ kept. spared_of store opening old (made None) files (survives_kept store opening old first.disk.files files create kept.0 kept.1 kept.2 kept.3 stands.is_state.covered (survives_now store opening old first.disk stands)))
+    (λ kept. spared_of store opening old (made None) files (survives_kept store opening old first.disk.files files create kept.0 kept.1 kept.2 kept.3 stands.is_state.durable (survives_now store opening old first.disk stands)))
     spares) run
 
 -- ---- the calls of an opening

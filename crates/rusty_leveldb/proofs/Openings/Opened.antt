@@ -1,27 +1,27 @@
 -- An opening that is answered with a store is a step that opens it.
 use Rattle.std.proofs.Common.{◌≡◌, ◌⊎◌, ◌≤◌, ◌+◌, inl, inr, ⊎_elim, ℕ, Bool, false, true, List, [], length, refl, sym, ◌∙◌, ap, subst, arith, Option, Some, None}
 use Rattle.std.specs.Prelude.{IsTrue, Contains, ◌↔◌, string_bytes}
-use Rattle.std.specs.declared.cmp.Ordering.{Ordering}
 use Rattle.leveldb_base.specs.History.{Entry, entries_of, greatest, with_batch, count_of, HasValueAt}
 use Rattle.leveldb_base.proofs.HistoryLemmas.{in_none}
 use Rattle.leveldb_env.specs.declared.env.Env.{Ghosts}
 use Rattle.leveldb_env.specs.Env.{File, AreBytes, Observed, Run}
 use Rattle.leveldb_mem.specs.Log.{clean}
 use Rattle.leveldb_version.specs.Contents.{Store, missing, made, Contents}
-use Rattle.rusty_leveldb.specs.OneLog.{log_path, IsRead, all_entries, contents_of}
+use Rattle.rusty_leveldb.specs.OneLog.{log_path, IsRead, all_entries, contents_of, IsOneLog}
 use Rattle.leveldb_version.specs.Paths.{lock_path}
 use Rattle.leveldb_version.specs.Holds.{MatchesHistory, Carries}
 use Rattle.rusty_leveldb.specs.State.{State, IsState, Opening, open_store, open_mode, done}
 use Rattle.rusty_leveldb.specs.Causes.{Misfits, Disagrees}
-use Rattle.rusty_leveldb.specs.Machine.{MayOpen, Opens, StepIn}
-use Rattle.rusty_leveldb.specs.Serves.{Reads, StandsFor, Represents, Goes, faults_between, SparesOthers}
-use Rattle.rusty_leveldb.specs.Engine.{IsStoreName, IsOpening, Recalls, Remembers, WritesOn, mode_of}
+use Rattle.rusty_leveldb.specs.Machine.{MayOpen, Opens, Step}
+use Rattle.rusty_leveldb.specs.Serves.{StandsFor, Represents, Goes, faults_between, SparesOthers}
+use Rattle.rusty_leveldb.specs.Engine.{IsStoreName, Recalls, Remembers, WritesOn, mode_of}
 use Rattle.rusty_leveldb.specs.Recovery.{IsFoundAs, IsKeptLog, IsRecovered}
 use Rattle.rusty_leveldb.proofs.Histories.{history_part}
 use Rattle.rusty_leveldb.proofs.OneLog.LogFile.{carried}
 use Rattle.rusty_leveldb.proofs.Readings.{one_read}
 use Rattle.rusty_leveldb.proofs.OneLog.Disks.{kept_holds}
 use Rattle.rusty_leveldb.proofs.OneLog.Opening as opening
+use Rattle.rusty_leveldb.proofs.Openings.Asked.{IsAsked}
 use Rattle.rusty_leveldb.proofs.Openings.Logs.{carried_over, kept_is_kept}
 use Rattle.rusty_leveldb.proofs.Openings.Calls.{Sparing}
 use Rattle.rusty_leveldb.proofs.Openings.Moments.{opening_moments}
@@ -51,13 +51,13 @@ store_found create (Some file) records end s found contents read is = inr (sym i
 no_bytes : AreBytes []
 no_bytes i = omega arith
 
-module _ {E C FP F : Type 0} {B : Boxed} (env : Ghosts E F) (name : List ℕ) (cmp : List ℕ → List ℕ → Ordering) (opening_is : Opening) (create : Bool) (is : IsOpening name create opening_is) (is_name : IsStoreName name)
+module _ {E C FP F : Type 0} {B : Boxed} (env : Ghosts E F) (name : List ℕ) (opening_is : Opening) (create : Bool) (is : IsAsked name create opening_is) (is_name : IsStoreName name)
     (from to : Observed) (before after : ℕ) (engine : EngineOf E C FP F B) (got : IsRecovered create (from.disk.files (log_path name)) (to.disk.files (log_path name)) engine.writer engine.recent)
     (mode : mode_of engine.mode ≡ open_mode) (lock : string_bytes engine.lock ≡ lock_path name) (log : env.name_of engine.log ≡ log_path name)
     (was_free : from.disk.locked (lock_path name) ≡ false) (held : to.disk.locked (lock_path name) ≡ true) (others : SparesOthers name from.disk to.disk)
-    (counted : after ≡ before) (passed : Run (Sparing create (from.disk.files (log_path name)) (log_path name)) from to) (old : State) (represents : Represents name (Reads name) (Recalls {E = E} {C = C} {FP = FP} {F = F} {B = B} env name) None from.disk old) where
-  found : opening.Finds name (λ now. now ≡ old.store) from.disk.files old.history (old.last + count_of old.pending) old.covered old.pending
-  found = opening.opening_finds name from.disk.files old.history old.last old.covered old.pending represents.disk_is.is_state.covered represents.disk_is.holds
+    (counted : after ≡ before) (passed : Run (Sparing create (from.disk.files (log_path name)) (log_path name)) from to) (old : State) (represents : Represents name (Recalls {E = E} {C = C} {FP = FP} {F = F} {B = B} env name) None from.disk old) where
+  found : opening.Finds name (λ now. now ≡ old.store) from.disk.files old.history (old.last + count_of old.pending) old.durable old.pending
+  found = opening.opening_finds name from.disk.files old.history old.last old.durable old.pending represents.disk_is.is_state.durable represents.disk_is.holds
 
   kept : IsKeptLog got.records (to.disk.files (log_path name))
   kept = record { file = got.file; there = got.there; since = got.since; read = got.read }
@@ -84,33 +84,34 @@ module _ {E C FP F : Type 0} {B : Boxed} (env : Ghosts E F) (name : List ℕ) (c
   now = record {
     history = found.part;
     last = engine.recent.last;
-    covered = length found.part;
+    durable = length found.part;
     held = [];
     given = [];
     pending = None;
     mode = open_mode;
     locked = true;
     store = made None;
+    format = opening_is.format;
   }
 
   now_is_state : IsState now
   now_is_state = record {
-    history = history_part old.covered (with_batch old.history old.pending) found.part represents.disk_is.is_state.history found.prefix;
+    history = history_part old.durable (with_batch old.history old.pending) found.part represents.disk_is.is_state.history found.prefix;
     reached = reached;
     pending = omega (arith, reached);
-    covered = omega arith;
+    durable = omega arith;
     held = λ one c. absurd (in_none one c);
     mode = (refl, refl);
   }
 
-  carries_now : Carries name (Reads name) (λ now. now ≡ made None) engine.recent.last found.part to.disk.files
+  carries_now : Carries name (IsOneLog (log_path name)) (λ now. now ≡ made None) engine.recent.last found.part to.disk.files
   carries_now = record {
     contents = contents_of got.replayed.read.batches;
     read = read_now;
     matches = record { same = matches.same; up_to = matches.up_to; reached = matches.reached; bounded = omega (arith, got.replayed.last); store = refl };
   }
 
-  stands : StandsFor name (Reads name) to.disk now
+  stands : StandsFor name to.disk now
   stands = record {
     is_state = now_is_state;
     holds = kept_holds name to.disk.files found.part engine.recent.last (kept_is_kept got.records (to.disk.files (log_path name)) kept) carries_now;
@@ -140,14 +141,13 @@ module _ {E C FP F : Type 0} {B : Boxed} (env : Ghosts E F) (name : List ℕ) (c
 
   -- what was read of the log
   was : Found from.disk.files name old.store
-  was = found_in name old.store from.disk.files old.history old.last old.covered old.pending represents.disk_is.holds
+  was = found_in name old.store from.disk.files old.history old.last old.durable old.pending represents.disk_is.holds
 
   which : ((old.store ≡ missing) × IsTrue create) ⊎ (old.store ≡ made None)
   which = store_found create (from.disk.files (log_path name)) got.records got.end old.store got.was_found was.contents was.read was.store_is
 
   opens : Opens old opening_is now
   opens = record {
-    fits = (is.fits.1 is_name, is.compresses);
     free = sym represents.disk_is.locked ∙ was_free;
     may = ⊎_elim (λ none. subst (MayOpen opening_is) (sym none.0) (is.create ∙ none.1)) (λ there. subst (MayOpen opening_is) (sym there) is.exists) which;
     stays = stays_made opening_is (from.disk.files (log_path name)) was.contents old.store was.read was.store_is;
@@ -155,7 +155,7 @@ module _ {E C FP F : Type 0} {B : Boxed} (env : Ghosts E F) (name : List ℕ) (c
     joins = found.which;
     reached = reached;
     bounded = bounded;
-    covered = inr refl;
+    durable = inr refl;
     state = refl;
   }
 
@@ -165,14 +165,12 @@ module _ {E C FP F : Type 0} {B : Boxed} (env : Ghosts E F) (name : List ℕ) (c
       (λ there. subst (Disagrees opening_is) there misfit) which
 
   -- the step
-  pub opened : Goes name (Reads name) (Recalls {E = E} {C = C} {FP = FP} {F = F} {B = B} env name) cmp (None, from, before) (open_store opening_is) done (Some engine, to, after) old
+  pub opened : Goes name (Recalls {E = E} {C = C} {FP = FP} {F = F} {B = B} env name) (record { memory = None; observed = from; failures = before }) (open_store opening_is) done (record { memory = Some engine; observed = to; failures = after }) old
   opened = record {
     new = now;
     represents = record { disk_is = stands; memory_is = record { mode = mode; lock = lock; shows = λ never. remembers; writes = λ open_is. writes } };
-    step = record {
-      later = omega (arith, counted);
-      step = subst (λ m. StepIn cmp m (faults_between before after) old (open_store opening_is) done now) (sym represents.memory_is) (misfits, opens);
-    };
+    later = omega (arith, counted);
+    step = subst (λ m. Step m (faults_between before after) old (open_store opening_is) done now) (sym represents.memory_is) (record { operands = misfits; numbers = λ none. let never : true ≡ false = sym is.compresses ∙ none in absurd (cc) }, opens);
     moments = opening_moments create name opening_is old represents.disk_is passed;
     files = record { untouched = λ never. absurd never; refused = λ never. absurd never; stopped = λ not_open takes. absurd (takes tt); bytes = λ never. absurd never };
     others = others;

@@ -1,22 +1,22 @@
 -- A refused opening is a step that leaves the store closed.
 use Rattle.std.proofs.Common.{◌≡◌, ◌⊎◌, ◌<◌, ◌≤◌, inl, inr, ⊎_elim, ℕ, Bool, false, true, List, refl, sym, ◌∙◌, ap, subst, arith, Option, None}
 use Rattle.std.specs.Prelude.{◌-◌, ◌^◌, IsTrue}
-use Rattle.std.specs.declared.cmp.Ordering.{Ordering}
 use Rattle.leveldb_base.specs.declared.error.Status.{Status}
 use Rattle.leveldb_base.specs.declared.error.StatusCode.TheVariants.{InvalidArgument, Corruption, LockError}
 use Rattle.leveldb_base.specs.Error.{text_of, IsOutOfMemory}
 use Rattle.leveldb_env.specs.declared.env.Env.{Ghosts}
 use Rattle.leveldb_env.specs.Env.{File, Disk, created, Observed, Run, BeforeOrAfter}
 use Rattle.leveldb_version.specs.Contents.{Store, made, Contents, no_contents}
-use Rattle.rusty_leveldb.specs.OneLog.{log_path, IsRead}
+use Rattle.rusty_leveldb.specs.OneLog.{log_path, IsRead, IsOneLog}
 use Rattle.leveldb_version.specs.Paths.{lock_path}
-use Rattle.rusty_leveldb.specs.State.{State, IsState, IsAtRest, SuitsMode, Opening, open_store, refused}
-use Rattle.rusty_leveldb.specs.Causes.{Cause, Comes, Disagrees, out_of_memory, device_failed, lock_is_held, bad_operand, too_large}
-use Rattle.rusty_leveldb.specs.Machine.{IsEarly, UnlockFailed, StepIn}
-use Rattle.rusty_leveldb.specs.Serves.{Reads, SparesOthers, Represents, Goes, IsUnreadable, faults_between, refusal_of}
-use Rattle.rusty_leveldb.specs.Engine.{IsStoreName, IsOpening, OpenExcused, Recalls}
+use Rattle.rusty_leveldb.specs.State.{State, IsState, IsAtRest, SuitsMode, Opening, Request, Refusal, open_store, refused}
+use Rattle.rusty_leveldb.specs.Causes.{HasFailed, Cause, Comes, Disagrees, out_of_memory, device_failed, lock_is_held, bad_operand, too_large}
+use Rattle.rusty_leveldb.specs.Machine.{IsEarly, format_left, Step}
+use Rattle.rusty_leveldb.specs.Serves.{SparesOthers, Represents, Goes, IsUnreadable, faults_between, refusal_of}
+use Rattle.rusty_leveldb.specs.Engine.{IsStoreName, OpenExcused, Recalls}
 use Rattle.rusty_leveldb.specs.Replay.{IsLargeLog}
 use Rattle.rusty_leveldb.specs.Recovery.{SparesLog, NeverOpens, FailedBeside, StaysUnopened}
+use Rattle.rusty_leveldb.proofs.Openings.Asked.{IsAsked}
 use Rattle.rusty_leveldb.proofs.Openings.Calls.{Sparing}
 use Rattle.rusty_leveldb.proofs.Openings.Moments.{opening_moments}
 use Rattle.rusty_leveldb.proofs.Openings.Survives.{Survives, Found, found_in, survives_now, survives_same, survives_kept}
@@ -30,13 +30,13 @@ IsEarlyWhy name create disk e = ((e.code ≡ InvalidArgument) × (IsStoreName na
 -- What a refused opening did: up to this count of failures it was at work, and then it gave the lock back.
 pub record IsGivenUp (name : List ℕ) (create : Bool) (from to : Disk) (before mid after : ℕ) (e : Status) : Type 0 where
   pub log : SparesLog create (from.files (log_path name)) (to.files (log_path name))
-  pub lock : (to.locked (lock_path name) ≡ from.locked (lock_path name)) ⊎ ((to.locked (lock_path name) ≡ true) × ((mid < after) ⊎ (after ≡ 2 ^ 64 - 1)))
+  pub lock : (to.locked (lock_path name) ≡ from.locked (lock_path name)) ⊎ ((to.locked (lock_path name) ≡ true) × HasFailed mid after)
   pub untouched : NeverOpens name create from → BeforeOrAfter (created (lock_path name)) from.files to.files
   pub others : SparesOthers name from to
   pub later : before ≤ mid
   pub ends : mid ≤ after
   pub counts : after < 2 ^ 64
-  pub why : IsOutOfMemory e ⊎ (IsEarlyWhy name create from e × (to.files (log_path name) ≡ from.files (log_path name))) ⊎ ((e.code ≡ Corruption) × IsUnreadable (Reads name) from.files)
+  pub why : IsOutOfMemory e ⊎ (IsEarlyWhy name create from e × (to.files (log_path name) ≡ from.files (log_path name))) ⊎ ((e.code ≡ Corruption) × IsUnreadable (IsOneLog (log_path name)) from.files)
       ⊎ IsLargeLog true (from.files (log_path name)) e ⊎ (before < mid) ⊎ (before ≡ 2 ^ 64 - 1)
 
 -- why it was refused, where the device has no part in it
@@ -45,13 +45,13 @@ early_excused name create from e why = ⊎_elim (λ badly. inr (inl badly))
     (λ others. ⊎_elim (λ unmade. inr (inr (inl (unmade.0, unmade.1, λ told. unmade.2)))) (λ held. inr (inr (inr (inl (held.0, λ told. held.1))))) others) why
 
 -- the lock wasn't given back: a failure of its own
-failed_beside : (name : List ℕ) (create : Bool) (from to : Observed) (before mid after : ℕ) (e : Status) → IsGivenUp name create from.disk to.disk before mid after e → (mid < after) ⊎ (after ≡ 2 ^ 64 - 1)
+failed_beside : (name : List ℕ) (create : Bool) (from to : Observed) (before mid after : ℕ) (e : Status) → IsGivenUp name create from.disk to.disk before mid after e → HasFailed mid after
     → FailedBeside (OpenExcused true name create from e) before after
 failed_beside name create from to before mid after e up failed = ⊎_elim (λ (more : mid < after). ⊎_elim (λ memory. excused more (inl memory))
     (λ others. ⊎_elim (λ early. excused more (early_excused name create from e early.0))
     (λ others. ⊎_elim (λ damage. excused more (inr (inr (inr (inr (inl (damage.0, λ told. damage.1)))))))
     (λ others. ⊎_elim (λ large. excused more (inr (inr (inr (inr (inr large)))))) (λ counted. device more counted) others) others) others) up.why)
-    (λ full. inr (inr full)) failed
+    (λ (full : mid ≡ 2 ^ 64 - 1). inr (inr (omega (arith, full, up.ends, up.counts)))) failed
   where
     excused : mid < after → OpenExcused true name create from e → FailedBeside (OpenExcused true name create from e) before after
     excused more why = inl (why, omega (arith, up.later, more))
@@ -78,20 +78,19 @@ not_true : (b : Bool) → (IsTrue b → ⊥) → b ≡ false
 not_true true never = absurd (never refl)
 not_true false never = refl
 
--- this cause's failures, and the lock's beside them
-unlock_failed : (before mid after : ℕ) (cause : Cause) → before ≤ mid → mid ≤ after → after < 2 ^ 64 → (cause ≡ device_failed → (before < mid) ⊎ (before ≡ 2 ^ 64 - 1)) → (mid < after) ⊎ (after ≡ 2 ^ 64 - 1)
-    → UnlockFailed (faults_between before after) cause
-unlock_failed before mid after device_failed later ended counts device failed = ⊎_elim
-    (λ (counted : before < mid). ⊎_elim (λ (more : mid < after). inl (omega (arith, counted, more))) (λ full. inr full) failed)
-    (λ (full : before ≡ 2 ^ 64 - 1). inr (omega (arith, full, later, ended, counts))) (device refl)
-unlock_failed before mid after other later ended counts device failed = ⊎_elim (λ (more : mid < after). inl (omega (arith, later, more))) (λ full. inr full) failed
+-- a cause that had come by a count of failures has come by a greater one
+comes_later : (before mid after : ℕ) (old : State) (request : Request) (refusal : Refusal) (cause : Cause) → mid ≤ after
+    → Comes (faults_between before mid) old request refusal cause → Comes (faults_between before after) old request refusal cause
+comes_later before mid after old request refusal device_failed more comes =
+    (comes.0, ⊎_elim (λ (less : before < mid). inl (omega (arith, less, more))) (λ full. inr full) comes.1)
+comes_later before mid after old request refusal cause more comes = comes
 
-module _ {E C FP F : Type 0} {B : Boxed} (env : Ghosts E F) (name : List ℕ) (cmp : List ℕ → List ℕ → Ordering) (opening : Opening) (create : Bool) (is : IsOpening name create opening)
+module _ {E C FP F : Type 0} {B : Boxed} (env : Ghosts E F) (name : List ℕ) (opening : Opening) (create : Bool) (is : IsAsked name create opening)
     (from to : Observed) (before mid after : ℕ) (e : Status) (up : IsGivenUp name create from.disk to.disk before mid after e)
-    (passed : Run (Sparing create (from.disk.files (log_path name)) (log_path name)) from to) (old : State) (represents : Represents name (Reads name) (Recalls {E = E} {C = C} {FP = FP} {F = F} {B = B} env name) None from.disk old) where
+    (passed : Run (Sparing create (from.disk.files (log_path name)) (log_path name)) from to) (old : State) (represents : Represents name (Recalls {E = E} {C = C} {FP = FP} {F = F} {B = B} env name) None from.disk old) where
   -- the store is closed, and this store is there
   abbrev left : Store → State
-  left there = record old { store = there; locked = to.disk.locked (lock_path name) }
+  left there = record old { store = there; locked = to.disk.locked (lock_path name); format = format_left opening old.store old.format }
 
   rest : IsAtRest old
   rest = subst (λ m. SuitsMode m old) represents.memory_is represents.disk_is.is_state.mode
@@ -103,37 +102,36 @@ module _ {E C FP F : Type 0} {B : Boxed} (env : Ghosts E F) (name : List ℕ) (c
         history = s.history;
         reached = s.reached;
         pending = s.pending;
-        covered = s.covered;
+        durable = s.durable;
         held = s.held;
         mode = subst (λ m. SuitsMode m (left there)) (sym represents.memory_is) (record { held = rest.held; given = rest.given });
       }
 
   abbrev Refuses : Type 0
-  Refuses = Goes name (Reads name) (Recalls {E = E} {C = C} {FP = FP} {F = F} {B = B} env name) cmp (None, from, before) (open_store opening) (refused (refusal_of e)) (None, to, after) old
+  Refuses = Goes name (Recalls {E = E} {C = C} {FP = FP} {F = F} {B = B} env name) (record { memory = None; observed = from; failures = before }) (open_store opening) (refused (refusal_of e)) (record { memory = None; observed = to; failures = after }) old
 
   -- refused for this cause
-  goes : (there : Store) → Survives name opening old there to.disk.files → (cause : Cause) → Comes (faults_between before after) old (open_store opening) (refusal_of e) cause
-      → (IsEarly cause → there ≡ old.store) → (cause ≡ device_failed → (before < mid) ⊎ (before ≡ 2 ^ 64 - 1)) → Refuses
-  goes there survives cause comes early device = record {
+  goes : (there : Store) → Survives name opening old there to.disk.files → (cause : Cause) → Comes (faults_between before mid) old (open_store opening) (refusal_of e) cause
+      → (IsEarly cause → there ≡ old.store) → Refuses
+  goes there survives cause comes early = record {
     new = left there;
     represents = record {
       disk_is = record { is_state = left_is_state there; holds = survives.holds; locked = refl };
       memory_is = represents.memory_is;
     };
-    step = record {
-      later = omega (arith, up.later, up.ends);
-      step = subst (λ m. StepIn cmp m (faults_between before after) old (open_store opening) (refused (refusal_of e)) (left there)) (sym represents.memory_is) (
-        cause,
-        comes,
-        record {
-          state = refl;
-          covered = inl refl;
-          stays = survives.stays;
-          early = early;
-          lock = ⊎_elim (λ same. inl (same ∙ represents.disk_is.locked)) (λ held. inr (held.0, unlock_failed before mid after cause up.later up.ends up.counts device held.1)) up.lock;
-        },
-      );
-    };
+    later = omega (arith, up.later, up.ends);
+    step = subst (λ m. Step m (faults_between before after) old (open_store opening) (refused (refusal_of e)) (left there)) (sym represents.memory_is) (record {
+      cause = cause;
+      comes = comes_later before mid after old (open_store opening) (refusal_of e) cause up.ends comes;
+      leaves = record {
+        state = refl;
+        durable = inl refl;
+        stays = survives.stays;
+        early = early;
+        lock = ⊎_elim (λ same. inl (same ∙ represents.disk_is.locked))
+            (λ held. inr (held.0, record { mid = mid; later = up.later; comes = comes; failed = held.1 })) up.lock;
+      };
+    });
     moments = opening_moments create name opening old represents.disk_is passed;
     files = record { untouched = λ never. absurd never; refused = λ never. absurd never; stopped = λ not_open takes. absurd (takes tt); bytes = λ never. absurd never };
     others = up.others;
@@ -143,29 +141,29 @@ module _ {E C FP F : Type 0} {B : Boxed} (env : Ghosts E F) (name : List ℕ) (c
   -- what is left of the files
   left_over : (there : Store) × Survives name opening old there to.disk.files
   left_over = ⊎_elim (λ same. (old.store, survives_same name opening old from.disk.files to.disk.files old.store same (survives_now name opening old from.disk represents.disk_is)))
-      (λ kept. (made None, survives_kept name opening old from.disk.files to.disk.files create kept.0 kept.1 kept.2 kept.3 represents.disk_is.is_state.covered (survives_now name opening old from.disk represents.disk_is))) up.log
+      (λ kept. (made None, survives_kept name opening old from.disk.files to.disk.files create kept.0 kept.1 kept.2 kept.3 represents.disk_is.is_state.durable (survives_now name opening old from.disk represents.disk_is))) up.log
 
   -- what is read of the files
   read_of : Found from.disk.files name old.store
-  read_of = found_in name old.store from.disk.files old.history old.last old.covered old.pending represents.disk_is.holds
+  read_of = found_in name old.store from.disk.files old.history old.last old.durable old.pending represents.disk_is.holds
 
   early : IsEarlyWhy name create from.disk e → to.disk.files (log_path name) ≡ from.disk.files (log_path name) → Refuses
   early why same =
       let was = survives_same name opening old from.disk.files to.disk.files old.store same (survives_now name opening old from.disk represents.disk_is) in
-      ⊎_elim (λ badly. goes old.store was bad_operand (badly.0, inl (not_true opening.fits (λ fits. badly.1 (is.fits.0 fits)))) (λ _. refl) (λ never. absurd (cc)))
+      ⊎_elim (λ badly. goes old.store was bad_operand (badly.0, inl (not_true opening.fits (λ fits. badly.1 (is.fits.0 fits)))) (λ _. refl))
       (λ others. ⊎_elim
-      (λ not. goes old.store was bad_operand (not.0, inr (disagrees (from.disk.files (log_path name)) old.store opening read_of.contents read_of.read read_of.store_is not.2 (is.create ∙ not.1))) (λ _. refl) (λ never. absurd (cc)))
-      (λ held. goes old.store was lock_is_held (tt, held.0, sym represents.disk_is.locked ∙ held.1) (λ _. refl) (λ never. absurd (cc))) others) why
+      (λ not. goes old.store was bad_operand (not.0, inr (disagrees (from.disk.files (log_path name)) old.store opening read_of.contents read_of.read read_of.store_is not.2 (is.create ∙ not.1))) (λ _. refl))
+      (λ held. goes old.store was lock_is_held (tt, held.0, sym represents.disk_is.locked ∙ held.1) (λ _. refl)) others) why
 
   -- the step
   pub given_up : Refuses
-  given_up = ⊎_elim (λ m. goes left_over.0 left_over.1 out_of_memory (tt, m.0, ap text_of m.1) (λ never. absurd never) (λ never. absurd (cc)))
+  given_up = ⊎_elim (λ m. goes left_over.0 left_over.1 out_of_memory (tt, m.0, ap text_of m.1) (λ never. absurd never))
       (λ others. ⊎_elim (λ why. early why.0 why.1)
       (λ others. ⊎_elim (λ damage. absurd (unreadable damage.1))
-      (λ others. ⊎_elim (λ large. goes left_over.0 left_over.1 too_large (tt, large.0) (λ never. absurd never) (λ never. absurd (cc))) counted others) others) others) up.why
+      (λ others. ⊎_elim (λ large. goes left_over.0 left_over.1 too_large (tt, large.0) (λ never. absurd never)) counted others) others) others) up.why
     where
-      unreadable : IsUnreadable (Reads name) from.disk.files → ⊥
+      unreadable : IsUnreadable (IsOneLog (log_path name)) from.disk.files → ⊥
       unreadable none = none read_of.contents read_of.read
 
       counted : (before < mid) ⊎ (before ≡ 2 ^ 64 - 1) → Refuses
-      counted which = goes left_over.0 left_over.1 device_failed (tt, ⊎_elim (λ (less : before < mid). inl (omega (arith, less, up.ends))) (λ full. inr full) which) (λ never. absurd never) (λ _. which)
+      counted which = goes left_over.0 left_over.1 device_failed (tt, which) (λ never. absurd never)

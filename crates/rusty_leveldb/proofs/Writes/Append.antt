@@ -1,6 +1,5 @@
 -- An append of a batch's record to the log of an open store: what disk and machine are then.
 use Rattle.std.proofs.Common.{◌≡◌, ◌≤◌, ◌+◌, inl, inr, ℕ, List, [], ◌∷◌, ◌++◌, length, refl, sym, ◌∙◌, ap, subst, arith, Some, None, Bool}
-use Rattle.std.specs.declared.cmp.Ordering.{Ordering}
 use Rattle.leveldb_base.specs.declared.error.Status.{Status}
 use Rattle.leveldb_base.specs.Error.{text_of}
 use Rattle.leveldb_base.specs.History.{Item, Entry, History, IsHistory, entries_of, greatest, with_batch}
@@ -13,8 +12,8 @@ use Rattle.rusty_leveldb.specs.declared.db_impl.engine.Mode.TheVariants.{Broken}
 use Rattle.rusty_leveldb.specs.OneLog.{log_path, max_sequence}
 use Rattle.rusty_leveldb.specs.State.{State, open_mode, broken, write, refused}
 use Rattle.rusty_leveldb.specs.Causes.{Faults, out_of_memory, device_failed}
-use Rattle.rusty_leveldb.specs.Machine.{batch_of, Breaks, StepIn, Responds}
-use Rattle.rusty_leveldb.specs.Serves.{Reads, IsSpared, Goes, faults_between, refusal_of}
+use Rattle.rusty_leveldb.specs.Machine.{next_batch, Breaks, Step, Responds}
+use Rattle.rusty_leveldb.specs.Serves.{IsSpared, Goes, faults_between, refusal_of}
 use Rattle.rusty_leveldb.specs.Engine.{scene, Recalls}
 use Rattle.rusty_leveldb.proofs.Histories.{entries_more, greatest_append, placed_greatest, placed_length, history_more}
 use Rattle.rusty_leveldb.proofs.OneLog.Writing.{appending_holds}
@@ -33,7 +32,7 @@ pub record IsNext (last : ℕ) (items : List Item) (bytes : List ℕ) : Type 0 w
 module _ {E C FP F : Type 0} {B : Boxed} (env : Ghosts E F) (store : List ℕ) (engine : EngineOf E C FP F B) (from : E) (old : State) (was : IsOpen env store engine from old)
     (items : List Item) (bytes : List ℕ) (next : IsNext old.last items bytes) where
   abbrev pub batch : List Entry
-  batch = batch_of old items
+  batch = next_batch old items
 
   abbrev pub longer : History
   longer = old.history ++ batch ∷ []
@@ -61,25 +60,26 @@ module _ {E C FP F : Type 0} {B : Boxed} (env : Ghosts E F) (store : List ℕ) (
 
   -- ---- an append that was refused, or whose sync was
 
-  module _ (cmp : List ℕ → List ℕ → Ordering) (sync : Bool) (after : EngineOf E C FP F B) (to : E) where
+  module _ (sync : Bool) (after : EngineOf E C FP F B) (to : E) where
     abbrev faults : Faults
     faults = faults_between (env.failures from) (env.failures to)
 
     breaks : Breaks old (Some batch) (broken_with old (Some batch))
-    breaks = record { state = refl; covered = inl refl }
+    breaks = record { state = refl; durable = inl refl }
 
-    refuses : (status : Status) → Fails status (env.failures from) (env.failures to) → Responds cmp faults old (write items sync) (refused (refusal_of status)) (broken_with old (Some batch))
-    refuses status (inl memory) = (out_of_memory, (tt, memory.0, ap text_of memory.1), inr (tt, breaks))
-    refuses status (inr device) = (device_failed, (tt, device), inr (tt, breaks))
+    refuses : (status : Status) → Fails status (env.failures from) (env.failures to) → Responds faults old (write items sync) (refused (refusal_of status)) (broken_with old (Some batch))
+    refuses status (inl memory) = record { cause = out_of_memory; comes = (tt, memory.0, ap text_of memory.1); leaves = inr (tt, inr breaks) }
+    refuses status (inr device) = record { cause = device_failed; comes = (tt, device); leaves = inr (tt, inr breaks) }
 
     -- the log refused the append or the sync behind it, so the store is broken with the batch pending
-    pub write_broke : (status : Status) → Run (IsSpared store (Reads store) old (record { history = longer; bound = old.last + length batch; opening = None })) (env.observed from) (env.observed to) → env.failures from ≤ env.failures to → Fails status (env.failures from) (env.failures to) → PrefixAppended name frame (env.observed from).disk.files (env.observed to).disk.files
+    pub write_broke : (status : Status) → Run (IsSpared store old (record { history = longer; bound = old.last + length batch; format = old.format; opening = None })) (env.observed from) (env.observed to) → env.failures from ≤ env.failures to → Fails status (env.failures from) (env.failures to) → PrefixAppended name frame (env.observed from).disk.files (env.observed to).disk.files
         → (env.observed to).disk.locked ≡ (env.observed from).disk.locked → IsStill env store engine after → after.mode ≡ Broken
-        → Goes store (Reads store) (Recalls env store) cmp (scene env cmp (Some engine) from) (write items sync) (refused (refusal_of status)) (scene env cmp (Some after) to) old
+        → Goes store (Recalls env store) (scene env (Some engine) from) (write items sync) (refused (refusal_of status)) (scene env (Some after) to) old
     write_broke status moments later why passes locks still mode = record {
       new = new;
       represents = broken_is env store engine after from to old (Some batch) was broke;
-      step = record { later = later; step = subst (λ m. StepIn cmp m faults old (write items sync) (refused (refusal_of status)) new) (sym was.mode) (refuses status why) };
+      later = later;
+      step = subst (λ m. Step m faults old (write items sync) (refused (refusal_of status)) new) (sym was.mode) (refuses status why);
       moments = moments;
       files = record {
         untouched = λ never. absurd never;
@@ -100,7 +100,7 @@ module _ {E C FP F : Type 0} {B : Boxed} (env : Ghosts E F) (store : List ℕ) (
           mode = mode;
           history = longer_history;
           reached = omega (arith, longer_reached, placed_length (old.last + 1) items);
-          holds = appending_holds store (env.observed from).disk.files was.writes.file was.writes.there was.writes.since old.history old.last old.covered was.holds was.disk_is.is_state.covered was.disk_is.is_state.reached
+          holds = appending_holds store (env.observed from).disk.files was.writes.file was.writes.there was.writes.since old.history old.last old.durable was.holds was.disk_is.is_state.durable was.disk_is.is_state.reached
               was.writes.records was.writes.ends items bytes next.is_batch next.first_fits next.all_fit (env.observed to).disk.files passes;
           locks = locks;
           but = SameBut-appending name frame (env.observed from).disk.files (env.observed to).disk.files passes;

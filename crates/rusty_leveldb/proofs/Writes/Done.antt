@@ -2,7 +2,6 @@
 use Rattle.std.proofs.Common.{◌≡◌, ◌≤◌, ◌+◌, ◌%◌, ◌⊎◌, inl, inr, ⊎_elim, ℕ, List, [], ◌∷◌, ◌++◌, length, refl, sym, ◌∙◌, ap, subst, arith, append_assoc, append-nil, length-append, Some, None, Bool, IsTrue, false}
 use Rattle.std.specs.Prelude.{Contains, max, string_bytes}
 use Rattle.std.proofs.lemmas.List.Elements.{Contains-append_cases}
-use Rattle.std.specs.declared.cmp.Ordering.{Ordering}
 use Rattle.leveldb_base.specs.History.{Item, Entry, History, IsHistory, entries_of, greatest, with_batch, count_of, SameView, AreUpTo}
 use Rattle.leveldb_base.proofs.HistoryLemmas.{same_with_more}
 use Rattle.leveldb_env.specs.declared.env.Env.{Ghosts}
@@ -14,12 +13,13 @@ use Rattle.leveldb_mem.specs.Log.Writer.{after_frame}
 use Rattle.leveldb_mem.specs.WriteBatch.{batch_of}
 use Rattle.rusty_leveldb.specs.declared.db_impl.engine.Mode.TheVariants.{Open}
 use Rattle.leveldb_version.specs.Paths.{lock_path}
-use Rattle.rusty_leveldb.specs.OneLog.{log_path}
+use Rattle.rusty_leveldb.specs.OneLog.{log_path, IsOneLog}
 use Rattle.leveldb_version.specs.Holds.{Holds}
 use Rattle.rusty_leveldb.specs.Recent.{Inserts}
 use Rattle.rusty_leveldb.specs.State.{State, IsState, SuitsMode, write, done}
-use Rattle.rusty_leveldb.specs.Machine.{MayCover, StepIn}
-use Rattle.rusty_leveldb.specs.Serves.{Reads, StandsFor, IsSpared, Goes, faults_between}
+use Rattle.rusty_leveldb.specs.Causes.{AreUsedUp}
+use Rattle.rusty_leveldb.specs.Machine.{MayGrow, Step}
+use Rattle.rusty_leveldb.specs.Serves.{StandsFor, IsSpared, Goes, faults_between}
 use Rattle.rusty_leveldb.specs.Engine.{scene, Recalls, mode_of}
 use Rattle.rusty_leveldb.proofs.FrameBytes.{frame_bytes}
 use Rattle.rusty_leveldb.proofs.Histories.{entries_more, placed_above, up_to_greatest, up_to, greatest_append}
@@ -55,18 +55,18 @@ module _ {E C FP F : Type 0} {B : Boxed} (env : Ghosts E F) (store : List ℕ) (
     pub up_to_last : AreUpTo engine.recent.last engine.recent.kept.entries
     pub counted : env.failures to ≡ env.failures from
 
-  -- the log's file behind the append, and so many batches that are covered
+  -- the log's file behind the append, and so many batches that are durable
   pub record Wrote (sync : Bool) : Type 0 where
-    pub moments : Run (IsSpared store (Reads store) old (risk_behind env store engine from old was items bytes next)) (env.observed from) (env.observed to)
-    pub covered : ℕ
-    pub covers : MayCover old.covered old.history covered ⊎ (covered ≡ length the_longer)
-    pub synced_is : IsTrue sync → covered ≡ length the_longer
-    pub within : covered ≤ length the_longer
+    pub moments : Run (IsSpared store old (risk_behind env store engine from old was items bytes next)) (env.observed from) (env.observed to)
+    pub durable : ℕ
+    pub covers : MayGrow old.durable old.history durable ⊎ (durable ≡ length the_longer)
+    pub synced_is : IsTrue sync → durable ≡ length the_longer
+    pub within : durable ≤ length the_longer
     pub file : File
     pub there : (env.observed to).disk.files (log_path store) ≡ Some file
     pub since : AreBytes file.since
     pub bytes_are : bytes_of file ≡ bytes_of was.writes.file ++ the_frame
-    pub holds : Holds store (Reads store) (λ there. there ≡ old.store) (env.observed to).disk.files the_longer (old.last + length items) covered None
+    pub holds : Holds store (IsOneLog (log_path store)) (λ there. there ≡ old.store) (env.observed to).disk.files the_longer (old.last + length items) durable None
     pub but : SameBut (log_path store) (env.observed from).disk.files (env.observed to).disk.files
 
   -- memory has the batch
@@ -94,25 +94,25 @@ module _ {E C FP F : Type 0} {B : Boxed} (env : Ghosts E F) (store : List ℕ) (
       longest : greatest (entries_of the_longer) ≡ max (greatest (entries_of old.history)) (greatest the_batch)
       longest = ap greatest (entries_more old.history the_batch) ∙ greatest_append (entries_of old.history) the_batch
 
-  module _ (cmp : List ℕ → List ℕ → Ordering) (sync : Bool) (wrote : Wrote sync) (added : Added) where
+  module _ (sync : Bool) (wrote : Wrote sync) (added : Added) where
     -- the state with the batch
     abbrev new : State
-    new = record old { history = the_longer; last = old.last + length items; covered = wrote.covered }
+    new = record old { history = the_longer; last = old.last + length items; durable = wrote.durable }
 
     is_state : IsState new
     is_state = record {
       history = subst (λ p. IsHistory (with_batch the_longer p)) (sym was.none) (longer_history env store engine from old was items bytes next);
       reached = longer_reached env store engine from old was items bytes next;
       pending = subst (λ p. greatest (entries_of (with_batch the_longer p)) ≤ old.last + length items + count_of p) (sym was.none) (omega (arith, longer_reached env store engine from old was items bytes next));
-      covered = wrote.within;
+      durable = wrote.within;
       held = λ one there. (omega (arith, (was.disk_is.is_state.held one there).0), (was.disk_is.is_state.held one there).1);
       mode = subst (λ m. SuitsMode m new) (sym was.mode) (was.none, was.held);
     }
 
-    stands : StandsFor store (Reads store) (env.observed to).disk new
+    stands : StandsFor store (env.observed to).disk new
     stands = record {
       is_state = is_state;
-      holds = subst (λ p. Holds store (Reads store) (λ there. there ≡ old.store) (env.observed to).disk.files the_longer (old.last + length items) wrote.covered p) (sym was.none) wrote.holds;
+      holds = subst (λ p. Holds store (IsOneLog (log_path store)) (λ there. there ≡ old.store) (env.observed to).disk.files the_longer (old.last + length items) wrote.durable p) (sym was.none) wrote.holds;
       locked = ap (λ locked. locked (lock_path store)) added.locks ∙ was.disk_is.locked;
     }
 
@@ -143,16 +143,17 @@ module _ {E C FP F : Type 0} {B : Boxed} (env : Ghosts E F) (store : List ℕ) (
       };
     }
 
+    not_used_up : AreUsedUp old.last (length items) → ⊥
+    not_used_up up = let first = next.first_fits in let all = next.all_fit in omega arith
+
     -- the write is done
-    pub wrote_goes : Goes store (Reads store) (Recalls env store) cmp (scene env cmp (Some engine) from) (write items sync) done (scene env cmp (Some after) to) old
+    pub wrote_goes : Goes store (Recalls env store) (scene env (Some engine) from) (write items sync) done (scene env (Some after) to) old
     wrote_goes = record {
       new = new;
       represents = record { disk_is = stands; memory_is = recalls };
-      step = record {
-        later = omega (arith, added.counted);
-        step = subst (λ m. StepIn cmp m (faults_between (env.failures from) (env.failures to)) old (write items sync) done new) (sym was.mode)
-            (not_long bytes (old.last + 1) items next.is_batch, record { numbers = let first = next.first_fits in let all = next.all_fit in omega arith; state = refl; covered = wrote.covers; synced = wrote.synced_is });
-      };
+      later = omega (arith, added.counted);
+      step = subst (λ m. Step m (faults_between (env.failures from) (env.failures to)) old (write items sync) done new) (sym was.mode)
+          (record { operands = not_long bytes (old.last + 1) items next.is_batch; numbers = not_used_up }, record { state = refl; durable = wrote.covers; synced = wrote.synced_is });
       moments = done_moments env store engine from old was items bytes next wrote.moments;
       files = record { untouched = λ never. absurd never; refused = λ logging is_refused. absurd is_refused; stopped = λ not_open takes. absurd (not_open was.mode); bytes = λ never. absurd never };
       others = others_but_log store (env.observed from).disk (env.observed to).disk wrote.but added.locks;
@@ -175,15 +176,15 @@ module _ {E C FP F : Type 0} {B : Boxed} (env : Ghosts E F) (store : List ℕ) (
   pub unsynced : Run (PrefixAppended (log_path store) the_frame (env.observed from).disk.files) (env.observed from) (env.observed to) → (env.observed to).disk.files ≡ extended (log_path store) the_frame (env.observed from).disk.files → Wrote false
   unsynced run files = record {
     moments = append_moments env store engine from old was items bytes next run;
-    covered = old.covered;
+    durable = old.durable;
     covers = inl (inl refl);
     synced_is = λ never. absurd (cc);
-    within = let all = was.disk_is.is_state.covered in let more = one_more in omega arith;
+    within = let all = was.disk_is.is_state.durable in let more = one_more in omega arith;
     file = grown;
     there = ap (λ (f : Files). f (log_path store)) files ∙ extended-same (log_path store) the_frame (env.observed from).disk.files was.writes.file was.writes.there;
     since = bytes_append was.writes.file.since the_frame was.writes.since (frame_bytes log_block_size (length (bytes_of was.writes.file) % log_block_size) bytes next.are);
     bytes_are = sym (append_assoc was.writes.file.kept was.writes.file.since the_frame);
-    holds = appended_holds store (env.observed from).disk.files was.writes.file was.writes.there was.writes.since old.history old.last old.covered was.holds was.disk_is.is_state.covered was.disk_is.is_state.reached
+    holds = appended_holds store (env.observed from).disk.files was.writes.file was.writes.there was.writes.since old.history old.last old.durable was.holds was.disk_is.is_state.durable was.disk_is.is_state.reached
         was.writes.records was.writes.ends items bytes next.is_batch next.first_fits next.all_fit (env.observed to).disk.files files;
     but = but_appended (env.observed to).disk.files files;
   }
@@ -193,7 +194,7 @@ module _ {E C FP F : Type 0} {B : Boxed} (env : Ghosts E F) (store : List ℕ) (
       → Run (BeforeOrAfter (synced (log_path store)) told.disk.files) told (env.observed to) → (env.observed to).disk.files ≡ synced (log_path store) told.disk.files → (sync : Bool) → Wrote sync
   synced_then told run first syncing files sync = record {
     moments = synced_moments env store engine from old was items bytes next (append_moments env store engine from old was items bytes next run) first syncing;
-    covered = length the_longer;
+    durable = length the_longer;
     covers = inr refl;
     synced_is = λ asked. refl;
     within = omega arith;
@@ -201,7 +202,7 @@ module _ {E C FP F : Type 0} {B : Boxed} (env : Ghosts E F) (store : List ℕ) (
     there = ap (λ (f : Files). f (log_path store)) files ∙ synced-same (log_path store) mid grown mid_there;
     since = λ i. omega arith;
     bytes_are = append-nil (bytes_of grown) ∙ sym (append_assoc was.writes.file.kept was.writes.file.since the_frame);
-    holds = synced_holds store mid the_longer (old.last + length items) old.covered mid_holds (let all = was.disk_is.is_state.covered in let more = one_more in omega arith) (env.observed to).disk.files files;
+    holds = synced_holds store mid the_longer (old.last + length items) old.durable mid_holds (let all = was.disk_is.is_state.durable in let more = one_more in omega arith) (env.observed to).disk.files files;
     but = SameBut-trans (log_path store) (but_appended mid first) (SameBut-synced (log_path store) mid (env.observed to).disk.files (inr files));
   }
     where
@@ -211,6 +212,6 @@ module _ {E C FP F : Type 0} {B : Boxed} (env : Ghosts E F) (store : List ℕ) (
       mid_there : mid (log_path store) ≡ Some grown
       mid_there = ap (λ (f : Files). f (log_path store)) first ∙ extended-same (log_path store) the_frame (env.observed from).disk.files was.writes.file was.writes.there
 
-      mid_holds : Holds store (Reads store) (λ there. there ≡ old.store) mid the_longer (old.last + length items) old.covered None
-      mid_holds = appended_holds store (env.observed from).disk.files was.writes.file was.writes.there was.writes.since old.history old.last old.covered was.holds was.disk_is.is_state.covered was.disk_is.is_state.reached
+      mid_holds : Holds store (IsOneLog (log_path store)) (λ there. there ≡ old.store) mid the_longer (old.last + length items) old.durable None
+      mid_holds = appended_holds store (env.observed from).disk.files was.writes.file was.writes.there was.writes.since old.history old.last old.durable was.holds was.disk_is.is_state.durable was.disk_is.is_state.reached
           was.writes.records was.writes.ends items bytes next.is_batch next.first_fits next.all_fit mid first

@@ -1,7 +1,6 @@
 -- A write is a step of the machine, at each of its exits behind the preparation.
 use Rattle.std.proofs.Common.{◌≡◌, ◌+◌, ⊎_elim, ℕ, List, refl, sym, ◌∙◌, ap, subst, Option, Some, Result, Ok, Err, Bool, IsTrue, false}
 use Rattle.std.specs.Prelude.{if◌then◌else◌}
-use Rattle.std.specs.declared.cmp.Ordering.{Ordering}
 use Rattle.leveldb_base.specs.declared.error.Status.{Status}
 use Rattle.leveldb_base.specs.History.{Item, AreUpTo}
 use Rattle.leveldb_env.specs.declared.env.Env.{Ghosts}
@@ -15,10 +14,12 @@ use Rattle.rusty_leveldb.specs.declared.db_impl.engine.Mode.TheVariants.{Open, B
 use Rattle.rusty_leveldb.specs.OneLog.{log_path}
 use Rattle.rusty_leveldb.specs.Recent.{Numbered, Inserts}
 use Rattle.rusty_leveldb.specs.State.{State, Request, write, Answer, done, refused}
-use Rattle.rusty_leveldb.specs.Serves.{Reads, Goes, refusal_of}
+use Rattle.rusty_leveldb.specs.Serves.{Goes, refusal_of}
 use Rattle.rusty_leveldb.specs.Engine.{scene, Recalls}
+use Rattle.rusty_leveldb.specs.Recovery.{IsErrorFor}
 use Rattle.rusty_leveldb.proofs.OneLog.Appending.{batch_some}
 use Rattle.rusty_leveldb.proofs.Writes.Stands.{fails, Was, IsOpen, is_open, IsStill}
+use Rattle.rusty_leveldb.proofs.Writes.Found.{memory_found, fails_found}
 use Rattle.rusty_leveldb.proofs.Writes.Kept.{memory_goes}
 use Rattle.rusty_leveldb.proofs.Writes.Append.{IsNext, frame, write_broke}
 use Rattle.rusty_leveldb.proofs.Writes.Moments.{append_moments, synced_moments}
@@ -27,9 +28,10 @@ use Rattle.leveldb_env.specs.Options.{Boxed}
 use Rattle.rusty_leveldb.specs.Boxes.{EngineOf}
 
 -- the same step, whatever memory it began with
-pub begun_with : {M : Type 0} (store : List ℕ) (Recalls : M → _ → State → Type 0) (cmp : List ℕ → List ℕ → Ordering) (one other : Option M) (told : _) (failures : ℕ) (request : Request) (answer : Answer) (to : _) (old : State)
-    → Goes store (Reads store) Recalls cmp (one, told, failures) request answer to old → Goes store (Reads store) Recalls cmp (other, told, failures) request answer to old
-begun_with store Recalls cmp one other told failures request answer to old goes = record { new = goes.new; represents = goes.represents; step = goes.step; moments = goes.moments; files = goes.files; others = goes.others; beside = goes.beside }
+pub begun_with : {M : Type 0} (store : List ℕ) (Recalls : M → _ → State → Type 0) (one other : Option M) (told : _) (failures : ℕ) (request : Request) (answer : Answer) (to : _) (old : State)
+    → Goes store Recalls (record { memory = one; observed = told; failures = failures }) request answer to old
+    → Goes store Recalls (record { memory = other; observed = told; failures = failures }) request answer to old
+begun_with store Recalls one other told failures request answer to old goes = record { new = goes.new; represents = goes.represents; later = goes.later; step = goes.step; moments = goes.moments; files = goes.files; others = goes.others; beside = goes.beside }
 
 module _ {E C FP F : Type 0} {B : Boxed} (env : Ghosts E F) (modelled : IsTrue env.models_disk) (store : List ℕ) (engine : EngineOf E C FP F B) (from : E) (old : State) (stood : Was env store engine from old) (open_now : engine.mode ≡ Open)
     (items : List Item) (bytes : List ℕ) (ready : IsNext engine.recent.last items bytes) where
@@ -58,10 +60,10 @@ module _ {E C FP F : Type 0} {B : Boxed} (env : Ghosts E F) (modelled : IsTrue e
 
   -- ---- a refused append
 
-  module _ (cmp : List ℕ → List ℕ → Ordering) (sync : Bool) (after : EngineOf E C FP F B) (to : E) (rest : after ≡ record engine { log = after.log; writer = after.writer; mode = after.mode })
+  module _ (sync : Bool) (after : EngineOf E C FP F B) (to : E) (rest : after ≡ record engine { log = after.log; writer = after.writer; mode = after.mode })
       (mode : after.mode ≡ (if after.writer.broken then Broken else engine.mode)) where
     abbrev Refused : Status → Type 0
-    Refused status = Goes store (Reads store) (Recalls env store) cmp (scene env cmp (Some engine) from) (write items sync) (refused (refusal_of status)) (scene env cmp (Some after) to) old
+    Refused status = Goes store (Recalls env store) (scene env (Some engine) from) (write items sync) (refused (refusal_of status)) (scene env (Some after) to) old
 
     still : IsStill env store engine after
     still = record { lock = ap (λ e. e.lock) rest; entries = ap (λ e. e.recent.kept.entries) rest; last = ap (λ e. e.recent.last) rest }
@@ -72,18 +74,18 @@ module _ {E C FP F : Type 0} {B : Boxed} (env : Ghosts E F) (modelled : IsTrue e
         same_mode : after.mode ≡ engine.mode
         same_mode = mode ∙ ap (λ (b : Bool). if b then Broken else engine.mode) (ap (λ w. w.broken) writer ∙ sound)
 
-    pub append_refused : (status : Status) → FailsToAdd (Appends env) engine.writer (opened from engine.log) bytes status after.writer (opened to after.log) → Refused status
-    append_refused status refusal = ⊎_elim
+    pub append_refused : (raw status : Status) → IsErrorFor raw status → FailsToAdd (Appends env) engine.writer (opened from engine.log) bytes raw after.writer (opened to after.log) → Refused status
+    append_refused raw status error refusal = ⊎_elim
         (λ kept.
         let same_env : to ≡ from = ap (λ o. o.env) kept.1.same_sink in
         let same : after ≡ engine = same_memory kept.1.same_writer (ap (λ o. o.file) kept.1.same_sink) in
-        subst (λ e. Goes store (Reads store) (Recalls env store) cmp (scene env cmp (Some engine) from) (write items sync) (refused (refusal_of status)) (scene env cmp (Some after) e) old) (sym same_env)
-        (subst (λ m. Goes store (Reads store) (Recalls env store) cmp (scene env cmp (Some engine) from) (write items sync) (refused (refusal_of status)) (scene env cmp (Some m) from) old) (sym same)
-        (memory_goes env store engine from old stood cmp open_now items sync status engine stood kept.0)))
+        subst (λ e. Goes store (Recalls env store) (scene env (Some engine) from) (write items sync) (refused (refusal_of status)) (scene env (Some after) e) old) (sym same_env)
+        (subst (λ m. Goes store (Recalls env store) (scene env (Some engine) from) (write items sync) (refused (refusal_of status)) (scene env (Some m) from) old) (sym same)
+        (memory_goes env store engine from old stood open_now items sync status engine stood (memory_found raw status error kept.0))))
         (λ put.
         let does = put.0 in
-        write_broke env store engine from old was items bytes next cmp sync after to status (append_moments env store engine from old was items bytes next (appends (env.observed to) does.does)) does.cause.later
-        (fails env.models_disk (env.name_of engine.log) (env.observed from) was.writes.file (env.failures from) (env.failures to) status (ap (env.observed from).disk.files was.writes.name ∙ was.writes.there) does.cause)
+        write_broke env store engine from old was items bytes next sync after to status (append_moments env store engine from old was items bytes next (appends (env.observed to) does.does)) does.cause.later
+        (fails_found raw status error (env.failures from) (env.failures to) (fails env.models_disk (env.name_of engine.log) (env.observed from) was.writes.file (env.failures from) (env.failures to) raw (ap (env.observed from).disk.files was.writes.name ∙ was.writes.there) does.cause))
         (passes (env.observed to).disk.files (does.does.now modelled)) (does.locks modelled) still (mode ∙ ap (λ w. if w.broken then Broken else engine.mode) put.1))
         refusal.why
 
@@ -130,14 +132,14 @@ module _ {E C FP F : Type 0} {B : Boxed} (env : Ghosts E F) (modelled : IsTrue e
       counted = counted ∙ put.cause.ok;
     }
 
-    module _ (cmp : List ℕ → List ℕ → Ordering) (sync : Bool) where
+    module _ (sync : Bool) where
       abbrev Done : EngineOf E C FP F B → E → Type 0
-      Done after to = Goes store (Reads store) (Recalls env store) cmp (scene env cmp (Some engine) from) (write items sync) done (scene env cmp (Some after) to) old
+      Done after to = Goes store (Recalls env store) (scene env (Some engine) from) (write items sync) done (scene env (Some after) to) old
 
       -- done with no sync
       pub done_unsynced : sync ≡ false → (recent : Numbered) → Inserts engine.recent (batch_of (old.last + 1) items) recent → AreUpTo engine.recent.last engine.recent.kept.entries → Done (record middle { recent = recent }) mid
-      done_unsynced plain recent inserts below = subst (λ s. Goes store (Reads store) (Recalls env store) cmp (scene env cmp (Some engine) from) (write items s) done (scene env cmp (Some (record middle { recent = recent })) mid) old) (sym plain)
-          (wrote_goes env store engine from old was items bytes next (record middle { recent = recent }) mid cmp false
+      done_unsynced plain recent inserts below = subst (λ s. Goes store (Recalls env store) (scene env (Some engine) from) (write items s) done (scene env (Some (record middle { recent = recent })) mid) old) (sym plain)
+          (wrote_goes env store engine from old was items bytes next (record middle { recent = recent }) mid false
           (unsynced env store engine from old was items bytes next (record middle { recent = recent }) mid moments_then files_then)
           (added (record middle { recent = recent }) mid refl refl refl refl refl refl inserts below))
 
@@ -149,20 +151,20 @@ module _ {E C FP F : Type 0} {B : Boxed} (env : Ghosts E F) (modelled : IsTrue e
             → AreUpTo engine.recent.last engine.recent.kept.entries → Done (record after { recent = recent }) to
         done_synced same_mode flushed recent inserts below =
             let s = flushed.flushed in
-            wrote_goes env store engine from old was items bytes next (record after { recent = recent }) to cmp sync
+            wrote_goes env store engine from old was items bytes next (record after { recent = recent }) to sync
             (synced_then env store engine from old was items bytes next (record after { recent = recent }) to (env.observed mid) moments_then files_then (syncs (env.observed to) s.does) (s.does.ok modelled ∙ ap (λ n. synced n (env.observed mid).disk.files) name_then) sync)
             (added (record after { recent = recent }) to (s.locks modelled) (ap (λ e. e.lock) rest_after) same_mode flushed.ok (s.file modelled) s.cause.ok inserts below)
 
         -- a refused sync breaks the store
-        pub sync_refused : (status : Status) → after.mode ≡ Broken → Flushes (Syncs env) middle.writer (opened mid middle.log) (Err status) after.writer (opened to after.log)
-            → Goes store (Reads store) (Recalls env store) cmp (scene env cmp (Some engine) from) (write items sync) (refused (refusal_of status)) (scene env cmp (Some after) to) old
-        sync_refused status broke flushed =
+        pub sync_refused : (raw status : Status) → IsErrorFor raw status → after.mode ≡ Broken → Flushes (Syncs env) middle.writer (opened mid middle.log) (Err raw) after.writer (opened to after.log)
+            → Goes store (Recalls env store) (scene env (Some engine) from) (write items sync) (refused (refusal_of status)) (scene env (Some after) to) old
+        sync_refused raw status error broke flushed =
             let s = flushed.flushed in
             let cause = cause_after put.cause.ok s.cause in
             let same = s.undone modelled ∙ files_then in
-            write_broke env store engine from old was items bytes next cmp sync after to status
+            write_broke env store engine from old was items bytes next sync after to status
             (synced_moments env store engine from old was items bytes next (append_moments env store engine from old was items bytes next moments_then) files_then (syncs (env.observed to) s.does)) cause.later
-            (fails env.models_disk (env.name_of middle.log) (env.observed mid) (longer_file the_frame was.writes.file) (env.failures from) (env.failures to) status (ap (env.observed mid).disk.files name_then ∙ there_then) cause)
+            (fails_found raw status error (env.failures from) (env.failures to) (fails env.models_disk (env.name_of middle.log) (env.observed mid) (longer_file the_frame was.writes.file) (env.failures from) (env.failures to) raw (ap (env.observed mid).disk.files name_then ∙ there_then) cause))
             (subst (λ f. PrefixAppended (log_path store) the_frame (env.observed from).disk.files f) (sym same) (appended (log_path store) the_frame (env.observed from).disk.files)) (s.locks modelled ∙ put.locks modelled)
             (record { lock = ap (λ e. e.lock) rest_after ∙ ap (λ e. e.lock) rest; entries = ap (λ e. e.recent.kept.entries) rest_after ∙ ap (λ e. e.recent.kept.entries) rest; last = ap (λ e. e.recent.last) rest_after ∙ ap (λ e. e.recent.last) rest })
             broke

@@ -1,7 +1,6 @@
 -- A flush is a step of the machine, at each of its exits.
 use Rattle.std.proofs.Common.{◌≡◌, ◌≤◌, ◌+◌, ◌%◌, inl, inr, ℕ, List, length, refl, sym, ◌∙◌, ap, subst, arith, append-nil, Some, None, Result, Ok, Err, IsTrue, ⊎_elim, true, false}
 use Rattle.std.specs.Prelude.{OnOk, OnErr, IfErr, ◌⊎◌, string_bytes}
-use Rattle.std.specs.declared.cmp.Ordering.{Ordering}
 use Rattle.leveldb_base.specs.declared.error.Status.{Status}
 use Rattle.leveldb_base.specs.Error.{text_of}
 use Rattle.leveldb_base.specs.History.{IsHistory, with_batch}
@@ -13,43 +12,44 @@ use Rattle.leveldb_mem.specs.Log.{log_block_size, clean, IsLogFile}
 use Rattle.leveldb_mem.specs.Log.Writer.{Flushes}
 use Rattle.rusty_leveldb.specs.declared.db_impl.engine.Mode.TheVariants.{Open, Broken, Closed}
 use Rattle.leveldb_version.specs.Paths.{lock_path}
-use Rattle.rusty_leveldb.specs.OneLog.{log_path}
+use Rattle.rusty_leveldb.specs.OneLog.{log_path, IsOneLog}
 use Rattle.leveldb_version.specs.Holds.{Holds}
 use Rattle.rusty_leveldb.specs.State.{State, SuitsMode, open_mode, broken, flush, Answer, done, refused}
 use Rattle.rusty_leveldb.specs.Causes.{Faults, out_of_memory, device_failed}
-use Rattle.rusty_leveldb.specs.Machine.{Breaks, StepIn, Responds}
-use Rattle.rusty_leveldb.specs.Serves.{Reads, StandsFor, IsSpared, Goes, faults_between, refusal_of, done_or}
+use Rattle.rusty_leveldb.specs.Machine.{Breaks, Step, Responds}
+use Rattle.rusty_leveldb.specs.Serves.{StandsFor, IsSpared, Goes, faults_between, refusal_of, done_or}
 use Rattle.rusty_leveldb.specs.Engine.{scene, Recalls, mode_of, SyncExcused, CloseExcused}
 use Rattle.rusty_leveldb.specs.Recovery.{IsErrorFor}
 use Rattle.rusty_leveldb.proofs.OneLog.Writing.{synced_holds}
 use Rattle.rusty_leveldb.proofs.Others.{beside_but, but_same, others_but_log, bytes_same, bytes_synced}
-use Rattle.rusty_leveldb.proofs.Writes.Found.{found_cause, found_goes}
+use Rattle.rusty_leveldb.proofs.Writes.Found.{found_cause, fails_found}
 use Rattle.rusty_leveldb.proofs.Writes.Moments.{risk_at, sync_moments, with_none}
 use Rattle.rusty_leveldb.proofs.Writes.Stands.{Fails, fails, Was, IsOpen, is_open, IsStill, remembers_still, broken_with, Broke, broken_is}
 use Rattle.leveldb_env.specs.Options.{Boxed}
 use Rattle.rusty_leveldb.specs.Boxes.{EngineOf}
 
-module _ {E C FP F : Type 0} {B : Boxed} (env : Ghosts E F) (cmp : List ℕ → List ℕ → Ordering) (store : List ℕ) (engine after : EngineOf E C FP F B) (from to : E) (old : State) (was : IsOpen env store engine from old) where
+module _ {E C FP F : Type 0} {B : Boxed} (env : Ghosts E F) (store : List ℕ) (engine after : EngineOf E C FP F B) (from to : E) (old : State) (was : IsOpen env store engine from old) where
   abbrev Flushed : Answer → Type 0
-  Flushed answer = Goes store (Reads store) (Recalls env store) cmp (scene env cmp (Some engine) from) flush answer (scene env cmp (Some after) to) old
+  Flushed answer = Goes store (Recalls env store) (scene env (Some engine) from) flush answer (scene env (Some after) to) old
 
   abbrev faults : Faults
   faults = faults_between (env.failures from) (env.failures to)
 
   breaks : Breaks old None (broken_with old None)
-  breaks = record { state = refl; covered = inl refl }
+  breaks = record { state = refl; durable = inl refl }
 
-  refuses : (status : Status) → Fails status (env.failures from) (env.failures to) → Responds cmp faults old flush (refused (refusal_of status)) (broken_with old None)
-  refuses status (inl memory) = (out_of_memory, (tt, memory.0, ap text_of memory.1), inr (tt, breaks))
-  refuses status (inr device) = (device_failed, (tt, device), breaks)
+  refuses : (status : Status) → Fails status (env.failures from) (env.failures to) → Responds faults old flush (refused (refusal_of status)) (broken_with old None)
+  refuses status (inl memory) = record { cause = out_of_memory; comes = (tt, memory.0, ap text_of memory.1); leaves = inr (tt, breaks) }
+  refuses status (inr device) = record { cause = device_failed; comes = (tt, device); leaves = breaks }
 
   -- a refused sync breaks the store
-  pub flush_refused : (status : Status) → Run (IsSpared store (Reads store) old (risk_at old.history (old.last + 0))) (env.observed from) (env.observed to) → env.failures from ≤ env.failures to → Fails status (env.failures from) (env.failures to) → (env.observed to).disk.files ≡ (env.observed from).disk.files
+  pub flush_refused : (status : Status) → Run (IsSpared store old (risk_at old.format old.history (old.last + 0))) (env.observed from) (env.observed to) → env.failures from ≤ env.failures to → Fails status (env.failures from) (env.failures to) → (env.observed to).disk.files ≡ (env.observed from).disk.files
       → Broke env store engine after from to old None → Flushed (refused (refusal_of status))
   flush_refused status moments later why same broke = record {
     new = new;
     represents = broken_is env store engine after from to old None was broke;
-    step = record { later = later; step = subst (λ m. StepIn cmp m faults old flush (refused (refusal_of status)) new) (sym was.mode) (refuses status why) };
+    later = later;
+    step = subst (λ m. Step m faults old flush (refused (refusal_of status)) new) (sym was.mode) (refuses status why);
     moments = moments;
     files = record {
       untouched = λ never. absurd never;
@@ -65,12 +65,13 @@ module _ {E C FP F : Type 0} {B : Boxed} (env : Ghosts E F) (cmp : List ℕ → 
       new = broken_with old None
 
   -- a sync that was done covers all
-  pub flush_done : Run (IsSpared store (Reads store) old (risk_at old.history (old.last + 0))) (env.observed from) (env.observed to) → (env.observed to).disk.files ≡ synced (log_path store) (env.observed from).disk.files → (env.observed to).disk.locked ≡ (env.observed from).disk.locked
+  pub flush_done : Run (IsSpared store old (risk_at old.format old.history (old.last + 0))) (env.observed from) (env.observed to) → (env.observed to).disk.files ≡ synced (log_path store) (env.observed from).disk.files → (env.observed to).disk.locked ≡ (env.observed from).disk.locked
       → env.failures to ≡ env.failures from → IsStill env store engine after → after.mode ≡ Open → after.writer ≡ engine.writer → env.name_of after.log ≡ env.name_of engine.log → Flushed done
   flush_done moments files locks counted still mode writer log = record {
     new = new;
     represents = record { disk_is = stands; memory_is = recalls };
-    step = record { later = omega (arith, counted); step = subst (λ m. StepIn cmp m faults old flush done new) (sym was.mode) (λ no. no, record { state = refl }) };
+    later = omega (arith, counted);
+    step = subst (λ m. Step m faults old flush done new) (sym was.mode) (record { operands = λ no. no; numbers = λ no. no }, record { state = refl });
     moments = with_none env store engine from old was to moments;
     files = record { untouched = λ never. absurd never; refused = λ logging is_refused. absurd is_refused; stopped = λ not_open takes. absurd (not_open was.mode); bytes = λ syncing. bytes_synced (log_path store) (env.observed from).disk.files (env.observed to).disk.files files };
     others = others_but_log store (env.observed from).disk (env.observed to).disk (SameBut-synced (log_path store) (env.observed from).disk.files (env.observed to).disk.files (inr files)) locks;
@@ -78,7 +79,7 @@ module _ {E C FP F : Type 0} {B : Boxed} (env : Ghosts E F) (cmp : List ℕ → 
   }
     where
       new : State
-      new = record old { covered = length old.history }
+      new = record old { durable = length old.history }
 
       file : File
       file = file_kept was.writes.file
@@ -89,20 +90,20 @@ module _ {E C FP F : Type 0} {B : Boxed} (env : Ghosts E F) (cmp : List ℕ → 
       same_bytes : bytes_of file ≡ bytes_of was.writes.file
       same_bytes = append-nil (bytes_of was.writes.file)
 
-      holds : Holds store (Reads store) (λ there. there ≡ old.store) (env.observed to).disk.files old.history old.last (length old.history) None
-      holds = synced_holds store (env.observed from).disk.files old.history old.last old.covered was.holds was.disk_is.is_state.covered (env.observed to).disk.files files
+      holds : Holds store (IsOneLog (log_path store)) (λ there. there ≡ old.store) (env.observed to).disk.files old.history old.last (length old.history) None
+      holds = synced_holds store (env.observed from).disk.files old.history old.last old.durable was.holds was.disk_is.is_state.durable (env.observed to).disk.files files
 
-      stands : StandsFor store (Reads store) (env.observed to).disk new
+      stands : StandsFor store (env.observed to).disk new
       stands = record {
         is_state = record {
           history = was.disk_is.is_state.history;
           reached = was.disk_is.is_state.reached;
           pending = was.disk_is.is_state.pending;
-          covered = omega arith;
+          durable = omega arith;
           held = was.disk_is.is_state.held;
           mode = subst (λ m. SuitsMode m new) (sym was.mode) (was.none, was.held);
         };
-        holds = subst (λ p. Holds store (Reads store) (λ there. there ≡ old.store) (env.observed to).disk.files old.history old.last (length old.history) p) (sym was.none) holds;
+        holds = subst (λ p. Holds store (IsOneLog (log_path store)) (λ there. there ≡ old.store) (env.observed to).disk.files old.history old.last (length old.history) p) (sym was.none) holds;
         locked = ap (λ locked. locked (lock_path store)) locks ∙ was.disk_is.locked;
       }
 
@@ -123,7 +124,7 @@ module _ {E C FP F : Type 0} {B : Boxed} (env : Ghosts E F) (cmp : List ℕ → 
       }
 
 -- what the sync answered and did is a step of the machine
-module _ {E C FP F : Type 0} {B : Boxed} (env : Ghosts E F) (cmp : List ℕ → List ℕ → Ordering) (engine after : EngineOf E C FP F B) (from to : E) (open_now : engine.mode ≡ Open)
+module _ {E C FP F : Type 0} {B : Boxed} (env : Ghosts E F) (engine after : EngineOf E C FP F B) (from to : E) (open_now : engine.mode ≡ Open)
     (rest : after ≡ record engine { log = after.log; writer = after.writer; mode = after.mode }) (modelled : IsTrue env.models_disk) (store : List ℕ) (old : State) (stood : Was env store engine from old) where
   was : IsOpen env store engine from old
   was = is_open env store engine from old open_now stood
@@ -134,23 +135,22 @@ module _ {E C FP F : Type 0} {B : Boxed} (env : Ghosts E F) (cmp : List ℕ → 
   pub flush_step : (result : Result (Unit {0}) Status) → OnOk result (after.mode ≡ engine.mode) → OnErr result (after.mode ≡ Broken)
       → OnOk result (Flushes (Syncs env) engine.writer (opened from engine.log) (Ok tt) after.writer (opened to after.log))
       → IfErr result (λ status. (raw : Status) × IsErrorFor raw status × Flushes (Syncs env) engine.writer (opened from engine.log) (Err raw) after.writer (opened to after.log))
-      → Goes store (Reads store) (Recalls env store) cmp (scene env cmp (Some engine) from) flush (done_or result) (scene env cmp (Some after) to) old
+      → Goes store (Recalls env store) (scene env (Some engine) from) flush (done_or result) (scene env (Some after) to) old
   flush_step (Ok unit) same_mode broke_mode synced_now unsynced =
       let sync = synced_now.flushed in
-      flush_done env cmp store engine after from to old was (sync_moments env store engine from old was to modelled sync.does) (sync.does.ok modelled ∙ ap (λ name. synced name (env.observed from).disk.files) was.writes.name) (sync.locks modelled) sync.cause.ok still
+      flush_done env store engine after from to old was (sync_moments env store engine from old was to modelled sync.does) (sync.does.ok modelled ∙ ap (λ name. synced name (env.observed from).disk.files) was.writes.name) (sync.locks modelled) sync.cause.ok still
       (same_mode ∙ open_now) synced_now.ok (sync.file modelled)
   flush_step (Err status) same_mode broke_mode synced_now unsynced =
       let sync = unsynced.2.flushed in
       let same = sync.undone modelled in
-      found_goes store (Recalls env store) cmp (scene env cmp (Some engine) from) flush (scene env cmp (Some after) to) old was.mode (λ s new. (λ step. step, λ responds. responds)) unsynced.0 status unsynced.1
-      (flush_refused env cmp store engine after from to old was unsynced.0 (sync_moments env store engine from old was to modelled sync.does) sync.cause.later
-      (fails env.models_disk (env.name_of engine.log) (env.observed from) was.writes.file (env.failures from) (env.failures to) unsynced.0 (ap (env.observed from).disk.files was.writes.name ∙ was.writes.there) sync.cause)
+      (flush_refused env store engine after from to old was status (sync_moments env store engine from old was to modelled sync.does) sync.cause.later
+      (fails_found unsynced.0 status unsynced.1 (env.failures from) (env.failures to) (fails env.models_disk (env.name_of engine.log) (env.observed from) was.writes.file (env.failures from) (env.failures to) unsynced.0 (ap (env.observed from).disk.files was.writes.name ∙ was.writes.there) sync.cause))
       same (record {
         still = still;
         mode = broke_mode;
         history = subst (λ p. IsHistory (with_batch old.history p)) was.none was.disk_is.is_state.history;
         reached = omega (arith, was.disk_is.is_state.reached);
-        holds = subst (λ f. Holds store (Reads store) (λ there. there ≡ old.store) f old.history old.last old.covered None) (sym same) was.holds;
+        holds = subst (λ f. Holds store (IsOneLog (log_path store)) (λ there. there ≡ old.store) f old.history old.last old.durable None) (sym same) was.holds;
         locks = sync.locks modelled;
         but = but_same (log_path store) (env.observed from).disk.files (env.observed to).disk.files same;
       }))

@@ -1,17 +1,12 @@
 -- An error of the log as the engine returns it: damage in place of a file that is missing.
 use Rattle.std.proofs.Common.{◌≡◌, ◌⊎◌, ⊎_elim, inl, inr, ℕ, Bool, List, sym, ◌∙◌, subst, None, Result, Ok, Err, IsTrue}
 use Rattle.std.specs.Prelude.{IfOk, IfErr}
-use Rattle.std.specs.declared.cmp.Ordering.{Ordering}
 use Rattle.leveldb_base.specs.declared.error.Status.{Status}
-use Rattle.leveldb_base.specs.declared.error.StatusCode.TheVariants.{OutOfMemory, LockError, InvalidArgument, AlreadyExists, NotSupported, NotFound, Corruption}
+use Rattle.leveldb_base.specs.declared.error.StatusCode.TheVariants.{OutOfMemory, NotFound, Corruption}
 use Rattle.leveldb_base.specs.Error.{IsOutOfMemory}
-use Rattle.leveldb_base.proofs.HistoryLemmas.{in_none}
-use Rattle.leveldb_env.specs.Env.{Disk, Observed, HasCause, IsGone}
-use Rattle.rusty_leveldb.specs.State.{State, open_mode, Request, refused}
-use Rattle.rusty_leveldb.specs.Causes.{Cause, out_of_memory, device_failed, lock_is_held, bad_operand, store_exists, used_up, too_large, coder_failed, Comes}
-use Rattle.rusty_leveldb.specs.Machine.{Responds, StepIn}
-use Rattle.rusty_leveldb.specs.Serves.{Scene, Reads, Goes, faults_between, refusal_of}
+use Rattle.leveldb_env.specs.Env.{Observed, HasCause, IsGone}
 use Rattle.rusty_leveldb.specs.Recovery.{IsErrorFor, IsFoundOr}
+use Rattle.rusty_leveldb.proofs.Writes.Stands.{Fails}
 
 -- ---- results
 
@@ -45,6 +40,10 @@ module _ (raw e : Status) (error : IsErrorFor raw e) where
       (λ other. subst IsOutOfMemory other.1 memory)
       (λ gone. absurd (let never : Corruption ≡ OutOfMemory = sym gone.1 ∙ memory.0 in cc)) error
 
+  -- what failed out of memory or by the device did so all the same
+  pub fails_found : (before now : ℕ) → Fails raw before now → Fails e before now
+  fails_found before now why = ⊎_elim (λ memory. inl (memory_found memory)) (λ device. inr device) why
+
   -- a log that is gone is damage, and isn't counted
   pub found_cause : (models_disk : Bool) (name : List ℕ) (observed : Observed) (before now : ℕ)
       → HasCause {T = Unit {0}} (IsGone models_disk name observed) before now (Err raw)
@@ -63,70 +62,4 @@ module _ (raw e : Status) (error : IsErrorFor raw e) where
         (λ other. absurd (other.0 gone.0))
         (λ damage. (damage.1, gone.1, gone.2, cause.uncounted (inr gone))) error)) excused))
         (λ counted. inr counted) cause.cause;
-  }
-
--- ---- steps
-
-module _ (before now : ℕ) (old : State) (request : Request) (raw e : Status)
-    (gone : raw.code ≡ NotFound) where
-  -- no cause but the device's has this code, and the device's has any
-  comes_again : (cause : Cause) → Comes (faults_between before now) old request
-      (refusal_of raw) cause → Comes (faults_between before now) old request (refusal_of e) cause
-  comes_again out_of_memory c = absurd (let never : NotFound ≡ OutOfMemory = sym gone ∙ c.1 in cc)
-  comes_again device_failed c = c
-  comes_again lock_is_held c = absurd (let never : NotFound ≡ LockError = sym gone ∙ c.1 in cc)
-  comes_again bad_operand c = absurd (let never : NotFound ≡ InvalidArgument = sym gone
-      ∙ c.0 in cc)
-  comes_again store_exists c = absurd (let never : NotFound ≡ AlreadyExists = sym gone ∙ c.0 in cc)
-  comes_again used_up c = absurd (let never : NotFound ≡ NotSupported = sym gone ∙ c.0 in cc)
-  comes_again too_large c = absurd (let never : NotFound ≡ NotSupported = sym gone ∙ c.1 in cc)
-  comes_again coder_failed c = absurd (in_none raw.code c.1)
-
-  responds_again : (cmp : List ℕ → List ℕ → Ordering) (new : State)
-      → Responds cmp (faults_between before now) old request (refused (refusal_of raw)) new
-      → Responds cmp (faults_between before now) old request (refused (refusal_of e)) new
-  responds_again cmp new responds = (responds.0, comes_again responds.0 responds.1, responds.2)
-
-module _ {M : Type 0} (store : List ℕ) (Recalls : M → Disk → State → Type 0) (cmp : List ℕ
-    → List ℕ → Ordering) (from : Scene M) (request : Request) (to : Scene M) (old : State)
-    (is_open : old.mode ≡ open_mode) where
-  -- an open store responds to the request
-  abbrev Responding : Type 0
-  Responding = (status : Status) (new : State)
-      → (StepIn cmp open_mode (faults_between from.2 to.2) old request (refused
-      (refusal_of status)) new → Responds cmp (faults_between from.2 to.2) old request (refused
-      (refusal_of status)) new)
-      × (Responds cmp (faults_between from.2 to.2) old request (refused (refusal_of status)) new
-      → StepIn cmp open_mode (faults_between from.2 to.2) old request (refused
-      (refusal_of status)) new)
-
-  pub found_goes : Responding → (raw e : Status) → IsErrorFor raw e
-      → Goes store (Reads store) Recalls cmp from request (refused (refusal_of raw)) to old
-      → Goes store (Reads store) Recalls cmp from request (refused (refusal_of e)) to old
-  found_goes responding raw e (inl other) goes =
-      subst (λ s. Goes store (Reads store) Recalls cmp from request (refused
-      (refusal_of s)) to old) (sym other.1) goes
-  found_goes responding raw e (inr gone) goes = record {
-    new = goes.new;
-    represents = goes.represents;
-    step = record {
-      later = goes.step.later;
-      step = subst (λ m. StepIn cmp m (faults_between from.2 to.2) old request (refused
-          (refusal_of e)) goes.new) (sym is_open)
-          ((responding e goes.new).1 (responds_again from.2 to.2 old request raw e gone.0 cmp
-          goes.new
-          ((responding raw goes.new).0 (subst (λ m. StepIn cmp m
-          (faults_between from.2 to.2) old request (refused
-          (refusal_of raw)) goes.new) is_open goes.step.step))));
-    };
-    moments = goes.moments;
-    files = record {
-      untouched = goes.files.untouched;
-      refused = goes.files.refused;
-      stopped =
-          goes.files.stopped;
-      bytes = goes.files.bytes;
-    };
-    others = goes.others;
-    beside = goes.beside;
   }

@@ -1,7 +1,6 @@
 -- A write that is refused before its append, which leaves the store as it was.
 use Rattle.std.proofs.Common.{◌≡◌, ◌<◌, ◌+◌, ◌⊎◌, inl, inr, ⊎_elim, ℕ, List, [], ◌∷◌, length, refl, sym, ap, subst, arith, Some, Bool}
 use Rattle.std.specs.Prelude.{max}
-use Rattle.std.specs.declared.cmp.Ordering.{Ordering}
 use Rattle.leveldb_base.specs.declared.error.Status.{Status}
 use Rattle.leveldb_base.specs.declared.error.StatusCode.TheVariants.{InvalidArgument, NotSupported}
 use Rattle.leveldb_base.specs.Error.{IsOutOfMemory, text_of}
@@ -10,12 +9,12 @@ use Rattle.leveldb_env.specs.declared.env.Env.{Ghosts}
 use Rattle.leveldb_mem.specs.MemTable.{Kept, FailsToPrepare}
 use Rattle.leveldb_mem.specs.WriteBatch.{Batch, batch_of, with_item, IsTooLong}
 use Rattle.rusty_leveldb.specs.declared.db_impl.engine.Mode.TheVariants.{Open}
-use Rattle.rusty_leveldb.specs.Recent.{Numbered, AreUsedUp}
+use Rattle.rusty_leveldb.specs.Recent.{Numbered}
 use Rattle.rusty_leveldb.specs.OneLog.{max_sequence}
 use Rattle.rusty_leveldb.specs.State.{State, write, refused}
-use Rattle.rusty_leveldb.specs.Causes.{Faults, Cause, out_of_memory, used_up, too_large, bad_operand, Comes}
-use Rattle.rusty_leveldb.specs.Machine.{StepIn, Responds}
-use Rattle.rusty_leveldb.specs.Serves.{Reads, Goes, faults_between, refusal_of}
+use Rattle.rusty_leveldb.specs.Causes.{AreUsedUp, Faults, Cause, out_of_memory, used_up, too_large, bad_operand, Comes}
+use Rattle.rusty_leveldb.specs.Machine.{Step, Responds}
+use Rattle.rusty_leveldb.specs.Serves.{Goes, faults_between, refusal_of}
 use Rattle.rusty_leveldb.specs.Engine.{scene, Recalls}
 use Rattle.rusty_leveldb.proofs.Others.{others_still, spared_still}
 use Rattle.rusty_leveldb.proofs.Writes.Moments.{moments_none}
@@ -38,29 +37,30 @@ module _ {E C FP F : Type 0} {B : Boxed} (env : Ghosts E F) (store : List ℕ) (
     };
   }
 
-  module _ (cmp : List ℕ → List ℕ → Ordering) (open_now : engine.mode ≡ Open) (items : List Item) (sync : Bool) (status : Status) where
+  module _ (open_now : engine.mode ≡ Open) (items : List Item) (sync : Bool) (status : Status) where
     abbrev faults : Faults
     faults = faults_between (env.failures from) (env.failures from)
 
     -- the store stays open
     pub kept_goes : (after : EngineOf E C FP F B) → Was env store after from old → (cause : Cause) → Comes faults old (write items sync) (refusal_of status) cause
-        → Goes store (Reads store) (Recalls env store) cmp (scene env cmp (Some engine) from) (write items sync) (refused (refusal_of status)) (scene env cmp (Some after) from) old
+        → Goes store (Recalls env store) (scene env (Some engine) from) (write items sync) (refused (refusal_of status)) (scene env (Some after) from) old
     kept_goes after now cause comes = record {
       new = old;
       represents = now;
-      step = record { later = omega arith; step = subst (λ m. StepIn cmp m faults old (write items sync) (refused (refusal_of status)) old) (sym (is_open env store engine from old open_now was).mode) responds };
+      later = omega arith;
+      step = subst (λ m. Step m faults old (write items sync) (refused (refusal_of status)) old) (sym (is_open env store engine from old open_now was).mode) responds;
       moments = moments_none store (write items sync) old (env.observed from) was.disk_is;
       files = spared_still (write items sync) (refused (refusal_of status)) old old (env.observed from).disk.files;
       others = others_still store (env.observed from).disk;
       beside = λ opens_not path differs. refl;
     }
       where
-        responds : Responds cmp faults old (write items sync) (refused (refusal_of status)) old
-        responds = (cause, comes, inl (refl, record { state = refl; covered = inl refl }))
+        responds : Responds faults old (write items sync) (refused (refusal_of status)) old
+        responds = record { cause = cause; comes = comes; leaves = inl (record { state = refl; durable = inl refl }) }
 
     -- the numbers are used up
     pub used_up_goes : (count : ℕ) → count ≡ length items → status.code ≡ NotSupported → AreUsedUp engine.recent.last count
-        → Goes store (Reads store) (Recalls env store) cmp (scene env cmp (Some engine) from) (write items sync) (refused (refusal_of status)) (scene env cmp (Some engine) from) old
+        → Goes store (Recalls env store) (scene env (Some engine) from) (write items sync) (refused (refusal_of status)) (scene env (Some engine) from) old
     used_up_goes count counted code past = kept_goes engine was used_up (code, more)
       where
         more : max_sequence < old.last + max 1 (length items)
@@ -68,18 +68,18 @@ module _ {E C FP F : Type 0} {B : Boxed} (env : Ghosts E F) (store : List ℕ) (
 
     -- want of memory
     pub memory_goes : (after : EngineOf E C FP F B) → Was env store after from old → IsOutOfMemory status
-        → Goes store (Reads store) (Recalls env store) cmp (scene env cmp (Some engine) from) (write items sync) (refused (refusal_of status)) (scene env cmp (Some after) from) old
+        → Goes store (Recalls env store) (scene env (Some engine) from) (write items sync) (refused (refusal_of status)) (scene env (Some after) from) old
     memory_goes after now memory = kept_goes after now out_of_memory (tt, memory.0, ap text_of memory.1)
 
     -- the entries are too many for a memtable, or want of memory
     pub unprepared_goes : (after : EngineOf E C FP F B) → Was env store after from old → (kept : Kept) (count bytes : ℕ) → FailsToPrepare kept count bytes status
-        → Goes store (Reads store) (Recalls env store) cmp (scene env cmp (Some engine) from) (write items sync) (refused (refusal_of status)) (scene env cmp (Some after) from) old
+        → Goes store (Recalls env store) (scene env (Some engine) from) (write items sync) (refused (refusal_of status)) (scene env (Some after) from) old
     unprepared_goes after now kept count bytes (inl full) = kept_goes after now too_large (tt, full.0)
     unprepared_goes after now kept count bytes (inr memory) = memory_goes after now memory
 
     -- the batch is too long, or want of memory
     pub unmade_goes : (batch : Batch) (item : Item) → batch ≡ batch_of 0 [] → items ≡ item ∷ [] → (status.code ≡ InvalidArgument) ⊎ IsOutOfMemory status → (status.code ≡ InvalidArgument → IsTooLong (with_item batch item))
-        → Goes store (Reads store) (Recalls env store) cmp (scene env cmp (Some engine) from) (write items sync) (refused (refusal_of status)) (scene env cmp (Some engine) from) old
+        → Goes store (Recalls env store) (scene env (Some engine) from) (write items sync) (refused (refusal_of status)) (scene env (Some engine) from) old
     unmade_goes batch item is one why long = ⊎_elim
         (λ code. kept_goes engine was bad_operand (code, rw one (let past : IsTooLong (with_item (batch_of 0 []) item) = subst (λ (b : Batch). IsTooLong (with_item b item)) is (long code) in past)))
         (λ memory. memory_goes engine was memory) why

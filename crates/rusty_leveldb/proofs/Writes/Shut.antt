@@ -2,7 +2,6 @@
 use Rattle.std.proofs.Common.{◌≡◌, ◌⊎◌, inl, inr, ⊎_elim, ℕ, List, [], refl, sym, ◌∙◌, ap, subst, arith, Option, Some, None, IsTrue, false, true}
 use Rattle.std.specs.Prelude.{codes, IfSome, string_bytes, String}
 use Rattle.std.specs.declared.alloc.Global.{Global}
-use Rattle.std.specs.declared.cmp.Ordering.{Ordering}
 use Rattle.leveldb_base.specs.declared.error.Status.{Status}
 use Rattle.leveldb_base.specs.declared.error.StatusCode.TheVariants.{IOError}
 use Rattle.leveldb_base.specs.Error.{text_of}
@@ -12,9 +11,9 @@ use Rattle.rusty_leveldb.specs.declared.db_impl.engine.Mode.{Mode}
 use Rattle.rusty_leveldb.specs.declared.db_impl.engine.Mode.TheVariants.{Open, Broken, Closed}
 use Rattle.rusty_leveldb.specs.State.{State, broken, closed, Request, write, flush, refused, Refusal, close}
 use Rattle.rusty_leveldb.specs.Causes.{Faults, IsClosedRefusal, IsBrokenRefusal}
-use Rattle.rusty_leveldb.specs.Machine.{StepIn}
-use Rattle.rusty_leveldb.specs.Serves.{Reads, Goes, faults_between, refusal_of}
-use Rattle.rusty_leveldb.specs.Engine.{scene, Recalls, IsShut, IsHalted, ShutOut, ShutDown, mode_of}
+use Rattle.rusty_leveldb.specs.Machine.{Step}
+use Rattle.rusty_leveldb.specs.Serves.{Goes, faults_between, refusal_of}
+use Rattle.rusty_leveldb.specs.Engine.{scene, Recalls, IsClosed, IsClosedOrBroken, RefusedAsClosed, RefusedAsBroken, mode_of}
 use Rattle.rusty_leveldb.proofs.Others.{others_still, spared_still}
 use Rattle.rusty_leveldb.proofs.Writes.Moments.{moments_none}
 use Rattle.rusty_leveldb.proofs.Writes.Stands.{Was, is_open}
@@ -26,13 +25,13 @@ broken_text None is = inl refl
 broken_text (Some text) is = inr is
 
 -- an engine whose calls may write isn't halted
-pub not_halted : (mode : Mode) (writer : WriterState) → mode ≡ Open → writer.broken ≡ false → IsHalted mode writer → ⊥
+pub not_halted : (mode : Mode) (writer : WriterState) → mode ≡ Open → writer.broken ≡ false → IsClosedOrBroken mode writer → ⊥
 not_halted mode writer is sound = ⊎_elim (λ (shut : mode ≡ Closed). let never : Open ≡ Closed = sym is ∙ shut in cc)
     (λ stuck. ⊎_elim (λ (broke : mode ≡ Broken). let never : Open ≡ Broken = sym is ∙ broke in cc)
     (λ (broke : IsTrue writer.broken). let never : false ≡ true = sym sound ∙ broke in cc) stuck)
 
 -- one that refuses by its mode is
-pub halted_then : (mode : Mode) (writer : WriterState) (status : Status) → ShutOut mode status ⊎ ShutDown mode writer status → IsHalted mode writer
+pub halted_then : (mode : Mode) (writer : WriterState) (status : Status) → RefusedAsClosed mode status ⊎ RefusedAsBroken mode writer status → IsClosedOrBroken mode writer
 halted_then mode writer status = ⊎_elim (λ out. inl out.0) (λ down. inr down.0)
 
 -- a request that a closed store refuses, and a broken one
@@ -42,32 +41,33 @@ IsRefusedByMode flush = Unit {0}
 IsRefusedByMode close = Unit {0}
 IsRefusedByMode request = ⊥
 
-module _ (cmp : List ℕ → List ℕ → Ordering) (faults : Faults) (old : State) where
-  closed_step : (request : Request) → IsRefusedByMode request → (refusal : Refusal) → IsClosedRefusal refusal → StepIn cmp closed faults old request (refused refusal) old
+module _ (faults : Faults) (old : State) where
+  closed_step : (request : Request) → IsRefusedByMode request → (refusal : Refusal) → IsClosedRefusal refusal → Step closed faults old request (refused refusal) old
   closed_step (write items sync) logs refusal says = (says, refl)
   closed_step flush logs refusal says = (says, refl)
   closed_step close logs refusal says = (says, refl)
   closed_step request logs refusal says = absurd logs
 
-  broken_step : (request : Request) → IsRefusedByMode request → (refusal : Refusal) → IsBrokenRefusal refusal → StepIn cmp broken faults old request (refused refusal) old
+  broken_step : (request : Request) → IsRefusedByMode request → (refusal : Refusal) → IsBrokenRefusal refusal → Step broken faults old request (refused refusal) old
   broken_step (write items sync) logs refusal says = (says, refl)
   broken_step flush logs refusal says = (says, refl)
   broken_step close logs refusal says = (says, refl)
   broken_step request logs refusal says = absurd logs
 
-module _ {E C FP F : Type 0} {B : Boxed} (env : Ghosts E F) (cmp : List ℕ → List ℕ → Ordering) (store : List ℕ) (engine : EngineOf E C FP F B) (at : E) (old : State) (was : Was env store engine at old)
+module _ {E C FP F : Type 0} {B : Boxed} (env : Ghosts E F) (store : List ℕ) (engine : EngineOf E C FP F B) (at : E) (old : State) (was : Was env store engine at old)
     (request : Request) (logs : IsRefusedByMode request) (status : Status) where
   abbrev faults : Faults
   faults = faults_between (env.failures at) (env.failures at)
 
   abbrev Refused : Type 0
-  Refused = Goes store (Reads store) (Recalls env store) cmp (scene env cmp (Some engine) at) request (refused (refusal_of status)) (scene env cmp (Some engine) at) old
+  Refused = Goes store (Recalls env store) (scene env (Some engine) at) request (refused (refusal_of status)) (scene env (Some engine) at) old
 
-  stays : StepIn cmp old.mode faults old request (refused (refusal_of status)) old → Refused
+  stays : Step old.mode faults old request (refused (refusal_of status)) old → Refused
   stays step = record {
     new = old;
     represents = was;
-    step = record { later = omega arith; step = step };
+    later = omega arith;
+    step = step;
     moments = moments_none store request old (env.observed at) was.disk_is;
     files = spared_still request (refused (refusal_of status)) old old (env.observed at).disk.files;
     others = others_still store (env.observed at).disk;
@@ -75,11 +75,11 @@ module _ {E C FP F : Type 0} {B : Boxed} (env : Ghosts E F) (cmp : List ℕ → 
   }
 
   -- the store is closed
-  pub shut_out : ShutOut engine.mode status → Refused
-  shut_out shut = stays (subst (λ m. StepIn cmp m faults old request (refused (refusal_of status)) old) (ap mode_of (sym shut.0) ∙ was.memory_is.mode) (closed_step cmp faults old request logs (refusal_of status) shut.1))
+  pub shut_out : RefusedAsClosed engine.mode status → Refused
+  shut_out shut = stays (subst (λ m. Step m faults old request (refused (refusal_of status)) old) (ap mode_of (sym shut.0) ∙ was.memory_is.mode) (closed_step faults old request logs (refusal_of status) shut.1))
 
   -- the store broke earlier
-  pub shut_down : ShutDown engine.mode engine.writer status → (IsShut engine.mode → ⊥) → Refused
+  pub shut_down : RefusedAsBroken engine.mode engine.writer status → (IsClosed engine.mode → ⊥) → Refused
   shut_down down not_shut = by_mode engine.mode refl
     where
       by_mode : (mode : Mode) → engine.mode ≡ mode → Refused
@@ -87,10 +87,10 @@ module _ {E C FP F : Type 0} {B : Boxed} (env : Ghosts E F) (cmp : List ℕ → 
           let sound : engine.writer.broken ≡ false = ap (λ w. w.broken) (is_open env store engine at old is was).writes.writer in
           ⊎_elim (λ (broke : engine.mode ≡ Broken). absurd (let never : Open ≡ Broken = sym is ∙ broke in cc))
           (λ (broke : IsTrue engine.writer.broken). absurd (let never : false ≡ true = sym sound ∙ broke in cc)) down.0
-      by_mode Broken is = stays (subst (λ m. StepIn cmp m faults old request (refused (refusal_of status)) old) (ap mode_of (sym is) ∙ was.memory_is.mode)
-          (broken_step cmp faults old request logs (refusal_of status) (down.1.code, broken_text status.err down.1.text)))
+      by_mode Broken is = stays (subst (λ m. Step m faults old request (refused (refusal_of status)) old) (ap mode_of (sym is) ∙ was.memory_is.mode)
+          (broken_step faults old request logs (refusal_of status) (down.1.code, broken_text status.err down.1.text)))
       by_mode Closed is = absurd (not_shut is)
 
   -- refused by the mode, one way or the other
-  pub shut : ShutOut engine.mode status ⊎ ShutDown engine.mode engine.writer status → (status.code ≡ IOError → IsShut engine.mode → ⊥) → Refused
+  pub shut : RefusedAsClosed engine.mode status ⊎ RefusedAsBroken engine.mode engine.writer status → (status.code ≡ IOError → IsClosed engine.mode → ⊥) → Refused
   shut why stuck = ⊎_elim (λ out. shut_out out) (λ down. shut_down down (stuck down.1.code)) why

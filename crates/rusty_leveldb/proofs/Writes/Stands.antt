@@ -8,11 +8,11 @@ use Rattle.leveldb_env.specs.Env.{File, Observed, HasCause, IsGone, SameBut}
 use Rattle.leveldb_base.specs.Error.{IsOutOfMemory}
 use Rattle.rusty_leveldb.specs.declared.db_impl.engine.Mode.TheVariants.{Open, Broken}
 use Rattle.leveldb_version.specs.Paths.{lock_path}
-use Rattle.rusty_leveldb.specs.OneLog.{log_path}
+use Rattle.rusty_leveldb.specs.OneLog.{log_path, IsOneLog}
 use Rattle.leveldb_version.specs.Holds.{Holds}
 use Rattle.rusty_leveldb.specs.State.{State, SuitsMode, open_mode, broken, closed}
 use Rattle.rusty_leveldb.specs.Causes.{HasFailed}
-use Rattle.rusty_leveldb.specs.Serves.{Reads, StandsFor, Represents}
+use Rattle.rusty_leveldb.specs.Serves.{StandsFor, Represents}
 use Rattle.rusty_leveldb.specs.Engine.{mode_of, WritesOn, Remembers, Recalls}
 use Rattle.leveldb_env.specs.Options.{Boxed}
 use Rattle.rusty_leveldb.specs.Boxes.{EngineOf}
@@ -34,7 +34,7 @@ broken_with old batch = record old { pending = batch; mode = broken }
 
 module _ {E C FP F : Type 0} {B : Boxed} (env : Ghosts E F) (store : List ℕ) where
   abbrev pub Was : EngineOf E C FP F B → E → State → Type 0
-  Was engine at old = Represents store (Reads store) (Recalls env store) (Some engine) (env.observed at).disk old
+  Was engine at old = Represents store (Recalls env store) (Some engine) (env.observed at).disk old
 
   -- ---- an open store
 
@@ -43,8 +43,8 @@ module _ {E C FP F : Type 0} {B : Boxed} (env : Ghosts E F) (store : List ℕ) w
     pub mode : old.mode ≡ open_mode
     pub none : old.pending ≡ None
     pub held : IsTrue old.locked
-    pub disk_is : StandsFor store (Reads store) (env.observed at).disk old
-    pub holds : Holds store (Reads store) (λ now. now ≡ old.store) (env.observed at).disk.files old.history old.last old.covered None
+    pub disk_is : StandsFor store (env.observed at).disk old
+    pub holds : Holds store (IsOneLog (log_path store)) (λ now. now ≡ old.store) (env.observed at).disk.files old.history old.last old.durable None
     pub lock : string_bytes engine.lock ≡ lock_path store
     pub memory_is : Remembers env store engine old
     pub writes : WritesOn env store engine (env.observed at).disk
@@ -67,8 +67,8 @@ module _ {E C FP F : Type 0} {B : Boxed} (env : Ghosts E F) (store : List ℕ) w
       suits : (old.pending ≡ None) × IsTrue old.locked
       suits = subst (λ m. SuitsMode m old) mode was.disk_is.is_state.mode
 
-      holds : Holds store (Reads store) (λ now. now ≡ old.store) (env.observed at).disk.files old.history old.last old.covered None
-      holds = subst (λ p. Holds store (Reads store) (λ now. now ≡ old.store) (env.observed at).disk.files old.history old.last old.covered p) suits.0 was.disk_is.holds
+      holds : Holds store (IsOneLog (log_path store)) (λ now. now ≡ old.store) (env.observed at).disk.files old.history old.last old.durable None
+      holds = subst (λ p. Holds store (IsOneLog (log_path store)) (λ now. now ≡ old.store) (env.observed at).disk.files old.history old.last old.durable p) suits.0 was.disk_is.holds
 
       writes : WritesOn env store engine (env.observed at).disk
       writes = was.memory_is.writes mode
@@ -97,7 +97,7 @@ module _ {E C FP F : Type 0} {B : Boxed} (env : Ghosts E F) (store : List ℕ) w
     pub mode : after.mode ≡ Broken
     pub history : IsHistory (with_batch old.history batch)
     pub reached : greatest (entries_of (with_batch old.history batch)) ≤ old.last + count_of batch
-    pub holds : Holds store (Reads store) (λ now. now ≡ old.store) (env.observed to).disk.files old.history old.last old.covered batch
+    pub holds : Holds store (IsOneLog (log_path store)) (λ now. now ≡ old.store) (env.observed to).disk.files old.history old.last old.durable batch
     pub locks : (env.observed to).disk.locked ≡ (env.observed from).disk.locked
     pub but : SameBut (log_path store) (env.observed from).disk.files (env.observed to).disk.files
 
@@ -108,7 +108,7 @@ module _ {E C FP F : Type 0} {B : Boxed} (env : Ghosts E F) (store : List ℕ) w
         history = broke.history;
         reached = was.disk_is.is_state.reached;
         pending = broke.reached;
-        covered = was.disk_is.is_state.covered;
+        durable = was.disk_is.is_state.durable;
         held = was.disk_is.is_state.held;
         mode = was.held;
       };

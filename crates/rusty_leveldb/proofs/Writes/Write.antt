@@ -1,7 +1,6 @@
 -- A write is a step of the machine, at each of its exits, from the engine as it was before the preparation.
 use Rattle.std.proofs.Common.{◌≡◌, ◌⊎◌, inl, inr, ◌≤◌, ◌+◌, ◌++◌, ◌∷◌, [], ℕ, List, length, refl, sym, ◌∙◌, ap, subst, arith, Some, Ok, Err, Bool, IsTrue, true, false}
 use Rattle.std.specs.Prelude.{if◌then◌else◌}
-use Rattle.std.specs.declared.cmp.Ordering.{Ordering}
 use Rattle.leveldb_base.specs.declared.error.Status.{Status}
 use Rattle.leveldb_base.specs.History.{Item, AreUpTo}
 use Rattle.leveldb_env.specs.declared.env.Env.{Ghosts}
@@ -15,14 +14,13 @@ use Rattle.rusty_leveldb.specs.declared.db_impl.engine.Mode.TheVariants.{Open, B
 use Rattle.rusty_leveldb.specs.OneLog.{max_sequence}
 use Rattle.rusty_leveldb.specs.Recent.{Numbered, Follows, Inserts}
 use Rattle.rusty_leveldb.specs.State.{State, open_mode, closed, write, Answer, done, refused}
-use Rattle.rusty_leveldb.specs.Serves.{Reads, Goes, refusal_of}
+use Rattle.rusty_leveldb.specs.Serves.{Goes, refusal_of}
 use Rattle.rusty_leveldb.specs.Engine.{scene, Recalls, mode_of}
 use Rattle.rusty_leveldb.specs.Recovery.{IsErrorFor}
 use Rattle.rusty_leveldb.proofs.Histories.{placed_greatest}
 use Rattle.rusty_leveldb.proofs.Writes.Stands.{Was}
 use Rattle.rusty_leveldb.proofs.Writes.Kept.{prepared_was}
 use Rattle.rusty_leveldb.proofs.Writes.Append.{IsNext}
-use Rattle.rusty_leveldb.proofs.Writes.Found.{found_goes}
 use Rattle.rusty_leveldb.proofs.Writes.Exits.{begun_with, append_refused, done_unsynced, done_synced, sync_refused}
 use Rattle.leveldb_env.specs.Options.{Boxed}
 use Rattle.rusty_leveldb.specs.Boxes.{EngineOf}
@@ -57,11 +55,11 @@ follows last now items batch bytes next is same = subst (λ b. Follows now b) (s
 
 -- ---- the exits
 
-module _ {E C FP F : Type 0} {B : Boxed} (env : Ghosts E F) (store : List ℕ) (cmp : List ℕ → List ℕ → Ordering) (engine : EngineOf E C FP F B) (from : E) (old : State) (items : List Item) (sync : Bool) (after : EngineOf E C FP F B) (to : E) where
+module _ {E C FP F : Type 0} {B : Boxed} (env : Ghosts E F) (store : List ℕ) (engine : EngineOf E C FP F B) (from : E) (old : State) (items : List Item) (sync : Bool) (after : EngineOf E C FP F B) (to : E) where
   abbrev pub Wrote : Answer → Type 0
-  Wrote answer = Goes store (Reads store) (Recalls env store) cmp (scene env cmp (Some engine) from) (write items sync) answer (scene env cmp (Some after) to) old
+  Wrote answer = Goes store (Recalls env store) (scene env (Some engine) from) (write items sync) answer (scene env (Some after) to) old
 
-module _ {E C FP F : Type 0} {B : Boxed} (env : Ghosts E F) (modelled : IsTrue env.models_disk) (store : List ℕ) (cmp : List ℕ → List ℕ → Ordering) (engine : EngineOf E C FP F B) (from : E) (old : State) (stood : Was env store engine from old)
+module _ {E C FP F : Type 0} {B : Boxed} (env : Ghosts E F) (modelled : IsTrue env.models_disk) (store : List ℕ) (engine : EngineOf E C FP F B) (from : E) (old : State) (stood : Was env store engine from old)
     (open_now : engine.mode ≡ Open) (recent : Numbered) (entries : recent.kept.entries ≡ engine.recent.kept.entries) (last : recent.last ≡ engine.recent.last) (items : List Item) (sync : Bool) (bytes : List ℕ)
     (next : IsNext engine.recent.last items bytes) where
   -- the engine behind the preparation
@@ -74,21 +72,15 @@ module _ {E C FP F : Type 0} {B : Boxed} (env : Ghosts E F) (modelled : IsTrue e
   next_now : IsNext recent.last items bytes
   next_now = subst (λ n. IsNext n items bytes) (sym last) next
 
-  from_prepared : (answer : Answer) (after : EngineOf E C FP F B) (to : E) → Wrote env store cmp prepared from old items sync after to answer → Wrote env store cmp engine from old items sync after to answer
-  from_prepared answer after to goes = begun_with store (Recalls env store) cmp (Some prepared) (Some engine) (env.observed from) (env.failures from) (write items sync) answer (scene env cmp (Some after) to) old goes
-
-  -- the error is the log's, or damage where the log is missing
-  tells : (after : EngineOf E C FP F B) (to : E) (raw status : Status) → IsErrorFor raw status → Wrote env store cmp prepared from old items sync after to (refused (refusal_of raw)) → Wrote env store cmp prepared from old items sync after to (refused (refusal_of status))
-  tells after to raw status error goes =
-      found_goes store (Recalls env store) cmp (scene env cmp (Some prepared) from) (write items sync) (scene env cmp (Some after) to) old (sym stood.memory_is.mode ∙ ap mode_of open_now)
-      (λ s new. (λ step. step, λ responds. responds)) raw status error goes
+  from_prepared : (answer : Answer) (after : EngineOf E C FP F B) (to : E) → Wrote env store prepared from old items sync after to answer → Wrote env store engine from old items sync after to answer
+  from_prepared answer after to goes = begun_with store (Recalls env store) (Some prepared) (Some engine) (env.observed from) (env.failures from) (write items sync) answer (scene env (Some after) to) old goes
 
   -- the append was refused
   pub refused_append : (after : EngineOf E C FP F B) (to : E) (status : Status) → after ≡ record prepared { log = after.log; writer = after.writer; mode = after.mode } → after.mode ≡ (if after.writer.broken then Broken else engine.mode)
       → (raw : Status) × IsErrorFor raw status × FailsToAdd (Appends env) engine.writer (opened from engine.log) bytes raw after.writer (opened to after.log)
-      → Wrote env store cmp engine from old items sync after to (refused (refusal_of status))
+      → Wrote env store engine from old items sync after to (refused (refusal_of status))
   refused_append after to status rest mode refusal = from_prepared (refused (refusal_of status)) after to
-      (tells after to refusal.0 status refusal.1 (append_refused env modelled store prepared from old now open_now items bytes next_now cmp sync after to rest mode refusal.0 refusal.2))
+      (append_refused env modelled store prepared from old now open_now items bytes next_now sync after to rest mode refusal.0 status refusal.1 refusal.2)
 
   -- it was done
   module _ (middle : EngineOf E C FP F B) (mid : E) (rest : middle ≡ record prepared { log = middle.log; writer = middle.writer; mode = middle.mode }) (mode : middle.mode ≡ (if middle.writer.broken then Broken else engine.mode))
@@ -96,10 +88,9 @@ module _ {E C FP F : Type 0} {B : Boxed} (env : Ghosts E F) (modelled : IsTrue e
     -- and the sync was refused
     pub refused_sync : (after : EngineOf E C FP F B) (to : E) (status : Status) → after ≡ record middle { log = after.log; writer = after.writer; mode = after.mode } → after.mode ≡ Broken
         → (raw : Status) × IsErrorFor raw status × Flushes (Syncs env) middle.writer (opened mid middle.log) (Err raw) after.writer (opened to after.log)
-        → Wrote env store cmp engine from old items sync after to (refused (refusal_of status))
+        → Wrote env store engine from old items sync after to (refused (refusal_of status))
     refused_sync after to status rest_after broke refusal = from_prepared (refused (refusal_of status)) after to
-        (tells after to refusal.0 status refusal.1
-        (sync_refused env modelled store prepared from old now open_now items bytes next_now middle mid rest mode count adds cmp sync after to rest_after refusal.0 broke refusal.2))
+        (sync_refused env modelled store prepared from old now open_now items bytes next_now middle mid rest mode count adds sync after to rest_after refusal.0 status refusal.1 broke refusal.2)
 
     module _ (batch : Batch) (batch_is : batch ≡ batch_of (engine.recent.last + 1) items) (below : AreUpTo engine.recent.last engine.recent.kept.entries) (inserted : Numbered) (self : EngineOf E C FP F B) (inserts : Inserts self.recent batch inserted) (at : E) where
       last_is : engine.recent.last ≡ old.last
@@ -118,20 +109,20 @@ module _ {E C FP F : Type 0} {B : Boxed} (env : Ghosts E F) (modelled : IsTrue e
       below_now = subst (λ n. AreUpTo n recent.kept.entries) (sym last) (subst (λ es. AreUpTo engine.recent.last es) (sym entries) below)
 
       -- it was all that was asked for
-      pub done_plain : sync ≡ false → self ≡ middle → at ≡ mid → Wrote env store cmp engine from old items sync (record self { recent = inserted }) at done
-      done_plain plain self_is at_is = subst (λ (e : E). Wrote env store cmp engine from old items sync (record self { recent = inserted }) e done) (sym at_is)
-          (subst (λ (m : EngineOf E C FP F B). Wrote env store cmp engine from old items sync (record m { recent = inserted }) mid done) (sym self_is)
+      pub done_plain : sync ≡ false → self ≡ middle → at ≡ mid → Wrote env store engine from old items sync (record self { recent = inserted }) at done
+      done_plain plain self_is at_is = subst (λ (e : E). Wrote env store engine from old items sync (record self { recent = inserted }) e done) (sym at_is)
+          (subst (λ (m : EngineOf E C FP F B). Wrote env store engine from old items sync (record m { recent = inserted }) mid done) (sym self_is)
           (from_prepared done (record middle { recent = inserted }) mid
-          (done_unsynced env modelled store prepared from old now open_now items bytes next_now middle mid rest mode count adds cmp sync plain inserted
+          (done_unsynced env modelled store prepared from old now open_now items bytes next_now middle mid rest mode count adds sync plain inserted
           (inserts_now (ap (λ (m : EngineOf E C FP F B). m.recent) self_is ∙ ap (λ (m : EngineOf E C FP F B). m.recent) rest)) below_now)))
 
       -- the sync was done too
       pub done_with_sync : (after : EngineOf E C FP F B) (to : E) → after ≡ record middle { log = after.log; writer = after.writer; mode = after.mode } → after.mode ≡ middle.mode
-          → Flushes (Syncs env) middle.writer (opened mid middle.log) (Ok tt) after.writer (opened to after.log) → self ≡ after → at ≡ to → Wrote env store cmp engine from old items sync (record self { recent = inserted }) at done
-      done_with_sync after to rest_after same_mode flushed self_is at_is = subst (λ (e : E). Wrote env store cmp engine from old items sync (record self { recent = inserted }) e done) (sym at_is)
-          (subst (λ (m : EngineOf E C FP F B). Wrote env store cmp engine from old items sync (record m { recent = inserted }) to done) (sym self_is)
+          → Flushes (Syncs env) middle.writer (opened mid middle.log) (Ok tt) after.writer (opened to after.log) → self ≡ after → at ≡ to → Wrote env store engine from old items sync (record self { recent = inserted }) at done
+      done_with_sync after to rest_after same_mode flushed self_is at_is = subst (λ (e : E). Wrote env store engine from old items sync (record self { recent = inserted }) e done) (sym at_is)
+          (subst (λ (m : EngineOf E C FP F B). Wrote env store engine from old items sync (record m { recent = inserted }) to done) (sym self_is)
           (from_prepared done (record after { recent = inserted }) to
-          (done_synced env modelled store prepared from old now open_now items bytes next_now middle mid rest mode count adds cmp sync after to rest_after same_mode flushed inserted
+          (done_synced env modelled store prepared from old now open_now items bytes next_now middle mid rest mode count adds sync after to rest_after same_mode flushed inserted
           (inserts_now (ap (λ (m : EngineOf E C FP F B). m.recent) self_is ∙ ap (λ (m : EngineOf E C FP F B). m.recent) rest_after ∙ ap (λ (m : EngineOf E C FP F B). m.recent) rest)) below_now)))
 
 -- the last number is the engine's, before the insertion

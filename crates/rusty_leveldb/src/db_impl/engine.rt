@@ -4,7 +4,7 @@ ghost use Rattle.leveldb_base.specs.History.{Item};
 ghost use Rattle.leveldb_env.specs.Env.{Disk};
 ghost use Rattle.rusty_leveldb.specs.State.{State, open_mode, write, refused};
 ghost use Rattle.rusty_leveldb.specs.Serves.{refusal_of};
-ghost use Rattle.rusty_leveldb.specs.Engine.{IsShut, ShutOut, ShutDown, Recalls, AnswersStill};
+ghost use Rattle.rusty_leveldb.specs.Engine.{IsClosed, RefusedAsClosed, RefusedAsBroken, Recalls, AnswersStill};
 
 use super::recent::Recent;
 use leveldb_base::cmp::{Cmp, UserCmp};
@@ -42,8 +42,8 @@ pub struct Engine<E: Env, C: Cmp, FP> {
 
 /// A closed store refuses every call but `abandon`.
 pub(crate) fn check_not_closed(alloc: Global, mode: Mode) -> Result<()>
-    ensures ok { OnOk result (IsShut mode → ⊥) }
-    ensures cause { IfErr result (ShutOut mode) }
+    ensures ok { OnOk result (IsClosed mode → ⊥) }
+    ensures cause { IfErr result (RefusedAsClosed mode) }
 {
     if mode == Mode::Closed {
         return err(alloc, StatusCode::InvalidArgument, "the store is closed");
@@ -54,8 +54,8 @@ pub(crate) fn check_not_closed(alloc: Global, mode: Mode) -> Result<()>
 /// A store that broke refuses every call that writes.
 pub(crate) fn check_open(alloc: Global, mode: Mode, writer: &WriterCore) -> Result<()>
     ensures ok { OnOk result ((mode ≡ Mode.Open) × (writer.now.broken ≡ false)) }
-    ensures cause { IfErr result (λ status. ShutOut mode status ⊎ ShutDown mode writer.now status) }
-    ensures stuck { IfErr result (λ status. status.code ≡ StatusCode.IOError → IsShut mode → ⊥) }
+    ensures cause { IfErr result (λ status. RefusedAsClosed mode status ⊎ RefusedAsBroken mode writer.now status) }
+    ensures stuck { IfErr result (λ status. status.code ≡ StatusCode.IOError → IsClosed mode → ⊥) }
 {
     check_not_closed(alloc, mode)?;
     if mode == Mode::Broken || writer.is_broken() {
@@ -69,8 +69,8 @@ impl<E: Env, C: UserCmp + Copy, FP: FilterPolicy + Copy> Engine<E, C, FP> {
     pub fn check_writable(&self) -> Result<()>
         ensures ok { OnOk result ((store : List ℕ) (disk : Disk) (state : State) → Recalls E.Env store self.now disk state → state.mode ≡ open_mode) }
         ensures step { IfErr result (λ status. (items : List Item) (sync : Bool)
-            → AnswersStill E.Env (C.cmp self.now.options.cmp) self.now (write items sync) (refused (refusal_of status))) }
-        ensures cause { IfErr result (λ status. ShutOut self.now.mode status ⊎ ShutDown self.now.mode self.now.writer status) }
+            → AnswersStill E.Env self.now (write items sync) (refused (refusal_of status))) }
+        ensures cause { IfErr result (λ status. RefusedAsClosed self.now.mode status ⊎ RefusedAsBroken self.now.mode self.now.writer status) }
     {
         check_open(self.alloc, self.mode, &self.writer)
     }

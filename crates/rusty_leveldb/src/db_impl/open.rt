@@ -8,7 +8,7 @@ ghost use Rattle.rusty_leveldb.specs.OneLog.{log_path};
 ghost use Rattle.rusty_leveldb.specs.Replay.{IsLargeLog};
 ghost use Rattle.rusty_leveldb.specs.State.{Opening, open_store};
 ghost use Rattle.rusty_leveldb.specs.Serves.{done_or, given_engine};
-ghost use Rattle.rusty_leveldb.specs.Engine.{IsStoreName, IsOpening, TimeGoesOn, AnswersAs, OpenExcused};
+ghost use Rattle.rusty_leveldb.specs.Engine.{IsStoreName, IsOpening, TimeGoesOn, AnswersAs, OpenExcused, opening_of};
 ghost use Rattle.rusty_leveldb.specs.Recovery.{IsFoundAs, framed_file, kept_log, IsMadeKept, SparesLog, IsUnusable, NeverOpens, ChangesLogAlone, StaysUnopened, IsRecovered, HasCauses, IsFoundOr, IsUntold, IsNotMade, IsNoLog};
 
 use super::close::give_back;
@@ -18,6 +18,7 @@ use super::recent::Recent;
 use super::replay::{frame_all, replay};
 use leveldb_base::cmp::UserCmp;
 use leveldb_base::error::{Result, StatusCode, err};
+use leveldb_env::compressor::{CompressorList, Compressors};
 use leveldb_env::env::Env;
 use leveldb_env::env::whole_files::replace_file;
 use leveldb_env::filter::FilterPolicy;
@@ -39,8 +40,9 @@ impl<E: Env, C: UserCmp + Copy, FP: FilterPolicy + Copy> Engine<E, C, FP> {
     ) -> Result<Engine<E, C, FP>>
         ensures options { IfOk result (λ engine. engine.options ≡ options) }
         ensures opened { IfOk result (λ engine. (engine.mode ≡ Mode.Open) × (engine.writer.broken ≡ false)) }
-        ensures step { (opening : Opening) → IsOpening name.now options.create_if_missing opening
-            → AnswersAs E.Env (C.cmp options.cmp) name.now None env.old (open_store opening) (done_or result) (given_engine result) env.new }
+        ensures step { (opening : Opening) → IsOpening name.now (opening_of C.Cmp FP.FilterPolicy
+            ⟦<CompressorList as Compressors>⟧.codings options) opening
+            → AnswersAs E.Env name.now None env.old (open_store opening) (done_or result) (given_engine result) env.new }
         ensures time { TimeGoesOn E.Env env.old env.new }
         ensures misnamed { (IsStoreName name.now → ⊥) → (env.new ≡ env.old) × OnOk result ⊥ }
         ensures log { OnOk result (IsTrue E.models_disk → SparesLog options.create_if_missing ((E.observed env.old).disk.files (log_path name.now)) ((E.observed env.new).disk.files (log_path name.now))) }

@@ -2,7 +2,7 @@
 ghost use Rattle.std.specs.Prelude.{IfErr, IsErrAnd, None};
 ghost use Rattle.rusty_leveldb.specs.State.{get};
 ghost use Rattle.rusty_leveldb.specs.Serves.{found_or};
-ghost use Rattle.rusty_leveldb.specs.Engine.{IsShut, ShutOut, AnswersStill, GetExcused};
+ghost use Rattle.rusty_leveldb.specs.Engine.{IsClosed, RefusedAsClosed, AnswersStill, GetExcused};
 
 use super::engine::{Engine, check_not_closed};
 use bytes::Bytes;
@@ -17,8 +17,8 @@ const MAX_KEY_SIZE: usize = 1 << 30;
 impl<E: Env, C: UserCmp + Copy, FP: FilterPolicy + Copy> Engine<E, C, FP> {
     /// The key's value, or none where it has none.
     pub fn get(&self, key: &[u8]) -> Result<Option<Bytes>>
-        ensures step { AnswersStill E.Env (C.cmp self.now.options.cmp) self.now (get None key.now) (found_or result) }
-        ensures shut { IsShut self.now.mode → IsErrAnd result (ShutOut self.now.mode) }
+        ensures step { AnswersStill E.Env self.now (get None key.now) (found_or result) }
+        ensures shut { IsClosed self.now.mode → IsErrAnd result (RefusedAsClosed self.now.mode) }
         ensures cause { IfErr result (GetExcused self.now.mode key.now) }
     {
         check_not_closed(self.alloc, self.mode)?;

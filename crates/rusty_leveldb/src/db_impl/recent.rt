@@ -4,7 +4,8 @@ ghost use Rattle.leveldb_base.specs.History.{AreUpTo, placed};
 ghost use Rattle.leveldb_base.specs.declared.error.StatusCode.TheVariants.{NotSupported};
 ghost use Rattle.leveldb_base.specs.Entries.{FindsNewest};
 ghost use Rattle.leveldb_mem.specs.MemTable.{HasRoom, FailsToPrepare, AddsAll, bytes_in};
-ghost use Rattle.rusty_leveldb.specs.Recent.{Follows, Inserts, AreUsedUp, lent_newest};
+ghost use Rattle.rusty_leveldb.specs.Recent.{Follows, Inserts, lent_newest};
+ghost use Rattle.rusty_leveldb.specs.Causes.{AreUsedUp};
 ghost use Rattle.rusty_leveldb.specs.OneLog.{max_sequence};
 
 use leveldb_base::cmp::{Cmp, UserCmp};

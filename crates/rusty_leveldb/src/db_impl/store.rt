@@ -5,7 +5,7 @@ ghost use Rattle.leveldb_mem.specs.WriteBatch.{item_of};
 ghost use Rattle.rusty_leveldb.specs.State.{Opening, open_store, write, get, flush, close, abandon, done, refused};
 ghost use Rattle.rusty_leveldb.specs.Serves.{done_or, found_or, refusal_of};
 ghost use Rattle.rusty_leveldb.specs.declared.db_impl.engine.Mode.TheVariants.{Open};
-ghost use Rattle.rusty_leveldb.specs.Engine.{IsShut, IsHalted, ShutOut, HaltedBy, IsStoreName, IsOpening, no_engine, TimeGoesOn, AnswersAs, Answers, OpenExcused, WriteExcused, SyncExcused, CloseExcused, GetExcused};
+ghost use Rattle.rusty_leveldb.specs.Engine.{IsClosed, IsClosedOrBroken, RefusedAsClosed, RefusedByMode, IsStoreName, IsOpening, no_engine, TimeGoesOn, AnswersAs, Answers, OpenExcused, WriteExcused, SyncExcused, CloseExcused, GetExcused, opening_of};
 ghost use Rattle.rusty_leveldb.specs.Causes.{HasFailed};
 ghost use Rattle.rusty_leveldb.specs.OneLog.{log_path};
 ghost use Rattle.rusty_leveldb.specs.Recovery.{SparesLog, NeverOpens, StaysUnopened};
@@ -14,6 +14,7 @@ use super::engine::Engine;
 use bytes::Bytes;
 use leveldb_base::cmp::UserCmp;
 use leveldb_base::error::Result;
+use leveldb_env::compressor::{CompressorList, Compressors};
 use leveldb_env::env::Env;
 use leveldb_env::filter::FilterPolicy;
 use leveldb_env::options::Options;
@@ -66,8 +67,9 @@ impl<'e, E: Env, C: UserCmp + Copy, FP: FilterPolicy + Copy> Store<'e, E, Engine
         ensures same_reference { IfOk result (λ db. db.env.ghost_name ≡ env.entry.ghost_name) }
         ensures options { IfOk result (λ db. db.state.options ≡ options) }
         ensures opened { IfOk result (λ db. (db.state.mode ≡ Open) × (db.state.writer.broken ≡ false)) }
-        ensures step { IfOk result (λ db. (opening : Opening) → IsOpening name.now options.create_if_missing opening
-            → AnswersAs E.Env (C.cmp options.cmp) name.now None env.old (open_store opening) done (Some db.state) db.env.now) }
+        ensures step { IfOk result (λ db. (opening : Opening) → IsOpening name.now (opening_of C.Cmp FP.FilterPolicy
+            ⟦<CompressorList as Compressors>⟧.codings options) opening
+            → AnswersAs E.Env name.now None env.old (open_store opening) done (Some db.state) db.env.now) }
         ensures log { IfOk result (λ db. IsTrue E.models_disk
             → SparesLog options.create_if_missing ((E.observed env.old).disk.files (log_path name.now)) ((E.observed db.env.now).disk.files (log_path name.now))) }
         ensures time { IfOk result (λ db. TimeGoesOn E.Env env.old db.env.now) }
@@ -75,8 +77,9 @@ impl<'e, E: Env, C: UserCmp + Copy, FP: FilterPolicy + Copy> Store<'e, E, Engine
         ensures never_opens { IsTrue E.models_disk → NeverOpens name.now options.create_if_missing (E.observed env.old).disk → OnOk result ⊥ }
         ensures cause { IfOk result (λ db. E.failures db.env.now ≡ E.failures env.old) }
         ensures refused { IfErr result (λ status. (left : E)
-            × ((opening : Opening) → IsOpening name.now options.create_if_missing opening
-            → AnswersAs E.Env (C.cmp options.cmp) name.now (no_engine options) env.old (open_store opening) (refused (refusal_of status)) (no_engine options) left)
+            × ((opening : Opening) → IsOpening name.now (opening_of C.Cmp FP.FilterPolicy
+            ⟦<CompressorList as Compressors>⟧.codings options) opening
+            → AnswersAs E.Env name.now (no_engine options) env.old (open_store opening) (refused (refusal_of status)) (no_engine options) left)
             × (OpenExcused E.models_disk name.now options.create_if_missing (E.observed env.old) status ⊎ HasFailed (E.failures env.old) (E.failures left))
             × TimeGoesOn E.Env env.old left
             × ((IsStoreName name.now → ⊥) → left ≡ env.old)
@@ -90,11 +93,11 @@ impl<'e, E: Env, C: UserCmp + Copy, FP: FilterPolicy + Copy> Store<'e, E, Engine
     pub fn put(&mut self, key: &[u8], value: &[u8]) -> Result<()>
         ensures same_reference { self.new.env.ghost_name ≡ self.old.env.ghost_name }
         ensures options { self.new.state.options ≡ self.old.state.options }
-        ensures halted { IsHalted self.old.state.mode self.old.state.writer → (self.new.env.now ≡ self.old.env.now) × (self.new.state ≡ self.old.state) × IsErrAnd result (HaltedBy self.old.state.mode self.old.state.writer) }
-        ensures breaks { E.failures self.old.env.now < E.failures self.new.env.now → IsHalted self.new.state.mode self.new.state.writer }
+        ensures halted { IsClosedOrBroken self.old.state.mode self.old.state.writer → (self.new.env.now ≡ self.old.env.now) × (self.new.state ≡ self.old.state) × IsErrAnd result (RefusedByMode self.old.state.mode self.old.state.writer) }
+        ensures breaks { E.failures self.old.env.now < E.failures self.new.env.now → IsClosedOrBroken self.new.state.mode self.new.state.writer }
         ensures stays { IsTrue self.new.state.writer.broken ⊎ (self.new.state.mode ≡ self.old.state.mode) }
         ensures time { TimeGoesOn E.Env self.old.env.now self.new.env.now }
-        ensures step { Answers E.Env (C.cmp self.old.state.options.cmp) (Some self.old.state) self.old.env.now
+        ensures step { Answers E.Env (Some self.old.state) self.old.env.now
             (write (item_of key.now (Some value.now) ∷ []) false) (done_or result) (Some self.new.state) self.new.env.now }
         ensures cause { HasCause (WriteExcused E.Env self.old.state self.old.env.now self.new.env.now (item_of key.now (Some value.now) ∷ []))
             (E.failures self.old.env.now) (E.failures self.new.env.now) result }
@@ -106,11 +109,11 @@ impl<'e, E: Env, C: UserCmp + Copy, FP: FilterPolicy + Copy> Store<'e, E, Engine
     pub fn delete(&mut self, key: &[u8]) -> Result<()>
         ensures same_reference { self.new.env.ghost_name ≡ self.old.env.ghost_name }
         ensures options { self.new.state.options ≡ self.old.state.options }
-        ensures halted { IsHalted self.old.state.mode self.old.state.writer → (self.new.env.now ≡ self.old.env.now) × (self.new.state ≡ self.old.state) × IsErrAnd result (HaltedBy self.old.state.mode self.old.state.writer) }
-        ensures breaks { E.failures self.old.env.now < E.failures self.new.env.now → IsHalted self.new.state.mode self.new.state.writer }
+        ensures halted { IsClosedOrBroken self.old.state.mode self.old.state.writer → (self.new.env.now ≡ self.old.env.now) × (self.new.state ≡ self.old.state) × IsErrAnd result (RefusedByMode self.old.state.mode self.old.state.writer) }
+        ensures breaks { E.failures self.old.env.now < E.failures self.new.env.now → IsClosedOrBroken self.new.state.mode self.new.state.writer }
         ensures stays { IsTrue self.new.state.writer.broken ⊎ (self.new.state.mode ≡ self.old.state.mode) }
         ensures time { TimeGoesOn E.Env self.old.env.now self.new.env.now }
-        ensures step { Answers E.Env (C.cmp self.old.state.options.cmp) (Some self.old.state) self.old.env.now
+        ensures step { Answers E.Env (Some self.old.state) self.old.env.now
             (write (item_of key.now None ∷ []) false) (done_or result) (Some self.new.state) self.new.env.now }
         ensures cause { HasCause (WriteExcused E.Env self.old.state self.old.env.now self.new.env.now (item_of key.now None ∷ []))
             (E.failures self.old.env.now) (E.failures self.new.env.now) result }
@@ -123,11 +126,11 @@ impl<'e, E: Env, C: UserCmp + Copy, FP: FilterPolicy + Copy> Store<'e, E, Engine
     pub fn write(&mut self, batch: WriteBatch, sync: bool) -> Result<()>
         ensures same_reference { self.new.env.ghost_name ≡ self.old.env.ghost_name }
         ensures options { self.new.state.options ≡ self.old.state.options }
-        ensures halted { IsHalted self.old.state.mode self.old.state.writer → (self.new.env.now ≡ self.old.env.now) × (self.new.state ≡ self.old.state) × IsErrAnd result (HaltedBy self.old.state.mode self.old.state.writer) }
-        ensures breaks { E.failures self.old.env.now < E.failures self.new.env.now → IsHalted self.new.state.mode self.new.state.writer }
+        ensures halted { IsClosedOrBroken self.old.state.mode self.old.state.writer → (self.new.env.now ≡ self.old.env.now) × (self.new.state ≡ self.old.state) × IsErrAnd result (RefusedByMode self.old.state.mode self.old.state.writer) }
+        ensures breaks { E.failures self.old.env.now < E.failures self.new.env.now → IsClosedOrBroken self.new.state.mode self.new.state.writer }
         ensures stays { IsTrue self.new.state.writer.broken ⊎ (self.new.state.mode ≡ self.old.state.mode) }
         ensures time { TimeGoesOn E.Env self.old.env.now self.new.env.now }
-        ensures step { Answers E.Env (C.cmp self.old.state.options.cmp) (Some self.old.state) self.old.env.now
+        ensures step { Answers E.Env (Some self.old.state) self.old.env.now
             (write batch.items sync) (done_or result) (Some self.new.state) self.new.env.now }
         ensures cause { HasCause (WriteExcused E.Env self.old.state self.old.env.now self.new.env.now batch.items)
             (E.failures self.old.env.now) (E.failures self.new.env.now) result }
@@ -139,11 +142,11 @@ impl<'e, E: Env, C: UserCmp + Copy, FP: FilterPolicy + Copy> Store<'e, E, Engine
     pub fn flush(&mut self) -> Result<()>
         ensures same_reference { self.new.env.ghost_name ≡ self.old.env.ghost_name }
         ensures options { self.new.state.options ≡ self.old.state.options }
-        ensures halted { IsHalted self.old.state.mode self.old.state.writer → (self.new.env.now ≡ self.old.env.now) × (self.new.state ≡ self.old.state) × IsErrAnd result (HaltedBy self.old.state.mode self.old.state.writer) }
-        ensures ended { OnErr result (IsHalted self.new.state.mode self.new.state.writer) }
+        ensures halted { IsClosedOrBroken self.old.state.mode self.old.state.writer → (self.new.env.now ≡ self.old.env.now) × (self.new.state ≡ self.old.state) × IsErrAnd result (RefusedByMode self.old.state.mode self.old.state.writer) }
+        ensures ended { OnErr result (IsClosedOrBroken self.new.state.mode self.new.state.writer) }
         ensures stays { IsTrue self.new.state.writer.broken ⊎ (self.new.state.mode ≡ self.old.state.mode) }
         ensures time { TimeGoesOn E.Env self.old.env.now self.new.env.now }
-        ensures step { Answers E.Env (C.cmp self.old.state.options.cmp) (Some self.old.state) self.old.env.now
+        ensures step { Answers E.Env (Some self.old.state) self.old.env.now
             flush (done_or result) (Some self.new.state) self.new.env.now }
         ensures cause { HasCause (SyncExcused E.Env self.old.state self.old.env.now self.new.env.now)
             (E.failures self.old.env.now) (E.failures self.new.env.now) result }
@@ -155,8 +158,8 @@ impl<'e, E: Env, C: UserCmp + Copy, FP: FilterPolicy + Copy> Store<'e, E, Engine
     pub fn get(&mut self, key: &[u8]) -> Result<Option<Bytes>>
         ensures same_reference { self.new.env.ghost_name ≡ self.old.env.ghost_name }
         ensures still { (self.new.env.now ≡ self.old.env.now) × (self.new.state ≡ self.old.state) }
-        ensures shut { IsShut self.old.state.mode → IsErrAnd result (ShutOut self.old.state.mode) }
-        ensures step { Answers E.Env (C.cmp self.old.state.options.cmp) (Some self.old.state) self.old.env.now
+        ensures shut { IsClosed self.old.state.mode → IsErrAnd result (RefusedAsClosed self.old.state.mode) }
+        ensures step { Answers E.Env (Some self.old.state) self.old.env.now
             (get None key.now) (found_or result) (Some self.new.state) self.new.env.now }
         ensures cause { IfErr result (GetExcused self.old.state.mode key.now) }
     {
@@ -167,10 +170,10 @@ impl<'e, E: Env, C: UserCmp + Copy, FP: FilterPolicy + Copy> Store<'e, E, Engine
     pub fn close(&mut self) -> Result<()>
         ensures same_reference { self.new.env.ghost_name ≡ self.old.env.ghost_name }
         ensures options { self.new.state.options ≡ self.old.state.options }
-        ensures halted { IsHalted self.old.state.mode self.old.state.writer → (self.new.env.now ≡ self.old.env.now) × (self.new.state ≡ self.old.state) × IsErrAnd result (HaltedBy self.old.state.mode self.old.state.writer) }
-        ensures ended { OnOk result (IsShut self.new.state.mode) × OnErr result (IsHalted self.new.state.mode self.new.state.writer) }
+        ensures halted { IsClosedOrBroken self.old.state.mode self.old.state.writer → (self.new.env.now ≡ self.old.env.now) × (self.new.state ≡ self.old.state) × IsErrAnd result (RefusedByMode self.old.state.mode self.old.state.writer) }
+        ensures ended { OnOk result (IsClosed self.new.state.mode) × OnErr result (IsClosedOrBroken self.new.state.mode self.new.state.writer) }
         ensures time { TimeGoesOn E.Env self.old.env.now self.new.env.now }
-        ensures step { Answers E.Env (C.cmp self.old.state.options.cmp) (Some self.old.state) self.old.env.now
+        ensures step { Answers E.Env (Some self.old.state) self.old.env.now
             close (done_or result) (Some self.new.state) self.new.env.now }
         ensures cause { HasCause (CloseExcused E.Env self.old.state self.old.env.now self.new.env.now)
             (E.failures self.old.env.now) (E.failures self.new.env.now) result }
@@ -180,9 +183,9 @@ impl<'e, E: Env, C: UserCmp + Copy, FP: FilterPolicy + Copy> Store<'e, E, Engine
 
     /// Gives back the lock, where `close` hasn't. Nothing is synced; a closed store does nothing.
     pub fn abandon(self) -> Result<()>
-        ensures step { Answers E.Env (C.cmp self.entry.state.options.cmp) (Some self.entry.state) self.entry.env.now
+        ensures step { Answers E.Env (Some self.entry.state) self.entry.env.now
             abandon (done_or result) None self.exit.0.now }
-        ensures shut { IsShut self.entry.state.mode → (self.exit.0.now ≡ self.entry.env.now) × OnErr result ⊥ }
+        ensures shut { IsClosed self.entry.state.mode → (self.exit.0.now ≡ self.entry.env.now) × OnErr result ⊥ }
         ensures time { TimeGoesOn E.Env self.entry.env.now self.exit.0.now }
         ensures cause { HasCause (λ _. ⊥) (E.failures self.entry.env.now) (E.failures self.exit.0.now) result }
     {

@@ -8,7 +8,7 @@ ghost use Rattle.leveldb_mem.specs.Log.Writer.{AddsRecord, FailsToAdd, Flushes};
 ghost use Rattle.rusty_leveldb.specs.State.{write, flush};
 ghost use Rattle.rusty_leveldb.specs.Serves.{done_or};
 ghost use Rattle.rusty_leveldb.specs.Recovery.{IsErrorFor};
-ghost use Rattle.rusty_leveldb.specs.Engine.{IsHalted, HaltedBy, TimeGoesOn, Answers, WriteExcused, SyncExcused};
+ghost use Rattle.rusty_leveldb.specs.Engine.{IsClosedOrBroken, RefusedByMode, TimeGoesOn, Answers, WriteExcused, SyncExcused};
 
 use super::engine::{Engine, Mode, check_open};
 use super::open::found;
@@ -24,11 +24,11 @@ impl<E: Env, C: UserCmp + Copy, FP: FilterPolicy + Copy> Engine<E, C, FP> {
     /// Gives the key this value, without a sync.
     pub fn put(&mut self, env: &mut E, key: &[u8], value: &[u8]) -> Result<()>
         ensures options { self.new.options ≡ self.old.options }
-        ensures halted { IsHalted self.old.mode self.old.writer → (env.new ≡ env.old) × (self.new ≡ self.old) × IsErrAnd result (HaltedBy self.old.mode self.old.writer) }
-        ensures breaks { E.failures env.old < E.failures env.new → IsHalted self.new.mode self.new.writer }
+        ensures halted { IsClosedOrBroken self.old.mode self.old.writer → (env.new ≡ env.old) × (self.new ≡ self.old) × IsErrAnd result (RefusedByMode self.old.mode self.old.writer) }
+        ensures breaks { E.failures env.old < E.failures env.new → IsClosedOrBroken self.new.mode self.new.writer }
         ensures stays { IsTrue self.new.writer.broken ⊎ (self.new.mode ≡ self.old.mode) }
         ensures time { TimeGoesOn E.Env env.old env.new }
-        ensures step { Answers E.Env (C.cmp self.old.options.cmp) (Some self.old) env.old
+        ensures step { Answers E.Env (Some self.old) env.old
             (write (item_of key.now (Some value.now) ∷ []) false) (done_or result) (Some self.new) env.new }
         ensures cause { HasCause (WriteExcused E.Env self.old env.old env.new (item_of key.now (Some value.now) ∷ []))
             (E.failures env.old) (E.failures env.new) result }
@@ -42,11 +42,11 @@ impl<E: Env, C: UserCmp + Copy, FP: FilterPolicy + Copy> Engine<E, C, FP> {
     /// Deletes the key, without a sync.
     pub fn delete(&mut self, env: &mut E, key: &[u8]) -> Result<()>
         ensures options { self.new.options ≡ self.old.options }
-        ensures halted { IsHalted self.old.mode self.old.writer → (env.new ≡ env.old) × (self.new ≡ self.old) × IsErrAnd result (HaltedBy self.old.mode self.old.writer) }
-        ensures breaks { E.failures env.old < E.failures env.new → IsHalted self.new.mode self.new.writer }
+        ensures halted { IsClosedOrBroken self.old.mode self.old.writer → (env.new ≡ env.old) × (self.new ≡ self.old) × IsErrAnd result (RefusedByMode self.old.mode self.old.writer) }
+        ensures breaks { E.failures env.old < E.failures env.new → IsClosedOrBroken self.new.mode self.new.writer }
         ensures stays { IsTrue self.new.writer.broken ⊎ (self.new.mode ≡ self.old.mode) }
         ensures time { TimeGoesOn E.Env env.old env.new }
-        ensures step { Answers E.Env (C.cmp self.old.options.cmp) (Some self.old) env.old
+        ensures step { Answers E.Env (Some self.old) env.old
             (write (item_of key.now None ∷ []) false) (done_or result) (Some self.new) env.new }
         ensures cause { HasCause (WriteExcused E.Env self.old env.old env.new (item_of key.now None ∷ []))
             (E.failures env.old) (E.failures env.new) result }
@@ -61,11 +61,11 @@ impl<E: Env, C: UserCmp + Copy, FP: FilterPolicy + Copy> Engine<E, C, FP> {
     /// A failed append or sync breaks the store: the batch isn't seen, and may be there when the store is opened again.
     pub fn write(&mut self, env: &mut E, batch: WriteBatch, sync: bool) -> Result<()>
         ensures options { self.new.options ≡ self.old.options }
-        ensures halted { IsHalted self.old.mode self.old.writer → (env.new ≡ env.old) × (self.new ≡ self.old) × IsErrAnd result (HaltedBy self.old.mode self.old.writer) }
-        ensures breaks { E.failures env.old < E.failures env.new → IsHalted self.new.mode self.new.writer }
+        ensures halted { IsClosedOrBroken self.old.mode self.old.writer → (env.new ≡ env.old) × (self.new ≡ self.old) × IsErrAnd result (RefusedByMode self.old.mode self.old.writer) }
+        ensures breaks { E.failures env.old < E.failures env.new → IsClosedOrBroken self.new.mode self.new.writer }
         ensures stays { IsTrue self.new.writer.broken ⊎ (self.new.mode ≡ self.old.mode) }
         ensures time { TimeGoesOn E.Env env.old env.new }
-        ensures step { Answers E.Env (C.cmp self.old.options.cmp) (Some self.old) env.old
+        ensures step { Answers E.Env (Some self.old) env.old
             (write batch.items sync) (done_or result) (Some self.new) env.new }
         ensures cause { HasCause (WriteExcused E.Env self.old env.old env.new batch.items) (E.failures env.old) (E.failures env.new) result }
     {
@@ -85,11 +85,11 @@ impl<E: Env, C: UserCmp + Copy, FP: FilterPolicy + Copy> Engine<E, C, FP> {
     /// Makes a crash keep all batches.
     pub fn flush(&mut self, env: &mut E) -> Result<()>
         ensures options { self.new.options ≡ self.old.options }
-        ensures halted { IsHalted self.old.mode self.old.writer → (env.new ≡ env.old) × (self.new ≡ self.old) × IsErrAnd result (HaltedBy self.old.mode self.old.writer) }
-        ensures ended { OnErr result (IsHalted self.new.mode self.new.writer) }
+        ensures halted { IsClosedOrBroken self.old.mode self.old.writer → (env.new ≡ env.old) × (self.new ≡ self.old) × IsErrAnd result (RefusedByMode self.old.mode self.old.writer) }
+        ensures ended { OnErr result (IsClosedOrBroken self.new.mode self.new.writer) }
         ensures stays { IsTrue self.new.writer.broken ⊎ (self.new.mode ≡ self.old.mode) }
         ensures time { TimeGoesOn E.Env env.old env.new }
-        ensures step { Answers E.Env (C.cmp self.old.options.cmp) (Some self.old) env.old flush (done_or result) (Some self.new) env.new }
+        ensures step { Answers E.Env (Some self.old) env.old flush (done_or result) (Some self.new) env.new }
         ensures cause { HasCause (SyncExcused E.Env self.old env.old env.new) (E.failures env.old) (E.failures env.new) result }
     {
         check_open(self.alloc, self.mode, &self.writer)?;

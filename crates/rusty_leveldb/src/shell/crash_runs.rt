@@ -3,6 +3,7 @@ ghost use Rattle.std.specs.Prelude.{◌≡◌, ◌≤◌, ◌+◌, ◌⊎◌, If
 ghost use Rattle.leveldb_base.specs.Error.{IsOutOfMemory};
 ghost use Rattle.leveldb_env.specs.Picks.{tails_of};
 ghost use Rattle.leveldb_env.specs.Record.{moment_of, CanCrashTo};
+ghost use Rattle.rusty_leveldb.specs.Engine.{opening_of};
 ghost use Rattle.rusty_leveldb.specs.Lives.{IsAlwaysLife, IsCrash, ReportsLives};
 
 use super::commands::{Command, Reply};
@@ -10,6 +11,7 @@ use super::runs::answer;
 use crate::db_impl::Engine;
 use leveldb_base::cmp::UserCmp;
 use leveldb_base::error::{Result, StatusCode, err};
+use leveldb_env::compressor::{CompressorList, Compressors};
 use leveldb_env::env::Env;
 use leveldb_env::filter::FilterPolicy;
 use leveldb_env::mem_env::{Pick, RecordEnv};
@@ -46,8 +48,8 @@ pub fn live<C: UserCmp + Copy, FP: FilterPolicy + Copy>(
     options: Options<C, FP>,
     commands: &[Command],
 ) -> Result<Report>
-    ensures life { IfOk result (λ report. IsAlwaysLife C FP ⟦<RecordEnv as Env>⟧ (C.cmp options.cmp)
-        name.now env.old options.create_if_missing commands.now report env.new) }
+    ensures life { IfOk result (λ report. IsAlwaysLife C FP ⟦<RecordEnv as Env>⟧ name.now env.old
+        (opening_of C.Cmp FP.FilterPolicy ⟦<CompressorList as Compressors>⟧.codings options) commands.now report env.new) }
     ensures time { moment_of env.old ≤ moment_of env.new }
     ensures error { IfErr result (λ e. IsOutOfMemory e × (env.new ≡ env.old)) }
 {
@@ -83,7 +85,8 @@ pub fn lives<C: UserCmp + Copy, FP: FilterPolicy + Copy>(
     name: &str,
     lives: Vec<Life<C, FP>>,
 ) -> Result<Vec<Report>>
-    ensures { ReportsLives ⟦<RecordEnv as Env>⟧ C.cmp name.now lives.items result }
+    ensures { ReportsLives ⟦<RecordEnv as Env>⟧ C.Cmp FP.FilterPolicy
+        ⟦<CompressorList as Compressors>⟧.codings name.now lives.items result }
 {
     let mut env = RecordEnv::new(alloc);
     let mut reports = Vec::new(alloc);

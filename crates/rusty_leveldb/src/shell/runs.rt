@@ -3,7 +3,7 @@ ghost use Rattle.std.specs.Prelude.{◌≡◌, ◌≤◌, ◌⊎◌, ◌++◌, L
 ghost use Rattle.leveldb_base.specs.Error.{IsOutOfMemory};
 ghost use Rattle.leveldb_mem.specs.WriteBatch.{with_item, IsTooLong};
 ghost use Rattle.rusty_leveldb.specs.Causes.{IsLongBatch, HasFailed};
-ghost use Rattle.rusty_leveldb.specs.Engine.{IsStoreName, TimeGoesOn, Answers, OpenExcused};
+ghost use Rattle.rusty_leveldb.specs.Engine.{IsStoreName, TimeGoesOn, Answers, OpenExcused, opening_of};
 ghost use Rattle.rusty_leveldb.specs.Recovery.{NeverOpens};
 ghost use Rattle.rusty_leveldb.specs.Serves.{done_or};
 ghost use Rattle.rusty_leveldb.specs.State as machine;
@@ -13,6 +13,7 @@ use super::commands::{Command, Item, Reply};
 use crate::db_impl::Engine;
 use leveldb_base::cmp::UserCmp;
 use leveldb_base::error::{Result, StatusCode};
+use leveldb_env::compressor::{CompressorList, Compressors};
 use leveldb_env::env::Env;
 use leveldb_env::filter::FilterPolicy;
 use leveldb_env::options::Options;
@@ -30,7 +31,8 @@ pub fn run<E: Env, C: UserCmp + Copy, FP: FilterPolicy + Copy>(
     commands: &[Command],
     replies: &mut Vec<Reply>,
 ) -> Result<()>
-    ensures plays { PlaysAlways C FP E.Env (C.cmp opt.cmp) name.now env.old opt.create_if_missing commands.now
+    ensures plays { PlaysAlways C FP E.Env name.now env.old (opening_of C.Cmp FP.FilterPolicy
+        ⟦<CompressorList as Compressors>⟧.codings opt) commands.now
         (drop (length replies.old.items) replies.new.items) result env.new }
     ensures behind { (given : List Reply) × (replies.new.items ≡ replies.old.items ++ given) × OnOk result (length given ≡ length commands.now) }
     ensures misnamed { (IsStoreName name.now → ⊥) → (env.new ≡ env.old) × (replies.new.items ≡ replies.old.items) × OnOk result ⊥ }
@@ -59,7 +61,7 @@ pub(super) fn answer<E: Env, C: UserCmp + Copy, FP: FilterPolicy + Copy>(
     env: &mut E,
     command: &Command,
 ) -> Reply
-    ensures step { Answers E.Env (C.cmp engine.old.options.cmp) (Some engine.old) env.old (request_of command.now) (answer_of result) (Some engine.new) env.new }
+    ensures step { Answers E.Env (Some engine.old) env.old (request_of command.now) (answer_of result) (Some engine.new) env.new }
     ensures options { engine.new.options ≡ engine.old.options }
     ensures later { E.failures env.old ≤ E.failures env.new }
     ensures time { TimeGoesOn E.Env env.old env.new }
@@ -96,7 +98,7 @@ fn write<E: Env, C: UserCmp + Copy, FP: FilterPolicy + Copy>(
     items: &[Item],
     sync: bool,
 ) -> Result<()>
-    ensures step { Answers E.Env (C.cmp engine.old.options.cmp) (Some engine.old) env.old (machine.write (map change_of items.now) sync) (done_or result) (Some engine.new) env.new }
+    ensures step { Answers E.Env (Some engine.old) env.old (machine.write (map change_of items.now) sync) (done_or result) (Some engine.new) env.new }
     ensures options { engine.new.options ≡ engine.old.options }
     ensures later { E.failures env.old ≤ E.failures env.new }
     ensures time { TimeGoesOn E.Env env.old env.new }

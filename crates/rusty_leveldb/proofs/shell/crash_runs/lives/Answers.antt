@@ -5,7 +5,9 @@ use Rattle.std.proofs.lemmas.Result.{err_from_is_err_and}
 use Rattle.leveldb_env.specs.contracts.mem_env.record.RecordEnvEnv.TheImpl.{ghosts}
 use Rattle.leveldb_env.specs.Picks.{tails_of}
 use Rattle.leveldb_env.specs.Record.{moment_of, CanCrashTo}
+use Rattle.leveldb_env.specs.contracts.compressor.CompressorListCompressors.TheImpl.{ghosts as compressors}
 use Rattle.rusty_leveldb.specs.Lives.{IsCrash, IsAlwaysLife, IsLifeOn}
+use Rattle.rusty_leveldb.specs.Engine.{opening_of}
 use Rattle.rusty_leveldb.proofs.Lives.{next_crash, next_same, reports_more, all_reported, fails_for}
 use Rattle.rusty_leveldb.proofs.shell.crash_runs.lives.Goals as goal
 use Rattle.rusty_leveldb.proofs.shell.crash_runs.lives.Goals.{in-Some-moment+in_ok-env, in_default}
@@ -31,13 +33,13 @@ loop-life-preserved g c =
     let life = c.in-Some.life in
     let report = c.in_ok-report.report in
     let pushed : c.push.new.self.items ≡ c.loop-life.reports.items ++ report ∷ [] = search rules in
-    let is : IsLifeOn ghosts g.C.Cmp.cmp c.args.name.now c.loop-life.env life report c.live.new.env = record {
+    let is : IsLifeOn ghosts g.C.Cmp g.FP.FilterPolicy (compressors g.dyn-2).codings c.args.name.now c.loop-life.env life report c.live.new.env = record {
       from = c.fail.new.self;
       same = c.fail.ensures.same;
       failing = search rules;
-      life_is = subst (λ commands. IsAlwaysLife g.row.C.Denot g.row.FP.Denot ghosts (g.C.Cmp.cmp c.in-Some.life.options.cmp) c.args.name.now c.fail.new.self c.in-Some.life.options.create_if_missing commands report c.live.new.env) c.deref.ensures.value c.in_ok-report.ensures.life;
+      life_is = subst (λ commands. IsAlwaysLife g.row.C.Denot g.row.FP.Denot ghosts c.args.name.now c.fail.new.self (opening_of g.C.Cmp g.FP.FilterPolicy (compressors g.dyn-2).codings c.in-Some.life.options) commands report c.live.new.env) c.deref.ensures.value c.in_ok-report.ensures.life;
     } in
-    let more = reports_more g.C.Cmp.cmp c.args.name.now IsCrash so_far.2.first c.loop-life.yielded c.loop-life.reports.items c.loop-life.env c.live.new.env c.match-moment.env life report so_far.2.reports_are is
+    let more = reports_more g.C.Cmp g.FP.FilterPolicy (compressors g.dyn-2).codings c.args.name.now IsCrash so_far.2.first c.loop-life.yielded c.loop-life.reports.items c.loop-life.env c.live.new.env c.match-moment.env life report so_far.2.reports_are is
     (elim c.match-moment.branch [
       | in-Some-moment+in_ok-env w ↦ next_crash IsCrash (moment_of c.loop-life.env) c.moment-start.result w.in-Some-moment.moment c.in-Some.life.moment c.in-Some.life.pick c.live.new.env w.in_ok-env.env c.match-moment.env w.in-Some-moment.is c.moment-start.ensures w.env-is w.in_ok-env.ensures.crash
       | in_default w ↦ next_same IsCrash (moment_of c.loop-life.env) c.in-Some.life.moment c.in-Some.life.pick c.live.new.env c.match-moment.env w.in_default.is w.env-is
@@ -52,19 +54,19 @@ returns g c =
     let so_far = c.loop-life.invariant in
     let none : c.loop-life.life-iterator.rest.items ≡ [] = nil_from_length c.loop-life.life-iterator.rest.items (omega (arith, c.in-None.ensures.steps.0, c.loop-life.life-iterator.rest.ok)) in
     let all : c.loop-life.yielded ≡ c.args.lives.items = sym (append-nil c.loop-life.yielded) ∙ ap (λ rest. c.loop-life.yielded ++ rest) (sym none) ∙ so_far.1 in
-    all_reported g.C.Cmp.cmp c.args.name.now c.args.lives.items c.loop-life.reports (c.loop-life.env, rw all at so_far.2)
+    all_reported g.C.Cmp g.FP.FilterPolicy (compressors g.dyn-2).codings c.args.name.now c.args.lives.items c.loop-life.reports (c.loop-life.env, rw all at so_far.2)
 
 pub returns-in_err-env : goal.returns-in_err-env
 returns-in_err-env g c =
     let so_far = c.loop-life.invariant in
     let p = err_from_is_err_and c.from_residual-in_err-env.result c.from_residual-in_err-env.ensures.1 in
-    let is : IsLifeOn ghosts g.C.Cmp.cmp c.args.name.now c.loop-life.env c.in-Some.life c.in_ok-report.report c.live.new.env = record {
+    let is : IsLifeOn ghosts g.C.Cmp g.FP.FilterPolicy (compressors g.dyn-2).codings c.args.name.now c.loop-life.env c.in-Some.life c.in_ok-report.report c.live.new.env = record {
       from = c.fail.new.self;
       same = c.fail.ensures.same;
       failing = search rules;
-      life_is = subst (λ commands. IsAlwaysLife g.row.C.Denot g.row.FP.Denot ghosts (g.C.Cmp.cmp c.in-Some.life.options.cmp) c.args.name.now c.fail.new.self c.in-Some.life.options.create_if_missing commands c.in_ok-report.report c.live.new.env) c.deref.ensures.value c.in_ok-report.ensures.life;
+      life_is = subst (λ commands. IsAlwaysLife g.row.C.Denot g.row.FP.Denot ghosts c.args.name.now c.fail.new.self (opening_of g.C.Cmp g.FP.FilterPolicy (compressors g.dyn-2).codings c.in-Some.life.options) commands c.in_ok-report.report c.live.new.env) c.deref.ensures.value c.in_ok-report.ensures.life;
     } in
-    rw (p.1, p.2) (fails_for g.C.Cmp.cmp c.args.name.now c.args.lives.items c.in_err-env.field-0.0
+    rw (p.1, p.2) (fails_for g.C.Cmp g.FP.FilterPolicy (compressors g.dyn-2).codings c.args.name.now c.args.lives.items c.in_err-env.field-0.0
     (⊎_elim inl (λ why. inr (
       why.0,
       record {

@@ -2,14 +2,16 @@ use Rattle.std.proofs.Common.{rules, ◌≡◌, ◌++◌, ◌∷◌, [], length,
 use Rattle.std.proofs.Math.Seq.{drop-length, drop-append_seam}
 use Rattle.std.proofs.lemmas.List.{take_all}
 use Rattle.std.proofs.lemmas.Result.{err_from_is_err_and}
-use Rattle.rusty_leveldb.proofs.Playing.{in_order, play_first, play_more, play_end, not_opened, commands_up_to}
+use Rattle.leveldb_env.specs.contracts.compressor.CompressorListCompressors.TheImpl.{ghosts as compressors}
+use Rattle.rusty_leveldb.proofs.Playing.{play_first, play_more, play_end, not_opened, commands_up_to}
+use Rattle.rusty_leveldb.specs.Engine.{opening_of}
 use Rattle.rusty_leveldb.proofs.shell.runs.run.Goals as goal
 
 pub returns-in_err-engine-clause-plays : goal.returns-in_err-engine-clause-plays
 returns-in_err-engine-clause-plays g c =
     let failed = err_from_is_err_and c.from_residual-in_err-engine.result c.from_residual-in_err-engine.ensures.1 in
     let none : drop (length c.args.replies.now.items) c.reserve.new.self.items ≡ [] = rw c.reserve.ensures.items (drop-length c.args.replies.now.items) in
-    rw failed.1 (not_opened g.row.C.Denot g.row.FP.Denot g.E.Env g.met.E.Env.only_now (g.C.Cmp.cmp c.args.opt.cmp) c.args.name.now c.args.opt c.args.env.now c.open.new.env c.args.opt.create_if_missing c.args.commands.now
+    rw failed.1 (not_opened g.row.C.Denot g.row.FP.Denot g.E.Env (g.met.E.Env.only_now, g.met.E.Env.counts_now) c.args.name.now c.args.opt c.args.env.now c.open.new.env (opening_of g.C.Cmp g.FP.FilterPolicy (compressors g.dyn-2).codings c.args.opt) c.args.commands.now
     (drop (length c.args.replies.now.items) c.reserve.new.self.items) failed.0 none (rw failed.2 c.in_err-engine.ensures.step))
 
 pub loop-command-init : goal.loop-command-init
@@ -20,7 +22,7 @@ loop-command-init g c = (
   [],
   search rules,
   refl,
-  play_first g.row.C.Denot g.row.FP.Denot g.E.Env g.met.E.Env.only_now (g.C.Cmp.cmp c.args.opt.cmp) c.args.name.now c.args.env.now c.open.new.env c.args.opt.create_if_missing c.in_ok-engine.engine c.in_ok-engine.ensures.step,
+  play_first g.row.C.Denot g.row.FP.Denot g.E.Env (g.met.E.Env.only_now, g.met.E.Env.counts_now) c.args.name.now c.args.env.now c.open.new.env (opening_of g.C.Cmp g.FP.FilterPolicy (compressors g.dyn-2).codings c.args.opt) c.in_ok-engine.engine c.in_ok-engine.ensures.step,
   c.in_ok-engine.ensures.time,
 )
 
@@ -33,9 +35,8 @@ loop-command-preserved g c =
     let command = c.command-item.result in
     let reply = c.answer.result in
     let pushed : c.push.new.self.items ≡ c.loop-command.replies.items ++ reply ∷ [] = search rules in
-    let same : g.C.Cmp.cmp c.loop-command.engine.options.cmp ≡ g.C.Cmp.cmp c.args.opt.cmp = rw so_far.0 refl in
-    let step = in_order same c.answer.ensures.step in
-    let more = play_more g.row.C.Denot g.row.FP.Denot g.E.Env g.met.E.Env.only_now (g.C.Cmp.cmp c.args.opt.cmp) c.args.name.now c.args.env.now c.loop-command.env c.answer.new.env c.args.opt.create_if_missing
+    let step = c.answer.ensures.step in
+    let more = play_more g.row.C.Denot g.row.FP.Denot g.E.Env (g.met.E.Env.only_now, g.met.E.Env.counts_now) c.args.name.now c.args.env.now c.loop-command.env c.answer.new.env (opening_of g.C.Cmp g.FP.FilterPolicy (compressors g.dyn-2).codings c.args.opt)
     (take c.loop-command.command-index c.args.commands.now) so_far.3 c.loop-command.engine c.answer.new.engine command reply so_far.6 step in
     let behind = commands_up_to c.args.commands.now c.loop-command.command-index command c.loop-command-test.true c.command-item.is in (
       search rules,
@@ -53,9 +54,8 @@ returns-clause-plays g c =
     let so_far = c.loop-command.invariant in
     let given : drop (length c.args.replies.now.items) c.loop-command.replies.items ≡ so_far.3 = rw so_far.4 (drop-append_seam c.args.replies.now.items so_far.3) in
     let all : take c.loop-command.command-index c.args.commands.now ≡ c.args.commands.now = take_all c.loop-command.command-index c.args.commands.now c.loop-command-test.false in
-    let same : g.C.Cmp.cmp c.loop-command.engine.options.cmp ≡ g.C.Cmp.cmp c.args.opt.cmp = rw so_far.0 refl in
-    let step = in_order same c.abandon.ensures.step in
-    rw given (play_end g.row.C.Denot g.row.FP.Denot g.E.Env g.met.E.Env.only_now (g.C.Cmp.cmp c.args.opt.cmp) c.args.name.now c.args.env.now c.loop-command.env c.abandon.new.env c.args.opt.create_if_missing
+    let step = c.abandon.ensures.step in
+    rw given (play_end g.row.C.Denot g.row.FP.Denot g.E.Env (g.met.E.Env.only_now, g.met.E.Env.counts_now) c.args.name.now c.args.env.now c.loop-command.env c.abandon.new.env (opening_of g.C.Cmp g.FP.FilterPolicy (compressors g.dyn-2).codings c.args.opt)
     c.args.commands.now so_far.3 c.loop-command.engine c.abandon.result (rw all at so_far.6) step)
 
 pub returns-clause-behind : goal.returns-clause-behind

@@ -11,7 +11,7 @@ use Rattle.rusty_leveldb.proofs.shell.runs.write.Goals as goal
 pub returns-in_err-batch-clause-step : goal.returns-in_err-batch-clause-step
 returns-in_err-batch-clause-step g c =
     let failed = err_from_is_err_and c.from_residual-in_err-batch.result c.from_residual-in_err-batch.ensures.1 in
-    rw failed.1 (rw failed.2 (not_written g.E.Env (g.C.Cmp.cmp c.args.engine.now.options.cmp) c.args.engine.now c.in_ok-check_writable.ensures.ok (map change_of c.args.items.now) c.args.sync c.in_err-batch.field-0.0 c.in_err-batch.ensures.cause c.args.env.now))
+    rw failed.1 (rw failed.2 (not_written g.E.Env c.args.engine.now c.in_ok-check_writable.ensures.ok (map change_of c.args.items.now) c.args.sync c.in_err-batch.field-0.0 c.in_err-batch.ensures.cause c.args.env.now))
 
 pub returns-in_err-check_writable-clause-step : goal.returns-in_err-check_writable-clause-step
 returns-in_err-check_writable-clause-step g c =
@@ -20,5 +20,5 @@ returns-in_err-check_writable-clause-step g c =
 
 pub returns-clause-step : goal.returns-clause-step
 returns-clause-step g c =
-    subst (λ items. Answers g.E.Env (g.C.Cmp.cmp c.args.engine.now.options.cmp) (Some c.args.engine.now) c.args.env.now (machine.write items c.args.sync) (done_or c.write.result) (Some c.write.new.self) c.write.new.env)
+    subst (λ items. Answers g.E.Env (Some c.args.engine.now) c.args.env.now (machine.write items c.args.sync) (done_or c.write.result) (Some c.write.new.self) c.write.new.env)
     c.in_ok-batch.ensures.ok c.write.ensures.step

@@ -9,12 +9,12 @@ use Rattle.rusty_leveldb.proofs.db_impl.engine.Engine.close.Goals as goal
 pub returns-in_err-sync-clause-step : goal.returns-in_err-sync-clause-step
 returns-in_err-sync-clause-step g c =
     let p = err_from_is_err_and c.from_residual-in_err-sync.result c.from_residual-in_err-sync.ensures.1 in
-    rw (p.1, p.2) (sync_refused g.E.Env (g.C.Cmp.cmp c.args.self.now.options.cmp) c.args.self.now c.sync.new.self c.args.env.now c.sync.new.env c.in_err-sync.field-0.0
+    rw (p.1, p.2) (sync_refused g.E.Env c.args.self.now c.sync.new.self c.args.env.now c.sync.new.env c.in_err-sync.field-0.0
     c.in_ok-check_open.ensures.ok.0 c.in_err-sync.ensures.rest c.in_err-sync.ensures.mode_err (c.in_err-sync.ensures.unsynced c.in_ok-check_open.ensures.ok.1))
 
 pub returns-in-Err-clause-step : goal.returns-in-Err-clause-step
 returns-in-Err-clause-step g c =
-    unlock_refused g.E.Env (g.C.Cmp.cmp c.args.self.now.options.cmp) c.args.self.now c.sync.new.self c.args.env.now c.sync.new.env c.give_back.new.env
+    unlock_refused g.E.Env c.args.self.now c.sync.new.self c.args.env.now c.sync.new.env c.give_back.new.env
     c.in_ok-check_open.ensures.ok.0 c.in_ok-sync.ensures.rest (c.in_ok-sync.ensures.synced c.in_ok-check_open.ensures.ok.1) c.deref.result.now c.deref.ensures
     c.in-Err.status c.in-Err.ensures.does c.in-Err.ensures.locks c.in-Err.ensures.cause
 
@@ -25,7 +25,7 @@ returns-in-Err-clause-cause g c =
 
 pub returns-clause-step : goal.returns-clause-step
 returns-clause-step g c =
-    unlocked g.E.Env (g.C.Cmp.cmp c.args.self.now.options.cmp) c.args.self.now c.sync.new.self c.args.env.now c.sync.new.env c.give_back.new.env
+    unlocked g.E.Env c.args.self.now c.sync.new.self c.args.env.now c.sync.new.env c.give_back.new.env
     c.in_ok-check_open.ensures.ok.0 c.in_ok-sync.ensures.rest (c.in_ok-sync.ensures.synced c.in_ok-check_open.ensures.ok.1) c.deref.result.now c.deref.ensures
     c.in_default.ensures.does c.in_default.ensures.locks c.in_default.ensures.cause
 
@@ -48,7 +48,7 @@ returns-in_err-check_open-clause-ended g c =
 pub returns-in_err-check_open-clause-step : goal.returns-in_err-check_open-clause-step
 returns-in_err-check_open-clause-step g c store tells old was =
     let p = err_from_is_err_and c.from_residual.result c.from_residual.ensures.1 in
-    rw (p.1, p.2) (shut g.E.Env (g.C.Cmp.cmp c.args.self.now.options.cmp) store c.args.self.now c.args.env.now old was close tt c.in_err-check_open.field-0.0 c.in_err-check_open.ensures.cause c.in_err-check_open.ensures.stuck)
+    rw (p.1, p.2) (shut g.E.Env store c.args.self.now c.args.env.now old was close tt c.in_err-check_open.field-0.0 c.in_err-check_open.ensures.cause c.in_err-check_open.ensures.stuck)
 
 pub returns-in_err-check_open-clause-cause : goal.returns-in_err-check_open-clause-cause
 returns-in_err-check_open-clause-cause g c =

@@ -9,11 +9,11 @@ use Rattle.rusty_leveldb.proofs.db_impl.engine.Engine.flush.Goals as goal
 pub returns-in_err-check_open-clause-step : goal.returns-in_err-check_open-clause-step
 returns-in_err-check_open-clause-step g c store tells old was =
     let p = err_from_is_err_and c.from_residual.result c.from_residual.ensures.1 in
-    rw (p.1, p.2) (shut g.E.Env (g.C.Cmp.cmp c.args.self.now.options.cmp) store c.args.self.now c.args.env.now old was flush tt c.in_err-check_open.field-0.0 c.in_err-check_open.ensures.cause c.in_err-check_open.ensures.stuck)
+    rw (p.1, p.2) (shut g.E.Env store c.args.self.now c.args.env.now old was flush tt c.in_err-check_open.field-0.0 c.in_err-check_open.ensures.cause c.in_err-check_open.ensures.stuck)
 
 pub returns-clause-step : goal.returns-clause-step
 returns-clause-step g c store tells old was =
-    flush_step g.E.Env (g.C.Cmp.cmp c.args.self.now.options.cmp) c.args.self.now c.sync.new.self c.args.env.now c.sync.new.env c.in_ok-check_open.ensures.ok.0 c.sync.ensures.rest tells store old was
+    flush_step g.E.Env c.args.self.now c.sync.new.self c.args.env.now c.sync.new.env c.in_ok-check_open.ensures.ok.0 c.sync.ensures.rest tells store old was
     c.sync.result c.sync.ensures.mode_ok c.sync.ensures.mode_err (c.sync.ensures.synced c.in_ok-check_open.ensures.ok.1) (c.sync.ensures.unsynced c.in_ok-check_open.ensures.ok.1)
 
 pub returns-clause-cause : goal.returns-clause-cause

@@ -13,23 +13,23 @@ use Rattle.rusty_leveldb.proofs.db_impl.engine.Engine.put.Goals as goal
 pub returns-in_err-check_open-clause-step : goal.returns-in_err-check_open-clause-step
 returns-in_err-check_open-clause-step g c store tells old was =
     let p = err_from_is_err_and c.from_residual.result c.from_residual.ensures.1 in
-    rw (p.1, p.2) (shut g.E.Env (g.C.Cmp.cmp c.args.self.now.options.cmp) store c.args.self.now c.args.env.now old was (write (item_of c.args.key.now (Some c.args.value.now) ∷ []) false) tt c.in_err-check_open.field-0.0 c.in_err-check_open.ensures.cause c.in_err-check_open.ensures.stuck)
+    rw (p.1, p.2) (shut g.E.Env store c.args.self.now c.args.env.now old was (write (item_of c.args.key.now (Some c.args.value.now) ∷ []) false) tt c.in_err-check_open.field-0.0 c.in_err-check_open.ensures.cause c.in_err-check_open.ensures.stuck)
 
 pub returns-in_err-batch-clause-step : goal.returns-in_err-batch-clause-step
 returns-in_err-batch-clause-step g c store tells old was =
     let p = err_from_is_err_and c.from_residual-in_err-batch.result c.from_residual-in_err-batch.ensures.1 in
-    rw (p.1, p.2) (memory_goes g.E.Env store c.args.self.now c.args.env.now old was (g.C.Cmp.cmp c.args.self.now.options.cmp) c.in_ok-check_open.ensures.ok.0 (item_of c.args.key.now (Some c.args.value.now) ∷ []) false c.in_err-batch.field-0.0
+    rw (p.1, p.2) (memory_goes g.E.Env store c.args.self.now c.args.env.now old was c.in_ok-check_open.ensures.ok.0 (item_of c.args.key.now (Some c.args.value.now) ∷ []) false c.in_err-batch.field-0.0
     c.args.self.now was c.in_err-batch.ensures.memory)
 
 pub returns-in_err-put-clause-step : goal.returns-in_err-put-clause-step
 returns-in_err-put-clause-step g c store tells old was =
     let p = err_from_is_err_and c.from_residual-in_err-put.result c.from_residual-in_err-put.ensures.1 in
-    rw (p.1, p.2) (unmade_goes g.E.Env store c.args.self.now c.args.env.now old was (g.C.Cmp.cmp c.args.self.now.options.cmp) c.in_ok-check_open.ensures.ok.0 (item_of c.args.key.now (Some c.args.value.now) ∷ []) false c.in_err-put.field-0.0
+    rw (p.1, p.2) (unmade_goes g.E.Env store c.args.self.now c.args.env.now old was c.in_ok-check_open.ensures.ok.0 (item_of c.args.key.now (Some c.args.value.now) ∷ []) false c.in_err-put.field-0.0
     c.in_ok-batch.batch (item_of c.args.key.now (Some c.args.value.now)) c.in_ok-batch.ensures.ok refl c.in_err-put.ensures.cause c.in_err-put.ensures.too_long.0)
 
 pub returns-clause-step : goal.returns-clause-step
 returns-clause-step g c =
-    subst (λ items. Answers g.E.Env (g.C.Cmp.cmp c.args.self.now.options.cmp) (Some c.args.self.now) c.args.env.now (write items false) (done_or c.write.result) (Some c.write.new.self) c.write.new.env)
+    subst (λ items. Answers g.E.Env (Some c.args.self.now) c.args.env.now (write items false) (done_or c.write.result) (Some c.write.new.self) c.write.new.env)
     (one_change c.in_ok-batch.batch c.put.new.self (item_of c.args.key.now (Some c.args.value.now)) c.in_ok-batch.ensures.ok c.in_ok-put.ensures.ok) c.write.ensures.step
 
 pub returns-in_err-check_open-clause-halted : goal.returns-in_err-check_open-clause-halted

@@ -15,18 +15,18 @@ use Rattle.rusty_leveldb.proofs.db_impl.engine.Engine.write.Goals.{then-sync+in_
 pub returns-in_err-check_open-clause-step : goal.returns-in_err-check_open-clause-step
 returns-in_err-check_open-clause-step g c store tells old was =
     let p = err_from_is_err_and c.from_residual.result c.from_residual.ensures.1 in
-    rw (p.1, p.2) (shut g.E.Env (g.C.Cmp.cmp c.args.self.now.options.cmp) store c.args.self.now c.args.env.now old was (write c.args.batch.items c.args.sync) tt c.in_err-check_open.field-0.0 c.in_err-check_open.ensures.cause c.in_err-check_open.ensures.stuck)
+    rw (p.1, p.2) (shut g.E.Env store c.args.self.now c.args.env.now old was (write c.args.batch.items c.args.sync) tt c.in_err-check_open.field-0.0 c.in_err-check_open.ensures.cause c.in_err-check_open.ensures.stuck)
 
 pub returns-in_err-first-clause-step : goal.returns-in_err-first-clause-step
 returns-in_err-first-clause-step g c store tells old was =
     let p = err_from_is_err_and c.from_residual-in_err-first.result c.from_residual-in_err-first.ensures.1 in
-    rw (p.1, p.2) (used_up_goes g.E.Env store c.args.self.now c.args.env.now old was (g.C.Cmp.cmp c.args.self.now.options.cmp) c.in_ok-check_open.ensures.ok.0 c.args.batch.items c.args.sync c.in_err-first.field-0.0 c.count.result c.count.ensures
+    rw (p.1, p.2) (used_up_goes g.E.Env store c.args.self.now c.args.env.now old was c.in_ok-check_open.ensures.ok.0 c.args.batch.items c.args.sync c.in_err-first.field-0.0 c.count.result c.count.ensures
     c.in_err-first.ensures.cause.0 c.in_err-first.ensures.cause.1)
 
 pub returns-in_err-prepare-clause-step : goal.returns-in_err-prepare-clause-step
 returns-in_err-prepare-clause-step g c store tells old was =
     let p = err_from_is_err_and c.from_residual-in_err-prepare.result c.from_residual-in_err-prepare.ensures.1 in
-    rw (p.1, p.2) (unprepared_goes g.E.Env store c.args.self.now c.args.env.now old was (g.C.Cmp.cmp c.args.self.now.options.cmp) c.in_ok-check_open.ensures.ok.0 c.args.batch.items c.args.sync c.in_err-prepare.field-0.0
+    rw (p.1, p.2) (unprepared_goes g.E.Env store c.args.self.now c.args.env.now old was c.in_ok-check_open.ensures.ok.0 c.args.batch.items c.args.sync c.in_err-prepare.field-0.0
     (record c.args.self.now { recent = c.prepare.new.self }) (prepared_was g.E.Env store c.args.self.now c.args.env.now old was c.prepare.new.self c.prepare.ensures.entries c.prepare.ensures.last) c.args.self.now.recent.kept (length c.args.batch.items) (bytes_in c.args.batch.items) c.in_err-prepare.ensures.cause)
 
 pub returns-in_err-prepare-clause-cause : goal.returns-in_err-prepare-clause-cause
@@ -43,7 +43,7 @@ pub returns-in_err-append-clause-step : goal.returns-in_err-append-clause-step
 returns-in_err-append-clause-step g c store tells old was =
     let next : IsNext c.args.self.now.recent.last c.args.batch.items c.contents.result.now = is_next c.args.self.now.recent.last c.in_ok-first.first c.count.result c.args.batch.items c.set_sequence.new.self c.contents.result.now c.in_ok-first.ensures.ok.0 c.in_ok-first.ensures.ok.1 c.in_ok-first.ensures.ok.2 c.count.ensures c.set_sequence.ensures c.contents.ensures c.append.ensures.bytes in
     let p = err_from_is_err_and c.from_residual-in_err-append.result c.from_residual-in_err-append.ensures.1 in
-    rw (p.1, p.2) (refused_append g.E.Env tells store (g.C.Cmp.cmp c.args.self.now.options.cmp) c.args.self.now c.args.env.now old was c.in_ok-check_open.ensures.ok.0 c.prepare.new.self c.prepare.ensures.entries c.prepare.ensures.last c.args.batch.items c.args.sync c.contents.result.now next c.append.new.self c.append.new.env c.in_err-append.field-0.0
+    rw (p.1, p.2) (refused_append g.E.Env tells store c.args.self.now c.args.env.now old was c.in_ok-check_open.ensures.ok.0 c.prepare.new.self c.prepare.ensures.entries c.prepare.ensures.last c.args.batch.items c.args.sync c.contents.result.now next c.append.new.self c.append.new.env c.in_err-append.field-0.0
     c.append.ensures.rest c.append.ensures.mode (c.in_err-append.ensures.err c.in_ok-check_open.ensures.ok.1))
 
 pub returns-in_err-append-clause-cause : goal.returns-in_err-append-clause-cause
@@ -57,7 +57,7 @@ pub returns-in_err-sync-clause-step : goal.returns-in_err-sync-clause-step
 returns-in_err-sync-clause-step g c store tells old was =
     let next : IsNext c.args.self.now.recent.last c.args.batch.items c.contents.result.now = is_next c.args.self.now.recent.last c.in_ok-first.first c.count.result c.args.batch.items c.set_sequence.new.self c.contents.result.now c.in_ok-first.ensures.ok.0 c.in_ok-first.ensures.ok.1 c.in_ok-first.ensures.ok.2 c.count.ensures c.set_sequence.ensures c.contents.ensures c.append.ensures.bytes in
     let p = err_from_is_err_and c.from_residual-in_err-sync.result c.from_residual-in_err-sync.ensures.1 in
-    rw (p.1, p.2) (refused_sync g.E.Env tells store (g.C.Cmp.cmp c.args.self.now.options.cmp) c.args.self.now c.args.env.now old was c.in_ok-check_open.ensures.ok.0 c.prepare.new.self c.prepare.ensures.entries c.prepare.ensures.last c.args.batch.items c.args.sync c.contents.result.now next c.append.new.self c.append.new.env c.append.ensures.rest c.append.ensures.mode c.in_ok-append.ensures.ok.0 c.in_ok-append.ensures.ok.1
+    rw (p.1, p.2) (refused_sync g.E.Env tells store c.args.self.now c.args.env.now old was c.in_ok-check_open.ensures.ok.0 c.prepare.new.self c.prepare.ensures.entries c.prepare.ensures.last c.args.batch.items c.args.sync c.contents.result.now next c.append.new.self c.append.new.env c.append.ensures.rest c.append.ensures.mode c.in_ok-append.ensures.ok.0 c.in_ok-append.ensures.ok.1
     c.sync.new.self c.sync.new.env c.in_err-sync.field-0.0 c.sync.ensures.rest c.in_err-sync.ensures.mode_err
     (c.in_err-sync.ensures.unsynced (still_sound g.E.Env c.args.self.now c.args.env.now c.in_ok-check_open.ensures.ok.0 c.in_ok-check_open.ensures.ok.1 c.args.batch.items c.contents.result.now next c.append.new.self.writer c.append.new.self.log c.append.new.env c.in_ok-append.ensures.ok.0 c.in_ok-append.ensures.ok.1)))
 
@@ -83,10 +83,10 @@ returns-clause-step g c store tells old was =
     let next : IsNext c.args.self.now.recent.last c.args.batch.items c.contents.result.now = is_next c.args.self.now.recent.last c.in_ok-first.first c.count.result c.args.batch.items c.set_sequence.new.self c.contents.result.now c.in_ok-first.ensures.ok.0 c.in_ok-first.ensures.ok.1 c.in_ok-first.ensures.ok.2 c.count.ensures c.set_sequence.ensures c.contents.ensures c.append.ensures.bytes in
     let batch_is : c.set_sequence.new.self ≡ batch_of (c.args.self.now.recent.last + 1) c.args.batch.items = batch_behind c.args.self.now.recent.last c.in_ok-first.first c.args.batch.items c.set_sequence.new.self c.in_ok-first.ensures.ok.0 c.set_sequence.ensures in
     elim c.if-sync.branch [
-      | then-sync+in_ok-sync w ↦ done_with_sync g.E.Env tells store (g.C.Cmp.cmp c.args.self.now.options.cmp) c.args.self.now c.args.env.now old was c.in_ok-check_open.ensures.ok.0 c.prepare.new.self c.prepare.ensures.entries c.prepare.ensures.last c.args.batch.items c.args.sync c.contents.result.now next c.append.new.self c.append.new.env c.append.ensures.rest c.append.ensures.mode c.in_ok-append.ensures.ok.0 c.in_ok-append.ensures.ok.1 c.set_sequence.new.self batch_is c.next.ensures.numbered c.insert.new.self c.if-sync.self c.insert.ensures.inserts c.if-sync.env
+      | then-sync+in_ok-sync w ↦ done_with_sync g.E.Env tells store c.args.self.now c.args.env.now old was c.in_ok-check_open.ensures.ok.0 c.prepare.new.self c.prepare.ensures.entries c.prepare.ensures.last c.args.batch.items c.args.sync c.contents.result.now next c.append.new.self c.append.new.env c.append.ensures.rest c.append.ensures.mode c.in_ok-append.ensures.ok.0 c.in_ok-append.ensures.ok.1 c.set_sequence.new.self batch_is c.next.ensures.numbered c.insert.new.self c.if-sync.self c.insert.ensures.inserts c.if-sync.env
           w.sync.new.self w.sync.new.env w.sync.ensures.rest w.in_ok-sync.ensures.mode_ok
           (w.in_ok-sync.ensures.synced (still_sound g.E.Env c.args.self.now c.args.env.now c.in_ok-check_open.ensures.ok.0 c.in_ok-check_open.ensures.ok.1 c.args.batch.items c.contents.result.now next c.append.new.self.writer c.append.new.self.log c.append.new.env c.in_ok-append.ensures.ok.0 c.in_ok-append.ensures.ok.1)) w.self-is w.env-is
-      | else-sync w ↦ done_plain g.E.Env tells store (g.C.Cmp.cmp c.args.self.now.options.cmp) c.args.self.now c.args.env.now old was c.in_ok-check_open.ensures.ok.0 c.prepare.new.self c.prepare.ensures.entries c.prepare.ensures.last c.args.batch.items c.args.sync c.contents.result.now next c.append.new.self c.append.new.env c.append.ensures.rest c.append.ensures.mode c.in_ok-append.ensures.ok.0 c.in_ok-append.ensures.ok.1 c.set_sequence.new.self batch_is c.next.ensures.numbered c.insert.new.self c.if-sync.self c.insert.ensures.inserts c.if-sync.env w.if-sync.false w.self-is w.env-is
+      | else-sync w ↦ done_plain g.E.Env tells store c.args.self.now c.args.env.now old was c.in_ok-check_open.ensures.ok.0 c.prepare.new.self c.prepare.ensures.entries c.prepare.ensures.last c.args.batch.items c.args.sync c.contents.result.now next c.append.new.self c.append.new.env c.append.ensures.rest c.append.ensures.mode c.in_ok-append.ensures.ok.0 c.in_ok-append.ensures.ok.1 c.set_sequence.new.self batch_is c.next.ensures.numbered c.insert.new.self c.if-sync.self c.insert.ensures.inserts c.if-sync.env w.if-sync.false w.self-is w.env-is
     ]
 
 pub returns-clause-cause : goal.returns-clause-cause
