@@ -8,11 +8,12 @@ use Rattle.table_tests.proofs.round_trip.build_into.Goals as goal
 
 pub returns : goal.returns
 returns g c =
-    let codings = (compressors g.dyn-1).codings c.args.options.now.compressor_list in
+    let codings = (compressors g.dyn-2).codings c.args.options.now.compressor_list in
     let added = c.in_ok-add_pairs.ensures.adds in
     let kept = c.add_pairs.ensures.choices in
     let begun = added.begun [] [] (c.new-core.ensures.begun codings) in
-    IfOk-weaker c.finish.result _ _ (λ size built.
+    IfOk-weaker c.finish.result _ _ (λ size finished.
+    let built = finished.finishes in
     let made = built.made added.bytes (given c.args.pairs.now) begun in
     record {
       bytes = added.bytes ++ built.bytes;
