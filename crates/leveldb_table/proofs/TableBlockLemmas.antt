@@ -6,7 +6,8 @@ use Rattle.std.proofs.lemmas.List.{drop-drop, length-take-le, take_all, take_at,
 use Rattle.std.specs.declared.cmp.Ordering.{Ordering}
 use borrow.Rule.Slice.PartMut.{put_mid, post_of}
 use Rattle.leveldb_base.specs.declared.error.Status.{Status}
-use Rattle.leveldb_base.specs.declared.error.StatusCode.TheVariants.{Corruption, NotFound}
+use Rattle.leveldb_base.specs.declared.error.StatusCode.{StatusCode}
+use Rattle.leveldb_base.specs.declared.error.StatusCode.TheVariants.{Corruption, NotFound, OutOfMemory}
 use Rattle.leveldb_base.specs.Error.{IsOutOfMemory}
 use Rattle.leveldb_base.specs.BlockHandle.{Handle}
 use Rattle.leveldb_base.specs.Types.{Pair}
@@ -24,6 +25,16 @@ pub damaged_or_memory : {T Missing : Type 0} (result : Result T Status) → (IsE
     → IfErr result (λ status. (status.code ≡ Corruption) ⊎ IsOutOfMemory status) → IfErr result (λ status. IsOutOfMemory status ⊎ ((status.code ≡ Corruption) × Missing))
 damaged_or_memory (Ok answer) missing cause = tt
 damaged_or_memory (Err status) missing cause = ⊎_elim (λ code. inr (code, missing code)) (λ memory. inl memory) cause
+
+memory_no_damage : {code : StatusCode} → code ≡ OutOfMemory → code ≡ Corruption → ⊥
+memory_no_damage memory damage = cc
+
+-- an error that is given a place is of the same cause
+pub located_as : {status other : Status} {Missing : Type 0} → (other ≡ status) ⊎ ((status.code ≡ Corruption) × (other.code ≡ Corruption)) → IsOutOfMemory status ⊎ ((status.code ≡ Corruption) × Missing)
+    → IsOutOfMemory other ⊎ ((other.code ≡ Corruption) × Missing)
+located_as {status} {other} {Missing} how why =
+    ⊎_elim (λ (same : other ≡ status). subst (λ z. IsOutOfMemory z ⊎ ((z.code ≡ Corruption) × Missing)) (sym same) why)
+    (λ (codes : (status.code ≡ Corruption) × (other.code ≡ Corruption)). ⊎_elim (λ (memory : IsOutOfMemory status). absurd (memory_no_damage memory.0 codes.0)) (λ damaged. inr (codes.1, damaged.1)) why) how
 
 -- a file that is missing has no bytes
 missing_clash : (bytes : List ℕ) (found : Option File) → found ≡ None → IsSomeAnd found (λ file. bytes_of file ≡ bytes) → ⊥

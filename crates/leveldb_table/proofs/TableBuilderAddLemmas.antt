@@ -1,15 +1,16 @@
 -- What follows from how a pair is added and why one is refused.
-use Rattle.std.proofs.Common.{◌≡◌, ◌≢◌, ℕ, ◌<◌, ◌≤◌, true, refl, List, [], ◌∷◌, length, Result, Ok, Err, inl, inr, ◌⊎◌, ap, subst, arith}
+use Rattle.std.proofs.Common.{◌≡◌, ◌≢◌, ℕ, ◌<◌, ◌≤◌, Bool, true, false, refl, List, [], ◌∷◌, length, None, Result, Ok, Err, inl, inr, ◌⊎◌, ap, subst, arith}
 use Rattle.leveldb_base.specs.Types.{Pair}
 use Rattle.leveldb_base.specs.declared.cmp.Cmp.{Ghosts as CmpGhosts}
 use Rattle.leveldb_base.specs.declared.error.Status.{Status}
-use Rattle.leveldb_env.specs.Compressor.{Codings}
+use Rattle.leveldb_base.specs.Error.{IsOutOfMemory}
+use Rattle.leveldb_env.specs.Compressor.{Codings, IsUnset}
 use Rattle.leveldb_env.specs.declared.filter.FilterPolicy.{Ghosts as PolicyGhosts}
 use Rattle.leveldb_table.specs.Block.{BlockEntry}
 use Rattle.leveldb_table.specs.BlockBuilder.{estimate}
 use Rattle.leveldb_table.specs.TableBuilderStage.{Stage}
 use Rattle.leveldb_table.specs.TableBuilder.{stage, IsFull}
-use Rattle.leveldb_table.specs.TableBuilderAdd.{IsNotAdded, ClosesOpen, HasRoom, TriesOpen, PutsOpen, IsNotClosed, IsNotTaken, IsAddError}
+use Rattle.leveldb_table.specs.TableBuilderAdd.{IsNotAdded, ClosesOpen, HasRoom, TriesOpen, PutsOpen, IsNotClosed, IsNotTaken, IsAddError, TakesNoPair}
 use Rattle.leveldb_table.specs.declared.table_builder.builder_core.BuilderCore.{BuilderCore}
 
 no_entries : (entries : List BlockEntry) → entries ≢ [] → length entries ≡ 0 → ⊥
@@ -59,3 +60,21 @@ module _ {C FP : Type 0} {order : CmpGhosts C} {policy : PolicyGhosts FP} (codin
   pub tries_refused : (pair : Pair) (from : S) (status : Status) (to : S) → IsAddError codings core puts pair from status to → TriesOpen codings core puts from to
   tries_refused pair from status to (inl h) = inl h.2
   tries_refused pair from status to (inr h) = tries_taken pair from status to h.1
+
+-- a builder is broken or it isn't
+pub broken_clash : {broken : Bool} → broken ≡ true → broken ≡ false → ⊥
+broken_clash broken_is unbroken = cc
+
+-- an unbroken builder that doesn't take a pair
+pub takes_no_pair : {C FP S : Type 0} {order : CmpGhosts C} {policy : PolicyGhosts FP} {codings : Codings} {puts : S → List ℕ → Result (Unit {0}) Status → S → Type 0} {old new : BuilderCore C FP order policy} {pair : Pair} {from to : S} {status : Status}
+    → old.broken ≡ false → new.broken ≡ true → new.count ≡ old.count → IsNotTaken codings old puts pair from status to
+    → (IsFull old → codings old.compressor ≡ None → (IsUnset old.compressor status ⊎ IsOutOfMemory status) × (to ≡ from)) → TakesNoPair codings puts old new pair from status to
+takes_no_pair {codings = codings} {puts = puts} {old = old} {pair = pair} {from = from} {to = to} {status = status} unbroken refused still why unset =
+    record {
+      refused = refused;
+      still = still;
+      cause = inr (unbroken, why);
+      sink = tries_taken codings old puts pair from status to why;
+      unset = λ _. unset;
+      broken = λ broken. absurd (broken_clash broken unbroken);
+    }

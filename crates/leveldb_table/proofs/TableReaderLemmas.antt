@@ -1,5 +1,5 @@
 -- What a metaindex says of the filters.
-use Rattle.std.proofs.Common.{◌≡◌, ◌≢◌, ℕ, ◌+◌, Bool, true, false, cond, List, [], ◌∷◌, ◌++◌, length, Option, None, Some, slice_get, nat_lt, if◌then◌else◌, refl, sym, ◌∙◌, ap, subst, ◌⊎◌, map, inl, inr, ⊎_elim, arith, nat_le, ◌/◌, ◌≤◌, add-one, append-nil}
+use Rattle.std.proofs.Common.{◌≡◌, ◌≢◌, ℕ, ◌+◌, ◌^◌, Bool, true, false, cond, Result, Ok, Err, List, [], ◌∷◌, ◌++◌, length, Option, None, Some, slice_get, nat_lt, if◌then◌else◌, refl, sym, ◌∙◌, ap, subst, ◌⊎◌, map, inl, inr, ⊎_elim, arith, nat_le, ◌/◌, ◌≤◌, add-one, append-nil}
 use Rattle.std.specs.Map.{lookup}
 use Rattle.std.specs.Str.{bytes_eq}
 use Rattle.std.specs.declared.cmp.Ordering.{Ordering}
@@ -8,7 +8,7 @@ use Rattle.std.specs.Ordering.{is_lt, ordering_reverse, ordering_then, nat_cmp}
 use Rattle.std.proofs.lemmas.Bool.{false_from_ne_true, ltb-false, cases_eq, and_parts}
 use Rattle.std.proofs.lemmas.Option.{slice_get_past}
 use Rattle.std.proofs.lemmas.Slice.Eq.{bytes_eq-Decides}
-use Rattle.std.specs.Prelude.{IfSome, option_map}
+use Rattle.std.specs.Prelude.{IfSome, IsErrAnd, option_map}
 use Rattle.std.specs.List.{AllByRecursion}
 use Rattle.std.proofs.lemmas.List.{take_all}
 use Rattle.std.specs.Option.{option_map_or}
@@ -20,21 +20,24 @@ use Rattle.leveldb_base.proofs.BlockHandleLemmas.{one_handle}
 use Rattle.leveldb_base.specs.Types.{Pair, count_before, seek_position, pair_at, position_within}
 use Rattle.leveldb_base.proofs.VarintLemmas.{apart_right}
 use Rattle.leveldb_base.specs.declared.error.Status.{Status}
-use Rattle.leveldb_base.specs.declared.error.StatusCode.TheVariants.{Corruption}
+use Rattle.leveldb_base.specs.declared.error.StatusCode.TheVariants.{Corruption, NotSupported}
 use Rattle.leveldb_base.specs.KeyTypes.{internal_cmp, sequence_part, user_part}
 use Rattle.leveldb_base.specs.declared.cmp.Cmp.{Ghosts as CmpGhosts}
 use Rattle.leveldb_env.specs.declared.env.Env.{Ghosts}
 use Rattle.leveldb_env.specs.Compressor.{Codings, Decodes}
-use Rattle.leveldb_env.specs.FilterBlock.{IsFilterBlock, passes}
+use Rattle.leveldb_env.specs.FilterBlock.{IsFilterBlock, FiltersRead, passes}
 use Rattle.leveldb_env.specs.FilterBlockLaws.{one_reading}
 use Rattle.leveldb_table.specs.Block.{RiseAfter, KeysRise, IsBlock, HasEntries, pairs_of}
 use Rattle.leveldb_table.specs.Table.{first_from, Part, IsPart, StoresAt, HasBlockAt, HasFiltersAt, FiltersHold, AllPass, HasTableBlocks, IsTable, DecodesOne, OneTable, index_pair, filter_key, IsAtOrAfterAll, IsBeforeAll, AreParted, PartPasses, named_part, AreAccepted, offset_for}
-use Rattle.leveldb_table.specs.TableReader.{GivesHandle, HasFiltersBy, IsFiltersAt, EndsInFooter, OpensAs, LacksPart, no_footer, no_index, no_metaindex, no_filters, CannotOpen, CanOpen, HasParts, HandlesFit, pairs_in, KeepsUsersTogether, HasNoneFrom}
-use Rattle.leveldb_table.specs.TableBlock.{HasNoFilters, KeepsDisk, FileHas, IsDamaged, IsLackError}
+use Rattle.leveldb_table.specs.TableReader.{GivesHandle, HasFiltersBy, IsFiltersAt, EndsInFooter, HasIndex, LacksIndex, no_footer, no_index, HasNoIndex, OpensTable, OpensAs, LacksPart, not_indexed, no_metaindex, no_filters, CannotOpen, CanOpen, HasParts, HandlesFit, pairs_in, KeepsUsersTogether, HasNoneFrom}
+use Rattle.leveldb_table.specs.TableBlock.{HasNoFilters, KeepsDisk, FileHas, IsDamaged, IsLackError, ReadsFile}
 use Rattle.leveldb_table.specs.BlockLaws.{one_block}
 use Rattle.leveldb_table.specs.Footer.{footer_bytes}
 use Rattle.leveldb_table.specs.TableBuilder.{MatchesByUser}
+use Rattle.leveldb_table.specs.Cache.{Cached}
 use Rattle.leveldb_table.specs.declared.block.Block.{Block}
+use Rattle.leveldb_table.specs.declared.block_cache.CachedBlock.{CachedBlock}
+use Rattle.leveldb_table.specs.declared.table_reader.Table.{Table}
 use Rattle.leveldb_table.proofs.FooterLemmas.{one_footer, length-footer_bytes}
 use Rattle.leveldb_table.proofs.TableBlockLemmas.{HasNoBlock, lacks_none, FileHas-after}
 use Rattle.leveldb_table.proofs.TableLemmas.{all_with, has_one_block, stores_one, all_append, all_left, all_right, rise_right, then_less, turned_from}
@@ -144,55 +147,61 @@ blocks_one {cmp} same first second =
 
 -- ---- why a table isn't opened
 
-module _ {codings : Codings} {cmp : List ℕ → List ℕ → Ordering} {key bytes : List ℕ} {size : ℕ} {meta index : Handle} (ends : EndsInFooter bytes size meta index) where
-  -- a file that can be opened ends in these handles
-  opens_at : {lines : List Pair} {other_meta other_index : Handle} {read : Option (List (List ℕ))} → OpensAs codings cmp key bytes size lines other_meta other_index read → (meta ≡ other_meta) × (index ≡ other_index)
-  opens_at opens =
-      let other = opens.footer in
+module _ {codings : Codings} {cmp : List ℕ → List ℕ → Ordering} {bytes : List ℕ} {size : ℕ} {meta index : Handle} (ends : EndsInFooter bytes size meta index) where
+  -- a file that has an index ends in these handles
+  indexed_at : {lines : List Pair} {other_meta other_index : Handle} → HasIndex codings cmp bytes size lines other_meta other_index → (meta ≡ other_meta) × (index ≡ other_index)
+  indexed_at indexed =
+      let other = indexed.footer in
       ends_one ends.front other.front ends.meta_fits ends.index_fits other.meta_fits other.index_fits ends.ends other.ends
 
-  opens_no_index : HasNoBlock codings cmp bytes index → CannotOpen codings cmp key bytes size
-  opens_no_index none lines other_meta other_index read opens =
-      none opens.index_text lines (subst (λ h. HasBlockAt (Decodes codings) bytes h opens.index_text) (sym (opens_at opens).1) opens.index_is_there) opens.index_block
+  indexed_no_block : HasNoBlock codings cmp bytes index → HasNoIndex codings cmp bytes size
+  indexed_no_block none lines other_meta other_index indexed =
+      none indexed.index_text lines (subst (λ h. HasBlockAt (Decodes codings) bytes h indexed.index_text) (sym (indexed_at indexed).1) indexed.index_is_there) indexed.index_block
 
-  opens_no_meta : HasNoBlock codings bytewise bytes meta → CannotOpen codings cmp key bytes size
+  opens_no_meta : {key : List ℕ} → HasNoBlock codings bytewise bytes meta → CannotOpen codings cmp key bytes size
   opens_no_meta none lines other_meta other_index read opens =
-      none opens.meta_text opens.metas (subst (λ h. HasBlockAt (Decodes codings) bytes h opens.meta_text) (sym (opens_at opens).0) opens.meta_is_there) opens.meta_block
+      none opens.meta_text opens.metas (subst (λ h. HasBlockAt (Decodes codings) bytes h opens.meta_text) (sym (indexed_at opens.indexed).0) opens.meta_is_there) opens.meta_block
 
   -- no filters where the metaindex names some
-  opens_no_filters : (text : List ℕ) (metas : List Pair) → HasBlockAt (Decodes codings) bytes meta text → IsBlock bytewise text metas
+  opens_no_filters : {key : List ℕ} (text : List ℕ) (metas : List Pair) → HasBlockAt (Decodes codings) bytes meta text → IsBlock bytewise text metas
       → ((read : Option (List (List ℕ))) → HasFiltersBy bytes (lookup (bytes_eq key) metas) read → ⊥) → CannotOpen codings cmp key bytes size
-  opens_no_filters text metas there block none lines other_meta other_index read opens =
-      let is_there = subst (λ h. HasBlockAt (Decodes codings) bytes h opens.meta_text) (sym (opens_at opens).0) opens.meta_is_there in
+  opens_no_filters {key} text metas there block none lines other_meta other_index read opens =
+      let is_there = subst (λ h. HasBlockAt (Decodes codings) bytes h opens.meta_text) (sym (indexed_at opens.indexed).0) opens.meta_is_there in
       let pairs = blocks_one (has_one_block codings there is_there) block opens.meta_block in
       none read (subst (λ ms. HasFiltersBy bytes (lookup (bytes_eq key) ms) read) (sym pairs) opens.filtered)
 
-opens_not : {codings : Codings} {cmp : List ℕ → List ℕ → Ordering} {key bytes : List ℕ} {size : ℕ} {status : Status} → LacksPart codings cmp key bytes size status → CannotOpen codings cmp key bytes size
-opens_not (no_footer none code) = λ lines meta at read opens.
-    none meta at opens.footer
-opens_not (no_index meta at ends why) = opens_no_index ends (lacks_none why)
+-- a file that lacks its index has none
+pub indexed_not : {codings : Codings} {cmp : List ℕ → List ℕ → Ordering} {bytes : List ℕ} {size : ℕ} {status : Status} → LacksIndex codings cmp bytes size status → HasNoIndex codings cmp bytes size
+indexed_not (no_footer none code) = λ lines meta at indexed. none meta at indexed.footer
+indexed_not (no_index meta at ends why) = indexed_no_block ends (lacks_none why)
+
+pub opens_not : {codings : Codings} {cmp : List ℕ → List ℕ → Ordering} {key bytes : List ℕ} {size : ℕ} {status : Status} → LacksPart codings cmp key bytes size status → CannotOpen codings cmp key bytes size
+opens_not (not_indexed why) = λ lines meta at read opens. indexed_not why lines meta at opens.indexed
 opens_not (no_metaindex meta at ends why) = opens_no_meta ends (lacks_none why)
 opens_not (no_filters meta at ends text metas there block none code) = opens_no_filters ends text metas there block none
 
--- a file of so many bytes can't be opened, since it lacks a part
-abbrev pub IsNoTable : Codings → (List ℕ → List ℕ → Ordering) → List ℕ → ℕ → List ℕ → Status → Type 0
-IsNoTable codings cmp key size bytes status = CannotOpen codings cmp key bytes size × LacksPart codings cmp key bytes size status
-
-module _ {E F : Type 0} (env : Ghosts E F) {codings : Codings} {cmp : List ℕ → List ℕ → Ordering} {key : List ℕ} {size : ℕ} {old mid : E} {file : F} (kept_disk : KeepsDisk env old mid) (Other : Status → Type 0) where
-  -- what is lacking after Ok calls is a part of it
-  pub lacks : (Part : List ℕ → Status → Type 0)
-      → ((bytes : List ℕ) (status : Status) → FileHas env old file bytes → Part bytes status → LacksPart codings cmp key bytes size status)
-      → (status : Status) → IsLackError env codings Part mid file status → Other status ⊎ IsLackError env codings (IsNoTable codings cmp key size) old file status
-  lacks Part part status why =
-      inr (why.0, λ bytes has. let lacking = part bytes status has (why.1 bytes (FileHas-after env kept_disk has)) in (opens_not lacking, lacking))
+module _ {E F : Type 0} (env : Ghosts E F) (codings : Codings) {old mid : E} {file : F} (kept_disk : KeepsDisk env old mid) where
+  -- what is lacking after Ok calls was lacking before
+  pub lacks : (Part : List ℕ → Status → Type 0) {Whole : List ℕ → Status → Type 0}
+      → ((bytes : List ℕ) (status : Status) → FileHas env old file bytes → Part bytes status → Whole bytes status)
+      → (status : Status) → IsLackError env codings Part mid file status → IsLackError env codings Whole old file status
+  lacks Part part status why = (why.0, λ bytes has. part bytes status has (why.1 bytes (FileHas-after env kept_disk has)))
 
   -- what is damaged after them is
-  pub lacks_damaged : (Missing : List ℕ → Type 0)
-      → ((bytes : List ℕ) (status : Status) → FileHas env old file bytes → Missing bytes → status.code ≡ Corruption → LacksPart codings cmp key bytes size status)
-      → (status : Status) → IsDamaged env Missing mid file status → Other status ⊎ IsLackError env codings (IsNoTable codings cmp key size) old file status
+  pub lacks_damaged : (Missing : List ℕ → Type 0) {Whole : List ℕ → Status → Type 0}
+      → ((bytes : List ℕ) (status : Status) → FileHas env old file bytes → Missing bytes → status.code ≡ Corruption → Whole bytes status)
+      → (status : Status) → IsDamaged env Missing mid file status → IsLackError env codings Whole old file status
   lacks_damaged Missing part status why =
       lacks (λ bytes other. Missing bytes × (other.code ≡ Corruption)) (λ bytes other has none. part bytes other has none.0 none.1) status
       (inl why.0, λ bytes has. (why.1 bytes has, why.0))
+
+module _ {E C FP F : Type 0} {order : CmpGhosts C} {env : Ghosts E F} {codings : Codings} {Is : Table E C FP F order → List ℕ → Type 0} {Filters : Option (FiltersRead FP) → Type 0} {Lacks : List ℕ → Status → Type 0} {cmp : C} {from : F} {old_env new_env : E} {old_cache new_cache : Cached (CachedBlock C order)} where
+  -- a call that opens no table
+  pub opens_err : (P : Status → Type 0) (result : Result (Table E C FP F order) Status) → IsErrAnd result P
+      → ReadsFile env (λ status. ((status.code ≡ NotSupported) × (old_cache.given + 1 ≡ 2 ^ 64)) ⊎ IsLackError env codings Lacks old_env from status) old_env new_env result
+      → new_cache ≡ old_cache → OpensTable env codings Is Filters Lacks cmp from old_env old_cache result new_env new_cache
+  opens_err P (Ok table) none reads same = absurd none
+  opens_err P (Err status) some reads same = record { reads = reads; ok = tt; file = tt; order = tt; policy = tt; id = tt; err = same }
 
 -- ---- a table that is opened
 
@@ -236,16 +245,31 @@ module _ (matches : List ℕ → List ℕ → Bool) (user : List ℕ → List �
 
 module _ {codings : Codings} {cmp : List ℕ → List ℕ → Ordering} {bytes : List ℕ} {parts : List Part} {metas : List Pair} {meta index : Handle} (tabled : HasTableBlocks (Decodes codings) cmp bytes parts metas meta index) where
   -- its metaindex and its index are what is read
-  pub index_read : {key : List ℕ} {lines : List Pair} {read_meta read_index : Handle} {filters : Option (List (List ℕ))} → OpensAs codings cmp key bytes (length bytes) lines read_meta read_index filters
+  pub index_read : {lines : List Pair} {read_meta read_index : Handle} → HasIndex codings cmp bytes (length bytes) lines read_meta read_index
       → (lines ≡ map index_pair parts) × (read_meta ≡ meta) × (read_index ≡ index) × HandlesFit parts
-  index_read opens =
-      let same = ends_read tabled.front tabled.meta_is_there.is_there.fits tabled.index_is_there.is_there.fits tabled.ends opens.footer in
-      let text = has_one_block codings opens.index_is_there (subst (λ h. HasBlockAt (Decodes codings) bytes h tabled.index_text) (sym same.1) tabled.index_is_there) in
-      (blocks_one text opens.index_block tabled.index_block, same.0, same.1, all_with (IsPart (Decodes codings) cmp bytes) (λ part. HandleFits part.handle) (λ part is. is.is_there.is_there.fits) parts tabled.each)
+  index_read indexed =
+      let same = ends_read tabled.front tabled.meta_is_there.is_there.fits tabled.index_is_there.is_there.fits tabled.ends indexed.footer in
+      let text = has_one_block codings indexed.index_is_there (subst (λ h. HasBlockAt (Decodes codings) bytes h tabled.index_text) (sym same.1) tabled.index_is_there) in
+      (blocks_one text indexed.index_block tabled.index_block, same.0, same.1, all_with (IsPart (Decodes codings) cmp bytes) (λ part. HandleFits part.handle) (λ part is. is.is_there.is_there.fits) parts tabled.each)
+
+  -- its index is there
+  pub tables_indexed : HasIndex codings cmp bytes (length bytes) (map index_pair parts) meta index
+  tables_indexed = record {
+    footer = record {
+      within = omega arith;
+      front = tabled.front;
+      ends = take_all (length bytes) bytes (omega arith) ∙ tabled.ends;
+      meta_fits = tabled.meta_is_there.is_there.fits;
+      index_fits = tabled.index_is_there.is_there.fits;
+    };
+    index_text = tabled.index_text;
+    index_is_there = tabled.index_is_there;
+    index_block = tabled.index_block;
+  }
 
   pub metas_read : {key : List ℕ} {lines : List Pair} {read_meta read_index : Handle} {filters : Option (List (List ℕ))} → (opens : OpensAs codings cmp key bytes (length bytes) lines read_meta read_index filters) → opens.metas ≡ metas
   metas_read opens =
-      let same = ends_read tabled.front tabled.meta_is_there.is_there.fits tabled.index_is_there.is_there.fits tabled.ends opens.footer in
+      let same = ends_read tabled.front tabled.meta_is_there.is_there.fits tabled.index_is_there.is_there.fits tabled.ends opens.indexed.footer in
       blocks_one (has_one_block codings opens.meta_is_there (subst (λ h. HasBlockAt (Decodes codings) bytes h tabled.meta_text) (sym same.0) tabled.meta_is_there)) opens.meta_block tabled.meta_block
 
 module _ {codings : Codings} {accepts : List ℕ → Bool} {cmp : List ℕ → List ℕ → Ordering} {meaning : List ℕ → Option (List ℕ → List ℕ → Bool)} {user : List ℕ → List ℕ} {bytes : List ℕ} {pairs : List Pair} (table : IsTable (Decodes codings) accepts cmp meaning user bytes pairs) where
@@ -269,16 +293,7 @@ module _ {codings : Codings} {accepts : List ℕ → Bool} {cmp : List ℕ → L
         index = table.index;
         filters = said.0;
         opens = record {
-          footer = record {
-            within = omega arith;
-            front = tabled.front;
-            ends = take_all (length bytes) bytes (omega arith) ∙ tabled.ends;
-            meta_fits = tabled.meta_is_there.is_there.fits;
-            index_fits = tabled.index_is_there.is_there.fits;
-          };
-          index_text = tabled.index_text;
-          index_is_there = tabled.index_is_there;
-          index_block = tabled.index_block;
+          indexed = tables_indexed tabled;
           meta_text = tabled.meta_text;
           metas = table.metas;
           meta_is_there = tabled.meta_is_there;

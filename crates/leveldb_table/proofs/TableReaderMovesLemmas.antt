@@ -17,16 +17,17 @@ use Rattle.leveldb_table.specs.Cache.{Cached}
 use Rattle.leveldb_table.specs.Table.{Part, index_pair, named_part}
 use Rattle.leveldb_table.specs.BlockCache.{HoldsOnlyOf, IsBlockOfFile, GainsBlocks}
 use Rattle.leveldb_table.specs.TableReaderBlocks.{IsAfterLine, IsBeforeBlock, let_position, IsBlockAt, IsBlockOf, line_of, IsIndexed, MovesFromLine}
-use Rattle.leveldb_table.specs.TableReader.{pairs_in, HasParts}
-use Rattle.leveldb_table.specs.TableBlock.{KeepsDisk, FileHas, ForBytesOf, IsNamedBy, NamesNone, LacksLine}
+use Rattle.leveldb_table.specs.TableReader.{pairs_in, lines_of, HasParts}
+use Rattle.leveldb_table.specs.TableBlock.{KeepsDisk, FileHas, ForBytesOf, IsNamedBy, NamesNone, LacksLine, IsLackError, ReadsFile}
 use Rattle.leveldb_table.specs.TableReaderWalk.{IsAtPairOrNone, IsAtPosition, MovesInTable, Outcome, inner_block, inner_pairs, inner_position, pairs_over, position_over, table_position, TablePosition, IsNamed}
 use Rattle.leveldb_table.specs.BlockLaws.{IsWithin-position}
 use Rattle.leveldb_table.specs.declared.block.Block.{Block}
 use Rattle.leveldb_table.specs.declared.block.owned.BlockWalk.{BlockWalk}
 use Rattle.leveldb_table.specs.declared.block_cache.CachedBlock.{CachedBlock}
+use Rattle.leveldb_table.specs.declared.table_reader.Table.{Table}
 use Rattle.leveldb_table.specs.declared.table_reader.walk.TableCore.{TableCore}
 use Rattle.leveldb_table.specs.Block.{HasEntries}
-use Rattle.leveldb_table.specs.TableReaderMoves.{HasLine, InsideOr, ToBlock, ToFirstPair, ToLastPair, ToNextPair, ToPreviousPair, ToKeyInBlock, ToKeyByLine, ToKeyByLineIfLet, LookUpByLine, LookUpFromLine, line_for, Forward, Backward, ToFirst, ToNextBlock, ToPreviousBlock, ToKey, ToKeyIfLet}
+use Rattle.leveldb_table.specs.TableReaderMoves.{LooksUp, LookUpInTable, HasLine, InsideOr, ToBlock, ToFirstPair, ToLastPair, ToNextPair, ToPreviousPair, ToKeyInBlock, ToKeyByLine, ToKeyByLineIfLet, LookUpByLine, LookUpFromLine, line_for, Forward, Backward, ToFirst, ToNextBlock, ToPreviousBlock, ToKey, ToKeyIfLet}
 use Rattle.leveldb_table.proofs.BlockCacheLemmas.{GainsBlocks-refl, GainsBlocks-trans, GainsBlocks-weaker, HoldsOnlyOf-after}
 use Rattle.leveldb_table.proofs.TableBlockLemmas.{KeepsDisk-refl, FileHas-after, ForBytesOf-before, reads_then, reads_weaker, reads_own, reads_ok, reads_refused}
 use Rattle.leveldb_table.proofs.TableReaderWalkLemmas.{ok_refused, err_holds, some_none, some_there, same_handle, same_value, line_is_of, part_pairs, IsInto, is_there_along, parts_some, named_at, named_none, seek_in, seek_after, previous_block, last_block, lacks_some, next_in}
@@ -621,3 +622,16 @@ module _ {C : Type 0} {order : CmpGhosts C} (codings : Codings) (cmp : List ℕ 
   looked_along lets key {lines} {index_cmp} old out same ordered looked =
       subst (λ (o : List ℕ → List ℕ → Ordering). LookUpFromLine codings cmp bytes lines lets key (seek_position o lines key) out) ordered
       (subst (λ z. LookUpFromLine codings cmp bytes z lets key (seek_position (order.cmp old.index.block.cmp) z key) out) same looked)
+
+module _ {E C FP F : Type 0} {order : CmpGhosts C} {env : EnvGhosts E F} {codings : Codings} {matches : FP → List ℕ → List ℕ → Bool} {table : Table E C FP F order} {key : List ℕ} {old_env new_env : E} {old_cache new_cache : Cached (CachedBlock C order)} where
+  -- a look-up that fails
+  pub looks_up_err : (P : Status → Type 0) (result : Result (Option Pair) Status) → IsErrAnd result P
+      → ReadsFile env (IsLackError env codings (λ bytes status.
+      ((parts : List Part) → lines_of table ≡ map index_pair parts → order.cmp table.index.cmp ≡ order.cmp table.cmp → HasParts codings (order.accepts table.cmp) (order.cmp table.cmp) bytes parts → order.accepts table.cmp key ≡ true
+      → HoldsOnlyOf codings (order.cmp table.cmp) table.id bytes old_cache → ⊥)
+      × (HoldsOnlyOf codings (order.cmp table.cmp) table.id bytes old_cache → LookUpInTable codings matches table key bytes (Err status))) old_env table.file) old_env new_env result
+      → GainsBlocks table.id (λ offset held. ForBytesOf env old_env table.file (λ bytes. IsBlockOfFile codings (order.cmp table.cmp) bytes offset held)) old_cache new_cache
+      → LooksUp env codings matches table key old_env old_cache result new_env new_cache
+  looks_up_err P (Ok found) none reads gathers = absurd none
+  looks_up_err P (Err status) some reads gathers =
+      record { reads = reads; ok = λ bytes has parts lines ordered right fit holds. tt; finds = λ bytes has holds. tt; gathers = gathers }

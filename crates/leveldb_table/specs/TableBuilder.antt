@@ -1,5 +1,5 @@
 -- What the calls of a table builder do to it and to its sink.
-use Rattle.std.specs.Prelude.{◌≡◌, ◌≢◌, ℕ, ◌+◌, ◌*◌, ◌<◌, Bool, true, List, [], ◌∷◌, ◌++◌, length, map, Result, Ok, Option, None, IfSome, codes, string_bytes}
+use Rattle.std.specs.Prelude.{◌≡◌, ◌≢◌, ℕ, ◌+◌, ◌*◌, ◌<◌, Bool, true, false, max, List, [], ◌∷◌, ◌++◌, length, map, Result, Ok, Option, None, IfSome, codes, string_bytes}
 use Rattle.std.specs.List.{AllByRecursion, concat}
 use Rattle.std.specs.declared.cmp.Ordering.{Ordering}
 use Rattle.std.specs.declared.cmp.Ordering.TheVariants.{Less, Greater}
@@ -89,6 +89,22 @@ IsBegun {policy = policy} codings accepts cmp sep matches core written pairs =
     IsLaidOut (Decodes codings) (accepts core.block.cmp) (cmp core.block.cmp) (sep core.block.cmp)
     (matches core.filter.policy) (policy.filter_for core.filter.policy) core.compressor
     (stage core) (first_key (stage core).open_pairs) written pairs
+
+-- What a new builder is: nothing is put, no pair is added, no call has failed, and it has this
+-- comparator, this policy, this compressor's id and these sizes.
+pub record IsNewBuilder {C FP : Type 0} {ordered : CmpGhosts C} {filters : PolicyGhosts FP}
+    (cmp : C) (chosen : FP) (id block_size restarts : ℕ)
+    (core : BuilderCore C FP ordered filters) : Type 0 where
+  pub begun : (codings : Codings) → IsBegun codings ordered.accepts ordered.cmp
+      ordered.shortest_sep filters.matches core [] []
+  pub unbroken : core.broken ≡ false
+  pub none : core.count ≡ 0
+  pub order : order_of core ≡ cmp
+  pub policy : policy_of core ≡ chosen
+  pub compressor : core.compressor ≡ id
+  pub size : core.block_size ≡ block_size
+  -- 0 is taken as 1
+  pub interval : (core.block.interval ≡ max 1 restarts) × (core.index.interval ≡ max 1 restarts)
 
 -- The open block has an entry, and more bytes than a block shall have: the next pair goes into
 -- another.

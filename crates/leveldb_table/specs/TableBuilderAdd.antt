@@ -1,5 +1,5 @@
 -- How a pair is added to a table builder, why that fails, and what an error leaves in the sink.
-use Rattle.std.specs.Prelude.{◌≡◌, ◌⊎◌, ℕ, ◌+◌, ◌/◌, ◌<◌, true, false, List, [], length, Result, Ok}
+use Rattle.std.specs.Prelude.{◌≡◌, ◌≢◌, ◌⊎◌, ℕ, ◌+◌, ◌/◌, ◌<◌, true, false, List, [], ◌∷◌, length, None, Result, Ok}
 use Rattle.std.specs.declared.cmp.Ordering.{Ordering}
 use Rattle.leveldb_base.specs.BlockHandle.{Handle, handle_bytes}
 use Rattle.leveldb_base.specs.Types.{Pair}
@@ -7,7 +7,7 @@ use Rattle.leveldb_base.specs.Error.{IsOutOfMemory}
 use Rattle.leveldb_base.specs.declared.cmp.Cmp.{Ghosts as CmpGhosts}
 use Rattle.leveldb_base.specs.declared.error.Status.{Status}
 use Rattle.leveldb_base.specs.declared.error.StatusCode.TheVariants.{NotSupported}
-use Rattle.leveldb_env.specs.Compressor.{Codings, Decodes}
+use Rattle.leveldb_env.specs.Compressor.{Codings, Decodes, IsUnset}
 use Rattle.leveldb_env.specs.FilterBlock.{IsFilterNotMade}
 use Rattle.leveldb_env.specs.declared.filter.FilterPolicy.{Ghosts as PolicyGhosts}
 use Rattle.leveldb_table.specs.Block.{BlockEntry}
@@ -15,7 +15,7 @@ use Rattle.leveldb_table.specs.BlockBuilder.{IsMade, IsEntryTooLarge}
 use Rattle.leveldb_table.specs.Table.{with_trailer}
 use Rattle.leveldb_table.specs.PutBlock.{PutsBlock, IsNotPut, IsTooLong}
 use Rattle.leveldb_table.specs.TableBuilderStage.{Stage, with_pair, Closes}
-use Rattle.leveldb_table.specs.TableBuilder.{stage, last_of, IsFull, IsBroken}
+use Rattle.leveldb_table.specs.TableBuilder.{stage, last_of, IsBegun, IsFull, IsBroken, AddsPair}
 use Rattle.leveldb_table.specs.declared.table_builder.builder_core.BuilderCore.{BuilderCore}
 
 -- why a pair wasn't added after these entries: out of memory, or it would be one pair too many, or
@@ -111,3 +111,37 @@ module _ {C FP : Type 0} {order : CmpGhosts C} {policy : PolicyGhosts FP} (codin
     IsAddError pair from status to =
         ((core.broken ≡ true) × IsBroken status × (to ≡ from))
         ⊎ ((core.broken ≡ false) × IsNotTaken pair from status to)
+
+-- ---- what a call says that adds a pair
+
+module _ {C FP S : Type 0} {order : CmpGhosts C} {policy : PolicyGhosts FP} (codings : Codings)
+    (puts : S → List ℕ → Result (Unit {0}) Status → S → Type 0)
+    (old new : BuilderCore C FP order policy) (pair : Pair) where
+  -- the pair was added
+  pub record TakesPair (from to : S) : Type 0 where
+    pub added : AddsPair puts
+        (IsBegun codings order.accepts order.cmp order.shortest_sep policy.matches old)
+        (IsBegun codings order.accepts order.cmp order.shortest_sep policy.matches new)
+        from pair to
+    -- a block that was full was put before, in one put, and the pair is the first of the next; for
+    -- that the id has a compressor
+    pub full : IsFull old → (stage new).open_pairs ≡ pair ∷ []
+    pub closed : IsFull old → ClosesBlock codings old puts pair new from to
+    pub stored : IsFull old → codings old.compressor ≢ None
+    -- else nothing was put
+    pub room : (IsFull old → ⊥) → (stage new ≡ with_pair pair (stage old)) × (to ≡ from)
+    pub last : last_of new ≡ pair.0
+    pub count : new.count ≡ old.count + 1
+    pub unbroken : (old.broken ≡ false) × (new.broken ≡ false)
+
+  -- the pair wasn't added, and the builder is broken from then on
+  pub record TakesNoPair (from : S) (status : Status) (to : S) : Type 0 where
+    pub refused : new.broken ≡ true
+    pub still : new.count ≡ old.count
+    pub cause : IsAddError codings old puts pair from status to
+    pub sink : TriesOpen codings old puts from to
+    -- a full block whose id has no compressor isn't put
+    pub unset : old.broken ≡ false → IsFull old → codings old.compressor ≡ None
+        → (IsUnset old.compressor status ⊎ IsOutOfMemory status) × (to ≡ from)
+    -- a call of a builder that is broken does nothing
+    pub broken : old.broken ≡ true → IsBroken status × (to ≡ from) × (new ≡ old)

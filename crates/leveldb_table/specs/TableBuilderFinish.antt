@@ -15,7 +15,7 @@ use Rattle.leveldb_table.specs.Footer.{footer_bytes}
 use Rattle.leveldb_table.specs.Table.{with_trailer, filter_key}
 use Rattle.leveldb_table.specs.PutBlock.{PutsBlock, IsPutError, IsNoMetaindex, StopsFrom, StopsAtFooter}
 use Rattle.leveldb_table.specs.TableBuilderStage.{Stage}
-use Rattle.leveldb_table.specs.TableBuilder.{stage, last_of, IsBroken, PutsEnd}
+use Rattle.leveldb_table.specs.TableBuilder.{stage, last_of, order_of, policy_of, IsBegun, IsBroken, IsBuiltTable, FinishesTable, PutsEnd}
 use Rattle.leveldb_table.specs.TableBuilderAdd.{ClosesOpen, IsNotClosed}
 use Rattle.leveldb_table.specs.declared.table_builder.builder_core.BuilderCore.{BuilderCore}
 
@@ -113,3 +113,14 @@ module _ {C FP : Type 0} {order : CmpGhosts C} {policy : PolicyGhosts FP} (codin
     pub ended : PutsEnd puts flushes (Decodes codings) (order.cmp core.block.cmp)
         (policy.filter_for core.filter.policy) core.compressor (policy.name core.filter.policy) last
         mid size to
+
+  -- the table was finished: it is the one of the pairs that were added, by these puts
+  pub record IsFinished (from : S) (size : ℕ) (to : S) : Type 0 where
+    pub finishes : FinishesTable puts flushes
+        (IsBegun codings order.accepts order.cmp order.shortest_sep policy.matches core)
+        (IsBuiltTable codings (order.accepts (order_of core)) (order.cmp (order_of core))
+        (order.shortest_sep (order_of core)) (order.short_succ (order_of core))
+        (policy.matches (policy_of core)) (policy.filter_for (policy_of core)) core.compressor
+        (policy.name (policy_of core)) core.block.interval core.index.interval) from size to
+    pub pieces : PutsRest from size to
+    pub unbroken : core.broken ≡ false

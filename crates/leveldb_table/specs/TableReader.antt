@@ -1,5 +1,5 @@
 -- What an open table is, and what is found in it.
-use Rattle.std.specs.Prelude.{◌≡◌, ◌≢◌, ◌≤◌, ℕ, Bool, true, if◌then◌else◌, List, ◌++◌, length, take, flat_map, Option, None, Some, IfSome, IsSomeAnd}
+use Rattle.std.specs.Prelude.{◌≡◌, ◌≢◌, ◌⊎◌, ◌≤◌, ◌+◌, ◌^◌, ℕ, Bool, true, if◌then◌else◌, List, ◌++◌, length, take, flat_map, Option, None, Some, IfSome, IsSomeAnd, Result, IfOk, OnErr}
 use Rattle.std.specs.List.{AllByRecursion}
 use Rattle.std.specs.Map.{lookup}
 use Rattle.std.specs.Str.{bytes_eq}
@@ -10,14 +10,18 @@ use Rattle.leveldb_base.specs.BlockHandle.{Handle, handle_bytes, HandleFits}
 use Rattle.leveldb_base.specs.Types.{Pair, seek_position, pair_at}
 use Rattle.leveldb_base.specs.declared.cmp.Cmp.{Ghosts as CmpGhosts}
 use Rattle.leveldb_base.specs.declared.error.Status.{Status}
-use Rattle.leveldb_base.specs.declared.error.StatusCode.TheVariants.{Corruption}
+use Rattle.leveldb_base.specs.declared.error.StatusCode.TheVariants.{Corruption, NotSupported}
+use Rattle.leveldb_env.specs.declared.env.Env.{Ghosts as EnvGhosts}
 use Rattle.leveldb_env.specs.Compressor.{Codings, Decodes}
 use Rattle.leveldb_env.specs.FilterBlock.{IsFilterBlock, FiltersRead, passes}
 use Rattle.leveldb_table.specs.Block.{IsBlock, KeysRise, pairs_of}
 use Rattle.leveldb_table.specs.Footer.{footer_bytes}
-use Rattle.leveldb_table.specs.Table.{Part, IsPart, HasBlockAt, StoresAt, AreParted, AreAccepted, AllPass, filter_key, first_from, named_part}
-use Rattle.leveldb_table.specs.TableBlock.{LacksBlock}
+use Rattle.leveldb_table.specs.Table.{Part, IsPart, HasBlockAt, StoresAt, AreParted, AreAccepted, AllPass, filter_key, first_from, named_part, offset_for}
+use Rattle.leveldb_table.specs.Cache.{Cached}
+use Rattle.leveldb_table.specs.BlockCache.{IsBlockOfFile, GainsBlocks}
+use Rattle.leveldb_table.specs.TableBlock.{LacksBlock, ForBytesOf, IsLackError, ReadsFile}
 use Rattle.leveldb_table.specs.declared.block.Block.{Block}
+use Rattle.leveldb_table.specs.declared.block_cache.CachedBlock.{CachedBlock}
 use Rattle.leveldb_table.specs.declared.table_reader.Table.{Table}
 
 -- ---- what is read when a table is opened
@@ -55,30 +59,41 @@ pub record EndsInFooter (bytes : List ℕ) (size : ℕ) (meta index : Handle) : 
   pub meta_fits : HandleFits meta
   pub index_fits : HandleFits index
 
--- The first `size` bytes of a file end in a footer; where that says, the index has these lines,
--- and the metaindex says under this key where the filters are.
-pub record OpensAs (codings : Codings) (cmp : List ℕ → List ℕ → Ordering) (key bytes : List ℕ)
-    (size : ℕ)
-    (lines : List Pair) (meta index : Handle) (filters : Option (List (List ℕ))) : Type 0 where
+-- the first `size` bytes of a file end in a footer, and where that says, the index has these lines
+pub record HasIndex (codings : Codings) (cmp : List ℕ → List ℕ → Ordering) (bytes : List ℕ)
+    (size : ℕ) (lines : List Pair) (meta index : Handle) : Type 0 where
   pub footer : EndsInFooter bytes size meta index
   pub index_text : List ℕ
   pub index_is_there : HasBlockAt (Decodes codings) bytes index index_text
   pub index_block : IsBlock cmp index_text lines
+
+-- A file has an index, and where its footer says, the metaindex says under this key where the
+-- filters are.
+pub record OpensAs (codings : Codings) (cmp : List ℕ → List ℕ → Ordering) (key bytes : List ℕ)
+    (size : ℕ)
+    (lines : List Pair) (meta index : Handle) (filters : Option (List (List ℕ))) : Type 0 where
+  pub indexed : HasIndex codings cmp bytes size lines meta index
   pub meta_text : List ℕ
   pub metas : List Pair
   pub meta_is_there : HasBlockAt (Decodes codings) bytes meta meta_text
   pub meta_block : IsBlock bytewise meta_text metas
   pub filtered : HasFiltersBy bytes (lookup (bytes_eq key) metas) filters
 
--- A part of the file is lacking, as a status says: its first `size` bytes end in no footer, or the
--- index or the metaindex is lacking where the footer says, or the metaindex names filters under
--- the key that aren't there.
-pub data LacksPart (codings : Codings) (cmp : List ℕ → List ℕ → Ordering) (key bytes : List ℕ)
+-- A file lacks an index, as a status says: its first `size` bytes end in no footer, or the index
+-- is lacking where the footer says.
+pub data LacksIndex (codings : Codings) (cmp : List ℕ → List ℕ → Ordering) (bytes : List ℕ)
     (size : ℕ) (status : Status) : Type 0 where
   no_footer : ((meta index : Handle) → EndsInFooter bytes size meta index → ⊥)
-      → status.code ≡ Corruption → LacksPart codings cmp key bytes size status
+      → status.code ≡ Corruption → LacksIndex codings cmp bytes size status
   no_index : (meta index : Handle) → EndsInFooter bytes size meta index
-      → LacksBlock codings cmp bytes index status → LacksPart codings cmp key bytes size status
+      → LacksBlock codings cmp bytes index status → LacksIndex codings cmp bytes size status
+
+-- A part of the file is lacking, as a status says: the index, or the metaindex where the footer
+-- says, or the metaindex names filters under the key that aren't there.
+pub data LacksPart (codings : Codings) (cmp : List ℕ → List ℕ → Ordering) (key bytes : List ℕ)
+    (size : ℕ) (status : Status) : Type 0 where
+  not_indexed : LacksIndex codings cmp bytes size status
+      → LacksPart codings cmp key bytes size status
   no_metaindex : (meta index : Handle) → EndsInFooter bytes size meta index
       → LacksBlock codings bytewise bytes meta status → LacksPart codings cmp key bytes size status
   no_filters : (meta index : Handle) → EndsInFooter bytes size meta index
@@ -88,11 +103,27 @@ pub data LacksPart (codings : Codings) (cmp : List ℕ → List ℕ → Ordering
       (lookup (bytes_eq key) metas) filters → ⊥) → status.code ≡ Corruption
       → LacksPart codings cmp key bytes size status
 
+-- the file has no index
+abbrev pub HasNoIndex : Codings → (List ℕ → List ℕ → Ordering) → List ℕ → ℕ → Type 0
+HasNoIndex codings cmp bytes size =
+    (lines : List Pair) (meta index : Handle) → HasIndex codings cmp bytes size lines meta index → ⊥
+
 -- the file can't be opened so
 abbrev pub CannotOpen : Codings → (List ℕ → List ℕ → Ordering) → List ℕ → List ℕ → ℕ → Type 0
 CannotOpen codings cmp key bytes size =
     (lines : List Pair) (meta index : Handle) (filters : Option (List (List ℕ)))
     → OpensAs codings cmp key bytes size lines meta index filters → ⊥
+
+-- the file has no index, and the status says why
+abbrev pub IsNoIndex : Codings → (List ℕ → List ℕ → Ordering) → ℕ → List ℕ → Status → Type 0
+IsNoIndex codings cmp size bytes status =
+    HasNoIndex codings cmp bytes size × LacksIndex codings cmp bytes size status
+
+-- the file can't be opened so, and the status says why
+abbrev pub IsNoTable : Codings → (List ℕ → List ℕ → Ordering) → List ℕ → ℕ → List ℕ → Status
+    → Type 0
+IsNoTable codings cmp key size bytes status =
+    CannotOpen codings cmp key bytes size × LacksPart codings cmp key bytes size status
 
 -- ---- data blocks that an index names
 
@@ -188,3 +219,62 @@ module _ {E C FP F : Type 0} {order : CmpGhosts C} where
     | None ↦ true
     | Some reader ↦ passes (matches reader.policy) reader.filters offset key
   ]
+
+  -- the line of its index for a key
+  abbrev pub line_in : Table E C FP F order → List ℕ → Option Pair
+  line_in table key = key_line (order.cmp table.index.cmp) key (lines_of table)
+
+  -- where its metaindex is
+  abbrev pub meta_of : Table E C FP F order → Handle
+  meta_of table = table.footer.meta_index
+
+  -- where the block is that would hold a key, if its index is that of these data blocks
+  abbrev pub offset_in : Table E C FP F order → List ℕ → List Part → ℕ
+  offset_in table key parts = offset_for (order.cmp table.index.cmp) key parts (meta_of table)
+
+  -- a cache gains blocks of the table's file alone
+  abbrev pub GainsBlocksOf : EnvGhosts E F → Codings → Table E C FP F order → E
+      → Cached (CachedBlock C order) → Cached (CachedBlock C order) → Type 0
+  GainsBlocksOf env codings table old_env old_cache new_cache =
+      GainsBlocks table.id (λ offset held. ForBytesOf env old_env table.file
+      (λ bytes. IsBlockOfFile codings (order.cmp table.cmp) bytes offset held)) old_cache new_cache
+
+  -- the file, of these bytes, has this table with its filters
+  abbrev pub IsOpenedAs : Codings → (List ℕ → List ℕ → Ordering) → List ℕ → ℕ
+      → Table E C FP F order → List ℕ → Type 0
+  IsOpenedAs codings cmp key size table bytes =
+      OpensAs codings cmp key bytes size (lines_of table) table.footer.meta_index
+      table.footer.index (filters_of table)
+
+  -- the file, of these bytes, has this table, whatever its metaindex and its filters are
+  abbrev pub IsIndexedAs : Codings → (List ℕ → List ℕ → Ordering) → ℕ → Table E C FP F order
+      → List ℕ → Type 0
+  IsIndexedAs codings cmp size table bytes =
+      HasIndex codings cmp bytes size (lines_of table) table.footer.meta_index table.footer.index
+
+-- filters that are read are of this policy
+abbrev pub AreOfPolicy : {FP : Type 0} → FP → Option (FiltersRead FP) → Type 0
+AreOfPolicy policy filters = IfSome filters (λ reader. reader.policy ≡ policy)
+
+module _ {E C FP F : Type 0} {ordered : CmpGhosts C} where
+  -- What a call says that opens a table in a file, in this order of keys: what the table then is
+  -- by the file's bytes, what its filters are, and what these bytes lack where it fails.
+  pub record OpensTable (env : EnvGhosts E F) (codings : Codings)
+      (Is : Table E C FP F ordered → List ℕ → Type 0)
+      (Filters : Option (FiltersRead FP) → Type 0) (Lacks : List ℕ → Status → Type 0) (cmp : C)
+      (from : F) (old_env : E) (old_cache : Cached (CachedBlock C ordered))
+      (result : Result (Table E C FP F ordered) Status) (new_env : E)
+      (new_cache : Cached (CachedBlock C ordered)) : Type 0 where
+    -- it fails out of memory, at a failure of the device, since the cache's numbers are used up,
+    -- or since a part of the file is lacking
+    pub reads : ReadsFile env
+        (λ status. ((status.code ≡ NotSupported) × (old_cache.given + 1 ≡ 2 ^ 64))
+        ⊎ IsLackError env codings Lacks old_env from status) old_env new_env result
+    pub ok : IfOk result (λ table. ForBytesOf env old_env from (Is table))
+    pub file : IfOk result (λ table. table.file ≡ from)
+    pub order : IfOk result (λ table. (table.cmp ≡ cmp) × (table.index.cmp ≡ cmp))
+    pub policy : IfOk result (λ table. Filters table.filters)
+    -- it gets the cache's next number
+    pub id : IfOk result (λ table. (table.id ≡ old_cache.given + 1)
+        × (new_cache ≡ record old_cache { given = table.id }))
+    pub err : OnErr result (new_cache ≡ old_cache)

@@ -11,11 +11,12 @@ use Rattle.leveldb_env.specs.Compressor.{Codings, Decodes}
 use Rattle.leveldb_table.specs.Cache.{Cached}
 use Rattle.leveldb_table.specs.Table.{Part, HasBlockAt, index_pair, named_part}
 use Rattle.leveldb_table.specs.BlockCache.{HoldsOnlyOf, IsBlockOfFile, GainsBlocks}
-use Rattle.leveldb_table.specs.TableReader.{pairs_in}
+use Rattle.leveldb_table.specs.TableReader.{pairs_in, lines_of}
 use Rattle.leveldb_table.specs.TableBlock.{ForBytesOf, IsLackError, ReadsFile}
 use Rattle.leveldb_table.specs.TableReaderWalk.{Outcome, IsNamed, IsAtPair, IsAtPosition, GivenParts, inner_position, pairs_over, position_over, table_position}
 use Rattle.leveldb_table.specs.declared.block.Block.{Block}
 use Rattle.leveldb_table.specs.declared.block_cache.CachedBlock.{CachedBlock}
+use Rattle.leveldb_table.specs.declared.table_reader.Table.{Table}
 use Rattle.leveldb_table.specs.declared.table_reader.walk.TableCore.{TableCore}
 
 -- After a line of the index comes the line of the first data block that isn't among those in
@@ -79,6 +80,13 @@ module _ {C : Type 0} {order : CmpGhosts C} where
   abbrev pub line_of : TableCore C order → Option Pair
   line_of core = pair_at (pairs_over core.index) (position_over core.index)
 
+  -- a walk over this table that is at no position: its index is the table's
+  pub record StartsOver {E FP F : Type 0} (table : Table E C FP F order)
+      (core : TableCore C order) : Type 0 where
+    pub lines : pairs_over core.index ≡ lines_of table
+    pub ordered : core.index.block.cmp ≡ table.index.cmp
+    pub position : core.inner ≡ None
+
   -- the index is that of these data blocks, in this order of keys
   pub record IsIndexed (cmp : List ℕ → List ℕ → Ordering) (parts : List Part)
       (core : TableCore C order) : Type 0 where
@@ -110,3 +118,14 @@ module _ {C : Type 0} {order : CmpGhosts C} where
         (λ bytes. IsBlockOfFile codings cmp bytes offset held)) old_cache new_cache
     pub same_lines : pairs_over new.index ≡ pairs_over old.index
     pub same_order : new.index.block.cmp ≡ old.index.block.cmp
+
+module _ {E C FP F T : Type 0} {order : CmpGhosts C} where
+  -- such a move over an open table
+  abbrev pub MovesOverFromLine : EnvGhosts E F → Codings → Table E C FP F order
+      → (List Part → Option ℕ → Type 0)
+      → (Codings → (List ℕ → List ℕ → Ordering) → List ℕ → TableCore C order → Outcome → Type 0)
+      → E → Cached (CachedBlock C order) → TableCore C order → Result T Status
+      → E → Cached (CachedBlock C order) → TableCore C order → Type 0
+  MovesOverFromLine env codings table Fit Step old_env old_cache old result new_env new_cache new =
+      MovesFromLine env codings (order.accepts table.cmp) (order.cmp table.cmp) table.id table.file
+      Fit Step old_env old_cache old result new_env new_cache new

@@ -2,18 +2,23 @@
 -- block to block it goes by the lines of the index, in order, and passes over none; it fails where
 -- a block on its way is lacking, or is empty where it moves to its first or last pair, and for no
 -- other block.
-use Rattle.std.specs.Prelude.{◌≡◌, ◌≢◌, ◌⊎◌, ◌+◌, ℕ, Bool, true, false, List, [], Option, None, Some, Ok, Err, IsOkAnd}
+use Rattle.std.specs.Prelude.{◌≡◌, ◌≢◌, ◌⊎◌, ◌+◌, ℕ, Bool, true, false, List, [], map, Option, None, Some, Result, Ok, Err, IfOk, IsOkAnd}
 use Rattle.std.specs.declared.cmp.Ordering.{Ordering}
 use Rattle.leveldb_base.specs.BlockHandle.{Handle, HandleFits}
 use Rattle.leveldb_base.specs.Types.{Pair, position_within, next_position, previous_position, seek_position, pair_at, last_position}
 use Rattle.leveldb_base.specs.declared.cmp.Cmp.{Ghosts as CmpGhosts}
 use Rattle.leveldb_base.specs.declared.error.Status.{Status}
 use Rattle.leveldb_base.specs.declared.error.StatusCode.TheVariants.{Corruption}
+use Rattle.leveldb_env.specs.declared.env.Env.{Ghosts as EnvGhosts}
 use Rattle.leveldb_env.specs.Compressor.{Codings}
 use Rattle.leveldb_table.specs.Block.{IsBlock}
-use Rattle.leveldb_table.specs.TableReader.{lines_of, lets}
-use Rattle.leveldb_table.specs.TableBlock.{IsNamedBy, NamesNone, LacksLine}
-use Rattle.leveldb_table.specs.TableReaderWalk.{TablePosition, Outcome, IsNamed, inner_position, pairs_over, position_over, table_position}
+use Rattle.leveldb_table.specs.Cache.{Cached}
+use Rattle.leveldb_table.specs.BlockCache.{HoldsOnlyOf}
+use Rattle.leveldb_table.specs.Table.{Part, index_pair}
+use Rattle.leveldb_table.specs.TableReader.{lines_of, lets, HasParts, found_in, GainsBlocksOf}
+use Rattle.leveldb_table.specs.TableBlock.{IsNamedBy, NamesNone, LacksLine, ForBytesOf, IsLackError, ReadsFile}
+use Rattle.leveldb_table.specs.TableReaderWalk.{MovesInTable, TablePosition, Outcome, IsNamed, inner_position, pairs_over, position_over, table_position}
+use Rattle.leveldb_table.specs.declared.block_cache.CachedBlock.{CachedBlock}
 use Rattle.leveldb_table.specs.declared.table_reader.Table.{Table}
 use Rattle.leveldb_table.specs.declared.table_reader.walk.TableCore.{TableCore}
 
@@ -132,6 +137,41 @@ module _ {E C FP F : Type 0} {order : CmpGhosts C} where
     pub look_up : LookUpInTable codings matches table key bytes (Ok position)
     pub is : found ≡ pair_at position.pairs position.inner
 
+module _ {E C FP F : Type 0} {order : CmpGhosts C} where
+  -- What a look-up of a key in an open table says, whatever its file is.
+  pub record LooksUp (env : EnvGhosts E F) (codings : Codings)
+      (matches : FP → List ℕ → List ℕ → Bool) (table : Table E C FP F order) (key : List ℕ)
+      (old_env : E) (old_cache : Cached (CachedBlock C order))
+      (result : Result (Option Pair) Status)
+      (new_env : E) (new_cache : Cached (CachedBlock C order)) : Type 0 where
+    -- it fails out of memory, at a failure of the device, or since a block on its way is lacking;
+    -- for none where the file has data blocks that are those of the index
+    pub reads : ReadsFile env (IsLackError env codings (λ bytes status.
+        ((parts : List Part) → lines_of table ≡ map index_pair parts
+        → order.cmp table.index.cmp ≡ order.cmp table.cmp
+        → HasParts codings (order.accepts table.cmp) (order.cmp table.cmp) bytes parts
+        → order.accepts table.cmp key ≡ true
+        → HoldsOnlyOf codings (order.cmp table.cmp) table.id bytes old_cache → ⊥)
+        × (HoldsOnlyOf codings (order.cmp table.cmp) table.id bytes old_cache
+        → LookUpInTable codings matches table key bytes (Err status))) old_env table.file)
+        old_env new_env result
+    -- where the file has such data blocks, it finds the first pair of theirs at or after the key,
+    -- but none where the filters rule the key out
+    pub ok : ForBytesOf env old_env table.file (λ bytes. (parts : List Part)
+        → lines_of table ≡ map index_pair parts
+        → order.cmp table.index.cmp ≡ order.cmp table.cmp
+        → HasParts codings (order.accepts table.cmp) (order.cmp table.cmp) bytes parts
+        → order.accepts table.cmp key ≡ true
+        → HoldsOnlyOf codings (order.cmp table.cmp) table.id bytes old_cache
+        → IfOk result (λ found. found ≡ found_in (order.cmp table.cmp) (lets matches table) key
+        parts))
+    -- in each file it finds what the block of the key's line says, or that of the next line
+    pub finds : ForBytesOf env old_env table.file (λ bytes.
+        HoldsOnlyOf codings (order.cmp table.cmp) table.id bytes old_cache
+        → IfOk result (FindsPair codings matches table key bytes))
+    -- the cache gains blocks of this file alone
+    pub gathers : GainsBlocksOf env codings table old_env old_cache new_cache
+
 -- ---- the moves of a walk
 
 module _ {C : Type 0} {order : CmpGhosts C} where
@@ -192,3 +232,43 @@ module _ {C : Type 0} {order : CmpGhosts C} where
       → List ℕ → TableCore C order → Outcome → Type 0
   ToKeyIfLet lets key codings cmp bytes old out =
       LookUpFromLine codings cmp bytes (pairs_over old.index) lets key (line_for key old) out
+
+-- ---- the moves of a walk over an open table
+
+module _ {E C FP F T : Type 0} {order : CmpGhosts C} (env : EnvGhosts E F) (codings : Codings)
+    (table : Table E C FP F order) where
+  -- a move over the table's file, which leads to a position and is this step
+  abbrev pub MovesOver : (List Part → Type 0) → (List Pair → Option ℕ → Option ℕ)
+      → (Codings → (List ℕ → List ℕ → Ordering) → List ℕ → TableCore C order → Outcome → Type 0)
+      → E → Cached (CachedBlock C order) → TableCore C order → Result T Status
+      → E → Cached (CachedBlock C order) → TableCore C order → Type 0
+  MovesOver Fit to Step old_env old_cache old result new_env new_cache new =
+      MovesInTable env codings (order.accepts table.cmp) (order.cmp table.cmp) table.id table.file
+      Fit to Step old_env old_cache old result new_env new_cache new
+
+  -- to the next pair
+  abbrev pub Advances : E → Cached (CachedBlock C order) → TableCore C order → Result T Status
+      → E → Cached (CachedBlock C order) → TableCore C order → Type 0
+  Advances = MovesOver (λ _. Unit {0}) next_position Forward
+
+  -- to the pair before
+  abbrev pub StepsBack : E → Cached (CachedBlock C order) → TableCore C order → Result T Status
+      → E → Cached (CachedBlock C order) → TableCore C order → Type 0
+  StepsBack = MovesOver (λ _. Unit {0}) (λ _. previous_position) Backward
+
+  -- to the first pair at or after a key, which is accepted
+  abbrev pub SeeksKey : List ℕ → E → Cached (CachedBlock C order) → TableCore C order
+      → Result T Status → E → Cached (CachedBlock C order) → TableCore C order → Type 0
+  SeeksKey key =
+      MovesOver (λ _. order.accepts table.cmp key ≡ true)
+      (λ pairs _. seek_position (order.cmp table.cmp) pairs key) (ToKey key)
+
+  -- to the first pair
+  abbrev pub SeeksFirst : E → Cached (CachedBlock C order) → TableCore C order → Result T Status
+      → E → Cached (CachedBlock C order) → TableCore C order → Type 0
+  SeeksFirst = MovesOver (λ _. Unit {0}) (λ pairs _. position_within pairs 0) ToFirst
+
+  -- to the last pair
+  abbrev pub SeeksLast : E → Cached (CachedBlock C order) → TableCore C order → Result T Status
+      → E → Cached (CachedBlock C order) → TableCore C order → Type 0
+  SeeksLast = MovesOver (λ _. Unit {0}) (λ pairs _. last_position pairs) ToLast

@@ -11,7 +11,7 @@ ghost use Rattle.leveldb_env.specs.Compressor.{Codings, Decodes};
 ghost use Rattle.leveldb_env.specs.FilterBlock.{passes};
 ghost use Rattle.leveldb_table.specs.Table.{Part, HasTableBlocks, IsTable, AllPass, DecodesOne, OneTable, index_pair, filter_key, named_part};
 ghost use Rattle.leveldb_table.specs.TableBuilder.{MatchesByUser, SeparatesUsers};
-ghost use Rattle.leveldb_table.specs.TableReader.{OpensAs, CanOpen, HasParts, HandlesFit, KeepsUsersTogether, HasNoneFrom, pairs_in};
+ghost use Rattle.leveldb_table.specs.TableReader.{HasIndex, OpensAs, CanOpen, HasParts, HandlesFit, KeepsUsersTogether, HasNoneFrom, pairs_in};
 ghost use Rattle.leveldb_base.specs.Varint.{little};
 ghost use Rattle.leveldb_table.specs.Footer.{magic, footer_bytes, ReadsFooter};
 ghost use Rattle.leveldb_table.specs.declared.table_builder.footer.Footer.{Footer};
@@ -20,9 +20,9 @@ ghost use Rattle.leveldb_table.specs.BlockCache.{cache_key, NewIdsHoldNone, Stay
 use crate::table_builder::{FULL_FOOTER_LENGTH, MAGIC_FOOTER_ENCODED, MAGIC_FOOTER_NUMBER};
 use leveldb_base::cmp::{Cmp, InternalKeyCmp, UserCmp};
 
-/// What a file is opened as is what it is: the index has a line for each data block, and the
-/// footer's handles are its own. The data blocks hold the table's pairs, and filters that are read
-/// under a policy's name let pass what the policy must find, where it is known what the name
+/// What a file is opened as is what it is, with its filters or without: the index has a line for
+/// each data block, and the footer's handles are its own. The data blocks hold the table's pairs,
+/// and filters that are read under a policy's name let pass what the policy must find, where it is known what the name
 /// means.
 pub fn opened_tables_are_theirs()
     ensures lines { (codings : Codings) (cmp : List ℕ → List ℕ → Ordering) (key bytes : List ℕ)
@@ -32,10 +32,18 @@ pub fn opened_tables_are_theirs()
         → HasTableBlocks (Decodes codings) cmp bytes parts metas other_meta other_index
         → (lines ≡ map index_pair parts) × (meta ≡ other_meta) × (index ≡ other_index)
         × HandlesFit parts }
+    ensures index { (codings : Codings) (cmp : List ℕ → List ℕ → Ordering) (bytes : List ℕ)
+        (lines : List Pair) (meta index : Handle)
+        (parts : List Part) (metas : List Pair) (other_meta other_index : Handle)
+        → HasIndex codings cmp bytes (length bytes) lines meta index
+        → HasTableBlocks (Decodes codings) cmp bytes parts metas other_meta other_index
+        → (lines ≡ map index_pair parts) × (meta ≡ other_meta) × (index ≡ other_index)
+        × HandlesFit parts }
     ensures parts { (codings : Codings) (accepts : List ℕ → Bool)
         (cmp : List ℕ → List ℕ → Ordering)
         (meaning : List ℕ → Option (List ℕ → List ℕ → Bool)) (user : List ℕ → List ℕ)
-        (bytes : List ℕ) (pairs : List Pair) → (table : IsTable (Decodes codings) accepts cmp meaning user bytes pairs)
+        (bytes : List ℕ) (pairs : List Pair)
+        → (table : IsTable (Decodes codings) accepts cmp meaning user bytes pairs)
         → HasParts codings accepts cmp bytes table.parts × (pairs ≡ pairs_in table.parts) }
     ensures filters { (codings : Codings) (accepts : List ℕ → Bool)
         (cmp : List ℕ → List ℕ → Ordering)
@@ -48,10 +56,14 @@ pub fn opened_tables_are_theirs()
         → IfSome filters (λ texts. AllPass matches user texts table.parts) }
 {}
 
-/// A table can be opened under each policy whose name's meaning is known, so opening it fails for
-/// no damage.
+/// A table can be opened under each policy whose name's meaning is known, and without its filters
+/// whatever these and its metaindex are, so opening it fails for no damage.
 pub fn tables_can_be_opened()
-    ensures { (codings : Codings) (accepts : List ℕ → Bool)
+    ensures index { (codings : Codings) (cmp : List ℕ → List ℕ → Ordering) (bytes : List ℕ)
+        (parts : List Part) (metas : List Pair) (meta index : Handle)
+        → HasTableBlocks (Decodes codings) cmp bytes parts metas meta index
+        → HasIndex codings cmp bytes (length bytes) (map index_pair parts) meta index }
+    ensures filters { (codings : Codings) (accepts : List ℕ → Bool)
         (cmp : List ℕ → List ℕ → Ordering)
         (meaning : List ℕ → Option (List ℕ → List ℕ → Bool)) (matches : List ℕ → List ℕ → Bool)
         (user : List ℕ → List ℕ) (name bytes : List ℕ) (pairs : List Pair)

@@ -5,6 +5,7 @@ pub mod block;
 pub mod block_builder;
 pub mod block_cache;
 pub mod cache;
+mod damage;
 pub mod laws;
 pub mod table_block;
 pub mod table_builder;

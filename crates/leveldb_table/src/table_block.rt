@@ -8,6 +8,7 @@ ghost use Rattle.leveldb_table.specs.Table.{StoresAt, HasBlockAt, with_trailer};
 ghost use Rattle.leveldb_table.specs.TableBlock.{EndsBefore, StoresNothing, HasNoFilters, LacksBlock, ReadsFile, ForBytesOf, IsDamaged, IsLackError};
 
 use crate::block::Block;
+use crate::damage::{corruption, located};
 use crate::table_builder::{TABLE_BLOCK_COMPRESS_LEN, TRAILER};
 use bytes::Bytes;
 use leveldb_base::blockhandle::BlockHandle;
@@ -23,6 +24,8 @@ use std::alloc::Global;
 // So much room is made at first, or less for a smaller block, and then as much again as came,
 // where that is more.
 const STEP: usize = 1 << 16;
+
+const PAST_END: &str = "past the end of the file";
 
 /// The block that a file has at a handle. Where a read is short, it goes on until all bytes came.
 /// `Corruption` for a handle past the file's end, a wrong checksum and bytes that are no block;
@@ -47,7 +50,10 @@ pub fn read_table_block<E: Env, C: Cmp + Drop>(
 {
     let (id, stored) = read_stored(alloc, env, file, location)?;
     let block = compressors.get(alloc, id)?.decode(alloc, stored)?;
-    Block::new(alloc, cmp, Bytes::from_vec(block)?)
+    match Block::new(alloc, cmp, Bytes::from_vec(block)?) {
+        Ok(block) => Ok(block),
+        Err(status) => located(alloc, status, "block", location.offset(), "not a block"),
+    }
 }
 
 /// The filters that a file has at a handle. `InvalidArgument` where the handle's size is 0, which
@@ -78,9 +84,15 @@ pub fn read_filter_block<E: Env, FP: FilterPolicy + Drop>(
     }
     let (id, stored) = read_stored(alloc, env, file, location)?;
     if id != 0 {
-        return err(alloc, StatusCode::Corruption, "a filter block is coded");
+        return corruption(alloc, "filter block", location.offset(), "compressed");
     }
-    FilterBlockReader::new_owned(alloc, policy, stored)
+    match FilterBlockReader::new_owned(alloc, policy, stored) {
+        Ok(filters) => Ok(filters),
+        Err(status) => {
+            let offset = location.offset();
+            located(alloc, status, "filter block", offset, "not a filter block")
+        }
+    }
 }
 
 // The stored bytes at a handle, and the id after them.
@@ -97,15 +109,11 @@ fn read_stored<E: Env>(
 {
     let (offset, size) = (location.offset(), location.size());
     let Some(total) = size.checked_add(TRAILER) else {
-        return err(alloc, StatusCode::Corruption, "a block is past the file");
+        return corruption(alloc, "block", offset, PAST_END);
     };
-    let mut stored = read_bytes(alloc, env, file, offset, total)?;
+    let mut stored = read_bytes(alloc, env, file, "block", offset, total)?;
     let Some(id) = checked_id(&stored, size) else {
-        return err(
-            alloc,
-            StatusCode::Corruption,
-            "a block has a wrong checksum",
-        );
+        return corruption(alloc, "block", offset, "wrong checksum");
     };
     stored.truncate(size);
     Ok((id, stored))
@@ -126,12 +134,13 @@ fn checked_id(bytes: &[u8], size: usize) -> Option<u8>
     Some(stored[size])
 }
 
-/// `size` bytes of a file from `offset` on; `Corruption` where the file ends before. It takes no
-/// more memory than twice what the file gave, and a step.
+/// `size` bytes of a file from `offset` on, which this part of a table has; `Corruption` where the
+/// file ends before. It takes no more memory than twice what the file gave, and a step.
 pub(crate) fn read_bytes<E: Env>(
     alloc: Global,
     env: &mut E,
     file: &E::File,
+    part: &str,
     offset: usize,
     size: usize,
 ) -> Result<Vec<u8>>
@@ -144,14 +153,14 @@ pub(crate) fn read_bytes<E: Env>(
     let mut read = Vec::new(alloc);
     while read.len() < size {
         let Some(next) = offset.checked_add(read.len()) else {
-            return err(alloc, StatusCode::Corruption, "a block is past the file");
+            return corruption(alloc, part, offset, PAST_END);
         };
         let known = read.len();
         let more = (size - known).min(known.max(STEP));
         read.resize(known + more, 0)?;
         let came = read_some(alloc, env, file, next, &mut read[known..])?;
         if came == 0 {
-            return err(alloc, StatusCode::Corruption, "a block is past the file");
+            return corruption(alloc, part, offset, PAST_END);
         }
         read.truncate(known + came);
     }
@@ -177,7 +186,7 @@ fn read_some<E: Env>(
         Ok(count) => Ok(count),
         Err(status) => {
             if status.code == StatusCode::NotFound {
-                return err(alloc, StatusCode::Corruption, "a table's file is missing");
+                return corruption(alloc, "table", offset, "the file is missing");
             }
             Err(status)
         }

@@ -2,11 +2,11 @@
 ghost use Rattle.std.specs.Prelude.{◌≡◌, ◌↔◌, ◌+◌, ◌-◌, ◌^◌, ◌<◌, ◌++◌, ◌∷◌, ◌⊎◌, ◌≢◌, [], List, None, max, true, false, min, IfOk, IfErr, OnOk, OnErr, IsErrAnd, IsTrue};
 ghost use Rattle.std.specs.declared.cmp.Ordering.TheVariants.{Less};
 ghost use Rattle.leveldb_env.specs.Compressor.{Codings, IsUnset};
-ghost use Rattle.leveldb_table.specs.TableBuilderFinish.{PutsRest, IsFinishError, StopsUnset};
+ghost use Rattle.leveldb_table.specs.TableBuilderFinish.{IsFinished, IsFinishError, StopsUnset};
 ghost use Rattle.leveldb_base.specs.Error.{IsOutOfMemory};
 ghost use Rattle.leveldb_table.specs.TableBuilderStage.{with_pair};
-ghost use Rattle.leveldb_table.specs.TableBuilderAdd.{ClosesBlock, TriesOpen, IsAddError};
-ghost use Rattle.leveldb_table.specs.TableBuilder.{stage, last_of, order_of, policy_of, KeepsChoices, IsBegun, IsBroken, IsBuiltTable, IsFull, table_estimate, AddsPair, FinishesTable};
+ghost use Rattle.leveldb_table.specs.TableBuilderAdd.{TakesPair, TakesNoPair};
+ghost use Rattle.leveldb_table.specs.TableBuilder.{IsNewBuilder, stage, last_of, order_of, policy_of, KeepsChoices, IsBegun, IsBroken, IsBuiltTable, IsFull, table_estimate, AddsPair, FinishesTable};
 
 use crate::table_builder::builder_core::BuilderCore;
 use leveldb_base::cmp::{Cmp, InternalKeyCmp, UserCmp};
@@ -50,17 +50,9 @@ impl<Dst: Sink, C: UserCmp + Copy, FP: FilterPolicy + Copy> TableBuilder<Dst, C,
         options: &Options<C, FP>,
         dst: Dst,
     ) -> TableBuilder<Dst, InternalKeyCmp<C>, InternalFilterPolicy<FP>>
-        ensures begun { let Order = ⟦<InternalKeyCmp<C> as Cmp>⟧ in (codings : Codings)
-            → IsBegun codings Order.accepts Order.cmp Order.shortest_sep
-            ⟦<InternalFilterPolicy<FP> as FilterPolicy>⟧.matches result.core [] [] }
-        ensures unbroken { result.core.broken ≡ false }
-        ensures none { result.core.count ≡ 0 }
-        ensures order { order_of result.core ≡ record { 0 = options.now.cmp } }
-        ensures policy { policy_of result.core ≡ options.now.filter_policy }
-        ensures compressor { result.core.compressor ≡ options.now.compressor }
-        ensures size { result.core.block_size ≡ options.now.block_size }
-        ensures interval { (result.core.block.interval ≡ max 1 options.now.block_restart_interval)
-            × (result.core.index.interval ≡ max 1 options.now.block_restart_interval) }
+        ensures new { IsNewBuilder (record { 0 = options.now.cmp }) options.now.filter_policy
+            options.now.compressor options.now.block_size options.now.block_restart_interval
+            result.core }
         ensures dst { result.dst ≡ dst }
     {
         TableBuilder {
@@ -81,16 +73,9 @@ impl<Dst: Sink, C: UserCmp + Copy, FP: FilterPolicy + Copy> TableBuilder<Dst, C,
         options: &Options<C, FP>,
         dst: Dst,
     ) -> TableBuilder<Dst, InternalKeyCmp<C>, NoFilterPolicy>
-        ensures begun { let Order = ⟦<InternalKeyCmp<C> as Cmp>⟧ in (codings : Codings)
-            → IsBegun codings Order.accepts Order.cmp Order.shortest_sep
-            ⟦<NoFilterPolicy as FilterPolicy>⟧.matches result.core [] [] }
-        ensures unbroken { result.core.broken ≡ false }
-        ensures none { result.core.count ≡ 0 }
-        ensures order { order_of result.core ≡ record { 0 = options.now.cmp } }
-        ensures compressor { result.core.compressor ≡ options.now.compressor }
-        ensures size { result.core.block_size ≡ options.now.block_size }
-        ensures interval { (result.core.block.interval ≡ max 1 options.now.block_restart_interval)
-            × (result.core.index.interval ≡ max 1 options.now.block_restart_interval) }
+        ensures new { IsNewBuilder (record { 0 = options.now.cmp }) (policy_of result.core)
+            options.now.compressor options.now.block_size options.now.block_restart_interval
+            result.core }
         ensures dst { result.dst ≡ dst }
     {
         TableBuilder {
@@ -108,16 +93,9 @@ impl<Dst: Sink, C: UserCmp + Copy, FP: FilterPolicy + Copy> TableBuilder<Dst, C,
 impl<Dst: Sink, C: Cmp + Copy, FP: FilterPolicy + Copy> TableBuilder<Dst, C, FP> {
     /// A builder under the options' order and policy as they are. It takes no memory.
     pub fn new_raw(alloc: Global, options: &Options<C, FP>, dst: Dst) -> TableBuilder<Dst, C, FP>
-        ensures begun { (codings : Codings)
-            → IsBegun codings C.accepts C.cmp C.shortest_sep FP.matches result.core [] [] }
-        ensures unbroken { result.core.broken ≡ false }
-        ensures none { result.core.count ≡ 0 }
-        ensures order { order_of result.core ≡ options.now.cmp }
-        ensures policy { policy_of result.core ≡ options.now.filter_policy }
-        ensures compressor { result.core.compressor ≡ options.now.compressor }
-        ensures size { result.core.block_size ≡ options.now.block_size }
-        ensures interval { (result.core.block.interval ≡ max 1 options.now.block_restart_interval)
-            × (result.core.index.interval ≡ max 1 options.now.block_restart_interval) }
+        ensures new { IsNewBuilder options.now.cmp options.now.filter_policy
+            options.now.compressor options.now.block_size options.now.block_restart_interval
+            result.core }
         ensures dst { result.dst ≡ dst }
     {
         TableBuilder {
@@ -168,35 +146,12 @@ impl<Dst: Sink, C: Cmp + Copy, FP: FilterPolicy + Copy> TableBuilder<Dst, C, FP>
         requires rising { self.old.core.broken ≡ false → 0 < self.old.core.count
             → C.cmp (order_of self.old.core) (last_of self.old.core) key.now ≡ Less }
         ensures ok { let codings = ⟦<CompressorList as Compressors>⟧.codings compressors.now in
-            OnOk result (AddsPair Dst.puts (IsBegun codings C.accepts C.cmp C.shortest_sep
-            FP.matches self.old.core) (IsBegun codings C.accepts C.cmp C.shortest_sep FP.matches
-            self.new.core) self.old.dst (key.now, value.now) self.new.dst) }
-        ensures full { OnOk result (IsFull self.old.core → (stage self.new.core).open_pairs
-            ≡ (key.now, value.now) ∷ []) }
-        ensures closed { OnOk result (IsFull self.old.core → ClosesBlock
-            (⟦<CompressorList as Compressors>⟧.codings compressors.now) self.old.core Dst.puts
-            (key.now, value.now) self.new.core self.old.dst self.new.dst) }
-        ensures room { OnOk result ((IsFull self.old.core → ⊥)
-            → (stage self.new.core ≡ with_pair (key.now, value.now) (stage self.old.core))
-            × (self.new.dst ≡ self.old.dst)) }
-        ensures last { OnOk result (last_of self.new.core ≡ key.now) }
-        ensures count { OnOk result (self.new.core.count ≡ self.old.core.count + 1) }
-        ensures unbroken { OnOk result
-            ((self.old.core.broken ≡ false) × (self.new.core.broken ≡ false)) }
-        ensures choices { KeepsChoices self.old.core self.new.core }
-        ensures refused { OnErr result (self.new.core.broken ≡ true) }
-        ensures still { OnErr result (self.new.core.count ≡ self.old.core.count) }
-        ensures cause { IfErr result (λ status. IsAddError (⟦<CompressorList as Compressors>⟧.codings compressors.now) self.old.core Dst.puts
+            OnOk result (TakesPair codings Dst.puts self.old.core self.new.core
+            (key.now, value.now) self.old.dst self.new.dst) }
+        ensures err { let codings = ⟦<CompressorList as Compressors>⟧.codings compressors.now in
+            IfErr result (λ status. TakesNoPair codings Dst.puts self.old.core self.new.core
             (key.now, value.now) self.old.dst status self.new.dst) }
-        ensures unset { self.old.core.broken ≡ false → IsFull self.old.core
-            → ⟦<CompressorList as Compressors>⟧.codings compressors.now self.old.core.compressor
-            ≡ None → IsErrAnd result (λ status. IsUnset self.old.core.compressor status
-            ⊎ IsOutOfMemory status) × (self.new.dst ≡ self.old.dst) }
-        ensures sink { OnErr result (TriesOpen (⟦<CompressorList as Compressors>⟧.codings
-            compressors.now) self.old.core Dst.puts self.old.dst self.new.dst) }
-        ensures broken { self.old.core.broken ≡ true
-            → IsErrAnd result IsBroken × (self.new.dst ≡ self.old.dst) }
-        ensures unchanged { self.old.core.broken ≡ true → self.new.core ≡ self.old.core }
+        ensures choices { KeepsChoices self.old.core self.new.core }
     {
         self.core.add(&mut self.dst, compressors, key, value)
     }
@@ -206,17 +161,8 @@ impl<Dst: Sink, C: Cmp + Copy, FP: FilterPolicy + Copy> TableBuilder<Dst, C, FP>
     /// as `add` does, and where the sink can't be flushed.
     pub fn finish(self, compressors: &CompressorList) -> (Dst, Result<usize>)
         ensures ok { let codings = ⟦<CompressorList as Compressors>⟧.codings compressors.now in
-            IfOk result.1 (λ size. FinishesTable Dst.puts Dst.flushes
-            (IsBegun codings C.accepts C.cmp C.shortest_sep FP.matches self.core)
-            (IsBuiltTable codings (C.accepts (order_of self.core)) (C.cmp (order_of self.core))
-            (C.shortest_sep (order_of self.core)) (C.short_succ (order_of self.core))
-            (FP.matches (policy_of self.core)) (FP.filter_for (policy_of self.core))
-            self.core.compressor (FP.name (policy_of self.core)) self.core.block.interval
-            self.core.index.interval) self.dst size result.0) }
-        ensures pieces { IfOk result.1 (λ size. PutsRest
-            (⟦<CompressorList as Compressors>⟧.codings compressors.now) self.core Dst.puts
-            Dst.flushes self.dst size result.0) }
-        ensures unbroken { OnOk result.1 (self.core.broken ≡ false) }
+            IfOk result.1 (λ size. IsFinished codings self.core Dst.puts Dst.flushes self.dst size
+            result.0) }
         ensures cause { IfErr result.1 (λ status. IsFinishError
             (⟦<CompressorList as Compressors>⟧.codings compressors.now) self.core Dst.puts
             Dst.flushes self.dst status result.0) }

@@ -27,7 +27,7 @@ use leveldb_env::env::Env;
 use leveldb_env::filter::{FilterPolicy, InternalFilterPolicy};
 use leveldb_env::filter_block::FilterBlockReader;
 use leveldb_env::options::Options;
-use open::{read_filters, read_footer};
+use open::{read_filters, read_index};
 use std::alloc::Global;
 
 mod iter;
@@ -56,7 +56,7 @@ impl<E: Env, C: UserCmp + Copy + Drop, FP: FilterPolicy + Copy + Drop> Table<
     InternalFilterPolicy<FP>,
 > {
     ghost use Rattle.leveldb_base.specs.KeyTypes.{internal_cmp};
-    ghost use Rattle.leveldb_table.specs.TableReader.{OpensAs, CannotOpen, LacksPart, lines_of, filters_of};
+    ghost use Rattle.leveldb_table.specs.TableReader.{OpensTable, IsOpenedAs, AreOfPolicy, IsNoTable, IsIndexedAs, IsNoIndex};
 
     /// Opens the table of internal keys whose footer ends at `size` in a file, its length where
     /// the file is one table, under the options' order of users' keys and their filter policy. It
@@ -71,28 +71,12 @@ impl<E: Env, C: UserCmp + Copy + Drop, FP: FilterPolicy + Copy + Drop> Table<
         file: E::File,
         size: usize,
     ) -> Result<Table<E, InternalKeyCmp<C>, InternalFilterPolicy<FP>>>
-        ensures reads { let codings = ⟦<CompressorList as Compressors>⟧.codings
-            options.now.compressor_list in ReadsFile E.Env (λ status.
-            ((status.code ≡ NotSupported) × (cache.old.given + 1 ≡ 2 ^ 64))
-            ⊎ IsLackError E.Env codings (λ bytes status. CannotOpen codings
-            (internal_cmp (C.cmp options.now.cmp))
-            (filter_key (FP.name options.now.filter_policy)) bytes size
-            × LacksPart codings (internal_cmp (C.cmp options.now.cmp))
-            (filter_key (FP.name options.now.filter_policy)) bytes size status) env.old file
-            status) env.old env.new result }
-        ensures ok { IfOk result (λ table. ForBytesOf E.Env env.old file
-            (λ bytes. OpensAs (⟦<CompressorList as Compressors>⟧.codings
-            options.now.compressor_list) (internal_cmp (C.cmp options.now.cmp))
-            (filter_key (FP.name options.now.filter_policy)) bytes size
-            (lines_of table) table.footer.meta_index table.footer.index (filters_of table))) }
-        ensures file { IfOk result (λ table. table.file ≡ file) }
-        ensures order { IfOk result (λ table. (table.cmp ≡ record { 0 = options.now.cmp })
-            × (table.index.cmp ≡ record { 0 = options.now.cmp })) }
-        ensures policy { IfOk result (λ table. IfSome table.filters
-            (λ reader. reader.policy ≡ options.now.filter_policy)) }
-        ensures id { IfOk result (λ table. (table.id ≡ cache.old.given + 1)
-            × (cache.new ≡ record cache.old { given = table.id })) }
-        ensures err { OnErr result (cache.new ≡ cache.old) }
+        ensures { let codings = ⟦<CompressorList as Compressors>⟧.codings
+            options.now.compressor_list in let cmp = internal_cmp (C.cmp options.now.cmp) in
+            let key = filter_key (FP.name options.now.filter_policy) in
+            OpensTable E.Env codings (IsOpenedAs codings cmp key size)
+            (AreOfPolicy options.now.filter_policy) (IsNoTable codings cmp key size)
+            (record { 0 = options.now.cmp }) file env.old cache.old result env.new cache.new }
     {
         Table::open(
             alloc,
@@ -105,10 +89,37 @@ impl<E: Env, C: UserCmp + Copy + Drop, FP: FilterPolicy + Copy + Drop> Table<
             size,
         )
     }
+
+    /// `new`, but the table has no filters, and its metaindex is not read: so a table whose
+    /// filters are damaged can be read.
+    pub fn new_no_filter(
+        alloc: Global,
+        options: &Options<C, FP>,
+        env: &mut E,
+        cache: &mut BlockCache<InternalKeyCmp<C>>,
+        file: E::File,
+        size: usize,
+    ) -> Result<Table<E, InternalKeyCmp<C>, InternalFilterPolicy<FP>>>
+        ensures { let codings = ⟦<CompressorList as Compressors>⟧.codings
+            options.now.compressor_list in let cmp = internal_cmp (C.cmp options.now.cmp) in
+            OpensTable E.Env codings (IsIndexedAs codings cmp size) (λ filters. filters ≡ None)
+            (IsNoIndex codings cmp size) (record { 0 = options.now.cmp }) file env.old cache.old
+            result env.new cache.new }
+    {
+        Table::open_no_filter(
+            alloc,
+            InternalKeyCmp(options.cmp),
+            &options.compressor_list,
+            env,
+            cache,
+            file,
+            size,
+        )
+    }
 }
 
 impl<E: Env, C: Cmp + Copy + Drop, FP: FilterPolicy + Drop> Table<E, C, FP> {
-    ghost use Rattle.leveldb_table.specs.TableReader.{OpensAs, CannotOpen, LacksPart, lines_of, filters_of};
+    ghost use Rattle.leveldb_table.specs.TableReader.{OpensTable, IsOpenedAs, AreOfPolicy, IsNoTable, IsIndexedAs, IsNoIndex};
 
     /// Opens the table whose footer ends at `size` in a file, under this order and this policy as
     /// they are.
@@ -122,26 +133,13 @@ impl<E: Env, C: Cmp + Copy + Drop, FP: FilterPolicy + Drop> Table<E, C, FP> {
         file: E::File,
         size: usize,
     ) -> Result<Table<E, C, FP>>
-        ensures reads { let codings = ⟦<CompressorList as Compressors>⟧.codings compressors.now in
-            ReadsFile E.Env (λ status. ((status.code ≡ NotSupported)
-            × (cache.old.given + 1 ≡ 2 ^ 64)) ⊎ IsLackError E.Env codings
-            (λ bytes status. CannotOpen codings (C.cmp cmp) (filter_key (FP.name policy)) bytes
-            size × LacksPart codings (C.cmp cmp) (filter_key (FP.name policy)) bytes size status)
-            env.old file status) env.old env.new result }
-        ensures ok { IfOk result (λ table. ForBytesOf E.Env env.old file
-            (λ bytes. OpensAs (⟦<CompressorList as Compressors>⟧.codings compressors.now)
-            (C.cmp cmp) (filter_key (FP.name policy)) bytes size
-            (lines_of table) table.footer.meta_index table.footer.index (filters_of table))) }
-        ensures file { IfOk result (λ table. table.file ≡ file) }
-        ensures order { IfOk result (λ table. (table.cmp ≡ cmp) × (table.index.cmp ≡ cmp)) }
-        ensures policy { IfOk result
-            (λ table. IfSome table.filters (λ reader. reader.policy ≡ policy)) }
-        ensures id { IfOk result (λ table. (table.id ≡ cache.old.given + 1)
-            × (cache.new ≡ record cache.old { given = table.id })) }
-        ensures err { OnErr result (cache.new ≡ cache.old) }
+        ensures { let codings = ⟦<CompressorList as Compressors>⟧.codings compressors.now in
+            let key = filter_key (FP.name policy) in
+            OpensTable E.Env codings (IsOpenedAs codings (C.cmp cmp) key size)
+            (AreOfPolicy policy) (IsNoTable codings (C.cmp cmp) key size) cmp file env.old
+            cache.old result env.new cache.new }
     {
-        let footer = read_footer(alloc, env, &file, size)?;
-        let index = read_table_block(alloc, cmp, env, &file, compressors, footer.index)?;
+        let (footer, index) = read_index(alloc, cmp, env, &file, compressors, size)?;
         let metas = read_table_block(
             alloc,
             DefaultCmp,
@@ -161,30 +159,56 @@ impl<E: Env, C: Cmp + Copy + Drop, FP: FilterPolicy + Drop> Table<E, C, FP> {
             filters,
         })
     }
+
+    /// `open`, but the table has no filters, and its metaindex is not read.
+    pub fn open_no_filter(
+        alloc: Global,
+        cmp: C,
+        compressors: &CompressorList,
+        env: &mut E,
+        cache: &mut BlockCache<C>,
+        file: E::File,
+        size: usize,
+    ) -> Result<Table<E, C, FP>>
+        ensures { let codings = ⟦<CompressorList as Compressors>⟧.codings compressors.now in
+            OpensTable E.Env codings (IsIndexedAs codings (C.cmp cmp) size)
+            (λ filters. filters ≡ None) (IsNoIndex codings (C.cmp cmp) size) cmp file env.old
+            cache.old result env.new cache.new }
+    {
+        let (footer, index) = read_index(alloc, cmp, env, &file, compressors, size)?;
+        let id = cache.new_cache_id()?;
+        Ok(Table {
+            cmp,
+            file,
+            id,
+            footer,
+            index,
+            filters: None,
+        })
+    }
 }
 
 impl<E: Env, C: Cmp + Copy + Drop, FP: FilterPolicy> Table<E, C, FP> {
-    ghost use Rattle.leveldb_table.specs.TableReader.{HasParts, HandlesFit, IsOffsetBy, found_in, key_line, lines_of, lets};
-    ghost use Rattle.leveldb_table.specs.TableReaderMoves.{LookUpInTable, FindsPair};
+    ghost use Rattle.leveldb_table.specs.TableReader.{HandlesFit, IsOffsetBy, lines_of, line_in, meta_of, offset_in, lets, GainsBlocksOf};
+    ghost use Rattle.leveldb_table.specs.TableReaderMoves.{LooksUp};
 
     /// The offset of the block that would hold the key, and past the last that of the metaindex.
     /// `Corruption` where the index's line for the key names no handle.
     pub fn approx_offset_of(&self, alloc: Global, key: &[u8]) -> Result<usize>
         ensures ok { (parts : List Part) → lines_of self.now ≡ map index_pair parts
-            → HandlesFit parts → IfOk result (λ offset. offset
-            ≡ offset_for (C.cmp self.now.index.cmp) key.now parts self.now.footer.meta_index) }
-        ensures line { IfOk result (IsOffsetBy (key_line (C.cmp self.now.index.cmp) key.now
-            (lines_of self.now)) self.now.footer.meta_index.offset) }
+            → HandlesFit parts
+            → IfOk result (λ offset. offset ≡ offset_in self.now key.now parts) }
+        ensures line { IfOk result
+            (IsOffsetBy (line_in self.now key.now) (meta_of self.now).offset) }
         ensures cause { IfErr result (λ status. IsOutOfMemory status
-            ⊎ ((status.code ≡ Corruption) × NamesNone (key_line (C.cmp self.now.index.cmp) key.now
-            (lines_of self.now)))) }
+            ⊎ ((status.code ≡ Corruption) × NamesNone (line_in self.now key.now))) }
     {
         let mut lines = self.index.iter(alloc);
         lines.seek(key)?;
         let Some((_, value)) = lines.current() else {
             return Ok(self.footer.meta_index.offset());
         };
-        Ok(whole_handle(alloc, value)?.offset())
+        Ok(whole_handle(alloc, value, BAD_LINE)?.offset())
     }
 
     /// The first pair at or after the key, or none where the filters rule out the key at the block
@@ -198,33 +222,9 @@ impl<E: Env, C: Cmp + Copy + Drop, FP: FilterPolicy> Table<E, C, FP> {
         compressors: &CompressorList,
         key: &[u8],
     ) -> Result<Option<(Bytes, Bytes)>>
-        ensures reads { let codings = ⟦<CompressorList as Compressors>⟧.codings compressors.now in
-            ReadsFile E.Env (IsLackError E.Env codings (λ bytes status.
-            ((parts : List Part) → lines_of self.now ≡ map index_pair parts
-            → C.cmp self.now.index.cmp ≡ C.cmp self.now.cmp
-            → HasParts codings (C.accepts self.now.cmp) (C.cmp self.now.cmp) bytes parts
-            → C.accepts self.now.cmp key.now ≡ true
-            → HoldsOnlyOf codings (C.cmp self.now.cmp) self.now.id bytes cache.old → ⊥)
-            × (HoldsOnlyOf codings (C.cmp self.now.cmp) self.now.id bytes cache.old
-            → LookUpInTable codings FP.matches self.now key.now bytes (Err status))) env.old
-            self.now.file) env.old env.new result }
-        ensures ok { let codings = ⟦<CompressorList as Compressors>⟧.codings compressors.now in
-            ForBytesOf E.Env env.old self.now.file
-            (λ bytes. (parts : List Part) → lines_of self.now ≡ map index_pair parts
-            → C.cmp self.now.index.cmp ≡ C.cmp self.now.cmp
-            → HasParts codings (C.accepts self.now.cmp) (C.cmp self.now.cmp) bytes parts
-            → C.accepts self.now.cmp key.now ≡ true
-            → HoldsOnlyOf codings (C.cmp self.now.cmp) self.now.id bytes cache.old
-            → IfOk result (λ found. found ≡ found_in (C.cmp self.now.cmp)
-            (lets FP.matches self.now) key.now parts)) }
-        ensures finds { let codings = ⟦<CompressorList as Compressors>⟧.codings compressors.now in
-            ForBytesOf E.Env env.old self.now.file
-            (λ bytes. HoldsOnlyOf codings (C.cmp self.now.cmp) self.now.id bytes cache.old
-            → IfOk result (FindsPair codings FP.matches self.now key.now bytes)) }
-        ensures gathers { GainsBlocks self.now.id (λ offset held.
-            ForBytesOf E.Env env.old self.now.file
-            (λ bytes. IsBlockOfFile (⟦<CompressorList as Compressors>⟧.codings compressors.now)
-            (C.cmp self.now.cmp) bytes offset held)) cache.old cache.new }
+        ensures { let codings = ⟦<CompressorList as Compressors>⟧.codings compressors.now in
+            LooksUp E.Env codings FP.matches self.now key.now env.old cache.old result env.new
+            cache.new }
     {
         let mut core = TableCore::new(alloc, self)?;
         if core.seek_let(self, env, cache, compressors, key)? {
@@ -254,16 +254,15 @@ impl<E: Env, C: Cmp + Copy + Drop, FP: FilterPolicy> Table<E, C, FP> {
     ) -> Result<Block<C>>
         ensures reads { let codings = ⟦<CompressorList as Compressors>⟧.codings compressors.now in
             ReadsFile E.Env (IsLackError E.Env codings (λ bytes.
-            LacksBlock codings (C.cmp self.now.cmp) bytes handle) env.old self.now.file) env.old env.new result }
+            LacksBlock codings (C.cmp self.now.cmp) bytes handle) env.old self.now.file)
+            env.old env.new result }
         ensures ok { let codings = ⟦<CompressorList as Compressors>⟧.codings compressors.now in
             IfOk result (λ block. ForBytesOf E.Env env.old self.now.file
             (λ bytes. HoldsOnlyOf codings (C.cmp self.now.cmp) self.now.id bytes cache.old
             → HasBlockAt (Decodes codings) bytes handle block.contents
             × (C.cmp block.cmp ≡ C.cmp self.now.cmp))) }
-        ensures gathers { GainsBlocks self.now.id (λ offset held.
-            ForBytesOf E.Env env.old self.now.file
-            (λ bytes. IsBlockOfFile (⟦<CompressorList as Compressors>⟧.codings compressors.now)
-            (C.cmp self.now.cmp) bytes offset held)) cache.old cache.new }
+        ensures gathers { GainsBlocksOf E.Env (⟦<CompressorList as Compressors>⟧.codings
+            compressors.now) self.now env.old cache.old cache.new }
     {
         if let Some(found) = self.cached_block(cache, handle)? {
             return Ok(found);
@@ -305,18 +304,17 @@ impl<E: Env, C: Cmp + Copy + Drop, FP: FilterPolicy> Table<E, C, FP> {
     }
 }
 
-// The handle that these bytes encode, and nothing else.
-fn whole_handle(alloc: Global, bytes: &[u8]) -> Result<BlockHandle>
+// What is wrong with a line of the index that names no block.
+const BAD_LINE: &str = "index: no handle of a block";
+
+// The handle that these bytes encode, and nothing else. An error says this.
+fn whole_handle(alloc: Global, bytes: &[u8], bad: &str) -> Result<BlockHandle>
     ensures ok { IfOk result (λ handle. HandleFits handle × (bytes.now ≡ handle_bytes handle)) }
     ensures err { IfErr result (λ status. (status.code ≡ Corruption)
         × ((handle : Handle) → HandleFits handle → bytes.now ≡ handle_bytes handle → ⊥)) }
 {
     match BlockHandle::decode(bytes) {
         Some((handle, used)) if used == bytes.len() => Ok(handle),
-        _ => err(
-            alloc,
-            StatusCode::Corruption,
-            "a table's index names no block",
-        ),
+        _ => err(alloc, StatusCode::Corruption, bad),
     }
 }

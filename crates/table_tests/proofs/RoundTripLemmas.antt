@@ -35,13 +35,15 @@ use Rattle.leveldb_table.proofs.TableBlockLemmas.{FileHas-after}
 use Rattle.leveldb_table.proofs.TableReaderLemmas.{index_read, parts_there, opened_pass, refused_there, named_line}
 use Rattle.leveldb_table.proofs.TableReaderWalkLemmas.{first_is, seek_none, position_in, position_out, some_none}
 use Rattle.leveldb_table.specs.Block.{RiseAfter, KeysRise}
-use Rattle.leveldb_table.specs.BlockCache.{HoldsOnlyOf, GainsBlocks, IsBlockOfFile, IsNumbered}
+use Rattle.leveldb_table.specs.BlockCache.{HoldsOnlyOf, IsBlockOfFile, IsNumbered}
 use Rattle.leveldb_table.specs.Cache.{Cached}
 use Rattle.leveldb_table.specs.Table.{Part, index_pair, named_part, first_from, IsTable, AllPass, filter_key}
 use Rattle.leveldb_table.specs.TableBlock.{FileHas, ForBytesOf, KeepsDisk}
 use Rattle.leveldb_table.specs.TableBuilder.{MatchesByUser, AddsPair, IsBuiltTable}
-use Rattle.leveldb_table.specs.TableReader.{HasParts, KeepsUsersTogether, HasNoneFrom, pairs_in, found_in, lines_of, filters_in, filters_of, lets, OpensAs}
-use Rattle.leveldb_table.specs.TableReaderWalk.{MovesInTable, Outcome, inner_position, pairs_over}
+use Rattle.leveldb_table.specs.TableReader.{HasParts, KeepsUsersTogether, HasNoneFrom, pairs_in, found_in, lines_of, filters_in, lets, OpensTable, IsOpenedAs, AreOfPolicy, GainsBlocksOf}
+use Rattle.leveldb_table.specs.TableReaderBlocks.{StartsOver}
+use Rattle.leveldb_table.specs.TableReaderMoves.{Advances, StepsBack}
+use Rattle.leveldb_table.specs.TableReaderWalk.{MovesInTable, Outcome, inner_position}
 use Rattle.leveldb_table.specs.declared.block_cache.CachedBlock.{CachedBlock}
 use Rattle.leveldb_table.specs.declared.table_reader.Table.{Table}
 use Rattle.leveldb_table.specs.declared.table_reader.walk.TableCore.{TableCore}
@@ -118,26 +120,24 @@ module _ {E F : Type 0} (env : EnvGhosts E F) where
   -- so the table is open that it is
   pub opens_so : {T C FP : Type 0} {order : CmpGhosts C} (codings : Codings) (c : C) (policy : FP) (key name : List ℕ) (size : ℕ) {old mid new : E} {file : F} {answer : T} (cache new_cache : Cached (CachedBlock C order))
       (result : Result (Table E C FP F order) Status)
-      → ChangesFiles env.models_disk same FilesUnchanged (env.observed old) (env.observed mid) (Ok answer) → (IsTrue env.models_disk → env.name_of file ≡ name) → KeepsDisk env mid new
-      → IfOk result (λ table. ForBytesOf env mid file (λ bytes. OpensAs codings (order.cmp c) (filter_key key) bytes size (lines_of table) table.footer.meta_index table.footer.index (filters_of table)))
-      → IfOk result (λ table. table.file ≡ file) → IfOk result (λ table. (table.cmp ≡ c) × (table.index.cmp ≡ c)) → IfOk result (λ table. IfSome table.filters (λ reader. reader.policy ≡ policy))
-      → IfOk result (λ table. (table.id ≡ cache.given + 1) × (new_cache ≡ record cache { given = table.id }))
+      → ChangesFiles env.models_disk same FilesUnchanged (env.observed old) (env.observed mid) (Ok answer) → (IsTrue env.models_disk → env.name_of file ≡ name)
+      → {Lacks : List ℕ → Status → Type 0} → OpensTable env codings (IsOpenedAs codings (order.cmp c) (filter_key key) size) (AreOfPolicy policy) Lacks c file mid cache result new new_cache
       → IfOk result (λ table. (bytes : List ℕ) → IsTrue env.models_disk → (env.observed old).disk.files name ≡ Some (kept_file bytes) → length bytes < 2 ^ 64 → IsNumbered cache
       → cache.given + 1 < 2 ^ 64 → IsOpen env codings c policy key bytes size new new_cache table)
-  opens_so {order = order} codings c policy key name size {new = new} cache new_cache (Ok table) does named kept opens file_is ordered policy_is id_is = λ bytes modelled there long numbered fits.
+  opens_so {order = order} codings c policy key name size {new = new} cache new_cache (Ok table) does named opens = λ bytes modelled there long numbered fits.
       let has = has_file does named bytes modelled there long in
-      let given_is = id_is.0 in
+      let given_is = opens.id.0 in
       let new_id : HoldsOnlyOf codings (order.cmp c) (cache.given + 1) bytes cache =
       HoldsOnlyOf-new {codings = codings} {cmp = order.cmp c} {id = cache.given + 1} {bytes = bytes} cache fits (omega arith) numbered in
       let holds : HoldsOnlyOf codings (order.cmp c) table.id bytes cache = subst (λ z. HoldsOnlyOf codings (order.cmp c) z bytes cache) (sym given_is) new_id in
       record {
-        file = subst (λ f. FileHas env new f bytes) (sym file_is) (FileHas-after env kept has);
-        opens = opens bytes has;
-        ordered = ordered;
-        policy_is = policy_is;
-        holds = subst (HoldsOnlyOf codings (order.cmp c) table.id bytes) (sym id_is.1) holds;
+        file = subst (λ f. FileHas env new f bytes) (sym opens.file) (FileHas-after env opens.reads.kept_disk has);
+        opens = opens.ok bytes has;
+        ordered = opens.order;
+        policy_is = opens.policy;
+        holds = subst (HoldsOnlyOf codings (order.cmp c) table.id bytes) (sym opens.id.1) holds;
       }
-  opens_so codings c policy key name size cache new_cache (Err status) does named kept opens file_is ordered policy_is id_is = tt
+  opens_so codings c policy key name size cache new_cache (Err status) does named opens = tt
 
 -- ---- look-ups
 
@@ -194,7 +194,7 @@ module _ {E F C FP : Type 0} (env : EnvGhosts E F) {order : CmpGhosts C} (accept
   finds c preorder sep policy name found says user pairs bytes by is ready fit =
       let built = is (λ _. Some (matches policy)) user by.separated by.matched refl in
       let has = parts_there built in
-      let lines = (index_read built.tabled ready.opens).0 in
+      let lines = (index_read built.tabled ready.opens.indexed).0 in
       let pass = opened_pass built ready.opens refl in
       let there = subst (λ z. SaysFound z found) ready.ordered.0 says bytes ready.file built.parts lines (ap order.cmp ready.ordered.1) has fit ready.holds in
       subst (λ z. FindsFirst (order.cmp c) user key z found) (sym built.pairs_are)
@@ -262,7 +262,7 @@ finds_newest cmp exact key pairs found rise finds =
 
 -- a table stays open after a look-up
 pub still_open : {E F C FP : Type 0} (env : EnvGhosts E F) {order : CmpGhosts C} {codings : Codings} {c : C} {policy : FP} {name bytes : List ℕ} {size : ℕ} {state new : E} {cache new_cache : Cached (CachedBlock C order)} (table : Table E C FP F order)
-    → KeepsDisk env state new → GainsBlocks table.id (λ offset held. ForBytesOf env state table.file (λ bytes. IsBlockOfFile codings (order.cmp table.cmp) bytes offset held)) cache new_cache
+    → KeepsDisk env state new → GainsBlocksOf env codings table state cache new_cache
     → IsOpen env codings c policy name bytes size state cache table → IsOpen env codings c policy name bytes size new new_cache table
 still_open env {order} {codings} {bytes = bytes} table disk gains ready = record {
   file = FileHas-after env disk ready.file;
@@ -278,14 +278,13 @@ module _ {E F C FP : Type 0} (env : EnvGhosts E F) {order : CmpGhosts C} (accept
   -- a walk over an open table begins at no position
   pub begins_walk : {c : C} {policy : FP} {name bytes : List ℕ} {state : E} {cache : Cached (CachedBlock C order)} {meaning : List ℕ → Option (List ℕ → List ℕ → Bool)} {user : List ℕ → List ℕ} {pairs : List Pair}
       (table : Table E C FP F order) (core : TableCore C order) → IsOpen env codings c policy name bytes (length bytes) state cache table → (built : IsTable (Decodes codings) (accepts c) (order.cmp c) meaning user bytes pairs)
-      → pairs_over core.index ≡ lines_of table → core.index.block.cmp ≡ table.index.cmp → core.inner ≡ None
-      → IsWalkingAt env codings (accepts table.cmp) (order.cmp table.cmp) table.id table.file bytes built.parts state cache core None
-  begins_walk {bytes = bytes} {state = state} {cache = cache} table core ready built lines ordered none =
+      → StartsOver table core → IsWalkingAt env codings (accepts table.cmp) (order.cmp table.cmp) table.id table.file bytes built.parts state cache core None
+  begins_walk {bytes = bytes} {state = state} {cache = cache} table core ready built starts =
       subst (λ z. IsWalkingAt env codings (accepts z) (order.cmp z) table.id table.file bytes built.parts state cache core None) (sym ready.ordered.0) (record {
         has = ready.file;
         parted = parts_there built;
         holds = ready.holds;
-        at = record { lines = lines ∙ (index_read built.tabled ready.opens).0; ordered = ap order.cmp (ordered ∙ ready.ordered.1); at = ap inner_position none };
+        at = record { lines = starts.lines ∙ (index_read built.tabled ready.opens.indexed).0; ordered = ap order.cmp (starts.ordered ∙ ready.ordered.1); at = ap inner_position starts.position };
       })
 
 -- the position before the one after `n` pairs is that of the last of them
@@ -362,24 +361,21 @@ module _ {E F C : Type 0} (env : EnvGhosts E F) {order : CmpGhosts C} {codings :
       → IsWalkingAt env codings accepts cmp id file bytes parts state cache core position → IsWalkingAt env codings accepts cmp id file bytes parts state cache core other
   walks_at {accepts} {cmp} {id} {file} {bytes} {parts} {state} {cache} {core} same walk = subst (IsWalkingAt env codings accepts cmp id file bytes parts state cache core) same walk
 
-  module _ {FP T : Type 0} (accepts : C → List ℕ → Bool) (table other : Table E C FP F order) (is : other ≡ table) {old_env new_env : E} {old_cache new_cache : Cached (CachedBlock C order)} {old new : TableCore C order} {answer : T}
-      {Step : Codings → (List ℕ → List ℕ → Ordering) → List ℕ → TableCore C order → Outcome → Type 0} {bytes : List ℕ} {parts : List Part} where
+  module _ {FP T : Type 0} (table other : Table E C FP F order) (is : other ≡ table) {old_env new_env : E} {old_cache new_cache : Cached (CachedBlock C order)} {old new : TableCore C order} {answer : T} {bytes : List ℕ} {parts : List Part} where
     -- forward to the next pair
     pub walks_forward : (pairs : List (Bor (List ℕ) × Bor (List ℕ))) (i : ℕ) → pairs_in parts ≡ given pairs → i < length pairs
-        → MovesInTable env codings (accepts other.cmp) (order.cmp other.cmp) other.id other.file (λ _. Unit {0}) next_position Step old_env old_cache old (Ok answer) new_env new_cache new
-        → IsWalkingAt env codings (accepts table.cmp) (order.cmp table.cmp) table.id table.file bytes parts old_env old_cache old (previous_position (Some i))
-        → IsWalkingAt env codings (accepts table.cmp) (order.cmp table.cmp) table.id table.file bytes parts new_env new_cache new (Some i)
+        → Advances env codings other old_env old_cache old (Ok answer) new_env new_cache new
+        → IsWalkingAt env codings (order.accepts table.cmp) (order.cmp table.cmp) table.id table.file bytes parts old_env old_cache old (previous_position (Some i))
+        → IsWalkingAt env codings (order.accepts table.cmp) (order.cmp table.cmp) table.id table.file bytes parts new_env new_cache new (Some i)
     walks_forward pairs i same_pairs within moves walk =
-        let its = subst (λ (z : Table E C FP F order).
-        MovesInTable env codings (accepts z.cmp) (order.cmp z.cmp) z.id z.file (λ _. Unit {0}) next_position Step old_env old_cache old (Ok answer) new_env new_cache new) is moves in
+        let its = subst (λ (z : Table E C FP F order). Advances env codings z old_env old_cache old (Ok answer) new_env new_cache new) is moves in
         walks_at (next_given pairs parts i same_pairs within) (moves_on env (Ok answer) its walk)
 
     -- and back
     pub walks_back : (i : ℕ)
-        → MovesInTable env codings (accepts other.cmp) (order.cmp other.cmp) other.id other.file (λ _. Unit {0}) (λ _. previous_position) Step old_env old_cache old (Ok answer) new_env new_cache new
-        → IsWalkingAt env codings (accepts table.cmp) (order.cmp table.cmp) table.id table.file bytes parts old_env old_cache old (Some i)
-        → IsWalkingAt env codings (accepts table.cmp) (order.cmp table.cmp) table.id table.file bytes parts new_env new_cache new (previous_position (Some i))
+        → StepsBack env codings other old_env old_cache old (Ok answer) new_env new_cache new
+        → IsWalkingAt env codings (order.accepts table.cmp) (order.cmp table.cmp) table.id table.file bytes parts old_env old_cache old (Some i)
+        → IsWalkingAt env codings (order.accepts table.cmp) (order.cmp table.cmp) table.id table.file bytes parts new_env new_cache new (previous_position (Some i))
     walks_back i moves walk =
-        let its = subst (λ (z : Table E C FP F order).
-        MovesInTable env codings (accepts z.cmp) (order.cmp z.cmp) z.id z.file (λ _. Unit {0}) (λ _. previous_position) Step old_env old_cache old (Ok answer) new_env new_cache new) is moves in
+        let its = subst (λ (z : Table E C FP F order). StepsBack env codings z old_env old_cache old (Ok answer) new_env new_cache new) is moves in
         moves_on env (Ok answer) its walk

@@ -306,7 +306,7 @@ fn in_steps(rt: HostRuntime) -> Result<()> {
     assert!(rt; read.contents()?.as_slice() == block.as_slice());
     let past = BlockHandle::new(FRONT.len(), block.len().saturating_add(5));
     let answer = block_at(rt.alloc(), &mut env, &bytes, past);
-    let text = "Corruption: a block is past the file";
+    let text = "Corruption: block at 5: past the end of the file";
     assert!(rt; failed_saying(answer, StatusCode::Corruption, text)?);
     Ok(())
 }

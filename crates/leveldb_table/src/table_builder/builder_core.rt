@@ -65,24 +65,16 @@ pub struct BuilderCore<C: Cmp, FP: FilterPolicy> {
 impl<C: Cmp + Copy, FP: FilterPolicy> BuilderCore<C, FP> {
     ghost use Rattle.leveldb_table.specs.Table.{filter_key};
     ghost use Rattle.leveldb_table.specs.TableBuilderStage.{Closes, first_key, with_pair};
-    ghost use Rattle.leveldb_table.specs.TableBuilder.{stage, last_of, order_of, policy_of, IsBegun, IsBroken, IsReady, IsReadyFor, IsClosable, KeepsChoices, IsBuiltTable, IsFull, table_estimate, PutsEnd, ClosesLast, MakesRoom, AddsPair, FinishesTable};
-    ghost use Rattle.leveldb_table.specs.TableBuilderAdd.{ClosesBlock, HasRoom, TriesOpen, IsNotClosed, IsAddError};
-    ghost use Rattle.leveldb_table.specs.TableBuilderFinish.{PutsRest, StopsFromFilters, StopsUnset, ClosesRest, IsLeftOpen, IsFinishError};
+    ghost use Rattle.leveldb_table.specs.TableBuilder.{IsNewBuilder, stage, last_of, order_of, policy_of, IsBegun, IsBroken, IsReady, IsReadyFor, IsClosable, KeepsChoices, IsBuiltTable, IsFull, table_estimate, PutsEnd, ClosesLast, MakesRoom, AddsPair, FinishesTable};
+    ghost use Rattle.leveldb_table.specs.TableBuilderAdd.{TakesPair, TakesNoPair, HasRoom, IsNotClosed};
+    ghost use Rattle.leveldb_table.specs.TableBuilderFinish.{IsFinished, StopsFromFilters, StopsUnset, ClosesRest, IsLeftOpen, IsFinishError};
 
     /// A builder under the options' order and policy as they are.
     pub fn new(alloc: Global, options: &Options<C, FP>) -> BuilderCore<C, FP>
     where
         FP: Copy,
-        ensures begun { (codings : Codings)
-            → IsBegun codings C.accepts C.cmp C.shortest_sep FP.matches result [] [] }
-        ensures unbroken { result.broken ≡ false }
-        ensures none { result.count ≡ 0 }
-        ensures order { order_of result ≡ options.now.cmp }
-        ensures policy { policy_of result ≡ options.now.filter_policy }
-        ensures compressor { result.compressor ≡ options.now.compressor }
-        ensures size { result.block_size ≡ options.now.block_size }
-        ensures interval { (result.block.interval ≡ max 1 options.now.block_restart_interval)
-            × (result.index.interval ≡ max 1 options.now.block_restart_interval) }
+        ensures { IsNewBuilder options.now.cmp options.now.filter_policy options.now.compressor
+            options.now.block_size options.now.block_restart_interval result }
     {
         BuilderCore::under(alloc, options.cmp, options.filter_policy, options)
     }
@@ -94,16 +86,8 @@ impl<C: Cmp + Copy, FP: FilterPolicy> BuilderCore<C, FP> {
         policy: FP,
         options: &Options<D, E>,
     ) -> BuilderCore<C, FP>
-        ensures begun { (codings : Codings)
-            → IsBegun codings C.accepts C.cmp C.shortest_sep FP.matches result [] [] }
-        ensures unbroken { result.broken ≡ false }
-        ensures none { result.count ≡ 0 }
-        ensures order { order_of result ≡ cmp }
-        ensures policy { policy_of result ≡ policy }
-        ensures compressor { result.compressor ≡ options.now.compressor }
-        ensures size { result.block_size ≡ options.now.block_size }
-        ensures interval { (result.block.interval ≡ max 1 options.now.block_restart_interval)
-            × (result.index.interval ≡ max 1 options.now.block_restart_interval) }
+        ensures { IsNewBuilder cmp policy options.now.compressor options.now.block_size
+            options.now.block_restart_interval result }
     {
         let interval = options.block_restart_interval.max(1);
         BuilderCore {
@@ -167,33 +151,12 @@ impl<C: Cmp + Copy, FP: FilterPolicy> BuilderCore<C, FP> {
         requires rising { self.old.broken ≡ false → 0 < self.old.count
             → C.cmp (order_of self.old) (last_of self.old) key.now ≡ Less }
         ensures ok { let codings = ⟦<CompressorList as Compressors>⟧.codings compressors.now in
-            OnOk result (AddsPair S.puts (IsBegun codings C.accepts C.cmp C.shortest_sep FP.matches
-            self.old) (IsBegun codings C.accepts C.cmp C.shortest_sep FP.matches self.new) sink.old
-            (key.now, value.now) sink.new) }
-        ensures full { OnOk result
-            (IsFull self.old → (stage self.new).open_pairs ≡ (key.now, value.now) ∷ []) }
-        ensures closed { OnOk result (IsFull self.old → ClosesBlock
-            (⟦<CompressorList as Compressors>⟧.codings compressors.now) self.old S.puts
-            (key.now, value.now) self.new sink.old sink.new) }
-        ensures room { OnOk result ((IsFull self.old → ⊥) → (stage self.new
-            ≡ with_pair (key.now, value.now) (stage self.old)) × (sink.new ≡ sink.old)) }
-        ensures last { OnOk result (last_of self.new ≡ key.now) }
-        ensures count { OnOk result (self.new.count ≡ self.old.count + 1) }
-        ensures unbroken { OnOk result ((self.old.broken ≡ false) × (self.new.broken ≡ false)) }
-        ensures choices { KeepsChoices self.old self.new }
-        ensures refused { OnErr result (self.new.broken ≡ true) }
-        ensures still { OnErr result (self.new.count ≡ self.old.count) }
-        ensures cause { IfErr result (λ status. IsAddError (⟦<CompressorList as Compressors>⟧.codings compressors.now) self.old S.puts
+            OnOk result (TakesPair codings S.puts self.old self.new (key.now, value.now) sink.old
+            sink.new) }
+        ensures err { let codings = ⟦<CompressorList as Compressors>⟧.codings compressors.now in
+            IfErr result (λ status. TakesNoPair codings S.puts self.old self.new
             (key.now, value.now) sink.old status sink.new) }
-        ensures unset { self.old.broken ≡ false → IsFull self.old
-            → ⟦<CompressorList as Compressors>⟧.codings compressors.now self.old.compressor ≡ None
-            → IsErrAnd result (λ status. IsUnset self.old.compressor status ⊎ IsOutOfMemory status)
-            × (sink.new ≡ sink.old) }
-        ensures sink { OnErr result (TriesOpen (⟦<CompressorList as Compressors>⟧.codings
-            compressors.now) self.old S.puts sink.old sink.new) }
-        ensures broken { self.old.broken ≡ true
-            → IsErrAnd result IsBroken × (sink.new ≡ sink.old) }
-        ensures unchanged { self.old.broken ≡ true → self.new ≡ self.old }
+        ensures choices { KeepsChoices self.old self.new }
     {
         self.check_unbroken()?;
         self.broken = true;
@@ -212,17 +175,7 @@ impl<C: Cmp + Copy, FP: FilterPolicy> BuilderCore<C, FP> {
         C: Drop,
         FP: Drop,
         ensures ok { let codings = ⟦<CompressorList as Compressors>⟧.codings compressors.now in
-            IfOk result (λ size. FinishesTable S.puts S.flushes
-            (IsBegun codings C.accepts C.cmp C.shortest_sep FP.matches self)
-            (IsBuiltTable codings (C.accepts (order_of self)) (C.cmp (order_of self))
-            (C.shortest_sep (order_of self)) (C.short_succ (order_of self))
-            (FP.matches (policy_of self)) (FP.filter_for (policy_of self)) self.compressor
-            (FP.name (policy_of self)) self.block.interval self.index.interval) sink.old size
-            sink.new) }
-        ensures pieces { IfOk result (λ size. PutsRest
-            (⟦<CompressorList as Compressors>⟧.codings compressors.now) self S.puts S.flushes
-            sink.old size sink.new) }
-        ensures unbroken { OnOk result (self.broken ≡ false) }
+            IfOk result (λ size. IsFinished codings self S.puts S.flushes sink.old size sink.new) }
         ensures cause { IfErr result (λ status. IsFinishError
             (⟦<CompressorList as Compressors>⟧.codings compressors.now) self S.puts S.flushes
             sink.old status sink.new) }
@@ -308,7 +261,8 @@ impl<C: Cmp + Copy, FP: FilterPolicy> BuilderCore<C, FP> {
             × (self.new.index.interval ≡ self.old.index.interval) }
         ensures rest { OnOk result (ClosesRest (⟦<CompressorList as Compressors>⟧.codings
             compressors.now) self.old S.puts (stage self.new) sink.old sink.new) }
-        ensures cause { IfErr result (λ status. IsLeftOpen (⟦<CompressorList as Compressors>⟧.codings compressors.now) self.old S.puts sink.old status sink.new) }
+        ensures cause { let codings = ⟦<CompressorList as Compressors>⟧.codings compressors.now in
+            IfErr result (λ status. IsLeftOpen codings self.old S.puts sink.old status sink.new) }
         ensures unset { (stage self.old).open_pairs ≢ []
             → ⟦<CompressorList as Compressors>⟧.codings compressors.now self.old.compressor ≡ None
             → IsErrAnd result (λ status. IsUnset self.old.compressor status ⊎ IsOutOfMemory status)
@@ -342,7 +296,8 @@ impl<C: Cmp + Copy, FP: FilterPolicy> BuilderCore<C, FP> {
         ensures choices { KeepsChoices self.old self.new }
         ensures broken { self.new.broken ≡ true }
         ensures count { self.new.count ≡ self.old.count }
-        ensures cause { IfErr result (λ status. IsNotClosed (⟦<CompressorList as Compressors>⟧.codings compressors.now) self.old S.puts next.now sink.old status
+        ensures cause { let codings = ⟦<CompressorList as Compressors>⟧.codings compressors.now in
+            IfErr result (λ status. IsNotClosed codings self.old S.puts next.now sink.old status
             sink.new) }
         ensures unset { ⟦<CompressorList as Compressors>⟧.codings compressors.now
             self.old.compressor ≡ None → IsErrAnd result (λ status.

@@ -34,7 +34,9 @@ pub fn put_encoded<S: Sink>(
         (⟦<CompressorList as Compressors>⟧.codings compressors.now) id stored block.items
         × PutsBlock S.puts id stored sink.old offset placed.handle placed.end sink.new) }
     ensures err { IfErr result (λ status. PutsNone S.puts sink.old status sink.new) }
-    ensures cause { IfErr result (λ status. IsNotPut S.puts (⟦<CompressorList as Compressors>⟧.codings compressors.now) id block.items offset sink.old status sink.new) }
+    ensures cause { let codings = ⟦<CompressorList as Compressors>⟧.codings compressors.now in
+        IfErr result (λ status. IsNotPut S.puts codings id block.items offset sink.old status
+        sink.new) }
     ensures unset { ⟦<CompressorList as Compressors>⟧.codings compressors.now id ≡ None
         → IsErrAnd result (IsUnset id) × (sink.new ≡ sink.old) }
 {

@@ -26,8 +26,7 @@ pub struct TableIterator<'a, E: Env, C: Cmp + Drop, FP: FilterPolicy> {
 }
 
 impl<E: Env, C: Cmp + Copy + Drop, FP: FilterPolicy> Table<E, C, FP> {
-    ghost use Rattle.leveldb_table.specs.TableReader.{lines_of};
-    ghost use Rattle.leveldb_table.specs.TableReaderWalk.{pairs_over};
+    ghost use Rattle.leveldb_table.specs.TableReaderBlocks.{StartsOver};
 
     /// A walk over the table's pairs, at no position.
     pub fn iter<'a>(
@@ -36,9 +35,7 @@ impl<E: Env, C: Cmp + Copy + Drop, FP: FilterPolicy> Table<E, C, FP> {
         env: &'a mut E,
         cache: &'a mut BlockCache<C>,
     ) -> Result<TableIterator<'a, E, C, FP>>
-        ensures lines { IfOk result (λ it. pairs_over it.core.index ≡ lines_of self.entry.now) }
-        ensures order { IfOk result (λ it. it.core.index.block.cmp ≡ self.entry.now.index.cmp) }
-        ensures position { IfOk result (λ it. it.core.inner ≡ None) }
+        ensures ok { IfOk result (λ it. StartsOver self.entry.now it.core) }
         ensures env_reference { IfOk result (λ it. it.env.ghost_name ≡ env.entry.ghost_name) }
         ensures cache_reference { IfOk result
             (λ it. it.cache.ghost_name ≡ cache.entry.ghost_name) }
@@ -57,18 +54,16 @@ impl<E: Env, C: Cmp + Copy + Drop, FP: FilterPolicy> Table<E, C, FP> {
 }
 
 impl<'a, E: Env, C: Cmp + Copy + Drop, FP: FilterPolicy> TableIterator<'a, E, C, FP> {
-    ghost use Rattle.leveldb_table.specs.TableReaderMoves.{Forward, Backward, ToFirst, ToLast, ToKey};
+    ghost use Rattle.leveldb_table.specs.TableReaderMoves.{Advances, StepsBack, SeeksKey, SeeksFirst, SeeksLast};
     ghost use Rattle.leveldb_table.specs.TableReader.{pairs_in};
-    ghost use Rattle.leveldb_table.specs.TableReaderWalk.{MovesInTable, IsAtPosition, current_of, inner_position};
+    ghost use Rattle.leveldb_table.specs.TableReaderWalk.{IsAtPosition, current_of, inner_position};
 
     /// Moves to the next pair, from no position to the first, and from the last to no position.
     /// Returns whether it is at a pair.
     pub fn advance(&mut self, compressors: &CompressorList) -> Result<bool>
-        ensures moves { MovesInTable E.Env (⟦<CompressorList as Compressors>⟧.codings
-            compressors.now) (C.accepts self.old.table.now.cmp) (C.cmp self.old.table.now.cmp) self.old.table.now.id
-            self.old.table.now.file (λ _. Unit {0}) next_position Forward self.old.env.now
-            self.old.cache.now self.old.core result self.new.env.now self.new.cache.now
-            self.new.core }
+        ensures moves { let codings = ⟦<CompressorList as Compressors>⟧.codings compressors.now in
+            Advances E.Env codings self.old.table.now self.old.env.now self.old.cache.now
+            self.old.core result self.new.env.now self.new.cache.now self.new.core }
         ensures env_reference { self.new.env.ghost_name ≡ self.old.env.ghost_name }
         ensures cache_reference { self.new.cache.ghost_name ≡ self.old.cache.ghost_name }
         ensures table { self.new.table.now ≡ self.old.table.now }
@@ -82,11 +77,9 @@ impl<'a, E: Env, C: Cmp + Copy + Drop, FP: FilterPolicy> TableIterator<'a, E, C,
     /// Moves to the pair before, and from the first or from no position to no position.
     /// Returns whether it is at a pair.
     pub fn prev(&mut self, compressors: &CompressorList) -> Result<bool>
-        ensures moves { MovesInTable E.Env (⟦<CompressorList as Compressors>⟧.codings
-            compressors.now) (C.accepts self.old.table.now.cmp) (C.cmp self.old.table.now.cmp) self.old.table.now.id
-            self.old.table.now.file (λ _. Unit {0})
-            (λ _. previous_position) Backward self.old.env.now self.old.cache.now self.old.core
-            result self.new.env.now self.new.cache.now self.new.core }
+        ensures moves { let codings = ⟦<CompressorList as Compressors>⟧.codings compressors.now in
+            StepsBack E.Env codings self.old.table.now self.old.env.now self.old.cache.now
+            self.old.core result self.new.env.now self.new.cache.now self.new.core }
         ensures env_reference { self.new.env.ghost_name ≡ self.old.env.ghost_name }
         ensures cache_reference { self.new.cache.ghost_name ≡ self.old.cache.ghost_name }
         ensures table { self.new.table.now ≡ self.old.table.now }
@@ -100,12 +93,9 @@ impl<'a, E: Env, C: Cmp + Copy + Drop, FP: FilterPolicy> TableIterator<'a, E, C,
     /// Moves to the first pair whose key is at or after `key`, or to no position where all keys
     /// are before it.
     pub fn seek(&mut self, compressors: &CompressorList, key: &[u8]) -> Result<()>
-        ensures moves { MovesInTable E.Env (⟦<CompressorList as Compressors>⟧.codings
-            compressors.now) (C.accepts self.old.table.now.cmp) (C.cmp self.old.table.now.cmp) self.old.table.now.id
-            self.old.table.now.file (λ _. C.accepts self.old.table.now.cmp key.now ≡ true)
-            (λ pairs _. seek_position (C.cmp self.old.table.now.cmp) pairs key.now)
-            (ToKey key.now) self.old.env.now self.old.cache.now self.old.core result
-            self.new.env.now self.new.cache.now self.new.core }
+        ensures moves { let codings = ⟦<CompressorList as Compressors>⟧.codings compressors.now in
+            SeeksKey E.Env codings self.old.table.now key.now self.old.env.now self.old.cache.now
+            self.old.core result self.new.env.now self.new.cache.now self.new.core }
         ensures env_reference { self.new.env.ghost_name ≡ self.old.env.ghost_name }
         ensures cache_reference { self.new.cache.ghost_name ≡ self.old.cache.ghost_name }
         ensures table { self.new.table.now ≡ self.old.table.now }
@@ -116,10 +106,8 @@ impl<'a, E: Env, C: Cmp + Copy + Drop, FP: FilterPolicy> TableIterator<'a, E, C,
 
     /// Moves to the first pair, or to no position in an empty table.
     pub fn seek_to_first(&mut self, compressors: &CompressorList) -> Result<()>
-        ensures moves { MovesInTable E.Env (⟦<CompressorList as Compressors>⟧.codings
-            compressors.now) (C.accepts self.old.table.now.cmp) (C.cmp self.old.table.now.cmp) self.old.table.now.id
-            self.old.table.now.file (λ _. Unit {0})
-            (λ pairs _. position_within pairs 0) ToFirst self.old.env.now self.old.cache.now
+        ensures moves { let codings = ⟦<CompressorList as Compressors>⟧.codings compressors.now in
+            SeeksFirst E.Env codings self.old.table.now self.old.env.now self.old.cache.now
             self.old.core result self.new.env.now self.new.cache.now self.new.core }
         ensures env_reference { self.new.env.ghost_name ≡ self.old.env.ghost_name }
         ensures cache_reference { self.new.cache.ghost_name ≡ self.old.cache.ghost_name }
@@ -131,10 +119,8 @@ impl<'a, E: Env, C: Cmp + Copy + Drop, FP: FilterPolicy> TableIterator<'a, E, C,
 
     /// Moves to the last pair, or to no position in an empty table.
     pub fn seek_to_last(&mut self, compressors: &CompressorList) -> Result<()>
-        ensures moves { MovesInTable E.Env (⟦<CompressorList as Compressors>⟧.codings
-            compressors.now) (C.accepts self.old.table.now.cmp) (C.cmp self.old.table.now.cmp)
-            self.old.table.now.id self.old.table.now.file (λ _. Unit {0})
-            (λ pairs _. last_position pairs) ToLast self.old.env.now self.old.cache.now
+        ensures moves { let codings = ⟦<CompressorList as Compressors>⟧.codings compressors.now in
+            SeeksLast E.Env codings self.old.table.now self.old.env.now self.old.cache.now
             self.old.core result self.new.env.now self.new.cache.now self.new.core }
         ensures env_reference { self.new.env.ghost_name ≡ self.old.env.ghost_name }
         ensures cache_reference { self.new.cache.ghost_name ≡ self.old.cache.ghost_name }

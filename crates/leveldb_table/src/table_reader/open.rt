@@ -1,32 +1,53 @@
 //! What is read when a table is opened.
-ghost use Rattle.std.specs.Prelude.{◌≡◌, ◌⊎◌, ℕ, List, Option, IfOk, IfErr, IfSome};
+ghost use Rattle.std.specs.Prelude.{◌≡◌, ◌⊎◌, ℕ, List, Option, None, IfOk, IfErr, IfSome};
 ghost use Rattle.leveldb_base.specs.BlockHandle.{Handle};
 ghost use Rattle.leveldb_base.specs.Error.{IsOutOfMemory};
 ghost use Rattle.leveldb_base.specs.declared.error.StatusCode.TheVariants.{Corruption};
+ghost use Rattle.leveldb_table.specs.Block.{pairs_of};
 ghost use Rattle.leveldb_table.specs.Table.{filter_key};
-ghost use Rattle.leveldb_table.specs.TableReader.{EndsInFooter, HasFiltersBy, GivesHandle, GivesNoHandle, value_under, filters_in};
-ghost use Rattle.leveldb_table.specs.TableBlock.{ReadsFile, ForBytesOf, IsDamaged};
+ghost use Rattle.leveldb_table.specs.TableReader.{EndsInFooter, HasIndex, IsNoIndex, HasFiltersBy, GivesHandle, GivesNoHandle, value_under, filters_in};
+ghost use Rattle.leveldb_table.specs.TableBlock.{ReadsFile, ForBytesOf, IsDamaged, IsLackError};
 
 use super::whole_handle;
 use crate::block::Block;
-use crate::table_block::{read_bytes, read_filter_block};
+use crate::damage::corruption;
+use crate::table_block::{read_bytes, read_filter_block, read_table_block};
 use crate::table_builder::{FULL_FOOTER_LENGTH, Footer};
 use leveldb_base::blockhandle::BlockHandle;
-use leveldb_base::cmp::DefaultCmp;
+use leveldb_base::cmp::{Cmp, DefaultCmp};
 use leveldb_base::error::{Result, StatusCode, err};
 use leveldb_base::types::LdbIterator;
+use leveldb_env::compressor::{CompressorList, Compressors};
 use leveldb_env::env::Env;
 use leveldb_env::filter::FilterPolicy;
 use leveldb_env::filter_block::FilterBlockReader;
 use std::alloc::Global;
 
-/// The footer in which the first `size` bytes of a file end.
-pub fn read_footer<E: Env>(
+/// The footer in which the first `size` bytes of a file end, and the index where that says.
+pub fn read_index<E: Env, C: Cmp + Drop>(
     alloc: Global,
+    cmp: C,
     env: &mut E,
     file: &E::File,
+    compressors: &CompressorList,
     size: usize,
-) -> Result<Footer>
+) -> Result<(Footer, Block<C>)>
+    ensures reads { let codings = ⟦<CompressorList as Compressors>⟧.codings compressors.now in
+        ReadsFile E.Env (IsLackError E.Env codings (IsNoIndex codings (C.cmp cmp) size) env.old
+        file.now) env.old env.new result }
+    ensures ok { let codings = ⟦<CompressorList as Compressors>⟧.codings compressors.now in
+        IfOk result (λ found. ForBytesOf E.Env env.old file.now (λ bytes. HasIndex codings
+        (C.cmp cmp) bytes size (pairs_of None found.1.entries.0) found.0.meta_index
+        found.0.index)) }
+    ensures order { IfOk result (λ found. found.1.cmp ≡ cmp) }
+{
+    let footer = read_footer(alloc, env, file, size)?;
+    let index = read_table_block(alloc, cmp, env, file, compressors, footer.index)?;
+    Ok((footer, index))
+}
+
+// The footer in which the first `size` bytes of a file end.
+fn read_footer<E: Env>(alloc: Global, env: &mut E, file: &E::File, size: usize) -> Result<Footer>
     ensures reads { ReadsFile E.Env (IsDamaged E.Env (λ bytes. (meta index : Handle)
         → EndsInFooter bytes size meta index → ⊥) env.old file.now) env.old env.new
         result }
@@ -37,13 +58,13 @@ pub fn read_footer<E: Env>(
         return err(
             alloc,
             StatusCode::Corruption,
-            "a file is too short for a table",
+            "a file is too short to be a table",
         );
     };
-    let bytes = read_bytes(alloc, env, file, offset, FULL_FOOTER_LENGTH)?;
+    let bytes = read_bytes(alloc, env, file, "footer", offset, FULL_FOOTER_LENGTH)?;
     match Footer::decode(&bytes) {
         Some(footer) => Ok(footer),
-        None => err(alloc, StatusCode::Corruption, "a table has a wrong footer"),
+        None => corruption(alloc, "footer", offset, "no magic number, or bad handles"),
     }
 }
 
@@ -83,7 +104,11 @@ fn handle_under(alloc: Global, metas: &Block<DefaultCmp>, key: &[u8]) -> Result<
     let mut lines = metas.iter(alloc);
     lines.seek(key)?;
     match lines.current() {
-        Some((name, value)) if name == key => Ok(Some(whole_handle(alloc, value)?)),
+        Some((name, value)) if name == key => Ok(Some(whole_handle(
+            alloc,
+            value,
+            "metaindex: no handle of a filter block",
+        )?)),
         _ => Ok(None),
     }
 }

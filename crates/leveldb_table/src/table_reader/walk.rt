@@ -13,7 +13,8 @@ ghost use Rattle.leveldb_table.specs.TableBlock.{LacksBlock, LacksLine, ReadsFil
 
 use crate::block::BlockWalk;
 use crate::block_cache::BlockCache;
-use crate::table_reader::{Table, whole_handle};
+use crate::damage::corruption;
+use crate::table_reader::{BAD_LINE, Table, whole_handle};
 use bytes::Bytes;
 use leveldb_base::blockhandle::BlockHandle;
 use leveldb_base::cmp::Cmp;
@@ -36,19 +37,17 @@ pub struct TableCore<C: Cmp> {
 }
 
 impl<C: Cmp + Copy + Drop> TableCore<C> {
-    ghost use Rattle.leveldb_table.specs.TableReaderBlocks.{IsBlockAt, IsBlockOf, line_of, MovesFromLine};
-    ghost use Rattle.leveldb_table.specs.TableReaderMoves.{Forward, Backward, ToFirst, ToLast, ToNextBlock, ToPreviousBlock, ToKey, ToKeyIfLet};
-    ghost use Rattle.leveldb_table.specs.TableReader.{pairs_in, lines_of, lets};
-    ghost use Rattle.leveldb_table.specs.TableReaderWalk.{MovesInTable, IsAtPosition, inner_block, inner_position, inner_pairs, current_of, pairs_over, position_over};
+    ghost use Rattle.leveldb_table.specs.TableReaderBlocks.{StartsOver, IsBlockAt, IsBlockOf, line_of, MovesOverFromLine};
+    ghost use Rattle.leveldb_table.specs.TableReaderMoves.{Advances, StepsBack, SeeksKey, SeeksFirst, SeeksLast, ToLast, ToNextBlock, ToPreviousBlock, ToKey, ToKeyIfLet};
+    ghost use Rattle.leveldb_table.specs.TableReader.{pairs_in, lines_of, lets, GainsBlocksOf};
+    ghost use Rattle.leveldb_table.specs.TableReaderWalk.{IsAtPosition, inner_block, inner_position, inner_pairs, current_of, pairs_over, position_over};
 
     /// At no position.
     pub fn new<E: Env, FP: FilterPolicy>(
         alloc: Global,
         table: &Table<E, C, FP>,
     ) -> Result<TableCore<C>>
-        ensures lines { IfOk result (λ core. pairs_over core.index ≡ lines_of table.now) }
-        ensures order { IfOk result (λ core. core.index.block.cmp ≡ table.now.index.cmp) }
-        ensures position { IfOk result (λ core. core.inner ≡ None) }
+        ensures ok { IfOk result (StartsOver table.now) }
         ensures memory { IfErr result IsOutOfMemory }
     {
         Ok(TableCore {
@@ -67,10 +66,9 @@ impl<C: Cmp + Copy + Drop> TableCore<C> {
         cache: &mut BlockCache<C>,
         compressors: &CompressorList,
     ) -> Result<bool>
-        ensures moves { MovesInTable E.Env (⟦<CompressorList as Compressors>⟧.codings
-            compressors.now) (C.accepts table.now.cmp) (C.cmp table.now.cmp) table.now.id table.now.file
-            (λ _. Unit {0}) next_position Forward env.old cache.old self.old result env.new
-            cache.new self.new }
+        ensures moves { let codings = ⟦<CompressorList as Compressors>⟧.codings compressors.now in
+            Advances E.Env codings table.now env.old cache.old self.old result env.new cache.new
+            self.new }
         ensures there { IfOk result (λ there. there ≡ is_some (inner_position self.new.inner)) }
     {
         if !self.valid() {
@@ -90,9 +88,8 @@ impl<C: Cmp + Copy + Drop> TableCore<C> {
         cache: &mut BlockCache<C>,
         compressors: &CompressorList,
     ) -> Result<bool>
-        ensures moves { MovesInTable E.Env (⟦<CompressorList as Compressors>⟧.codings
-            compressors.now) (C.accepts table.now.cmp) (C.cmp table.now.cmp) table.now.id table.now.file (λ _. Unit {0})
-            (λ _. previous_position) Backward env.old cache.old self.old result env.new cache.new
+        ensures moves { let codings = ⟦<CompressorList as Compressors>⟧.codings compressors.now in
+            StepsBack E.Env codings table.now env.old cache.old self.old result env.new cache.new
             self.new }
         ensures there { IfOk result (λ there. there ≡ is_some (inner_position self.new.inner)) }
     {
@@ -115,18 +112,16 @@ impl<C: Cmp + Copy + Drop> TableCore<C> {
         compressors: &CompressorList,
         key: &[u8],
     ) -> Result<()>
-        ensures moves { MovesInTable E.Env (⟦<CompressorList as Compressors>⟧.codings
-            compressors.now) (C.accepts table.now.cmp) (C.cmp table.now.cmp) table.now.id table.now.file
-            (λ _. C.accepts table.now.cmp key.now ≡ true)
-            (λ pairs _. seek_position (C.cmp table.now.cmp) pairs key.now)
-            (ToKey key.now) env.old cache.old self.old result env.new cache.new self.new }
+        ensures moves { let codings = ⟦<CompressorList as Compressors>⟧.codings compressors.now in
+            SeeksKey E.Env codings table.now key.now env.old cache.old self.old result env.new
+            cache.new self.new }
     {
         self.inner = None;
         self.index.seek(key)?;
         let Some((_, value)) = self.index.current() else {
             return Ok(());
         };
-        let handle = whole_handle(self.alloc, value)?;
+        let handle = whole_handle(self.alloc, value, BAD_LINE)?;
         self.enter(table, env, cache, compressors, handle, key)
     }
 
@@ -138,10 +133,9 @@ impl<C: Cmp + Copy + Drop> TableCore<C> {
         cache: &mut BlockCache<C>,
         compressors: &CompressorList,
     ) -> Result<()>
-        ensures moves { MovesInTable E.Env (⟦<CompressorList as Compressors>⟧.codings
-            compressors.now) (C.accepts table.now.cmp) (C.cmp table.now.cmp) table.now.id table.now.file (λ _. Unit {0})
-            (λ pairs _. position_within pairs 0) ToFirst env.old cache.old self.old result env.new
-            cache.new self.new }
+        ensures moves { let codings = ⟦<CompressorList as Compressors>⟧.codings compressors.now in
+            SeeksFirst E.Env codings table.now env.old cache.old self.old result env.new cache.new
+            self.new }
     {
         self.reset();
         self.advance(table, env, cache, compressors)?;
@@ -156,10 +150,9 @@ impl<C: Cmp + Copy + Drop> TableCore<C> {
         cache: &mut BlockCache<C>,
         compressors: &CompressorList,
     ) -> Result<()>
-        ensures moves { MovesInTable E.Env (⟦<CompressorList as Compressors>⟧.codings
-            compressors.now) (C.accepts table.now.cmp) (C.cmp table.now.cmp) table.now.id
-            table.now.file (λ _. Unit {0}) (λ pairs _. last_position pairs) ToLast env.old
-            cache.old self.old result env.new cache.new self.new }
+        ensures moves { let codings = ⟦<CompressorList as Compressors>⟧.codings compressors.now in
+            SeeksLast E.Env codings table.now env.old cache.old self.old result env.new cache.new
+            self.new }
     {
         self.to_last_block(table, env, cache, compressors)?;
         Ok(())
@@ -203,11 +196,11 @@ impl<C: Cmp + Copy + Drop> TableCore<C> {
         compressors: &CompressorList,
         key: &[u8],
     ) -> Result<bool>
-        ensures enters { MovesFromLine E.Env (⟦<CompressorList as Compressors>⟧.codings
-            compressors.now) (C.accepts table.now.cmp) (C.cmp table.now.cmp) table.now.id table.now.file
-            (IsLetPosition (C.accepts table.now.cmp) (C.cmp table.now.cmp)
-            (lets FP.matches table.now) key.now) (ToKeyIfLet (lets FP.matches table.now) key.now)
-            env.old cache.old self.old result env.new cache.new self.new }
+        ensures enters { let codings = ⟦<CompressorList as Compressors>⟧.codings compressors.now
+            in MovesOverFromLine E.Env codings table.now (IsLetPosition (C.accepts table.now.cmp)
+            (C.cmp table.now.cmp) (lets FP.matches table.now) key.now) (ToKeyIfLet (lets
+            FP.matches table.now) key.now) env.old cache.old self.old result env.new cache.new
+            self.new }
         ensures there { IfOk result (λ there. there ≡ is_some (inner_position self.new.inner)) }
     {
         self.inner = None;
@@ -215,7 +208,7 @@ impl<C: Cmp + Copy + Drop> TableCore<C> {
         let Some((_, value)) = self.index.current() else {
             return Ok(false);
         };
-        let handle = whole_handle(self.alloc, value)?;
+        let handle = whole_handle(self.alloc, value, BAD_LINE)?;
         if !table.lets(handle.offset(), key) {
             return Ok(false);
         }
@@ -252,10 +245,10 @@ impl<C: Cmp + Copy + Drop> TableCore<C> {
             ≡ seek_position (C.cmp self.old.index.block.cmp) (pairs_over self.old.index) key.now }
         requires names { IsNamedBy (line_of self.old) handle }
         requires fits { HandleFits handle }
-        ensures enters { MovesFromLine E.Env (⟦<CompressorList as Compressors>⟧.codings
-            compressors.now) (C.accepts table.now.cmp) (C.cmp table.now.cmp) table.now.id table.now.file
-            (IsKeyPosition (C.accepts table.now.cmp) (C.cmp table.now.cmp) key.now)
-            (ToKey key.now) env.old cache.old self.old result env.new cache.new self.new }
+        ensures enters { let codings = ⟦<CompressorList as Compressors>⟧.codings compressors.now
+            in MovesOverFromLine E.Env codings table.now (IsKeyPosition (C.accepts table.now.cmp)
+            (C.cmp table.now.cmp) key.now) (ToKey key.now) env.old cache.old self.old result
+            env.new cache.new self.new }
     {
         self.load(table, env, cache, compressors, handle)?;
         if self.seek_inside(key)? {
@@ -273,10 +266,10 @@ impl<C: Cmp + Copy + Drop> TableCore<C> {
         cache: &mut BlockCache<C>,
         compressors: &CompressorList,
     ) -> Result<bool>
-        ensures enters { MovesFromLine E.Env (⟦<CompressorList as Compressors>⟧.codings
-            compressors.now) (C.accepts table.now.cmp) (C.cmp table.now.cmp) table.now.id table.now.file
-            (λ parts position. IsAfterLine parts (position_over self.old.index) position)
-            ToNextBlock env.old cache.old self.old result env.new cache.new self.new }
+        ensures enters { let codings = ⟦<CompressorList as Compressors>⟧.codings compressors.now
+            in MovesOverFromLine E.Env codings table.now (λ parts position. IsAfterLine parts
+            (position_over self.old.index) position) ToNextBlock env.old cache.old self.old result
+            env.new cache.new self.new }
         ensures there { IfOk result (λ there. there ≡ is_some (inner_position self.new.inner)) }
     {
         self.inner = None;
@@ -298,10 +291,10 @@ impl<C: Cmp + Copy + Drop> TableCore<C> {
         cache: &mut BlockCache<C>,
         compressors: &CompressorList,
     ) -> Result<bool>
-        ensures enters { MovesFromLine E.Env (⟦<CompressorList as Compressors>⟧.codings
-            compressors.now) (C.accepts table.now.cmp) (C.cmp table.now.cmp) table.now.id table.now.file
-            (λ parts position. IsBeforeBlock parts (position_over self.old.index) position)
-            ToPreviousBlock env.old cache.old self.old result env.new cache.new self.new }
+        ensures enters { let codings = ⟦<CompressorList as Compressors>⟧.codings compressors.now
+            in MovesOverFromLine E.Env codings table.now (λ parts position. IsBeforeBlock parts
+            (position_over self.old.index) position) ToPreviousBlock env.old cache.old self.old
+            result env.new cache.new self.new }
         ensures there { IfOk result (λ there. there ≡ is_some (inner_position self.new.inner)) }
     {
         self.inner = None;
@@ -323,10 +316,10 @@ impl<C: Cmp + Copy + Drop> TableCore<C> {
         cache: &mut BlockCache<C>,
         compressors: &CompressorList,
     ) -> Result<bool>
-        ensures enters { MovesFromLine E.Env (⟦<CompressorList as Compressors>⟧.codings
-            compressors.now) (C.accepts table.now.cmp) (C.cmp table.now.cmp) table.now.id
-            table.now.file (λ parts position. position ≡ last_position (pairs_in parts)) ToLast
-            env.old cache.old self.old result env.new cache.new self.new }
+        ensures enters { let codings = ⟦<CompressorList as Compressors>⟧.codings compressors.now
+            in MovesOverFromLine E.Env codings table.now (λ parts position. position ≡
+            last_position (pairs_in parts)) ToLast env.old cache.old self.old result env.new
+            cache.new self.new }
     {
         self.inner = None;
         self.index.seek_to_last()?;
@@ -361,15 +354,13 @@ impl<C: Cmp + Copy + Drop> TableCore<C> {
         ensures position { OnOk result (inner_position self.new.inner ≡ None) }
         ensures err { OnErr result (self.new.inner ≡ self.old.inner) }
         ensures index { self.new.index ≡ self.old.index }
-        ensures gathers { GainsBlocks table.now.id
-            (λ offset held. ForBytesOf E.Env env.old table.now.file
-            (λ bytes. IsBlockOfFile (⟦<CompressorList as Compressors>⟧.codings compressors.now)
-            (C.cmp table.now.cmp) bytes offset held)) cache.old cache.new }
+        ensures gathers { GainsBlocksOf E.Env (⟦<CompressorList as Compressors>⟧.codings
+            compressors.now) table.now env.old cache.old cache.new }
     {
         let Some((_, value)) = self.index.current() else {
             return Ok(());
         };
-        let handle = whole_handle(self.alloc, value)?;
+        let handle = whole_handle(self.alloc, value, BAD_LINE)?;
         self.load(table, env, cache, compressors, handle)
     }
 
@@ -384,7 +375,8 @@ impl<C: Cmp + Copy + Drop> TableCore<C> {
     ) -> Result<()>
         ensures reads { let codings = ⟦<CompressorList as Compressors>⟧.codings compressors.now in
             ReadsFile E.Env (IsLackError E.Env codings (λ bytes.
-            LacksBlock codings (C.cmp table.now.cmp) bytes handle) env.old table.now.file) env.old env.new result }
+            LacksBlock codings (C.cmp table.now.cmp) bytes handle) env.old table.now.file)
+            env.old env.new result }
         ensures block { let codings = ⟦<CompressorList as Compressors>⟧.codings compressors.now in
             OnOk result (ForBytesOf E.Env env.old table.now.file
             (λ bytes. HoldsOnlyOf codings (C.cmp table.now.cmp) table.now.id bytes cache.old
@@ -392,10 +384,8 @@ impl<C: Cmp + Copy + Drop> TableCore<C> {
         ensures position { OnOk result (inner_position self.new.inner ≡ None) }
         ensures err { OnErr result (self.new.inner ≡ self.old.inner) }
         ensures index { self.new.index ≡ self.old.index }
-        ensures gathers { GainsBlocks table.now.id
-            (λ offset held. ForBytesOf E.Env env.old table.now.file
-            (λ bytes. IsBlockOfFile (⟦<CompressorList as Compressors>⟧.codings compressors.now)
-            (C.cmp table.now.cmp) bytes offset held)) cache.old cache.new }
+        ensures gathers { GainsBlocksOf E.Env (⟦<CompressorList as Compressors>⟧.codings
+            compressors.now) table.now env.old cache.old cache.new }
     {
         let block = table.read_block(self.alloc, env, cache, compressors, handle)?;
         self.inner = Some(BlockWalk::new(self.alloc, block));
@@ -475,10 +465,13 @@ impl<C: Cmp + Copy + Drop> TableCore<C> {
     fn empty_block_error(&self) -> Result<bool>
         ensures { IsErrAnd result (λ status. status.code ≡ Corruption) }
     {
-        err(
-            self.alloc,
-            StatusCode::Corruption,
-            "a table's data block is empty",
-        )
+        let handle = match self.index.current() {
+            Some((_, value)) => BlockHandle::decode(value),
+            None => None,
+        };
+        match handle {
+            Some((handle, _)) => corruption(self.alloc, "block", handle.offset(), "no entries"),
+            None => err(self.alloc, StatusCode::Corruption, BAD_LINE),
+        }
     }
 }

@@ -15,7 +15,7 @@ returns-in_default-clause-reads g c =
     let so_far = c.loop-alloc.invariant.gathers in
     let read = c.loop-alloc.read.items in
     let far = ends_within g.E.Env c.args.env.now c.loop-alloc.env c.args.file.now c.args.offset read so_far c.args.size (omega arith) (λ near. c.in_default.ensures (omega arith)) in
-    reads_own g.E.Env c.err.result so_far.kept_disk so_far.counted c.err.ensures.code (λ status code. inr (code, far))
+    reads_own g.E.Env c.corruption.result so_far.kept_disk so_far.counted c.corruption.ensures (λ status code. inr (code, far))
 
 pub returns-in_err-resize-clause-reads : goal.returns-in_err-resize-clause-reads
 returns-in_err-resize-clause-reads g c =
@@ -53,7 +53,7 @@ returns-then-came-eq0-clause-reads g c =
     let counted = call.reads.cause.ok ∙ so_far.counted in
     let kept_disk = KeepsDisk-trans g.E.Env so_far.kept_disk call.reads.kept_disk in
     let ends = ends_here g.E.Env c.args.env.now c.loop-alloc.env c.args.file.now c.args.offset read so_far c.args.size c.in-Some.next target (omega arith) (omega arith) some none in
-    reads_own g.E.Env c.err-then-came-eq0.result kept_disk counted c.err-then-came-eq0.ensures.code (λ status code. inr (code, ends))
+    reads_own g.E.Env c.corruption-then-came-eq0.result kept_disk counted c.corruption-then-came-eq0.ensures (λ status code. inr (code, ends))
 
 pub loop-alloc-preserved : goal.loop-alloc-preserved
 loop-alloc-preserved g c =

@@ -9,5 +9,5 @@ returns-then-eq-clause-reads g c =
     let missing : c.in-Err.status.code ≡ NotFound = search rules in
     record {
       kept_disk = KeepsDisk-call g.E.Env answer.does answer.locks;
-      cause = fails_missing g.E.Env c.args.file.now c.in-Err.status c.err.result missing c.err.ensures.code answer.cause;
+      cause = fails_missing g.E.Env c.args.file.now c.in-Err.status c.corruption.result missing c.corruption.ensures answer.cause;
     }

@@ -9,7 +9,7 @@ use Rattle.leveldb_table.proofs.table_block.read_stored.Goals as goal
 pub returns-in_default-checked_id-clause-reads : goal.returns-in_default-checked_id-clause-reads
 returns-in_default-checked_id-clause-reads g c =
     let before = c.in_ok-stored.ensures.reads in
-    reads_own g.E.Env c.err-in_default-checked_id.result before.kept_disk before.cause.ok c.err-in_default-checked_id.ensures.code
+    reads_own g.E.Env c.corruption-in_default-checked_id.result before.kept_disk before.cause.ok c.corruption-in_default-checked_id.ensures
     (λ status code. inr (
       code,
       λ bytes has id stored there.

@@ -17,7 +17,7 @@ loop-key-preserved g c =
     let so_far = before.choices in
     record {
       order = kept.same_order ∙ before.order;
-      last = λ some. c.in_ok-add.ensures.last;
+      last = λ some. c.in_ok-add.ensures.ok.last;
       choices = record {
         same_order = kept.same_order ∙ so_far.same_order;
         same_policy = kept.same_policy ∙ so_far.same_policy;
@@ -25,5 +25,5 @@ loop-key-preserved g c =
         same_size = kept.same_size ∙ so_far.same_size;
         same_intervals = (kept.same_intervals.0 ∙ so_far.same_intervals.0, kept.same_intervals.1 ∙ so_far.same_intervals.1);
       };
-      adds = adds_next g.S.Sink.puts c.args.pairs.now c.loop-key.key-index no_given c.loop-key-test.true before.adds c.in_ok-add.ensures.ok;
+      adds = adds_next g.S.Sink.puts c.args.pairs.now c.loop-key.key-index no_given c.loop-key-test.true before.adds c.in_ok-add.ensures.ok.added;
     }

@@ -12,7 +12,8 @@ returns g c =
     let added = c.in_ok-add_pairs.ensures.adds in
     let kept = c.add_pairs.ensures.choices in
     let begun = added.begun [] [] (c.new-core.ensures.begun codings) in
-    IfOk-weaker c.finish.result _ _ (λ size built.
+    IfOk-weaker c.finish.result _ _ (λ size finished.
+    let built = finished.finishes in
     let made = built.made added.bytes (given c.args.pairs.now) begun in
     record {
       bytes = added.bytes ++ built.bytes;

@@ -24,7 +24,7 @@ loop-left-preserved g c =
       fits = omega (arith, fits);
       walks = λ bytes parts same start.
           let walk = walks_at g.E.Env (previous_is left c.loop-left-test.true) (before.walks bytes parts same start) in
-          walks_back g.E.Env g.C.Cmp.accepts c.args.it.now.table.now c.loop-left.it.table.now before.table (left - 1) c.in_ok-prev.ensures.moves walk;
+          walks_back g.E.Env c.args.it.now.table.now c.loop-left.it.table.now before.table (left - 1) c.in_ok-prev.ensures.moves walk;
     }
 
 pub returns : goal.returns

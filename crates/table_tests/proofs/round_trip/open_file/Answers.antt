@@ -13,4 +13,4 @@ pub returns-clause-open : goal.returns-clause-open
 returns-clause-open g c =
     let options = c.args.options.now in
     opens_so g.E.Env ((compressors g.dyn-2).codings options.compressor_list) options.cmp options.filter_policy (g.FP.FilterPolicy.name options.filter_policy) c.args.name.now c.args.size c.args.cache.now c.open.new.cache c.open.result
-    c.in_ok-file.ensures.does c.in_ok-file.ensures.file c.open.ensures.reads.kept_disk c.open.ensures.ok c.open.ensures.file c.open.ensures.order c.open.ensures.policy c.open.ensures.id
+    c.in_ok-file.ensures.does c.in_ok-file.ensures.file c.open.ensures

@@ -19,7 +19,7 @@ returns-in-Some-decode-clause-ok g c = λ bytes has.
 pub returns-clause-reads : goal.returns-clause-reads
 returns-clause-reads g c =
     let read = c.in_ok-bytes.ensures in
-    reads_own g.E.Env c.err-in-None.result read.reads.kept_disk read.reads.cause.ok c.err-in-None.ensures.code (λ status code. inr (
+    reads_own g.E.Env c.corruption.result read.reads.kept_disk read.reads.cause.ok c.corruption.ensures (λ status code. inr (
       code,
       λ bytes has meta index ends.
           c.in-None.ensures meta index ends.meta_fits ends.index_fits (c.deref.ensures.value ∙ read.ok bytes has ∙ ends_with c.in-Some.offset (omega (arith, c.in-Some.ensures.0, c.in-Some.ensures.1)) ends),

@@ -1,11 +1,10 @@
-use Rattle.std.proofs.Common.{◌++◌, ◌+◌, sym, ap, subst, refl, None, inl, inr}
+use Rattle.std.proofs.Common.{◌++◌, ◌∷◌, [], ◌+◌, ◌∙◌, sym, ap, subst, refl, None, inl, inr, rules}
 use Rattle.leveldb_env.proofs.FilterBlockLemmas.{keeps_keys}
 use Rattle.leveldb_table.specs.Block.{pairs_of}
 use Rattle.leveldb_table.specs.TableBuilder.{stage}
 use Rattle.leveldb_table.specs.PutBlock.{IsTooLong}
-use Rattle.leveldb_table.proofs.TableLemmas.{last_pushed, OnErr-with}
-use Rattle.leveldb_table.proofs.TableBuilderAddLemmas.{tries_refused, taken_after}
-use Rattle.leveldb_table.proofs.BlockBuilderLemmas.{OnErr-always}
+use Rattle.leveldb_table.proofs.TableLemmas.{last_pushed}
+use Rattle.leveldb_table.proofs.TableBuilderAddLemmas.{taken_after, takes_no_pair, broken_clash}
 use Rattle.std.proofs.lemmas.Result.{err_from_is_err_and}
 use Rattle.leveldb_table.specs.TableBuilderStage.{with_pair}
 use Rattle.leveldb_table.proofs.TableBuilderStageLemmas.{laid_added, after_all, open_rises, sound_added}
@@ -33,101 +32,86 @@ invariant_of-self-2-clause-sound g c =
     λ _. rw (c.in_ok-add.ensures.order, c.in_ok-add.ensures.interval, c.in_ok-add.ensures.ok, c.in_ok-add_key.ensures.ok, c.in_ok-self.ensures.ok)
     (sound_added (stage c.make_room.new.self) c.args.key.now c.args.value.now ready.0 ready.1)
 
+pub returns-in_err-check_unbroken-clause-err : goal.returns-in_err-check_unbroken-clause-err
+returns-in_err-check_unbroken-clause-err g c =
+    let p = err_from_is_err_and c.from_residual.result c.from_residual.ensures.1 in
+    let broken = c.in_err-check_unbroken.ensures.err in
+    rw (p.1, p.2) (record {
+      refused = broken.0;
+      still = refl;
+      cause = inl (broken.0, broken.1, refl);
+      sink = inl refl;
+      unset = λ unbroken full none. absurd (broken_clash broken.0 unbroken);
+      broken = λ _. (broken.1, refl, refl);
+    })
+
+pub returns-in_err-make_room-clause-err : goal.returns-in_err-make_room-clause-err
+returns-in_err-make_room-clause-err g c =
+    let p = err_from_is_err_and c.from_residual-in_err-make_room.result c.from_residual-in_err-make_room.ensures.1 in
+    rw (p.1, p.2) (takes_no_pair c.in_ok-check_unbroken.ensures.ok (search rules) (search rules)
+    (inr (inl c.in_err-make_room.ensures.cause))
+    (λ full none. c.in_err-make_room.ensures.unset full none))
+
+pub returns-in_err-add_key-clause-err : goal.returns-in_err-add_key-clause-err
+returns-in_err-add_key-clause-err g c =
+    let p = err_from_is_err_and c.from_residual-in_err-add_key.result c.from_residual-in_err-add_key.ensures.1 in
+    rw (p.1, p.2) (takes_no_pair c.in_ok-check_unbroken.ensures.ok (search rules) (search rules)
+    (taken_after _ c.args.self.now g.S.Sink.puts (c.args.key.now, c.args.value.now) c.make_room.new.self c.args.sink.now c.in_err-add_key.field-0.0 c.make_room.new.sink c.in_ok-make_room.ensures.has_room (inl c.in_err-add_key.ensures.memory))
+    (λ full none. absurd (c.in_ok-make_room.ensures.unset full none).0))
+
+pub returns-in_err-add-clause-err : goal.returns-in_err-add-clause-err
+returns-in_err-add-clause-err g c =
+    let p = err_from_is_err_and c.from_residual-in_err-add.result c.from_residual-in_err-add.ensures.1 in
+    rw (p.1, p.2) (takes_no_pair c.in_ok-check_unbroken.ensures.ok (search rules) (search rules)
+    (taken_after _ c.args.self.now g.S.Sink.puts (c.args.key.now, c.args.value.now) c.make_room.new.self c.args.sink.now c.in_err-add.field-0.0 c.make_room.new.sink c.in_ok-make_room.ensures.has_room (elim c.in_err-add.ensures.cause [ inl code ↦ inr (inr (code, c.in_err-add.ensures.too_large.0 code)) | inr memory ↦ inl memory ]))
+    (λ full none. absurd (c.in_ok-make_room.ensures.unset full none).0))
+
+pub returns-in_err-self-clause-err : goal.returns-in_err-self-clause-err
+returns-in_err-self-clause-err g c =
+    let p = err_from_is_err_and c.from_residual-in_err-self.result c.from_residual-in_err-self.ensures.1 in
+    rw (p.1, p.2) (takes_no_pair c.in_ok-check_unbroken.ensures.ok (search rules) (search rules)
+    (taken_after _ c.args.self.now g.S.Sink.puts (c.args.key.now, c.args.value.now) c.make_room.new.self c.args.sink.now c.in_err-self.field-0.0 c.make_room.new.sink c.in_ok-make_room.ensures.has_room (inr (inl (subst (λ n. IsTooLong (n + 1) c.in_err-self.field-0.0) c.make_room.ensures.count c.in_err-self.ensures.cause))))
+    (λ full none. absurd (c.in_ok-make_room.ensures.unset full none).0))
+
 pub returns-clause-ok : goal.returns-clause-ok
 returns-clause-ok g c =
     let made = c.in_ok-make_room.ensures.ok in
     let old = c.args.self.now in
     let keeps = keeps_keys g.FP.FilterPolicy.filter_for g.FP.FilterPolicy.matches g.met.FP.FilterPolicy.finds in
     record {
-      bytes = made.bytes;
-      put = made.put;
-      begun = λ written pairs begun.
-          let laid = made.laid written pairs begun in
-          rw (c.in_ok-add.ensures.order, c.in_ok-add.ensures.interval, c.in_ok-make_room.ensures.choices.same_order, c.in_ok-add.ensures.ok, c.in_ok-add_key.ensures.ok, c.in_ok-self.ensures.ok, c.make_room.ensures.choices.same_compressor)
-          (laid_added _ (g.C.Cmp.accepts old.block.cmp) (g.C.Cmp.cmp old.block.cmp) (g.C.Cmp.shortest_sep old.block.cmp) g.FP.FilterPolicy.filter_for g.FP.FilterPolicy.matches keeps
-          (stage c.make_room.new.self) c.args.key.now c.args.value.now (written ++ made.bytes) pairs (c.requires.accepted c.in_ok-check_unbroken.ensures.ok) laid.1 c.in_ok-make_room.ensures.ready.0.filtered
-          (rw (sym c.in_ok-make_room.ensures.choices.same_policy) at laid.0));
+      added = record {
+        bytes = made.bytes;
+        put = made.put;
+        begun = λ written pairs begun.
+            let laid = made.laid written pairs begun in
+            rw (c.in_ok-add.ensures.order, c.in_ok-add.ensures.interval, c.in_ok-make_room.ensures.choices.same_order, c.in_ok-add.ensures.ok, c.in_ok-add_key.ensures.ok, c.in_ok-self.ensures.ok, c.make_room.ensures.choices.same_compressor)
+            (laid_added _ (g.C.Cmp.accepts old.block.cmp) (g.C.Cmp.cmp old.block.cmp) (g.C.Cmp.shortest_sep old.block.cmp) g.FP.FilterPolicy.filter_for g.FP.FilterPolicy.matches keeps
+            (stage c.make_room.new.self) c.args.key.now c.args.value.now (written ++ made.bytes) pairs (c.requires.accepted c.in_ok-check_unbroken.ensures.ok) laid.1 c.in_ok-make_room.ensures.ready.0.filtered
+            (rw (sym c.in_ok-make_room.ensures.choices.same_policy) at laid.0));
+      };
+      full = λ full. c.in_ok-add.ensures.ok ∙ ap (λ pairs. pairs ++ (c.args.key.now, c.args.value.now) ∷ []) (c.in_ok-make_room.ensures.full full);
+      closed = λ full.
+          elim c.in_ok-make_room.ensures.has_room [
+            | inl left ↦ absurd (left.0 full)
+            | inr (is, empty, bytes, put, closes) ↦
+                record {
+                  bytes = bytes;
+                  mid = stage c.make_room.new.self;
+                  put = put;
+                  closes = closes;
+                  added = rw (c.in_ok-add.ensures.interval, c.in_ok-add.ensures.ok, c.in_ok-add_key.ensures.ok, c.in_ok-self.ensures.ok) refl;
+                }
+          ];
+      stored = λ full none. (c.in_ok-make_room.ensures.unset full none).0;
+      room = λ room.
+          elim c.in_ok-make_room.ensures.has_room [
+            | inl left ↦ (
+              rw (c.in_ok-add.ensures.interval, c.in_ok-add.ensures.ok, c.in_ok-add_key.ensures.ok, c.in_ok-self.ensures.ok) (ap (with_pair (c.args.key.now, c.args.value.now)) left.1),
+              left.3,
+            )
+            | inr closed ↦ absurd (room closed.0)
+          ];
+      last = rw (c.in_ok-add.ensures.ok) (last_pushed (pairs_of None c.make_room.new.self.block.built.0) (c.args.key.now, c.args.value.now));
+      count = search rules;
+      unbroken = search rules;
     }
-
-pub returns-clause-last : goal.returns-clause-last
-returns-clause-last g c = rw (c.in_ok-add.ensures.ok) (last_pushed (pairs_of None c.make_room.new.self.block.built.0) (c.args.key.now, c.args.value.now))
-
-pub returns-in_err-check_unbroken-clause-cause : goal.returns-in_err-check_unbroken-clause-cause
-returns-in_err-check_unbroken-clause-cause g c =
-    let p = err_from_is_err_and c.from_residual.result c.from_residual.ensures.1 in
-    rw (p.1, p.2) (inl (c.in_err-check_unbroken.ensures.err.0, c.in_err-check_unbroken.ensures.err.1, refl))
-
-pub returns-in_err-check_unbroken-clause-sink : goal.returns-in_err-check_unbroken-clause-sink
-returns-in_err-check_unbroken-clause-sink g c = OnErr-always c.from_residual.result (inl refl)
-
-pub returns-in_err-make_room-clause-cause : goal.returns-in_err-make_room-clause-cause
-returns-in_err-make_room-clause-cause g c =
-    let p = err_from_is_err_and c.from_residual-in_err-make_room.result c.from_residual-in_err-make_room.ensures.1 in
-    rw (p.1, p.2) (inr (c.in_ok-check_unbroken.ensures.ok, inr (inl c.in_err-make_room.ensures.cause)))
-
-pub returns-in_err-make_room-clause-sink : goal.returns-in_err-make_room-clause-sink
-returns-in_err-make_room-clause-sink g c =
-    OnErr-with c.from_residual-in_err-make_room.result _ _ (λ status. tries_refused _ c.args.self.now g.S.Sink.puts (c.args.key.now, c.args.value.now) c.args.sink.now status c.make_room.new.sink) (returns-in_err-make_room-clause-cause g c)
-
-pub returns-in_err-add_key-clause-cause : goal.returns-in_err-add_key-clause-cause
-returns-in_err-add_key-clause-cause g c =
-    let p = err_from_is_err_and c.from_residual-in_err-add_key.result c.from_residual-in_err-add_key.ensures.1 in
-    rw (p.1, p.2) (
-    inr (
-      c.in_ok-check_unbroken.ensures.ok,
-      taken_after _ c.args.self.now g.S.Sink.puts (c.args.key.now, c.args.value.now) c.make_room.new.self c.args.sink.now c.in_err-add_key.field-0.0 c.make_room.new.sink c.in_ok-make_room.ensures.has_room (inl c.in_err-add_key.ensures.memory),
-    )
-    )
-
-pub returns-in_err-add_key-clause-sink : goal.returns-in_err-add_key-clause-sink
-returns-in_err-add_key-clause-sink g c = OnErr-with c.from_residual-in_err-add_key.result _ _ (λ status. tries_refused _ c.args.self.now g.S.Sink.puts (c.args.key.now, c.args.value.now) c.args.sink.now status c.make_room.new.sink) (returns-in_err-add_key-clause-cause g c)
-
-pub returns-in_err-add-clause-cause : goal.returns-in_err-add-clause-cause
-returns-in_err-add-clause-cause g c =
-    let p = err_from_is_err_and c.from_residual-in_err-add.result c.from_residual-in_err-add.ensures.1 in
-    rw (p.1, p.2) (
-    inr (
-      c.in_ok-check_unbroken.ensures.ok,
-      taken_after _ c.args.self.now g.S.Sink.puts (c.args.key.now, c.args.value.now) c.make_room.new.self c.args.sink.now c.in_err-add.field-0.0 c.make_room.new.sink c.in_ok-make_room.ensures.has_room (elim c.in_err-add.ensures.cause [ inl code ↦ inr (inr (code, c.in_err-add.ensures.too_large.0 code)) | inr memory ↦ inl memory ]),
-    )
-    )
-
-pub returns-in_err-add-clause-sink : goal.returns-in_err-add-clause-sink
-returns-in_err-add-clause-sink g c = OnErr-with c.from_residual-in_err-add.result _ _ (λ status. tries_refused _ c.args.self.now g.S.Sink.puts (c.args.key.now, c.args.value.now) c.args.sink.now status c.make_room.new.sink) (returns-in_err-add-clause-cause g c)
-
-pub returns-in_err-self-clause-cause : goal.returns-in_err-self-clause-cause
-returns-in_err-self-clause-cause g c =
-    let p = err_from_is_err_and c.from_residual-in_err-self.result c.from_residual-in_err-self.ensures.1 in
-    rw (p.1, p.2) (
-    inr (
-      c.in_ok-check_unbroken.ensures.ok,
-      taken_after _ c.args.self.now g.S.Sink.puts (c.args.key.now, c.args.value.now) c.make_room.new.self c.args.sink.now c.in_err-self.field-0.0 c.make_room.new.sink c.in_ok-make_room.ensures.has_room (inr (inl (subst (λ n. IsTooLong (n + 1) c.in_err-self.field-0.0) c.make_room.ensures.count c.in_err-self.ensures.cause))),
-    )
-    )
-
-pub returns-in_err-self-clause-sink : goal.returns-in_err-self-clause-sink
-returns-in_err-self-clause-sink g c = OnErr-with c.from_residual-in_err-self.result _ _ (λ status. tries_refused _ c.args.self.now g.S.Sink.puts (c.args.key.now, c.args.value.now) c.args.sink.now status c.make_room.new.sink) (returns-in_err-self-clause-cause g c)
-
-pub returns-clause-closed : goal.returns-clause-closed
-returns-clause-closed g c = λ full.
-    elim c.in_ok-make_room.ensures.has_room [
-      | inl left ↦ absurd (left.0 full)
-      | inr (is, empty, bytes, put, closes) ↦
-          record {
-            bytes = bytes;
-            mid = stage c.make_room.new.self;
-            put = put;
-            closes = closes;
-            added = rw (c.in_ok-add.ensures.interval, c.in_ok-add.ensures.ok, c.in_ok-add_key.ensures.ok, c.in_ok-self.ensures.ok) refl;
-          }
-    ]
-
-pub returns-clause-room : goal.returns-clause-room
-returns-clause-room g c = λ room.
-    elim c.in_ok-make_room.ensures.has_room [
-      | inl left ↦ (
-        rw (c.in_ok-add.ensures.interval, c.in_ok-add.ensures.ok, c.in_ok-add_key.ensures.ok, c.in_ok-self.ensures.ok) (ap (with_pair (c.args.key.now, c.args.value.now)) left.1),
-        left.3,
-      )
-      | inr closed ↦ absurd (room closed.0)
-    ]

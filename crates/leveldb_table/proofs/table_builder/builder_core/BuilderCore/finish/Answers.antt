@@ -45,22 +45,22 @@ returns-clause-ok g c =
     let last = c.in_ok-close_last.ensures.ok in
     let keeps = keeps_keys g.FP.FilterPolicy.filter_for g.FP.FilterPolicy.matches g.met.FP.FilterPolicy.finds in
     IfOk-weaker c.put_end.result _ _ (λ size end. record {
-      bytes = last.bytes ++ end.bytes;
-      mid = end.mid;
-      put = PutsAll-trans g.S.Sink.puts last.put (PutsEnd-all g.S.Sink.puts g.S.Sink.flushes end);
-      flushed = end.flushed;
-      made = λ written pairs begun.
-          let laid = last.laid written pairs begun in
-          rw (sym (append_assoc written last.bytes end.bytes)) (table_made _ (g.met.C.Cmp.preorder self.block.cmp) (g.C.Cmp.shortest_sep self.block.cmp) (g.met.C.Cmp.separates self.block.cmp)
-          g.FP.FilterPolicy.filter_for g.FP.FilterPolicy.matches keeps g.FP.FilterPolicy.name self.filter.policy (g.C.Cmp.cmp mid.index.cmp) (g.C.Cmp.short_succ self.block.cmp) self.compressor (stage mid) last.next (written ++ last.bytes) end.bytes pairs size self.block.interval self.index.interval
-          c.in_ok-close_last.ensures.order c.close_last.ensures.policy c.close_last.ensures.intervals laid.0 laid.1 (rw c.close_last.ensures.compressor at end.ended));
-    }) c.put_end.ensures.ok
-
-pub returns-clause-pieces : goal.returns-clause-pieces
-returns-clause-pieces g c =
-    IfOk-weaker c.put_end.result _ _ (λ size end. record {
-      last = stage c.close_last.new.self;
-      mid = c.close_last.new.sink;
-      closed = c.in_ok-close_last.ensures.rest;
-      ended = PutsEnd-same g.S.Sink.puts g.S.Sink.flushes g.FP.FilterPolicy.filter_for g.FP.FilterPolicy.name c.in_ok-close_last.ensures.order c.close_last.ensures.policy c.close_last.ensures.compressor end;
+      finishes = record {
+        bytes = last.bytes ++ end.bytes;
+        mid = end.mid;
+        put = PutsAll-trans g.S.Sink.puts last.put (PutsEnd-all g.S.Sink.puts g.S.Sink.flushes end);
+        flushed = end.flushed;
+        made = λ written pairs begun.
+            let laid = last.laid written pairs begun in
+            rw (sym (append_assoc written last.bytes end.bytes)) (table_made _ (g.met.C.Cmp.preorder self.block.cmp) (g.C.Cmp.shortest_sep self.block.cmp) (g.met.C.Cmp.separates self.block.cmp)
+            g.FP.FilterPolicy.filter_for g.FP.FilterPolicy.matches keeps g.FP.FilterPolicy.name self.filter.policy (g.C.Cmp.cmp mid.index.cmp) (g.C.Cmp.short_succ self.block.cmp) self.compressor (stage mid) last.next (written ++ last.bytes) end.bytes pairs size self.block.interval self.index.interval
+            c.in_ok-close_last.ensures.order c.close_last.ensures.policy c.close_last.ensures.intervals laid.0 laid.1 (rw c.close_last.ensures.compressor at end.ended));
+      };
+      pieces = record {
+        last = stage c.close_last.new.self;
+        mid = c.close_last.new.sink;
+        closed = c.in_ok-close_last.ensures.rest;
+        ended = PutsEnd-same g.S.Sink.puts g.S.Sink.flushes g.FP.FilterPolicy.filter_for g.FP.FilterPolicy.name c.in_ok-close_last.ensures.order c.close_last.ensures.policy c.close_last.ensures.compressor end;
+      };
+      unbroken = c.in_ok-check_unbroken.ensures.ok;
     }) c.put_end.ensures.ok

@@ -1,4 +1,4 @@
-use Rattle.std.proofs.Common.{◌≡◌, None, ◌∙◌, ap, subst}
+use Rattle.std.proofs.Common.{◌≡◌, None, ◌∙◌, ap, subst, rules}
 use Rattle.leveldb_base.specs.declared.cmp.Cmp.{Ghosts as CmpGhosts}
 use Rattle.leveldb_table.specs.Block.{pairs_of, HasEntries}
 use Rattle.leveldb_table.specs.BlockLaws.{one_block}
@@ -11,7 +11,11 @@ same_pairs {order = order} copy block contents ordered =
     let encoded = subst (λ bytes. HasEntries (order.cmp block.cmp) bytes copy.entries.0) contents (subst (λ z. HasEntries (order.cmp z) copy.contents copy.entries.0) ordered copy.entries.1.encoded) in
     ap (pairs_of None) (one_block encoded block.entries.1.encoded)
 
-pub returns-clause-lines : goal.returns-clause-lines
-returns-clause-lines g c =
+pub returns-clause-ok : goal.returns-clause-ok
+returns-clause-ok g c =
     let copied = c.in_ok-clone.ensures.cases in
-    ap (λ (block : Block g.row.C.Denot g.C.Cmp). pairs_of None block.entries.0) c.new.ensures.block ∙ same_pairs c.in_ok-clone.field-0 c.args.table.now.index copied.0 copied.1
+    record {
+      lines = ap (λ (block : Block g.row.C.Denot g.C.Cmp). pairs_of None block.entries.0) c.new.ensures.block ∙ same_pairs c.in_ok-clone.field-0 c.args.table.now.index copied.0 copied.1;
+      ordered = search rules;
+      position = search rules;
+    }
