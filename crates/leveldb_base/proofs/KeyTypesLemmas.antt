@@ -13,7 +13,7 @@ use Rattle.leveldb_base.specs.Varint.{little, IsVarint, varint, sized, ReadsSize
 use Rattle.leveldb_base.proofs.VarintLemmas.{IsVarint-varint, apart, one_number, one_sized, little-little_number}
 use Rattle.leveldb_base.specs.declared.key_types.ValueType.{ValueType}
 use Rattle.leveldb_base.specs.declared.key_types.ValueType.TheVariants.{TypeDeletion, TypeValue}
-use Rattle.leveldb_base.specs.KeyTypes.{type_number, type_from, tag, internal_key, user_part, tag_part, sequence_part, type_part, lookup_key, memtable_key, tail_of, HasParts, front_number, after_number, inner_key}
+use Rattle.leveldb_base.specs.KeyTypes.{type_number, type_from, tag, internal_key, user_part, tag_part, sequence_part, type_part, lookup_key, memtable_key, after_user_key, SplitsInto, front_number, after_number, front_key}
 use Rattle.leveldb_base.specs.CmpLaws.{length-internal_key, type_number-le, tag_part-internal_key}
 
 type_from-tag : (sequence : ℕ) (kind : ValueType) → type_from (tag sequence kind % 256) ≡ kind
@@ -67,8 +67,8 @@ after_number-encoding (b ∷ c ∷ bytes) rest n f =
     rw high (after_number-encoding (c ∷ bytes) rest f.2 f.5)
 
 -- a text after its length is the text at the front
-pub inner_key-sized : (text rest : List ℕ) → inner_key (sized text ++ rest) ≡ text
-inner_key-sized text rest =
+pub front_key-sized : (text rest : List ℕ) → front_key (sized text ++ rest) ≡ text
+front_key-sized text rest =
     let whole = sized text ++ rest in
     let split : whole ≡ varint (length text) ++ (text ++ rest) = append_assoc (varint (length text)) text rest in
     let spells = IsVarint-varint (length text) in
@@ -83,11 +83,11 @@ none_in_front bytes text true e none = absurd (none _ ((starts_is Decides-eqb by
 none_in_front bytes text false e none = refl
 
 -- what reading a sized text gives is the text in front, or the empty text
-pub inner_key-read : (bytes text rest : List ℕ) → ReadsSized bytes (Some (text, rest)) → inner_key bytes ≡ text
-inner_key-read bytes text rest e = ap inner_key e ∙ inner_key-sized text rest
+pub front_key-read : (bytes text rest : List ℕ) → ReadsSized bytes (Some (text, rest)) → front_key bytes ≡ text
+front_key-read bytes text rest e = ap front_key e ∙ front_key-sized text rest
 
-pub inner_key-unread : (bytes : List ℕ) → length bytes < 2 ^ 64 → ReadsSized bytes None → inner_key bytes ≡ []
-inner_key-unread bytes h none =
+pub front_key-unread : (bytes : List ℕ) → length bytes < 2 ^ 64 → ReadsSized bytes None → front_key bytes ≡ []
+front_key-unread bytes h none =
     let text = take (front_number bytes) (after_number bytes) in
     none_in_front bytes text (starts_with nat_eq bytes (sized text)) refl (λ rest e. none text rest (text_within bytes text rest e h) e)
   where
@@ -98,16 +98,16 @@ inner_key-unread bytes h none =
         let same = ap length e in
         omega (arith, outer, inner, same)
 
-pub inner_key-lookup_key : (user : List ℕ) (sequence : ℕ) (kind : ValueType) → inner_key (lookup_key user sequence kind) ≡ internal_key user sequence kind
-inner_key-lookup_key user sequence kind =
-    ap inner_key (sym (append-nil (lookup_key user sequence kind))) ∙ inner_key-sized (internal_key user sequence kind) []
+pub front_key-lookup_key : (user : List ℕ) (sequence : ℕ) (kind : ValueType) → front_key (lookup_key user sequence kind) ≡ internal_key user sequence kind
+front_key-lookup_key user sequence kind =
+    ap front_key (sym (append-nil (lookup_key user sequence kind))) ∙ front_key-sized (internal_key user sequence kind) []
 
-pub inner_key-memtable_key : (user : List ℕ) (sequence : ℕ) (kind : ValueType) (value : List ℕ) → inner_key (memtable_key user sequence kind value) ≡ internal_key user sequence kind
-inner_key-memtable_key user sequence kind value = inner_key-sized (internal_key user sequence kind) (sized value)
+pub front_key-memtable_key : (user : List ℕ) (sequence : ℕ) (kind : ValueType) (value : List ℕ) → front_key (memtable_key user sequence kind value) ≡ internal_key user sequence kind
+front_key-memtable_key user sequence kind value = front_key-sized (internal_key user sequence kind) (sized value)
 
 -- what is written for an entry has the entry's parts
-pub HasParts-memtable_key : (user : List ℕ) (sequence : ℕ) (kind : ValueType) (value : List ℕ) → sequence < 2 ^ 56 → HasParts (memtable_key user sequence kind value) user (Some (tag sequence kind, value))
-HasParts-memtable_key user sequence kind value h =
+pub SplitsInto-memtable_key : (user : List ℕ) (sequence : ℕ) (kind : ValueType) (value : List ℕ) → sequence < 2 ^ 56 → SplitsInto (memtable_key user sequence kind value) user (Some (tag sequence kind, value))
+SplitsInto-memtable_key user sequence kind value h =
     let key = internal_key user sequence kind in
     let number = tag sequence kind in
     let small = type_number-le kind in (
@@ -122,7 +122,7 @@ one_little : (m n : ℕ) → m < 2 ^ 64 → n < 2 ^ 64 → little 8 m ≡ little
 one_little m n h g e =
     sym (little_number-reads_back 8 m [] h) ∙ ap (λ z. little_number 8 (z ++ [])) e ∙ little_number-reads_back 8 n [] g
 
-one_tail : (these those : Option (ℕ × List ℕ)) → IfSome these (λ tagged. tagged.0 < 2 ^ 64) → IfSome those (λ tagged. tagged.0 < 2 ^ 64) → tail_of these ≡ tail_of those → these ≡ those
+one_tail : (these those : Option (ℕ × List ℕ)) → IfSome these (λ tagged. tagged.0 < 2 ^ 64) → IfSome those (λ tagged. tagged.0 < 2 ^ 64) → after_user_key these ≡ after_user_key those → these ≡ those
 one_tail None None h g e = refl
 one_tail None (Some (n, value)) h g e =
     let size = length-append (little 8 n) (sized value) in
@@ -141,9 +141,9 @@ one_tail (Some (m, value)) (Some (n, other)) h g e =
     cc
 
 -- bytes have no other parts
-pub one_HasParts : (bytes user other : List ℕ) (these those : Option (ℕ × List ℕ)) → HasParts bytes user these → HasParts bytes other those → (user ≡ other) × (these ≡ those)
-one_HasParts bytes user other these those h g =
-    let front = one_number (length user + 8) (length other + 8) (user ++ tail_of these) (other ++ tail_of those) (sym h.0 ∙ g.0) in
+pub one_SplitsInto : (bytes user other : List ℕ) (these those : Option (ℕ × List ℕ)) → SplitsInto bytes user these → SplitsInto bytes other those → (user ≡ other) × (these ≡ those)
+one_SplitsInto bytes user other these those h g =
+    let front = one_number (length user + 8) (length other + 8) (user ++ after_user_key these) (other ++ after_user_key those) (sym h.0 ∙ g.0) in
     let size = front.0 in
-    let split = apart user other (tail_of these) (tail_of those) (omega (arith, size)) front.1 in
+    let split = apart user other (after_user_key these) (after_user_key those) (omega (arith, size)) front.1 in
     (split.0, one_tail these those h.1 g.1 split.1)

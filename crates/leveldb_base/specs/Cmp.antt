@@ -7,7 +7,7 @@ use Rattle.std.specs.Option.{option_map}
 use Rattle.std.specs.Cmp.Lexicographic.{slice_cmp}
 use Rattle.std.specs.Str.{bytes_eq}
 use Rattle.leveldb_base.specs.declared.key_types.ValueType.TheVariants.{TypeValue}
-use Rattle.leveldb_base.specs.KeyTypes.{internal_key, user_part, sequence_part, inner_key, greatest_sequence}
+use Rattle.leveldb_base.specs.KeyTypes.{internal_key, user_part, sequence_part, front_key, greatest_sequence}
 
 -- ---- what a comparator promises
 
@@ -112,7 +112,7 @@ internal_accepts accepts key = nat_le 8 (length key) && accepts (user_part key)
 
 -- they are accepted where their internal keys are
 abbrev pub memtable_accepts : (List ℕ → Bool) → List ℕ → Bool
-memtable_accepts accepts key = internal_accepts accepts (inner_key key)
+memtable_accepts accepts key = internal_accepts accepts (front_key key)
 
 -- The same bytes separate themselves. Else it is the separator of the users' keys: with the
 -- greatest sequence number where it is shorter than a's user key and after it, so that it is the

@@ -20,7 +20,7 @@ use Rattle.byteorder.specs.Numbers.{little_number-reads_back, length-bytes_low_f
 use Rattle.leveldb_base.specs.Varint.{little}
 use Rattle.leveldb_base.specs.declared.key_types.ValueType.{ValueType}
 use Rattle.leveldb_base.specs.declared.key_types.ValueType.TheVariants.{TypeDeletion, TypeValue}
-use Rattle.leveldb_base.specs.KeyTypes.{type_number, tag, internal_key, user_part, tag_part, sequence_part, internal_cmp, inner_key, greatest_sequence, memtable_cmp}
+use Rattle.leveldb_base.specs.KeyTypes.{type_number, tag, internal_key, user_part, tag_part, sequence_part, internal_cmp, front_key, greatest_sequence, memtable_cmp}
 
 -- ---- what follows from the laws of a comparator
 
@@ -384,7 +384,7 @@ module _ {accepts : List ℕ → Bool} {cmp : List ℕ → List ℕ → Ordering
 
   -- and one on memtable keys
   pub memtable_preorder : IsPreorderOn (memtable_accepts accepts) (memtable_cmp cmp)
-  memtable_preorder = preorder_by internal_preorder inner_key
+  memtable_preorder = preorder_by internal_preorder front_key
 
   -- memtable keys are their own separators and successors
   pub memtable_separates : (a b : List ℕ) → memtable_accepts accepts a ≡ true

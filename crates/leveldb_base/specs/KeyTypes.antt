@@ -57,20 +57,20 @@ memtable_key user sequence kind value = lookup_key user sequence kind ++ sized v
 
 -- what follows the user's key of an entry in memory: its tag and its value after its length, or
 -- nothing where the key is cut there
-abbrev pub tail_of : Option (ℕ × List ℕ) → List ℕ
-tail_of None = []
-tail_of (Some (number, value)) = little 8 number ++ sized value
+abbrev pub after_user_key : Option (ℕ × List ℕ) → List ℕ
+after_user_key None = []
+after_user_key (Some (number, value)) = little 8 number ++ sized value
 
 -- the bytes are the length of an internal key, the user's key, and such a tail, with a tag of 64
 -- bits
-abbrev pub HasParts : List ℕ → List ℕ → Option (ℕ × List ℕ) → Type 0
-HasParts bytes user parts =
-    (bytes ≡ varint (length user + 8) ++ (user ++ tail_of parts))
+abbrev pub SplitsInto : List ℕ → List ℕ → Option (ℕ × List ℕ) → Type 0
+SplitsInto bytes user parts =
+    (bytes ≡ varint (length user + 8) ++ (user ++ after_user_key parts))
     × IfSome parts (λ tagged. tagged.0 < 2 ^ 64)
 
 -- an entry in memory, whole or cut before its tag
 abbrev pub IsMemtableKey : List ℕ → Type 0
-IsMemtableKey bytes = (user : List ℕ) × (parts : Option (ℕ × List ℕ)) × HasParts bytes user parts
+IsMemtableKey bytes = (user : List ℕ) × (parts : Option (ℕ × List ℕ)) × SplitsInto bytes user parts
 
 -- the length and offset of the user's key, the tag, and the length and offset of the value
 abbrev pub offsets_of : List ℕ → Option (ℕ × List ℕ) → ℕ × ℕ × ℕ × ℕ × ℕ
@@ -91,14 +91,14 @@ after_number [] = []
 after_number (b ∷ bytes) = if nat_lt b 128 then bytes else after_number bytes
 
 -- the internal key after its length at the front, or the empty text where there is none
-abbrev pub inner_key : List ℕ → List ℕ
-inner_key bytes =
+abbrev pub front_key : List ℕ → List ℕ
+front_key bytes =
     let text = take (front_number bytes) (after_number bytes) in
     if starts_with nat_eq bytes (sized text) then text else []
 
 -- memtable keys and look-up keys are ordered by their internal keys
 abbrev pub memtable_cmp : (List ℕ → List ℕ → Ordering) → List ℕ → List ℕ → Ordering
-memtable_cmp cmp a b = internal_cmp cmp (inner_key a) (inner_key b)
+memtable_cmp cmp a b = internal_cmp cmp (front_key a) (front_key b)
 
 -- the greatest sequence number
 abbrev pub greatest_sequence : ℕ

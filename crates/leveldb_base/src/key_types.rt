@@ -7,7 +7,7 @@
 ghost use Rattle.std.specs.Prelude.{◌≡◌, ◌+◌, ◌/◌, ◌%◌, ◌^◌, ◌<◌, ◌≤◌, ◌⊎◌, ℕ, List, [], ◌++◌, Option, Some, IfOk, IfErr, length, drop, vec_len};
 ghost use Rattle.leveldb_base.specs.Error.{IsOutOfMemory};
 ghost use Rattle.leveldb_base.specs.Varint.{little, varint, sized};
-ghost use Rattle.leveldb_base.specs.KeyTypes.{type_from, tag, internal_key, user_part, tag_part, sequence_part, type_part, memtable_key, internal_cmp, memtable_cmp, inner_key, tail_of, HasParts, IsMemtableKey, offsets_of};
+ghost use Rattle.leveldb_base.specs.KeyTypes.{type_from, tag, internal_key, user_part, tag_part, sequence_part, type_part, memtable_key, internal_cmp, memtable_cmp, front_key, after_user_key, SplitsInto, IsMemtableKey, offsets_of};
 
 use crate::cmp::Cmp;
 use crate::error::{Result, Status};
@@ -179,7 +179,7 @@ pub fn tag_bytes(sequence: SequenceNumber, kind: ValueType) -> [u8; TAG_LEN]
 /// the offset of its value. The last three are 0 for a key that ends before its tag.
 pub fn parse_memtable_key(mkey: MemtableKey<'_>) -> (usize, usize, u64, usize, usize)
     requires { IsMemtableKey mkey.now }
-    ensures { (user : List ℕ) (parts : Option (ℕ × List ℕ)) → HasParts mkey.now user parts
+    ensures { (user : List ℕ) (parts : Option (ℕ × List ℕ)) → SplitsInto mkey.now user parts
         → result ≡ offsets_of user parts }
 {
     let (len, offset, tail) = split_user_key(mkey);
@@ -193,9 +193,9 @@ pub fn parse_memtable_key(mkey: MemtableKey<'_>) -> (usize, usize, u64, usize, u
 // The length and the offset of the user's key, and the bytes after it.
 fn split_user_key(mkey: &[u8]) -> (usize, usize, &[u8])
     requires { IsMemtableKey mkey.now }
-    ensures parts { (user : List ℕ) (parts : Option (ℕ × List ℕ)) → HasParts mkey.now user parts
+    ensures parts { (user : List ℕ) (parts : Option (ℕ × List ℕ)) → SplitsInto mkey.now user parts
         → (result.0 ≡ length user) × (result.1 ≡ length (varint (length user + 8)))
-        × (result.2.now ≡ tail_of parts) }
+        × (result.2.now ≡ after_user_key parts) }
     ensures whole { result.1 + result.0 + length result.2.now ≡ length mkey.now }
 {
     let (len, offset) = front_len(mkey);
@@ -240,7 +240,7 @@ pub fn cmp_memtable_key<C: Cmp>(ucmp: &C, a: MemtableKey<'_>, b: MemtableKey<'_>
 /// The internal key after its length at the front, or the empty text where there is none.
 #[inline]
 pub fn front_key(key: MemtableKey<'_>) -> InternalKey<'_>
-    ensures { result.now ≡ inner_key key.now }
+    ensures { result.now ≡ front_key key.now }
 {
     match get_length_prefixed_slice(key) {
         Some((key, _)) => key,

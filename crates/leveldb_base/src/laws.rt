@@ -4,7 +4,7 @@ ghost use Rattle.std.specs.Prelude.{◌≡◌, ◌↔◌, ℕ, ◌%◌, ◌^◌,
 ghost use Rattle.byteorder.specs.Endian.{little_number};
 ghost use Rattle.leveldb_base.specs.Varint.{little, IsVarint, varint, sized, ReadsVarint, ReadsSized};
 ghost use Rattle.leveldb_base.specs.BlockHandle.{Handle, HandleFits, handle_bytes, ReadsHandle};
-ghost use Rattle.leveldb_base.specs.KeyTypes.{tag, internal_key, user_part, tag_part, sequence_part, type_part, lookup_key, memtable_key, inner_key, HasParts};
+ghost use Rattle.leveldb_base.specs.KeyTypes.{tag, internal_key, user_part, tag_part, sequence_part, type_part, lookup_key, memtable_key, front_key, SplitsInto};
 ghost use Rattle.leveldb_base.specs.declared.key_types.ValueType.{ValueType};
 ghost use Rattle.leveldb_base.specs.declared.error.Status.{Status};
 ghost use Rattle.leveldb_base.specs.declared.types.FileType.{FileType};
@@ -88,14 +88,14 @@ pub fn internal_keys_have_one_encoding()
 pub fn memtable_keys_have_one_encoding()
     ensures written { (user : List ℕ) (sequence : ℕ) (kind : ValueType) (value : List ℕ)
         → sequence < 2 ^ 56
-        → HasParts (memtable_key user sequence kind value) user (Some (tag sequence kind, value)) }
+        → SplitsInto (memtable_key user sequence kind value) user (Some (tag sequence kind, value)) }
     ensures only { (bytes user other : List ℕ) (these those : Option (ℕ × List ℕ))
-        → HasParts bytes user these → HasParts bytes other those
+        → SplitsInto bytes user these → SplitsInto bytes other those
         → (user ≡ other) × (these ≡ those) }
     ensures entry { (user : List ℕ) (sequence : ℕ) (kind : ValueType) (value : List ℕ)
-        → inner_key (memtable_key user sequence kind value) ≡ internal_key user sequence kind }
+        → front_key (memtable_key user sequence kind value) ≡ internal_key user sequence kind }
     ensures looked_up { (user : List ℕ) (sequence : ℕ) (kind : ValueType)
-        → inner_key (lookup_key user sequence kind) ≡ internal_key user sequence kind }
+        → front_key (lookup_key user sequence kind) ≡ internal_key user sequence kind }
 {}
 
 /// A name has one number and one type.

@@ -9,7 +9,7 @@ use Rattle.leveldb_env.specs.declared.mem_env.journal.Journal.{Journal}
 use Rattle.leveldb_env.specs.declared.mem_env.journal.Change.TheVariants.{Emptied, Created, Extended, Synced, Deleted, Renamed, Cleared}
 use Rattle.leveldb_env.specs.declared.mem_env.record.RecordEnv.{RecordEnv}
 use Rattle.leveldb_env.specs.Env.{ChangesFiles, BeforeOrAfter, PrefixAppended, FilesUnchanged, File, Files, same, created, extended, Observed, Within, with_file, deleted, moved, longer_file, is_under, without_folder, FilesCrashTo, FileCrashesTo}
-use Rattle.leveldb_env.specs.Journal.{Requested, where_done, name_in, finds_file, IsChangeError, noted, after, files_after, cut_off, cut_off_if, is_append, call_after, side_of, files_at, FilesWere}
+use Rattle.leveldb_env.specs.Journal.{Requested, where_done, name_in, finds_file, IsChangeError, noted, after, files_after_calls, cut_off, cut_off_if, is_append, call_after, side_of, files_at, FilesWere}
 use Rattle.leveldb_env.specs.MemEnv.{files_of, IsNoSuchFile}
 use Rattle.leveldb_env.specs.Record.{record_observed, files_were, Passed, files_in, locked_in, moment_of, is_past, is_chosen, is_chosen_made, one_more_failure, FilesWereInside, CountsCall, ChangesNoFile, RequestsChange, CrashesByChoice}
 use Rattle.leveldb_env.proofs.MemEnvLemmas.{PrefixAppended-from_sides, Contains-head, Contains-tail, FileMap, AreNames-there, unique_names}
@@ -253,8 +253,8 @@ first_names map = let all = unique_names map in (_, λ name there. (all.there na
 names_at : (first : FileMap) (calls : List Call) (moment : ℕ) (side : Bool) → HasNames (files_at (files_of first) calls moment side)
 names_at first calls moment side =
     let n = moment / 2 in
-    let before : HasNames (files_after (files_of first) calls n) = after_names (filter (λ call. nat_le call.number n) calls) (files_of first) (first_names first) in
-    where_done_names (moment % 2 == 1) (side_of side (call_after calls n)) (files_after (files_of first) calls n) (side_names side (call_after calls n) (files_after (files_of first) calls n)) before
+    let before : HasNames (files_after_calls (files_of first) calls n) = after_names (filter (λ call. nat_le call.number n) calls) (files_of first) (first_names first) in
+    where_done_names (moment % 2 == 1) (side_of side (call_after calls n)) (files_after_calls (files_of first) calls n) (side_names side (call_after calls n) (files_after_calls (files_of first) calls n)) before
 
 by_tails : (files : Files) → HasNames files → CrashesByTails files
 by_tails files has = λ left leaves. left_by_tails files left _ (AreNames-there files has.0 has.1) leaves
@@ -308,13 +308,13 @@ module _ (first : FileMap) (calls : List Call) (moment : ℕ) where
 
   pub left_by_choice : (files left : Files) → FilesWere (files_of first) calls moment files → FilesCrashTo files left → LeftByChoice (files_of first) calls moment left
   left_by_choice files left (inl is) leaves =
-      let before : FilesCrashTo (files_after (files_of first) calls (moment / 2)) left = subst (λ (f : Files). FilesCrashTo f left) is leaves in
-      by_side false left (Leaves-then (moment % 2 == 1) (call_after calls (moment / 2)) (files_after (files_of first) calls (moment / 2)) left before)
+      let before : FilesCrashTo (files_after_calls (files_of first) calls (moment / 2)) left = subst (λ (f : Files). FilesCrashTo f left) is leaves in
+      by_side false left (Leaves-then (moment % 2 == 1) (call_after calls (moment / 2)) (files_after_calls (files_of first) calls (moment / 2)) left before)
   left_by_choice files left (inr inside) leaves =
       let odd : (moment % 2 == 1) ≡ true = odd_test (moment % 2) inside.0 in
       let same : files ≡ files_at (files_of first) calls moment true =
-      inside.1 ∙ sym (inside_is (call_after calls (moment / 2)) (files_after (files_of first) calls (moment / 2)))
-      ∙ ap (λ b. where_done b (side_of true (call_after calls (moment / 2))) (files_after (files_of first) calls (moment / 2))) (sym odd) in
+      inside.1 ∙ sym (inside_is (call_after calls (moment / 2)) (files_after_calls (files_of first) calls (moment / 2)))
+      ∙ ap (λ b. where_done b (side_of true (call_after calls (moment / 2))) (files_after_calls (files_of first) calls (moment / 2))) (sym odd) in
       by_side true left (subst (λ (f : Files). FilesCrashTo f left) same leaves)
 
 pub leaves_by_choice : (env : RecordEnv) (moment : ℕ) → CrashesByChoice env moment

@@ -103,8 +103,8 @@ abbrev pub after : Files → Call → Files
 after files call = where_done call.done (noted call.change) files
 
 -- the files after the first n calls
-abbrev pub files_after : Files → List Call → ℕ → Files
-files_after first calls n = fold after first (filter (λ call. nat_le call.number n) calls)
+abbrev pub files_after_calls : Files → List Call → ℕ → Files
+files_after_calls first calls n = fold after first (filter (λ call. nat_le call.number n) calls)
 
 -- what a call may make of the files that is cut off
 abbrev pub cut_off : Change (String Global) (Vec ℕ Global) → Files → Files
@@ -121,12 +121,12 @@ call_after calls n = find (λ call. call.number == n + 1) calls
 
 -- what that call may make of the files
 abbrev pub files_inside : Files → List Call → ℕ → Files
-files_inside first calls n = cut_off_if (call_after calls n) (files_after first calls n)
+files_inside first calls n = cut_off_if (call_after calls n) (files_after_calls first calls n)
 
 -- Moment 2n is after the first n calls. Inside the next one, at 2n + 1, what it asks for may be
 -- made too.
 abbrev pub FilesWere : Files → List Call → ℕ → Files → Type 0
-FilesWere first calls moment files = (files ≡ files_after first calls (moment / 2))
+FilesWere first calls moment files = (files ≡ files_after_calls first calls (moment / 2))
     ⊎ ((moment % 2 ≡ 1) × (files ≡ files_inside first calls (moment / 2)))
 
 -- ---- one side of a moment
@@ -140,7 +140,7 @@ side_of side (Some call) files = where_done (side || is_append call.change)
 -- the files at a moment, on this side of a change in flight
 abbrev pub files_at : Files → List Call → ℕ → Bool → Files
 files_at first calls moment side = where_done (moment % 2 == 1)
-    (side_of side (call_after calls (moment / 2))) (files_after first calls (moment / 2))
+    (side_of side (call_after calls (moment / 2))) (files_after_calls first calls (moment / 2))
 
 -- no call is past the first n
 abbrev pub are_within : ℕ → List Call → Bool

@@ -7,7 +7,7 @@ use Rattle.leveldb_env.specs.declared.mem_env.MemEnv.{MemEnv}
 use Rattle.leveldb_env.specs.Env.{Files}
 use Rattle.leveldb_env.specs.declared.mem_env.journal.Journal.{Journal}
 use Rattle.leveldb_env.specs.declared.mem_env.record.RecordEnv.{RecordEnv}
-use Rattle.leveldb_env.specs.Journal.{files_after}
+use Rattle.leveldb_env.specs.Journal.{files_after_calls}
 use Rattle.leveldb_env.specs.MemEnv.{files_of, mem_observed}
 use Rattle.leveldb_env.specs.Record.{files_were, record_observed}
 
@@ -31,10 +31,10 @@ even : (n : ℕ) → (2 * n) % 2 ≡ 1 → ⊥
 even n odd = absurd (omega arith)
 
 replayed_now : (journal : Journal)
-    → files_of journal.files ≡ files_after (files_of journal.first) journal.calls.items
+    → files_of journal.files ≡ files_after_calls (files_of journal.first) journal.calls.items
     ((2 * journal.count) / 2)
 replayed_now journal = journal.replayed
-    ∙ ap (files_after (files_of journal.first) journal.calls.items) (sym (halved journal.count))
+    ∙ ap (files_after_calls (files_of journal.first) journal.calls.items) (sym (halved journal.count))
 
 only_last : (journal : Journal) (files : Files) → files_were journal (2 * journal.count) files
     → files ≡ files_of journal.files

@@ -5,8 +5,8 @@ use Rattle.leveldb_base.specs.declared.error.StatusCode.TheVariants.{InvalidArgu
 use Rattle.leveldb_env.specs.declared.options.Options.{Options}
 
 -- from the least to 2^30
-abbrev pub IsWithin : ℕ → ℕ → Type 0
-IsWithin least n = (least ≤ n) × (n ≤ 2 ^ 30)
+abbrev pub IsSizeWithin : ℕ → ℕ → Type 0
+IsSizeWithin least n = (least ≤ n) × (n ≤ 2 ^ 30)
 
 -- the types of what options own in boxes: the sink of their log, and compressors
 pub record Boxed : Type 1 where
@@ -31,12 +31,12 @@ OptionsOf C FP B = Options C FP B.sinks B.compressors B.sink B.compressor
 module _ {C FP : Type 0} {B : Boxed} where
   -- the limits of sizes and counts
   pub record AreWithinLimits (options : OptionsOf C FP B) : Type 0 where
-    pub write_buffer : IsWithin 1 options.write_buffer_size
-    pub open_files : IsWithin 11 options.max_open_files
-    pub file : IsWithin 1 options.max_file_size
-    pub block : IsWithin 1 options.block_size
-    pub restart_interval : IsWithin 1 options.block_restart_interval
-    pub block_cache : IsWithin options.block_size options.block_cache_capacity_bytes
+    pub write_buffer : IsSizeWithin 1 options.write_buffer_size
+    pub open_files : IsSizeWithin 11 options.max_open_files
+    pub file : IsSizeWithin 1 options.max_file_size
+    pub block : IsSizeWithin 1 options.block_size
+    pub restart_interval : IsSizeWithin 1 options.block_restart_interval
+    pub block_cache : IsSizeWithin options.block_size options.block_cache_capacity_bytes
 
   -- `InvalidArgument` where they aren't kept
   abbrev pub IsLimitError : OptionsOf C FP B → Status → Type 0

@@ -170,7 +170,7 @@ pub record IsFresh (env : RecordEnv) : Type 0 where
   pub fails_in : fails_in env ≡ 0
 
 -- a crash at a moment may leave what is left: the disk that it leaves by this choice, fresh again
-pub record IsCrash (env : RecordEnv) (moment : ℕ) (pick : Pick) (left : RecordEnv) : Type 0 where
+pub record IsCrashOfRecord (env : RecordEnv) (moment : ℕ) (pick : Pick) (left : RecordEnv) : Type 0 where
   pub allowed : CanCrashTo env moment pick.after (tails_of pick.tails.items)
   pub observed : (record_observed env).at_moment moment (files_then env moment pick.after)
   pub files : files_in left ≡ picked (tails_of pick.tails.items) (files_then env moment pick.after)

@@ -39,6 +39,6 @@ IsLost models_disk name observed before now e = IsOutOfMemory e
 
 -- Out of memory; or a file that was just made is missing from a disk that is not modelled, where
 -- nothing was counted.
-abbrev pub IsUnobserved : Bool → List ℕ → ℕ → ℕ → Status → Type 0
-IsUnobserved models_disk name before now e = IsOutOfMemory e
+abbrev pub IsLostUnobserved : Bool → List ℕ → ℕ → ℕ → Status → Type 0
+IsLostUnobserved models_disk name before now e = IsOutOfMemory e
     ⊎ (IsMissingFile name e × (IsTrue models_disk → ⊥) × (now ≡ before))

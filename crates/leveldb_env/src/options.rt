@@ -2,7 +2,7 @@
 ghost use Rattle.std.specs.Prelude.{◌≡◌, ◌⊎◌, ◌≤◌, ◌^◌, ℕ, List, true, None, IfErr, OnOk, IsSome};
 ghost use Rattle.leveldb_env.specs.Compressor.{plain_codings};
 ghost use Rattle.leveldb_env.specs.MemEnv.{disk_of};
-ghost use Rattle.leveldb_env.specs.Options.{IsWithin, AreWithinLimits, IsLimitError, HasDefaultChoices};
+ghost use Rattle.leveldb_env.specs.Options.{IsSizeWithin, AreWithinLimits, IsLimitError, HasDefaultChoices};
 
 use crate::compressor::{CompressorId, CompressorList, Compressors, NoneCompressor};
 use crate::filter::BloomPolicy;
@@ -130,9 +130,9 @@ impl<C, FP> Options<C, FP> {
 
 // Whether a choice is from its least to 2^30.
 fn check_limit(alloc: Global, name: &str, chosen: usize, least: usize) -> Result<()>
-    ensures ok { OnOk result (IsWithin least chosen) }
+    ensures ok { OnOk result (IsSizeWithin least chosen) }
     ensures refused { IfErr result
-        (λ e. (e.code ≡ StatusCode.InvalidArgument) × (IsWithin least chosen → ⊥)) }
+        (λ e. (e.code ≡ StatusCode.InvalidArgument) × (IsSizeWithin least chosen → ⊥)) }
 {
     if least <= chosen && chosen <= 1 << 30 {
         return Ok(());

@@ -1,6 +1,6 @@
 -- How a record goes on after some of its parts.
 use Rattle.std.proofs.Common.{◌≡◌, ◌≢◌, ℕ, ◌<◌, ◌≤◌, Bool, true, false, List, [], ◌∷◌, ◌++◌, length, refl, sym, subst, ◌∙◌, ap, arith, append_assoc, length-append}
-use Rattle.leveldb_mem.specs.Log.{offset_after, Fragment, checksum, IsFragment, IsFrontAndRest, AreFragments, record_type, IsRemainder, IsDamaged, begun_of, BreaksOff, fragment_of, NoFragment}
+use Rattle.leveldb_mem.specs.Log.{offset_after, Fragment, checksum, IsFragment, IsFrontAndRest, AreFragments, record_type, IsRemainder, IsDamagedFragment, begun_of, BreaksOff, fragment_of, NoFragment}
 use Rattle.leveldb_mem.proofs.FragmentLemmas.{in_front, unchecked, alike, one_fragment, length-fragment}
 use Rattle.leveldb_mem.proofs.LogLemmas.{NoRemainder, next_fragment, none_after, none_without, no_record_without, none_without_data, not_both, offset_after_both, offset_after_none}
 use Rattle.leveldb_mem.proofs.CrashLemmas.{breaks_after}
@@ -19,16 +19,16 @@ record Broken (size : ℕ) (first : Bool) (offset : ℕ) (bytes : List ℕ) : Ty
   off : BreaksOff size false (offset_after size offset front) rest
 
 data Break (size : ℕ) (first : Bool) (offset : ℕ) (bytes : List ℕ) : Type 0 where
-  at_once : (f : Fragment) → IsDamaged size f offset bytes → Break size first offset bytes
+  at_once : (f : Fragment) → IsDamagedFragment size f offset bytes → Break size first offset bytes
   later : Broken size first offset bytes → Break size first offset bytes
 
 break_of : (size : ℕ) (first : Bool) (offset : ℕ) (bytes : List ℕ) → offset < size → BreaksOff size first offset bytes → Break size first offset bytes
 break_of size first offset bytes inside off = by_parts off.parts off.laid
   where
-    by_parts : (parts : List (List ℕ)) → IsFrontAndRest size (AreFragments true size (begun_of first parts)) (IsDamaged size off.fragment) offset bytes → Break size first offset bytes
+    by_parts : (parts : List (List ℕ)) → IsFrontAndRest size (AreFragments true size (begun_of first parts)) (IsDamagedFragment size off.fragment) offset bytes → Break size first offset bytes
     by_parts [] laid =
-        let here = subst (λ z. IsDamaged size off.fragment z laid.rest) (offset_after_none size offset inside laid.front laid.is_front) laid.is_rest in
-        at_once off.fragment (subst (IsDamaged size off.fragment offset) (sym (laid.bytes_are ∙ ap (λ z. z ++ laid.rest) laid.is_front)) here)
+        let here = subst (λ z. IsDamagedFragment size off.fragment z laid.rest) (offset_after_none size offset inside laid.front laid.is_front) laid.is_rest in
+        at_once off.fragment (subst (IsDamagedFragment size off.fragment offset) (sym (laid.bytes_are ∙ ap (λ z. z ++ laid.rest) laid.is_front)) here)
     by_parts (part ∷ parts) laid =
         let these = laid.is_front in
         later (record {
@@ -46,7 +46,7 @@ break_of size first offset bytes inside off = by_parts off.parts off.laid
               rest = laid.rest;
               bytes_are = refl;
               is_front = these.is_rest;
-              is_rest = subst (λ z. IsDamaged size off.fragment z laid.rest) (sym (offset_after_both size offset these.front these.rest laid.front these.bytes_are)) laid.is_rest;
+              is_rest = subst (λ z. IsDamagedFragment size off.fragment z laid.rest) (sym (offset_after_both size offset these.front these.rest laid.front these.bytes_are)) laid.is_rest;
             };
           };
         })

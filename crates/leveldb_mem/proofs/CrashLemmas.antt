@@ -3,18 +3,18 @@ use Rattle.std.proofs.Common.{◌≡◌, ◌≢◌, ℕ, ◌+◌, ◌<◌, ◌�
 use Rattle.std.proofs.Math.Nat.{mod-lt}
 use Rattle.std.proofs.lemmas.List.{take_at, drop_at, take-append-drop, take-append-le}
 use Rattle.std.proofs.lemmas.Bool.{leb-true, leb-false}
-use Rattle.leveldb_mem.specs.Log.{offset_after, Fragment, checksum, IsFragment, IsFrontAndRest, AreFragments, record_type, bad, Ends, IsDamaged, begun_of, BreaksOff, fragment_of, NoFragment, fragments_of, End, clean, LogOf, FragmentBegins, FragmentAt, HonestTail, IsBlockSize, framed_record}
+use Rattle.leveldb_mem.specs.Log.{offset_after, Fragment, checksum, IsFragment, IsFrontAndRest, AreFragments, record_type, bad, Ends, IsDamagedFragment, begun_of, BreaksOff, fragment_of, NoFragment, fragments_of, End, clean, LogOf, FragmentBegins, FragmentAt, HonestTail, IsBlockSize, framed_record}
 use Rattle.leveldb_mem.proofs.FragmentLemmas.{in_front, unchecked, alike, one_fragment, length-fragment, split}
 use Rattle.leveldb_mem.proofs.LogLemmas.{NoRemainder, none_without, none_after, no_record_without, not_both, same_first, offset_after_both, offset_after_none, length-record, cut_log, start, offset_after-lt, nothing_more, first_records, framed_reads, log_append, framed_record_is, log_reads}
 
 -- ---- a log that breaks off with a wrong checksum has a bad end there, and does so at one offset at most
 
 -- a fragment with a wrong checksum breaks a log off
-pub breaks_here : (size : ℕ) (first : Bool) (f : Fragment) (offset : ℕ) (bytes : List ℕ) → offset < size → IsDamaged size f offset bytes → BreaksOff size first offset bytes
+pub breaks_here : (size : ℕ) (first : Bool) (f : Fragment) (offset : ℕ) (bytes : List ℕ) → offset < size → IsDamagedFragment size f offset bytes → BreaksOff size first offset bytes
 breaks_here size first f offset bytes inside is = record {
   parts = [];
   fragment = f;
-  laid = record { front = []; rest = bytes; bytes_are = refl; is_front = refl; is_rest = subst (λ z. IsDamaged size f z bytes) (sym (offset_after_none size offset inside [] refl)) is };
+  laid = record { front = []; rest = bytes; bytes_are = refl; is_front = refl; is_rest = subst (λ z. IsDamagedFragment size f z bytes) (sym (offset_after_none size offset inside [] refl)) is };
 }
 
 -- so does one after a part of the record
@@ -30,26 +30,26 @@ breaks_after size first f offset front rest goes_on is off =
         rest = laid.rest;
         bytes_are = ap (λ z. front ++ z) laid.bytes_are ∙ sym (append_assoc front laid.front laid.rest);
         is_front = record { front = front; rest = laid.front; bytes_are = refl; is_front = subst (λ type. IsFragment true size (fragment_of type f.part) offset front) goes_on is; is_rest = laid.is_front };
-        is_rest = subst (λ z. IsDamaged size off.fragment z laid.rest) (offset_after_both size offset front laid.front (front ++ laid.front) refl) laid.is_rest;
+        is_rest = subst (λ z. IsDamagedFragment size off.fragment z laid.rest) (offset_after_both size offset front laid.front (front ++ laid.front) refl) laid.is_rest;
       };
     }
 
 module _ (size : ℕ) (fits : size ≤ 32768) where
   -- where a wrong checksum is there is no fragment
-  no_fragment : (f : Fragment) (offset : ℕ) (front more : List ℕ) → IsDamaged size f offset front → NoFragment true size offset (front ++ more)
+  no_fragment : (f : Fragment) (offset : ℕ) (front more : List ℕ) → IsDamagedFragment size f offset front → NoFragment true size offset (front ++ more)
   no_fragment f offset front more damaged g found others e is =
       let same = alike false size fits offset g f found front others more (unchecked true size g offset found is) damaged.unchecked (sym e) in
       damaged.wrong (sym same.0 ∙ is.summed ∙ ap checksum same.1)
 
   -- these parts of a record, and then this fragment with a wrong checksum
   abbrev Broken : Bool → List (List ℕ) → Fragment → ℕ → List ℕ → Type 0
-  Broken first parts f offset bytes = IsFrontAndRest size (AreFragments true size (begun_of first parts)) (IsDamaged size f) offset bytes
+  Broken first parts f offset bytes = IsFrontAndRest size (AreFragments true size (begun_of first parts)) (IsDamagedFragment size f) offset bytes
 
   -- without parts the bytes are the damaged fragment
-  damaged_here : (first : Bool) (f : Fragment) (offset : ℕ) (bytes : List ℕ) → offset < size → Broken first [] f offset bytes → IsDamaged size f offset bytes
+  damaged_here : (first : Bool) (f : Fragment) (offset : ℕ) (bytes : List ℕ) → offset < size → Broken first [] f offset bytes → IsDamagedFragment size f offset bytes
   damaged_here first f offset bytes inside laid =
-      let here = subst (λ z. IsDamaged size f z laid.rest) (offset_after_none size offset inside laid.front laid.is_front) laid.is_rest in
-      subst (IsDamaged size f offset) (sym (laid.bytes_are ∙ ap (λ z. z ++ laid.rest) laid.is_front)) here
+      let here = subst (λ z. IsDamagedFragment size f z laid.rest) (offset_after_none size offset inside laid.front laid.is_front) laid.is_rest in
+      subst (IsDamagedFragment size f offset) (sym (laid.bytes_are ∙ ap (λ z. z ++ laid.rest) laid.is_front)) here
 
   -- otherwise a part comes before the others
   next_part : (first : Bool) (part : List ℕ) (parts : List (List ℕ)) (f : Fragment) (offset : ℕ) (bytes : List ℕ) → Broken first (part ∷ parts) f offset bytes
@@ -66,7 +66,7 @@ module _ (size : ℕ) (fits : size ≤ 32768) where
           rest = laid.rest;
           bytes_are = refl;
           is_front = these.is_rest;
-          is_rest = subst (λ z. IsDamaged size f z laid.rest) (sym (offset_after_both size offset these.front these.rest laid.front these.bytes_are)) laid.is_rest;
+          is_rest = subst (λ z. IsDamagedFragment size f z laid.rest) (sym (offset_after_both size offset these.front these.rest laid.front these.bytes_are)) laid.is_rest;
         };
       }
 

@@ -20,9 +20,9 @@ use Rattle.leveldb_base.specs.Error.{IsOutOfMemory}
 use Rattle.leveldb_base.specs.declared.error.Status.{Status}
 use Rattle.leveldb_base.specs.declared.error.StatusCode.TheVariants.{AlreadyExists, NotSupported}
 use Rattle.leveldb_mem.specs.WriteBatch.{item_of}
-use Rattle.leveldb_mem.specs.MemTable.{KeepsRoom, AddResult, PutResult, PrepareResult, FailsToPrepare, bytes_in, value_length, IsUnion, AreNewTo, entry_of, IsNewTo, entry_key, entry_from, entries_in, IsEntryPair, Kept, HasRoom, AddsEntry, AddsAll, Grows, GrowsByAll}
+use Rattle.leveldb_mem.specs.MemTable.{KeepsRoom, AddResult, PutResult, PrepareResult, FailsToPrepare, bytes_in, value_length, IsUnion, AreNewTo, entry_of, IsNewTo, entry_key, entry_from, entries_of_keys, IsEntryPair, Kept, HasRoom, AddsEntry, AddsAll, Grows, GrowsByAll}
 use Rattle.leveldb_mem.specs.Searching.{key_at}
-use Rattle.leveldb_mem.specs.SkipMap.{Inserts, HasKey}
+use Rattle.leveldb_mem.specs.SkipMap.{InsertsPair, HasKey}
 use Rattle.leveldb_mem.proofs.MemTableLemmas.{entry_again, entry_order, entry_place, entry_there}
 
 -- ---- sets of entries up to a number, and batches after them: what a caller that knows how far its numbers go owes an insertion
@@ -76,17 +76,17 @@ moved xs ys e x = (
       (Contains-append_cases (xs ++ ys) (e ∷ []) x h),
 )
 
-module _ {old new : List Pair} {key : List ℕ} (put : Inserts old (key, []) new) (entry : Entry) where
+module _ {old new : List Pair} {key : List ℕ} (put : InsertsPair old (key, []) new) (entry : Entry) where
   abbrev from_pair : Pair → Entry
   from_pair pair = entry_from pair.0
 
   -- its entry has come to the others
-  pub gains_entry : entry_from key ≡ entry → IsUnion (entries_in old) (entry ∷ []) (entries_in new)
+  pub gains_entry : entry_from key ≡ entry → IsUnion (entries_of_keys old) (entry ∷ []) (entries_of_keys new)
   gains_entry e x =
-      let was : entries_in old ≡ entries_in put.front ++ entries_in put.back = ap entries_in put.before ∙ map-append from_pair put.front put.back in
-      let is : entries_in new ≡ entries_in put.front ++ entry ∷ entries_in put.back =
-      ap entries_in put.after ∙ map-append from_pair put.front ((key, []) ∷ put.back) ∙ ap (λ (z : Entry). entries_in put.front ++ z ∷ entries_in put.back) e in
-      let both = moved (entries_in put.front) (entries_in put.back) entry x in (
+      let was : entries_of_keys old ≡ entries_of_keys put.front ++ entries_of_keys put.back = ap entries_of_keys put.before ∙ map-append from_pair put.front put.back in
+      let is : entries_of_keys new ≡ entries_of_keys put.front ++ entry ∷ entries_of_keys put.back =
+      ap entries_of_keys put.after ∙ map-append from_pair put.front ((key, []) ∷ put.back) ∙ ap (λ (z : Entry). entries_of_keys put.front ++ z ∷ entries_of_keys put.back) e in
+      let both = moved (entries_of_keys put.front) (entries_of_keys put.back) entry x in (
         λ h. subst (λ (es : List Entry). Contains (es ++ entry ∷ []) x) (sym was) (both.0 (subst (λ (es : List Entry). Contains es x) is h)),
         λ h. subst (λ (es : List Entry). Contains es x) (sym is) (both.1 (subst (λ (es : List Entry). Contains (es ++ entry ∷ []) x) was h)),
       )
@@ -115,7 +115,7 @@ module _ {accepts : List ℕ → Bool} {cmp : List ℕ → List ℕ → Ordering
   both_equal Greater s e = let f : ⊥ = cc in absurd f
 
   -- where an Equal memtable key is there, its entry isn't new
-  pub not_new : HasKey (memtable_cmp cmp) pairs key → IsNewTo (entries_in pairs) entry.sequence entry.key → ⊥
+  pub not_new : HasKey (memtable_cmp cmp) pairs key → IsNewTo (entries_of_keys pairs) entry.sequence entry.key → ⊥
   not_new has new =
       let found = at_from_Contains pairs has.0 has.1 in
       let there : key_at pairs found.0 ≡ (has.0).0 = ap (λ (p : Pair). p.0) (found.2 ([], [])) in
@@ -128,7 +128,7 @@ module _ {accepts : List ℕ → Bool} {cmp : List ℕ → List ℕ → Ordering
       new other (entry_there pairs found.0 found.1) user (sym number ∙ ap (λ (e : Entry). e.sequence) is)
 
   -- where none is, it is new
-  pub is_new : (HasKey (memtable_cmp cmp) pairs key → ⊥) → IsNewTo (entries_in pairs) entry.sequence entry.key
+  pub is_new : (HasKey (memtable_cmp cmp) pairs key → ⊥) → IsNewTo (entries_of_keys pairs) entry.sequence entry.key
   is_new absent other there user number =
       let found = entry_place pairs other there in
       let mine = entry_from key in

@@ -4,7 +4,7 @@ use Rattle.std.proofs.lemmas.List.{append_cancel_left}
 use Rattle.std.proofs.lemmas.Bool.{lt-ltb, le-ltb}
 use Rattle.leveldb_base.specs.Varint.{little}
 use Rattle.leveldb_base.proofs.VarintLemmas.{apart}
-use Rattle.leveldb_mem.specs.Log.{filler, room, Fragment, checksum, IsChecksum, fragment_bytes, IsFragment, IsDamaged, fragment_of, NoFragment}
+use Rattle.leveldb_mem.specs.Log.{filler, room, Fragment, checksum, IsChecksum, fragment_bytes, IsFragment, IsDamagedFragment, fragment_of, NoFragment}
 
 -- ---- texts that begin with the same bytes
 
@@ -167,7 +167,7 @@ module _ (size offset : ℕ) (sum part : List ℕ) (low high type : ℕ) where
 
   -- after another checksum it is damaged
   pub headed_damaged : length sum ≡ 4 → length part ≡ low + 256 * high → low < 256 → high < 256 → length part ≤ room size offset → sum ≢ checksum (fragment_of type part)
-      → IsDamaged size (fragment_of type part) offset headed
+      → IsDamagedFragment size (fragment_of type part) offset headed
   headed_damaged four count low_byte high_byte within other = record {
     unchecked = record { sum = sum; within = within; summed = four; bytes_are = headed_bytes count low_byte high_byte };
     wrong = other;

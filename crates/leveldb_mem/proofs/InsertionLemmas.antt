@@ -4,7 +4,7 @@ use Rattle.std.specs.Prelude.{All, nat_lt}
 use Rattle.std.proofs.lemmas.Bool.{cases_order, cases_lt}
 use Rattle.std.proofs.lemmas.List.{map-append}
 use Rattle.std.proofs.lemmas.List.Elements.{All-head, All-tail, All-cons, All-append, All-filter}
-use Rattle.leveldb_mem.specs.Placed.{head, most_height, tower, link, level, first_of_nodes, last_after, AreLinked, IsApart, AreApart, IsNode, IsSkipList, IsPathTo, rank, pair_in, pairs_in, nodes_after, value_end}
+use Rattle.leveldb_mem.specs.Placed.{head, most_height, tower, link, level, first_of_nodes, last_after, AreLinkedAt, IsApart, AreApart, IsNode, IsSkipList, IsPathTo, rank, pair_of_node, pairs_of_nodes, nodes_after, value_end}
 use Rattle.leveldb_mem.proofs.PlacedLemmas.{rank-other, rank-get_or, get_or-rank, rank-append, level-append, level-keep, level-skip, level-zero, link_at, last_after-append, node_or_head}
 use Rattle.leveldb_mem.proofs.PathLemmas.{All-middle}
 
@@ -121,7 +121,7 @@ last_split words height before (node ∷ nodes) h =
 
 -- ---- links
 
-same_links : (words words' : List ℕ) (height : ℕ) (nodes : List ℕ) → All (λ n. link words' height n ≡ link words height n) nodes → AreLinked words height nodes → AreLinked words' height nodes
+same_links : (words words' : List ℕ) (height : ℕ) (nodes : List ℕ) → All (λ n. link words' height n ≡ link words height n) nodes → AreLinkedAt words height nodes → AreLinkedAt words' height nodes
 same_links words words' height [] same linked = tt
 same_links words words' height (node ∷ nodes) same linked =
     let Same = λ (n : ℕ). link words' height n ≡ link words height n in
@@ -130,7 +130,7 @@ same_links words words' height (node ∷ nodes) same linked =
 -- a node comes after another
 linked_between : (words words' : List ℕ) (height new before : ℕ) (front back : List ℕ) → link words' height before ≡ new → link words' height new ≡ link words height before
     → All (λ n. link words' height n ≡ link words height n) front → All (λ n. link words' height n ≡ link words height n) back
-    → AreLinked words height (front ++ before ∷ back) → AreLinked words' height (front ++ before ∷ new ∷ back)
+    → AreLinkedAt words height (front ++ before ∷ back) → AreLinkedAt words' height (front ++ before ∷ new ∷ back)
 linked_between words words' height new before [] back to from front_same back_same linked =
     (to, (from ∙ linked.0, same_links words words' height back back_same linked.1))
 linked_between words words' height new before (node ∷ front) back to from front_same back_same linked =
@@ -142,7 +142,7 @@ linked_between words words' height new before (node ∷ front) back to from fron
     first (n ∷ ns) = refl
 
 -- along links the nodes follow one another
-nodes_linked : (words : List ℕ) (node : ℕ) (nodes : List ℕ) → AreLinked words 0 (node ∷ nodes) → nodes_after words node (length nodes) ≡ nodes
+nodes_linked : (words : List ℕ) (node : ℕ) (nodes : List ℕ) → AreLinkedAt words 0 (node ∷ nodes) → nodes_after words node (length nodes) ≡ nodes
 nodes_linked words node [] linked = refl
 nodes_linked words node (next ∷ nodes) linked =
     let to : link words 0 node ≡ next = linked.0 in
@@ -299,8 +299,8 @@ module _ {words : List ℕ} {end : ℕ} {nodes : List ℕ} (skip : IsSkipList wo
   same_tower : All (λ n. tower words' n ≡ tower words n) ((head ∷ front) ++ back)
   same_tower = Each (λ n. tower words' n ≡ tower words n) (λ n h. kept_before n 1 h (omega arith) (omega arith))
 
-  same_pair : (text : List ℕ) → All (λ n. pair_in text words' n ≡ pair_in text words n) ((head ∷ front) ++ back)
-  same_pair text = Each (λ n. pair_in text words' n ≡ pair_in text words n) (λ n h.
+  same_pair : (text : List ℕ) → All (λ n. pair_of_node text words' n ≡ pair_of_node text words n) ((head ∷ front) ++ back)
+  same_pair text = Each (λ n. pair_of_node text words' n ≡ pair_of_node text words n) (λ n h.
       let start = kept_before n 4 h (omega arith) (omega arith) in
       let key = kept_before n 3 h (omega arith) (omega arith) in
       let value = kept_before n 2 h (omega arith) (omega arith) in
@@ -347,15 +347,15 @@ module _ {words : List ℕ} {end : ℕ} {nodes : List ℕ} (skip : IsSkipList wo
       (λ (ge : tower words n ≤ k). subst (λ l. All Same l) (sym (level-skip words k n ns ge)) rest)
       (cases_lt k (tower words n))
 
-  new_levels : (k : ℕ) → k < most_height → AreLinked words' k (level words' k new_nodes)
+  new_levels : (k : ℕ) → k < most_height → AreLinkedAt words' k (level words' k new_nodes)
   new_levels k h = ⊎_elim with_new without_new (cases_lt k height)
     where
-      without_new : height ≤ k → AreLinked words' k (level words' k new_nodes)
+      without_new : height ≤ k → AreLinkedAt words' k (level words' k new_nodes)
       without_new ge =
           let same = linked_level k (head ∷ nodes) (subst (λ l. All (Stays k) l) (sym all_whole) (all_stay k)) (λ lt. absurd (omega (arith, lt, ge))) in
-          subst (λ l. AreLinked words' k l) (sym (level_without k ge)) (same_links words words' k (level words k (head ∷ nodes)) same (skip.levels k h))
+          subst (λ l. AreLinkedAt words' k l) (sym (level_without k ge)) (same_links words words' k (level words k (head ∷ nodes)) same (skip.levels k h))
 
-      with_new : k < height → AreLinked words' k (level words' k new_nodes)
+      with_new : k < height → AreLinkedAt words' k (level words' k new_nodes)
       with_new lt =
           let before = slice_index path k in
           let b = before_at k h in
@@ -372,11 +372,11 @@ module _ {words : List ℕ} {end : ℕ} {nodes : List ℕ} (skip : IsSkipList wo
           ∙ append_assoc (level words k b.behind) (before ∷ []) (level words k back) in
           let new_level : level words' k new_nodes ≡ level words k b.behind ++ before ∷ new ∷ level words k back =
           level_with k lt ∙ ap (λ l. l ++ new ∷ level words k back) behind_level ∙ append_assoc (level words k b.behind) (before ∷ []) (new ∷ level words k back) in
-          subst (λ l. AreLinked words' k l) (sym new_level)
+          subst (λ l. AreLinkedAt words' k l) (sym new_level)
           (linked_between words words' k new before (level words k b.behind) (level words k back) (links.to k lt) (links.from k lt)
           (linked_level k b.behind behind_stay (λ _. others.0))
           (linked_level k back back_stay (λ _. All-back (λ n. n ≢ before) b.ahead back others.1))
-          (subst (λ l. AreLinked words k l) old_level (skip.levels k h)))
+          (subst (λ l. AreLinkedAt words k l) old_level (skip.levels k h)))
 
   old_nodes : All (IsNode words end) ((head ∷ front) ++ back)
   old_nodes = subst (λ l. All (IsNode words end) l) all_whole skip.valid
@@ -427,7 +427,7 @@ module _ {words : List ℕ} {end : ℕ} {nodes : List ℕ} (skip : IsSkipList wo
         let size = ap length whole ∙ length-append front back in
         let more_size = length-append front (new ∷ back) in
         let count : suc (length nodes) ≡ length (front ++ new ∷ back) = omega (arith, size, more_size) in
-        ap (nodes_after words' head) count ∙ nodes_linked words' head (front ++ new ∷ back) (subst (λ l. AreLinked words' 0 l) all (new_levels 0 (omega arith)))
+        ap (nodes_after words' head) count ∙ nodes_linked words' head (front ++ new ∷ back) (subst (λ l. AreLinkedAt words' 0 l) all (new_levels 0 (omega arith)))
 
     -- at each height the last node is as before, or the new one where none follows it
     pub new_lasts : (last last' : List ℕ) → IsPathTo words last 12 nodes
@@ -471,17 +471,17 @@ module _ {words : List ℕ} {end : ℕ} {nodes : List ℕ} (skip : IsSkipList wo
             behead _ _ (sym (level-keep words' k head (front ++ new ∷ back) high_head') ∙ level_with k lt ∙ ap (λ l. l ++ new ∷ level words k back) (level-keep words k head front high_head)) in
             let old_level : level words k nodes ≡ level words k front ++ level words k back = ap (level words k) whole ∙ level-append words k front back in
             let was : slice_index last k ≡ last_after head (level words k front ++ level words k back) = lasts k h ∙ ap (last_after head) old_level in
-            let linked = subst (λ l. AreLinked words k (level words k l)) (parts_at k before b) (skip.levels k h) in
+            let linked = subst (λ l. AreLinkedAt words k (level words k l)) (parts_at k before b) (skip.levels k h) in
             let to : link words' k new ≡ first_of_nodes (level words k back) =
             links.from k lt ∙ link_at words k b.behind before (b.ahead ++ back) linked b.high ∙ ap first_of_nodes (level-append words k b.ahead back ∙ ap (λ l. l ++ level words k back) b.none) in
             let real : All (λ n. 0 < n) (level words k back) =
             All-filter (λ n. nat_lt k (tower words n)) (λ n. 0 < n) back (All-change (IsNode words end) (λ n. 0 < n) back (λ n is. let low = is.low in omega (arith, low)) (All-back (IsNode words end) (head ∷ front) back old_nodes)) in
             after_end (level words k back) 0 to real (level words k front) lt was ∙ ap (last_after head) (sym new_level)
 
-    pub new_pairs : (text : List ℕ) → pairs_in text words' (front ++ new ∷ back) ≡ pairs_in text words front ++ pair_in text words' new ∷ pairs_in text words back
+    pub new_pairs : (text : List ℕ) → pairs_of_nodes text words' (front ++ new ∷ back) ≡ pairs_of_nodes text words front ++ pair_of_node text words' new ∷ pairs_of_nodes text words back
     new_pairs text =
-        let Same = λ (n : ℕ). pair_in text words' n ≡ pair_in text words n in
+        let Same = λ (n : ℕ). pair_of_node text words' n ≡ pair_of_node text words n in
         let all : All Same (front ++ back) = All-tail Same head (front ++ back) (same_pair text) in
-        let first = same_map (pair_in text words') (pair_in text words) front (All-front Same front back all) in
-        let last = same_map (pair_in text words') (pair_in text words) back (All-back Same front back all) in
-        map-append (pair_in text words') front (new ∷ back) ∙ (λ i. first i ++ pair_in text words' new ∷ last i)
+        let first = same_map (pair_of_node text words') (pair_of_node text words) front (All-front Same front back all) in
+        let last = same_map (pair_of_node text words') (pair_of_node text words) back (All-back Same front back all) in
+        map-append (pair_of_node text words') front (new ∷ back) ∙ (λ i. first i ++ pair_of_node text words' new ∷ last i)

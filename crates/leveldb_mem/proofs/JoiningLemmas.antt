@@ -4,7 +4,7 @@ use Rattle.std.proofs.Math.Nat.{mod-lt}
 use Rattle.leveldb_base.specs.declared.error.Status.{Status}
 use Rattle.leveldb_base.specs.declared.error.StatusCode.TheVariants.{NotSupported}
 use Rattle.leveldb_env.specs.Source.{GivesSome, GivesAll}
-use Rattle.leveldb_mem.specs.Log.{IsBlockSize, offset_after, IsFragment, record_type, IsRemainder, IsDamaged, fragment_of, NoFragment}
+use Rattle.leveldb_mem.specs.Log.{IsBlockSize, offset_after, IsFragment, record_type, IsRemainder, IsDamagedFragment, fragment_of, NoFragment}
 use Rattle.leveldb_mem.proofs.FragmentLemmas.{length-fragment, none_short}
 use Rattle.leveldb_mem.proofs.LogLemmas.{last_fragment, offset_after_both, offset_after_none}
 use Rattle.leveldb_mem.proofs.CrashLemmas.{breaks_here}
@@ -102,7 +102,7 @@ module _ {S : Type 0} (gives : S → ℕ → Result (List ℕ) Status → S → 
           front = front ++ passes.front;
           asked = asked;
           come = came_on takes.bytes passes.front takes.come passes.unread;
-          breaks = joins.leads.breaks asked passes.front (breaks_here old.size first passes.fragment (offset_after old.size old.offset front) passes.front there (at_offset (λ checked size offset. IsDamaged size passes.fragment offset passes.front) passes.damaged));
+          breaks = joins.leads.breaks asked passes.front (breaks_here old.size first passes.fragment (offset_after old.size old.offset front) passes.front there (at_offset (λ checked size offset. IsDamagedFragment size passes.fragment offset passes.front) passes.damaged));
           reader = goes_on takes.bytes passes.front passes.reader;
         }
 

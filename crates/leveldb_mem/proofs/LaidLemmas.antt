@@ -6,9 +6,9 @@ use Rattle.std.proofs.lemmas.Bool.{cases_lt}
 use Rattle.std.proofs.lemmas.List.{get_or_append_left, get_or-append-add, get_or-replicate, get_or-take, length-take-le, take-map, drop-map, take_rest, drop-drop, take-append-le, drop-append-le, take_all, nil_from_length}
 use Rattle.std.proofs.lemmas.List.Sums.{sum_by-append, sum_by-cons, sum_by-take-drop}
 use Rattle.leveldb_base.specs.Types.{Pair}
-use Rattle.leveldb_mem.specs.Placed.{head, head_words, link, level, last_after, AreLinked, IsNode, IsSkipList, IsPathTo, IsLaid, place_of, pair_in, pairs_in, nodes_after, bytes_of, key_start, key_end, value_end}
+use Rattle.leveldb_mem.specs.Placed.{head, head_words, link, level, last_after, AreLinkedAt, IsNode, IsSkipList, IsPathTo, IsLaid, place_of, pair_of_node, pairs_of_nodes, nodes_after, bytes_of, key_start, key_end, value_end}
 use Rattle.leveldb_mem.proofs.PathLemmas.{last_place}
-use Rattle.leveldb_mem.proofs.PlacedLemmas.{rank-same, level-keep, all_nodes, skip_list, length-nodes_after, length-pairs_in}
+use Rattle.leveldb_mem.proofs.PlacedLemmas.{rank-same, level-keep, all_nodes, skip_list, length-nodes_after, length-pairs_of_nodes}
 use Rattle.leveldb_mem.proofs.InsertionLemmas.{Links, before_within, same_map, new_skip, new_order, new_lasts, new_pairs}
 
 -- a part of a text is there when more comes after the text
@@ -16,8 +16,8 @@ slice_range-append : (text more : List ℕ) (i j : ℕ) → i ≤ j → j ≤ le
 slice_range-append text more i j p q =
     ap (λ z. take (j - i) z) (drop-append-le i text more (omega (arith, p, q))) ∙ take-append-le (j - i) (drop i text) more (omega (arith, q, length-drop i text))
 
-pair_in-append : (text more words : List ℕ) (node : ℕ) → value_end words node ≤ length text → pair_in (text ++ more) words node ≡ pair_in text words node
-pair_in-append text more words node h =
+pair_of_node-append : (text more words : List ℕ) (node : ℕ) → value_end words node ≤ length text → pair_of_node (text ++ more) words node ≡ pair_of_node text words node
+pair_of_node-append text more words node h =
     let key = slice_range-append text more (key_start words node) (key_end words node) (omega arith) (omega (arith, h)) in
     let value = slice_range-append text more (key_end words node) (value_end words node) (omega arith) h in
     λ i. (key i, value i)
@@ -29,19 +29,19 @@ module _ {text words last : List ℕ} {count end : ℕ} (laid : IsLaid text word
   node_cut : All (λ n. value_end words n ≤ end) nodes
   node_cut k d h = (all_nodes (skip_list laid (omega (arith, h))) k d h).cut
 
-  pairs_front : (first more : List ℕ) → end ≤ length first → pairs_in (first ++ more) words nodes ≡ pairs_in first words nodes
+  pairs_front : (first more : List ℕ) → end ≤ length first → pairs_of_nodes (first ++ more) words nodes ≡ pairs_of_nodes first words nodes
   pairs_front first more h =
-      same_map (pair_in (first ++ more) words) (pair_in first words) nodes
-      (λ k d lt. pair_in-append first more words (get_or nodes k d) (let cut = node_cut k d lt in omega (arith, cut, h)))
+      same_map (pair_of_node (first ++ more) words) (pair_of_node first words) nodes
+      (λ k d lt. pair_of_node-append first more words (get_or nodes k d) (let cut = node_cut k d lt in omega (arith, cut, h)))
 
   -- the pairs stay when bytes come after the text, and when what is after them goes
-  pub pairs-append : (more : List ℕ) → pairs_in (text ++ more) words nodes ≡ pairs_in text words nodes
+  pub pairs-append : (more : List ℕ) → pairs_of_nodes (text ++ more) words nodes ≡ pairs_of_nodes text words nodes
   pairs-append more = pairs_front text more laid.within
 
-  pub pairs-take : pairs_in (take end text) words nodes ≡ pairs_in text words nodes
+  pub pairs-take : pairs_of_nodes (take end text) words nodes ≡ pairs_of_nodes text words nodes
   pairs-take =
       sym (pairs_front (take end text) (drop end text) (let size = length-take-le end text laid.within in omega (arith, size)))
-      ∙ ap (λ z. pairs_in z words nodes) (take-append-drop end text)
+      ∙ ap (λ z. pairs_of_nodes z words nodes) (take-append-drop end text)
 
   pub laid-append : (more : List ℕ) → IsLaid (text ++ more) words last count end
   laid-append more = record {
@@ -68,7 +68,7 @@ head_alone end = record {
   high = refl;
   valid = valid;
   apart = (λ k d h. absurd (omega (arith, h)), tt);
-  levels = λ k h. subst (λ l. AreLinked head_words k l) (sym (level-keep head_words k head [] h)) (no_link k h, tt);
+  levels = λ k h. subst (λ l. AreLinkedAt head_words k l) (sym (level-keep head_words k head [] h)) (no_link k h, tt);
 }
   where
     valid : All (IsNode head_words end) (head ∷ [])
@@ -80,14 +80,14 @@ head_alone end = record {
 
 -- the head comes where there was none
 pub laid-head : {text words last : List ℕ} {count end : ℕ} → IsLaid text words last count end → length words ≡ 0 → (words' : List ℕ) → words' ≡ head_words
-    → IsLaid text words' last count end × (pairs_in text words' (nodes_after words' head count) ≡ pairs_in text words (nodes_after words head count))
+    → IsLaid text words' last count end × (pairs_of_nodes text words' (nodes_after words' head count) ≡ pairs_of_nodes text words (nodes_after words head count))
     × (nodes_after words' head count ≡ nodes_after words head count)
 laid-head {text} {words} {last} {count} {end} laid empty words' is =
     let none : count ≡ 0 = laid.none empty in
     let old : nodes_after words head count ≡ [] = ap (nodes_after words head) none in
     let new : nodes_after words' head count ≡ [] = ap (nodes_after words' head) none in
-    let old_pairs : pairs_in text words (nodes_after words head count) ≡ [] = ap (pairs_in text words) old in
-    let new_pairs : pairs_in text words' (nodes_after words' head count) ≡ [] = ap (pairs_in text words') new in
+    let old_pairs : pairs_of_nodes text words (nodes_after words head count) ≡ [] = ap (pairs_of_nodes text words) old in
+    let new_pairs : pairs_of_nodes text words' (nodes_after words' head count) ≡ [] = ap (pairs_of_nodes text words') new in
     let size = ap length is in (
       record {
         within = laid.within;
@@ -113,7 +113,7 @@ path_nowhere words words' path at these those none none' to k h =
 -- what is laid where a head comes if there was none
 pub record Opens (text words last : List ℕ) (count end : ℕ) (text' words' : List ℕ) : Type 0 where
   pub laid' : IsLaid text' words' last count end
-  pub pairs' : pairs_in text' words' (nodes_after words' head count) ≡ pairs_in text words (nodes_after words head count)
+  pub pairs' : pairs_of_nodes text' words' (nodes_after words' head count) ≡ pairs_of_nodes text words (nodes_after words head count)
   pub order' : nodes_after words' head count ≡ nodes_after words head count
   pub some : 0 < length words'
   pub most : length words' ≤ length words + 16
@@ -217,7 +217,7 @@ module _ {text words last : List ℕ} {count end : ℕ} (laid : IsLaid text word
     value_end_is : value_end words' new ≡ length text
     value_end_is = let value = added_before 2 2 refl (omega arith) ∙ node.value_is in omega (arith, key_end_is, value, key_within)
 
-    new_pair : pair_in text words' new ≡ rest_pair
+    new_pair : pair_of_node text words' new ≡ rest_pair
     new_pair =
         let count_is : end + key_length - end ≡ key_length = omega arith in
         let key : take (end + key_length - end) (drop end text) ≡ take key_length (drop end text) = ap (λ n. take n (drop end text)) count_is in
@@ -231,11 +231,11 @@ module _ {text words last : List ℕ} {count end : ℕ} (laid : IsLaid text word
         ∙ new_order (laid.linked opened) links (take at (nodes_after words head count)) (drop at (nodes_after words head count)) (sym (take-append-drop at (nodes_after words head count))) to laid.within value_end_is
 
     -- the pair is there
-    pub pairs_placed : pairs_in text words' (nodes_after words' head (suc count)) ≡ insert (pairs_in text words (nodes_after words head count)) at rest_pair
+    pub pairs_placed : pairs_of_nodes text words' (nodes_after words' head (suc count)) ≡ insert (pairs_of_nodes text words (nodes_after words head count)) at rest_pair
     pairs_placed =
-        let front : pairs_in text words (take at (nodes_after words head count)) ≡ take at (pairs_in text words (nodes_after words head count)) = sym (take-map (pair_in text words) at (nodes_after words head count)) in
-        let back : pairs_in text words (drop at (nodes_after words head count)) ≡ drop at (pairs_in text words (nodes_after words head count)) = sym (drop-map (pair_in text words) at (nodes_after words head count)) in
-        ap (pairs_in text words') order_is
+        let front : pairs_of_nodes text words (take at (nodes_after words head count)) ≡ take at (pairs_of_nodes text words (nodes_after words head count)) = sym (take-map (pair_of_node text words) at (nodes_after words head count)) in
+        let back : pairs_of_nodes text words (drop at (nodes_after words head count)) ≡ drop at (pairs_of_nodes text words (nodes_after words head count)) = sym (drop-map (pair_of_node text words) at (nodes_after words head count)) in
+        ap (pairs_of_nodes text words') order_is
         ∙ new_pairs (laid.linked opened) links (take at (nodes_after words head count)) (drop at (nodes_after words head count)) (sym (take-append-drop at (nodes_after words head count))) to laid.within value_end_is text
         ∙ (λ i. front i ++ new_pair i ∷ back i)
 
@@ -264,26 +264,26 @@ module _ {text words last : List ℕ} {count end : ℕ} (laid : IsLaid text word
       linked = λ _. subst (λ ns. IsSkipList words' (length text) ns) (sym order_is) (new_skip (laid.linked opened) links (take at (nodes_after words head count)) (drop at (nodes_after words head count)) (sym (take-append-drop at (nodes_after words head count))) to laid.within value_end_is);
       lasts = subst (λ ns. IsPathTo words' last' 12 ns) (sym order_is)
           (new_lasts (laid.linked opened) links (take at (nodes_after words head count)) (drop at (nodes_after words head count)) (sym (take-append-drop at (nodes_after words head count))) to laid.within value_end_is last last' laid.lasts none some other);
-      filled = ap bytes_of pairs_placed ∙ bytes_of-insert (pairs_in text words (nodes_after words head count)) rest_pair ∙ omega (arith, length-rest_pair, laid.filled, laid.within);
+      filled = ap bytes_of pairs_placed ∙ bytes_of-insert (pairs_of_nodes text words (nodes_after words head count)) rest_pair ∙ omega (arith, length-rest_pair, laid.filled, laid.within);
     }
 
 -- the last nodes are the path to the end
 module _ {text words last : List ℕ} {count end : ℕ} (laid : IsLaid text words last count end) where
-  all_taken : take (length (pairs_in text words (nodes_after words head count))) (nodes_after words head count) ≡ nodes_after words head count
+  all_taken : take (length (pairs_of_nodes text words (nodes_after words head count))) (nodes_after words head count) ≡ nodes_after words head count
   all_taken =
-      take_all (length (pairs_in text words (nodes_after words head count))) (nodes_after words head count)
-      (omega (arith, length-pairs_in text words (nodes_after words head count)))
+      take_all (length (pairs_of_nodes text words (nodes_after words head count))) (nodes_after words head count)
+      (omega (arith, length-pairs_of_nodes text words (nodes_after words head count)))
 
-  pub lasts_are : IsPathTo words last 12 (take (length (pairs_in text words (nodes_after words head count))) (nodes_after words head count))
+  pub lasts_are : IsPathTo words last 12 (take (length (pairs_of_nodes text words (nodes_after words head count))) (nodes_after words head count))
   lasts_are = subst (λ ns. IsPathTo words last 12 ns) (sym all_taken) laid.lasts
 
-  pub lasts_place : place_of (nodes_after words head count) last ≡ length (pairs_in text words (nodes_after words head count))
+  pub lasts_place : place_of (nodes_after words head count) last ≡ length (pairs_of_nodes text words (nodes_after words head count))
   lasts_place =
       ⊎_elim
       (λ (lt : length (nodes_after words head count) < 1).
       let none = nil_from_length (nodes_after words head count) (omega (arith, lt)) in
       let first : slice_index last 0 ≡ head = laid.lasts 0 (omega arith) ∙ ap (λ ns. last_after head (level words 0 ns)) none in
-      rank-same head (slice_index last 0) (nodes_after words head count) (sym first) ∙ omega (arith, lt, length-pairs_in text words (nodes_after words head count)))
+      rank-same head (slice_index last 0) (nodes_after words head count) (sym first) ∙ omega (arith, lt, length-pairs_of_nodes text words (nodes_after words head count)))
       (λ (ge : 1 ≤ length (nodes_after words head count)).
-      last_place (skip_list laid (omega (arith, ge))) last laid.lasts ∙ sym (length-pairs_in text words (nodes_after words head count)))
+      last_place (skip_list laid (omega (arith, ge))) last laid.lasts ∙ sym (length-pairs_of_nodes text words (nodes_after words head count)))
       (cases_lt (length (nodes_after words head count)) 1)

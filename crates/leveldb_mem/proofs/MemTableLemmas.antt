@@ -14,10 +14,10 @@ use Rattle.byteorder.specs.Numbers.{length-bytes_low_first}
 use Rattle.leveldb_base.specs.History.{Item, Entry, IsBeforeAll, AreRising, IsNewest}
 use Rattle.leveldb_base.specs.Varint.{little, varint, sized}
 use Rattle.leveldb_base.proofs.VarintLemmas.{length-varint_64, one_sized}
-use Rattle.leveldb_base.specs.KeyTypes.{tag, internal_key, user_part, sequence_part, type_part, memtable_key, inner_key, internal_cmp, memtable_cmp}
+use Rattle.leveldb_base.specs.KeyTypes.{tag, internal_key, user_part, sequence_part, type_part, memtable_key, front_key, internal_cmp, memtable_cmp}
 use Rattle.leveldb_base.specs.Cmp.{internal_accepts, memtable_accepts, IsPreorderOn}
 use Rattle.leveldb_base.specs.CmpLaws.{length-internal_key, user_part-internal_key, sequence_part-internal_key, internal_accepts-internal_key, alike_right, itself_equal}
-use Rattle.leveldb_base.proofs.KeyTypesLemmas.{type_part-internal_key, inner_key-sized, inner_key-memtable_key}
+use Rattle.leveldb_base.proofs.KeyTypesLemmas.{type_part-internal_key, front_key-sized, front_key-memtable_key}
 use Rattle.leveldb_base.specs.declared.key_types.ValueType.{ValueType}
 use Rattle.leveldb_base.specs.Types.{Pair, count_before, position_within, last_position}
 use Rattle.leveldb_base.specs.declared.key_types.ValueType.TheVariants.{TypeValue}
@@ -25,10 +25,10 @@ use Rattle.leveldb_base.specs.Error.{IsOutOfMemory}
 use Rattle.leveldb_base.specs.declared.error.Status.{Status}
 use Rattle.leveldb_base.specs.declared.error.StatusCode.TheVariants.{NotSupported}
 use Rattle.leveldb_base.specs.Entries.{type_of, bytes_of_value, value_of, internal_pair, HasNewest, FindsNewest}
-use Rattle.leveldb_mem.specs.MemTable.{FailsToPrepare, FailsToNumber, ReserveResult, most_beside, value_length, entry_of, entry_key, entry_from, inner_value, entries_in, IsEntryPair, bytes_in, Kept, KeepsRoom, memory_of_entries, Grows, IsValueAt}
-use Rattle.leveldb_mem.specs.WriteBatch.{change_encoding, entry_bytes, BatchOf}
+use Rattle.leveldb_mem.specs.MemTable.{FailsToPrepare, FailsToNumber, ReserveResult, most_beside, value_length, entry_of, entry_key, entry_from, inner_value, entries_of_keys, IsEntryPair, bytes_in, Kept, KeepsRoom, memory_of_entries, Grows, IsValueAt}
+use Rattle.leveldb_mem.specs.WriteBatch.{change_encoding, change_bytes, BatchOf}
 use Rattle.leveldb_mem.specs.Searching.{key_at, count_while, IsParted}
-use Rattle.leveldb_mem.specs.SkipMap.{IsSorted, Inserts}
+use Rattle.leveldb_mem.specs.SkipMap.{IsSorted, InsertsPair}
 use Rattle.leveldb_mem.proofs.Rising.{is_less, rising_at, not_less}
 use Rattle.leveldb_mem.proofs.WriteBatchLemmas.{length-batch}
 use Rattle.leveldb_mem.specs.Placed.{bytes_of, memory_of, FailsToReserve}
@@ -49,7 +49,7 @@ whole_key user sequence kind value =
 pub accepted_key : (accepts : List ℕ → Bool) (user : List ℕ) (sequence : ℕ) (kind : ValueType) (value : List ℕ) → accepts user ≡ true
     → memtable_accepts accepts (memtable_key user sequence kind value) ≡ true
 accepted_key accepts user sequence kind value ok =
-    ap (internal_accepts accepts) (inner_key-memtable_key user sequence kind value) ∙ internal_accepts-internal_key accepts user sequence kind ok
+    ap (internal_accepts accepts) (front_key-memtable_key user sequence kind value) ∙ internal_accepts-internal_key accepts user sequence kind ok
 
 value_again : (value : Option (List ℕ)) → value_of (type_of value) (bytes_of_value value) ≡ value
 value_again None = refl
@@ -63,14 +63,14 @@ entry_again entry h =
     let bytes = bytes_of_value entry.value in
     let key = memtable_key entry.key entry.sequence kind bytes in
     let internal = internal_key entry.key entry.sequence kind in
-    let inner : inner_key key ≡ internal = inner_key-memtable_key entry.key entry.sequence kind bytes in
-    let number : sequence_part (inner_key key) ≡ entry.sequence = ap sequence_part inner ∙ sequence_part-internal_key entry.key entry.sequence kind h in
-    let user : user_part (inner_key key) ≡ entry.key = ap user_part inner ∙ user_part-internal_key entry.key entry.sequence kind in
-    let kind_is : type_part (inner_key key) ≡ kind = ap type_part inner ∙ type_part-internal_key entry.key entry.sequence kind h in
+    let inner : front_key key ≡ internal = front_key-memtable_key entry.key entry.sequence kind bytes in
+    let number : sequence_part (front_key key) ≡ entry.sequence = ap sequence_part inner ∙ sequence_part-internal_key entry.key entry.sequence kind h in
+    let user : user_part (front_key key) ≡ entry.key = ap user_part inner ∙ user_part-internal_key entry.key entry.sequence kind in
+    let kind_is : type_part (front_key key) ≡ kind = ap type_part inner ∙ type_part-internal_key entry.key entry.sequence kind h in
     let following : drop (length (sized internal)) key ≡ sized bytes = drop_at (sized internal) (sized bytes) (length (sized internal)) refl in
     let text : inner_value key ≡ bytes =
-    ap (λ z. inner_key (drop (length (sized z)) key)) inner ∙ ap inner_key following ∙ ap inner_key (sym (append-nil (sized bytes))) ∙ inner_key-sized bytes [] in
-    let value : value_of (type_part (inner_key key)) (inner_value key) ≡ entry.value =
+    ap (λ z. front_key (drop (length (sized z)) key)) inner ∙ ap front_key following ∙ ap front_key (sym (append-nil (sized bytes))) ∙ front_key-sized bytes [] in
+    let value : value_of (type_part (front_key key)) (inner_value key) ≡ entry.value =
     ap (λ t. value_of t (inner_value key)) kind_is ∙ ap (value_of kind) text ∙ value_again entry.value in
     λ i. entry_of (number i) (user i) (value i)
 
@@ -88,10 +88,10 @@ entry_order cmp a b = refl
 pub lookup_order : (cmp : List ℕ → List ℕ → Ordering) (a internal : List ℕ)
     → memtable_cmp cmp a (sized internal) ≡ ordering_then (cmp (entry_from a).key (user_part internal)) (nat_cmp (sequence_part internal) (entry_from a).sequence)
 unfolding entry_from
-lookup_order cmp a internal = ap (λ z. internal_cmp cmp (inner_key a) z) (ap inner_key (sym (append-nil (sized internal))) ∙ inner_key-sized internal [])
+lookup_order cmp a internal = ap (λ z. internal_cmp cmp (front_key a) z) (ap front_key (sym (append-nil (sized internal))) ∙ front_key-sized internal [])
 
-pub bytes_in-entry : (item : Item) → length item.key + value_length item.value ≤ length (entry_bytes item)
-unfolding entry_bytes
+pub bytes_in-entry : (item : Item) → length item.key + value_length item.value ≤ length (change_bytes item)
+unfolding change_bytes
 bytes_in-entry item = by_value item.key item.value
   where
     by_value : (key : List ℕ) (value : Option (List ℕ)) → length key + value_length value ≤ length (change_encoding key value)
@@ -117,20 +117,20 @@ module _ (h u t s b : List ℕ) (sequence : ℕ) (kind : ValueType) (value : Opt
       omega (arith, bytes, eight, head, size)
 
 -- an internal key of an entry has its tag
-pub length-inner_key : (key : List ℕ) → key ≡ entry_key (entry_from key) → 8 ≤ length (inner_key key)
+pub length-front_key : (key : List ℕ) → key ≡ entry_key (entry_from key) → 8 ≤ length (front_key key)
 unfolding entry_key
-length-inner_key key e =
+length-front_key key e =
     let entry = entry_from key in
     let kind = type_of entry.value in
-    let inner = ap inner_key e ∙ inner_key-memtable_key entry.key entry.sequence kind (bytes_of_value entry.value) in
+    let inner = ap front_key e ∙ front_key-memtable_key entry.key entry.sequence kind (bytes_of_value entry.value) in
     omega (arith, ap length inner, length-internal_key entry.key entry.sequence kind)
 
 -- what comes after the internal key of an entry's memtable key, as it is read
-pub read_value : (key internal rest : List ℕ) → key ≡ sized internal ++ rest → inner_value key ≡ inner_key rest
+pub read_value : (key internal rest : List ℕ) → key ≡ sized internal ++ rest → inner_value key ≡ front_key rest
 read_value key internal rest e =
-    let inner : inner_key key ≡ internal = ap inner_key e ∙ inner_key-sized internal rest in
-    ap (λ z. inner_key (drop (length (sized z)) key)) inner ∙ ap (λ z. inner_key (drop (length (sized internal)) z)) e
-    ∙ ap inner_key (drop_at (sized internal) rest (length (sized internal)) refl)
+    let inner : front_key key ≡ internal = ap front_key e ∙ front_key-sized internal rest in
+    ap (λ z. front_key (drop (length (sized z)) key)) inner ∙ ap (λ z. front_key (drop (length (sized internal)) z)) e
+    ∙ ap front_key (drop_at (sized internal) rest (length (sized internal)) refl)
 
 -- an entry's memtable key begins with a sized text, and so does what follows that
 pub first_there : (key : List ℕ) → key ≡ entry_key (entry_from key) → (internal : List ℕ) × (value : List ℕ) × (key ≡ sized internal ++ sized value)
@@ -154,28 +154,28 @@ inner_value-entry_key entry =
     let bytes = bytes_of_value entry.value in
     let key = memtable_key entry.key entry.sequence kind bytes in
     let internal = internal_key entry.key entry.sequence kind in
-    let inner : inner_key key ≡ internal = inner_key-memtable_key entry.key entry.sequence kind bytes in
+    let inner : front_key key ≡ internal = front_key-memtable_key entry.key entry.sequence kind bytes in
     let following : drop (length (sized internal)) key ≡ sized bytes = drop_at (sized internal) (sized bytes) (length (sized internal)) refl in
-    ap (λ z. inner_key (drop (length (sized z)) key)) inner ∙ ap inner_key following ∙ ap inner_key (sym (append-nil (sized bytes))) ∙ inner_key-sized bytes []
+    ap (λ z. front_key (drop (length (sized z)) key)) inner ∙ ap front_key following ∙ ap front_key (sym (append-nil (sized bytes))) ∙ front_key-sized bytes []
 
 -- ---- a map of memtable keys as a list of internal keys with values
 
 -- the internal key and the value of a map's pair
-pub inner_is : (pair : Pair) → IsEntryPair pair → inner_key pair.0 ≡ (internal_pair (entry_from pair.0)).0
+pub inner_is : (pair : Pair) → IsEntryPair pair → front_key pair.0 ≡ (internal_pair (entry_from pair.0)).0
 unfolding entry_key
 inner_is pair is =
     let entry = entry_from pair.0 in
-    ap inner_key is.0 ∙ inner_key-memtable_key entry.key entry.sequence (type_of entry.value) (bytes_of_value entry.value)
+    ap front_key is.0 ∙ front_key-memtable_key entry.key entry.sequence (type_of entry.value) (bytes_of_value entry.value)
 
 pub value_is : (pair : Pair) → IsEntryPair pair → inner_value pair.0 ≡ (internal_pair (entry_from pair.0)).1
 value_is pair is = ap inner_value is.0 ∙ inner_value-entry_key (entry_from pair.0)
 
 -- what is walked over
 abbrev pub walked : List Pair → List Pair
-walked pairs = map internal_pair (entries_in pairs)
+walked pairs = map internal_pair (entries_of_keys pairs)
 
 pub length-walked : (pairs : List Pair) → length (walked pairs) ≡ length pairs
-length-walked pairs = length-map (entries_in pairs) internal_pair ∙ length-map pairs (λ (pair : Pair). entry_from pair.0)
+length-walked pairs = length-map (entries_of_keys pairs) internal_pair ∙ length-map pairs (λ (pair : Pair). entry_from pair.0)
 
 pub within_walked : (pairs : List Pair) (i : ℕ) → position_within pairs i ≡ position_within (walked pairs) i
 within_walked pairs i = ap (λ n. cond (nat_lt i n) (Some i) None) (sym (length-walked pairs))
@@ -184,7 +184,7 @@ pub last_walked : (pairs : List Pair) → last_position pairs ≡ last_position 
 last_walked [] = refl
 last_walked (pair ∷ pairs) = ap (λ n. Some n) (sym (length-walked pairs))
 
-pub walked_at : (pairs : List Pair) (i : ℕ) → i < length pairs → All IsEntryPair pairs → slice_get (walked pairs) i ≡ Some (inner_key (key_at pairs i), inner_value (key_at pairs i))
+pub walked_at : (pairs : List Pair) (i : ℕ) → i < length pairs → All IsEntryPair pairs → slice_get (walked pairs) i ≡ Some (front_key (key_at pairs i), inner_value (key_at pairs i))
 walked_at pairs i h each =
     let pair = get_or pairs i ([], []) in
     let is : IsEntryPair pair = each i ([], []) h in
@@ -192,25 +192,25 @@ walked_at pairs i h each =
     let count = length-map pairs (λ (p : Pair). entry_from p.0) in
     let long : i < length (walked pairs) = omega (arith, h, length-walked pairs) in
     let there : get_or (walked pairs) i ([], []) ≡ internal_pair entry =
-    get_or-map internal_pair (entries_in pairs) i entry ([], []) (omega (arith, h, count)) ∙ ap internal_pair (get_or-map (λ (p : Pair). entry_from p.0) pairs i ([], []) entry h) in
+    get_or-map internal_pair (entries_of_keys pairs) i entry ([], []) (omega (arith, h, count)) ∙ ap internal_pair (get_or-map (λ (p : Pair). entry_from p.0) pairs i ([], []) entry h) in
     let key = inner_is pair is in
     let value = value_is pair is in
     slice_get-get_or (walked pairs) i ([], []) long ∙ ap (λ (p : Pair). Some p) there ∙ (λ j. Some (sym key j, sym value j))
 
 module _ (cmp : List ℕ → List ℕ → Ordering) where
   -- a count of memtable keys by their internal keys is a count of internal keys
-  pub count_walked : (to : List ℕ) (pairs : List Pair) → All IsEntryPair pairs → count_while (λ k. is_lt (internal_cmp cmp (inner_key k) to)) pairs ≡ count_before (internal_cmp cmp) to (walked pairs)
+  pub count_walked : (to : List ℕ) (pairs : List Pair) → All IsEntryPair pairs → count_while (λ k. is_lt (internal_cmp cmp (front_key k) to)) pairs ≡ count_before (internal_cmp cmp) to (walked pairs)
   count_walked to [] each = refl
   count_walked to (pair ∷ pairs) each =
       let head = inner_is pair (All-head IsEntryPair pair pairs each) in
       let rest = count_walked to pairs (All-tail IsEntryPair pair pairs each) in
-      ap (λ k. cond (is_lt (internal_cmp cmp k to)) (count_while (λ k. is_lt (internal_cmp cmp (inner_key k) to)) pairs + 1) 0) head
+      ap (λ k. cond (is_lt (internal_cmp cmp k to)) (count_while (λ k. is_lt (internal_cmp cmp (front_key k) to)) pairs + 1) 0) head
       ∙ ap (λ n. cond (is_lt (internal_cmp cmp (internal_pair (entry_from pair.0)).0 to)) (n + 1) 0) rest
 
-  before_walked : (key : List ℕ) (pairs : List Pair) → All IsEntryPair pairs → IsBeforeAll (memtable_cmp cmp) key pairs → IsBeforeAll (internal_cmp cmp) (inner_key key) (walked pairs)
+  before_walked : (key : List ℕ) (pairs : List Pair) → All IsEntryPair pairs → IsBeforeAll (memtable_cmp cmp) key pairs → IsBeforeAll (internal_cmp cmp) (front_key key) (walked pairs)
   before_walked key [] each all = tt
   before_walked key (pair ∷ pairs) each all = (
-    ap (λ k. internal_cmp cmp (inner_key key) k) (sym (inner_is pair (All-head IsEntryPair pair pairs each))) ∙ all.0,
+    ap (λ k. internal_cmp cmp (front_key key) k) (sym (inner_is pair (All-head IsEntryPair pair pairs each))) ∙ all.0,
     before_walked key pairs (All-tail IsEntryPair pair pairs each) all.1,
   )
 
@@ -248,35 +248,35 @@ module _ {accepts : List ℕ → Bool} {cmp : List ℕ → List ℕ → Ordering
       (o.less ua ub uc (all ua) (all ub) (all uc)) (o.alike ua ub uc (all ua) (all ub) (all uc)) (alike_right o ua ub uc (all ua) (all ub) (all uc))
 
   -- the memtable keys before an internal key are all at the front
-  pub parted_walked : {pairs : List Pair} → IsSorted (memtable_accepts accepts) (memtable_cmp cmp) pairs → (to : List ℕ) → IsParted (λ k. is_lt (internal_cmp cmp (inner_key k) to)) pairs
+  pub parted_walked : {pairs : List Pair} → IsSorted (memtable_accepts accepts) (memtable_cmp cmp) pairs → (to : List ℕ) → IsParted (λ k. is_lt (internal_cmp cmp (front_key k) to)) pairs
   parted_walked {pairs} sorted to i j p q h =
       ⊎_elim
-      (λ (e : i ≡ j). subst (λ n. is_lt (internal_cmp cmp (inner_key (key_at pairs n)) to) ≡ true) (sym e) h)
+      (λ (e : i ≡ j). subst (λ n. is_lt (internal_cmp cmp (front_key (key_at pairs n)) to) ≡ true) (sym e) h)
       (λ (w : (i < j) ⊎ (j < i)).
       ⊎_elim
       (λ (lt : i < j).
-      ap is_lt (internal_less (inner_key (key_at pairs i)) (inner_key (key_at pairs j)) to (rising_at (memtable_cmp cmp) pairs sorted.rising i j lt q)
-      (is_less (internal_cmp cmp (inner_key (key_at pairs j)) to) h)))
+      ap is_lt (internal_less (front_key (key_at pairs i)) (front_key (key_at pairs j)) to (rising_at (memtable_cmp cmp) pairs sorted.rising i j lt q)
+      (is_less (internal_cmp cmp (front_key (key_at pairs j)) to) h)))
       (λ (gt : j < i). absurd (omega (arith, gt, p))) w)
       (cases_order i j)
 
 -- ---- what counts as the memory of entries, and the room that a batch needs
 
 -- pairs that are memtable keys have as many bytes as the keys of their entries
-same_bytes : (pairs : List Pair) → All IsEntryPair pairs → bytes_of pairs ≡ sum_by (λ entry. length (entry_key entry)) (entries_in pairs)
+same_bytes : (pairs : List Pair) → All IsEntryPair pairs → bytes_of pairs ≡ sum_by (λ entry. length (entry_key entry)) (entries_of_keys pairs)
 same_bytes [] each = refl
 same_bytes (pair ∷ pairs) each =
     let head = All-head IsEntryPair pair pairs each in
     let rest = same_bytes pairs (All-tail IsEntryPair pair pairs each) in
     let size = λ (p : Pair). length p.0 + length p.1 in
     let key_size = λ (entry : Entry). length (entry_key entry) in
-    omega (arith, rest, ap length head.0, ap length head.1, sum_by-cons size pair pairs, sum_by-cons key_size (entry_from pair.0) (entries_in pairs))
+    omega (arith, rest, ap length head.0, ap length head.1, sum_by-cons size pair pairs, sum_by-cons key_size (entry_from pair.0) (entries_of_keys pairs))
 
-pub same_memory : (pairs : List Pair) → All IsEntryPair pairs → memory_of pairs ≡ memory_of_entries (entries_in pairs)
+pub same_memory : (pairs : List Pair) → All IsEntryPair pairs → memory_of pairs ≡ memory_of_entries (entries_of_keys pairs)
 same_memory pairs each = omega (arith, same_bytes pairs each, length-map pairs (λ (pair : Pair). entry_from pair.0))
 
-entry-le : (item : Item) → length (entry_bytes item) < 2 ^ 64 → length (entry_bytes item) ≤ 21 + length item.key + value_length item.value
-unfolding entry_bytes
+entry-le : (item : Item) → length (change_bytes item) < 2 ^ 64 → length (change_bytes item) ≤ 21 + length item.key + value_length item.value
+unfolding change_bytes
 entry-le item short = by_value item.key item.value short
   where
     by_value : (key : List ℕ) (value : Option (List ℕ)) → length (change_encoding key value) < 2 ^ 64 → length (change_encoding key value) ≤ 21 + length key + value_length value
@@ -289,19 +289,19 @@ entry-le item short = by_value item.key item.value short
         let both = length-append (sized key) (sized value) in
         omega (arith, short, one, two, both, length-varint_64 (length key) (omega (arith, short, one, both)), length-varint_64 (length value) (omega (arith, short, two, both)))
 
-bytes_in-le : (items : List Item) → bytes_in items ≤ length (flat_map entry_bytes items)
+bytes_in-le : (items : List Item) → bytes_in items ≤ length (flat_map change_bytes items)
 bytes_in-le [] = omega arith
-bytes_in-le (item ∷ items) = omega (arith, bytes_in-le items, bytes_in-entry item, length-append (entry_bytes item) (flat_map entry_bytes items))
+bytes_in-le (item ∷ items) = omega (arith, bytes_in-le items, bytes_in-entry item, length-append (change_bytes item) (flat_map change_bytes items))
 
 -- a batch's bytes are more than its keys and values have
 pub bytes_in-batch : {bytes : List ℕ} {first : ℕ} {items : List Item} → BatchOf bytes first items → bytes_in items ≤ length bytes
 bytes_in-batch {bytes} {first} {items} batch = omega (arith, length-batch batch, bytes_in-le items)
 
 -- and a few more for each of them
-entries-le : (items : List Item) → length (flat_map entry_bytes items) < 2 ^ 64 → length (flat_map entry_bytes items) ≤ 21 * length items + bytes_in items
+entries-le : (items : List Item) → length (flat_map change_bytes items) < 2 ^ 64 → length (flat_map change_bytes items) ≤ 21 * length items + bytes_in items
 entries-le [] short = omega arith
 entries-le (item ∷ items) short =
-    let all = length-append (entry_bytes item) (flat_map entry_bytes items) in
+    let all = length-append (change_bytes item) (flat_map change_bytes items) in
     omega (arith, all, entries-le items (omega (arith, all, short)), entry-le item (omega (arith, all, short)))
 
 pub batch-le : {bytes : List ℕ} {first : ℕ} {items : List Item} → BatchOf bytes first items → length bytes ≤ 12 + 21 * length items + bytes_in items
@@ -326,10 +326,10 @@ module _ (pairs pairs' : List Pair) (each : All IsEntryPair pairs) (old_places o
     (places_are : places ≡ max old_places count) (sum_is : sum ≡ min (bytes + 28 * places) (2 ^ 64 - 1)) (beside : 28 * old_places ≤ old_bytes) where
   pub reserves : (r : Result (Unit {0}) Status) → pairs' ≡ pairs → OnOk r ((new_places ≡ places) × (sum ≤ new_bytes) × (sum < 2 ^ 32)) → OnErr r (new_places ≡ old_places)
       → old_bytes ≤ new_bytes → IfErr r (FailsToReserve pairs places sum)
-      → ReserveResult (record { entries = entries_in pairs; places = old_places; bytes = old_bytes - most_beside * old_places }) count bytes r
-      (record { entries = entries_in pairs'; places = new_places; bytes = new_bytes - most_beside * new_places })
+      → ReserveResult (record { entries = entries_of_keys pairs; places = old_places; bytes = old_bytes - most_beside * old_places }) count bytes r
+      (record { entries = entries_of_keys pairs'; places = new_places; bytes = new_bytes - most_beside * new_places })
   reserves (Ok x) same ok err more cause = record {
-    entries = ap entries_in same;
+    entries = ap entries_of_keys same;
     ok = (ok.0 ∙ places_are, omega (arith, ok.0, ok.1, ok.2));
     room = λ few. (omega (arith, ok.0), omega (arith, ok.0));
     places = tt;
@@ -337,7 +337,7 @@ module _ (pairs pairs' : List Pair) (each : All IsEntryPair pairs) (old_places o
     cause = tt;
   }
   reserves (Err status) same ok err more cause = record {
-    entries = ap entries_in same;
+    entries = ap entries_of_keys same;
     ok = tt;
     room = λ few. (err, omega (arith, err));
     places = err;
@@ -367,11 +367,11 @@ entry_between front back entry old new was is =
     record { count = count; memory = omega (arith, count, all, others, sum_by-cons size entry back) }
 
 -- a memtable key that has come to a map adds its entry
-pub grows : {old new : List Pair} {key : List ℕ} → Inserts old (key, []) new → (entry : Entry) → entry_from key ≡ entry → Grows (entries_in old) entry (entries_in new)
+pub grows : {old new : List Pair} {key : List ℕ} → InsertsPair old (key, []) new → (entry : Entry) → entry_from key ≡ entry → Grows (entries_of_keys old) entry (entries_of_keys new)
 grows {old} {new} {key} put entry e =
     let from_pair = λ (pair : Pair). entry_from pair.0 in
-    entry_between (entries_in put.front) (entries_in put.back) entry (entries_in old) (entries_in new) (ap entries_in put.before ∙ map-append from_pair put.front put.back)
-    (ap entries_in put.after ∙ map-append from_pair put.front ((key, []) ∷ put.back) ∙ ap (λ (z : Entry). entries_in put.front ++ z ∷ entries_in put.back) e)
+    entry_between (entries_of_keys put.front) (entries_of_keys put.back) entry (entries_of_keys old) (entries_of_keys new) (ap entries_of_keys put.before ∙ map-append from_pair put.front put.back)
+    (ap entries_of_keys put.after ∙ map-append from_pair put.front ((key, []) ∷ put.back) ∙ ap (λ (z : Entry). entries_of_keys put.front ++ z ∷ entries_of_keys put.back) e)
 
 -- ---- what a look-up among sorted memtable keys finds
 
@@ -394,58 +394,58 @@ first_not_greater Equal s h = inr refl
 first_not_greater Greater s h = let f : ⊥ = cc in absurd f
 
 -- an entry that is there is at some index
-pub entry_place : (pairs : List Pair) (entry : Entry) → Contains (entries_in pairs) entry → (i : ℕ) × (i < length pairs) × (entry_from (key_at pairs i) ≡ entry)
+pub entry_place : (pairs : List Pair) (entry : Entry) → Contains (entries_of_keys pairs) entry → (i : ℕ) × (i < length pairs) × (entry_from (key_at pairs i) ≡ entry)
 entry_place pairs entry there =
-    let found = at_from_Contains (entries_in pairs) entry there in
+    let found = at_from_Contains (entries_of_keys pairs) entry there in
     let count = length-map pairs (λ (pair : Pair). entry_from pair.0) in
     let within : found.0 < length pairs = omega (arith, found.1, count) in
     (found.0, within, sym (get_or-map (λ (pair : Pair). entry_from pair.0) pairs found.0 ([], []) entry within) ∙ found.2 entry)
 
-pub entry_there : (pairs : List Pair) (i : ℕ) → i < length pairs → Contains (entries_in pairs) (entry_from (key_at pairs i))
+pub entry_there : (pairs : List Pair) (i : ℕ) → i < length pairs → Contains (entries_of_keys pairs) (entry_from (key_at pairs i))
 entry_there pairs i h =
     let count = length-map pairs (λ (pair : Pair). entry_from pair.0) in
     let e = entry_from (key_at pairs i) in
-    subst (λ (x : Entry). Contains (entries_in pairs) x) (get_or-map (λ (pair : Pair). entry_from pair.0) pairs i ([], []) e h)
-    (Contains-get_or (entries_in pairs) i e (omega (arith, h, count)))
+    subst (λ (x : Entry). Contains (entries_of_keys pairs) x) (get_or-map (λ (pair : Pair). entry_from pair.0) pairs i ([], []) e h)
+    (Contains-get_or (entries_of_keys pairs) i e (omega (arith, h, count)))
 
-entry_got : (pairs : List Pair) (i : ℕ) → i < length pairs → slice_get (entries_in pairs) i ≡ Some (entry_from (key_at pairs i))
+entry_got : (pairs : List Pair) (i : ℕ) → i < length pairs → slice_get (entries_of_keys pairs) i ≡ Some (entry_from (key_at pairs i))
 entry_got pairs i h =
     let count = length-map pairs (λ (pair : Pair). entry_from pair.0) in
     let e = entry_from (key_at pairs i) in
-    slice_get-get_or (entries_in pairs) i e (omega (arith, h, count)) ∙ ap (λ (x : Entry). Some x) (get_or-map (λ (pair : Pair). entry_from pair.0) pairs i ([], []) e h)
+    slice_get-get_or (entries_of_keys pairs) i e (omega (arith, h, count)) ∙ ap (λ (x : Entry). Some x) (get_or-map (λ (pair : Pair). entry_from pair.0) pairs i ([], []) e h)
 
 same_some : {a b : Entry} → Some a ≡ Some b → a ≡ b
 same_some e = cc
 
 -- what was got is within
-got_within : (pairs : List Pair) (i : ℕ) (entry : Entry) → slice_get (entries_in pairs) i ≡ Some entry → i < length pairs
-got_within pairs i entry e = omega (arith, slice_get_within (entries_in pairs) i entry e, length-map pairs (λ (pair : Pair). entry_from pair.0))
+got_within : (pairs : List Pair) (i : ℕ) (entry : Entry) → slice_get (entries_of_keys pairs) i ≡ Some entry → i < length pairs
+got_within pairs i entry e = omega (arith, slice_get_within (entries_of_keys pairs) i entry e, length-map pairs (λ (pair : Pair). entry_from pair.0))
 
 -- whether a memtable key comes before the user's key as of the number
 abbrev pub as_of : (List ℕ → List ℕ → Ordering) → List ℕ → List ℕ → ℕ → Bool
-as_of cmp k user number = is_lt (ordering_then (cmp (user_part (inner_key k)) user) (nat_cmp number (sequence_part (inner_key k))))
+as_of cmp k user number = is_lt (ordering_then (cmp (user_part (front_key k)) user) (nat_cmp number (sequence_part (front_key k))))
 
 -- there is no entry after the last
-pub gives_nothing : (pairs : List Pair) (i : ℕ) (user : List ℕ) → length pairs ≤ i → IsValueAt (entries_in pairs) i user None
+pub gives_nothing : (pairs : List Pair) (i : ℕ) (user : List ℕ) → length pairs ≤ i → IsValueAt (entries_of_keys pairs) i user None
 gives_nothing pairs i user h entry got same = let within = got_within pairs i entry got in omega (arith, within)
 
-module _ (pairs : List Pair) (i : ℕ) (within : i < length pairs) (key : List ℕ) (key_is : key ≡ key_at pairs i) (internal : List ℕ) (internal_is : internal ≡ inner_key key)
+module _ (pairs : List Pair) (i : ℕ) (within : i < length pairs) (key : List ℕ) (key_is : key ≡ key_at pairs i) (internal : List ℕ) (internal_is : internal ≡ front_key key)
     (user : List ℕ) (user_is : user ≡ user_part internal) where
   -- the entry is another key's
-  pub gives_other : (other : List ℕ) → (user ≡ other → ⊥) → IsValueAt (entries_in pairs) i other None
+  pub gives_other : (other : List ℕ) → (user ≡ other → ⊥) → IsValueAt (entries_of_keys pairs) i other None
   unfolding entry_from
   gives_other other differs entry got same =
       let is : entry_from (key_at pairs i) ≡ entry = same_some (sym (entry_got pairs i within) ∙ got) in
-      differs (user_is ∙ ap user_part internal_is ∙ ap (λ k. user_part (inner_key k)) key_is ∙ ap (λ (x : Entry). x.key) is ∙ same)
+      differs (user_is ∙ ap user_part internal_is ∙ ap (λ k. user_part (front_key k)) key_is ∙ ap (λ (x : Entry). x.key) is ∙ same)
 
   -- the entry is the key's
-  pub gives_read : (value : List ℕ) (kind : ValueType) → kind ≡ type_part internal → value ≡ inner_value key → IsValueAt (entries_in pairs) i user (Some (value_of kind value))
+  pub gives_read : (value : List ℕ) (kind : ValueType) → kind ≡ type_part internal → value ≡ inner_value key → IsValueAt (entries_of_keys pairs) i user (Some (value_of kind value))
   unfolding entry_from
   gives_read value kind kind_is value_is =
-      let number = sequence_part (inner_key key) in (
+      let number = sequence_part (front_key key) in (
         number,
         entry_got pairs i within ∙ ap (λ k. Some (entry_from k)) (sym key_is)
-            ∙ ap (λ u. Some (entry_of number u (value_of (type_part (inner_key key)) (inner_value key)))) (ap user_part (sym internal_is) ∙ sym user_is)
+            ∙ ap (λ u. Some (entry_of number u (value_of (type_part (front_key key)) (inner_value key)))) (ap user_part (sym internal_is) ∙ sym user_is)
             ∙ ap (λ k. Some (entry_of number user (value_of k (inner_value key)))) (ap type_part (sym internal_is) ∙ sym kind_is)
             ∙ ap (λ v. Some (entry_of number user (value_of kind v))) (sym value_is),
       )
@@ -499,7 +499,7 @@ module _ {accepts : List ℕ → Bool} {cmp : List ℕ → List ℕ → Ordering
       low_enough : (entry place).sequence ≤ limit
       low_enough = tied_not_less (cmp (entry place).key user) limit (entry place).sequence (tied (entry place).key user same) (not_before within)
 
-      is_newest : IsNewest (entries_in pairs) limit (entry place)
+      is_newest : IsNewest (entries_of_keys pairs) limit (entry place)
       is_newest = record {
         there = entry_there pairs place within;
         seen = low_enough;
@@ -519,7 +519,7 @@ module _ {accepts : List ℕ → Bool} {cmp : List ℕ → List ℕ → Ordering
       }
 
       -- what is there is the key's newest entry
-      pub finds_entry : HasNewest (entries_in pairs) limit user (entry place).value
+      pub finds_entry : HasNewest (entries_of_keys pairs) limit user (entry place).value
       finds_entry = record {
         entry = entry place;
         newest = is_newest;
@@ -542,7 +542,7 @@ module _ {accepts : List ℕ → Bool} {cmp : List ℕ → List ℕ → Ordering
       }
 
     -- where no entry of the key is there, it has none
-    pub finds_none : (place < length pairs → (entry place).key ≢ user) → FindsNewest (entries_in pairs) limit user None
+    pub finds_none : (place < length pairs → (entry place).key ≢ user) → FindsNewest (entries_of_keys pairs) limit user None
     finds_none other e there key low =
         let found = entry_place pairs e there in
         let i = found.0 in
@@ -565,19 +565,19 @@ module _ {accepts : List ℕ → Bool} {cmp : List ℕ → List ℕ → Ordering
         (cases_order i place)
 
     -- what the entry there gives, or that it gives nothing
-    pub finds_given : (n : ℕ) → n ≡ place → (found : Option (Option (List ℕ))) → IsValueAt (entries_in pairs) n user found → FindsNewest (entries_in pairs) limit user found
-    finds_given n n_is None given = finds_none (λ within same. given (entry place) (ap (λ i. slice_get (entries_in pairs) i) n_is ∙ entry_got pairs place within) same)
+    pub finds_given : (n : ℕ) → n ≡ place → (found : Option (Option (List ℕ))) → IsValueAt (entries_of_keys pairs) n user found → FindsNewest (entries_of_keys pairs) limit user found
+    finds_given n n_is None given = finds_none (λ within same. given (entry place) (ap (λ i. slice_get (entries_of_keys pairs) i) n_is ∙ entry_got pairs place within) same)
     finds_given n n_is (Some value) given =
         let within = got_within pairs n (entry_of given.0 user value) given.1 in
-        let is : entry place ≡ entry_of given.0 user value = same_some (sym (entry_got pairs place (omega (arith, within, n_is))) ∙ ap (λ i. slice_get (entries_in pairs) i) (sym n_is) ∙ given.1) in
-        subst (λ v. HasNewest (entries_in pairs) limit user v) (ap (λ (x : Entry). x.value) is)
+        let is : entry place ≡ entry_of given.0 user value = same_some (sym (entry_got pairs place (omega (arith, within, n_is))) ∙ ap (λ i. slice_get (entries_of_keys pairs) i) (sym n_is) ∙ given.1) in
+        subst (λ v. HasNewest (entries_of_keys pairs) limit user v) (ap (λ (x : Entry). x.value) is)
         (finds_entry (omega (arith, within, n_is)) (ap (λ (x : Entry). x.key) is))
 
     -- keys before it, by their internal keys
-    pub counted_inner : count_while (λ k. is_lt (internal_cmp cmp (inner_key k) internal)) pairs ≡ place
+    pub counted_inner : count_while (λ k. is_lt (internal_cmp cmp (front_key k) internal)) pairs ≡ place
     counted_inner =
-        let inner : inner_key (sized internal) ≡ internal = ap inner_key (sym (append-nil (sized internal))) ∙ inner_key-sized internal [] in
-        ap (λ z. count_while (λ k. is_lt (internal_cmp cmp (inner_key k) z)) pairs) (sym inner) ∙ counted
+        let inner : front_key (sized internal) ≡ internal = ap front_key (sym (append-nil (sized internal))) ∙ front_key-sized internal [] in
+        ap (λ z. count_while (λ k. is_lt (internal_cmp cmp (front_key k) z)) pairs) (sym inner) ∙ counted
 
   module _ (key : List ℕ) (sequence : ℕ) (fits : sequence < 2 ^ 56) where
     abbrev looked_up : List ℕ
@@ -588,14 +588,14 @@ module _ {accepts : List ℕ → Bool} {cmp : List ℕ → List ℕ → Ordering
         subst (λ number. IsParted (λ k. as_of cmp k key number) pairs) (sequence_part-internal_key key sequence TypeValue fits)
         (subst (λ user. IsParted (λ k. as_of cmp k user (sequence_part looked_up)) pairs) (user_part-internal_key key sequence TypeValue) (parted_walked o all sorted looked_up))
 
-    pub finds_as_of : (n : ℕ) → n ≡ count_while (λ k. as_of cmp k key sequence) pairs → (found : Option (Option (List ℕ))) → IsValueAt (entries_in pairs) n key found
-        → FindsNewest (entries_in pairs) sequence key found
+    pub finds_as_of : (n : ℕ) → n ≡ count_while (λ k. as_of cmp k key sequence) pairs → (found : Option (Option (List ℕ))) → IsValueAt (entries_of_keys pairs) n key found
+        → FindsNewest (entries_of_keys pairs) sequence key found
     finds_as_of n n_is found given =
         let number_is = sequence_part-internal_key key sequence TypeValue fits in
         let user_is = user_part-internal_key key sequence TypeValue in
         let there : n ≡ count_before (memtable_cmp cmp) (sized looked_up) pairs =
         n_is ∙ ap (λ number. count_while (λ k. as_of cmp k key number) pairs) (sym number_is)
         ∙ ap (λ user. count_while (λ k. as_of cmp k user (sequence_part looked_up)) pairs) (sym user_is) ∙ counted_inner looked_up in
-        subst (λ number. FindsNewest (entries_in pairs) number key found) number_is
-        (subst (λ user. FindsNewest (entries_in pairs) (sequence_part looked_up) user found) user_is
-        (finds_given looked_up n there found (subst (λ user. IsValueAt (entries_in pairs) n user found) (sym user_is) given)))
+        subst (λ number. FindsNewest (entries_of_keys pairs) number key found) number_is
+        (subst (λ user. FindsNewest (entries_of_keys pairs) (sequence_part looked_up) user found) user_is
+        (finds_given looked_up n there found (subst (λ user. IsValueAt (entries_of_keys pairs) n user found) (sym user_is) given)))

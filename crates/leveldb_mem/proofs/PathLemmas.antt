@@ -6,9 +6,9 @@ use Rattle.std.proofs.lemmas.List.{get_or-set_same, get_or-set_other, get_or-tak
 use Rattle.std.proofs.lemmas.List.Elements.{All-head, All-tail, All-filter, All-drop, All-from_get_or}
 use Rattle.leveldb_base.specs.Types.{Pair}
 use Rattle.leveldb_mem.specs.Searching.{key_at, count_while, IsParted}
-use Rattle.leveldb_mem.specs.Placed.{head, most_height, tower, link, level, first_of_nodes, last_after, AreLinked, AreApart, IsNode, IsSkipList, IsPathTo, rank, place_of, pair_in, pairs_in}
+use Rattle.leveldb_mem.specs.Placed.{head, most_height, tower, link, level, first_of_nodes, last_after, AreLinkedAt, AreApart, IsNode, IsSkipList, IsPathTo, rank, place_of, pair_of_node, pairs_of_nodes}
 use Rattle.leveldb_mem.proofs.Halving.{before_count, at_count, count-le}
-use Rattle.leveldb_mem.proofs.PlacedLemmas.{rank-append, rank-later, level-append, level-keep, level-zero, Splits, split_level, link_at, last_after-is, ends_in, all_nodes, node_or_head, length-pairs_in}
+use Rattle.leveldb_mem.proofs.PlacedLemmas.{rank-append, rank-later, level-append, level-keep, level-zero, Splits, split_level, link_at, last_after-is, ends_in, all_nodes, node_or_head, length-pairs_of_nodes}
 
 pub All-middle : {X : Type 0} (P : X → Type 0) (front : List X) (x : X) (back : List X) → All P (front ++ x ∷ back) → P x
 All-middle P [] x back all = All-head P x back all
@@ -99,7 +99,7 @@ module _ {words : List ℕ} {end : ℕ} {nodes : List ℕ} (skip : IsSkipList wo
 
     next_is : (next : ℕ) → next ≡ link words k node → next ≡ first_of_nodes (level words k descends.ahead ++ level words k back)
     next_is next e =
-        e ∙ link_at words k descends.before node (descends.ahead ++ back) (subst (λ l. AreLinked words k (level words k l)) all_parts (skip.levels k below)) has_link
+        e ∙ link_at words k descends.before node (descends.ahead ++ back) (subst (λ l. AreLinkedAt words k (level words k l)) all_parts (skip.levels k below)) has_link
         ∙ ap first_of_nodes (level-append words k descends.ahead back)
 
     -- the next node comes later among those that are there
@@ -236,19 +236,19 @@ module _ {words : List ℕ} {end : ℕ} {nodes : List ℕ} (skip : IsSkipList wo
 -- the nodes before the count pass, and the first after it doesn't, nor does any where those that do are all at the front
 module _ (test : List ℕ → Bool) (text : List ℕ) {words : List ℕ} {end : ℕ} {nodes : List ℕ} (skip : IsSkipList words end nodes) where
   abbrev pairs : List Pair
-  pairs = pairs_in text words nodes
+  pairs = pairs_of_nodes text words nodes
 
   abbrev at : ℕ
   at = count_while test pairs
 
   abbrev passes_at : ℕ → Bool
-  passes_at node = let pair = pair_in text words node in test pair.0
+  passes_at node = let pair = pair_of_node text words node in test pair.0
 
   key_is : (i : ℕ) → i < length nodes → test (key_at pairs i) ≡ passes_at (get_or nodes i 0)
-  key_is i h = ap (λ (pair : Pair). test pair.0) (get_or-map (pair_in text words) nodes i 0 ([], []) h)
+  key_is i h = ap (λ (pair : Pair). test pair.0) (get_or-map (pair_of_node text words) nodes i 0 ([], []) h)
 
   at_within : at ≤ length nodes
-  at_within = let le = count-le test pairs in omega (arith, le, length-pairs_in text words nodes)
+  at_within = let le = count-le test pairs in omega (arith, le, length-pairs_of_nodes text words nodes)
 
   pub parts_of : (from : ℕ) → (from ≡ 1) ⊎ IsParted test pairs → Parts words nodes passes_at from (take at nodes) (drop at nodes)
   parts_of from which = record {
@@ -272,7 +272,7 @@ module _ (test : List ℕ → Bool) (text : List ℕ) {words : List ℕ} {end : 
       back_nodes = All-drop (IsNode words end) at nodes (all_nodes skip)
 
       stop_at : at < length nodes → passes_at (get_or nodes at 0) ≡ false
-      stop_at h = sym (key_is at h) ∙ at_count test pairs (omega (arith, h, length-pairs_in text words nodes))
+      stop_at h = sym (key_is at h) ∙ at_count test pairs (omega (arith, h, length-pairs_of_nodes text words nodes))
 
       first : from ≡ 1 → (height : ℕ) → height < from → (node : ℕ) (more : List ℕ) → level words height (drop at nodes) ≡ node ∷ more → passes_at node ≡ false
       first one height h node more is =
@@ -297,7 +297,7 @@ module _ (test : List ℕ → Bool) (text : List ℕ) {words : List ℕ} {end : 
                   let same : passes_at (get_or (drop at nodes) i 0) ≡ test (key_at pairs (at + i)) = ap passes_at (back_at i) ∙ sym (key_is (at + i) lt) in
                   ⊎_elim
                   (λ (t : test (key_at pairs (at + i)) ≡ true).
-                  let early : test (key_at pairs at) ≡ true = parted at (at + i) (omega arith) (omega (arith, lt, length-pairs_in text words nodes)) t in
+                  let early : test (key_at pairs at) ≡ true = parted at (at + i) (omega arith) (omega (arith, lt, length-pairs_of_nodes text words nodes)) t in
                   absurd (false≢true (sym (stop_at (omega (arith, lt))) ∙ sym (key_is at (omega (arith, lt))) ∙ early)))
                   (λ (f : test (key_at pairs (at + i)) ≡ false). same ∙ f)
                   (cases_Bool (test (key_at pairs (at + i))))
@@ -311,10 +311,10 @@ module _ (test : List ℕ → Bool) (text : List ℕ) {words : List ℕ} {end : 
 -- a search for the place after the pairs that pass
 abbrev pub Searches : (List ℕ → Bool) → List ℕ → List ℕ → List ℕ → ℕ → ℕ → ℕ → List ℕ → Type 0
 Searches test text words nodes from node height path =
-    Descends words (take (count_while test (pairs_in text words nodes)) nodes) (λ n. let pair = pair_in text words n in test pair.0) from node height path
+    Descends words (take (count_while test (pairs_of_nodes text words nodes)) nodes) (λ n. let pair = pair_of_node text words n in test pair.0) from node height path
 
 module _ (test : List ℕ → Bool) (text : List ℕ) {words : List ℕ} {end : ℕ} {nodes : List ℕ} (skip : IsSkipList words end nodes) {from : ℕ} (most : from ≤ 12)
-    (which : (from ≡ 1) ⊎ IsParted test (pairs_in text words nodes)) where
+    (which : (from ≡ 1) ⊎ IsParted test (pairs_of_nodes text words nodes)) where
   pub searches_from : (path : List ℕ) → length path ≡ 12 → Searches test text words nodes from head from path
   searches_from path long = descends_from skip (parts_of test text skip from which) most path long
 
@@ -330,16 +330,16 @@ module _ (test : List ℕ → Bool) (text : List ℕ) {words : List ℕ} {end : 
     searched_next next e other =
         let later = later_next skip (parts_of test text skip from which) most searches more next e other in (later.later, later.there)
 
-    pub searched_along : (next : ℕ) → next ≡ link words (height - 1) node → next ≢ 0 → (let pair = pair_in text words next in test pair.0) ≡ true
+    pub searched_along : (next : ℕ) → next ≡ link words (height - 1) node → next ≢ 0 → (let pair = pair_of_node text words next in test pair.0) ≡ true
         → Searches test text words nodes from next height path
     searched_along = moved skip (parts_of test text skip from which) most searches more
 
-    pub searched_down : (next : ℕ) → next ≡ link words (height - 1) node → (next ≢ 0 → (let pair = pair_in text words next in test pair.0) ≡ false)
+    pub searched_down : (next : ℕ) → next ≡ link words (height - 1) node → (next ≢ 0 → (let pair = pair_of_node text words next in test pair.0) ≡ false)
         → Searches test text words nodes from node (height - 1) (set path (height - 1) node)
     searched_down = down skip (parts_of test text skip from which) most searches more
 
   pub searched : {node height : ℕ} {path : List ℕ} → Searches test text words nodes from node height path → height ≡ 0
-      → IsPathTo words path from (take (count_while test (pairs_in text words nodes)) nodes)
+      → IsPathTo words path from (take (count_while test (pairs_of_nodes text words nodes)) nodes)
   searched s done height h = s.done height (omega (arith, done)) h
 
 -- the last nodes are a path to the place after all

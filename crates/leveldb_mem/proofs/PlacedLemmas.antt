@@ -5,7 +5,7 @@ use Rattle.std.proofs.lemmas.Bool.{cond_both, cond-true, cond-false, eqb-true, e
 use Rattle.std.proofs.lemmas.List.Elements.{All-head, All-tail, filter-append}
 use Rattle.std.proofs.lemmas.List.{get_or-map, get_or_past, length-map}
 use Rattle.leveldb_base.specs.Types.{Pair}
-use Rattle.leveldb_mem.specs.Placed.{head, nodes_after, pair_in, pairs_in, IsLaid, tower, link, level, first_of_nodes, last_after, AreLinked, IsApart, AreApart, IsNode, IsSkipList, rank, IsAt}
+use Rattle.leveldb_mem.specs.Placed.{head, nodes_after, pair_of_node, pairs_of_nodes, IsLaid, tower, link, level, first_of_nodes, last_after, AreLinkedAt, IsApart, AreApart, IsNode, IsSkipList, rank, IsAt}
 
 -- ---- indexes
 
@@ -103,16 +103,16 @@ split_level words height (node ∷ nodes) =
 
 -- ---- links
 
-pub AreLinked-append : (words : List ℕ) (height : ℕ) (front back : List ℕ) → AreLinked words height (front ++ back) → AreLinked words height back
-AreLinked-append words height [] back linked = linked
-AreLinked-append words height (node ∷ front) back linked = AreLinked-append words height front back linked.1
+pub AreLinkedAt-append : (words : List ℕ) (height : ℕ) (front back : List ℕ) → AreLinkedAt words height (front ++ back) → AreLinkedAt words height back
+AreLinkedAt-append words height [] back linked = linked
+AreLinkedAt-append words height (node ∷ front) back linked = AreLinkedAt-append words height front back linked.1
 
 -- a node with a link at the height has there the first of those after it that have one
-pub link_at : (words : List ℕ) (height : ℕ) (front : List ℕ) (node : ℕ) (back : List ℕ) → AreLinked words height (level words height (front ++ node ∷ back))
+pub link_at : (words : List ℕ) (height : ℕ) (front : List ℕ) (node : ℕ) (back : List ℕ) → AreLinkedAt words height (level words height (front ++ node ∷ back))
     → height < tower words node → link words height node ≡ first_of_nodes (level words height back)
 link_at words height front node back linked high =
     let parts = level-append words height front (node ∷ back) ∙ ap (λ l. level words height front ++ l) (level-keep words height node back high) in
-    (AreLinked-append words height (level words height front) (node ∷ level words height back) (subst (λ l. AreLinked words height l) parts linked)).0
+    (AreLinkedAt-append words height (level words height front) (node ∷ level words height back) (subst (λ l. AreLinkedAt words height l) parts linked)).0
 
 -- ---- the last of nodes
 
@@ -141,7 +141,7 @@ last_after-is before nodes front last e = same_last before nodes (front ++ last 
 -- ---- what the words of a map say
 
 -- along linked nodes each link is the next
-pub linked_at : (words : List ℕ) (height : ℕ) (nodes : List ℕ) (i : ℕ) → i < length nodes → AreLinked words height nodes
+pub linked_at : (words : List ℕ) (height : ℕ) (nodes : List ℕ) (i : ℕ) → i < length nodes → AreLinkedAt words height nodes
     → link words height (get_or nodes i 0) ≡ get_or nodes (suc i) 0
 linked_at words height [] i h linked = absurd (omega (arith, h))
 linked_at words height (node ∷ []) zero h linked = linked.0
@@ -185,7 +185,7 @@ module _ {words : List ℕ} {end : ℕ} {nodes : List ℕ} (skip : IsSkipList wo
   pub after_is : (node : ℕ) → rank (head ∷ nodes) node ≤ length nodes → IsAt nodes (rank (head ∷ nodes) node) (slice_index words node)
   after_is node h =
       let i = rank (head ∷ nodes) node in
-      let linked = subst (λ l. AreLinked words 0 l) level_zero (skip.levels 0 (omega arith)) in
+      let linked = subst (λ l. AreLinkedAt words 0 l) level_zero (skip.levels 0 (omega arith)) in
       let there = linked_at words 0 (head ∷ nodes) i (omega (arith, h)) linked in
       let zero_is : node + 0 ≡ node = omega arith in
       let same : slice_index words node ≡ get_or nodes i 0 =
@@ -199,12 +199,12 @@ rank-after_head {words} {end} {nodes} skip node h =
     rank-other head node nodes (λ e. far.other (e ∙ sym (get_or-rank nodes node 0 h))) ∙ omega arith
 
 -- the pair of a node that is there
-pub pair_at_rank : (text words nodes : List ℕ) (node : ℕ) → rank nodes node < length nodes → get_or (pairs_in text words nodes) (rank nodes node) ([], []) ≡ pair_in text words node
+pub pair_at_rank : (text words nodes : List ℕ) (node : ℕ) → rank nodes node < length nodes → get_or (pairs_of_nodes text words nodes) (rank nodes node) ([], []) ≡ pair_of_node text words node
 pair_at_rank text words nodes node h =
-    get_or-map (pair_in text words) nodes (rank nodes node) 0 ([], []) h ∙ ap (pair_in text words) (get_or-rank nodes node 0 h)
+    get_or-map (pair_of_node text words) nodes (rank nodes node) 0 ([], []) h ∙ ap (pair_of_node text words) (get_or-rank nodes node 0 h)
 
-pub length-pairs_in : (text words nodes : List ℕ) → length (pairs_in text words nodes) ≡ length nodes
-length-pairs_in text words nodes = length-map nodes (pair_in text words)
+pub length-pairs_of_nodes : (text words nodes : List ℕ) → length (pairs_of_nodes text words nodes) ≡ length nodes
+length-pairs_of_nodes text words nodes = length-map nodes (pair_of_node text words)
 
 module _ {text words last : List ℕ} {count end : ℕ} (laid : IsLaid text words last count end) where
   pub opened : 0 < length (nodes_after words head count) → 0 < length words
@@ -227,10 +227,10 @@ module _ {text words last : List ℕ} {count end : ℕ} (laid : IsLaid text word
     pub node_is : (node : ℕ) → rank nodes node < length nodes → IsNode words end node
     node_is node h = node_at (skip_list_of (omega (arith, h))) node h
 
-    pub pair_is : {pairs : List Pair} → pairs_in text words (nodes_after words head count) ≡ pairs → (node : ℕ) → rank nodes node < length nodes
-        → get_or pairs (rank nodes node) ([], []) ≡ pair_in text words node
+    pub pair_is : {pairs : List Pair} → pairs_of_nodes text words (nodes_after words head count) ≡ pairs → (node : ℕ) → rank nodes node < length nodes
+        → get_or pairs (rank nodes node) ([], []) ≡ pair_of_node text words node
     pair_is {pairs} e node h =
-        ap (λ ps. get_or ps (rank nodes node) ([], [])) (sym e ∙ ap (pairs_in text words) same) ∙ pair_at_rank text words nodes node h
+        ap (λ ps. get_or ps (rank nodes node) ([], [])) (sym e ∙ ap (pairs_of_nodes text words) same) ∙ pair_at_rank text words nodes node h
 
-    pub length_is : {pairs : List Pair} → pairs_in text words (nodes_after words head count) ≡ pairs → length nodes ≡ length pairs
-    length_is {pairs} e = sym (length-pairs_in text words nodes) ∙ ap (λ ns. length (pairs_in text words ns)) (sym same) ∙ ap length e
+    pub length_is : {pairs : List Pair} → pairs_of_nodes text words (nodes_after words head count) ≡ pairs → length nodes ≡ length pairs
+    length_is {pairs} e = sym (length-pairs_of_nodes text words nodes) ∙ ap (λ ns. length (pairs_of_nodes text words ns)) (sym same) ∙ ap length e

@@ -19,7 +19,7 @@ use Rattle.leveldb_env.proofs.EnvFileLemmas.{IsFurther-borrowed, IsReadOut-borro
 use Rattle.leveldb_base.specs.Error.{IsOutOfMemory}
 use Rattle.leveldb_mem.specs.Log.Reader.{IsUnreadThenGiven, HoldsOfRest, at_end, whatever_follows, ReaderState, IsTorn, FindsRecord, FindsEnd, FindsWrongChecksum, ReadSoFar, FailsToRead, given_up, too_long, StopsReading, ReadResult}
 use Rattle.leveldb_mem.specs.Log.{IsBlockSize, log_block_size, offset_after, IsRecord, End, clean, bad, Ends, LogOf, BreaksOff}
-use Rattle.leveldb_mem.specs.Log.Files.{IsReadAsLog, IsStopped}
+use Rattle.leveldb_mem.specs.Log.Files.{IsReadAsLog, StopsReadingFile}
 use Rattle.leveldb_mem.proofs.LogLemmas.{offset_after_both, offset_after_none, log_append}
 use Rattle.leveldb_mem.proofs.CrashLemmas.{breaks_bad}
 use borrow.Rule.Slice.PartMut.{put_mid, post_of}
@@ -195,11 +195,11 @@ module _ {E F : Type 0} (env : Ghosts E F) where
       record { changes = record { bytes = read.0; further = read.1.changes; log = read.2 }; same_env = read.1.same_env; same_file = read.1.same_file }
 
   -- or isn't read to its end
-  pub IsStopped-borrowed : {status : Status} {from to : EnvFile E F} → StopsReading (ReadsBorrowed env) from status to → ChangesBorrowedFile (λ old new. IsStopped env old status new) from to
-  IsStopped-borrowed (inl up) =
+  pub StopsReadingFile-borrowed : {status : Status} {from to : EnvFile E F} → StopsReading (ReadsBorrowed env) from status to → ChangesBorrowedFile (λ old new. StopsReadingFile env old status new) from to
+  StopsReadingFile-borrowed (inl up) =
       let read = IsGivenUp-borrowed env up in
       record { changes = inl read.changes; same_env = read.same_env; same_file = read.same_file }
-  IsStopped-borrowed (inr much) =
+  StopsReadingFile-borrowed (inr much) =
       let read = IsFurther-borrowed env much.given_before in
       record { changes = inr (record { code = much.code; bytes = much.bytes; further = read.changes; many = much.many }); same_env = read.same_env; same_file = read.same_file }
 

@@ -11,7 +11,7 @@ use Rattle.leveldb_base.specs.Cmp.{IsPreorderOn}
 use Rattle.leveldb_base.specs.Types.{Pair, count_before}
 use Rattle.leveldb_base.specs.History.{IsBeforeAll, AreRising}
 use Rattle.leveldb_mem.specs.Searching.{key_at, count_while, IsParted}
-use Rattle.leveldb_mem.specs.SkipMap.{IsSorted, IsGap, Inserts, HasKey}
+use Rattle.leveldb_mem.specs.SkipMap.{IsSorted, IsGap, InsertsPair, HasKey}
 use Rattle.leveldb_mem.proofs.Halving.{count-le, before_count, at_count, count_before-is}
 
 -- the keys before the place are before this one, and it is before the others
@@ -74,7 +74,7 @@ module _ (cmp : List ℕ → List ℕ → Ordering) where
   )
 
 -- a pair that was put at a place has come between the others
-pub inserts_at : (pairs new : List Pair) (at : ℕ) (pair : Pair) → new ≡ insert pairs at pair → Inserts pairs pair new
+pub inserts_at : (pairs new : List Pair) (at : ℕ) (pair : Pair) → new ≡ insert pairs at pair → InsertsPair pairs pair new
 inserts_at pairs new at pair e = record { front = take at pairs; back = drop at pairs; before = sym (take-append-drop at pairs); after = e }
 
 module _ {accepts : List ℕ → Bool} {cmp : List ℕ → List ℕ → Ordering} (o : IsPreorderOn accepts cmp) {pairs : List Pair} (sorted : IsSorted accepts cmp pairs) where

@@ -13,7 +13,7 @@ use Rattle.leveldb_base.specs.declared.error.StatusCode.TheVariants.{InvalidArgu
 use Rattle.leveldb_base.specs.Cmp.{IsPreorderOn}
 use Rattle.leveldb_base.specs.Types.{Pair, position_within, previous_position}
 use Rattle.leveldb_mem.specs.Searching.{key_at, count_while}
-use Rattle.leveldb_mem.specs.SkipMap.{IsSorted, HasNode, IsGap, position_of}
+use Rattle.leveldb_mem.specs.SkipMap.{IsSorted, HasNode, IsGap, position_of_node}
 use Rattle.leveldb_mem.specs.Placed.{head, rank, place_of, IsAt, IsPathTo, FailsToReserve}
 use Rattle.leveldb_mem.proofs.Halving.{count_at, count-le, count_before-is}
 use Rattle.leveldb_mem.proofs.PlacedLemmas.{rank-zero, rank-later, rank-same}
@@ -51,13 +51,13 @@ beyond pairs i e =
 -- the place that a node is, where the node is at an index
 module _ {nodes : List ℕ} (pairs : List Pair) (size : length nodes ≡ length pairs) {i node : ℕ} (at : IsAt nodes i node) (place : Option ℕ)
     (none : node ≡ 0 → place ≡ None) (some : 0 < node → place ≡ Some node) where
-  pub place_at : position_of nodes place ≡ position_within pairs i
+  pub place_at : position_of_node nodes place ≡ position_within pairs i
   place_at =
       ⊎_elim
       (λ (lt : i < length nodes).
       let there = at.there lt in
-      ap (position_of nodes) (some there.1) ∙ ap (λ n. Some n) there.0 ∙ sym (some_within pairs i (omega (arith, lt, size))))
-      (λ (ge : length nodes ≤ i). ap (position_of nodes) (none (at.none ge)) ∙ none_within pairs i (omega (arith, ge, size)))
+      ap (position_of_node nodes) (some there.1) ∙ ap (λ n. Some n) there.0 ∙ sym (some_within pairs i (omega (arith, lt, size))))
+      (λ (ge : length nodes ≤ i). ap (position_of_node nodes) (none (at.none ge)) ∙ none_within pairs i (omega (arith, ge, size)))
       (cases_lt i (length nodes))
 
   pub place_has : ForSome place (HasNode nodes pairs)

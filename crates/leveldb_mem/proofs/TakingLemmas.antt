@@ -9,7 +9,7 @@ use Rattle.leveldb_base.specs.Crc.{crc_of, masked}
 use Rattle.leveldb_base.specs.Varint.{little}
 use Rattle.leveldb_base.specs.declared.error.Status.{Status}
 use Rattle.leveldb_env.specs.Source.{GivesSome, GivesAll}
-use Rattle.leveldb_mem.specs.Log.{room, checksum, IsChecksum, IsFragment, IsDamaged, fragment_of, filler, NoFragment, offset_after, Fragment, fragment_bytes}
+use Rattle.leveldb_mem.specs.Log.{room, checksum, IsChecksum, IsFragment, IsDamagedFragment, fragment_of, filler, NoFragment, offset_after, Fragment, fragment_bytes}
 use Rattle.leveldb_mem.proofs.FragmentLemmas.{filler-fits, room-fits, headed, headed_fragment, headed_damaged, filler-ends, none_short, none_unfilled, none_past_block, none_cut_short, room-ends}
 use Rattle.leveldb_mem.specs.Log.Reader.{ReaderState, after_front, IsUnreadThenGiven, at_end, HoldsOfRest, FindsEnd}
 use Rattle.leveldb_mem.specs.Log.Taking.{declared_length, HasRightChecksum, PassesPart, PassesDamaged, IsNoFragment, PassesFragment, with_unread, SkipsFiller, TakesNext}
@@ -124,7 +124,7 @@ module _ (old : ReaderState) (count : ℕ) (wide : 7 ≤ old.size - old.offset) 
       fragment = fragment_of is.type is.part;
       asked = asked;
       unread = unread_is;
-      damaged = subst (IsDamaged old.size (fragment_of is.type is.part) old.offset) headed_is
+      damaged = subst (IsDamagedFragment old.size (fragment_of is.type is.part) old.offset) headed_is
           (headed_damaged old.size old.offset is.sum is.part is.low is.high is.type is.four length_declared low_byte high_byte fits (λ e. wrong (sum_right e)));
       reader = goes_on_after;
     }
@@ -284,7 +284,7 @@ module _ (size offset : ℕ) (large : 8 ≤ size) (narrow : size - offset < 7) (
       bytes_are = sym (ap (λ z. z ++ fragment_bytes is.sum f) (filler-fits size 0 (omega arith)));
     }
 
-  pub damaged_after : (f : Fragment) (front : List ℕ) → IsDamaged size f 0 front → IsDamaged size f offset (zeros ++ front)
+  pub damaged_after : (f : Fragment) (front : List ℕ) → IsDamagedFragment size f 0 front → IsDamagedFragment size f offset (zeros ++ front)
   unfolding fragment_after
   damaged_after f front is = record { unchecked = fragment_after false f front is.unchecked; wrong = is.wrong }
 
@@ -335,7 +335,7 @@ module _ {S : Type 0} (gives : S → ℕ → Result (List ℕ) Status → S → 
           asked = sym (ap (λ r. r.checked) skips.reader) ∙ passes.asked;
           unread = ap (λ z. before ++ z) passes.unread ∙ sym (append_assoc before passes.front new.unread);
           damaged = damaged_after old.size old.offset large narrow inside passes.fragment passes.front
-              (subst (λ r. IsDamaged r.size passes.fragment r.offset passes.front) skips.reader passes.damaged);
+              (subst (λ r. IsDamagedFragment r.size passes.fragment r.offset passes.front) skips.reader passes.damaged);
           reader = goes_on_after_filler passes.front passes.reader;
         };
       }

@@ -208,7 +208,7 @@ frame_at offset text = framed_record log_block_size text (offset % log_block_siz
 
 -- from this offset on the bytes are filler and the fragment within its block, after four bytes that
 -- aren't its checksum
-pub record IsDamaged (size : ℕ) (fragment : Fragment) (offset : ℕ) (bytes : List ℕ) : Type 0 where
+pub record IsDamagedFragment (size : ℕ) (fragment : Fragment) (offset : ℕ) (bytes : List ℕ) : Type 0 where
   pub unchecked : IsFragment false size fragment offset bytes
   pub wrong : unchecked.sum ≢ checksum fragment
 
@@ -224,7 +224,7 @@ pub record BreaksOff (size : ℕ) (first : Bool) (offset : ℕ) (bytes : List �
   pub parts : List (List ℕ)
   pub fragment : Fragment
   pub laid : IsFrontAndRest size (AreFragments true size (begun_of first parts))
-      (IsDamaged size fragment) offset bytes
+      (IsDamagedFragment size fragment) offset bytes
 
 -- ---- what a crash leaves
 

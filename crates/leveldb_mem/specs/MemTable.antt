@@ -11,7 +11,7 @@ use Rattle.leveldb_base.specs.declared.error.StatusCode.TheVariants.{AlreadyExis
 use Rattle.leveldb_base.specs.Entries.{type_of, bytes_of_value, value_of}
 use Rattle.leveldb_base.specs.History.{Item, Entry}
 use Rattle.leveldb_base.specs.KeyTypes.{user_part, sequence_part, type_part, memtable_key}
-use Rattle.leveldb_base.specs.KeyTypes.{inner_key}
+use Rattle.leveldb_base.specs.KeyTypes.{front_key}
 use Rattle.leveldb_base.specs.Varint.{sized}
 use Rattle.leveldb_base.specs.Types.{Pair}
 
@@ -106,12 +106,12 @@ entry_key entry =
 
 -- the text after the internal key of a memtable key
 abbrev pub inner_value : List ℕ → List ℕ
-inner_value key = inner_key (drop (length (sized (inner_key key))) key)
+inner_value key = front_key (drop (length (sized (front_key key))) key)
 
 -- the entry that a memtable key encodes
 unfoldable pub entry_from : List ℕ → Entry
 entry_from key =
-    let internal = inner_key key in
+    let internal = front_key key in
     entry_of (sequence_part internal) (user_part internal)
     (value_of (type_part internal) (inner_value key))
 
@@ -120,8 +120,8 @@ abbrev pub IsEntryPair : Pair → Type 0
 IsEntryPair pair = (pair.0 ≡ entry_key (entry_from pair.0)) × (pair.1 ≡ [])
 
 -- the entries that the keys of these pairs encode, in their order
-abbrev pub entries_in : List Pair → List Entry
-entries_in pairs = map (λ pair. entry_from pair.0) pairs
+abbrev pub entries_of_keys : List Pair → List Entry
+entries_of_keys pairs = map (λ pair. entry_from pair.0) pairs
 
 -- the value or deletion of a key that the entry at an index has, or none where that is another
 -- key's or there is no entry

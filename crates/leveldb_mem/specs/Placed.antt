@@ -55,15 +55,15 @@ abbrev pub value_end : List ℕ → ℕ → ℕ
 value_end words node = key_end words node + slice_index words (node - 2)
 
 -- the key and the value of a node
-abbrev pub pair_in : List ℕ → List ℕ → ℕ → Pair
-pair_in text words node = (
+abbrev pub pair_of_node : List ℕ → List ℕ → ℕ → Pair
+pair_of_node text words node = (
   slice_range text (key_start words node) (key_end words node),
   slice_range text (key_end words node) (value_end words node),
 )
 
 -- the pairs of these nodes
-abbrev pub pairs_in : List ℕ → List ℕ → List ℕ → List Pair
-pairs_in text words nodes = map (pair_in text words) nodes
+abbrev pub pairs_of_nodes : List ℕ → List ℕ → List ℕ → List Pair
+pairs_of_nodes text words nodes = map (pair_of_node text words) nodes
 
 -- `count` nodes that follow a node at the lowest height
 abbrev pub nodes_after : List ℕ → ℕ → ℕ → List ℕ
@@ -85,10 +85,10 @@ last_after node [] = node
 last_after node (next ∷ nodes) = last_after next nodes
 
 -- each of these nodes is linked to the next at the height, and the last to none
-abbrev pub AreLinked : List ℕ → ℕ → List ℕ → Type 0
-AreLinked words height [] = Unit {0}
-AreLinked words height (node ∷ nodes) = (link words height node ≡ first_of_nodes nodes)
-    × AreLinked words height nodes
+abbrev pub AreLinkedAt : List ℕ → ℕ → List ℕ → Type 0
+AreLinkedAt words height [] = Unit {0}
+AreLinkedAt words height (node ∷ nodes) = (link words height node ≡ first_of_nodes nodes)
+    × AreLinkedAt words height nodes
 
 -- two nodes share no word
 pub record IsApart (words : List ℕ) (a b : ℕ) : Type 0 where
@@ -116,7 +116,7 @@ pub record IsSkipList (words : List ℕ) (end : ℕ) (nodes : List ℕ) : Type 0
   pub valid : All (IsNode words end) (head ∷ nodes)
   pub apart : AreApart words (head ∷ nodes)
   pub levels : (height : ℕ) → height < most_height
-      → AreLinked words height (level words height (head ∷ nodes))
+      → AreLinkedAt words height (level words height (head ∷ nodes))
 
 -- at each height the last of the head and these nodes, as which a new node comes in after them
 abbrev pub IsPathTo : List ℕ → List ℕ → ℕ → List ℕ → Type 0
@@ -150,7 +150,7 @@ pub record IsLaid (text words last : List ℕ) (count end : ℕ) : Type 0 where
   pub counted : count ≤ length words
   pub linked : 0 < length words → IsSkipList words end (nodes_after words head count)
   pub lasts : IsPathTo words last most_height (nodes_after words head count)
-  pub filled : bytes_of (pairs_in text words (nodes_after words head count)) ≡ end
+  pub filled : bytes_of (pairs_of_nodes text words (nodes_after words head count)) ≡ end
 
 -- ---- room
 
@@ -166,7 +166,7 @@ FailsToReserve pairs count bytes status =
     ⊎ IsOutOfMemory status
 
 -- what making room for `count` pairs with `size` bytes returns and leaves
-pub record MakesRoom (old : Placed) (count size : ℕ) (result : Result (Unit {0}) Status)
+pub record MakesRoomForPairs (old : Placed) (count size : ℕ) (result : Result (Unit {0}) Status)
     (new : Placed) : Type 0 where
   pub pairs : new.pairs ≡ old.pairs
   pub order : new.order ≡ old.order

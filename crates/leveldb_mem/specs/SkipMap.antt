@@ -49,11 +49,11 @@ abbrev pub HasNode : List ℕ → List Pair → ℕ → Type 0
 HasNode nodes pairs node = rank nodes node < length pairs
 
 -- the index of the pair of a node
-abbrev pub position_of : List ℕ → Option ℕ → Option ℕ
-position_of nodes place = option_map (rank nodes) place
+abbrev pub position_of_node : List ℕ → Option ℕ → Option ℕ
+position_of_node nodes place = option_map (rank nodes) place
 
 -- the pair has come between the others, which are as they were
-pub record Inserts (old : List Pair) (pair : Pair) (new : List Pair) : Type 0 where
+pub record InsertsPair (old : List Pair) (pair : Pair) (new : List Pair) : Type 0 where
   pub front : List Pair
   pub back : List Pair
   pub before : old ≡ front ++ back
@@ -79,7 +79,7 @@ key_begins (Some pair) key = starts_with nat_eq pair.0 key
 pub record InsertResult {C : Type 0} (accepts : List ℕ → Bool) (order : List ℕ → List ℕ → Ordering)
     (old : Held C) (pair : Pair) (result : Result (Unit {0}) Status) (new : Held C) : Type 0 where
   pub cmp : new.cmp ≡ old.cmp
-  pub ok : OnOk result (Inserts old.pairs pair new.pairs)
+  pub ok : OnOk result (InsertsPair old.pairs pair new.pairs)
   pub sorted : IsSorted accepts order new.pairs
   -- an error leaves the pairs, and their room
   pub err : OnErr result (new.pairs ≡ old.pairs)
@@ -100,7 +100,7 @@ pub record PutKeyResult {C : Type 0} (order : List ℕ → List ℕ → Ordering
   pub bytes : old.bytes ≤ new.bytes + length key
   -- no key was Equal to it
   pub absent : OnTrue has_come (HasKey order old.pairs key → ⊥)
-  pub put : OnTrue has_come (Inserts old.pairs (key, []) new.pairs)
+  pub put : OnTrue has_come (InsertsPair old.pairs (key, []) new.pairs)
   pub place : OnTrue has_come (new.places + 1 ≡ old.places)
   -- one was, and all stays
   pub present : OnFalse has_come (HasKey order old.pairs key)

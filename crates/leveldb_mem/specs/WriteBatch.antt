@@ -36,12 +36,12 @@ change_encoding key (Some value) = 1 ∷ (sized key ++ sized value)
 change_encoding key None = 0 ∷ sized key
 
 -- the bytes of a change in a batch
-unfoldable pub entry_bytes : Item → List ℕ
-entry_bytes item = change_encoding item.key item.value
+unfoldable pub change_bytes : Item → List ℕ
+change_bytes item = change_encoding item.key item.value
 
 -- the number of the first entry, how many there are, and the entries in order
 unfoldable pub batch_bytes : ℕ → List Item → List ℕ
-batch_bytes first items = little 8 first ++ (little 4 (length items) ++ flat_map entry_bytes items)
+batch_bytes first items = little 8 first ++ (little 4 (length items) ++ flat_map change_bytes items)
 
 -- the greatest length of a batch, and so of each key and each value in one
 abbrev pub max_length : ℕ
@@ -79,23 +79,23 @@ IsShort item = (length item.key ≤ max_length)
     × IfSome item.value (λ value. length value ≤ max_length)
 
 -- the bytes are some entries, one after the other
-abbrev pub AreEntries : List ℕ → Type 0
-AreEntries bytes = (items : List Item) × (bytes ≡ flat_map entry_bytes items)
+abbrev pub AreChanges : List ℕ → Type 0
+AreChanges bytes = (items : List Item) × (bytes ≡ flat_map change_bytes items)
 
 -- ---- reading
 
 -- what counting the entries of some bytes gives: their number, or nothing where the bytes aren't
 -- entries
-abbrev pub CountsEntries : List ℕ → Option ℕ → Type 0
-CountsEntries bytes (Some count) = (items : List Item) × (bytes ≡ flat_map entry_bytes items)
+abbrev pub CountsChanges : List ℕ → Option ℕ → Type 0
+CountsChanges bytes (Some count) = (items : List Item) × (bytes ≡ flat_map change_bytes items)
     × (length items ≡ count)
-CountsEntries bytes None = (items : List Item) → bytes ≡ flat_map entry_bytes items → ⊥
+CountsChanges bytes None = (items : List Item) → bytes ≡ flat_map change_bytes items → ⊥
 
 -- what reading an entry at the front of some bytes gives: the item and what follows it, or nothing
 -- where there is none
-abbrev pub ReadsEntry : List ℕ → Option (Item × List ℕ) → Type 0
-ReadsEntry bytes (Some (item, rest)) = bytes ≡ entry_bytes item ++ rest
-ReadsEntry bytes None = (item : Item) (rest : List ℕ) → bytes ≡ entry_bytes item ++ rest → ⊥
+abbrev pub ReadsChange : List ℕ → Option (Item × List ℕ) → Type 0
+ReadsChange bytes (Some (item, rest)) = bytes ≡ change_bytes item ++ rest
+ReadsChange bytes None = (item : Item) (rest : List ℕ) → bytes ≡ change_bytes item ++ rest → ⊥
 
 -- the item that a borrowed key and a borrowed value are
 abbrev pub borrowed_item : Bor (List ℕ) × Option (Bor (List ℕ)) → Item

@@ -9,7 +9,7 @@ use Rattle.byteorder.specs.Numbers.{little_number-reads_back, length-bytes_low_f
 use Rattle.leveldb_base.specs.History.{Item}
 use Rattle.leveldb_base.specs.Varint.{little, sized}
 use Rattle.leveldb_base.proofs.VarintLemmas.{apart, one_sized, length-varint-pos}
-use Rattle.leveldb_mem.specs.WriteBatch.{item_of, batch_of, change_encoding, entry_bytes, batch_bytes, BatchOf, Batch, IsBatch, AreEntries}
+use Rattle.leveldb_mem.specs.WriteBatch.{item_of, batch_of, change_encoding, change_bytes, batch_bytes, BatchOf, Batch, IsBatch, AreChanges}
 use Rattle.leveldb_mem.specs.Laws.{OneBatchReading, OneBatchEncoding}
 
 -- a fixed number at the front of a text, and what follows
@@ -39,9 +39,9 @@ one_encoding k j None None x y e =
     (r.0, refl, r.1)
 
 -- an item at the front of a text, and what follows
-pub one_entry : (a b : Item) (x y : List ℕ) → entry_bytes a ++ x ≡ entry_bytes b ++ y
+pub one_entry : (a b : Item) (x y : List ℕ) → change_bytes a ++ x ≡ change_bytes b ++ y
     → (a ≡ b) × (x ≡ y)
-unfolding entry_bytes
+unfolding change_bytes
 one_entry a b x y e =
     let r = one_encoding a.key b.key a.value b.value x y e in
     (ap (λ z. item_of z a.value) r.0 ∙ ap (λ z. item_of b.key z) r.1, r.2)
@@ -54,25 +54,25 @@ length-change_encoding-ge key None =
     let some = length-varint-pos (length key) in grind (arith, length-append)
 
 -- an entry has its kind, a length and its key
-pub length-entry_bytes-ge : (item : Item) → 2 + length item.key ≤ length (entry_bytes item)
-unfolding entry_bytes
-length-entry_bytes-ge item = length-change_encoding-ge item.key item.value
+pub length-change_bytes-ge : (item : Item) → 2 + length item.key ≤ length (change_bytes item)
+unfolding change_bytes
+length-change_bytes-ge item = length-change_encoding-ge item.key item.value
 
 -- entries have one reading
-pub one_list : (xs ys : List Item) → flat_map entry_bytes xs ≡ flat_map entry_bytes ys → xs ≡ ys
+pub one_list : (xs ys : List Item) → flat_map change_bytes xs ≡ flat_map change_bytes ys → xs ≡ ys
 one_list [] [] e = refl
 one_list [] (y ∷ ys) e =
-    let some = length-entry_bytes-ge y in
+    let some = length-change_bytes-ge y in
     let whole = ap length e in
-    let sum = length-append (entry_bytes y) (flat_map entry_bytes ys) in
+    let sum = length-append (change_bytes y) (flat_map change_bytes ys) in
     absurd (omega (arith, sum, some, whole))
 one_list (x ∷ xs) [] e =
-    let some = length-entry_bytes-ge x in
+    let some = length-change_bytes-ge x in
     let whole = ap length e in
-    let sum = length-append (entry_bytes x) (flat_map entry_bytes xs) in
+    let sum = length-append (change_bytes x) (flat_map change_bytes xs) in
     absurd (omega (arith, sum, some, whole))
 one_list (x ∷ xs) (y ∷ ys) e =
-    let r = one_entry x y (flat_map entry_bytes xs) (flat_map entry_bytes ys) e in
+    let r = one_entry x y (flat_map change_bytes xs) (flat_map change_bytes ys) e in
     ap (λ z. z ∷ xs) r.0 ∙ ap (λ z. y ∷ z) (one_list xs ys r.1)
 
 -- a batch has one reading
@@ -103,7 +103,7 @@ IsBatch-prop bytes = λ u v. Σ_prop_path (BatchOf-prop bytes)
     ap (λ z. batch_of z u.0.items) same.0 ∙ ap (λ z. batch_of v.0.first z) same.1)
 
 -- bytes are entries in one way
-pub AreEntries-prop : (bytes : List ℕ) → IsProp (AreEntries bytes)
-AreEntries-prop bytes = λ u v. Σ_prop_path
-    (λ items. Coded-set (coded_list coded_ℕ) bytes (flat_map entry_bytes items))
+pub AreChanges-prop : (bytes : List ℕ) → IsProp (AreChanges bytes)
+AreChanges-prop bytes = λ u v. Σ_prop_path
+    (λ items. Coded-set (coded_list coded_ℕ) bytes (flat_map change_bytes items))
     (one_list u.0 v.0 (sym u.1 ∙ v.1))

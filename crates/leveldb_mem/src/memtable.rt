@@ -4,14 +4,14 @@ ghost use Rattle.std.specs.Prelude.{IsTrue, ◌↔◌, Some, None, slice_get, op
 ghost use Rattle.std.specs.Option.{option_map, ForSome};
 ghost use Rattle.leveldb_base.specs.History.{placed, greatest, AreRising};
 ghost use Rattle.leveldb_base.specs.Varint.{varint, sized};
-ghost use Rattle.leveldb_base.specs.KeyTypes.{inner_key, internal_cmp, user_part, sequence_part};
+ghost use Rattle.leveldb_base.specs.KeyTypes.{front_key, internal_cmp, user_part, sequence_part};
 ghost use Rattle.leveldb_base.specs.Types.{position_within, previous_position, last_position};
 ghost use Rattle.leveldb_base.specs.Types.{seek_position};
 ghost use Rattle.leveldb_base.specs.Entries.{FindsNewest, type_of, bytes_of_value, value_of};
 ghost use Rattle.leveldb_base.specs.Entries.{internal_pair};
 ghost use Rattle.leveldb_mem.specs.WriteBatch.{item_of};
 ghost use Rattle.leveldb_mem.specs.Placed.{rank};
-ghost use Rattle.leveldb_mem.specs.SkipMap.{HasNode, position_of};
+ghost use Rattle.leveldb_mem.specs.SkipMap.{HasNode, position_of_node};
 ghost use Rattle.leveldb_mem.specs.MemTable.{IsNewTo, AreNewTo, HasRoom, KeepsRoom, AddsEntry};
 ghost use Rattle.leveldb_mem.specs.MemTable.{AddsAll, entry_of, value_length, entry_key};
 ghost use Rattle.leveldb_mem.specs.MemTable.{entry_from, inner_value, memory_of_entries, Grows};
@@ -54,12 +54,12 @@ impl<C: Cmp> Model for MemTable<C> {
     ghost coded = { memtable_code C.code };
 
     ghost use Rattle.std.specs.Prelude.{◌-◌, ◌*◌, ◌≤◌, All};
-    ghost use Rattle.leveldb_mem.specs.MemTable.{entries_in, IsEntryPair, most_beside};
+    ghost use Rattle.leveldb_mem.specs.MemTable.{entries_of_keys, IsEntryPair, most_beside};
 
     ghost view = { λ it. record {
       cmp = it.map.cmp.0;
       kept = record {
-        entries = entries_in it.map.pairs;
+        entries = entries_of_keys it.map.pairs;
         places = it.map.places;
         bytes = it.map.bytes - most_beside * it.map.places;
       };
@@ -227,7 +227,7 @@ impl<C: UserCmp> MemTable<C> {
 
     // The node of the first entry.
     fn first(&self) -> Option<usize>
-        ensures position { position_of self.now.nodes result
+        ensures position { position_of_node self.now.nodes result
             ≡ position_within (map internal_pair self.now.kept.entries) 0 }
         ensures within { ForSome result
             (HasNode self.now.nodes (map internal_pair self.now.kept.entries)) }
@@ -238,7 +238,7 @@ impl<C: UserCmp> MemTable<C> {
     // The node after another.
     fn after(&self, node: usize) -> Option<usize>
         requires { HasNode self.now.nodes (map internal_pair self.now.kept.entries) node }
-        ensures position { position_of self.now.nodes result
+        ensures position { position_of_node self.now.nodes result
             ≡ position_within (map internal_pair self.now.kept.entries)
             (rank self.now.nodes node + 1) }
         ensures within { ForSome result
@@ -250,7 +250,7 @@ impl<C: UserCmp> MemTable<C> {
     // The node before another.
     fn previous(&self, node: usize) -> Option<usize>
         requires { HasNode self.now.nodes (map internal_pair self.now.kept.entries) node }
-        ensures position { position_of self.now.nodes result
+        ensures position { position_of_node self.now.nodes result
             ≡ previous_position (Some (rank self.now.nodes node)) }
         ensures within { ForSome result
             (HasNode self.now.nodes (map internal_pair self.now.kept.entries)) }
@@ -260,7 +260,7 @@ impl<C: UserCmp> MemTable<C> {
 
     // The node of the last entry.
     fn last(&self) -> Option<usize>
-        ensures position { position_of self.now.nodes result
+        ensures position { position_of_node self.now.nodes result
             ≡ last_position (map internal_pair self.now.kept.entries) }
         ensures within { ForSome result
             (HasNode self.now.nodes (map internal_pair self.now.kept.entries)) }
@@ -270,7 +270,7 @@ impl<C: UserCmp> MemTable<C> {
 
     // The node of the first internal key at or after this one.
     fn first_at(&self, key: &[u8]) -> Option<usize>
-        ensures position { position_of self.now.nodes result
+        ensures position { position_of_node self.now.nodes result
             ≡ seek_position (internal_cmp (C.cmp self.now.cmp))
             (map internal_pair self.now.kept.entries) key.now }
         ensures within { ForSome result
@@ -366,7 +366,7 @@ fn type_and_bytes(value: Option<&[u8]>) -> (ValueType, &[u8])
 #[inline]
 fn split_entry(key: &[u8]) -> (&[u8], &[u8])
     requires { key.now ≡ entry_key (entry_from key.now) }
-    ensures internal { result.0.now ≡ inner_key key.now }
+    ensures internal { result.0.now ≡ front_key key.now }
     ensures long { 8 ≤ length result.0.now }
     ensures value { result.1.now ≡ inner_value key.now }
 {

@@ -6,7 +6,7 @@ ghost use Rattle.leveldb_base.specs.Types.{seek_position, position_within, previ
 ghost use Rattle.leveldb_base.specs.Types.{last_position, pair_at};
 ghost use Rattle.leveldb_mem.specs.Placed.{rank, memory_of, FailsToReserve};
 ghost use Rattle.leveldb_mem.specs.Searching.{key_at, count_while, IsParted};
-ghost use Rattle.leveldb_mem.specs.SkipMap.{IsSorted, HasNode, position_of, key_begins};
+ghost use Rattle.leveldb_mem.specs.SkipMap.{IsSorted, HasNode, position_of_node, key_begins};
 ghost use Rattle.leveldb_mem.specs.SkipMap.{InsertResult, PutKeyResult};
 
 use crate::skipmap::placed::{HEAD, PlacedPairs};
@@ -149,7 +149,7 @@ impl<C: Cmp> SkipMap<C> {
     /// The node of the first key at or after this one.
     #[inline]
     pub(crate) fn first_at(&self, key: &[u8]) -> Option<usize>
-        ensures position { position_of self.now.nodes result
+        ensures position { position_of_node self.now.nodes result
             ≡ seek_position (C.cmp self.now.cmp) self.now.pairs key.now }
         ensures within { ForSome result (HasNode self.now.nodes self.now.pairs) }
     {
@@ -163,7 +163,7 @@ impl<C: Cmp> SkipMap<C> {
     /// The first node.
     #[inline]
     pub(crate) fn first(&self) -> Option<usize>
-        ensures position { position_of self.now.nodes result ≡ position_within self.now.pairs 0 }
+        ensures position { position_of_node self.now.nodes result ≡ position_within self.now.pairs 0 }
         ensures within { ForSome result (HasNode self.now.nodes self.now.pairs) }
     {
         if self.pairs.len() == 0 {
@@ -176,7 +176,7 @@ impl<C: Cmp> SkipMap<C> {
     #[inline]
     pub(crate) fn after(&self, node: usize) -> Option<usize>
         requires { HasNode self.now.nodes self.now.pairs node }
-        ensures position { position_of self.now.nodes result
+        ensures position { position_of_node self.now.nodes result
             ≡ position_within self.now.pairs (rank self.now.nodes node + 1) }
         ensures within { ForSome result (HasNode self.now.nodes self.now.pairs) }
     {
@@ -187,7 +187,7 @@ impl<C: Cmp> SkipMap<C> {
     #[inline]
     pub(crate) fn previous(&self, node: usize) -> Option<usize>
         requires { HasNode self.now.nodes self.now.pairs node }
-        ensures position { position_of self.now.nodes result
+        ensures position { position_of_node self.now.nodes result
             ≡ previous_position (Some (rank self.now.nodes node)) }
         ensures within { ForSome result (HasNode self.now.nodes self.now.pairs) }
     {
@@ -202,7 +202,7 @@ impl<C: Cmp> SkipMap<C> {
     /// The last node.
     #[inline]
     pub(crate) fn last(&self) -> Option<usize>
-        ensures position { position_of self.now.nodes result ≡ last_position self.now.pairs }
+        ensures position { position_of_node self.now.nodes result ≡ last_position self.now.pairs }
         ensures within { ForSome result (HasNode self.now.nodes self.now.pairs) }
     {
         let last = self.pairs.path_to_end()[0] as usize;
@@ -223,7 +223,7 @@ impl<C: Cmp> SkipMap<C> {
     #[inline]
     pub(crate) fn first_by<P: Probe>(&self, probe: &P) -> Option<usize>
         requires { IsParted (P.passes probe.now) self.now.pairs }
-        ensures position { position_of self.now.nodes result
+        ensures position { position_of_node self.now.nodes result
             ≡ position_within self.now.pairs (count_while (P.passes probe.now) self.now.pairs) }
         ensures within { ForSome result (HasNode self.now.nodes self.now.pairs) }
     {
@@ -344,7 +344,7 @@ impl<'a, C: Cmp> LdbIterator for SkipMapIter<'a, C> {
 
     ghost pairs = { λ it. it.map.now.pairs };
 
-    ghost position = { λ it. position_of it.map.now.nodes it.node };
+    ghost position = { λ it. position_of_node it.map.now.nodes it.node };
 
     ghost order = { λ it. C.cmp it.map.now.cmp };
 

@@ -15,10 +15,10 @@ ghost use Rattle.leveldb_base.specs.History.{placed, greatest};
 ghost use Rattle.leveldb_base.specs.Varint.{little, sized};
 ghost use Rattle.leveldb_mem.specs.WriteBatch.{item_of, batch_of, with_item, AddChangeResult};
 ghost use Rattle.leveldb_mem.specs.WriteBatch.{BatchOf};
-ghost use Rattle.leveldb_mem.specs.WriteBatch.{IsBatch, IsTooLong, AreEntries, CountsEntries};
-ghost use Rattle.leveldb_mem.specs.WriteBatch.{change_encoding, ReadsEntry, borrowed_item};
+ghost use Rattle.leveldb_mem.specs.WriteBatch.{IsBatch, IsTooLong, AreChanges, CountsChanges};
+ghost use Rattle.leveldb_mem.specs.WriteBatch.{change_encoding, ReadsChange, borrowed_item};
 ghost use Rattle.leveldb_mem.specs.WriteBatch.{borrowed_entry};
-ghost use Rattle.leveldb_mem.specs.WriteBatchLaws.{IsBatch-prop, AreEntries-prop};
+ghost use Rattle.leveldb_mem.specs.WriteBatchLaws.{IsBatch-prop, AreChanges-prop};
 ghost use Rattle.leveldb_mem.specs.MemTable.{IsUnion, AreNewTo, GrowsByAll, FailsToPrepare};
 ghost use Rattle.leveldb_mem.specs.MemTable.{bytes_in};
 
@@ -226,7 +226,7 @@ impl WriteBatch {
 #[derive(Debug, Drop)]
 pub struct WriteBatchIter<'a> {
     entries: &'a [u8],
-    ghost are_entries: { AreEntries entries.now } by { AreEntries-prop entries.now },
+    ghost are_entries: { AreChanges entries.now } by { AreChanges-prop entries.now },
 }
 
 impl<'a> Model for WriteBatchIter<'a> {
@@ -351,7 +351,7 @@ fn put_entry(entries: &mut Vec<u8>, key: &[u8], value: Option<&[u8]>)
 
 // The entry at the front, and what follows it.
 fn take_entry(bytes: &[u8]) -> Option<((&[u8], Option<&[u8]>), &[u8])>
-    ensures { ReadsEntry bytes.now (borrowed_entry result) }
+    ensures { ReadsChange bytes.now (borrowed_entry result) }
 {
     let (kind, rest) = bytes.split_first()?;
     let (key, rest) = get_length_prefixed_slice(rest)?;
@@ -367,7 +367,7 @@ fn take_entry(bytes: &[u8]) -> Option<((&[u8], Option<&[u8]>), &[u8])>
 
 // The number of entries that the bytes encode, if they encode entries.
 fn count_entries(bytes: &[u8]) -> Option<usize>
-    ensures { CountsEntries bytes.now result }
+    ensures { CountsChanges bytes.now result }
 {
     let mut rest = bytes;
     let mut count = 0;

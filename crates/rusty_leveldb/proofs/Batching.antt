@@ -10,7 +10,7 @@ use Rattle.leveldb_base.specs.Error.{IsOutOfMemory, text_of}
 use Rattle.leveldb_base.specs.History.{Item}
 use Rattle.leveldb_env.specs.declared.env.Env.{Ghosts}
 use Rattle.leveldb_env.specs.Env.{Disk}
-use Rattle.leveldb_mem.specs.WriteBatch.{Batch, with_item, entry_bytes, batch_bytes, IsTooLong}
+use Rattle.leveldb_mem.specs.WriteBatch.{Batch, with_item, change_bytes, batch_bytes, IsTooLong}
 use Rattle.leveldb_mem.proofs.WriteBatchLemmas.{length-batch_bytes}
 use Rattle.rusty_leveldb.specs.declared.shell.commands.Item as item
 use Rattle.rusty_leveldb.specs.Shell.{change_of}
@@ -27,8 +27,8 @@ use Rattle.rusty_leveldb.specs.Boxes.{EngineOf}
 -- a batch whose front is too long is too long
 pub longer_too : (first : ℕ) (front more : List Item) → 2 ^ 30 < length (batch_bytes first front) → IsLongBatch (front ++ more)
 longer_too first front more long =
-    let both = ap length (flat_map-append entry_bytes front more) in
-    omega (arith, long, length-batch_bytes first front, length-batch_bytes 0 (front ++ more), both, length-append (flat_map entry_bytes front) (flat_map entry_bytes more))
+    let both = ap length (flat_map-append change_bytes front more) in
+    omega (arith, long, length-batch_bytes first front, length-batch_bytes 0 (front ++ more), both, length-append (flat_map change_bytes front) (flat_map change_bytes more))
 
 -- a change with which a batch is too long, among others
 pub too_long_among : (batch : Batch) (items : List item.Item) (i : ℕ) (one : item.Item) → i < length items → one ≡ get_or items i one → batch.items ≡ map change_of (take i items)

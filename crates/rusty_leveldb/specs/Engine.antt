@@ -11,7 +11,7 @@ use Rattle.leveldb_env.specs.Compressor.{Codings}
 use Rattle.leveldb_env.specs.Env.{File, Disk, bytes_of, AreBytes, Observed}
 use Rattle.leveldb_base.specs.Error.{IsOutOfMemory}
 use Rattle.leveldb_mem.specs.Log.{log_block_size, clean, IsLogFile}
-use Rattle.leveldb_mem.specs.Log.Writer.{WriterState, IsBroken}
+use Rattle.leveldb_mem.specs.Log.Writer.{WriterState, IsWriterBroken}
 use Rattle.rusty_leveldb.specs.declared.db_impl.engine.Mode.{Mode}
 use Rattle.rusty_leveldb.specs.declared.db_impl.engine.Mode.TheVariants.{Open, Broken, Closed}
 use Rattle.leveldb_version.specs.Paths.{lock_path}
@@ -112,7 +112,7 @@ RefusedAsClosed mode e = IsClosed mode × (e.code ≡ InvalidArgument)
 
 -- the store broke earlier
 abbrev pub RefusedAsBroken : Mode → WriterState → Status → Type 0
-RefusedAsBroken mode writer e = HasBroken mode writer × IsBroken e
+RefusedAsBroken mode writer e = HasBroken mode writer × IsWriterBroken e
 
 -- one of the two, and of a closed store the first
 abbrev pub RefusedByMode : Mode → WriterState → Status → Type 0

@@ -2,7 +2,7 @@
 ghost use Rattle.std.specs.Prelude.{◌≡◌, ◌≢◌, IsTrue, IfOk, IfErr, IsSomeAnd};
 ghost use Rattle.leveldb_env.specs.Env.{bytes_of, same, ChangesFiles, FilesUnchanged, SameLocks, HasCause};
 ghost use Rattle.leveldb_env.specs.EnvFile.{opened, IsReadOut, IsGivenUp};
-ghost use Rattle.leveldb_env.specs.WholeFiles.{replaced, Replacing, IsFoundOr, IsLost, IsUnobserved};
+ghost use Rattle.leveldb_env.specs.WholeFiles.{replaced, Replacing, IsFoundOr, IsLost, IsLostUnobserved};
 
 use crate::env::source::read_to_end;
 use crate::env::{Env, EnvFile};
@@ -68,7 +68,7 @@ pub fn replace_file<E: Env>(
         (Replacing temp.now name.now bytes.now)
         (E.observed env.old) (E.observed env.new) result }
     ensures locks { SameLocks E.models_disk (E.observed env.old) (E.observed env.new) }
-    ensures cause { HasCause (IsUnobserved E.models_disk temp.now
+    ensures cause { HasCause (IsLostUnobserved E.models_disk temp.now
         (E.failures env.old) (E.failures env.new))
         (E.failures env.old) (E.failures env.new) result }
 {

@@ -2,7 +2,7 @@
 ghost use Rattle.std.specs.Prelude.{◌≡◌, ◌+◌, ◌*◌, ◌<◌, ◌^◌, ◌&&◌, ◌||◌, true, false, ℕ, List, OnOk, IfOk, Ok, None, vec_len, vec_capacity, nat_le};
 ghost use Rattle.std.specs.Option.{option_copied};
 ghost use Rattle.leveldb_env.specs.Env.{same, BeforeOrAfter, FilesUnchanged};
-ghost use Rattle.leveldb_env.specs.Journal.{requested, noted, name_in, may_be_made, is_append, files_at, call_after, after, where_done, files_after, are_within, MakesChange};
+ghost use Rattle.leveldb_env.specs.Journal.{requested, noted, name_in, may_be_made, is_append, files_at, call_after, after, where_done, files_after_calls, are_within, MakesChange};
 ghost use Rattle.leveldb_env.specs.MemEnv.{files_of};
 
 use super::files;
@@ -114,7 +114,7 @@ pub struct Journal {
     count: u64,
     ghost few: { count < 2 ^ 62 },
     ghost numbered: { are_within count calls.items ≡ true },
-    ghost replayed: { files_of files ≡ files_after (files_of first) calls.items count },
+    ghost replayed: { files_of files ≡ files_after_calls (files_of first) calls.items count },
 }
 
 impl Journal {
@@ -174,7 +174,7 @@ impl Journal {
     // The files after the first n calls.
     fn files_after(&self, alloc: Global, n: u64) -> Result<FileMap, AllocError>
         ensures { IfOk result
-            (λ files. files_of files ≡ files_after
+            (λ files. files_of files ≡ files_after_calls
             (files_of self.now.first) self.now.calls.items n) }
     {
         let mut files = files::copy_files(&self.first)?;

@@ -34,7 +34,7 @@ impl RecordEnv {
     ghost use Rattle.leveldb_env.specs.Env.{Files};
     ghost use Rattle.leveldb_env.specs.Picks.{ListsTails, tails_of};
     ghost use Rattle.leveldb_env.specs.Journal.{requested, finds_file, may_be_made, IsChangeError};
-    ghost use Rattle.leveldb_env.specs.Record.{record_observed, files_in, locked_in, moment_of, failures_of, fails_in, fails_done, SameObserved, is_past, one_more_failure, SameButFailures, CountsCall, ChangesNoFile, RequestsChange, files_then, CanCrashTo, CrashesByChoice, IsCrash, IsFresh};
+    ghost use Rattle.leveldb_env.specs.Record.{record_observed, files_in, locked_in, moment_of, failures_of, fails_in, fails_done, SameObserved, is_past, one_more_failure, SameButFailures, CountsCall, ChangesNoFile, RequestsChange, files_then, CanCrashTo, CrashesByChoice, IsCrashOfRecord, IsFresh};
 
     /// A disk without a name or a lock, at moment 0. No call is chosen to fail.
     pub fn new(alloc: Global) -> RecordEnv
@@ -96,7 +96,7 @@ impl RecordEnv {
     /// `InvalidArgument` for a moment that is still to come, for a name given twice or not there,
     /// and for a tail that is too long. Each disk that a crash may leave is left by some choice.
     pub fn disk_at(&self, alloc: Global, moment: u64, pick: &Pick) -> Result<RecordEnv>
-        ensures left { IfOk result (IsCrash self.now moment pick.now) }
+        ensures left { IfOk result (IsCrashOfRecord self.now moment pick.now) }
         ensures sides { (side : Bool)
             → (record_observed self.now).at_moment moment (files_then self.now moment side) }
         ensures refused { IfErr result

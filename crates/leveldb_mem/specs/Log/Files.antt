@@ -38,5 +38,5 @@ module _ {E F : Type 0} (env : Ghosts E F) where
     pub many : 2 ^ 64 ≤ length bytes
 
   -- the reading of the file as a log stopped with this error
-  abbrev pub IsStopped : Opened E F → Status → Opened E F → Type 0
-  IsStopped old status new = IsGivenUp env old status new ⊎ IsReadTooFar old status new
+  abbrev pub StopsReadingFile : Opened E F → Status → Opened E F → Type 0
+  StopsReadingFile old status new = IsGivenUp env old status new ⊎ IsReadTooFar old status new

@@ -8,7 +8,7 @@ use Rattle.leveldb_env.specs.Source.{GivesSome}
 use Rattle.leveldb_mem.specs.declared.log.reader.Taken.{Taken}
 use Rattle.leveldb_mem.specs.declared.log.reader.Taken.TheVariants.{End, Part, WrongChecksum}
 use Rattle.leveldb_mem.specs.declared.log.reader.Taken.TheVariants.{Damage}
-use Rattle.leveldb_mem.specs.Log.{filler, IsFragment, IsDamaged, Fragment, fragment_of, NoFragment}
+use Rattle.leveldb_mem.specs.Log.{filler, IsFragment, IsDamagedFragment, Fragment, fragment_of, NoFragment}
 use Rattle.leveldb_mem.specs.Log.Reader.{ReaderState, after_front, IsUnreadThenGiven, HoldsOfRest}
 use Rattle.leveldb_mem.specs.Log.Reader.{FindsEnd}
 
@@ -41,7 +41,7 @@ pub record PassesDamaged (old : ReaderState) (new : ReaderState) : Type 0 where
   pub fragment : Fragment
   pub asked : old.checked ≡ true
   pub unread : old.unread ≡ front ++ new.unread
-  pub damaged : IsDamaged old.size fragment old.offset front
+  pub damaged : IsDamagedFragment old.size fragment old.offset front
   pub reader : new ≡ after_front old front new.unread
 
 -- what is at the front is passed, by what is returned

@@ -21,7 +21,7 @@ abbrev pub new_writer : ℕ → ℕ → WriterState
 new_writer size offset = record { size = size; offset = offset; broken = false }
 
 -- a call came after one that failed in the sink
-pub record IsBroken (status : Status) : Type 0 where
+pub record IsWriterBroken (status : Status) : Type 0 where
   pub code : status.code ≡ IOError
   pub text : IfSome status.err (λ text. string_bytes text ≡ codes "IOError: reopen the store")
 
@@ -71,7 +71,7 @@ module _ {S : Type 0} (puts : S → List ℕ → Result (Unit {0}) Status → S 
     pub err : old.broken ≡ false
         → IfErr result (λ status. FailsToAdd old sink text status new sink_after)
     -- a broken writer does nothing
-    pub broken : old.broken ≡ true → IsErrAnd result IsBroken
+    pub broken : old.broken ≡ true → IsErrAnd result IsWriterBroken
         × SameWriterAndSink old sink new sink_after
 
 module _ {S : Type 0} (flushes : S → Result (Unit {0}) Status → S → Type 0) where
@@ -87,5 +87,5 @@ module _ {S : Type 0} (flushes : S → Result (Unit {0}) Status → S → Type 0
       (new : WriterState) (sink_after : S) : Type 0 where
     pub usable : old.broken ≡ false → Flushes old sink result new sink_after
     -- a broken writer does nothing
-    pub broken : old.broken ≡ true → IsErrAnd result IsBroken
+    pub broken : old.broken ≡ true → IsErrAnd result IsWriterBroken
         × SameWriterAndSink old sink new sink_after

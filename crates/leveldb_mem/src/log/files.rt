@@ -3,7 +3,7 @@ ghost use Rattle.std.specs.Prelude.{IsTrue, IfOk, IfErr, IsSomeAnd, map, if◌th
 ghost use Rattle.leveldb_env.specs.Env.{bytes_of, same, ChangesFiles, FilesUnchanged, SameLocks};
 ghost use Rattle.leveldb_env.specs.EnvFile.{opened};
 ghost use Rattle.leveldb_mem.specs.Log.{IsLogFile, clean, bad};
-ghost use Rattle.leveldb_mem.specs.Log.Files.{IsReadAsLog, IsStopped, HasReadCause};
+ghost use Rattle.leveldb_mem.specs.Log.Files.{IsReadAsLog, StopsReadingFile, HasReadCause};
 
 use crate::log::read_records;
 use leveldb_base::error::Result;
@@ -37,7 +37,7 @@ fn records_of_rest<E: Env>(
         (map (λ v. v.items) found.0.items) (if found.1 then clean else bad)
         (opened env.new file.new)) }
     ensures err { IfErr result (λ status.
-        IsStopped E.Env (opened env.old file.old) status (opened env.new file.new)) }
+        StopsReadingFile E.Env (opened env.old file.old) status (opened env.new file.new)) }
 {
     read_records(alloc, &mut EnvFile { env, file }, true)
 }

@@ -4,7 +4,7 @@ ghost use Rattle.std.specs.Prelude.{IfErr};
 ghost use Rattle.leveldb_base.specs.Error.{IsOutOfMemory};
 ghost use Rattle.leveldb_mem.specs.Log.{IsBlockSize, log_block_size, filler, room, checksum};
 ghost use Rattle.leveldb_mem.specs.Log.{fragment_bytes, fragment_at, framed_record, fragment_of};
-ghost use Rattle.leveldb_mem.specs.Log.Writer.{IsBroken, AddRecordResult, FlushResult, new_writer};
+ghost use Rattle.leveldb_mem.specs.Log.Writer.{IsWriterBroken, AddRecordResult, FlushResult, new_writer};
 
 use super::{BLOCK_SIZE, HEADER_SIZE, type_of};
 use leveldb_base::crc::{digest, mask_crc};
@@ -115,7 +115,7 @@ impl WriterCore {
 
     fn check_unbroken(&self) -> Result<()>
         ensures ok { OnOk result (self.now.broken ≡ false) }
-        ensures err { IfErr result (λ status. (self.now.broken ≡ true) × IsBroken status) }
+        ensures err { IfErr result (λ status. (self.now.broken ≡ true) × IsWriterBroken status) }
     {
         if self.broken {
             return err(

@@ -1,6 +1,6 @@
 //! A user's key as of a sequence number, among memtable keys.
 ghost use Rattle.std.specs.Ordering.{is_lt, ordering_then, nat_cmp};
-ghost use Rattle.leveldb_base.specs.KeyTypes.{inner_key, user_part, sequence_part};
+ghost use Rattle.leveldb_base.specs.KeyTypes.{front_key, user_part, sequence_part};
 
 use crate::skipmap::search::Probe;
 use leveldb_base::cmp::Cmp;
@@ -17,8 +17,8 @@ pub(crate) struct AsOf<'a, C> {
 
 impl<'a, C: Cmp> Probe for AsOf<'a, C> {
     ghost passes = { λ it key.
-        is_lt (ordering_then (C.cmp it.cmp.now (user_part (inner_key key)) it.key.now)
-        (nat_cmp it.sequence (sequence_part (inner_key key)))) };
+        is_lt (ordering_then (C.cmp it.cmp.now (user_part (front_key key)) it.key.now)
+        (nat_cmp it.sequence (sequence_part (front_key key)))) };
 
     #[inline]
     fn is_after(&self, key: &[u8]) -> bool {

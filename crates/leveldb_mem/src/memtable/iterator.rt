@@ -2,8 +2,8 @@
 ghost use Rattle.std.specs.Prelude.{map};
 ghost use Rattle.std.specs.Ordering.{is_lt};
 ghost use Rattle.std.specs.Option.{ForSome};
-ghost use Rattle.leveldb_base.specs.KeyTypes.{inner_key, internal_cmp};
-ghost use Rattle.leveldb_mem.specs.SkipMap.{HasNode, position_of};
+ghost use Rattle.leveldb_base.specs.KeyTypes.{front_key, internal_cmp};
+ghost use Rattle.leveldb_mem.specs.SkipMap.{HasNode, position_of_node};
 ghost use Rattle.leveldb_base.specs.Entries.{internal_pair};
 
 use crate::memtable::MemTable;
@@ -22,7 +22,7 @@ pub(crate) struct AtInternalKey<'a, C> {
 
 impl<'a, C: Cmp> Probe for AtInternalKey<'a, C> {
     ghost passes = { λ it key.
-        is_lt (internal_cmp (C.cmp it.cmp.now) (inner_key key) it.key.now) };
+        is_lt (internal_cmp (C.cmp it.cmp.now) (front_key key) it.key.now) };
 
     #[inline]
     fn is_after(&self, key: &[u8]) -> bool {
@@ -45,7 +45,7 @@ impl<'a, C: UserCmp> LdbIterator for MemtableIterator<'a, C> {
 
     ghost pairs = { λ it. map internal_pair it.table.now.kept.entries };
 
-    ghost position = { λ it. position_of it.table.now.nodes it.node };
+    ghost position = { λ it. position_of_node it.table.now.nodes it.node };
 
     ghost order = { λ it. internal_cmp (C.cmp it.table.now.cmp) };
 

@@ -5,7 +5,7 @@ ghost use Rattle.std.specs.Prelude.{take, drop, slice_index, slice_index_or, vec
 ghost use Rattle.std.specs.Prelude.{OnOk, OnErr, IfErr};
 ghost use Rattle.std.specs.List.{insert};
 ghost use Rattle.leveldb_mem.specs.Placed.{head, head_words, rank, place_of, IsAt, IsPathTo};
-ghost use Rattle.leveldb_mem.specs.Placed.{bytes_of, MakesRoom};
+ghost use Rattle.leveldb_mem.specs.Placed.{bytes_of, MakesRoomForPairs};
 ghost use Rattle.leveldb_mem.specs.Searching.{key_at, count_while, IsParted};
 
 use crate::skipmap::search::Probe;
@@ -46,10 +46,10 @@ impl Model for PlacedPairs {
     ghost Value = { Placed };
 
     ghost use Rattle.std.specs.Prelude.{◌≡◌, ◌+◌, ◌*◌, ◌^◌, ◌<◌, ◌≤◌, drop, vec_len, vec_capacity};
-    ghost use Rattle.leveldb_mem.specs.Placed.{head, pairs_in, nodes_after, IsLaid};
+    ghost use Rattle.leveldb_mem.specs.Placed.{head, pairs_of_nodes, nodes_after, IsLaid};
 
     ghost view = { λ it. record {
-      pairs = pairs_in it.text.items it.words.items (nodes_after it.words.items head it.count);
+      pairs = pairs_of_nodes it.text.items it.words.items (nodes_after it.words.items head it.count);
       tail = drop it.end it.text.items;
       places = it.places;
       bytes = it.room;
@@ -184,7 +184,7 @@ impl PlacedPairs {
     /// Makes room for `places` pairs and `bytes` bytes. Returns `NotSupported` if 32 bits can't
     /// number them.
     pub(crate) fn reserve(&mut self, places: usize, bytes: usize) -> Result<()>
-        ensures { MakesRoom self.old places bytes result self.new }
+        ensures { MakesRoomForPairs self.old places bytes result self.new }
     {
         if places >= (LIMIT - self.words.len()) / MAX_WORDS || bytes > LIMIT - self.text.len() {
             return err(

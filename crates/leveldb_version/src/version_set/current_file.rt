@@ -2,7 +2,7 @@
 ghost use Rattle.std.specs.Prelude.{◌≡◌, ◌⊎◌, IfOk, IfErr, IsSomeAnd, IsTrue, string_bytes};
 ghost use Rattle.leveldb_base.specs.Error.{IsOutOfMemory};
 ghost use Rattle.leveldb_env.specs.Env.{bytes_of, ChangesFiles, FilesUnchanged, HasCause, Run, SameLocks};
-ghost use Rattle.leveldb_env.specs.WholeFiles.{IsUnobserved};
+ghost use Rattle.leveldb_env.specs.WholeFiles.{IsLostUnobserved};
 ghost use Rattle.leveldb_version.specs.Current.{IsCurrentText};
 ghost use Rattle.leveldb_version.specs.CurrentFile.{IsCurrentUnread, IsNoCurrentText, SettingCurrent, temp_path, with_current};
 ghost use Rattle.leveldb_version.specs.Paths.{current_path};
@@ -60,7 +60,7 @@ pub fn set_current_file<E: Env>(
         → ChangesFiles E.models_disk (with_current store.now manifest)
         (SettingCurrent store.now manifest) (E.observed env.old) (E.observed env.new) result }
     ensures locks { SameLocks E.models_disk (E.observed env.old) (E.observed env.new) }
-    ensures cause { HasCause (IsUnobserved E.models_disk (temp_path store.now manifest)
+    ensures cause { HasCause (IsLostUnobserved E.models_disk (temp_path store.now manifest)
         (E.failures env.old) (E.failures env.new))
         (E.failures env.old) (E.failures env.new) result }
 {

@@ -1,5 +1,5 @@
 use Rattle.std.proofs.Common.{◌<◌, [], Some, length, sym, ◌∙◌, ap, arith}
-use Rattle.leveldb_base.specs.KeyTypes.{inner_key}
+use Rattle.leveldb_base.specs.KeyTypes.{front_key}
 use Rattle.leveldb_mem.specs.Placed.{rank}
 use Rattle.leveldb_mem.specs.MemTable.{inner_value}
 use Rattle.leveldb_mem.proofs.MemTableLemmas.{length-walked, walked_at}
@@ -17,6 +17,6 @@ returns g c =
     let it = c.self.inside.map in
     let there = rw (← c.self.view_is) at c.requires in
     let within : rank it.nodes c.args.node < length it.pairs = omega (arith, there, length-walked it.pairs) in
-    let key = ap inner_key (sym c.key.ensures) ∙ sym c.split_entry.ensures.internal in
+    let key = ap front_key (sym c.key.ensures) ∙ sym c.split_entry.ensures.internal in
     let value = ap inner_value (sym c.key.ensures) ∙ sym c.split_entry.ensures.value in
     rw (← c.self.view_is) (walked_at it.pairs (rank it.nodes c.args.node) within c.self.invariant.0 ∙ (λ j. Some (key j, value j)))

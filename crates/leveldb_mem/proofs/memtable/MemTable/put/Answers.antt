@@ -4,7 +4,7 @@ use Rattle.std.specs.Prelude.{All}
 use Rattle.leveldb_base.specs.Cmp.{memtable_accepts}
 use Rattle.leveldb_base.specs.Types.{Pair}
 use Rattle.leveldb_base.specs.Entries.{type_of, bytes_of_value}
-use Rattle.leveldb_mem.specs.MemTable.{entry_of, entry_key, entry_from, IsEntryPair, entries_in}
+use Rattle.leveldb_mem.specs.MemTable.{entry_of, entry_key, entry_from, IsEntryPair, entries_of_keys}
 use Rattle.leveldb_mem.proofs.MemTableLemmas.{key_of_parts, length-parts, entry_again, accepted_key, grows}
 use Rattle.leveldb_mem.proofs.SkipMapLemmas.{length-five}
 use Rattle.leveldb_mem.proofs.EntryLemmas.{gains_entry, still_entries, not_new, is_new}
@@ -92,7 +92,7 @@ returns-clause-kept g c =
       });
       grows = OnTrue_from c.put_parts.result _ (λ t. grows (OnTrue_at t put.put) entry again);
       present = OnFalse_from c.put_parts.result _ (λ f. not_new o all exact it.pairs key entry again (OnFalse_at f put.present));
-      entries = OnFalse_from c.put_parts.result _ (λ f. ap entries_in (OnFalse_at f put.left));
+      entries = OnFalse_from c.put_parts.result _ (λ f. ap entries_of_keys (OnFalse_at f put.left));
       places = OnFalse_from c.put_parts.result _ (λ f. OnFalse_at f put.places);
       bytes = OnFalse_from c.put_parts.result _ (λ f. omega (arith, OnFalse_at f put.places, OnFalse_at f put.unused));
     })

@@ -3,7 +3,7 @@ use Rattle.std.proofs.Common.{◌≡◌, ◌≢◌, ◌≤◌, ◌∙◌, ◌+�
 use Rattle.std.proofs.lemmas.Bool.{cond-true}
 use Rattle.std.proofs.lemmas.List.{take_at}
 use Rattle.leveldb_mem.specs.Placed.{head, nodes_after, place_of}
-use Rattle.leveldb_mem.proofs.PlacedLemmas.{length-pairs_in}
+use Rattle.leveldb_mem.proofs.PlacedLemmas.{length-pairs_of_nodes}
 use Rattle.leveldb_mem.proofs.InsertionLemmas.{before_within}
 use Rattle.leveldb_mem.proofs.LaidLemmas.{NodeWords, grown_size, laid_placed, pairs_placed}
 use Rattle.leveldb_mem.proofs.skipmap.placed.PlacedPairs.place.Goals as goal
@@ -20,7 +20,7 @@ node_words-record-requires-clause-within c =
     let room = rw (← c.self.view_is) at c.requires.room in
     let opened : 0 < length words = omega (arith, c.self.invariant.1 room, it.words.ok.0) in
     let at_is = rw (← c.self.view_is) at c.requires.at in
-    let within : at ≤ length nodes = omega (arith, at_is, length-pairs_in text words nodes) in
+    let within : at ≤ length nodes = omega (arith, at_is, length-pairs_of_nodes text words nodes) in
     let to = rw (← c.self.view_is) at c.requires.path in
     λ k h. omega (arith, before_within (laid.linked opened) path (take at nodes) (drop at nodes) (sym (take-append-drop at nodes)) to k (omega (arith, h, c.requires.height.1)), c.deref.ensures.value, ap length c.deref.ensures.value)
 
@@ -36,7 +36,7 @@ link_node-requires-clause-within c =
     let room = rw (← c.self.view_is) at c.requires.room in
     let opened : 0 < length words = omega (arith, c.self.invariant.1 room, it.words.ok.0) in
     let at_is = rw (← c.self.view_is) at c.requires.at in
-    let within : at ≤ length nodes = omega (arith, at_is, length-pairs_in text words nodes) in
+    let within : at ≤ length nodes = omega (arith, at_is, length-pairs_of_nodes text words nodes) in
     let to = rw (← c.self.view_is) at c.requires.path in
     let key_is = rw (← c.self.view_is) at c.requires.key in
     let key_within : it.end + c.args.key_length ≤ length text = omega (arith, key_is, length-drop it.end text, laid.within) in
@@ -68,7 +68,7 @@ invariant_of-self c =
     let room = rw (← c.self.view_is) at c.requires.room in
     let opened : 0 < length words = omega (arith, c.self.invariant.1 room, it.words.ok.0) in
     let at_is = rw (← c.self.view_is) at c.requires.at in
-    let within : at ≤ length nodes = omega (arith, at_is, length-pairs_in text words nodes) in
+    let within : at ≤ length nodes = omega (arith, at_is, length-pairs_of_nodes text words nodes) in
     let to = rw (← c.self.view_is) at c.requires.path in
     let key_is = rw (← c.self.view_is) at c.requires.key in
     let key_within : it.end + c.args.key_length ≤ length text = omega (arith, key_is, length-drop it.end text, laid.within) in
@@ -122,7 +122,7 @@ returns-clause-pairs c =
     let room = rw (← c.self.view_is) at c.requires.room in
     let opened : 0 < length words = omega (arith, c.self.invariant.1 room, it.words.ok.0) in
     let at_is = rw (← c.self.view_is) at c.requires.at in
-    let within : at ≤ length nodes = omega (arith, at_is, length-pairs_in text words nodes) in
+    let within : at ≤ length nodes = omega (arith, at_is, length-pairs_of_nodes text words nodes) in
     let to = rw (← c.self.view_is) at c.requires.path in
     let key_is = rw (← c.self.view_is) at c.requires.key in
     let key_within : it.end + c.args.key_length ≤ length text = omega (arith, key_is, length-drop it.end text, laid.within) in
@@ -153,4 +153,4 @@ returns-clause-pairs c =
     (pairs_placed laid opened within to c.requires.height.0 c.requires.height.1 key_within node words' new new_is size' c.link_node.ensures.linked others)
 
 pub returns-clause-nodes : goal.returns-clause-nodes
-returns-clause-nodes c = sym (length-pairs_in _ _ _)
+returns-clause-nodes c = sym (length-pairs_of_nodes _ _ _)
