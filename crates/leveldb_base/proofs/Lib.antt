@@ -3,6 +3,7 @@ pub mod CrcLemmas
 pub mod BlockHandleLemmas
 pub mod KeyTypesLemmas
 pub mod CmpLemmas
+pub mod WordsLemmas
 pub mod OrderLemmas
 pub mod HistoryLemmas
 pub mod PositionLemmas

@@ -7,11 +7,13 @@ ghost use Rattle.leveldb_base.specs.Error.{IsOutOfMemory};
 ghost use Rattle.leveldb_base.specs.Cmp.{IsPreorderOn, IsSeparator, IsSuccessor, bytewise, bytewise_separator, bytewise_successor, raised_between, raised_last, raised_first, raised_at, lengthened, raised_or_lengthened};
 ghost use Rattle.leveldb_base.specs.CmpLaws.{bytewise_preorder, bytewise_exact, bytewise_separates, bytewise_succeeds};
 
+use crate::cmp::words::cmp_by_words;
 use crate::error::Result;
 use std::alloc::Global;
 use std::cmp::Ordering;
 
 mod internal;
+mod words;
 
 pub use internal::{InternalKeyCmp, MemtableKeyCmp};
 
@@ -135,7 +137,7 @@ impl Cmp for DefaultCmp {
 
     #[inline]
     fn cmp(&self, a: &[u8], b: &[u8]) -> Ordering {
-        a.cmp(b)
+        cmp_by_words(a, b)
     }
 
     fn find_shortest_sep(&self, alloc: Global, from: &[u8], to: &[u8]) -> Result<Vec<u8>> {
