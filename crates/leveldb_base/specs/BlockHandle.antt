@@ -4,7 +4,9 @@ use Rattle.leveldb_base.specs.Varint.{varint}
 
 -- a block's offset in its file, and its length in bytes
 pub record Handle : Type 0 where
+  -- where the block begins
   pub offset : ℕ
+  -- how many bytes it has
   pub size : ℕ
 
 -- both numbers as varints
@@ -13,7 +15,9 @@ handle_bytes handle = varint handle.offset ++ varint handle.size
 
 -- both numbers have at most 64 bits
 pub record HandleFits (handle : Handle) : Type 0 where
+  -- the offset has
   pub offset : handle.offset < 2 ^ 64
+  -- and so has the length
   pub size : handle.size < 2 ^ 64
 
 -- What reading a handle at the front of some bytes gives: the handle and the length of its

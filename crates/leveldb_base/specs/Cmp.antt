@@ -27,20 +27,28 @@ pub record IsPreorderOn (accepts : List ℕ → Bool) (cmp : List ℕ → List �
 -- itself where both are the same.
 pub record IsSeparator (accepts : List ℕ → Bool) (cmp : List ℕ → List ℕ → Ordering)
     (a b sep : List ℕ) : Type 0 where
+  -- the comparator accepts it
   pub accepted : accepts sep ≡ true
+  -- it is at or after a
   pub from : cmp sep a ≢ Less
+  -- it is before b where a is
   pub before : cmp a b ≡ Less → cmp sep b ≡ Less
+  -- two equal keys are separated by themselves
   pub same : a ≡ b → sep ≡ a
 
 -- an accepted key at or after a
 pub record IsSuccessor (accepts : List ℕ → Bool) (cmp : List ℕ → List ℕ → Ordering)
     (a succ : List ℕ) : Type 0 where
+  -- the comparator accepts it
   pub accepted : accepts succ ≡ true
+  -- it is at or after a
   pub from : cmp succ a ≢ Less
 
 -- an order of all keys in which different ones are never `Equal`
 pub record IsExactOrder (cmp : List ℕ → List ℕ → Ordering) : Type 0 where
+  -- it is a total preorder
   pub preorder : IsPreorderOn (λ key. true) cmp
+  -- and only equal keys are `Equal`
   pub exact : (a b : List ℕ) → cmp a b ≡ Equal → a ≡ b
 
 -- ---- the order of bytes, and its separator and successor as the Rust crate gives them

@@ -169,7 +169,9 @@ raised_between_before (x ∷ a) (y ∷ b) h =
 
 -- at or after one key, and before the other where the one is
 record IsBetween (a b key : List ℕ) : Type 0 where
+  -- at or after a
   from : bytewise key a ≢ Less
+  -- before b, where a is
   before : bytewise a b ≡ Less → bytewise key b ≡ Less
 
 own_between : (a b : List ℕ) → IsBetween a b a

@@ -68,10 +68,15 @@ IsBeforeKeyAt cmp key s entry =
 -- the key's newest entry at or below s has this value or is a deletion, and no other is as new
 pub record HasNewest (entries : List Entry) (s : ℕ) (key : List ℕ)
     (value : Option (List ℕ)) : Type 0 where
+  -- the newest entry
   pub entry : Entry
+  -- no entry of its key at or below s is newer
   pub newest : IsNewest entries s entry
+  -- it is of this key
   pub key_is : entry.key ≡ key
+  -- and has this value, or is a deletion
   pub value_is : entry.value ≡ value
+  -- another entry of the key with the same number is this one
   pub only : (other : Entry) → IsNewest entries s other → other.key ≡ key → other ≡ entry
 
 -- What is found of a key at s: the value or the deletion of its newest entry at or below s, or

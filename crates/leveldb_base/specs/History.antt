@@ -10,13 +10,18 @@ use Rattle.leveldb_base.specs.Cmp.{IsExactOrder}
 
 -- a key given a value, or none, which deletes it
 pub record Item : Type 0 where
+  -- the user's key
   pub key : List ℕ
+  -- its value, or none for a deletion
   pub value : Option (List ℕ)
 
 -- a sequence number, a key, and its value or a deletion
 pub record Entry : Type 0 where
+  -- the sequence number, by which newer entries are told from older ones
   pub sequence : ℕ
+  -- the user's key
   pub key : List ℕ
+  -- its value, or none for a deletion
   pub value : Option (List ℕ)
 
 -- the entries of a batch placed at a number: they take that one, the next and so on, in order
@@ -49,7 +54,9 @@ IsPlaced entries = (first : ℕ) × (items : List Item) × (entries ≡ placed f
 
 -- placed batches whose entries rise strictly in sequence, from 1 on; numbers may be left out
 pub record IsHistory (history : History) : Type 0 where
+  -- each batch is placed at some number
   pub placed : All IsPlaced history
+  -- no number is given twice, and later batches have greater ones
   pub rising : RiseAbove 0 (entries_of history)
 
 -- a history and one more batch at its end, where there is one
@@ -64,25 +71,36 @@ count_of (Some batch) = length batch
 
 -- the part is a prefix of the whole history that has at least `least` batches
 pub record IsPrefixAtLeast (least : ℕ) (whole part : History) : Type 0 where
+  -- how many batches the part has
   pub count : ℕ
+  -- at least so many as are asked for
   pub enough : least ≤ count
+  -- and no more than the whole has
   pub there : count ≤ length whole
+  -- they are the first of the whole
   pub first : part ≡ take count whole
 
 -- ---- the values of keys at a sequence number; a list represents the set of its elements
 
 -- of the entries of its key at or below s, the one of greatest sequence
 pub record IsNewest (entries : List Entry) (s : ℕ) (entry : Entry) : Type 0 where
+  -- it is one of the entries
   pub there : Contains entries entry
+  -- it is at or below s
   pub seen : entry.sequence ≤ s
+  -- and so is no entry of its key with a greater number
   pub newest : (other : Entry) → Contains entries other → other.key ≡ entry.key → other.sequence ≤ s
       → other.sequence ≤ entry.sequence
 
 -- the key's newest entry at or below s gives it this value
 pub record HasValueAt (entries : List Entry) (s : ℕ) (key value : List ℕ) : Type 0 where
+  -- the newest entry of the key
   pub entry : Entry
+  -- at or below s
   pub newest : IsNewest entries s entry
+  -- it is of this key
   pub key_is : entry.key ≡ key
+  -- and gives it this value
   pub value_is : entry.value ≡ Some value
 
 -- the result of a look-up of a key: its value, or none
@@ -108,7 +126,9 @@ module _ (cmp : List ℕ → List ℕ → Ordering) where
 
   -- the view: exactly the keys that have a value, with it, sorted by key
   pub record IsView (entries : List Entry) (s : ℕ) (pairs : List Pair) : Type 0 where
+    -- sorted by key, and no key twice
     pub sorted : AreRising pairs
+    -- the pairs are those of the keys that have a value, and no others
     pub exactly : (key value : List ℕ)
         → Contains pairs (key, value) ↔ HasValueAt entries s key value
 

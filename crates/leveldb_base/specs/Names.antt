@@ -9,8 +9,11 @@ use Rattle.leveldb_base.specs.declared.types.FileType.TheVariants.{Log, DBLock, 
 
 -- the text is decimal digits alone, one at least, of a number of 64 bits
 pub record IsNumber (text : List ℕ) (n : ℕ) : Type 0 where
+  -- digits alone, one at least
   pub digits : IsNumeral 10 text
+  -- they represent this number, zeros before it left aside
   pub value : n ≡ digits_value 10 text
+  -- which has at most 64 bits
   pub fits : n < 2 ^ 64
 
 -- the name is a number's text between these two

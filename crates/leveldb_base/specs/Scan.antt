@@ -18,8 +18,11 @@ use Rattle.leveldb_base.specs.View.{is_newest, shown_in, view_of}
 -- that follow show, where `skip` is the key to skip.
 pub record IsScanning (s : ℕ) (view : List Pair) (position : ℕ) (skip : Option (List ℕ))
     (rest : List Entry) : Type 0 where
+  -- the pairs that were shown
   pub shown : List Pair
+  -- the others are what the entries that follow show
   pub parted : view ≡ shown ++ shown_in s skip rest
+  -- as many as the position says
   pub count : length shown ≡ position
 
 -- one entry more of a scan
@@ -61,9 +64,11 @@ pub record ScanStepsBack (s : ℕ) (front : List Entry) (entry : Entry) (over : 
 
 -- the position before the current one is that of the last pair that the entries before it show
 pub record PreviousIsLast (s : ℕ) (front back : List Entry) : Type 0 where
+  -- where they show a pair, the last of them is at the position before
   pub pair : (before : List Pair) (last : Pair) → view_of s front ≡ before ++ last ∷ []
       → (previous_position (Some (count_shown s front)) ≡ Some (length before))
       × (slice_get (view_of s (front ++ back)) (length before) ≡ Some last)
+  -- where they show none, there is no position before
   pub none : view_of s front ≡ [] → previous_position (Some (count_shown s front)) ≡ None
 
 -- ---- laws of scans forward

@@ -46,7 +46,7 @@ IsPosition pairs (Some i) = i < length pairs
 
 -- the pair at a position
 abbrev pub pair_at : List Pair → Option ℕ → Option Pair
-pair_at pairs place = option_and_then (slice_get pairs) place
+pair_at pairs position = option_and_then (slice_get pairs) position
 
 -- what two borrowed slices hold
 abbrev pub pair_of : Option (Bor (List ℕ) × Bor (List ℕ)) → Option Pair

@@ -20,20 +20,26 @@ pub use internal::{InternalKeyCmp, MemtableKeyCmp};
 /// An order on the keys that it accepts, a total preorder there, by which a store sorts its
 /// entries. Every method takes any bytes; the laws are about accepted keys.
 pub trait Cmp {
+    // whether it accepts a key
     ghost accepts: { Self → List ℕ → Bool };
 
+    // how one key is to another
     ghost cmp: { Self → List ℕ → List ℕ → Ordering };
 
+    // the key that separates two
     ghost shortest_sep: { Self → List ℕ → List ℕ → List ℕ };
 
+    // the key that follows one
     ghost short_succ: { Self → List ℕ → List ℕ };
 
+    // its name
     ghost name: { Self → List ℕ };
 
     /// Whether the key is one that the order is meant for.
     fn accepts(&self, key: &[u8]) -> bool
         ensures { result ≡ accepts self.now key.now };
 
+    /// How `a` is to `b`: before it, equal to it or after it.
     fn cmp(&self, a: &[u8], b: &[u8]) -> Ordering
         ensures { result ≡ cmp self.now a.now b.now };
 
@@ -53,19 +59,24 @@ pub trait Cmp {
     fn id(&self) -> &'static str
         ensures { result.now ≡ name self.now };
 
+    // the order is a total preorder on accepted keys
     ghost preorder: { (c : Self) → IsPreorderOn (accepts c) (cmp c) };
 
+    // its separator of accepted keys is between them
     ghost separates: { (c : Self) (a b : List ℕ) → accepts c a ≡ true → accepts c b ≡ true
         → cmp c a b ≢ Greater → IsSeparator (accepts c) (cmp c) a b (shortest_sep c a b) };
 
+    // its successor of an accepted key is at or after it
     ghost succeeds: { (c : Self) (a : List ℕ) → accepts c a ≡ true
         → IsSuccessor (accepts c) (cmp c) a (short_succ c a) };
 }
 
 /// A comparator that accepts all bytes, and by which different keys are never equal.
 pub trait UserCmp: Cmp {
+    // every key is accepted
     ghost accepts_all: { (c : Self) (key : List ℕ) → Self.accepts c key ≡ true };
 
+    // equal keys are the same bytes
     ghost exact: { (c : Self) (a b : List ℕ) → Self.cmp c a b ≡ Equal → a ≡ b };
 }
 

@@ -9,18 +9,31 @@ use std::{fmt, io};
 /// The kind of an error.
 #[derive(Clone, Copy, Debug, PartialEq, Eq)]
 pub enum StatusCode {
+    /// No error.
     OK,
+    /// What is to be added is there.
     AlreadyExists,
+    /// A file isn't what its format or its checksum says.
     Corruption,
+    /// A compressor failed.
     CompressionError,
+    /// The device, or the system below, failed.
     IOError,
+    /// An operand doesn't fit, or the store is closed.
     InvalidArgument,
+    /// Data don't fit; no call of these crates returns it.
     InvalidData,
+    /// A lock is held, or it isn't.
     LockError,
+    /// There is no such file or key.
     NotFound,
+    /// A number is too large for its format, or what is asked for isn't there in this version.
     NotSupported,
+    /// The system doesn't allow it.
     PermissionDenied,
+    /// The cause isn't known; no call of these crates returns it.
     Unknown,
+    /// An allocation failed.
     OutOfMemory,
 }
 
@@ -137,7 +150,7 @@ impl Default for Status {
     }
 }
 
-/// Want of memory, with no text.
+/// Out of memory, with no text.
 impl From<AllocError> for Status {
     ghost use Rattle.leveldb_base.specs.declared.error.StatusCode.TheVariants.{OutOfMemory};
 
@@ -151,7 +164,7 @@ impl From<AllocError> for Status {
     }
 }
 
-/// Want of memory, with no text.
+/// Out of memory, with no text.
 impl<T: Drop> From<AllocFailed<T>> for Status {
     ghost use Rattle.leveldb_base.specs.declared.error.StatusCode.TheVariants.{OutOfMemory};
 

@@ -21,7 +21,9 @@ use std::marker::Model;
 /// Whether an entry deletes its key or gives it a value.
 #[derive(Clone, Copy, Debug, PartialEq, PartialOrd)]
 pub enum ValueType {
+    /// The key has no value from this entry on.
     TypeDeletion = 0,
+    /// The entry has a value.
     TypeValue = 1,
 }
 
@@ -37,7 +39,9 @@ pub type MemtableKey<'a> = &'a [u8];
 /// A key to look up as of a sequence number. Clauses see it as its internal key.
 #[derive(Clone, Debug, Drop)]
 pub struct LookupKey {
+    // the internal key after its length
     key: Vec<u8>,
+    // how many bytes the length has
     key_offset: usize,
 }
 

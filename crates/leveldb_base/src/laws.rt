@@ -40,10 +40,10 @@ pub fn sized_texts_are_prefix_free()
 /// What was written is read: a reader that keeps its contract returns the number, or the text, that
 /// was written.
 pub fn written_is_read()
-    ensures number { (bits n : ℕ) (rest : List ℕ) (answer : Option (ℕ × ℕ)) → n < 2 ^ bits
-        → ReadsVarint bits (varint n ++ rest) answer → answer ≡ Some (n, length (varint n)) }
-    ensures text { (text rest : List ℕ) (answer : Option (List ℕ × List ℕ)) → length text < 2 ^ 64
-        → ReadsSized (sized text ++ rest) answer → answer ≡ Some (text, rest) }
+    ensures number { (bits n : ℕ) (rest : List ℕ) (found : Option (ℕ × ℕ)) → n < 2 ^ bits
+        → ReadsVarint bits (varint n ++ rest) found → found ≡ Some (n, length (varint n)) }
+    ensures text { (text rest : List ℕ) (found : Option (List ℕ × List ℕ)) → length text < 2 ^ 64
+        → ReadsSized (sized text ++ rest) found → found ≡ Some (text, rest) }
 {}
 
 /// A fixed integer of any width is its bytes and no others: bytes to a number and back are these
@@ -66,9 +66,9 @@ pub fn handles_are_prefix_free()
 /// was written.
 #[tactic(auto, using(crate::proofs::BlockHandleLemmas::read_handle))]
 pub fn written_handle_is_read()
-    ensures { (handle : Handle) (rest : List ℕ) (answer : Option (Handle × ℕ)) → HandleFits handle
-        → ReadsHandle (handle_bytes handle ++ rest) answer
-        → answer ≡ Some (handle, length (handle_bytes handle)) }
+    ensures { (handle : Handle) (rest : List ℕ) (found : Option (Handle × ℕ)) → HandleFits handle
+        → ReadsHandle (handle_bytes handle ++ rest) found
+        → found ≡ Some (handle, length (handle_bytes handle)) }
 {}
 
 /// An internal key is read as it was written, and bytes whose type is a known one are the internal
@@ -88,7 +88,8 @@ pub fn internal_keys_have_one_encoding()
 pub fn memtable_keys_have_one_encoding()
     ensures written { (user : List ℕ) (sequence : ℕ) (kind : ValueType) (value : List ℕ)
         → sequence < 2 ^ 56
-        → SplitsInto (memtable_key user sequence kind value) user (Some (tag sequence kind, value)) }
+        → SplitsInto (memtable_key user sequence kind value) user
+        (Some (tag sequence kind, value)) }
     ensures only { (bytes user other : List ℕ) (these those : Option (ℕ × List ℕ))
         → SplitsInto bytes user these → SplitsInto bytes other those
         → (user ≡ other) × (these ≡ those) }
@@ -111,8 +112,8 @@ pub fn names_have_one_reading()
 pub fn made_names_are_read()
     ensures names { (kind : FileType) (n : ℕ) → MayHaveNumber kind n
         → IsFileName (file_name kind n) n kind }
-    ensures answers { (kind : FileType) (n : ℕ) (answer : Result (ℕ × FileType) Status)
-        → MayHaveNumber kind n → ReadsName (file_name kind n) answer → answer ≡ Ok (n, kind) }
+    ensures read { (kind : FileType) (n : ℕ) (found : Result (ℕ × FileType) Status)
+        → MayHaveNumber kind n → ReadsName (file_name kind n) found → found ≡ Ok (n, kind) }
 {}
 
 /// Files of different numbers or types have different names.

@@ -26,37 +26,52 @@ pub const MAX_SEQUENCE_NUMBER: SequenceNumber = (1 << 56) - 1;
 /// The way in which an iterator last moved.
 #[derive(Clone, Copy, Debug, PartialEq, Eq)]
 pub enum Direction {
+    /// To a later pair.
     Forward,
+    /// To an earlier one.
     Reverse,
 }
 
 /// The keys from `start` on and before `limit`.
 #[derive(Clone, Copy, Debug)]
 pub struct Range<'a> {
+    /// The first key.
     pub start: &'a [u8],
+    /// The key after the last.
     pub limit: &'a [u8],
 }
 
 /// The type of a store's file, which its name gives.
 #[derive(Clone, Copy, Debug, PartialEq)]
 pub enum FileType {
+    /// A log of write batches, such as `000003.log`.
     Log,
+    /// `LOCK`, which is locked while the store is open.
     DBLock,
+    /// A table, such as `000005.ldb`.
     Table,
+    /// A manifest, such as `MANIFEST-000002`.
     Descriptor,
+    /// `CURRENT`, which names the manifest.
     Current,
+    /// A file that is written before it gets its name, such as `000007.dbtmp`.
     Temp,
+    /// `LOG` or `LOG.old`, lines for the reader.
     InfoLog,
 }
 
-/// A table's file: its number, its length in bytes, and its first and its last internal key.
-/// `allowed_seeks` is how many fruitless seeks it may take before it is compacted.
+/// A table's file.
 #[derive(Clone, Debug, Drop, PartialEq)]
 pub struct FileMetaData {
+    /// How many fruitless seeks it may take before it is compacted.
     pub allowed_seeks: usize,
+    /// The number in its name.
     pub num: FileNum,
+    /// Its length in bytes.
     pub size: usize,
+    /// Its first internal key.
     pub smallest: Bytes,
+    /// Its last internal key.
     pub largest: Bytes,
 }
 
@@ -189,7 +204,7 @@ pub fn current_key_val<I: LdbIterator>(alloc: Global, it: &I) -> Result<Option<(
 }
 
 fn copy_pair(alloc: Global, pair: Option<(&[u8], &[u8])>) -> Result<Option<(Vec<u8>, Vec<u8>)>>
-    ensures answer { IfOk result (λ copied. copied_pair copied ≡ pair_of pair.entry) }
+    ensures ok { IfOk result (λ copied. copied_pair copied ≡ pair_of pair.entry) }
     ensures cause { IfErr result IsOutOfMemory }
 {
     match pair {

@@ -56,7 +56,7 @@ pub fn encode_varint64(dst: &mut [u8], n: u64) -> usize
 pub fn put_varint32(dst: &mut Vec<u8>, n: u32) -> Result<()>
     ensures ok { OnOk result (dst.new.items ≡ dst.old.items ++ varint n) }
     ensures err { OnErr result (dst.new.items ≡ dst.old.items) }
-    ensures memory { IfErr result IsOutOfMemory }
+    ensures cause { IfErr result IsOutOfMemory }
 
     // The capacity never shrinks, and only where room was missing does the call fail.
     ensures capacity { vec_capacity dst.old ≤ vec_capacity dst.new }
@@ -73,7 +73,7 @@ pub fn put_varint32(dst: &mut Vec<u8>, n: u32) -> Result<()>
 pub fn put_varint64(dst: &mut Vec<u8>, n: u64) -> Result<()>
     ensures ok { OnOk result (dst.new.items ≡ dst.old.items ++ varint n) }
     ensures err { OnErr result (dst.new.items ≡ dst.old.items) }
-    ensures memory { IfErr result IsOutOfMemory }
+    ensures cause { IfErr result IsOutOfMemory }
 
     // The capacity never shrinks, and only where room was missing does the call fail.
     ensures capacity { vec_capacity dst.old ≤ vec_capacity dst.new }
@@ -138,7 +138,7 @@ fn get_long_varint(src: &[u8]) -> Option<(u64, usize)>
 pub fn put_length_prefixed_slice(dst: &mut Vec<u8>, text: &[u8]) -> Result<()>
     ensures ok { OnOk result (dst.new.items ≡ dst.old.items ++ sized text.now) }
     ensures err { OnErr result (dst.new.items ≡ dst.old.items) }
-    ensures memory { IfErr result IsOutOfMemory }
+    ensures cause { IfErr result IsOutOfMemory }
 
     // The capacity never shrinks, and only where room was missing does the call fail.
     ensures capacity { vec_capacity dst.old ≤ vec_capacity dst.new }
