@@ -11,8 +11,11 @@ use Rattle.leveldb_base.specs.declared.error.StatusCode.TheVariants.{NotSupporte
 -- The block that stored bytes are decoded to, where there is one; the codes with which encoding
 -- this very block may fail; and those with which decoding these very bytes may.
 pub record Coding : Type 0 where
+  -- the block that stored bytes are decoded to, where there is one
   pub decoded : List ℕ → Option (List ℕ)
+  -- whether encoding this very block may fail with a code
   pub encode_fails : List ℕ → StatusCode → Bool
+  -- whether decoding these very bytes may fail with a code
   pub decode_fails : List ℕ → StatusCode → Bool
 
 -- a block is stored as it is, and none fails
@@ -51,8 +54,11 @@ with_coding codings id coding other = if id == other then Some coding else codin
 -- An id gets this coding. The only error is out of memory, and it changes nothing.
 pub record SetsCoding {T : Type 0} (id : ℕ) (coding : Coding) (old : Codings)
     (result : Result T Status) (new : Codings) : Type 0 where
+  -- the id has the coding
   pub ok : OnOk result (new ≡ with_coding old id coding)
+  -- no coding changes
   pub err : OnErr result (new ≡ old)
+  -- the only cause
   pub memory : IfErr result IsOutOfMemory
 
 -- the block, under a coding where there is one

@@ -11,7 +11,9 @@ use Rattle.leveldb_base.specs.declared.error.StatusCode.TheVariants.{NotFound, L
 
 -- the bytes that a crash keeps, and those that were appended since
 pub record File : Type 0 where
+  -- the bytes that a crash keeps
   pub kept : List ℕ
+  -- those appended since, of which it may keep any prefix, or others in their place
   pub since : List ℕ
 
 -- all that is read
@@ -24,7 +26,9 @@ Files = List ℕ → Option File
 
 -- which file each name has, and which names are locked
 pub record Disk : Type 0 where
+  -- the file of each name
   pub files : Files
+  -- whether a name is locked
   pub locked : List ℕ → Bool
 
 -- ---- what a call makes of the files
@@ -118,24 +122,33 @@ FilesCrashTo files left = (name : List ℕ) → FileCrashesTo (files name) (left
 
 -- of a disk: its files so, and no lock held
 pub record DiskCrashesTo (disk left : Disk) : Type 0 where
+  -- the same names, with what a crash leaves of each file
   pub files : FilesCrashTo disk.files left.files
+  -- no lock is held
   pub free : (name : List ℕ) → left.locked name ≡ false
 
 -- The disk now; the moment, a number that doesn't fall; and what the files were at each moment, or
 -- inside the call that began at it. Locks are no part of a moment, since a crash frees them.
 pub record Observed : Type 1 where
+  -- the disk now
   pub disk : Disk
+  -- the moment now
   pub moment : ℕ
+  -- these were the files at that moment, or inside the call that began at it
   pub at_moment : ℕ → Files → Type 0
 
 -- From old to new the files were at each moment some that have P, and of the moments before nothing
 -- is forgotten or added.
 pub record Within (P : Files → Type 0) (old new : Observed) : Type 0 where
+  -- the moment doesn't fall
   pub later : old.moment ≤ new.moment
+  -- of the moments before, nothing is added
   pub before : (m : ℕ) (files : Files) → m < old.moment → new.at_moment m files
       → old.at_moment m files
+  -- at each moment from old to new the files had P
   pub meanwhile : (m : ℕ) (files : Files) → old.moment ≤ m → m < new.moment → new.at_moment m files
       → P files
+  -- nothing is forgotten
   pub kept : (m : ℕ) (files : Files) → m ≤ old.moment → old.at_moment m files
       → new.at_moment m files
 
@@ -150,8 +163,11 @@ Since observed t files left = (m : ℕ) × (t ≤ m) × (m ≤ observed.moment) 
 -- them.
 pub record ChangesFiles {T : Type 0} (models_disk : Bool) (change : Files → Files)
     (Passes : Files → Files → Type 0) (old new : Observed) (result : Result T Status) : Type 0 where
+  -- an Ok has made the change
   pub ok : IsTrue models_disk → OnOk result (new.disk.files ≡ change old.disk.files)
+  -- whatever the result is, the files are as the call may leave them
   pub now : IsTrue models_disk → Passes old.disk.files new.disk.files
+  -- and so they were at each moment of the call
   pub time : Within (Passes old.disk.files) old new
 
 -- either side of a change that is done at once
@@ -187,9 +203,13 @@ SameLocks models_disk old new = IsTrue models_disk → new.disk.locked ≡ old.d
 -- its greatest. An Err is one that is excused, and then it isn't counted, or it was counted.
 pub record HasCause {T : Type 0} (Excused : Status → Type 0) (before now : ℕ)
     (result : Result T Status) : Type 0 where
+  -- the count doesn't fall
   pub later : before ≤ now
+  -- an Ok isn't counted
   pub ok : OnOk result (now ≡ before)
+  -- nor is an Err that is excused
   pub uncounted : IfErr result (λ e. Excused e → now ≡ before)
+  -- every Err is excused or counted, or the count is at its greatest
   pub cause : IfErr result
       (λ e. Excused e ⊎ (now ≡ before + 1) ⊎ ((before ≡ 2 ^ 64 - 1) × (now ≡ before)))
 
@@ -223,8 +243,11 @@ IsLocked models_disk name observed e = IsOutOfMemory e ⊎ LockIs models_disk tr
 -- The first n bytes of a target are those of a file from an offset on: no more than there are, and
 -- none only at its end or for an empty target.
 pub record ReadsFrom (offset n : ℕ) (target file : List ℕ) : Type 0 where
+  -- the first n bytes of the target are the file's from the offset on
   pub bytes_are : take n target ≡ take n (drop offset file)
+  -- the file has so many
   pub no_more : n ≤ length (drop offset file)
+  -- none were read only for an empty target or at the end
   pub none : n ≡ 0 → (target ≡ []) ⊎ (drop offset file ≡ [])
 
 -- the same of the file of a name, which is there
@@ -234,15 +257,19 @@ ReadsAt (Some file) offset n target = ReadsFrom offset n target (bytes_of file)
 
 -- the parts after the `/` of the names in this folder, each once
 pub record ListsChildren (files : Files) (folder : List ℕ) (children : List (List ℕ)) : Type 0 where
+  -- a child is listed exactly if it has no `/` and is a file of the folder
   pub each : (child : List ℕ) → Contains children child
       ↔ ((Contains child 47 → ⊥) × IsSome (files (in_folder folder child)))
+  -- none twice
   pub once : IsDistinct bytes_eq children
 
 -- ---- a run of calls
 
 -- now, and at each moment since the first, the files have P
 pub record Run (P : Files → Type 0) (first now : Observed) : Type 0 where
+  -- the files have P now
   pub has : P now.disk.files
+  -- and had it at each moment since the first
   pub time : Within P first now
 
 -- the same but at this name

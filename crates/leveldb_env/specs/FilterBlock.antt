@@ -26,7 +26,9 @@ filter_block filters = concat filters ++
 
 -- the bytes are the filter block of these filters
 pub record IsFilterBlock (bytes : List ℕ) (filters : List (List ℕ)) : Type 0 where
+  -- they are its encoding
   pub encoded : bytes ≡ filter_block filters
+  -- and each offset in it has 32 bits
   pub fits : length (concat filters) < 2 ^ 32
 
 -- the bytes are no filter block
@@ -47,7 +49,9 @@ FilterBlocksAreUnique = (bytes others : List ℕ) (filters : List (List ℕ))
 
 -- a policy, and the filters of a block
 pub record FiltersRead (FP : Type 0) : Type 0 where
+  -- what made them
   pub policy : FP
+  -- one for each 2048 bytes of the table
   pub filters : List (List ℕ)
 
 -- The filter for a block's offset is put to the policy, an empty one too; where there is none for
@@ -60,8 +64,11 @@ passes matches filters offset key = option_map_or (matches key)
 
 -- a policy, the filters that are made, and the keys of the filter that is still open
 pub record FiltersBuilt (FP : Type 0) : Type 0 where
+  -- what makes filters
   pub policy : FP
+  -- those that are made
   pub filters : List (List ℕ)
+  -- the keys for the next one
   pub keys : List (List ℕ)
 
 -- the filter of some keys; no keys have an empty one, for which the policy isn't asked
@@ -90,7 +97,9 @@ started make offset building = with_filters make (offset / 2048 - length buildin
 -- the policy stays, and at an Err all
 pub record KeepsPolicy {FP T : Type 0} (old : FiltersBuilt FP) (result : Result T Status)
     (new : FiltersBuilt FP) : Type 0 where
+  -- the policy is the same
   pub policy : new.policy ≡ old.policy
+  -- an Err changes nothing
   pub err : OnErr result (new ≡ old)
 
 -- the filters at the end: keys that are left make one more
@@ -125,19 +134,24 @@ IsKeyKept matches filters keys offset key = ((offset / 2048 ≡ length filters) 
 -- is open is kept, stays so whatever key is added and whatever block begins, and passes at the end.
 pub record KeepsKeys (FP : Type 0) (make : FP → List (List ℕ) → List ℕ)
     (matches : FP → List ℕ → List ℕ → Bool) : Type 0 where
+  -- after a block begins, the filter for its offset is the open one
   pub opens : (building : FiltersBuilt FP) (offset : ℕ) → 2048 * length building.filters ≤ offset
       → offset / 2048 ≡ length (started (make building.policy) offset building).filters
+  -- a key that is added then is kept
   pub adds : (building : FiltersBuilt FP) (offset : ℕ) (key : List ℕ)
       → offset / 2048 ≡ length building.filters
       → IsKeyKept (matches building.policy) building.filters (with_key key building).keys offset key
+  -- it stays so whatever key is added
   pub goes_on : (building : FiltersBuilt FP) (offset : ℕ) (key other : List ℕ)
       → IsKeyKept (matches building.policy) building.filters building.keys offset key
       → IsKeyKept (matches building.policy) building.filters
       (with_key other building).keys offset key
+  -- and whatever block begins
   pub starts : (building : FiltersBuilt FP) (offset next : ℕ) (key : List ℕ)
       → IsKeyKept (matches building.policy) building.filters building.keys offset key
       → (let more = started (make building.policy) next building in IsKeyKept
       (matches more.policy) more.filters more.keys offset key)
+  -- and passes when all filters are made
   pub finishes : (building : FiltersBuilt FP) (offset : ℕ) (key : List ℕ)
       → IsKeyKept (matches building.policy) building.filters building.keys offset key
       → passes (matches building.policy)
@@ -161,7 +175,9 @@ filters_built_code {FP} c =
 
 -- the bytes are these texts one after another, each beginning at its offset
 pub record AreTexts (bytes offsets : List ℕ) (texts : List (List ℕ)) : Type 0 where
+  -- the bytes are the texts one after another
   pub joined : bytes ≡ concat texts
+  -- and the offsets are where each begins
   pub placed : offsets ≡ offsets_from 0 texts
 
 -- where each text begins, and where the last one ends
@@ -181,7 +197,9 @@ RiseFrom at (n ∷ ns) = (at ≤ n) × RiseFrom n ns
 
 -- the bytes are the block of these filters, which end at the limit
 pub record IsBlockEndingAt (bytes : List ℕ) (limit : ℕ) (filters : List (List ℕ)) : Type 0 where
+  -- the bytes are their block
   pub block : IsFilterBlock bytes filters
+  -- and the limit is where the offsets follow them
   pub ends : limit ≡ length (concat filters)
 
 -- some filters are held

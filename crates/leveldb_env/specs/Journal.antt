@@ -89,9 +89,13 @@ where_done done change files = if done then change files else files
 -- there. Where that isn't so, and at an Err, the files stay.
 pub record MakesChange {E : Type 0} (change : Requested) (done : Bool) (old : Files)
     (result : Result Bool E) (new : Files) : Type 0 where
+  -- where it is to be done, the result says whether the file is there
   pub there : IfOk result (λ there. done ≡ true → there ≡ finds_file change old)
+  -- the change is made where it is to be done
   pub ok : OnOk result (new ≡ where_done done (requested change) old)
+  -- a missing file changes nothing
   pub missing : result ≡ Ok false → new ≡ old
+  -- nor does an Err
   pub err : OnErr result (new ≡ old)
 
 -- what a call asked for

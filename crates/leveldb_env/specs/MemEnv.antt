@@ -38,7 +38,9 @@ handle_offset file = file.offset
 
 -- the same file, `n` bytes further on
 pub record IsMovedBy (n : ℕ) (old new : MemHandle) : Type 0 where
+  -- the name is the same
   pub name : handle_name new ≡ handle_name old
+  -- and the offset has moved
   pub offset : handle_offset new ≡ handle_offset old + n
 
 -- ---- what the calls do
@@ -46,9 +48,13 @@ pub record IsMovedBy (n : ℕ) (old new : MemHandle) : Type 0 where
 -- A call makes this change of the files, or fails and makes none. Locks and time stay.
 pub record ChangesOrFails {T : Type 0} (change : Files → Files) (old new : MemEnv)
     (result : Result T Status) : Type 0 where
+  -- an Ok makes the change
   pub ok : OnOk result ((disk_of new).files ≡ change (disk_of old).files)
+  -- an Err changes no file
   pub err : OnErr result ((disk_of new).files ≡ (disk_of old).files)
+  -- no lock changes
   pub locks : (disk_of new).locked ≡ (disk_of old).locked
+  -- nor does the time
   pub time : time_of new ≡ time_of old
 
 -- bytes over the front of a target, as far as both go
@@ -76,9 +82,12 @@ lock_freed name disk = record disk { locked = lock_set name false disk.locked }
 
 -- the error for a name that is missing
 pub record IsNoSuchFile (files : Files) (name : List ℕ) (e : Status) : Type 0 where
+  -- `NotFound`
   pub code : e.code ≡ NotFound
+  -- with this text, where there was memory for one
   pub text : IfSome e.err
       (λ text. string_bytes text ≡ status_text NotFound (annotated (codes "no such file") name))
+  -- the name has no file
   pub gone : files name ≡ None
 
 -- that, or out of memory
@@ -87,15 +96,21 @@ IsNoFileOrMemory files name e = IsOutOfMemory e ⊎ IsNoSuchFile files name e
 
 -- the error for a name that is locked
 pub record IsAlreadyLocked (locked : List ℕ → Bool) (name : List ℕ) (e : Status) : Type 0 where
+  -- `LockError`
   pub code : e.code ≡ LockError
+  -- with this text, where there was memory for one
   pub text : IfSome e.err
       (λ text. string_bytes text ≡ status_text LockError (annotated (codes "already locked") name))
+  -- the name is locked
   pub held : locked name ≡ true
 
 -- the error for a name that is free; it has no text, since a call that frees takes no memory
 pub record IsNotLocked (locked : List ℕ → Bool) (name : List ℕ) (e : Status) : Type 0 where
+  -- `LockError`
   pub code : e.code ≡ LockError
+  -- with no text
   pub text : e.err ≡ None
+  -- the name isn't locked
   pub free : locked name ≡ false
 
 -- the part after a folder and its `/`, of a name that is under it

@@ -34,7 +34,8 @@ replayed_now : (journal : Journal)
     → files_of journal.files ≡ files_after_calls (files_of journal.first) journal.calls.items
     ((2 * journal.count) / 2)
 replayed_now journal = journal.replayed
-    ∙ ap (files_after_calls (files_of journal.first) journal.calls.items) (sym (halved journal.count))
+    ∙ ap (files_after_calls (files_of journal.first) journal.calls.items)
+    (sym (halved journal.count))
 
 only_last : (journal : Journal) (files : Files) → files_were journal (2 * journal.count) files
     → files ≡ files_of journal.files

@@ -32,18 +32,24 @@ picked tails files = λ name. option_map
 
 -- a tail for a file that is there, no longer than what was appended since
 pub record IsTailOf (files : Files) (pick : List ℕ × List ℕ) : Type 0 where
+  -- its elements are bytes
   pub bytes : AreBytes pick.1
+  -- the file is there, and the tail is no longer than what was appended since
   pub fits : IsSomeAnd (files pick.0) (λ file. length pick.1 ≤ length file.since)
 
 -- tails that a crash may leave, each for another name
 pub record IsAllowed (files : Files) (tails : Tails) : Type 0 where
+  -- each is a tail of a file that is there
   pub each : All (IsTailOf files) tails
+  -- no name has two
   pub once : IsDistinct bytes_eq (keys_of tails)
 
 -- in order of name what the files have past their kept bytes, where they have any
 pub record ListsTails (files : Files) (tails : Tails) : Type 0 where
+  -- a name is listed with its bytes past the kept ones, exactly if it has some
   pub each : (name tail : List ℕ) → Contains tails (name, tail)
       ↔ IsSomeAnd (files name) (λ file. (file.since ≡ tail) × (0 < length tail))
+  -- names rise
   pub in_order : IsStrictlySortedBy (slice_cmp nat_cmp) (keys_of tails)
 
 -- whatever a crash leaves, it leaves by tails that are allowed

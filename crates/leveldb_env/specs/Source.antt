@@ -27,25 +27,37 @@ module _ {S : Type 0} (gives : S → ℕ → Result (List ℕ) Status → S → 
 module _ {S : Type 0} (gives : S → ℕ → Result (List ℕ) Status → S → Type 0) where
   -- reads gave these bytes, one after another
   pub record GivesSome (from : S) (bytes : List ℕ) (to : S) : Type 0 where
+    -- the pieces
     pub pieces : List (List ℕ)
+    -- each was read, in this order
     pub drawn : Draws gives from pieces to
+    -- and together they are the bytes
     pub joined : bytes ≡ concat pieces
 
   -- reads gave these bytes, and then there were no more
   pub record GivesAll (from : S) (bytes : List ℕ) (to : S) : Type 0 where
+    -- the source after its last byte
     pub mid : S
+    -- reads gave the bytes
     pub given_before : GivesSome from bytes mid
+    -- and then one gave none
     pub at_end : AtEnd gives mid to
 
   -- reads gave some bytes, and then one failed, or there was no memory for what had been read
   pub record GivesUp (from : S) (status : Status) (to : S) : Type 0 where
+    -- the source before the failure
     pub mid : S
+    -- what had been read
     pub bytes : List ℕ
+    -- reads gave it
     pub given_before : GivesSome from bytes mid
+    -- then one failed, or there was no memory for what had been read
     pub why : ReadFails gives mid status to ⊎ ((to ≡ mid) × IsOutOfMemory status)
 
 -- bytes in memory give as many as there is room for, and are then what follows
 pub record GivesFirst (old : List ℕ) (room : ℕ) (result : Result (List ℕ) Status) (new : List ℕ)
     : Type 0 where
+  -- as many as there is room for, or all
   pub ok : result ≡ Ok (take room old)
+  -- the others are left
   pub left : new ≡ drop room old

@@ -13,7 +13,9 @@ replaced temp name bytes files = with_file name (Some (kept_file bytes)) (delete
 -- On the way the name has what it had, or these bytes, all kept; and the other names but the
 -- temporary one have what they had.
 pub record Replacing (temp name bytes : List ℕ) (old files : Files) : Type 0 where
+  -- the name has what it had, or the new bytes
   pub either : (files name ≡ old name) ⊎ (files name ≡ Some (kept_file bytes))
+  -- the names but these two have what they had
   pub others : (other : List ℕ) → bytes_eq temp other ≡ false → bytes_eq name other ≡ false
       → files other ≡ old other
 
@@ -21,7 +23,9 @@ pub record Replacing (temp name bytes : List ℕ) (old files : Files) : Type 0 w
 
 -- the error for a file that must be there and is missing
 pub record IsMissingFile (name : List ℕ) (e : Status) : Type 0 where
+  -- `Corruption`
   pub code : e.code ≡ Corruption
+  -- with this text, where there was memory for one
   pub text : IfSome e.err
       (λ text. string_bytes text ≡ status_text Corruption (annotated (codes "missing file") name))
 

@@ -65,7 +65,9 @@ impl Compressor for NoneCompressor {
 /// A compressor that is borrowed from a list.
 #[derive(Drop)]
 pub enum ListedCompressor<'a> {
+    /// The one that stores blocks as they are.
     Plain(NoneCompressor),
+    /// One that was set.
     Boxed(&'a Box<dyn Compressor>),
 }
 
@@ -108,6 +110,7 @@ pub trait Compressors {
 /// The compressors that a store knows, each under its id.
 #[derive(Drop)]
 pub struct CompressorList {
+    // those that were set, one for each id; none where none was
     listed: Option<Vec<Listed>>,
 
     // whether the id 0, where no compressor is listed for it, stores blocks as they are
@@ -245,7 +248,7 @@ fn put(listed: &mut Vec<Listed>, id: u8, compressor: Box<dyn Compressor>) -> Res
         (first_coding (map (λ l. (l.id, coding l.compressor)) listed.old.items) otherwise)
         id (coding compressor)) }
     ensures err { OnErr result (listed.new.items ≡ listed.old.items) }
-    ensures memory { IfErr result IsOutOfMemory }
+    ensures cause { IfErr result IsOutOfMemory }
 {
     if let Some(at) = index_of(listed, id) {
         listed[at].compressor = compressor;

@@ -139,7 +139,7 @@ pub trait Env {
         ensures does { ChangesFiles models_disk same FilesUnchanged (observed self.old)
             (observed self.new) result }
         ensures locks { SameLocks models_disk (observed self.old) (observed self.new) }
-        ensures answer { IfOk result
+        ensures ok { IfOk result
             (λ there. IsTrue models_disk → IsTrue there
             ↔ IsSome ((observed self.old).disk.files name.now)) }
         ensures cause { HasCause IsOutOfMemory (failures self.old) (failures self.new) result };
@@ -150,7 +150,7 @@ pub trait Env {
         ensures does { ChangesFiles models_disk same FilesUnchanged (observed self.old)
             (observed self.new) result }
         ensures locks { SameLocks models_disk (observed self.old) (observed self.new) }
-        ensures answer { IfOk result
+        ensures ok { IfOk result
             (λ names. IsTrue models_disk
             → ListsChildren (observed self.old).disk.files folder.now
             (map string_bytes names.items)) }
@@ -162,7 +162,7 @@ pub trait Env {
         ensures does { ChangesFiles models_disk same FilesUnchanged (observed self.old)
             (observed self.new) result }
         ensures locks { SameLocks models_disk (observed self.old) (observed self.new) }
-        ensures answer { IfOk result
+        ensures ok { IfOk result
             (λ n. IsTrue models_disk
             → IfSome ((observed self.old).disk.files name.now) (λ f. n ≡ length (bytes_of f))) }
         ensures there { OnOk result (IsTrue models_disk

@@ -33,7 +33,9 @@ const FILTERS_LIMIT: usize = 1 << 32;
 #[derive(Drop)]
 pub struct FilterBlockBuilder<FP: FilterPolicy> {
     policy: FP,
+    // the filters that are made
     filters: Texts,
+    // the keys of the next one
     keys: Texts,
 }
 
@@ -180,7 +182,7 @@ fn write_block(filters: Texts) -> Result<Vec<u8>>
     requires fits { length (concat filters) < 2 ^ 32 }
     requires few { length filters < 2 ^ 61 }
     ensures ok { IfOk result (λ block. IsFilterBlock block.items filters) }
-    ensures memory { IfErr result IsOutOfMemory }
+    ensures cause { IfErr result IsOutOfMemory }
 {
     let (mut block, offsets) = filters.into_parts();
     let end = block.len() as u32;
@@ -196,7 +198,7 @@ fn put_offsets(block: &mut Vec<u8>, offsets: &[usize]) -> Result<()>
     requires { All (λ offset. offset < 2 ^ 32) offsets.now }
     ensures ok { OnOk result
         (block.new.items ≡ block.old.items ++ flat_map (little 4) offsets.now) }
-    ensures memory { IfErr result IsOutOfMemory }
+    ensures cause { IfErr result IsOutOfMemory }
 {
     for offset in offsets {
         put_number(block, *offset as u32)?;
@@ -208,7 +210,7 @@ fn put_offsets(block: &mut Vec<u8>, offsets: &[usize]) -> Result<()>
 #[inline]
 fn put_number(block: &mut Vec<u8>, n: u32) -> Result<()>
     ensures ok { OnOk result (block.new.items ≡ block.old.items ++ little 4 n) }
-    ensures memory { IfErr result IsOutOfMemory }
+    ensures cause { IfErr result IsOutOfMemory }
 {
     let mut bytes = [0; 4];
     LittleEndian::write_u32(&mut bytes, n);
@@ -220,6 +222,7 @@ fn put_number(block: &mut Vec<u8>, n: u32) -> Result<()>
 #[derive(Drop)]
 pub struct FilterBlockReader<FP: FilterPolicy> {
     policy: FP,
+    // the bytes of the block
     contents: Bytes,
 
     // where the filters end and their offsets begin

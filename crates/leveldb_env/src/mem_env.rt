@@ -26,7 +26,9 @@ use std::collections::{BTreeMap, BTreeSet};
 pub struct MemEnv {
     alloc: Global,
     files: FileMap,
+    // the names that are locked
     locks: BTreeSet<String>,
+    // the time that it returns, in microseconds
     micros: u64,
 }
 
@@ -34,6 +36,7 @@ pub struct MemEnv {
 #[derive(Drop)]
 pub struct MemHandle {
     name: String,
+    // where its next read begins
     offset: usize,
 }
 
@@ -74,7 +77,7 @@ impl MemEnv {
         ensures time { IfOk result (λ left. time_of left ≡ time_of self.now) }
         ensures allowed { OnOk result
             (IsAllowed (disk_of self.now).files (tails_of pick.now.tails.items)) }
-        ensures refused { IfErr result
+        ensures cause { IfErr result
             (IsChoiceError (disk_of self.now).files (tails_of pick.now.tails.items)) }
         ensures every { CrashesByTails (disk_of self.now).files }
     {
@@ -98,7 +101,7 @@ impl MemEnv {
         ensures copied { IfOk result
             (λ n. CopiesFrom ((disk_of self.now).files name.now) offset n target.old target.new) }
         ensures end { IfOk result (λ n. offset + n < 2 ^ 64) }
-        ensures refused { IfErr result (IsNoSuchFile (disk_of self.now).files name.now) }
+        ensures cause { IfErr result (IsNoSuchFile (disk_of self.now).files name.now) }
         ensures err { OnErr result (target.new ≡ target.old) }
     {
         match self.files.get(name) {
@@ -181,7 +184,7 @@ impl Env for MemEnv {
         ensures file { IfOk result
             (λ file. (handle_name file ≡ name.now) × (handle_offset file ≡ 0)) }
         ensures there { OnOk result (IsSome ((disk_of self.old).files name.now)) }
-        ensures refused { IfErr result (IsNoFileOrMemory (disk_of self.old).files name.now) }
+        ensures cause { IfErr result (IsNoFileOrMemory (disk_of self.old).files name.now) }
     {
         if !self.files.contains_key(name) {
             return missing(self.alloc, name);
@@ -194,7 +197,7 @@ impl Env for MemEnv {
         ensures file { IfOk result
             (λ file. (handle_name file ≡ name.now) × (handle_offset file ≡ 0)) }
         ensures there { OnOk result (IsSome ((disk_of self.old).files name.now)) }
-        ensures refused { IfErr result (IsNoFileOrMemory (disk_of self.old).files name.now) }
+        ensures cause { IfErr result (IsNoFileOrMemory (disk_of self.old).files name.now) }
     {
         self.open_sequential_file(name)
     }
@@ -202,7 +205,7 @@ impl Env for MemEnv {
     fn open_writable_file(&mut self, name: &str) -> Result<MemHandle>
         ensures changes { ChangesOrFails (emptied name.now) self.old self.new result }
         ensures file { IfOk result (λ file. handle_name file ≡ name.now) }
-        ensures refused { IfErr result IsOutOfMemory }
+        ensures cause { IfErr result IsOutOfMemory }
     {
         let handle = MemHandle::new(self.alloc, name)?;
         files::empty_file(&mut self.files, self.alloc, name)?;
@@ -212,7 +215,7 @@ impl Env for MemEnv {
     fn open_appendable_file(&mut self, name: &str) -> Result<MemHandle>
         ensures changes { ChangesOrFails (created name.now) self.old self.new result }
         ensures file { IfOk result (λ file. handle_name file ≡ name.now) }
-        ensures refused { IfErr result IsOutOfMemory }
+        ensures cause { IfErr result IsOutOfMemory }
     {
         let handle = MemHandle::new(self.alloc, name)?;
         files::create_file(&mut self.files, self.alloc, name)?;
@@ -225,7 +228,7 @@ impl Env for MemEnv {
             (λ n. CopiesFrom ((disk_of self.old).files (handle_name file.old))
             (handle_offset file.old) n target.old target.new) }
         ensures moved { IfOk result (λ n. IsMovedBy n file.old file.new) }
-        ensures refused { IfErr result
+        ensures cause { IfErr result
             (IsNoSuchFile (disk_of self.old).files (handle_name file.old)) }
         ensures err { OnErr result ((target.new ≡ target.old) × (file.new ≡ file.old)) }
     {
@@ -239,7 +242,7 @@ impl Env for MemEnv {
         ensures copied { IfOk result
             (λ n. CopiesFrom ((disk_of self.old).files
             (handle_name file.now)) offset n target.old target.new) }
-        ensures refused { IfErr result
+        ensures cause { IfErr result
             (IsNoSuchFile (disk_of self.old).files (handle_name file.now)) }
         ensures err { OnErr result (target.new ≡ target.old) }
     {
@@ -251,7 +254,7 @@ impl Env for MemEnv {
             (extended (handle_name file.old) bytes.now) self.old self.new result }
         ensures file { file.new ≡ file.old }
         ensures there { OnOk result (IsSome ((disk_of self.old).files (handle_name file.old))) }
-        ensures refused { IfErr result
+        ensures cause { IfErr result
             (IsNoFileOrMemory (disk_of self.old).files (handle_name file.old)) }
     {
         let name = file.name.as_str();
@@ -265,7 +268,7 @@ impl Env for MemEnv {
         ensures changes { ChangesOrFails (synced (handle_name file.old)) self.old self.new result }
         ensures file { file.new ≡ file.old }
         ensures there { OnOk result (IsSome ((disk_of self.old).files (handle_name file.old))) }
-        ensures refused { IfErr result
+        ensures cause { IfErr result
             (IsNoSuchFile (disk_of self.old).files (handle_name file.old)) }
     {
         let name = file.name.as_str();
@@ -277,27 +280,27 @@ impl Env for MemEnv {
 
     fn exists(&mut self, name: &str) -> Result<bool>
         ensures still { self.new ≡ self.old }
-        ensures answer { result ≡ Ok (is_some ((disk_of self.old).files name.now)) }
+        ensures value { result ≡ Ok (is_some ((disk_of self.old).files name.now)) }
     {
         Ok(self.files.contains_key(name))
     }
 
     fn children(&mut self, alloc: Global, folder: &str) -> Result<Vec<String>>
         ensures still { self.new ≡ self.old }
-        ensures answer { IfOk result
+        ensures ok { IfOk result
             (λ names. ListsChildren (disk_of self.old).files folder.now
             (map string_bytes names.items)) }
-        ensures refused { IfErr result IsOutOfMemory }
+        ensures cause { IfErr result IsOutOfMemory }
     {
         Ok(files::list_children(&self.files, alloc, folder)?)
     }
 
     fn size_of(&mut self, name: &str) -> Result<usize>
         ensures still { self.new ≡ self.old }
-        ensures answer { IfOk result
+        ensures ok { IfOk result
             (λ n. IsSomeAnd ((disk_of self.old).files name.now)
             (λ file. n ≡ length (bytes_of file))) }
-        ensures refused { IfErr result (IsNoSuchFile (disk_of self.old).files name.now) }
+        ensures cause { IfErr result (IsNoSuchFile (disk_of self.old).files name.now) }
     {
         match self.files.get(name) {
             Some(found) => Ok(found.size()),
@@ -308,7 +311,7 @@ impl Env for MemEnv {
     fn delete(&mut self, name: &str) -> Result<()>
         ensures changes { ChangesOrFails (deleted name.now) self.old self.new result }
         ensures there { OnOk result (IsSome ((disk_of self.old).files name.now)) }
-        ensures refused { IfErr result (IsNoSuchFile (disk_of self.old).files name.now) }
+        ensures cause { IfErr result (IsNoSuchFile (disk_of self.old).files name.now) }
     {
         if files::delete_file(&mut self.files, name) {
             return Ok(());
@@ -318,14 +321,14 @@ impl Env for MemEnv {
 
     fn mkdir(&mut self, _folder: &str) -> Result<()>
         ensures still { self.new ≡ self.old }
-        ensures answer { result ≡ Ok tt }
+        ensures value { result ≡ Ok tt }
     {
         Ok(())
     }
 
     fn rmdir(&mut self, folder: &str) -> Result<()>
         ensures changes { ChangesOrFails (without_folder folder.now) self.old self.new result }
-        ensures answer { result ≡ Ok tt }
+        ensures value { result ≡ Ok tt }
     {
         files::remove_folder(&mut self.files, folder);
         Ok(())
@@ -334,7 +337,7 @@ impl Env for MemEnv {
     fn rename(&mut self, from: &str, to: &str) -> Result<()>
         ensures changes { ChangesOrFails (renamed from.now to.now) self.old self.new result }
         ensures there { OnOk result (IsSome ((disk_of self.old).files from.now)) }
-        ensures refused { IfErr result (IsNoFileOrMemory (disk_of self.old).files from.now) }
+        ensures cause { IfErr result (IsNoFileOrMemory (disk_of self.old).files from.now) }
     {
         if files::rename_file(&mut self.files, self.alloc, from, to)? {
             return Ok(());
@@ -347,7 +350,7 @@ impl Env for MemEnv {
         ensures err { OnErr result (disk_of self.new ≡ disk_of self.old) }
         ensures time { time_of self.new ≡ time_of self.old }
         ensures was_free { OnOk result ((disk_of self.old).locked name.now ≡ false) }
-        ensures refused { IfErr result
+        ensures cause { IfErr result
             (λ e. IsOutOfMemory e ⊎ IsAlreadyLocked (disk_of self.old).locked name.now e) }
     {
         if self.locks.contains(name) {
@@ -366,7 +369,7 @@ impl Env for MemEnv {
         ensures err { OnErr result (disk_of self.new ≡ disk_of self.old) }
         ensures time { time_of self.new ≡ time_of self.old }
         ensures was_locked { OnOk result ((disk_of self.old).locked name.now ≡ true) }
-        ensures refused { IfErr result (IsNotLocked (disk_of self.old).locked name.now) }
+        ensures cause { IfErr result (IsNotLocked (disk_of self.old).locked name.now) }
     {
         if take_lock(&mut self.locks, name) {
             return Ok(());
@@ -379,7 +382,7 @@ impl Env for MemEnv {
 
     fn micros(&mut self) -> Result<u64>
         ensures still { self.new ≡ self.old }
-        ensures answer { result ≡ Ok (time_of self.old) }
+        ensures value { result ≡ Ok (time_of self.old) }
     {
         Ok(self.micros)
     }

@@ -15,12 +15,16 @@ use std::alloc::Global;
 /// What a store is opened with: its comparator, its filter policy, its compressors and its choices.
 #[derive(Drop)]
 pub struct Options<C, FP> {
+    /// The order of users' keys.
     pub cmp: C,
+
+    /// What the filters of tables are made by.
     pub filter_policy: FP,
 
     /// Where the store says what it does; none by default.
     pub log: Option<Logger>,
 
+    /// Whether a store that isn't there is made.
     pub create_if_missing: bool,
 
     /// Whether a store that is there is an error.
@@ -100,7 +104,7 @@ impl<C, FP> Options<C, FP> {
         ensures compressor { OnOk result
             (IsSome (⟦<CompressorList as Compressors>⟧.codings self.now.compressor_list
             self.now.compressor)) }
-        ensures refused { IfErr result
+        ensures cause { IfErr result
             (λ e. IsLimitError self.now e ⊎ ((e.code ≡ StatusCode.NotSupported)
             × (⟦<CompressorList as Compressors>⟧.codings self.now.compressor_list
             self.now.compressor ≡ None))) }
@@ -131,7 +135,7 @@ impl<C, FP> Options<C, FP> {
 // Whether a choice is from its least to 2^30.
 fn check_limit(alloc: Global, name: &str, chosen: usize, least: usize) -> Result<()>
     ensures ok { OnOk result (IsSizeWithin least chosen) }
-    ensures refused { IfErr result
+    ensures cause { IfErr result
         (λ e. (e.code ≡ StatusCode.InvalidArgument) × (IsSizeWithin least chosen → ⊥)) }
 {
     if least <= chosen && chosen <= 1 << 30 {

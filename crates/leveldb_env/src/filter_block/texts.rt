@@ -11,6 +11,7 @@ use std::marker::Model;
 /// Texts in order.
 #[derive(Drop)]
 pub(crate) struct Texts {
+    // the texts, one after another
     bytes: Vec<u8>,
 
     // where each text begins
@@ -73,7 +74,7 @@ impl Texts {
         requires { 1 ≤ count }
         ensures ok { OnOk result (self.new ≡ self.old ++ text.now ∷ replicate (count - 1) []) }
         ensures err { OnErr result (self.new ≡ self.old) }
-        ensures memory { IfErr result IsOutOfMemory }
+        ensures cause { IfErr result IsOutOfMemory }
     {
         let begin = self.bytes.len();
         self.offsets.reserve(count)?;

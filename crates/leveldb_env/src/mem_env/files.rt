@@ -12,6 +12,7 @@ use std::marker::Model;
 #[derive(Drop)]
 pub struct MemFile {
     bytes: Vec<u8>,
+    // how many of them a crash keeps
     kept: usize,
 }
 

@@ -13,12 +13,19 @@ use std::collections::BTreeMap;
 /// A change of the files that a call asks for, with its names and bytes.
 #[derive(Drop)]
 pub enum Change<N, B> {
+    /// The name has an empty file.
     Emptied(N),
+    /// The name has an empty file, if it had none.
     Created(N),
+    /// The bytes are appended to the name's file.
     Extended(N, B),
+    /// All bytes of the name's file are kept.
     Synced(N),
+    /// The name has no file.
     Deleted(N),
+    /// The first name's file has the second name.
     Renamed(N, N),
+    /// No name under the folder has a file.
     Cleared(N),
 }
 
@@ -101,16 +108,22 @@ const UNCOUNTED: u64 = 1 << 62;
 #[derive(Drop)]
 pub struct Call {
     number: u64,
+    // what it asked for
     change: Noted,
+    // whether that was made
     done: bool,
 }
 
 /// The files at first and now, the calls that asked for a change, and how many calls were made.
 #[derive(Drop)]
 pub struct Journal {
+    // the files before the first call
     first: FileMap,
+    // the files now
     files: FileMap,
+    // the calls that asked for a change
     calls: Vec<Call>,
+    // how many calls were made
     count: u64,
     ghost few: { count < 2 ^ 62 },
     ghost numbered: { are_within count calls.items ≡ true },

@@ -16,9 +16,13 @@ use std::collections::BTreeSet;
 pub struct RecordEnv {
     alloc: Global,
     journal: Journal,
+    // the names that are locked
     locks: BTreeSet<String>,
+    // how many calls there are to the one that is to fail; 0 if none is
     fails_in: u64,
+    // whether the change of that call is made
     fails_done: bool,
+    // how many calls the device has failed
     failures: u64,
     ghost counted: { failures < 2 ^ 64 },
 }
@@ -78,7 +82,7 @@ impl RecordEnv {
         ensures tails { IfOk result
             (λ tails. ListsTails (files_then self.now moment after) (tails_of tails.items)) }
         ensures come { OnOk result (moment ≤ moment_of self.now) }
-        ensures refused { IfErr result
+        ensures cause { IfErr result
             (λ e. IsOutOfMemory e
             ⊎ ((e.code ≡ StatusCode.InvalidArgument) × (moment_of self.now < moment))) }
     {
@@ -99,7 +103,7 @@ impl RecordEnv {
         ensures left { IfOk result (IsCrashOfRecord self.now moment pick.now) }
         ensures sides { (side : Bool)
             → (record_observed self.now).at_moment moment (files_then self.now moment side) }
-        ensures refused { IfErr result
+        ensures cause { IfErr result
             (λ e. IsOutOfMemory e
             ⊎ ((e.code ≡ StatusCode.InvalidArgument)
             × (CanCrashTo self.now moment pick.now.after (tails_of pick.now.tails.items) → ⊥))) }
@@ -128,7 +132,7 @@ impl RecordEnv {
         ensures copied { IfOk result
             (λ n. CopiesFrom (files_in self.now name.now) offset n target.old target.new) }
         ensures end { IfOk result (λ n. offset + n < 2 ^ 64) }
-        ensures refused { IfErr result (IsNoSuchFile (files_in self.now) name.now) }
+        ensures cause { IfErr result (IsNoSuchFile (files_in self.now) name.now) }
         ensures err { OnErr result (target.new ≡ target.old) }
     {
         match self.journal.files().get(name) {
@@ -371,7 +375,7 @@ impl Env for RecordEnv {
         ensures looks { ChangesNoFile self.old self.new }
         ensures turns { CountsCall (λ _. ⊥) self.old self.new result }
         ensures locks { locked_in self.new ≡ locked_in self.old }
-        ensures answer { IfOk result (λ there. there ≡ is_some (files_in self.old name.now)) }
+        ensures ok { IfOk result (λ there. there ≡ is_some (files_in self.old name.now)) }
     {
         self.look()?;
         Ok(self.journal.files().contains_key(name))
@@ -381,7 +385,7 @@ impl Env for RecordEnv {
         ensures looks { ChangesNoFile self.old self.new }
         ensures turns { CountsCall IsOutOfMemory self.old self.new result }
         ensures locks { locked_in self.new ≡ locked_in self.old }
-        ensures answer { IfOk result
+        ensures ok { IfOk result
             (λ names. ListsChildren (files_in self.old) folder.now (map string_bytes names.items)) }
     {
         self.look()?;
@@ -393,7 +397,7 @@ impl Env for RecordEnv {
         ensures turns { CountsCall
             (IsNoSuchFile (files_in self.old) name.now) self.old self.new result }
         ensures locks { locked_in self.new ≡ locked_in self.old }
-        ensures answer { IfOk result
+        ensures ok { IfOk result
             (λ n. IsSomeAnd (files_in self.old name.now) (λ file. n ≡ length (bytes_of file))) }
     {
         self.look()?;
@@ -488,7 +492,7 @@ impl Env for RecordEnv {
         ensures looks { ChangesNoFile self.old self.new }
         ensures turns { CountsCall (λ _. ⊥) self.old self.new result }
         ensures locks { locked_in self.new ≡ locked_in self.old }
-        ensures answer { IfOk result (λ time. time ≡ moment_of self.new) }
+        ensures ok { IfOk result (λ time. time ≡ moment_of self.new) }
     {
         self.look()?;
         Ok(self.moment())
