@@ -24,9 +24,13 @@ EachIsLog = (checked : Bool) (size offset : ℕ) (bytes : List ℕ) → IsBlockS
 
 -- these are the first of the records, at least so many
 pub record AreFirst (least : ℕ) (records found : List (List ℕ)) : Type 0 where
+  -- how many they are
   pub count : ℕ
+  -- at least so many as are asked for
   pub enough : least ≤ count
+  -- and no more than there were
   pub there : count ≤ length records
+  -- they are the first ones
   pub first : found ≡ take count records
 
 -- A log cut anywhere reads as its first records, at least those that a front before the cut reads

@@ -18,7 +18,9 @@ log_block_size = 32768
 
 -- the sizes of blocks that a reader or a writer takes
 pub record IsBlockSize (size : ℕ) : Type 0 where
+  -- a header and a byte of data fit
   pub least : 8 ≤ size
+  -- and a part's length fits into two bytes
   pub most : size ≤ 32768
 
 -- a fragment's header: its checksum (4), its length (2) and its type (1)
@@ -42,7 +44,9 @@ offset_after size offset bytes = (offset + length bytes) % size
 
 -- a fragment: its type and its data, which is a part of a record
 pub record Fragment : Type 0 where
+  -- whether the part is its record's first and whether it is the last
   pub type : ℕ
+  -- the data
   pub part : List ℕ
 
 -- a fragment by its parts
@@ -67,9 +71,13 @@ fragment_bytes sum fragment =
 -- from this offset on the bytes are filler and the fragment, which lies within its block
 pub record IsFragment (checked : Bool) (size : ℕ) (fragment : Fragment) (offset : ℕ)
     (bytes : List ℕ) : Type 0 where
+  -- the four bytes of its checksum
   pub sum : List ℕ
+  -- its data end within the block
   pub within : length fragment.part ≤ room size offset
+  -- the checksum is right, if it is asked for
   pub summed : IsChecksum checked fragment sum
+  -- the bytes are filler and then these
   pub bytes_are : bytes ≡ filler size offset ++ fragment_bytes sum fragment
 
 -- no front of the bytes is a fragment
@@ -80,10 +88,15 @@ NoFragment checked size offset bytes = (f : Fragment) (front more : List ℕ) �
 -- from this offset on the bytes are a front, and after it a rest
 pub record IsFrontAndRest (size : ℕ) (IsFront IsRest : ℕ → List ℕ → Type 0) (offset : ℕ)
     (bytes : List ℕ) : Type 0 where
+  -- the front
   pub front : List ℕ
+  -- what follows it
   pub rest : List ℕ
+  -- together they are the bytes
   pub bytes_are : bytes ≡ front ++ rest
+  -- the front is so at this offset
   pub is_front : IsFront offset front
+  -- and the rest at the offset after it
   pub is_rest : IsRest (offset_after size offset front) rest
 
 -- from this offset on the bytes are these fragments
@@ -113,15 +126,21 @@ fragments_of first part (next ∷ parts) =
 -- later one
 pub record IsRemainder (checked : Bool) (size : ℕ) (first : Bool) (text : List ℕ) (offset : ℕ)
     (bytes : List ℕ) : Type 0 where
+  -- the first part that is left
   pub part : List ℕ
+  -- the parts after it
   pub parts : List (List ℕ)
+  -- together they are what is left of the text
   pub text_is : part ++ concat parts ≡ text
+  -- the bytes are their fragments
   pub laid : AreFragments checked size (fragments_of first part parts) offset bytes
 
 -- from this offset on the bytes are one whole record that isn't empty, however it is cut into parts
 pub record IsRecord (checked : Bool) (size : ℕ) (text : List ℕ) (offset : ℕ) (bytes : List ℕ)
     : Type 0 where
+  -- the record has a byte at least
   pub some : text ≢ []
+  -- all its parts are there
   pub whole : IsRemainder checked size true text offset bytes
 
 -- how a log ends: between two records, or in bytes that are no record
@@ -157,7 +176,9 @@ FillBlocks size part (next ∷ parts) offset = (length part ≡ room size offset
 -- from this offset on the bytes are the one framing of what is left of a record
 pub record IsFramedRemainder (size : ℕ) (first : Bool) (text : List ℕ) (offset : ℕ)
     (bytes : List ℕ) : Type 0 where
+  -- the bytes are what is left of the record
   pub whole : IsRemainder true size first text offset bytes
+  -- and it is cut only where a block ends
   pub full : FillBlocks size whole.part whole.parts offset
 
 -- from this offset on the bytes are the one framing of a record
@@ -208,8 +229,11 @@ frame_at offset text = framed_record log_block_size text (offset % log_block_siz
 
 -- from this offset on the bytes are filler and the fragment within its block, after four bytes that
 -- aren't its checksum
-pub record IsDamagedFragment (size : ℕ) (fragment : Fragment) (offset : ℕ) (bytes : List ℕ) : Type 0 where
+pub record IsDamagedFragment (size : ℕ) (fragment : Fragment) (offset : ℕ) (bytes : List ℕ)
+    : Type 0 where
+  -- whatever the checksum is, it is the fragment
   pub unchecked : IsFragment false size fragment offset bytes
+  -- and the checksum is wrong
   pub wrong : unchecked.sum ≢ checksum fragment
 
 -- the fragments of a record's parts, none of them its last
@@ -221,8 +245,11 @@ begun_of first (part ∷ parts) =
 -- from this offset on the bytes are parts of a record, none of them its last, and then a fragment
 -- of any type with a wrong checksum
 pub record BreaksOff (size : ℕ) (first : Bool) (offset : ℕ) (bytes : List ℕ) : Type 0 where
+  -- the parts before
   pub parts : List (List ℕ)
+  -- the fragment with a wrong checksum
   pub fragment : Fragment
+  -- the bytes are the fragments of the parts, and then this one
   pub laid : IsFrontAndRest size (AreFragments true size (begun_of first parts))
       (IsDamagedFragment size fragment) offset bytes
 
@@ -230,34 +257,56 @@ pub record BreaksOff (size : ℕ) (first : Bool) (offset : ℕ) (bytes : List �
 
 -- as far as both go, the bytes are the same
 pub record Agree (these those : List ℕ) : Type 0 where
+  -- what these lack of those
   pub more : List ℕ
+  -- what those lack of these
   pub others : List ℕ
+  -- with it both are the same
   pub same : these ++ more ≡ those ++ others
 
 -- At this offset of the bytes a fragment began, if only by its first byte: after whole fragments
 -- come its filler and a byte at least.
 pub record FragmentBegins (size : ℕ) (bytes : List ℕ) (offset : ℕ) : Type 0 where
+  -- the bytes before it
   pub before : List ℕ
+  -- the bytes from there on
   pub rest : List ℕ
+  -- together they are all
   pub bytes_are : bytes ≡ before ++ rest
+  -- it begins at the offset
   pub offset_is : length before ≡ offset
+  -- the fragments before it
   pub fragments : List Fragment
+  -- all of these are whole
   pub whole : AreFragments true size fragments 0 before
+  -- the one that began
   pub fragment : Fragment
+  -- its bytes, and filler before them
   pub written : List ℕ
+  -- as it would be whole
   pub is_fragment : IsFragment true size fragment (offset_after size 0 before) written
+  -- the bytes there are those, as far as both go
   pub agree : Agree rest written
+  -- they go past the filler
   pub begun : length (filler size (offset_after size 0 before)) < length rest
 
 -- At this offset are `n` bytes that are filler and a fragment with a right checksum.
 pub record FragmentAt (size : ℕ) (bytes : List ℕ) (offset n : ℕ) : Type 0 where
+  -- the bytes before it
   pub before : List ℕ
+  -- the fragment and its filler
   pub found : List ℕ
+  -- the bytes after it
   pub rest : List ℕ
+  -- together they are all
   pub bytes_are : bytes ≡ before ++ (found ++ rest)
+  -- it begins at the offset
   pub offset_is : length before ≡ offset
+  -- and has n bytes
   pub length_is : length found ≡ n
+  -- the fragment
   pub fragment : Fragment
+  -- they are its bytes, with a right checksum
   pub is_fragment : IsFragment true size fragment (offset_after size 0 before) found
 
 -- Wherever a fragment of the bytes began and what is left has a fragment with a right checksum,

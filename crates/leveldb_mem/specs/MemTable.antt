@@ -47,13 +47,18 @@ bytes_in (item ∷ items) = length item.key + value_length item.value + bytes_in
 
 -- entries, and room for more: for `places` of them, whose keys and values have `bytes` bytes
 pub record Kept : Type 0 where
+  -- the entries, in the order of their internal keys
   pub entries : List Entry
+  -- for how many more there is room
   pub places : ℕ
+  -- and for how many bytes of keys and values
   pub bytes : ℕ
 
 -- there is room for these
 pub record HasRoom (kept : Kept) (items : List Item) : Type 0 where
+  -- for so many
   pub places : length items ≤ kept.places
+  -- and for their bytes
   pub bytes : bytes_in items ≤ kept.bytes
 
 -- what there was room for has room still
@@ -62,16 +67,22 @@ KeepsRoom old new = (items : List Item) → HasRoom old items → HasRoom new it
 
 -- an entry has come, and took one place and no more than its bytes
 pub record AddsEntry (old : Kept) (entry : Entry) (new : Kept) : Type 0 where
+  -- the entries are the old ones and this one
   pub gains : IsUnion old.entries (entry ∷ []) new.entries
+  -- it took one place
   pub places : old.places ≡ new.places + 1
+  -- and no more room than its bytes
   pub bytes : old.bytes ≤ new.bytes + length entry.key + value_length entry.value
 
 -- ---- the memtable
 
 -- a comparator of users' keys, what is kept, and the nodes of the entries in the map
 pub record MemTableState (C : Type 0) : Type 0 where
+  -- the comparator of users' keys
   pub cmp : C
+  -- the entries, and room for more
   pub kept : Kept
+  -- the nodes of the entries, in their order
   pub nodes : List ℕ
 
 -- an entry, as nested pairs of encodable parts
@@ -142,19 +153,26 @@ memory_of_entries entries =
 
 -- one entry more, and as much more memory as counts for it
 pub record Grows (old : List Entry) (entry : Entry) (new : List Entry) : Type 0 where
+  -- one more
   pub count : length new ≡ length old + 1
+  -- and what counts for it
   pub memory : memory_of_entries new ≡ memory_of_entries old + 64 + length (entry_key entry)
 
 -- these entries more, and as much more memory as counts for each
 pub record GrowsByAll (old more new : List Entry) : Type 0 where
+  -- so many more
   pub count : length new ≡ length old + length more
+  -- and what counts for each
   pub memory : memory_of_entries new ≡ memory_of_entries old
       + (64 * length more + sum_by (λ entry. length (entry_key entry)) more)
 
 -- these entries have come, and each took one place
 pub record AddsAll (old : Kept) (more : List Entry) (new : Kept) : Type 0 where
+  -- the entries are the old ones and these
   pub gains : IsUnion old.entries more new.entries
+  -- they count as so many, and as so much memory
   pub grows : GrowsByAll old.entries more new.entries
+  -- each took one place
   pub places : old.places ≡ new.places + length more
 
 -- ---- what calls return and leave
@@ -179,24 +197,33 @@ FailsToNumber kept count bytes status =
 -- what taking memory for items returns and leaves
 pub record PrepareResult (old : Kept) (items : List Item) (result : Result (Unit {0}) Status)
     (new : Kept) : Type 0 where
+  -- the entries stay
   pub entries : new.entries ≡ old.entries
+  -- an Ok has room for the items
   pub ok : OnOk result (HasRoom new items)
+  -- and for no more than these, or than there was room for
   pub made : OnOk result (new.places ≡ max old.places (length items))
   -- an error leaves the room
   pub places : OnErr result (new.places ≡ old.places)
+  -- and so for bytes
   pub bytes : OnErr result (old.bytes ≤ new.bytes)
+  -- why it failed
   pub cause : IfErr result (FailsToPrepare old (length items) (bytes_in items))
 
 -- what making room for `count` entries with `bytes` bytes returns and leaves
 pub record ReserveResult (old : Kept) (count bytes : ℕ) (result : Result (Unit {0}) Status)
     (new : Kept) : Type 0 where
+  -- the entries stay
   pub entries : new.entries ≡ old.entries
+  -- an Ok has the room
   pub ok : OnOk result ((new.places ≡ max old.places count) × (bytes ≤ new.bytes))
   -- room for as many is only added to
   pub room : count ≤ old.places → (new.places ≡ old.places) × (old.bytes ≤ new.bytes)
   -- an error leaves the room
   pub places : OnErr result (new.places ≡ old.places)
+  -- and so for bytes
   pub kept_bytes : OnErr result (old.bytes ≤ new.bytes)
+  -- why it failed
   pub cause : IfErr result (FailsToNumber old count bytes)
 
 -- what adding an entry returns and leaves
@@ -204,10 +231,13 @@ pub record AddResult (old : Kept) (entry : Entry) (result : Result (Unit {0}) St
     : Type 0 where
   -- no entry had its key and sequence, and it has come
   pub absent : OnOk result (IsNewTo old.entries entry.sequence entry.key)
+  -- the entries are the old ones and this one
   pub ok : OnOk result (IsUnion old.entries (entry ∷ []) new.entries)
+  -- one more, with the memory that counts for it
   pub grows : OnOk result (Grows old.entries entry new.entries)
   -- an error leaves the entries, and room for what there was room for
   pub err : OnErr result (new.entries ≡ old.entries)
+  -- what there was room for has room still
   pub room : OnErr result (KeepsRoom old new)
   -- an entry had its key and sequence, or no memory was taken
   pub cause : IfErr result (λ status.
@@ -218,10 +248,15 @@ pub record AddResult (old : Kept) (entry : Entry) (result : Result (Unit {0}) St
 pub record PutResult (old : Kept) (entry : Entry) (has_come : Bool) (new : Kept) : Type 0 where
   -- no entry had its key and sequence
   pub absent : OnTrue has_come (IsNewTo old.entries entry.sequence entry.key)
+  -- it has come, and took one place
   pub adds : OnTrue has_come (AddsEntry old entry new)
+  -- one more, with the memory that counts for it
   pub grows : OnTrue has_come (Grows old.entries entry new.entries)
   -- one had, and all stays
   pub present : OnFalse has_come (IsNewTo old.entries entry.sequence entry.key → ⊥)
+  -- the entries
   pub entries : OnFalse has_come (new.entries ≡ old.entries)
+  -- the room for entries
   pub places : OnFalse has_come (new.places ≡ old.places)
+  -- and the room for bytes
   pub bytes : OnFalse has_come (old.bytes ≤ new.bytes)

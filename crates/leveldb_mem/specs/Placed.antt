@@ -15,11 +15,17 @@ use Rattle.leveldb_base.specs.Types.{Pair}
 -- pairs, what comes after them of a pair that is to come, room for `places` pairs and `bytes`
 -- bytes, and the nodes of the pairs, in their order, among the words
 pub record Placed : Type 0 where
+  -- the pairs, in order
   pub pairs : List Pair
+  -- what there is in the text of a pair that is to come
   pub tail : List ℕ
+  -- for how many more pairs there is room
   pub places : ℕ
+  -- and for how many bytes in the text
   pub bytes : ℕ
+  -- the nodes of the pairs, in order
   pub order : List ℕ
+  -- the words in which the nodes are
   pub words : List ℕ
 
 -- the first node, which has no pair
@@ -92,8 +98,11 @@ AreLinkedAt words height (node ∷ nodes) = (link words height node ≡ first_of
 
 -- two nodes share no word
 pub record IsApart (words : List ℕ) (a b : ℕ) : Type 0 where
+  -- they are two
   pub other : a ≢ b
+  -- the tower of the lower one ends before the four words of the other
   pub before : a < b → a + tower words a + 4 ≤ b
+  -- the same the other way round
   pub after : b < a → b + tower words b + 4 ≤ a
 
 -- nor do any two of these
@@ -103,18 +112,27 @@ AreApart words (node ∷ nodes) = All (IsApart words node) nodes × AreApart wor
 
 -- the node is within the words and cuts the text before this offset
 pub record IsNode (words : List ℕ) (end node : ℕ) : Type 0 where
+  -- four words come before it
   pub low : 4 ≤ node
+  -- it has a link at least
   pub linked : 0 < tower words node
+  -- and no more than there are heights
   pub limited : tower words node ≤ most_height
+  -- its links are within the words
   pub within : node + tower words node ≤ length words
+  -- its value ends before the offset
   pub cut : value_end words node ≤ end
 
 -- A skip list with these nodes, in order: at each height those whose towers are high enough are
 -- linked.
 pub record IsSkipList (words : List ℕ) (end : ℕ) (nodes : List ℕ) : Type 0 where
+  -- the head has all links
   pub high : tower words head ≡ most_height
+  -- each node is within the words and the text
   pub valid : All (IsNode words end) (head ∷ nodes)
+  -- no two share a word
   pub apart : AreApart words (head ∷ nodes)
+  -- each height links the nodes that are high enough, in order
   pub levels : (height : ℕ) → height < most_height
       → AreLinkedAt words height (level words height (head ∷ nodes))
 
@@ -131,7 +149,9 @@ rank (first ∷ nodes) node = if nat_eq first node then 0 else suc (rank nodes n
 
 -- the node is at this index of the list, or is 0 where the list ends before it
 pub record IsAt (nodes : List ℕ) (index node : ℕ) : Type 0 where
+  -- a node that is there has this rank
   pub there : index < length nodes → (rank nodes node ≡ index) × (0 < node)
+  -- and 0 is past the end
   pub none : length nodes ≤ index → node ≡ 0
 
 -- the index of the pair that a new node with this path comes to
@@ -145,11 +165,17 @@ bytes_of pairs = sum_by (λ pair. length pair.0 + length pair.1) pairs
 -- What a map's pairs are: the head is there before the first node, and the pairs fill the text up
 -- to its end.
 pub record IsLaid (text words last : List ℕ) (count end : ℕ) : Type 0 where
+  -- the end is within the text
   pub within : end ≤ length text
+  -- no words, no pairs
   pub none : length words ≡ 0 → count ≡ 0
+  -- there are no more pairs than words
   pub counted : count ≤ length words
+  -- the nodes after the head are a skip list
   pub linked : 0 < length words → IsSkipList words end (nodes_after words head count)
+  -- the last node of each height is known, after which a rising key comes
   pub lasts : IsPathTo words last most_height (nodes_after words head count)
+  -- keys and values fill the text up to the end
   pub filled : bytes_of (pairs_of_nodes text words (nodes_after words head count)) ≡ end
 
 -- ---- room
@@ -168,13 +194,20 @@ FailsToReserve pairs count bytes status =
 -- what making room for `count` pairs with `size` bytes returns and leaves
 pub record MakesRoomForPairs (old : Placed) (count size : ℕ) (result : Result (Unit {0}) Status)
     (new : Placed) : Type 0 where
+  -- the pairs stay
   pub pairs : new.pairs ≡ old.pairs
+  -- and their nodes
   pub order : new.order ≡ old.order
+  -- a path to a node is one still
   pub paths : (path : List ℕ) (at : ℕ) → IsPathTo old.words path 12 (take at old.order)
       → IsPathTo new.words path 12 (take at new.order)
+  -- what there is of a pair to come stays
   pub tail : new.tail ≡ old.tail
+  -- an Ok has the room
   pub ok : OnOk result ((new.places ≡ count) × (size ≤ new.bytes) × (size < 2 ^ 32))
   -- an error leaves the room
   pub err : OnErr result (new.places ≡ old.places)
+  -- room for bytes is only added to
   pub bytes : old.bytes ≤ new.bytes
+  -- why it failed
   pub cause : IfErr result (FailsToReserve old.pairs count (length old.tail + size))

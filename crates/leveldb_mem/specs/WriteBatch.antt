@@ -17,7 +17,9 @@ item_of key value = record { key = key; value = value }
 
 -- changes in order, and the number of the first of them
 pub record Batch : Type 0 where
+  -- the number of the first
   pub first : ℕ
+  -- the changes
   pub items : List Item
 
 -- the batch of these changes, whose first entry has this number
@@ -50,8 +52,11 @@ max_length = 2 ^ 30
 -- the bytes are these items, the first at this number, within the limit, which keeps keys and
 -- values within it too
 pub record BatchOf (bytes : List ℕ) (first : ℕ) (items : List Item) : Type 0 where
+  -- they are the encoding
   pub encoded : bytes ≡ batch_bytes first items
+  -- the number has 64 bits
   pub numbered : first < 2 ^ 64
+  -- and the bytes are within the limit
   pub limited : length bytes ≤ max_length
 
 -- the bytes are some batch
@@ -65,12 +70,14 @@ IsTooLong batch = max_length < length (batch_bytes batch.first batch.items)
 -- what adding a change to a batch returns, and what it leaves
 pub record AddChangeResult (old : Batch) (item : Item) (result : Result (Unit {0}) Status)
     (new : Batch) : Type 0 where
+  -- an Ok has one change more
   pub ok : OnOk result (new ≡ with_item old item)
   -- an error leaves the batch
   pub err : OnErr result (new ≡ old)
   -- a change for which there is no room is an error, and no other is `InvalidArgument`
   pub too_long : IsErrAnd result (λ status. status.code ≡ InvalidArgument)
       ↔ IsTooLong (with_item old item)
+  -- past the limit, or out of memory
   pub cause : IfErr result (λ status. (status.code ≡ InvalidArgument) ⊎ IsOutOfMemory status)
 
 -- key and value are within the limit

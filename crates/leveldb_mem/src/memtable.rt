@@ -43,6 +43,7 @@ const MOST_BESIDE: usize = 28;
 /// Entries, each with a key and a sequence number that no other has, and room for those of a batch.
 #[derive(Drop)]
 pub struct MemTable<C: Cmp> {
+    // the memtable key of each entry, with no value
     map: SkipMap<MemtableKeyCmp<C>>,
 }
 

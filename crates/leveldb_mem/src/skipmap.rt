@@ -35,6 +35,7 @@ const SEED: u64 = 0xdeadbeef;
 pub struct SkipMap<C: Cmp> {
     cmp: C,
     pairs: PlacedPairs,
+    // what the heights of towers are drawn from
     rng: Xoshiro256PlusPlus,
 }
 
@@ -163,7 +164,8 @@ impl<C: Cmp> SkipMap<C> {
     /// The first node.
     #[inline]
     pub(crate) fn first(&self) -> Option<usize>
-        ensures position { position_of_node self.now.nodes result ≡ position_within self.now.pairs 0 }
+        ensures position { position_of_node self.now.nodes result
+            ≡ position_within self.now.pairs 0 }
         ensures within { ForSome result (HasNode self.now.nodes self.now.pairs) }
     {
         if self.pairs.len() == 0 {
@@ -335,6 +337,7 @@ fn as_node(node: usize) -> Option<usize>
 #[derive(Drop)]
 pub struct SkipMapIter<'a, C: Cmp> {
     map: &'a SkipMap<C>,
+    // the node of the current pair
     node: Option<usize>,
     ghost within: { ForSome node (HasNode map.now.nodes map.now.pairs) },
 }

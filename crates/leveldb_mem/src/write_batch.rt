@@ -50,6 +50,7 @@ const VALUE: u8 = ValueType::TypeValue as u8;
 /// A batch has at most 2^30 bytes.
 #[derive(Debug, Drop)]
 pub struct WriteBatch {
+    // all its bytes, the number and the count at the front too
     entries: Vec<u8>,
     ghost is_batch: { IsBatch entries.items } by { IsBatch-prop entries.items },
 }
@@ -225,6 +226,7 @@ impl WriteBatch {
 /// The changes of a batch that are left to walk over, borrowed from it.
 #[derive(Debug, Drop)]
 pub struct WriteBatchIter<'a> {
+    // the bytes of these changes
     entries: &'a [u8],
     ghost are_entries: { AreChanges entries.now } by { AreChanges-prop entries.now },
 }
@@ -257,7 +259,7 @@ impl<'a> Iterator for WriteBatchIter<'a> {
 fn replace(entries: &mut Vec<u8>, bytes: &[u8]) -> Result<()>
     ensures ok { OnOk result (entries.new.items ≡ bytes.now) }
     ensures err { OnErr result (entries.new.items ≡ entries.old.items) }
-    ensures memory { IfErr result IsOutOfMemory }
+    ensures cause { IfErr result IsOutOfMemory }
 {
     entries.reserve(bytes.len().saturating_sub(entries.len()))?;
     entries.clear();

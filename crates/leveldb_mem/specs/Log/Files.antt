@@ -25,16 +25,23 @@ module _ {E F : Type 0} (env : Ghosts E F) where
   -- and this end.
   pub record IsReadAsLog (old : Opened E F) (records : List (List ℕ)) (end : End)
       (new : Opened E F) : Type 0 where
+    -- what was read
     pub bytes : List ℕ
+    -- the file is after it
     pub further : IsFurther env old bytes new
+    -- and what came next in the file is this log
     pub log : IsTrue env.models_disk → IfSome (opened_file env old) (λ file.
         LogOf true log_block_size records end 0 (drop (env.offset_of old.file) (bytes_of file)))
 
   -- the file was read further on, and gave 2^64 bytes of one record
   pub record IsReadTooFar (old : Opened E F) (status : Status) (new : Opened E F) : Type 0 where
+    -- `NotSupported`
     pub code : status.code ≡ NotSupported
+    -- what was read
     pub bytes : List ℕ
+    -- the file is after it
     pub further : IsFurther env old bytes new
+    -- it has 2^64 bytes at least
     pub many : 2 ^ 64 ≤ length bytes
 
   -- the reading of the file as a log stopped with this error

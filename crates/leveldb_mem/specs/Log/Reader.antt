@@ -41,12 +41,16 @@ NeverBreaks size first offset bytes = (front more : List ℕ) → bytes ≡ fron
 
 -- from this offset on the bytes are no record, for another cause than a wrong checksum
 pub record IsTorn (checked : Bool) (size offset : ℕ) (bytes : List ℕ) : Type 0 where
+  -- they are no record
   pub ends : Ends checked size bad offset bytes
+  -- and where checksums are asked for, none is wrong
   pub never_breaks : checked ≡ true → NeverBreaks size true offset bytes
 
 -- the error of a fragment with a wrong checksum
 pub record IsWrongChecksum (status : Status) : Type 0 where
+  -- `Corruption`
   pub code : status.code ≡ Corruption
+  -- with this text, where there was memory for one
   pub text : IfSome status.err (λ text. string_bytes text ≡ codes "Corruption: Invalid Checksum")
 
 -- the end of a log by damage
@@ -58,8 +62,11 @@ module _ {S : Type 0} where
   -- first these bytes come that are still to be read, and then what reads of the source gave
   pub record IsUnreadThenGiven (Gives : S → List ℕ → S → Type 0) (unread : List ℕ) (source : S)
       (bytes : List ℕ) (to : S) : Type 0 where
+    -- what the source gave
     pub given : List ℕ
+    -- in reads that led to this source
     pub reads : Gives source given to
+    -- the bytes are what was still to be read, and then these
     pub bytes_are : bytes ≡ unread ++ given
 
 module _ {S : Type 0} (gives : S → ℕ → Result (List ℕ) Status → S → Type 0) where
@@ -73,9 +80,13 @@ module _ {S : Type 0} (gives : S → ℕ → Result (List ℕ) Status → S → 
 
   -- reads gave 2^64 bytes of one record, whose fragments aren't counted further
   pub record GivesTooMuch (from : S) (status : Status) (to : S) : Type 0 where
+    -- `NotSupported`
     pub code : status.code ≡ NotSupported
+    -- what reads gave
     pub bytes : List ℕ
+    -- up to this source
     pub given_before : GivesSome gives from bytes to
+    -- it has 2^64 bytes at least
     pub many : 2 ^ 64 ≤ length bytes
 
   -- why a reading stops before it finds what comes next
@@ -85,23 +96,34 @@ module _ {S : Type 0} (gives : S → ℕ → Result (List ℕ) Status → S → 
   -- a record comes next, and was read
   pub record FindsRecord (old : ReaderState) (source : S) (text : List ℕ) (new : ReaderState)
       (to : S) : Type 0 where
+    -- the record's bytes
     pub front : List ℕ
+    -- they come, and what the reader still has to read comes after them
     pub come : IsUnreadThenGiven (GivesSome gives) old.unread source (front ++ new.unread) to
+    -- they are this record
     pub is_record : IsRecord old.checked old.size text old.offset front
+    -- the reader is after it
     pub reader : new ≡ after_front old front new.unread
 
   -- nothing comes
   pub record FindsEnd (old : ReaderState) (source : S) (new : ReaderState) (to : S) : Type 0 where
+    -- nothing is still to be read, and the source is at its end
     pub come : IsUnreadThenGiven (GivesAll gives) old.unread source [] to
+    -- the reader is as it was
     pub reader : new ≡ old
 
   -- what comes next breaks off with a wrong checksum, and the fragment that has it was passed
   pub record FindsWrongChecksum (old : ReaderState) (source : S) (new : ReaderState) (to : S)
       : Type 0 where
+    -- the bytes up to the end of the fragment with the wrong checksum
     pub front : List ℕ
+    -- checksums are asked for
     pub asked : old.checked ≡ true
+    -- they come, and what the reader still has to read comes after them
     pub come : IsUnreadThenGiven (GivesSome gives) old.unread source (front ++ new.unread) to
+    -- a record breaks off in them
     pub breaks : BreaksOff old.size true old.offset front
+    -- the reader is after them
     pub reader : new ≡ after_front old front new.unread
 
   -- what comes next, by what was found
@@ -135,6 +157,7 @@ module _ {S : Type 0} (gives : S → ℕ → Result (List ℕ) Status → S → 
     pub found : IfOk result (λ count. 0 < count → FindsRecord old source text new to)
     -- or there is no further one
     pub end : result ≡ Ok 0 → FindsEnd old source new to
+    -- an Err has one of these causes
     pub err : old.failed ≡ false → IfErr result (λ status. FailsToRead old source status new to)
     -- a reader that has failed does nothing
     pub failed : old.failed ≡ true → IsErrAnd result (λ status. status.code ≡ Corruption)
@@ -146,17 +169,26 @@ module _ {S : Type 0} (gives : S → ℕ → Result (List ℕ) Status → S → 
   -- comes after them.
   pub record ReadSoFar (checked : Bool) (size : ℕ) (from : S) (records : List (List ℕ))
       (now : ReaderState) (at : S) : Type 0 where
+    -- the bytes of the records
     pub front : List ℕ
+    -- the source gave them, and then what the reader still has to read
     pub come : IsUnreadThenGiven (GivesSome gives) [] from (front ++ now.unread) at
+    -- they are a log of these records
     pub log : LogOf checked size records clean 0 front
+    -- the reader is after them
     pub reader : now ≡ after_front (new_reader checked size) front now.unread
 
 -- ---- how the block is held
 
 -- what was read of the block comes before what is there of it, and that within the block
 pub record IsReaderBuffer (size used filled held : ℕ) : Type 0 where
+  -- of a size that a reader takes
   pub block : IsBlockSize size
+  -- what was read ends within the block
   pub inside : used < size
+  -- it was there to be read
   pub read : used ≤ filled
+  -- what is there is in the buffer
   pub there : filled ≤ held
+  -- the buffer is no longer than a block
   pub whole : held ≤ size

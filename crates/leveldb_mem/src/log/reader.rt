@@ -57,12 +57,16 @@ enum Taken {
 /// It holds one block at most.
 #[derive(Drop)]
 pub struct ReaderCore {
+    // whether it asks for right checksums
     check_crcs: bool,
     block_size: usize,
-    // The block that is read, up to `filled`; what is read of it goes up to `used`.
+    // the block that is read, in a buffer that may be longer than what there is of it
     block: Vec<u8>,
+    // how many of its bytes there are
     filled: usize,
+    // how many of these are read
     used: usize,
+    // whether a later call is `Corruption`
     failed: bool,
 }
 
@@ -341,7 +345,7 @@ impl ReaderCore {
         requires there { 7 + count ≤ length self.old.unread }
         ensures ok { IfOk result (λ taken.
             PassesFragment taken self.old target.old.items self.new target.new.items) }
-        ensures memory { IfErr result IsOutOfMemory }
+        ensures cause { IfErr result IsOutOfMemory }
     {
         let (fragment, _) = self.unread().split_at(HEADER_SIZE + count);
         if self.check_crcs && !has_right_checksum(fragment) {
@@ -412,7 +416,7 @@ fn make_long(bytes: &mut Vec<u8>, size: usize) -> Result<()>
     ensures kept { (n : ℕ) → n ≤ vec_len bytes.old
         → take n bytes.new.items ≡ take n bytes.old.items }
     ensures most { vec_len bytes.old ≤ vec_len bytes.new × (vec_len bytes.new ≤ size) }
-    ensures memory { IfErr result IsOutOfMemory }
+    ensures cause { IfErr result IsOutOfMemory }
 {
     if bytes.len() < size {
         bytes.resize(size, 0)?;

@@ -17,9 +17,11 @@ use std::marker::Model;
 #[derive(Drop)]
 pub struct WriterCore {
     block_size: usize,
+    // the offset in its block of what is written next
     offset: usize,
+    // whether its sink has failed
     broken: bool,
-    // The framing of one record.
+    // the framing of one record
     frame: Vec<u8>,
 }
 
@@ -135,7 +137,7 @@ fn put_framing(dst: &mut Vec<u8>, block_size: usize, offset: usize, text: &[u8])
     requires some { text.now ≢ [] }
     ensures ok { OnOk result
         (dst.new.items ≡ dst.old.items ++ framed_record block_size text.now offset) }
-    ensures memory { IfErr result IsOutOfMemory }
+    ensures cause { IfErr result IsOutOfMemory }
 {
     let mut offset = offset;
     let mut first = true;
@@ -163,7 +165,7 @@ fn put_fragment(
     requires fits { length part.now ≤ room block_size offset }
     ensures ok { OnOk result (dst.new.items
         ≡ dst.old.items ++ fragment_at block_size (fragment_of kind part.now) offset) }
-    ensures memory { IfErr result IsOutOfMemory }
+    ensures cause { IfErr result IsOutOfMemory }
 {
     put_filler(dst, block_size, offset)?;
     dst.extend_from_slice(&header_of(kind, part))?;
@@ -176,7 +178,7 @@ fn put_filler(dst: &mut Vec<u8>, block_size: usize, offset: usize) -> Result<()>
     requires size { IsBlockSize block_size }
     requires inside { offset < block_size }
     ensures ok { OnOk result (dst.new.items ≡ dst.old.items ++ filler block_size offset) }
-    ensures memory { IfErr result IsOutOfMemory }
+    ensures cause { IfErr result IsOutOfMemory }
 {
     let space = block_size - offset;
     if space < HEADER_SIZE {

@@ -35,6 +35,7 @@ impl<'a, C: Cmp> Probe for AtInternalKey<'a, C> {
 #[derive(Drop)]
 pub struct MemtableIterator<'a, C: Cmp> {
     pub(crate) table: &'a MemTable<C>,
+    // the node of the current entry
     pub(crate) node: Option<usize>,
     ghost within: { ForSome node
         (HasNode table.now.nodes (map internal_pair table.now.kept.entries)) },

@@ -26,17 +26,22 @@ const LIMIT: usize = u32::MAX as usize;
 /// At each height the last node before some position.
 pub(crate) type Path = [u32; MAX_HEIGHT];
 
-/// Pairs in order. `text` up to `end` is their keys and values, and after that comes what there is
-/// of a pair to come. `words` are the nodes, with the head as the first, and `last` the last of
-/// them at each height.
+/// Pairs in order, as nodes of a skip list, with their keys and values in one text.
 #[derive(Debug, Drop)]
 pub(crate) struct PlacedPairs {
+    // keys and values, and after them what there is of a pair to come
     text: Vec<u8>,
+    // the nodes, with the head as the first
     words: Vec<u32>,
+    // the last node of each height
     last: Path,
+    // how many pairs there are
     count: usize,
+    // where the keys and values end in the text
     end: usize,
+    // for how many more pairs there is room
     places: usize,
+    // and for how many bytes in the text
     room: usize,
 }
 
@@ -49,7 +54,8 @@ impl Model for PlacedPairs {
     ghost use Rattle.leveldb_mem.specs.Placed.{head, pairs_of_nodes, nodes_after, IsLaid};
 
     ghost view = { λ it. record {
-      pairs = pairs_of_nodes it.text.items it.words.items (nodes_after it.words.items head it.count);
+      pairs = pairs_of_nodes it.text.items it.words.items
+          (nodes_after it.words.items head it.count);
       tail = drop it.end it.text.items;
       places = it.places;
       bytes = it.room;

@@ -9,7 +9,7 @@ use Rattle.leveldb_mem.proofs.log.reader.ReaderCore.fill.Goals as goal
 pub returns-in_err-make_long-clause-err : goal.returns-in_err-make_long-clause-err
 returns-in_err-make_long-clause-err g c =
     let p = err_from_is_err_and c.from_residual.result c.from_residual.ensures.1 in
-    rw (p.1, p.2) (wants_memory g.S.Source.gives c.args.source.now _ c.in_err-make_long.ensures.memory)
+    rw (p.1, p.2) (wants_memory g.S.Source.gives c.args.source.now _ c.in_err-make_long.ensures.cause)
 
 pub returns-clause-there : goal.returns-clause-there
 returns-clause-there g c = λ there.

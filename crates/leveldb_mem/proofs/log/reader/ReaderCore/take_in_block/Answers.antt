@@ -61,4 +61,4 @@ returns-clause-err g c =
     let there = c.in_ok-fill.ensures.there c.if-not-branch.false in
     let more = c.in_ok-fill-2.ensures.there c.if-not-branch-2.false in
     IfErr-weaker c.pass_fragment.result IsOutOfMemory (λ status. GivesUp g.S.Source.gives c.args.source.now status c.fill-2.new.source)
-    (λ status memory. GivesUp-after g.S.Source.gives there.0.reads (GivesUp-after g.S.Source.gives more.0.reads (wants_memory g.S.Source.gives c.fill-2.new.source status memory))) c.pass_fragment.ensures.memory
+    (λ status memory. GivesUp-after g.S.Source.gives there.0.reads (GivesUp-after g.S.Source.gives more.0.reads (wants_memory g.S.Source.gives c.fill-2.new.source status memory))) c.pass_fragment.ensures.cause
