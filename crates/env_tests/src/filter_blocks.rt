@@ -3,6 +3,7 @@ ghost use Rattle.std.specs.Prelude.{◌≡◌, ◌<◌, ◌≤◌, ◌*◌, ◌/
 ghost use Rattle.std.specs.List.{concat};
 ghost use Rattle.leveldb_base.specs.Error.{IsOutOfMemory};
 ghost use Rattle.leveldb_env.specs.Filter.{keys_at};
+ghost use Rattle.leveldb_env.specs.FilterBlock.{IsKeyKept};
 
 use crate::checks::failed_with;
 use leveldb_base::error::{Result, StatusCode, err};
@@ -129,16 +130,25 @@ fn estimate_at(builder: &mut FilterBlockBuilder<JoinedKeys>, offset: usize) -> R
     Ok(builder.size_estimate())
 }
 
+/// The estimates before any block, once one begins at 0, once it has keys, and once blocks begin at
+/// 5000 and at 6143.
+fn estimates_of(builder: &mut FilterBlockBuilder<JoinedKeys>) -> Result<[usize; 5]>
+    requires { length builder.old.filters ≡ 0 }
+{
+    let before = builder.size_estimate();
+    let begun = estimate_at(builder, 0)?;
+    add_keys(builder)?;
+    let added = builder.size_estimate();
+    let made = estimate_at(builder, 5000)?;
+    let again = estimate_at(builder, 6143)?;
+    Ok([before, begun, added, made, again])
+}
+
 /// Keys count once their filter is made.
 #[test]
 fn estimates(rt: HostRuntime) -> Result<()> {
     let mut builder = FilterBlockBuilder::new(rt.alloc(), POLICY);
-    assert!(rt; builder.size_estimate() == 5);
-    assert!(rt; estimate_at(&mut builder, 0)? == 5);
-    add_keys(&mut builder)?;
-    assert!(rt; builder.size_estimate() == 5);
-    assert!(rt; estimate_at(&mut builder, 5000)? == 39);
-    assert!(rt; estimate_at(&mut builder, 6143)? == 39);
+    assert!(rt; estimates_of(&mut builder)? == [5, 5, 5, 39, 39]);
     Ok(())
 }
 
@@ -269,6 +279,27 @@ fn too_large(rt: HostRuntime) -> Result<()> {
     Ok(())
 }
 
+/// Adds a key of a block at `offset`, another of the same block, and one of a block at `next`.
+fn add_and_go_on<FP: FilterPolicy>(
+    builder: &mut FilterBlockBuilder<FP>,
+    offset: usize,
+    next: usize,
+    key: &[u8],
+) -> Result<()>
+    requires first { 2048 * length builder.old.filters ≤ offset }
+    requires order { offset ≤ next }
+    ensures policy { OnOk result (builder.new.policy ≡ builder.old.policy) }
+    ensures kept { OnOk result (IsKeyKept (FP.matches builder.new.policy)
+        builder.new.filters builder.new.keys offset key.now) }
+{
+    builder.start_block(offset)?;
+    builder.add_key(key)?;
+    builder.add_key(b"another")?;
+    builder.start_block(next)?;
+    builder.add_key(b"next")?;
+    Ok(())
+}
+
 /// A key of those that a block has, looked for in the finished filter block under any policy.
 fn is_found<FP: FilterPolicy + Copy + Drop>(
     alloc: Global,
@@ -281,11 +312,7 @@ fn is_found<FP: FilterPolicy + Copy + Drop>(
     ensures { IfOk result (λ found. found ≡ true) }
 {
     let mut builder = FilterBlockBuilder::new(alloc, policy);
-    builder.start_block(offset)?;
-    builder.add_key(key)?;
-    builder.add_key(b"another")?;
-    builder.start_block(next)?;
-    builder.add_key(b"next")?;
+    add_and_go_on(&mut builder, offset, next, key)?;
     let block = builder.finish()?;
     let reader = FilterBlockReader::new_owned(alloc, policy, block)?;
     Ok(reader.key_may_match(offset, key))
@@ -309,13 +336,20 @@ const BLOOM_BLOCK: [u8; 51] = [
     0, 0, 0, 34, 0, 0, 0, 11,
 ];
 
+/// Adds the keys of two blocks, at 0 and at 5000.
+fn add_two_blocks(builder: &mut FilterBlockBuilder<BloomPolicy>) -> Result<()>
+    requires { length builder.old.filters ≡ 0 }
+{
+    builder.start_block(0)?;
+    add_keys(builder)?;
+    builder.start_block(5000)?;
+    add_keys(builder)
+}
+
 #[test]
 fn bloom_block(rt: HostRuntime) -> Result<()> {
     let mut builder = FilterBlockBuilder::new(rt.alloc(), BloomPolicy::new(32));
-    builder.start_block(0)?;
-    add_keys(&mut builder)?;
-    builder.start_block(5000)?;
-    add_keys(&mut builder)?;
+    add_two_blocks(&mut builder)?;
     assert!(rt; builder.finish()?.as_slice() == BLOOM_BLOCK.as_slice());
     Ok(())
 }

@@ -30,13 +30,26 @@ fn show(
     )
 }
 
+/// Appends each of these names in this way.
+fn show_each(
+    text: &mut Vec<u8>,
+    env: &mut MemEnv,
+    left: &mut MemEnv,
+    alloc: Global,
+    names: &[String],
+) -> Result<()> {
+    for name in names {
+        show(text, env, left, alloc, name.as_str())?;
+    }
+    Ok(())
+}
+
 /// Each name with what a crash keeps of its file, a bar and what was appended since.
 fn shown(env: &mut MemEnv, alloc: Global) -> Result<Vec<u8>> {
     let mut left = env.crashed(alloc, &no_tails(alloc, false))?;
+    let names = names_of(env, alloc)?;
     let mut text = Vec::with_capacity(alloc, 64)?;
-    for name in &names_of(env, alloc)? {
-        show(&mut text, env, &mut left, alloc, name.as_str())?;
-    }
+    show_each(&mut text, env, &mut left, alloc, &names)?;
     Ok(text)
 }
 
@@ -162,13 +175,17 @@ fn leaves(env: &MemEnv, alloc: Global, tails: Tails, files: &str) -> Result<bool
     Ok(left.micros()? == 7 && are_shown(&mut left, alloc, files.as_bytes())?)
 }
 
+fn assert_left(rt: &(impl Abort + AllocGlobal), env: &MemEnv) -> Result<()> {
+    for (tails, files) in &PICKED {
+        assert!(rt; leaves(env, rt.alloc(), tails, files)?, "{files}");
+    }
+    Ok(())
+}
+
 #[test]
 fn a_crash_leaves_each_tail_that_is_picked(rt: HostRuntime) -> Result<()> {
     let env = torn(rt.alloc())?;
-    for (tails, files) in &PICKED {
-        assert!(rt; leaves(&env, rt.alloc(), tails, files)?, "{files}");
-    }
-    Ok(())
+    assert_left(&rt, &env)
 }
 
 const NOT_LEFT: [Tails; 6] = [
@@ -180,15 +197,23 @@ const NOT_LEFT: [Tails; 6] = [
     &[("c", "1"), ("b", "1"), ("c", "1")],
 ];
 
+/// Whether no crash leaves these tails.
+fn is_never_left(env: &MemEnv, alloc: Global, tails: Tails) -> Result<bool> {
+    let pick = pick_of(alloc, tails)?;
+    failed_with(env.crashed(alloc, &pick), InvalidArgument)
+}
+
+fn assert_never_left(rt: &(impl Abort + AllocGlobal), env: &MemEnv) -> Result<()> {
+    for tails in &NOT_LEFT {
+        assert!(rt; is_never_left(env, rt.alloc(), tails)?, "{tails:?}");
+    }
+    Ok(())
+}
+
 #[test]
 fn a_crash_leaves_no_other(rt: HostRuntime) -> Result<()> {
     let env = torn(rt.alloc())?;
-    for tails in &NOT_LEFT {
-        let pick = pick_of(rt.alloc(), tails)?;
-        let answer = env.crashed(rt.alloc(), &pick);
-        assert!(rt; failed_with(answer, InvalidArgument)?, "{tails:?}");
-    }
-    Ok(())
+    assert_never_left(&rt, &env)
 }
 
 const LOG: &str = "db/000003.log";
@@ -232,14 +257,34 @@ fn are_listed(env: &mut MemEnv, alloc: Global, folder: &str, names: &[&str]) -> 
     Ok(are_names(&children, names))
 }
 
+/// Whether the file of nine bytes is there, and its folder is no file.
+fn has_nine(env: &mut MemEnv) -> Result<bool> {
+    Ok(env.size_of(LOG)? == 9 && env.exists(LOG)? && !env.exists("db")?)
+}
+
+#[test]
+fn a_file_has_a_size(rt: HostRuntime) -> Result<()> {
+    let mut env = MemEnv::new(rt.alloc());
+    open_nine(&mut env)?;
+    assert!(rt; has_nine(&mut env)?);
+    Ok(())
+}
+
+const MORE_FILES: [&str; 4] = ["db/CURRENT", "db/deeper/x", "db2/y", "dbz"];
+
+/// Makes the file of nine bytes and the others.
+fn open_all(env: &mut MemEnv) -> Result<()> {
+    open_nine(env)?;
+    for name in &MORE_FILES {
+        env.open_appendable_file(name)?;
+    }
+    Ok(())
+}
+
 #[test]
 fn files_are_listed(rt: HostRuntime) -> Result<()> {
     let mut env = MemEnv::new(rt.alloc());
-    open_nine(&mut env)?;
-    assert!(rt; env.size_of(LOG)? == 9 && env.exists(LOG)? && !env.exists("db")?);
-    for name in ["db/CURRENT", "db/deeper/x", "db2/y", "dbz"] {
-        env.open_appendable_file(name)?;
-    }
+    open_all(&mut env)?;
     assert!(rt; are_listed(&mut env, rt.alloc(), "db", &["000003.log", "CURRENT"])?);
     assert!(rt; are_listed(&mut env, rt.alloc(), "none", &[])?);
     Ok(())

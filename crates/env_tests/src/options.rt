@@ -5,6 +5,7 @@ use leveldb_base::error::StatusCode::{InvalidArgument, NotSupported, OK};
 use leveldb_base::error::{Result, StatusCode};
 use leveldb_env::env::Env;
 use leveldb_env::filter::{BloomPolicy, FilterPolicy};
+use leveldb_env::mem_env::MemEnv;
 use leveldb_env::options::{Options, for_test, in_memory};
 use std::alloc::Global;
 
@@ -85,11 +86,21 @@ fn limits(rt: HostRuntime) {
     assert!(rt; Options::default().check(rt.alloc()).is_ok());
 }
 
+/// Whether the sizes are those of the default, and the disk that comes with them is empty.
+fn are_fresh(disk: &mut MemEnv, options: &Options<DefaultCmp, BloomPolicy>) -> Result<bool> {
+    Ok(sizes_of(options) == sizes_of(&Options::default()) && !disk.exists("a")?)
+}
+
 #[test]
-fn options_with_a_disk(rt: HostRuntime) -> Result<()> {
+fn options_in_memory(rt: HostRuntime) -> Result<()> {
     let (mut disk, options) = in_memory(rt.alloc());
-    assert!(rt; sizes_of(&options) == sizes_of(&Options::default()) && !disk.exists("a")?);
-    let (mut other, others) = for_test(rt.alloc());
-    assert!(rt; sizes_of(&options) == sizes_of(&others) && !other.exists("a")?);
+    assert!(rt; are_fresh(&mut disk, &options)?);
+    Ok(())
+}
+
+#[test]
+fn options_for_tests(rt: HostRuntime) -> Result<()> {
+    let (mut disk, options) = for_test(rt.alloc());
+    assert!(rt; are_fresh(&mut disk, &options)?);
     Ok(())
 }

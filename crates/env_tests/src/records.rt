@@ -42,15 +42,21 @@ fn show(
     show_file(text, name, kept, tail_of(tails, name))
 }
 
+/// Each name of a disk with its file, a bar and the tail that there is for it.
+fn shown_with(left: &mut RecordEnv, tails: &[(String, Vec<u8>)], alloc: Global) -> Result<Vec<u8>> {
+    let names = names_of(left, alloc)?;
+    let mut text = Vec::with_capacity(alloc, 64)?;
+    for name in &names {
+        show(&mut text, left, tails, alloc, name.as_str())?;
+    }
+    Ok(text)
+}
+
 /// Each name at a moment with what a crash without tails leaves, a bar and what it may leave more.
 fn shown(env: &RecordEnv, alloc: Global, moment: u64, after: bool) -> Result<Vec<u8>> {
     let mut left = env.disk_at(alloc, moment, &no_tails(alloc, after))?;
     let tails = env.tails(alloc, moment, after)?;
-    let mut text = Vec::with_capacity(alloc, 64)?;
-    for name in &names_of(&mut left, alloc)? {
-        show(&mut text, &mut left, &tails, alloc, name.as_str())?;
-    }
-    Ok(text)
+    shown_with(&mut left, &tails, alloc)
 }
 
 /// Each row is a call, with how it's chosen to fail, the code that it returns, the files inside it
@@ -257,18 +263,31 @@ const NOT_LEFT: [(u64, &[(&str, &str)]); 5] = [
     (10, &[("a", ""), ("a", "2")]),
 ];
 
-#[test]
-fn a_crash_leaves_no_other(rt: HostRuntime) -> Result<()> {
-    let env = torn(rt.alloc())?;
+/// Whether no crash at this moment leaves these tails.
+fn is_never_left(
+    env: &RecordEnv,
+    alloc: Global,
+    moment: u64,
+    tails: &[(&str, &str)],
+) -> Result<bool> {
+    let pick = pick_of(alloc, tails)?;
+    failed_with(env.disk_at(alloc, moment, &pick), InvalidArgument)
+}
+
+fn assert_never_left(rt: &(impl Abort + AllocGlobal), env: &RecordEnv) -> Result<()> {
     for (moment, tails) in &NOT_LEFT {
-        let pick = pick_of(rt.alloc(), tails)?;
-        let answer = env.disk_at(rt.alloc(), *moment, &pick);
         assert!(rt;
-            failed_with(answer, InvalidArgument)?,
+            is_never_left(env, rt.alloc(), *moment, tails)?,
             "{tails:?} at {moment}"
         );
     }
     Ok(())
+}
+
+#[test]
+fn a_crash_leaves_no_other(rt: HostRuntime) -> Result<()> {
+    let env = torn(rt.alloc())?;
+    assert_never_left(&rt, &env)
 }
 
 #[test]
