@@ -21,14 +21,19 @@ const WORDS: [(&[u8], FileType); 4] = [
     (b"LOG.old", FileType::InfoLog),
 ];
 
+// What a digit counts, if the byte is one.
+fn digit_value(digit: u8) -> Option<FileNum> {
+    if digit.is_ascii_digit() {
+        Some(FileNum::from(digit - b'0'))
+    } else {
+        None
+    }
+}
+
 // The number with a digit after its others, if the byte is a digit and the number has 64 bits.
 fn with_digit(number: FileNum, digit: u8) -> Option<FileNum> {
-    if !digit.is_ascii_digit() {
-        return None;
-    }
-    number
-        .checked_mul(10)?
-        .checked_add(FileNum::from(digit - b'0'))
+    let value = digit_value(digit)?;
+    number.checked_mul(10)?.checked_add(value)
 }
 
 // The number of these digits, one of them at least.
@@ -43,21 +48,37 @@ fn slow_number(digits: &[u8]) -> Option<FileNum> {
     Some(number)
 }
 
-fn slow_read(name: &[u8]) -> Option<(FileNum, FileType)> {
-    for (word, kind) in WORDS {
-        if name == word {
-            return Some((0, kind));
-        }
-    }
-    for (front, back, kind) in FORMS {
-        let digits = name
-            .strip_prefix(front)
-            .and_then(|rest| rest.strip_suffix(back));
-        if let Some(number) = digits.and_then(slow_number) {
-            return Some((number, kind));
+// The type of a name without a number.
+fn slow_word(name: &[u8]) -> Option<FileType> {
+    for (word, kind) in &WORDS {
+        if name == *word {
+            return Some(*kind);
         }
     }
     None
+}
+
+// The number between these two.
+fn number_between(name: &[u8], front: &[u8], back: &[u8]) -> Option<FileNum> {
+    let rest = name.strip_prefix(front)?;
+    slow_number(rest.strip_suffix(back)?)
+}
+
+// The number and the type of a name with a number.
+fn slow_form(name: &[u8]) -> Option<(FileNum, FileType)> {
+    for (front, back, kind) in &FORMS {
+        if let Some(number) = number_between(name, front, back) {
+            return Some((number, *kind));
+        }
+    }
+    None
+}
+
+fn slow_read(name: &[u8]) -> Option<(FileNum, FileType)> {
+    match slow_word(name) {
+        Some(kind) => Some((0, kind)),
+        None => slow_form(name),
+    }
 }
 
 /// The crate's own rows, the greatest number, and leading zeros.

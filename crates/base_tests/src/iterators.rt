@@ -253,13 +253,25 @@ fn walk(alloc: Global) -> Result<Either<Listed, Broken>> {
     Ok(Either::Left(Listed { pairs, at: None }))
 }
 
+// A step forward or back.
+fn step<I: LdbIterator>(it: &mut I, is_forward: bool) -> Result<bool> {
+    if is_forward { it.advance() } else { it.prev() }
+}
+
+// To the first pair or to the last.
+fn go_to_end<I: LdbIterator>(it: &mut I, is_first: bool) -> Result<()> {
+    if is_first {
+        it.seek_to_first()
+    } else {
+        it.seek_to_last()
+    }
+}
+
 /// Makes the move of a letter: advance, prev, the first pair, the last, next, reset.
 fn go_once<I: LdbIterator>(alloc: Global, it: &mut I, letter: u8) -> Result<()> {
     match letter {
-        b'a' => drop(it.advance()?),
-        b'p' => drop(it.prev()?),
-        b'f' => it.seek_to_first()?,
-        b'l' => it.seek_to_last()?,
+        b'a' | b'p' => drop(step(it, letter == b'a')?),
+        b'f' | b'l' => go_to_end(it, letter == b'f')?,
         b'n' => drop(it.next(alloc)?),
         _ => it.reset(),
     }

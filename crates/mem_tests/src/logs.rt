@@ -218,15 +218,36 @@ fn error_text<T: Drop>(alloc: Global, answer: Result<T>) -> Result<String> {
     }
 }
 
+/// The small log with a wrong checksum in its first fragment.
+fn damaged_log(rt: &(impl Abort + AllocGlobal)) -> Result<Vec<u8>> {
+    let mut log = small_log(rt)?;
+    change_byte(&mut log, 2, 1);
+    Ok(log)
+}
+
+/// Whether the next read fails with a wrong checksum.
+fn is_wrong_checksum(
+    alloc: Global,
+    reader: &mut LogReader<&[u8]>,
+    record: &mut Vec<u8>,
+) -> Result<bool> {
+    let text = error_text(alloc, reader.read(record))?;
+    Ok(text.as_str() == "Corruption: Invalid Checksum")
+}
+
 #[test]
 fn wrong_checksum_is_passed(rt: HostRuntime) -> Result<()> {
-    let mut log = small_log(&rt)?;
-    change_byte(&mut log, 2, 1);
+    let log = damaged_log(&rt)?;
     let mut record = Vec::new(rt.alloc());
     let mut reader = LogReader::sized(rt.alloc(), log.as_slice(), true, 17);
-    let text = error_text(rt.alloc(), reader.read(&mut record))?;
-    assert!(rt; text.as_str() == "Corruption: Invalid Checksum");
-    assert_all_read(&rt, &mut reader, &mut record, &READ[1..4])?;
+    assert!(rt; is_wrong_checksum(rt.alloc(), &mut reader, &mut record)?);
+    assert_all_read(&rt, &mut reader, &mut record, &READ[1..4])
+}
+
+#[test]
+fn wrong_checksum_is_taken_unchecked(rt: HostRuntime) -> Result<()> {
+    let log = damaged_log(&rt)?;
+    let mut record = Vec::new(rt.alloc());
     let mut reader = LogReader::sized(rt.alloc(), log.as_slice(), false, 17);
     assert_read(&rt, &mut reader, &mut record, NINE)
 }

@@ -56,13 +56,17 @@ fn assert_got(
     Ok(())
 }
 
+fn assert_each_got(rt: &(impl Abort + AllocGlobal), table: &MemTable<DefaultCmp>) -> Result<()> {
+    for row in &NEWEST {
+        assert_got(rt, table, row)?;
+    }
+    Ok(())
+}
+
 #[test]
 fn newest_up_to_a_number(rt: HostRuntime) -> Result<()> {
     let table = versions(rt.alloc())?;
-    for row in &NEWEST {
-        assert_got(&rt, &table, row)?;
-    }
-    Ok(())
+    assert_each_got(&rt, &table)
 }
 
 // How many entries there are, and how many bytes they count as.
@@ -342,13 +346,18 @@ fn add_last(rt: &impl Abort, table: &mut MemTable<DefaultCmp>, rows: &[Row]) -> 
     first
 }
 
+/// Adds one row after another.
+fn add_each(rt: &impl Abort, table: &mut MemTable<DefaultCmp>) -> Result<()> {
+    for count in 0..12 {
+        add_last(rt, table, &ROWS[..=count])?;
+    }
+    Ok(())
+}
+
 /// Each row is found as soon as it is added, and those before it stay.
 #[test]
 fn older_ones_come_later(rt: HostRuntime) -> Result<()> {
     let mut table = MemTable::new(rt.alloc(), DefaultCmp);
     assert_rows(&rt, &table, &[]);
-    for count in 0..12 {
-        add_last(&rt, &mut table, &ROWS[..=count])?;
-    }
-    Ok(())
+    add_each(&rt, &mut table)
 }

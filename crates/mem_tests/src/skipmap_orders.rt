@@ -60,12 +60,16 @@ fn walks_back(map: &SkipMap<DefaultCmp>, sorted: &[u32]) -> Result<bool> {
     Ok(!it.valid())
 }
 
+// Whether the map of an order has as many keys as the vector, and walks as it both ways.
+fn is_alike(alloc: Global, order: (u32, u32)) -> Result<bool> {
+    let (map, sorted) = both_of(alloc, order)?;
+    Ok(map.len() == sorted.len() && walks_forward(&map, &sorted)? && walks_back(&map, &sorted)?)
+}
+
 #[test]
 fn walks_both_ways(rt: HostRuntime) -> Result<()> {
-    for order in ORDERS {
-        let (map, sorted) = both_of(rt.alloc(), order)?;
-        assert!(rt; map.len() == sorted.len());
-        assert!(rt; walks_forward(&map, &sorted)? && walks_back(&map, &sorted)?);
+    for order in &ORDERS {
+        assert!(rt; is_alike(rt.alloc(), *order)?);
     }
     Ok(())
 }

@@ -52,15 +52,25 @@ fn counts_and_finds(rt: HostRuntime) -> Result<()> {
     Ok(())
 }
 
+/// Whether a present key and an empty one aren't inserted.
+fn neither_is_inserted(map: &mut SkipMap<DefaultCmp>) -> bool {
+    let is_present = failed_with(map.insert(b"abc", b"other"), StatusCode::AlreadyExists);
+    is_present && failed_with(map.insert(b"", b"def"), StatusCode::InvalidArgument)
+}
+
+/// Whether the first pair at or after this key is of it, with this value.
+fn has_value(map: &SkipMap<DefaultCmp>, key: &[u8], value: &[u8]) -> Result<bool> {
+    let mut it = map.iter();
+    it.seek(key)?;
+    Ok(it.current() == Some((key, value)))
+}
+
 #[test]
 fn present_and_empty_keys_are_not_inserted(rt: HostRuntime) -> Result<()> {
     let mut map = letters(rt.alloc())?;
-    assert!(rt; failed_with(map.insert(b"abc", b"other"), StatusCode::AlreadyExists));
-    assert!(rt; failed_with(map.insert(b"", b"def"), StatusCode::InvalidArgument));
+    assert!(rt; neither_is_inserted(&mut map));
     assert!(rt; (map.len(), map.approx_memory()) == (26, 1948));
-    let mut it = map.iter();
-    it.seek(b"abc")?;
-    assert!(rt; it.current() == Some((b"abc".as_slice(), b"def".as_slice())));
+    assert!(rt; has_value(&map, b"abc", b"def")?);
     Ok(())
 }
 
@@ -93,14 +103,32 @@ fn turns(map: &SkipMap<DefaultCmp>) -> Result<[[Option<u8>; 3]; 26]> {
     Ok(letters)
 }
 
+/// How many keys a map has, how many bytes it counts as, and its turns.
+type State = (usize, usize, [[Option<u8>; 3]; 26]);
+
+fn state_of(map: &SkipMap<DefaultCmp>) -> Result<State> {
+    Ok((map.len(), map.approx_memory(), turns(map)?))
+}
+
+/// Inserts a key that isn't there into a map that is as it was.
+fn insert_again(
+    rt: &impl Abort,
+    map: &mut SkipMap<DefaultCmp>,
+    key: &[u8; 3],
+    before: &State,
+) -> Result<()> {
+    assert!(rt; state_of(map)? == *before && !map.contains(key));
+    map.insert(key, b"def")?;
+    assert!(rt; map.contains(key));
+    Ok(())
+}
+
 /// A failed insertion leaves the map as it was, and can be made again.
 fn insert_twice(rt: &impl Abort, map: &mut SkipMap<DefaultCmp>, key: &[u8; 3]) -> Result<()> {
-    let before = (map.len(), map.approx_memory(), turns(map)?);
+    let before = state_of(map)?;
     let first = map.insert(key, b"def");
     if first.is_err() {
-        assert!(rt; (map.len(), map.approx_memory(), turns(map)?) == before && !map.contains(key));
-        map.insert(key, b"def")?;
-        assert!(rt; map.contains(key));
+        insert_again(rt, map, key, &before)?;
     }
     first
 }
@@ -135,18 +163,41 @@ fn step<C: Cmp>(it: &mut SkipMapIter<'_, C>) -> Result<(bool, bool, Option<u8>)>
     Ok((is_there, it.valid(), letter(it)))
 }
 
-/// There is no position before the first key and after the last. From there a step goes to the
-/// first.
-#[test]
-fn no_position_at_both_ends(rt: HostRuntime) -> Result<()> {
-    let map = letters(rt.alloc())?;
+/// What a step from the last key on gives, and one more.
+fn steps_past_the_last(map: &SkipMap<DefaultCmp>) -> Result<[(bool, bool, Option<u8>); 2]> {
     let mut it = map.iter();
-    assert!(rt; !it.valid() && !it.prev()?);
     it.seek(b"abz")?;
-    assert!(rt; step(&mut it)? == (false, false, None));
-    assert!(rt; step(&mut it)? == (true, true, Some(b'a')));
+    let past = step(&mut it)?;
+    Ok([past, step(&mut it)?])
+}
+
+/// There is no position after the last key. From there a step goes to the first.
+#[test]
+fn no_position_after_the_last(rt: HostRuntime) -> Result<()> {
+    let map = letters(rt.alloc())?;
+    let wanted = [(false, false, None), (true, true, Some(b'a'))];
+    assert!(rt; steps_past_the_last(&map)? == wanted);
+    Ok(())
+}
+
+/// Whether a new iterator has no position, and a step back leaves it there.
+fn has_none_before(map: &SkipMap<DefaultCmp>) -> Result<bool> {
+    let mut it = map.iter();
+    Ok(!it.valid() && !it.prev()?)
+}
+
+/// Whether an iterator that had a position has none once it is reset.
+fn has_none_after_reset(map: &SkipMap<DefaultCmp>) -> Result<bool> {
+    let mut it = map.iter();
+    let is_there = it.advance()?;
     it.reset();
-    assert!(rt; it.current().is_none());
+    Ok(is_there && it.current().is_none())
+}
+
+#[test]
+fn no_position_before_the_first(rt: HostRuntime) -> Result<()> {
+    let map = letters(rt.alloc())?;
+    assert!(rt; has_none_before(&map)? && has_none_after_reset(&map)?);
     Ok(())
 }
 
