@@ -103,8 +103,8 @@ pub record IsNewBuilder {C FP : Type 0} {ordered : CmpGhosts C} {filters : Polic
   pub policy : policy_of core ≡ chosen
   pub compressor : core.compressor ≡ id
   pub size : core.block_size ≡ block_size
-  -- 0 is taken as 1
-  pub interval : (core.block.interval ≡ max 1 restarts) × (core.index.interval ≡ max 1 restarts)
+  -- 0 is taken as 1, and the index has a restart point at each line
+  pub interval : (core.block.interval ≡ max 1 restarts) × (core.index.interval ≡ 1)
 
 -- The open block has an entry, and more bytes than a block shall have: the next pair goes into
 -- another.

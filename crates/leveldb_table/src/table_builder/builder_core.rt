@@ -29,6 +29,10 @@ use leveldb_env::options::Options;
 use std::alloc::Global;
 use std::mem::replace;
 
+// How many lines of the index lie between the starts of two restart points: each has its own, so
+// that a look-up reads no line to put a key together.
+const INDEX_INTERVAL: usize = 1;
+
 // The room that a new data block has beyond what the last one took.
 const BLOCK_SPARE: usize = 64;
 
@@ -44,6 +48,8 @@ pub struct BuilderCore<C: Cmp, FP: FilterPolicy> {
 
     // the data block that is still open
     block: BlockBuilder<C>,
+
+    // one line for each data block, with a restart point at each
     index: BlockBuilder<C>,
     filter: FilterBlockBuilder<FP>,
 
@@ -95,7 +101,7 @@ impl<C: Cmp + Copy, FP: FilterPolicy> BuilderCore<C, FP> {
             block_size: options.block_size,
             compressor: options.compressor,
             block: BlockBuilder::spaced(alloc, cmp, interval),
-            index: BlockBuilder::spaced(alloc, cmp, interval),
+            index: BlockBuilder::spaced(alloc, cmp, INDEX_INTERVAL),
             filter: FilterBlockBuilder::new(alloc, policy),
             offset: 0,
             count: 0,
