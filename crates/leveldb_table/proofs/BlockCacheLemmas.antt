@@ -53,14 +53,15 @@ module _ {T : Type 0} (q : List ℕ) where
   -- what is found after a put was found before, or is what was put
   pub put_finds : (capacity : ℕ) (key : List ℕ) (value held : T) (pairs : List (List ℕ × T)) → value_of q (put_first capacity key value pairs) ≡ Some held
       → (value_of q pairs ≡ Some held) ⊎ ((q ≡ key) × (value ≡ held))
-  put_finds capacity key value held pairs found =
+  put_finds zero key value held pairs found = inl found
+  put_finds (suc room) key value held pairs found =
       (elim (bytes_eq q key) as (λ b. bytes_eq q key ≡ b
-      → cond b (Some value) (value_of q (elim (value_of key pairs) [ None ↦ take (capacity - 1) pairs | Some old ↦ others key pairs ])) ≡ Some held
+      → cond b (Some value) (value_of q (elim (value_of key pairs) [ None ↦ take room pairs | Some old ↦ others key pairs ])) ≡ Some held
       → (value_of q pairs ≡ Some held) ⊎ ((q ≡ key) × (value ≡ held))) [
         | true ↦ λ same new. inr (same_text q key (sym same), cc)
-        | false ↦ λ other. elim (value_of key pairs) as (λ old. value_of q (elim old [ None ↦ take (capacity - 1) pairs | Some old ↦ others key pairs ]) ≡ Some held
+        | false ↦ λ other. elim (value_of key pairs) as (λ old. value_of q (elim old [ None ↦ take room pairs | Some old ↦ others key pairs ]) ≡ Some held
             → (value_of q pairs ≡ Some held) ⊎ ((q ≡ key) × (value ≡ held))) [
-              | None ↦ λ there. inl (front_finds held (capacity - 1) pairs there)
+              | None ↦ λ there. inl (front_finds held room pairs there)
               | Some old ↦ λ there. inl (sym (others_keep key other pairs) ∙ there)
             ]
       ]) refl found

@@ -1,5 +1,5 @@
 -- What follows from how a pair is added and why one is refused.
-use Rattle.std.proofs.Common.{◌≡◌, ◌≢◌, ℕ, ◌<◌, ◌≤◌, Bool, true, false, refl, List, [], ◌∷◌, length, None, Result, Ok, Err, inl, inr, ◌⊎◌, ap, subst, arith}
+use Rattle.std.proofs.Common.{OnOk, OnErr, ◌∙◌, ◌≡◌, ◌≢◌, ℕ, ◌<◌, ◌≤◌, Bool, true, false, refl, List, [], ◌∷◌, length, None, Result, Ok, Err, inl, inr, ◌⊎◌, ap, subst, arith}
 use Rattle.leveldb_base.specs.Types.{Pair}
 use Rattle.leveldb_base.specs.declared.cmp.Cmp.{Ghosts as CmpGhosts}
 use Rattle.leveldb_base.specs.declared.error.Status.{Status}
@@ -12,6 +12,11 @@ use Rattle.leveldb_table.specs.TableBuilderStage.{Stage}
 use Rattle.leveldb_table.specs.TableBuilder.{stage, IsFull}
 use Rattle.leveldb_table.specs.TableBuilderAdd.{IsNotAdded, ClosesOpen, HasRoom, TriesOpen, PutsOpen, IsNotClosed, IsNotTaken, IsAddError, TakesNoPair}
 use Rattle.leveldb_table.specs.declared.table_builder.builder_core.BuilderCore.{BuilderCore}
+
+-- a first restart point that was set before stays so, whatever comes of an added pair
+pub begun_kept : {T E : Type 0} (A B : Type 0) {old new : Bool} (result : Result T E) → OnOk result (A × (new ≡ true)) → OnErr result (B × (new ≡ old)) → old ≡ true → new ≡ true
+begun_kept A B (Ok value) ok err begun = ok.1
+begun_kept A B (Err error) ok err begun = err.1 ∙ begun
 
 no_entries : (entries : List BlockEntry) → entries ≢ [] → length entries ≡ 0 → ⊥
 no_entries [] some e = some refl

@@ -93,3 +93,9 @@ abbrev pub HasEntriesBuilt : (List ℕ → List ℕ → Ordering) → ℕ → Li
 HasEntriesBuilt cmp interval bytes points last count begun =
     (entries : List BlockEntry)
     × AreEntriesBuilt cmp interval bytes points last count begun entries
+
+-- a pair was added to some entries: with the entry that it gets after them it is the last of their
+-- pairs
+pub record AddsEntry (interval : ℕ) (old new : List BlockEntry) (key value : List ℕ) : Type 0 where
+  pub pairs : pairs_of None new ≡ pairs_of None old ++ (key, value) ∷ []
+  pub entry : new ≡ old ++ entry_after interval old key value ∷ []

@@ -1,5 +1,5 @@
 -- What a cache holds: pairs of keys and values, the one that was used last first.
-use Rattle.std.specs.Prelude.{ℕ, ◌-◌, List, ◌∷◌, take, Option, None, Some}
+use Rattle.std.specs.Prelude.{ℕ, zero, suc, List, ◌∷◌, take, Option, None, Some}
 use Rattle.std.specs.Str.{bytes_eq}
 use Rattle.std.specs.Map.{lookup, remove_entry}
 
@@ -23,11 +23,12 @@ module _ {T : Type 0} where
   looked_for key pairs =
       elim (value_of key pairs) [ None ↦ pairs | Some value ↦ (key, value) ∷ others key pairs ]
 
-  -- a pair that was put comes first; after it are the others, and where its key is new, as many as
-  -- there is room for
+  -- A pair that was put comes first; after it are the others, and where its key is new, as many as
+  -- there is room for. Where there is room for none, it isn't kept.
   abbrev pub put_first : ℕ → List ℕ → T → List (List ℕ × T) → List (List ℕ × T)
-  put_first capacity key value pairs =
+  put_first zero key value pairs = pairs
+  put_first (suc room) key value pairs =
       (key, value) ∷ elim (value_of key pairs) [
-        | None ↦ take (capacity - 1) pairs
+        | None ↦ take room pairs
         | Some old ↦ others key pairs
       ]

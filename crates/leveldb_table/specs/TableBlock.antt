@@ -85,8 +85,8 @@ module _ {E F : Type 0} (env : Ghosts E F) where
         (λ found_file. bytes_of found_file ≡ bytes)
     pub fits : length bytes < 2 ^ 64
 
-  -- a call that reads a file fails out of memory, for a cause of its own with no failure counted, or
-  -- at a failure that is counted
+  -- a call that reads a file fails out of memory, for a cause of its own with no failure counted,
+  -- or at a failure that is counted
   abbrev pub FailsFor : {T : Type 0} → (Status → Type 0) → E → E → Result T Status → Type 0
   FailsFor Why old new result =
       HasCause (λ status. IsOutOfMemory status

@@ -78,6 +78,11 @@ pub record KeepsChoices {C FP : Type 0} {order : CmpGhosts C} {policy : PolicyGh
   pub same_intervals : (new.block.interval ≡ old.block.interval)
       × (new.index.interval ≡ old.index.interval)
 
+-- no pair was added, and the builder counts as broken until the call is done
+abbrev pub StaysUnfinished : {C FP : Type 0} {order : CmpGhosts C} {policy : PolicyGhosts FP}
+    → BuilderCore C FP order policy → BuilderCore C FP order policy → Type 0
+StaysUnfinished old new = (new.count ≡ old.count) × (new.broken ≡ true)
+
 -- The builder has put these bytes, and these pairs were added. What its comparator accepts, how
 -- that orders and separates keys, and what its policy matches, are given for the comparator and
 -- the policy that it has.
@@ -103,8 +108,8 @@ pub record IsNewBuilder {C FP : Type 0} {ordered : CmpGhosts C} {filters : Polic
   pub policy : policy_of core ≡ chosen
   pub compressor : core.compressor ≡ id
   pub size : core.block_size ≡ block_size
-  -- 0 is taken as 1
-  pub interval : (core.block.interval ≡ max 1 restarts) × (core.index.interval ≡ max 1 restarts)
+  -- 0 is taken as 1, and the index has a restart point at each line
+  pub interval : (core.block.interval ≡ max 1 restarts) × (core.index.interval ≡ 1)
 
 -- The open block has an entry, and more bytes than a block shall have: the next pair goes into
 -- another.

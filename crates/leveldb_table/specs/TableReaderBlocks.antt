@@ -1,5 +1,6 @@
 -- How a walk over a table goes into the data block that a line of the index names.
 use Rattle.std.specs.Prelude.{◌≡◌, ◌++◌, ℕ, Bool, true, if◌then◌else◌, List, length, map, Option, None, Some, Result, Ok, Err, OnOk, OnErr}
+use Rattle.std.specs.Borrow.{MutBor}
 use Rattle.std.specs.Option.{IsSomeAnd}
 use Rattle.std.specs.declared.cmp.Ordering.{Ordering}
 use Rattle.leveldb_base.specs.BlockHandle.{Handle}
@@ -18,6 +19,11 @@ use Rattle.leveldb_table.specs.declared.block.Block.{Block}
 use Rattle.leveldb_table.specs.declared.block_cache.CachedBlock.{CachedBlock}
 use Rattle.leveldb_table.specs.declared.table_reader.Table.{Table}
 use Rattle.leveldb_table.specs.declared.table_reader.walk.TableCore.{TableCore}
+
+-- the one borrow is the other: of the same place, with the same value
+pub record IsSameBorrow {A : Type 0} (old new : MutBor A) : Type 0 where
+  pub same_place : new.ghost_name ≡ old.ghost_name
+  pub same_value : new.now ≡ old.now
 
 -- After a line of the index comes the line of the first data block that isn't among those in
 -- front, and the position is that of the first pair after theirs.
@@ -104,13 +110,13 @@ module _ {C : Type 0} {order : CmpGhosts C} where
       (new_env : E) (new_cache : Cached (CachedBlock C order))
       (new : TableCore C order) : Type 0 where
     pub reads : ReadsFile env (IsLackError env codings (λ bytes status.
-        GivenParts codings accepts cmp id bytes old_cache Fit (λ parts position. IsIndexed cmp parts old)
-        (λ parts position. ⊥)
+        GivenParts codings accepts cmp id bytes old_cache Fit
+        (λ parts position. IsIndexed cmp parts old) (λ parts position. ⊥)
         × (HoldsOnlyOf codings cmp id bytes old_cache → Step codings cmp bytes old (Err status)))
         old_env file) old_env new_env result
     pub ok : ForBytesOf env old_env file (λ bytes.
-        GivenParts codings accepts cmp id bytes old_cache Fit (λ parts position. IsIndexed cmp parts old)
-        (λ parts position. OnOk result (IsAtPosition cmp parts new position)))
+        GivenParts codings accepts cmp id bytes old_cache Fit
+        (λ parts position. IsIndexed cmp parts old) (λ parts position. OnOk result (IsAtPosition cmp parts new position)))
     pub steps : ForBytesOf env old_env file (λ bytes. HoldsOnlyOf codings cmp id bytes old_cache
         → OnOk result (Step codings cmp bytes old (Ok (table_position new))))
     pub err : OnErr result (inner_position new.inner ≡ None)

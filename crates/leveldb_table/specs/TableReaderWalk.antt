@@ -1,8 +1,9 @@
 -- Where a walk over a table is: at a line of the index, and at a pair of the data block that the
 -- line names.
-use Rattle.std.specs.Prelude.{◌≡◌, ◌+◌, ◌<◌, ℕ, Bool, List, [], ◌∷◌, ◌++◌, length, map, Option, None, Some, Result, Ok, Err, OnOk, OnErr}
+use Rattle.std.specs.Prelude.{◌≡◌, ◌+◌, ◌<◌, ℕ, Bool, List, [], ◌∷◌, ◌++◌, length, map, Option, None, Some, Result, Ok, Err, OnOk, OnErr, IfOk, IfErr, is_some}
 use Rattle.std.specs.declared.cmp.Ordering.{Ordering}
 use Rattle.leveldb_base.specs.BlockHandle.{Handle, handle_bytes, HandleFits}
+use Rattle.leveldb_base.specs.Error.{IsOutOfMemory}
 use Rattle.leveldb_base.specs.Types.{Pair, pair_at}
 use Rattle.leveldb_base.specs.declared.cmp.Cmp.{Ghosts as CmpGhosts}
 use Rattle.leveldb_base.specs.declared.error.Status.{Status}
@@ -88,6 +89,19 @@ module _ {C : Type 0} {order : CmpGhosts C} where
   abbrev pub current_of : TableCore C order → Option Pair
   current_of core = pair_at (inner_pairs core.inner) (inner_position core.inner)
 
+  -- A step in the open block, which stays with its pairs, as the index does. What is said of the
+  -- position holds after an Ok; after an Err the walk is at no pair. An error is out of memory.
+  pub record StepsInside (Goes : Type 0) (old : TableCore C order) (result : Result Bool Status)
+      (new : TableCore C order) : Type 0 where
+    pub block : inner_block new.inner ≡ inner_block old.inner
+    pub pairs : inner_pairs new.inner ≡ inner_pairs old.inner
+    pub index : new.index ≡ old.index
+    pub ok : OnOk result Goes
+    -- the result says whether it is at a pair
+    pub there : IfOk result (λ there. there ≡ is_some (inner_position new.inner))
+    pub err : OnErr result (inner_position new.inner ≡ None)
+    pub memory : IfErr result IsOutOfMemory
+
   -- The index is that of these data blocks, in this order of keys, and the walk is at this
   -- position of their pairs.
   pub record IsAtPosition (cmp : List ℕ → List ℕ → Ordering) (parts : List Part)
@@ -111,7 +125,8 @@ module _ {C : Type 0} {order : CmpGhosts C} where
   abbrev pub GivenParts : Codings → (List ℕ → Bool) → (List ℕ → List ℕ → Ordering) → ℕ
       → List ℕ → Cached (CachedBlock C order)
       → (Fit At Holds : List Part → Option ℕ → Type 0) → Type 0
-  GivenParts codings accepts cmp id bytes cache Fit At Holds = (parts : List Part) (position : Option ℕ)
+  GivenParts codings accepts cmp id bytes cache Fit At Holds =
+      (parts : List Part) (position : Option ℕ)
       → HasParts codings accepts cmp bytes parts → Fit parts position
       → HoldsOnlyOf codings cmp id bytes cache → At parts position → Holds parts position
 

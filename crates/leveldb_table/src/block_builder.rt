@@ -4,7 +4,7 @@ ghost use Rattle.leveldb_base.specs.Error.{IsOutOfMemory};
 ghost use Rattle.leveldb_base.specs.Varint.{little, varint};
 ghost use Rattle.leveldb_base.specs.declared.error.StatusCode.TheVariants.{NotSupported};
 ghost use Rattle.leveldb_table.specs.Block.{IsBlock, HasEntries, KeysRise, pairs_of, parts_bytes};
-ghost use Rattle.leveldb_table.specs.BlockBuilder.{AreSpaced, last_added, shared_len, entry_after, block_made, IsMade, IsEntryTooLarge, HasEntriesBuilt, estimate, points_more};
+ghost use Rattle.leveldb_table.specs.BlockBuilder.{AddsEntry, AreSpaced, last_added, shared_len, block_made, IsMade, IsEntryTooLarge, HasEntriesBuilt, estimate, points_more};
 ghost use Rattle.leveldb_table.specs.BlockBuilderLaws.{HasEntriesBuilt-prop};
 
 use crate::block::BlockContents;
@@ -149,13 +149,10 @@ impl<C: Cmp> BlockBuilder<C> {
     pub fn add(&mut self, key: &[u8], value: &[u8]) -> Result<()>
         requires { KeysRise (C.cmp self.old.cmp)
             (pairs_of None self.old.built.0 ++ (key.now, value.now) ∷ []) }
-        ensures ok { OnOk result (pairs_of None self.new.built.0
-            ≡ pairs_of None self.old.built.0 ++ (key.now, value.now) ∷ []) }
-        ensures entry { OnOk result (self.new.built.0 ≡ self.old.built.0
-            ++ entry_after self.old.interval self.old.built.0 key.now value.now ∷ []) }
-        ensures begun { OnOk result (self.new.begun ≡ true) }
-        ensures err { OnErr result (self.new.built.0 ≡ self.old.built.0) }
-        ensures still { OnErr result (self.new.begun ≡ self.old.begun) }
+        ensures ok { OnOk result (AddsEntry self.old.interval self.old.built.0 self.new.built.0
+            key.now value.now × (self.new.begun ≡ true)) }
+        ensures err { OnErr result ((self.new.built.0 ≡ self.old.built.0)
+            × (self.new.begun ≡ self.old.begun)) }
         ensures order { self.new.cmp ≡ self.old.cmp }
         ensures interval { self.new.interval ≡ self.old.interval }
         ensures too_large { IsErrAnd result (λ status. status.code ≡ NotSupported)

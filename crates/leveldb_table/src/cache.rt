@@ -20,38 +20,48 @@ pub type CacheKey = [u8; 16];
 /// A number by which one user of a cache says its keys from those of others.
 pub type CacheID = u64;
 
-/// Values under keys, the one that was used last first.
+/// Values under keys, the one that was used last first. A cache with room for none keeps nothing.
 #[derive(Drop)]
 pub struct Cache<T: Drop> {
     recent: LruCache<CacheKey, T>,
+
+    // whether there is room for a value; else `recent` isn't used
+    keeps: bool,
 
     // the number that was given last, or 0
     id: CacheID,
 }
 
 impl<T: Drop> Model for Cache<T> {
+    ghost use Rattle.std.specs.Prelude.{if◌then◌else◌, []};
     ghost use Rattle.leveldb_table.specs.Cache.{Cached};
 
     ghost Value = { Cached T };
 
-    ghost view = { λ it.
-        record { pairs = it.recent.entries; capacity = it.recent.cap; given = it.id } };
+    ghost view = { λ it. record {
+      pairs = if it.keeps then it.recent.entries else [];
+      capacity = if it.keeps then it.recent.cap else 0;
+      given = it.id;
+    } };
 }
 
 impl<T: Drop> Cache<T> {
     ghost use Rattle.std.specs.Borrow.{sem};
     ghost use Rattle.leveldb_table.specs.CacheBorrow.{EndsLookedFor};
 
-    /// A cache with room for `capacity` values.
+    /// A cache with room for `capacity` values. One with room for none keeps nothing, so that each
+    /// read that it is given to is a read without a cache.
     pub fn new(alloc: Global, capacity: usize) -> Result<Cache<T>>
-        requires { 0 < capacity }
         ensures ok { IfOk result
             (λ cache. cache ≡ record { pairs = []; capacity = capacity; given = 0 }) }
         ensures memory { IfErr result IsOutOfMemory }
     {
-        let capacity = NonZeroUsize::new(capacity).unwrap();
-        let recent = LruCache::sparse(alloc, capacity)?;
-        Ok(Cache { recent, id: 0 })
+        let room = NonZeroUsize::new(capacity.max(1)).unwrap();
+        Ok(Cache {
+            recent: LruCache::sparse(alloc, room)?,
+            keeps: capacity > 0,
+            id: 0,
+        })
     }
 
     /// The next number, which this cache hasn't given before.
@@ -78,24 +88,32 @@ impl<T: Drop> Cache<T> {
         ensures within { result ≤ self.now.capacity }
         ensures distinct { IsDistinct bytes_eq (keys_of self.now.pairs) }
     {
-        self.recent.len()
+        if self.keeps { self.recent.len() } else { 0 }
     }
 
     /// How many values there may be.
     pub fn cap(&self) -> usize
         ensures { result ≡ self.now.capacity }
     {
-        self.recent.cap().get()
+        if self.keeps {
+            self.recent.cap().get()
+        } else {
+            0
+        }
     }
 
     /// Puts a value under a key, instead of the one that was there. It counts as used.
-    /// Where the key is new and there is no room, the value goes that was used least recently.
+    /// Where the key is new and there is no room, the value goes that was used least recently; in
+    /// a cache with room for none that is this one.
     pub fn insert(&mut self, key: &CacheKey, elem: T) -> Result<()>
         ensures ok { OnOk result (self.new ≡ record self.old
             { pairs = put_first self.old.capacity key.now elem self.old.pairs }) }
         ensures err { OnErr result (self.new ≡ self.old) }
         ensures memory { IfErr result IsOutOfMemory }
     {
+        if self.cap() == 0 {
+            return Ok(());
+        }
         self.recent.put(*key, elem)?;
         Ok(())
     }
@@ -105,6 +123,9 @@ impl<T: Drop> Cache<T> {
         ensures* used { sem 𝓛 (EndsLookedFor T.row self.entry key.now) }
         ensures value { option_copied result ≡ value_of key.now self.old.pairs }
     {
+        if !self.keeps {
+            return None;
+        }
         self.recent.get(key)
     }
 
@@ -113,6 +134,9 @@ impl<T: Drop> Cache<T> {
         ensures value { result ≡ value_of key.now self.old.pairs }
         ensures pairs { self.new ≡ record self.old { pairs = others key.now self.old.pairs } }
     {
+        if !self.keeps {
+            return None;
+        }
         self.recent.pop(key)
     }
 }

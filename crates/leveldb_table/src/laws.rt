@@ -22,8 +22,8 @@ use leveldb_base::cmp::{Cmp, InternalKeyCmp, UserCmp};
 
 /// What a file is opened as is what it is, with its filters or without: the index has a line for
 /// each data block, and the footer's handles are its own. The data blocks hold the table's pairs,
-/// and filters that are read under a policy's name let pass what the policy must find, where it is known what the name
-/// means.
+/// and filters that are read under a policy's name let pass what the policy must find, where it is
+/// known what the name means.
 pub fn opened_tables_are_theirs()
     ensures lines { (codings : Codings) (cmp : List ℕ → List ℕ → Ordering) (key bytes : List ℕ)
         (lines : List Pair) (meta index : Handle) (filters : Option (List (List ℕ)))

@@ -22,8 +22,8 @@ use leveldb_env::filter_block::FilterBlockReader;
 use std::alloc::Global;
 
 // So much room is made at first, or less for a smaller block, and then as much again as came,
-// where that is more.
-const STEP: usize = 1 << 16;
+// where that is more: so a block of up to this size is read into one buffer, which never moves.
+const STEP: usize = 1 << 20;
 
 const PAST_END: &str = "past the end of the file";
 

@@ -58,8 +58,8 @@ pub record PutsTable {S : Type 0} (puts : S → List ℕ → Result (Unit {0}) S
   pub size_is : size ≡ length bytes
 
 -- these bytes were appended to an open file, and it was synced
-pub record AppendsSynced {E F : Type 0} (env : EnvGhosts E F) (bytes : List ℕ) (old new : Opened E F)
-    : Type 0 where
+pub record AppendsSynced {E F : Type 0} (env : EnvGhosts E F) (bytes : List ℕ)
+    (old new : Opened E F) : Type 0 where
   pub mid : Opened E F
   pub longer : IsLonger env old bytes mid
   pub synced : Syncs env mid done new

@@ -10,7 +10,8 @@ use leveldb_table::block::{Block, BlockIter};
 use std::alloc::Global;
 use std::process::Abort;
 
-/// The keys "", a, ab, abc and b, with the values 0 to 4 and restart points at the first and the fourth.
+/// The keys "", a, ab, abc and b, with the values 0 to 4 and restart points at the first and the
+/// fourth.
 const SMALL: [u8; 38] = [
     0, 0, 1, b'0', 0, 1, 1, b'a', b'1', 1, 1, 1, b'b', b'2', 0, 3, 1, b'a', b'b', b'c', b'3', 0, 1,
     1, b'b', b'4', 0, 0, 0, 0, 14, 0, 0, 0, 2, 0, 0, 0,
@@ -52,8 +53,8 @@ fn steps_to(it: &mut BlockIter<'_, DefaultCmp>, index: usize) -> Result<bool> {
     Ok(it.advance()? && it.current() == pair(index))
 }
 
-/// Whether a step goes to the pair with this index, and again once there was a step back. Before the first pair there
-/// is no step back.
+/// Whether a step goes to the pair with this index, and again once there was a step back. Before
+/// the first pair there is no step back.
 fn turns_at(it: &mut BlockIter<'_, DefaultCmp>, index: usize) -> Result<bool> {
     if !steps_to(it, index)? {
         return Ok(false);
@@ -203,8 +204,8 @@ fn raw_parts(bytes: &[u8]) -> Option<(&[u8], &[u8])> {
     Some(front.split_at(limit))
 }
 
-/// Adds an entry's pair, whose key has as many bytes of the key before it as the entry says. Returns whether there
-/// are so many and the key is after the one before it.
+/// Adds an entry's pair, whose key has as many bytes of the key before it as the entry says.
+/// Returns whether there are so many and the key is after the one before it.
 fn add_pair(alloc: Global, pairs: &mut Pairs, entry: RawEntry<'_>) -> Result<bool> {
     let before = match pairs.last() {
         Some((key, _)) => key.as_slice(),
@@ -257,7 +258,8 @@ fn has_pairs(alloc: Global, block: &Block<DefaultCmp>, pairs: &Pairs) -> Result<
     Ok(!it.advance()?)
 }
 
-/// Whether bytes are no block where the slow reader finds none, and otherwise a block that walks over the same pairs.
+/// Whether bytes are no block where the slow reader finds none, and otherwise a block that walks
+/// over the same pairs.
 fn same_as_slow(alloc: Global, bytes: &[u8]) -> Result<bool> {
     match (block_of(alloc, bytes), slow_pairs(alloc, bytes)?) {
         (Ok(block), Some(pairs)) => has_pairs(alloc, &block, &pairs),

@@ -13,7 +13,8 @@ fn got(cache: &mut Cache<u32>, n: u8) -> Option<u32> {
     cache.get(&key(n)).copied()
 }
 
-/// Five values in a cache of three: the first two go; a value is replaced in its place; what is looked for stays longest.
+/// Five values in a cache of three: the first two go; a value is replaced in its place; what is
+/// looked for stays longest.
 #[test]
 fn of_three(rt: HostRuntime) -> Result<()> {
     let mut cache = Cache::new(rt.alloc(), 3)?;
@@ -31,5 +32,16 @@ fn of_three(rt: HostRuntime) -> Result<()> {
     assert!(rt; [cache.remove(&key(5)), cache.remove(&key(5))] == [Some(5), None]);
     assert!(rt; cache.count() == 2);
     assert!(rt; [cache.new_cache_id()?, cache.new_cache_id()?] == [1, 2]);
+    Ok(())
+}
+
+/// A cache with room for none keeps nothing.
+#[test]
+fn of_none(rt: HostRuntime) -> Result<()> {
+    let mut cache = Cache::new(rt.alloc(), 0)?;
+    cache.insert(&key(1), 1u32)?;
+    assert!(rt; (cache.count(), cache.cap()) == (0, 0));
+    assert!(rt; [got(&mut cache, 1), cache.remove(&key(1))] == [None, None]);
+    assert!(rt; cache.new_cache_id()? == 1);
     Ok(())
 }

@@ -39,7 +39,11 @@ pub struct Raised;
 impl Compressor for Raised {
     ghost use Rattle.std.specs.Prelude.{◌+◌, ◌%◌, Some, false, map};
 
-    ghost coding = { λ _. record { decoded = λ stored. Some (map (λ byte. (byte + 255) % 256) stored); encode_fails = λ block code. false; decode_fails = λ stored code. false } };
+    ghost coding = { λ _. record {
+      decoded = λ stored. Some (map (λ byte. (byte + 255) % 256) stored);
+      encode_fails = λ block code. false;
+      decode_fails = λ stored code. false;
+    } };
 
     fn encode(&self, alloc: Global, block: Vec<u8>) -> Result<Vec<u8>> {
         let mut stored = Vec::new(alloc);

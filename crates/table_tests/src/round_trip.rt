@@ -154,8 +154,9 @@ fn look_up<E: Env, C: Cmp + Copy + Drop, FP: FilterPolicy + Copy + Drop>(
     table: &Table<E, C, FP>,
     key: &[u8],
 ) -> Result<Option<(Bytes, Bytes)>>
-    ensures found { let codings = ⟦<CompressorList as Compressors>⟧.codings options.now.compressor_list in
-        let cmp = options.now.cmp in let policy = options.now.filter_policy in
+    ensures found { let codings = ⟦<CompressorList as Compressors>⟧.codings
+        options.now.compressor_list in let cmp = options.now.cmp in
+        let policy = options.now.filter_policy in
         IfOk result (λ found. (user : List ℕ → List ℕ) (pairs : List Pair) (bytes : List ℕ)
         → GoesByUser (C.accepts cmp) (C.cmp cmp) (C.shortest_sep cmp) (FP.matches policy) user
         → IsTableOf codings (C.accepts cmp) (C.cmp cmp) (C.shortest_sep cmp) (FP.matches policy)

@@ -122,8 +122,8 @@ fn are_filters(filters: &FilterBlockReader<BloomPolicy>) -> bool {
     filters.num() == 1 && has_keys && !has_other && filters.key_may_match(2048, b"b")
 }
 
-/// Asserts that a block is read, and is the three pairs, if and only if a raised byte is before it. It is damaged if
-/// it is cut off at that byte.
+/// Asserts that a block is read, and is the three pairs, if and only if a raised byte is before it.
+/// It is damaged if it is cut off at that byte.
 fn check_damaged_block<E: Env>(
     rt: &(impl Abort + AllocGlobal),
     env: &mut E,
@@ -176,7 +176,8 @@ fn check_block<E: Env>(rt: &(impl Abort + AllocGlobal), env: &mut E) -> Result<(
     check_blocks_past(rt, env, &bytes)
 }
 
-/// Asserts that filters are damaged with a byte of theirs or of their trailer raised, and cut off at that byte.
+/// Asserts that filters are damaged with a byte of theirs or of their trailer raised, and cut off
+/// at that byte.
 fn check_damaged_filters<E: Env>(
     rt: &(impl Abort + AllocGlobal),
     env: &mut E,
@@ -286,10 +287,10 @@ fn id_without_a_compressor(rt: HostRuntime) -> Result<()> {
     Ok(())
 }
 
-/// A block of one pair, whose value has 260000 bytes.
+/// A block of one pair, whose value has 1300000 bytes.
 fn long_block(alloc: Global) -> Result<BlockContents> {
     let mut value = Vec::new(alloc);
-    for _ in 0..20000usize {
+    for _ in 0..100000usize {
         value.extend_from_slice(b"thirteen long")?;
     }
     one_pair(alloc, &value)

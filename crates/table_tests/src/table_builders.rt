@@ -1,6 +1,6 @@
 //! Tables built, and their bytes. The lengths are worked by hand from the format.
 use crate::checks::{
-    EIGHT, Given, ONE, add_all, compressed, failed_saying, footer_of, internal_table, table_of,
+    EIGHT, Given, ONE, add_all, compressed, failed_saying, footer_of, has_pairs, internal_table, table_of,
 };
 use bytes::Bytes;
 use leveldb_base::blockhandle::BlockHandle;
@@ -113,7 +113,8 @@ fn block_at(alloc: Global, table: &[u8], handle: &BlockHandle) -> Result<Block<D
     )
 }
 
-/// Walks over a block, whose pairs are these from an index on. Returns the index after the last of them.
+/// Walks over a block, whose pairs are these from an index on. Returns the index after the last of
+/// them.
 fn compare_block(
     rt: &impl Abort,
     alloc: Global,
@@ -134,7 +135,8 @@ fn compare_block(
     Ok(end)
 }
 
-/// How much of a table was read: how many data blocks, and the offset and the first pair's index of the next.
+/// How much of a table was read: how many data blocks, and the offset and the first pair's index of
+/// the next.
 #[derive(Clone, Copy)]
 struct Progress {
     blocks: usize,
@@ -149,7 +151,8 @@ fn line<'a>(lines: &'a BlockIter<'_, DefaultCmp>) -> Option<(&'a [u8], BlockHand
     Some((key, handle))
 }
 
-/// Reads a data block, which is at the next offset and has the next pairs. Its line's key is before the pair after them.
+/// Reads a data block, which is at the next offset and has the next pairs. Its line's key is before
+/// the pair after them.
 fn read_block(
     rt: &(impl Abort + AllocGlobal),
     table: &[u8],
@@ -176,8 +179,8 @@ fn read_block(
     })
 }
 
-/// Reads a table slowly: its data blocks are one after another from the front on, have exactly these pairs, and the
-/// index parts them. Returns how many they are.
+/// Reads a table slowly: its data blocks are one after another from the front on, have exactly
+/// these pairs, and the index parts them. Returns how many they are.
 fn count_blocks(
     rt: &(impl Abort + AllocGlobal),
     table: &[u8],
@@ -217,7 +220,8 @@ fn eight_pairs(rt: HostRuntime) -> Result<()> {
     Ok(())
 }
 
-/// The ids after the data block, the metaindex and the index of a table of eight pairs, and after its filters.
+/// The ids after the data block, the metaindex and the index of a table of eight pairs, and after
+/// its filters.
 fn ids_of(table: &[u8], footer: &Footer) -> [Option<u8>; 4] {
     [
         id_after(table, &BlockHandle::new(0, 82)),
@@ -280,6 +284,17 @@ fn one_internal_pair(rt: HostRuntime) -> Result<()> {
     Ok(())
 }
 
+/// The index's one line is under `a\0` at 1, which is after `a` at 1, and gives the data block's
+/// handle.
+#[test]
+fn index_key_of_one_internal_pair(rt: HostRuntime) -> Result<()> {
+    let table = internal_table(&rt, &options(16))?;
+    let line: Given<'_> = (b"a\0\x01\x01\0\0\0\0\0\0", &[0, 21]);
+    let index = block_at(rt.alloc(), &table, &footer_of(&rt, &table).index)?;
+    assert!(rt; has_pairs(rt.alloc(), &index, &[line])?);
+    Ok(())
+}
+
 /// The same without filters: 21 and 5 bytes, 9 and 5, 21 and 5, 23 and 5, and 48.
 #[test]
 fn one_internal_pair_without_filter(rt: HostRuntime) -> Result<()> {
@@ -303,7 +318,8 @@ fn empty_table(rt: HostRuntime) -> Result<()> {
     Ok(())
 }
 
-/// Blocks of 64 bytes, an entry of which takes 15 with its restart point: a fifth one fills a block, a fourth does not.
+/// Blocks of 64 bytes, an entry of which takes 15 with its restart point: a fifth one fills a
+/// block, a fourth does not.
 fn small_blocks() -> Options<DefaultCmp, BloomPolicy> {
     let mut options = options(1);
     options.block_size = 64;
@@ -355,7 +371,8 @@ fn many_blocks(rt: HostRuntime) -> Result<()> {
     Ok(())
 }
 
-/// Whether a table that is built into a sink fails with this text, and so does each further call if there still is a builder.
+/// Whether a table that is built into a sink fails with this text, and so does each further call if
+/// there still is a builder.
 fn fails_into(
     rt: &(impl Abort + AllocGlobal),
     options: &Options<DefaultCmp, BloomPolicy>,
@@ -376,7 +393,8 @@ fn fails_into(
     Ok(is_right && is_added && is_finished)
 }
 
-/// Asserts that a sink with room for this many bytes of a table takes exactly those. If all are taken, the flush fails.
+/// Asserts that a sink with room for this many bytes of a table takes exactly those. If all are
+/// taken, the flush fails.
 fn assert_taken(
     rt: &(impl Abort + AllocGlobal),
     options: &Options<DefaultCmp, BloomPolicy>,
@@ -414,7 +432,8 @@ fn sink_fails_anywhere(rt: HostRuntime) -> Result<()> {
     Ok(())
 }
 
-/// Asserts that the pairs fill a block of an id without a compressor, and that the builder is broken then.
+/// Asserts that the pairs fill a block of an id without a compressor, and that the builder is
+/// broken then.
 fn assert_unset(
     rt: &(impl Abort + AllocGlobal),
     options: &Options<DefaultCmp, BloomPolicy>,

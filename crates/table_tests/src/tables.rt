@@ -133,7 +133,8 @@ fn check_forward<E: Env, FP: FilterPolicy>(
     Ok(())
 }
 
-/// Whether a seek goes to a pair, a step back to the one before it, and a step forward to the pair again.
+/// Whether a seek goes to a pair, a step back to the one before it, and a step forward to the pair
+/// again.
 fn turns_at<E: Env, FP: FilterPolicy>(
     it: &mut TableIterator<'_, E, DefaultCmp, FP>,
     compressors: &CompressorList,
@@ -193,7 +194,8 @@ fn check_walks<E: Env, FP: FilterPolicy>(
     check_seeks(rt, &mut it, compressors, pairs)
 }
 
-/// Whether what was found for a key is the first pair at or after it; a filter may rule out a key that isn't there.
+/// Whether what was found for a key is the first pair at or after it; a filter may rule out a key
+/// that isn't there.
 fn is_found(
     found: &Option<(Bytes, Bytes)>,
     first: Option<Given<'_>>,

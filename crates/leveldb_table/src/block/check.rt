@@ -78,26 +78,35 @@ fn put_key(next: &mut Vec<u8>, key: &[u8], entry: &EntryParts<'_>) -> Result<()>
     Ok(())
 }
 
-// Puts the entry's key together, and says whether the entry may be after the key before it.
-fn put_next<C: Cmp>(
+// Makes the entry's key the last one, and returns whether the entry may be after the key before
+// it. A key that shares nothing is compared where it is in the block; any other is put together in
+// `spare`, which then changes places with `key`.
+fn take_key<C: Cmp>(
     cmp: &C,
     first: bool,
     restart: bool,
-    key: &[u8],
     entry: &EntryParts<'_>,
-    next: &mut Vec<u8>,
+    key: &mut Vec<u8>,
+    spare: &mut Vec<u8>,
 ) -> Result<bool>
-    ensures follows { IfOk result (λ follows. IsTrue follows
-        ↔ CanFollow (C.cmp cmp.now) (key_before first key.now) (entry_in restart entry.now)) }
-    ensures key { IfOk result (λ follows. follows ≡ true → next.new.items
-        ≡ key_of (key_before first key.now) (entry_in restart entry.now)) }
+    ensures follows { IfOk result (λ follows. IsTrue follows ↔ CanFollow (C.cmp cmp.now)
+        (key_before first key.old.items) (entry_in restart entry.now)) }
+    ensures key { IfOk result (λ follows. follows ≡ true → key.new.items
+        ≡ key_of (key_before first key.old.items) (entry_in restart entry.now)) }
     ensures memory { IfErr result IsOutOfMemory }
 {
-    if !shares_within(first, restart, key, entry) {
+    if !shares_within(first, restart, key.as_slice(), entry) {
         return Ok(false);
     }
-    put_key(next, key, entry)?;
-    Ok(rises(cmp, first, key, next.as_slice()))
+    if entry.shared == 0 {
+        let follows = rises(cmp, first, key.as_slice(), entry.rest);
+        key.clear();
+        key.extend_from_slice(entry.rest)?;
+        return Ok(follows);
+    }
+    put_key(spare, key.as_slice(), entry)?;
+    mem::swap(key, spare);
+    Ok(rises(cmp, first, spare.as_slice(), key.as_slice()))
 }
 
 /// Where the entries of a block end and its restart points begin; `None` where it is too short for
@@ -128,7 +137,7 @@ pub(crate) fn check_parts<C: Cmp>(
         return Ok(check_empty(points));
     }
     let mut key = Vec::new(alloc);
-    let mut next = Vec::new(alloc);
+    let mut spare = Vec::new(alloc);
     let mut left = entries;
     let mut points_left = points;
     let mut first = true;
@@ -138,11 +147,10 @@ pub(crate) fn check_parts<C: Cmp>(
             return Ok(None);
         };
         let restart = begins_at(points_left, entries.len() - left.len());
-        if !put_next(cmp, first, restart, key.as_slice(), &entry, &mut next)? {
+        if !take_key(cmp, first, restart, &entry, &mut key, &mut spare)? {
             return Ok(None);
         }
-        accepted = accepts_too(cmp, accepted, next.as_slice());
-        mem::swap(&mut key, &mut next);
+        accepted = accepts_too(cmp, accepted, key.as_slice());
         first = false;
         left = after;
         points_left = skip_point(points_left, restart);

@@ -29,6 +29,10 @@ use leveldb_env::options::Options;
 use std::alloc::Global;
 use std::mem::replace;
 
+// How many lines of the index lie between the starts of two restart points: each has its own, so
+// that a look-up reads no line to put a key together.
+const INDEX_INTERVAL: usize = 1;
+
 // The room that a new data block has beyond what the last one took.
 const BLOCK_SPARE: usize = 64;
 
@@ -44,6 +48,8 @@ pub struct BuilderCore<C: Cmp, FP: FilterPolicy> {
 
     // the data block that is still open
     block: BlockBuilder<C>,
+
+    // one line for each data block, with a restart point at each
     index: BlockBuilder<C>,
     filter: FilterBlockBuilder<FP>,
 
@@ -65,7 +71,7 @@ pub struct BuilderCore<C: Cmp, FP: FilterPolicy> {
 impl<C: Cmp + Copy, FP: FilterPolicy> BuilderCore<C, FP> {
     ghost use Rattle.leveldb_table.specs.Table.{filter_key};
     ghost use Rattle.leveldb_table.specs.TableBuilderStage.{Closes, first_key, with_pair};
-    ghost use Rattle.leveldb_table.specs.TableBuilder.{IsNewBuilder, stage, last_of, order_of, policy_of, IsBegun, IsBroken, IsReady, IsReadyFor, IsClosable, KeepsChoices, IsBuiltTable, IsFull, table_estimate, PutsEnd, ClosesLast, MakesRoom, AddsPair, FinishesTable};
+    ghost use Rattle.leveldb_table.specs.TableBuilder.{IsNewBuilder, stage, last_of, order_of, policy_of, IsBegun, IsBroken, IsReady, IsReadyFor, IsClosable, KeepsChoices, StaysUnfinished, IsBuiltTable, IsFull, table_estimate, PutsEnd, ClosesLast, MakesRoom, AddsPair, FinishesTable};
     ghost use Rattle.leveldb_table.specs.TableBuilderAdd.{TakesPair, TakesNoPair, HasRoom, IsNotClosed};
     ghost use Rattle.leveldb_table.specs.TableBuilderFinish.{IsFinished, StopsFromFilters, StopsUnset, ClosesRest, IsLeftOpen, IsFinishError};
 
@@ -95,7 +101,7 @@ impl<C: Cmp + Copy, FP: FilterPolicy> BuilderCore<C, FP> {
             block_size: options.block_size,
             compressor: options.compressor,
             block: BlockBuilder::spaced(alloc, cmp, interval),
-            index: BlockBuilder::spaced(alloc, cmp, interval),
+            index: BlockBuilder::spaced(alloc, cmp, INDEX_INTERVAL),
             filter: FilterBlockBuilder::new(alloc, policy),
             offset: 0,
             count: 0,
@@ -222,13 +228,11 @@ impl<C: Cmp + Copy, FP: FilterPolicy> BuilderCore<C, FP> {
             (C.cmp (order_of self.old)) (C.shortest_sep (order_of self.old))
             (FP.matches (policy_of self.old)) (FP.filter_for (policy_of self.old))
             self.old.compressor (stage self.new) next.now sink.old sink.new) }
-        ensures full { OnOk result (IsFull self.old → (stage self.new).open_pairs ≡ []) }
-        ensures has_room { OnOk result (HasRoom (⟦<CompressorList as Compressors>⟧.codings
-            compressors.now) self.old S.puts next.now self.new sink.old sink.new) }
-        ensures ready { OnOk result (IsReadyFor C.accepts C.cmp self.new next.now) }
+        ensures room { OnOk result (HasRoom (⟦<CompressorList as Compressors>⟧.codings
+            compressors.now) self.old S.puts next.now self.new sink.old sink.new
+            × IsReadyFor C.accepts C.cmp self.new next.now) }
         ensures choices { KeepsChoices self.old self.new }
-        ensures count { self.new.count ≡ self.old.count }
-        ensures broken { self.new.broken ≡ true }
+        ensures still { StaysUnfinished self.old self.new }
         ensures cause { IfErr result (λ status. IsFull self.old
             × IsNotClosed (⟦<CompressorList as Compressors>⟧.codings compressors.now) self.old
             S.puts next.now sink.old status sink.new) }
@@ -255,10 +259,7 @@ impl<C: Cmp + Copy, FP: FilterPolicy> BuilderCore<C, FP> {
             (FP.filter_for (policy_of self.old)) self.old.compressor
             (stage self.new) sink.old sink.new) }
         ensures order { OnOk result (C.cmp self.new.index.cmp ≡ C.cmp (order_of self.old)) }
-        ensures policy { policy_of self.new ≡ policy_of self.old }
-        ensures compressor { self.new.compressor ≡ self.old.compressor }
-        ensures intervals { (self.new.block.interval ≡ self.old.block.interval)
-            × (self.new.index.interval ≡ self.old.index.interval) }
+        ensures choices { KeepsChoices self.old self.new }
         ensures rest { OnOk result (ClosesRest (⟦<CompressorList as Compressors>⟧.codings
             compressors.now) self.old S.puts (stage self.new) sink.old sink.new) }
         ensures cause { let codings = ⟦<CompressorList as Compressors>⟧.codings compressors.now in
@@ -291,11 +292,10 @@ impl<C: Cmp + Copy, FP: FilterPolicy> BuilderCore<C, FP> {
             (C.cmp (order_of self.old)) (C.shortest_sep (order_of self.old))
             (FP.filter_for (policy_of self.old)) self.old.compressor next.now
             (stage self.old) bytes (stage self.new)) }
-        ensures open_filter { OnOk result (IsReady C.accepts C.cmp self.new) }
-        ensures fresh { OnOk result (self.new.block.built.0 ≡ []) }
+        ensures ready { OnOk result
+            (IsReady C.accepts C.cmp self.new × (self.new.block.built.0 ≡ [])) }
         ensures choices { KeepsChoices self.old self.new }
-        ensures broken { self.new.broken ≡ true }
-        ensures count { self.new.count ≡ self.old.count }
+        ensures still { StaysUnfinished self.old self.new }
         ensures cause { let codings = ⟦<CompressorList as Compressors>⟧.codings compressors.now in
             IfErr result (λ status. IsNotClosed codings self.old S.puts next.now sink.old status
             sink.new) }
@@ -311,14 +311,8 @@ impl<C: Cmp + Copy, FP: FilterPolicy> BuilderCore<C, FP> {
         let room = self.room_for_next();
         let fresh = self.block.fresh(room)?;
         let block = replace(&mut self.block, fresh).into_bytes()?;
-        let placed = put_encoded(
-            self.alloc,
-            sink,
-            compressors,
-            self.compressor,
-            self.offset,
-            block,
-        )?;
+        let (id, offset) = (self.compressor, self.offset);
+        let placed = put_encoded(self.alloc, sink, compressors, id, offset, block)?;
         self.offset = placed.end;
         add_handle(&mut self.index, &separator, placed.handle)?;
         self.filter.start_block(self.offset)
@@ -362,20 +356,10 @@ impl<C: Cmp + Copy, FP: FilterPolicy> BuilderCore<C, FP> {
         let filters = put_stored(alloc, sink, NoneCompressor::ID, offset, filter.finish()?)?;
         let meta = metaindex(alloc, index.interval(), name, filters.handle)?;
         let meta = put_encoded(alloc, sink, compressors, compressor, filters.end, meta)?;
-        let index = put_encoded(
-            alloc,
-            sink,
-            compressors,
-            compressor,
-            meta.end,
-            index.into_bytes()?,
-        )?;
-        put_footer(
-            alloc,
-            sink,
-            index.end,
-            Footer::new(meta.handle, index.handle),
-        )
+        let lines = index.into_bytes()?;
+        let index = put_encoded(alloc, sink, compressors, compressor, meta.end, lines)?;
+        let footer = Footer::new(meta.handle, index.handle);
+        put_footer(alloc, sink, index.end, footer)
     }
 }
 

@@ -26,7 +26,7 @@ pub struct TableIterator<'a, E: Env, C: Cmp + Drop, FP: FilterPolicy> {
 }
 
 impl<E: Env, C: Cmp + Copy + Drop, FP: FilterPolicy> Table<E, C, FP> {
-    ghost use Rattle.leveldb_table.specs.TableReaderBlocks.{StartsOver};
+    ghost use Rattle.leveldb_table.specs.TableReaderBlocks.{StartsOver, IsSameBorrow};
 
     /// A walk over the table's pairs, at no position.
     pub fn iter<'a>(
@@ -36,12 +36,9 @@ impl<E: Env, C: Cmp + Copy + Drop, FP: FilterPolicy> Table<E, C, FP> {
         cache: &'a mut BlockCache<C>,
     ) -> Result<TableIterator<'a, E, C, FP>>
         ensures ok { IfOk result (λ it. StartsOver self.entry.now it.core) }
-        ensures env_reference { IfOk result (λ it. it.env.ghost_name ≡ env.entry.ghost_name) }
-        ensures cache_reference { IfOk result
-            (λ it. it.cache.ghost_name ≡ cache.entry.ghost_name) }
         ensures table { IfOk result (λ it. it.table.now ≡ self.entry.now) }
-        ensures env { IfOk result (λ it. it.env.now ≡ env.entry.now) }
-        ensures cache { IfOk result (λ it. it.cache.now ≡ cache.entry.now) }
+        ensures env { IfOk result (λ it. IsSameBorrow env.entry it.env) }
+        ensures cache { IfOk result (λ it. IsSameBorrow cache.entry it.cache) }
         ensures memory { IfErr result IsOutOfMemory }
     {
         Ok(TableIterator {
@@ -56,6 +53,7 @@ impl<E: Env, C: Cmp + Copy + Drop, FP: FilterPolicy> Table<E, C, FP> {
 impl<'a, E: Env, C: Cmp + Copy + Drop, FP: FilterPolicy> TableIterator<'a, E, C, FP> {
     ghost use Rattle.leveldb_table.specs.TableReaderMoves.{Advances, StepsBack, SeeksKey, SeeksFirst, SeeksLast};
     ghost use Rattle.leveldb_table.specs.TableReader.{pairs_in};
+    ghost use Rattle.leveldb_table.specs.TableReaderBlocks.{IsSameBorrow};
     ghost use Rattle.leveldb_table.specs.TableReaderWalk.{IsAtPosition, current_of, inner_position};
 
     /// Moves to the next pair, from no position to the first, and from the last to no position.
@@ -144,11 +142,9 @@ impl<'a, E: Env, C: Cmp + Copy + Drop, FP: FilterPolicy> TableIterator<'a, E, C,
     pub fn reset(&mut self)
         ensures position { self.new.core.inner ≡ None }
         ensures index { self.new.core.index ≡ self.old.core.index }
-        ensures env_reference { self.new.env.ghost_name ≡ self.old.env.ghost_name }
-        ensures cache_reference { self.new.cache.ghost_name ≡ self.old.cache.ghost_name }
         ensures table { self.new.table.now ≡ self.old.table.now }
-        ensures env { self.new.env.now ≡ self.old.env.now }
-        ensures cache { self.new.cache.now ≡ self.old.cache.now }
+        ensures env { IsSameBorrow self.old.env self.new.env }
+        ensures cache { IsSameBorrow self.old.cache self.new.cache }
     {
         self.core.reset();
     }

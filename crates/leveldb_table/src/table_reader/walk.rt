@@ -40,7 +40,7 @@ impl<C: Cmp + Copy + Drop> TableCore<C> {
     ghost use Rattle.leveldb_table.specs.TableReaderBlocks.{StartsOver, IsBlockAt, IsBlockOf, line_of, MovesOverFromLine};
     ghost use Rattle.leveldb_table.specs.TableReaderMoves.{Advances, StepsBack, SeeksKey, SeeksFirst, SeeksLast, ToLast, ToNextBlock, ToPreviousBlock, ToKey, ToKeyIfLet};
     ghost use Rattle.leveldb_table.specs.TableReader.{pairs_in, lines_of, lets, GainsBlocksOf};
-    ghost use Rattle.leveldb_table.specs.TableReaderWalk.{IsAtPosition, inner_block, inner_position, inner_pairs, current_of, pairs_over, position_over};
+    ghost use Rattle.leveldb_table.specs.TableReaderWalk.{IsAtPosition, StepsInside, inner_block, inner_position, inner_pairs, current_of, pairs_over, position_over};
 
     /// At no position.
     pub fn new<E: Env, FP: FilterPolicy>(
@@ -394,14 +394,9 @@ impl<C: Cmp + Copy + Drop> TableCore<C> {
 
     // Moves to the next pair of the block, and after its last to no position.
     fn step_forward(&mut self) -> Result<bool>
-        ensures block { inner_block self.new.inner ≡ inner_block self.old.inner }
-        ensures pairs { inner_pairs self.new.inner ≡ inner_pairs self.old.inner }
-        ensures ok { OnOk result (inner_position self.new.inner
-            ≡ next_position (inner_pairs self.old.inner) (inner_position self.old.inner)) }
-        ensures there { IfOk result (λ there. there ≡ is_some (inner_position self.new.inner)) }
-        ensures err { OnErr result (inner_position self.new.inner ≡ None) }
-        ensures index { self.new.index ≡ self.old.index }
-        ensures memory { IfErr result IsOutOfMemory }
+        ensures { StepsInside (inner_position self.new.inner
+            ≡ next_position (inner_pairs self.old.inner) (inner_position self.old.inner))
+            self.old result self.new }
     {
         match &mut self.inner {
             Some(inner) => inner.advance(),
@@ -411,14 +406,9 @@ impl<C: Cmp + Copy + Drop> TableCore<C> {
 
     // Moves to the pair of the block before, and from its first to no position.
     fn step_back(&mut self) -> Result<bool>
-        ensures block { inner_block self.new.inner ≡ inner_block self.old.inner }
-        ensures pairs { inner_pairs self.new.inner ≡ inner_pairs self.old.inner }
-        ensures ok { OnOk result
-            (inner_position self.new.inner ≡ previous_position (inner_position self.old.inner)) }
-        ensures there { IfOk result (λ there. there ≡ is_some (inner_position self.new.inner)) }
-        ensures err { OnErr result (inner_position self.new.inner ≡ None) }
-        ensures index { self.new.index ≡ self.old.index }
-        ensures memory { IfErr result IsOutOfMemory }
+        ensures { StepsInside
+            (inner_position self.new.inner ≡ previous_position (inner_position self.old.inner))
+            self.old result self.new }
     {
         match &mut self.inner {
             Some(inner) => inner.prev(),
@@ -428,14 +418,9 @@ impl<C: Cmp + Copy + Drop> TableCore<C> {
 
     // Moves to the last pair of the block, or to no position in an empty one.
     fn to_last(&mut self) -> Result<bool>
-        ensures block { inner_block self.new.inner ≡ inner_block self.old.inner }
-        ensures pairs { inner_pairs self.new.inner ≡ inner_pairs self.old.inner }
-        ensures ok { OnOk result
-            (inner_position self.new.inner ≡ last_position (inner_pairs self.old.inner)) }
-        ensures there { IfOk result (λ there. there ≡ is_some (inner_position self.new.inner)) }
-        ensures err { OnErr result (inner_position self.new.inner ≡ None) }
-        ensures index { self.new.index ≡ self.old.index }
-        ensures memory { IfErr result IsOutOfMemory }
+        ensures { StepsInside
+            (inner_position self.new.inner ≡ last_position (inner_pairs self.old.inner)) self.old
+            result self.new }
     {
         if let Some(inner) = &mut self.inner {
             inner.seek_to_last()?;
@@ -446,14 +431,9 @@ impl<C: Cmp + Copy + Drop> TableCore<C> {
     // Moves to the first pair of the block at or after the key, or to no position where all keys
     // are before it.
     fn seek_inside(&mut self, key: &[u8]) -> Result<bool>
-        ensures block { inner_block self.new.inner ≡ inner_block self.old.inner }
-        ensures pairs { inner_pairs self.new.inner ≡ inner_pairs self.old.inner }
-        ensures ok { OnOk result (IfSome self.old.inner (λ walk. inner_position self.new.inner
-            ≡ seek_position (C.cmp walk.block.cmp) (pairs_over walk) key.now)) }
-        ensures there { IfOk result (λ there. there ≡ is_some (inner_position self.new.inner)) }
-        ensures err { OnErr result (inner_position self.new.inner ≡ None) }
-        ensures index { self.new.index ≡ self.old.index }
-        ensures memory { IfErr result IsOutOfMemory }
+        ensures { StepsInside (IfSome self.old.inner (λ walk. inner_position self.new.inner
+            ≡ seek_position (C.cmp walk.block.cmp) (pairs_over walk) key.now)) self.old result
+            self.new }
     {
         if let Some(inner) = &mut self.inner {
             inner.seek(key)?;

@@ -28,10 +28,9 @@ fn check_in_turn<E: Env, FP: FilterPolicy>(
     Ok(())
 }
 
-/// Asserts that two tables of one file have their pairs, and that a cache with this capacity holds as many of their
-/// 24 blocks as it can.
+/// Asserts that two tables of one file have their pairs, and that a cache with this capacity holds
+/// as many of their 24 blocks as it can.
 fn assert_opened_twice(rt: &(impl Abort + AllocGlobal), capacity: usize) -> Result<()> {
-    assert!(rt; capacity > 0);
     let mut env = MemEnv::new(rt.alloc());
     let mut cache = Cache::new(rt.alloc(), capacity)?;
     let first = table_in(rt, &mut env, &mut cache, &PAIRS)?;
@@ -46,12 +45,19 @@ fn opened_twice_with_a_cache_for_one_block(rt: HostRuntime) -> Result<()> {
     assert_opened_twice(&rt, 1)
 }
 
+/// A cache with room for no block keeps none: each block is read from the file.
+#[test]
+fn opened_twice_without_a_cache(rt: HostRuntime) -> Result<()> {
+    assert_opened_twice(&rt, 0)
+}
+
 #[test]
 fn opened_twice_with_a_cache_for_all_blocks(rt: HostRuntime) -> Result<()> {
     assert_opened_twice(&rt, 100)
 }
 
-/// Asserts that the blocks that a cache holds are read once their file is empty, and that another cache doesn't help.
+/// Asserts that the blocks that a cache holds are read once their file is empty, and that another
+/// cache doesn't help.
 fn assert_cached<E: Env, FP: FilterPolicy>(
     rt: &(impl Abort + AllocGlobal),
     table: &Table<E, DefaultCmp, FP>,

@@ -12,7 +12,8 @@ fn data_handle(alloc: Global, index: &Block<DefaultCmp>) -> Result<Option<BlockH
     Ok(handle.map(|read| read.0))
 }
 
-/// Asserts that a data block has the eight pairs, and isn't read without the compressor of the id 7.
+/// Asserts that a data block has the eight pairs, and isn't read without the compressor of the id
+/// 7.
 fn assert_data(
     rt: &(impl Abort + AllocGlobal),
     env: &mut MemEnv,
@@ -46,7 +47,8 @@ fn by_a_compressor(rt: HostRuntime) -> Result<()> {
     assert_data(&rt, &mut env, &file, compressors, data)
 }
 
-/// Whether a walk over a damaged table goes to its pairs until a step fails, which leaves no position.
+/// Whether a walk over a damaged table goes to its pairs until a step fails, which leaves no
+/// position.
 fn walk_fails<E: Env, C: Cmp + Copy + Drop, FP: FilterPolicy>(
     alloc: Global,
     table: &Table<E, C, FP>,
@@ -191,7 +193,8 @@ fn assert_neither(
     Ok(())
 }
 
-/// Footers one handle of which names no bytes of the file, or bytes that end after it. The right footer is taken.
+/// Footers one handle of which names no bytes of the file, or bytes that end after it. The right
+/// footer is taken.
 #[test]
 fn handles_past_the_file(rt: HostRuntime) -> Result<()> {
     let bytes = table_of(&rt, &Options::default(), &EIGHT)?;
@@ -227,4 +230,139 @@ fn no_filters(rt: HostRuntime) -> Result<()> {
         );
     }
     Ok(())
+}
+
+/// Whether a file isn't opened as a table, and the error says this.
+fn opening_says(
+    alloc: Global,
+    options: &Options<DefaultCmp, BloomPolicy>,
+    bytes: &[u8],
+    text: &str,
+) -> Result<bool> {
+    let mut env = MemEnv::new(alloc);
+    let mut cache = Cache::new(alloc, 1)?;
+    let answer = open_file(alloc, options, &mut env, &mut cache, bytes);
+    failed_saying(answer, StatusCode::Corruption, text)
+}
+
+/// Bytes of the filters, the metaindex, the index and the footer of a table, and what opening it
+/// says where one of them is raised: the data block has 82 and 5 bytes, and then come 20 and 5, 47
+/// and 5, 16 and 5, and 48.
+const SAID: [(usize, &str); 6] = [
+    (87, "Corruption: block at 87: wrong checksum"),
+    (111, "Corruption: block at 87: wrong checksum"),
+    (112, "Corruption: block at 112: wrong checksum"),
+    (164, "Corruption: block at 164: wrong checksum"),
+    (
+        224,
+        "Corruption: footer at 185: no magic number, or bad handles",
+    ),
+    (
+        232,
+        "Corruption: footer at 185: no magic number, or bad handles",
+    ),
+];
+
+/// An error of damage says which part of the table it is in, at which offset, and how.
+#[test]
+fn damage_says_where(rt: HostRuntime) -> Result<()> {
+    let options = compressed(rt.alloc())?;
+    let mut bytes = table_of(&rt, &options, &EIGHT)?;
+    for (place, text) in &SAID {
+        change_byte(&mut bytes, *place, 1);
+        assert!(rt;
+            opening_says(rt.alloc(), &options, &bytes, text)?,
+            "byte {place}"
+        );
+        change_byte(&mut bytes, *place, 255);
+    }
+    Ok(())
+}
+
+/// The same where bytes are missing: of a file that is too short, and after a handle's offset.
+#[test]
+fn missing_bytes_say_where(rt: HostRuntime) -> Result<()> {
+    let options = Options::default();
+    let bytes = table_of(&rt, &options, &EIGHT)?;
+    let cut = bytes.get(..47).unwrap_or_default();
+    let text = "Corruption: a file is too short to be a table";
+    assert!(rt; opening_says(rt.alloc(), &options, cut, text)?);
+    let far = BlockHandle::new(5000, 8);
+    let footer = footer_of(&rt, &bytes);
+    let bytes = with_footer(rt.alloc(), &bytes, footer.meta_index, far)?;
+    let text = "Corruption: block at 5000: past the end of the file";
+    assert!(rt; opening_says(rt.alloc(), &options, &bytes, text)?);
+    Ok(())
+}
+
+/// Whether a key isn't looked up, and the error says this.
+fn look_up_says(
+    alloc: Global,
+    options: &Options<DefaultCmp, BloomPolicy>,
+    bytes: &[u8],
+    text: &str,
+) -> Result<bool> {
+    let mut env = MemEnv::new(alloc);
+    let mut cache = Cache::new(alloc, 0)?;
+    let table = open_file(alloc, options, &mut env, &mut cache, bytes)?;
+    let compressors = &options.compressor_list;
+    let answer = table.get(alloc, &mut env, &mut cache, compressors, b"abc");
+    failed_saying(answer, StatusCode::Corruption, text)
+}
+
+/// The same of a data block, once a key is looked up in it.
+#[test]
+fn damaged_block_says_where(rt: HostRuntime) -> Result<()> {
+    let options = compressed(rt.alloc())?;
+    let mut bytes = table_of(&rt, &options, &EIGHT)?;
+    change_byte(&mut bytes, 40, 1);
+    let text = "Corruption: block at 0: wrong checksum";
+    assert!(rt; look_up_says(rt.alloc(), &options, &bytes, text)?);
+    Ok(())
+}
+
+/// Opens the table that a file of these bytes is, without its filters.
+fn open_unfiltered<E: Env>(
+    alloc: Global,
+    options: &Options<DefaultCmp, BloomPolicy>,
+    env: &mut E,
+    cache: &mut BlockCache<DefaultCmp>,
+    bytes: &[u8],
+) -> Result<Table<E, DefaultCmp, BloomPolicy>> {
+    let file = file_of(env, bytes)?;
+    let compressors = &options.compressor_list;
+    Table::open_no_filter(
+        alloc,
+        options.cmp,
+        compressors,
+        env,
+        cache,
+        file,
+        bytes.len(),
+    )
+}
+
+/// Asserts that the table of the twelve pairs is read without its filters.
+fn assert_unfiltered(
+    rt: &(impl Abort + AllocGlobal),
+    options: &Options<DefaultCmp, BloomPolicy>,
+    bytes: &[u8],
+) -> Result<()> {
+    let mut env = MemEnv::new(rt.alloc());
+    let mut cache = Cache::new(rt.alloc(), 3)?;
+    let table = open_unfiltered(rt.alloc(), options, &mut env, &mut cache, bytes)?;
+    let compressors = &options.compressor_list;
+    check_walks(rt, &table, &mut env, &mut cache, compressors, &PAIRS)?;
+    check_gets(rt, &table, &mut env, &mut cache, compressors, &PAIRS, false)
+}
+
+/// Damaged filters are passed over by a table that is opened without them, and by no other.
+#[test]
+fn damaged_filters_are_passed_over(rt: HostRuntime) -> Result<()> {
+    let options = Options::default();
+    let mut bytes = table_of(&rt, &options, &PAIRS)?;
+    let end = footer_of(&rt, &bytes).meta_index.offset();
+    change_byte(&mut bytes, end.saturating_sub(6), 1);
+    assert!(rt; is_no_table(rt.alloc(), &bytes)?);
+    assert_unfiltered(&rt, &options, &bytes)
 }

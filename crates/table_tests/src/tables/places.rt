@@ -1,8 +1,8 @@
 //! The offsets of a table's blocks, and keys between two of them.
 use super::*;
 
-/// Asserts the offset of each pair's block, which is after those before it: of 3 bytes, the pair's, 8 and 5. After the
-/// last are filters of 9 and 5.
+/// Asserts the offset of each pair's block, which is after those before it: of 3 bytes, the pair's,
+/// 8 and 5. After the last are filters of 9 and 5.
 fn assert_offsets<E: Env, FP: FilterPolicy>(
     rt: &(impl Abort + AllocGlobal),
     table: &Table<E, DefaultCmp, FP>,

@@ -19,7 +19,7 @@ returns-in_default-clause-found g c =
 pub returns-then-not-branch-clause-found : goal.returns-then-not-branch-clause-found
 returns-then-not-branch-clause-found g c =
     let some : 0 < length c.loop-left.left.now = grind (arith, nat_tests) in
-    let follows = rw c.as_slice.ensures.value at c.in_ok-put_next.ensures.follows in
+    let follows = c.in_ok-take_key.ensures.follows in
     checks_no_follow c.loop-left.invariant some c.in-Some.entry.shared c.in-Some.entry.rest.now c.in-Some.entry.value.now c.in-Some.after.now c.in-Some.ensures.0 c.in-Some.ensures.1
     c.begins_at-restart.result c.begins_at-restart.ensures
     (λ h. let t = follows.1 h in let no = c.if-not-branch.true in cc)
@@ -38,13 +38,12 @@ loop-left-smaller g c =
 pub loop-left-preserved : goal.loop-left-preserved
 loop-left-preserved g c =
     let some : 0 < length c.loop-left.left.now = grind (arith, nat_tests) in
-    let follows = rw c.as_slice.ensures.value at c.in_ok-put_next.ensures.follows in
-    let put = rw c.as_slice.ensures.value at (c.in_ok-put_next.ensures.key c.if-not-branch.false) in
-    let still = rw c.as_slice-in-loop-left.ensures.value at c.accepts_too-accepted.ensures in
-    rw c.swap.ensures.x_after
-    (checking_more c.loop-left.invariant some c.in-Some.entry.shared c.in-Some.entry.rest.now c.in-Some.entry.value.now c.in-Some.after.now c.in-Some.ensures.0 c.in-Some.ensures.1
-    c.begins_at-restart.result c.begins_at-restart.ensures (follows.0 c.if-not-branch.false) c.put_next.new.next.items put
-    c.accepts_too-accepted.result still c.skip_point-points_left.result.now c.skip_point-points_left.ensures)
+    let follows = c.in_ok-take_key.ensures.follows in
+    let put = c.in_ok-take_key.ensures.key c.if-not-branch.false in
+    let still = rw c.as_slice.ensures.value at c.accepts_too-accepted.ensures in
+    checking_more c.loop-left.invariant some c.in-Some.entry.shared c.in-Some.entry.rest.now c.in-Some.entry.value.now c.in-Some.after.now c.in-Some.ensures.0 c.in-Some.ensures.1
+    c.begins_at-restart.result c.begins_at-restart.ensures (follows.0 c.if-not-branch.false) c.take_key.new.key.items put
+    c.accepts_too-accepted.result still c.skip_point-points_left.result.now c.skip_point-points_left.ensures
 
 pub returns-then-points_left-ge4-clause-found : goal.returns-then-points_left-ge4-clause-found
 returns-then-points_left-ge4-clause-found g c =

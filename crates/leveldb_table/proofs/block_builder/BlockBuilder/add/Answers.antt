@@ -9,25 +9,25 @@ pub returns-then-not-fits-clause-err : goal.returns-then-not-fits-clause-err
 returns-then-not-fits-clause-err g c =
     let encoded = c.args.self.now.built.1.encoded in
     let pointed = c.args.self.now.built.1.pointed in
-    OnErr-always c.err.result (search (built_are, rules))
+    OnErr-always c.err.result (search (built_are, rules), refl)
 
 pub returns-in_err-reserve-clause-err : goal.returns-in_err-reserve-clause-err
 returns-in_err-reserve-clause-err g c =
     let encoded = c.reserve.ensures.items ∙ c.args.self.now.built.1.encoded in
     let pointed = c.args.self.now.built.1.pointed in
-    OnErr-always c.from_residual.result (search (built_are, rules))
+    OnErr-always c.from_residual.result (search (built_are, rules), refl)
 
 pub returns-in_err-reserve-2-clause-err : goal.returns-in_err-reserve-2-clause-err
 returns-in_err-reserve-2-clause-err g c =
     let encoded = c.reserve.ensures.items ∙ c.args.self.now.built.1.encoded in
     let pointed = c.args.self.now.built.1.pointed in
-    OnErr-always c.from_residual-in_err-reserve-2.result (search (built_are, rules))
+    OnErr-always c.from_residual-in_err-reserve-2.result (search (built_are, rules), refl)
 
 pub returns-in_err-reserve-3-clause-err : goal.returns-in_err-reserve-3-clause-err
 returns-in_err-reserve-3-clause-err g c =
     let encoded = c.reserve.ensures.items ∙ c.args.self.now.built.1.encoded in
     let pointed = ap (λ z. 0 ∷ z) c.reserve-3.ensures.items ∙ c.args.self.now.built.1.pointed in
-    OnErr-always c.from_residual-in_err-reserve-3.result (search (built_are, rules))
+    OnErr-always c.from_residual-in_err-reserve-3.result (search (built_are, rules), refl)
 
 pub put_entry-requires : goal.put_entry-requires
 put_entry-requires g c =
@@ -100,30 +100,5 @@ returns-clause-ok g c =
     let encoded = more.encoded in
     let pointed = more.pointed in
     let pairs = new_pairs built restart key value shared refl within same c.shared_with-shared.ensures.none fit.1 fit.2 c.shared_with-shared.ensures.within_key offset_fits c.requires in
-    search (pairs_are, rules)
-
-pub returns-clause-entry : goal.returns-clause-entry
-returns-clause-entry g c =
-    let fit = c.fits.ensures.0 c.if-not-fits.false in
-    let built = c.args.self.now.built.1 in
-    let restart = nat_eq (c.args.self.now.count % c.args.self.now.interval) 0 in
-    let shared = c.shared_with-shared.result in
-    let key = c.args.key.now in
-    let value = c.args.value.now in
-    let within = subst (λ z. shared ≤ length z) c.as_slice.ensures.value c.shared_with-shared.ensures.within_last in
-    let same = subst (λ z. take shared z ≡ take shared key) c.as_slice.ensures.value c.shared_with-shared.ensures.same in
-    let here = fit.0 in
-    let offset_fits : length c.args.self.now.buffer.items < 2 ^ 32 = omega (arith, here, c.len.ensures, c.args.self.now.buffer.ok.0) in
-    let size : c.len-3.result ≡ length c.args.self.now.buffer.items = omega (arith, c.len-3.ensures, c.reserve.ensures.len, c.args.self.now.buffer.ok.0) in
-    let written = rw take_rest at c.put_entry.ensures in
-    let put = written ∙ ap (λ z. z ++ parts_bytes shared (drop shared key) value) c.reserve.ensures.items in
-    let longest = λ (no : restart ≡ false). c.shared_with-shared.ensures.longest no ∙ ap (λ z. shared_len z key) c.as_slice.ensures.value in
-    let more =
-    built_more built restart key value shared refl within same c.shared_with-shared.ensures.none fit.1 fit.2 c.shared_with-shared.ensures.within_key offset_fits c.requires
-    longest c.put_point.new.points.items (λ h. c.put_point.ensures.first h ∙ c.reserve-3.ensures.items)
-    (λ h. c.put_point.ensures.others h ∙ ap (λ z. z ++ points_more restart c.len-3.result) c.reserve-3.ensures.items ∙ ap (λ z. c.args.self.now.points.items ++ points_more restart z) size)
-    c.put_entry.new.buffer.items put in
-    let encoded = more.encoded in
-    let pointed = more.pointed in
-    let put = ap (λ z. c.args.self.now.built.0 ++ z ∷ []) (entry_is c.args.self.now.count built key value shared c.shared_with-shared.ensures.none longest) in
-    search (entries_are, rules)
+    let entry = ap (λ z. c.args.self.now.built.0 ++ z ∷ []) (entry_is c.args.self.now.count built key value shared c.shared_with-shared.ensures.none longest) in
+    (record { pairs = search (pairs_are, rules); entry = search (entries_are, rules) }, refl)

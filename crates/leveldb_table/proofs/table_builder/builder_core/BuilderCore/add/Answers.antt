@@ -23,13 +23,13 @@ make_room-requires-clause-sound g c =
 
 pub add-requires : goal.add-requires
 add-requires g c =
-    let ready = c.in_ok-make_room.ensures.ready in
+    let ready = c.in_ok-make_room.ensures.room.1 in
     open_rises (stage c.make_room.new.self) c.args.key.now c.args.value.now ready.0 ready.1
 
 pub invariant_of-self-2-clause-sound : goal.invariant_of-self-2-clause-sound
 invariant_of-self-2-clause-sound g c =
-    let ready = c.in_ok-make_room.ensures.ready in
-    λ _. rw (c.in_ok-add.ensures.order, c.in_ok-add.ensures.interval, c.in_ok-add.ensures.ok, c.in_ok-add_key.ensures.ok, c.in_ok-self.ensures.ok)
+    let ready = c.in_ok-make_room.ensures.room.1 in
+    λ _. rw (c.in_ok-add.ensures.order, c.in_ok-add.ensures.interval, c.in_ok-add.ensures.ok.0.pairs, c.in_ok-add_key.ensures.ok, c.in_ok-self.ensures.ok)
     (sound_added (stage c.make_room.new.self) c.args.key.now c.args.value.now ready.0 ready.1)
 
 pub returns-in_err-check_unbroken-clause-err : goal.returns-in_err-check_unbroken-clause-err
@@ -48,29 +48,29 @@ returns-in_err-check_unbroken-clause-err g c =
 pub returns-in_err-make_room-clause-err : goal.returns-in_err-make_room-clause-err
 returns-in_err-make_room-clause-err g c =
     let p = err_from_is_err_and c.from_residual-in_err-make_room.result c.from_residual-in_err-make_room.ensures.1 in
-    rw (p.1, p.2) (takes_no_pair c.in_ok-check_unbroken.ensures.ok (search rules) (search rules)
+    rw (p.1, p.2) (takes_no_pair c.in_ok-check_unbroken.ensures.ok c.make_room.ensures.still.1 c.make_room.ensures.still.0
     (inr (inl c.in_err-make_room.ensures.cause))
     (λ full none. c.in_err-make_room.ensures.unset full none))
 
 pub returns-in_err-add_key-clause-err : goal.returns-in_err-add_key-clause-err
 returns-in_err-add_key-clause-err g c =
     let p = err_from_is_err_and c.from_residual-in_err-add_key.result c.from_residual-in_err-add_key.ensures.1 in
-    rw (p.1, p.2) (takes_no_pair c.in_ok-check_unbroken.ensures.ok (search rules) (search rules)
-    (taken_after _ c.args.self.now g.S.Sink.puts (c.args.key.now, c.args.value.now) c.make_room.new.self c.args.sink.now c.in_err-add_key.field-0.0 c.make_room.new.sink c.in_ok-make_room.ensures.has_room (inl c.in_err-add_key.ensures.memory))
+    rw (p.1, p.2) (takes_no_pair c.in_ok-check_unbroken.ensures.ok c.make_room.ensures.still.1 c.make_room.ensures.still.0
+    (taken_after _ c.args.self.now g.S.Sink.puts (c.args.key.now, c.args.value.now) c.make_room.new.self c.args.sink.now c.in_err-add_key.field-0.0 c.make_room.new.sink c.in_ok-make_room.ensures.room.0 (inl c.in_err-add_key.ensures.memory))
     (λ full none. absurd (c.in_ok-make_room.ensures.unset full none).0))
 
 pub returns-in_err-add-clause-err : goal.returns-in_err-add-clause-err
 returns-in_err-add-clause-err g c =
     let p = err_from_is_err_and c.from_residual-in_err-add.result c.from_residual-in_err-add.ensures.1 in
-    rw (p.1, p.2) (takes_no_pair c.in_ok-check_unbroken.ensures.ok (search rules) (search rules)
-    (taken_after _ c.args.self.now g.S.Sink.puts (c.args.key.now, c.args.value.now) c.make_room.new.self c.args.sink.now c.in_err-add.field-0.0 c.make_room.new.sink c.in_ok-make_room.ensures.has_room (elim c.in_err-add.ensures.cause [ inl code ↦ inr (inr (code, c.in_err-add.ensures.too_large.0 code)) | inr memory ↦ inl memory ]))
+    rw (p.1, p.2) (takes_no_pair c.in_ok-check_unbroken.ensures.ok c.make_room.ensures.still.1 c.make_room.ensures.still.0
+    (taken_after _ c.args.self.now g.S.Sink.puts (c.args.key.now, c.args.value.now) c.make_room.new.self c.args.sink.now c.in_err-add.field-0.0 c.make_room.new.sink c.in_ok-make_room.ensures.room.0 (elim c.in_err-add.ensures.cause [ inl code ↦ inr (inr (code, c.in_err-add.ensures.too_large.0 code)) | inr memory ↦ inl memory ]))
     (λ full none. absurd (c.in_ok-make_room.ensures.unset full none).0))
 
 pub returns-in_err-self-clause-err : goal.returns-in_err-self-clause-err
 returns-in_err-self-clause-err g c =
     let p = err_from_is_err_and c.from_residual-in_err-self.result c.from_residual-in_err-self.ensures.1 in
-    rw (p.1, p.2) (takes_no_pair c.in_ok-check_unbroken.ensures.ok (search rules) (search rules)
-    (taken_after _ c.args.self.now g.S.Sink.puts (c.args.key.now, c.args.value.now) c.make_room.new.self c.args.sink.now c.in_err-self.field-0.0 c.make_room.new.sink c.in_ok-make_room.ensures.has_room (inr (inl (subst (λ n. IsTooLong (n + 1) c.in_err-self.field-0.0) c.make_room.ensures.count c.in_err-self.ensures.cause))))
+    rw (p.1, p.2) (takes_no_pair c.in_ok-check_unbroken.ensures.ok c.make_room.ensures.still.1 c.make_room.ensures.still.0
+    (taken_after _ c.args.self.now g.S.Sink.puts (c.args.key.now, c.args.value.now) c.make_room.new.self c.args.sink.now c.in_err-self.field-0.0 c.make_room.new.sink c.in_ok-make_room.ensures.room.0 (inr (inl (subst (λ n. IsTooLong (n + 1) c.in_err-self.field-0.0) c.make_room.ensures.still.0 c.in_err-self.ensures.cause))))
     (λ full none. absurd (c.in_ok-make_room.ensures.unset full none).0))
 
 pub returns-clause-ok : goal.returns-clause-ok
@@ -84,14 +84,18 @@ returns-clause-ok g c =
         put = made.put;
         begun = λ written pairs begun.
             let laid = made.laid written pairs begun in
-            rw (c.in_ok-add.ensures.order, c.in_ok-add.ensures.interval, c.in_ok-make_room.ensures.choices.same_order, c.in_ok-add.ensures.ok, c.in_ok-add_key.ensures.ok, c.in_ok-self.ensures.ok, c.make_room.ensures.choices.same_compressor)
+            rw (c.in_ok-add.ensures.order, c.in_ok-add.ensures.interval, c.in_ok-make_room.ensures.choices.same_order, c.in_ok-add.ensures.ok.0.pairs, c.in_ok-add_key.ensures.ok, c.in_ok-self.ensures.ok, c.make_room.ensures.choices.same_compressor)
             (laid_added _ (g.C.Cmp.accepts old.block.cmp) (g.C.Cmp.cmp old.block.cmp) (g.C.Cmp.shortest_sep old.block.cmp) g.FP.FilterPolicy.filter_for g.FP.FilterPolicy.matches keeps
-            (stage c.make_room.new.self) c.args.key.now c.args.value.now (written ++ made.bytes) pairs (c.requires.accepted c.in_ok-check_unbroken.ensures.ok) laid.1 c.in_ok-make_room.ensures.ready.0.filtered
+            (stage c.make_room.new.self) c.args.key.now c.args.value.now (written ++ made.bytes) pairs (c.requires.accepted c.in_ok-check_unbroken.ensures.ok) laid.1 c.in_ok-make_room.ensures.room.1.0.filtered
             (rw (sym c.in_ok-make_room.ensures.choices.same_policy) at laid.0));
       };
-      full = λ full. c.in_ok-add.ensures.ok ∙ ap (λ pairs. pairs ++ (c.args.key.now, c.args.value.now) ∷ []) (c.in_ok-make_room.ensures.full full);
+      full = λ full.
+          elim c.in_ok-make_room.ensures.room.0 [
+            | inl left ↦ absurd (left.0 full)
+            | inr closed ↦ c.in_ok-add.ensures.ok.0.pairs ∙ ap (λ entries. pairs_of None entries ++ (c.args.key.now, c.args.value.now) ∷ []) closed.1
+          ];
       closed = λ full.
-          elim c.in_ok-make_room.ensures.has_room [
+          elim c.in_ok-make_room.ensures.room.0 [
             | inl left ↦ absurd (left.0 full)
             | inr (is, empty, bytes, put, closes) ↦
                 record {
@@ -99,19 +103,19 @@ returns-clause-ok g c =
                   mid = stage c.make_room.new.self;
                   put = put;
                   closes = closes;
-                  added = rw (c.in_ok-add.ensures.interval, c.in_ok-add.ensures.ok, c.in_ok-add_key.ensures.ok, c.in_ok-self.ensures.ok) refl;
+                  added = rw (c.in_ok-add.ensures.interval, c.in_ok-add.ensures.ok.0.pairs, c.in_ok-add_key.ensures.ok, c.in_ok-self.ensures.ok) refl;
                 }
           ];
       stored = λ full none. (c.in_ok-make_room.ensures.unset full none).0;
       room = λ room.
-          elim c.in_ok-make_room.ensures.has_room [
+          elim c.in_ok-make_room.ensures.room.0 [
             | inl left ↦ (
-              rw (c.in_ok-add.ensures.interval, c.in_ok-add.ensures.ok, c.in_ok-add_key.ensures.ok, c.in_ok-self.ensures.ok) (ap (with_pair (c.args.key.now, c.args.value.now)) left.1),
+              rw (c.in_ok-add.ensures.interval, c.in_ok-add.ensures.ok.0.pairs, c.in_ok-add_key.ensures.ok, c.in_ok-self.ensures.ok) (ap (with_pair (c.args.key.now, c.args.value.now)) left.1),
               left.3,
             )
             | inr closed ↦ absurd (room closed.0)
           ];
-      last = rw (c.in_ok-add.ensures.ok) (last_pushed (pairs_of None c.make_room.new.self.block.built.0) (c.args.key.now, c.args.value.now));
+      last = rw (c.in_ok-add.ensures.ok.0.pairs) (last_pushed (pairs_of None c.make_room.new.self.block.built.0) (c.args.key.now, c.args.value.now));
       count = search rules;
       unbroken = search rules;
     }

@@ -4,7 +4,7 @@ use Rattle.std.proofs.lemmas.Result.{err_from_is_err_and}
 use Rattle.leveldb_base.specs.BlockHandle.{handle_bytes}
 use Rattle.leveldb_table.specs.Block.{pairs_of}
 use Rattle.leveldb_table.specs.Table.{with_trailer}
-use Rattle.leveldb_table.proofs.TableLemmas.{IfErr-below, OnOk-with, is_line}
+use Rattle.leveldb_table.proofs.TableLemmas.{IfErr-below, OnOk-with, OnOk-both, is_line}
 use Rattle.leveldb_table.proofs.table_builder.builder_core.BuilderCore.close_block.Goals as goal
 
 pub returns-in_err-separator-clause-cause : goal.returns-in_err-separator-clause-cause
@@ -67,9 +67,6 @@ returns-clause-cause g c =
     )
     )) c.start_block.ensures.cause
 
-pub returns-clause-fresh : goal.returns-clause-fresh
-returns-clause-fresh g c = OnOk-with c.start_block.result _ _ (λ made. rw (c.replace.ensures.after, c.in_ok-fresh.ensures.none) refl) c.start_block.ensures.ok
-
 pub returns-clause-ok : goal.returns-clause-ok
 returns-clause-ok g c =
     let placed = c.in_ok-placed.ensures.ok in
@@ -98,15 +95,18 @@ returns-clause-ok g c =
       },
     )) c.start_block.ensures.ok
 
-pub returns-clause-open_filter : goal.returns-clause-open_filter
-returns-clause-open_filter g c =
+pub returns-clause-ready : goal.returns-clause-ready
+returns-clause-ready g c =
     let order = g.met.C.Cmp.preorder c.args.self.now.block.cmp in
     let separates = g.met.C.Cmp.separates c.args.self.now.block.cmp in
     let line = is_line order (g.C.Cmp.shortest_sep c.args.self.now.block.cmp) separates (pairs_of _ c.args.self.now.index.built.0) (pairs_of _ c.args.self.now.block.built.0) c.args.next.now (handle_bytes c.in_ok-placed.placed.handle)
     c.requires.closable.some c.requires.closable.ready.rise c.requires.closable.ready.accepted c.requires.closable.accepted c.requires.closable.after in
-    OnOk-with c.start_block.result _ _ (λ opened. record {
-      order = rw (c.in_ok-add_handle.ensures.order, c.replace.ensures.after, c.in_ok-fresh.ensures.order) c.requires.closable.ready.order;
-      rise = rw (c.replace.ensures.after, c.in_ok-fresh.ensures.order, c.in_ok-fresh.ensures.none, append-nil, c.in_ok-add_handle.ensures.ok, c.deref.ensures.value, c.in_ok-separator.ensures.ok, c.order.ensures, c.last_key-last.ensures) line.rise;
-      accepted = rw (c.replace.ensures.after, c.in_ok-fresh.ensures.order, c.in_ok-fresh.ensures.none, append-nil, c.in_ok-add_handle.ensures.ok, c.deref.ensures.value, c.in_ok-separator.ensures.ok, c.order.ensures, c.last_key-last.ensures) line.accepted;
-      filtered = sym opened;
-    }) c.start_block.ensures.open
+    OnOk-both c.start_block.result _ _ _ (λ made opened. (
+      record {
+        order = rw (c.in_ok-add_handle.ensures.order, c.replace.ensures.after, c.in_ok-fresh.ensures.order) c.requires.closable.ready.order;
+        rise = rw (c.replace.ensures.after, c.in_ok-fresh.ensures.order, c.in_ok-fresh.ensures.none, append-nil, c.in_ok-add_handle.ensures.ok, c.deref.ensures.value, c.in_ok-separator.ensures.ok, c.order.ensures, c.last_key-last.ensures) line.rise;
+        accepted = rw (c.replace.ensures.after, c.in_ok-fresh.ensures.order, c.in_ok-fresh.ensures.none, append-nil, c.in_ok-add_handle.ensures.ok, c.deref.ensures.value, c.in_ok-separator.ensures.ok, c.order.ensures, c.last_key-last.ensures) line.accepted;
+        filtered = sym opened;
+      },
+      rw (c.replace.ensures.after, c.in_ok-fresh.ensures.none) refl,
+    )) c.start_block.ensures.ok c.start_block.ensures.open

@@ -20,7 +20,7 @@ returns-in_err-close_last-clause-cause g c =
 
 pub returns-clause-cause : goal.returns-clause-cause
 returns-clause-cause g c =
-    let cause = rw (c.in_ok-close_last.ensures.order, c.close_last.ensures.policy, c.close_last.ensures.compressor) at c.put_end.ensures.cause in
+    let cause = rw (c.in_ok-close_last.ensures.order, c.close_last.ensures.choices.same_policy, c.close_last.ensures.choices.same_compressor) at c.put_end.ensures.cause in
     IfErr-with c.put_end.result _ _ (λ status why. inr (inr (c.in_ok-check_unbroken.ensures.ok, stage c.close_last.new.self, c.close_last.new.sink, c.in_ok-close_last.ensures.rest, why))) cause
 
 pub returns-in_err-close_last-clause-unset_rest : goal.returns-in_err-close_last-clause-unset_rest
@@ -29,12 +29,12 @@ returns-in_err-close_last-clause-unset_rest g c = λ unbroken none unset. absurd
 pub returns-clause-unset_rest : goal.returns-clause-unset_rest
 returns-clause-unset_rest g c = λ unbroken none unset.
     let self = c.args.self in
-    let cause = rw (c.in_ok-close_last.ensures.order, c.close_last.ensures.policy, c.close_last.ensures.compressor) at c.put_end.ensures.cause in
+    let cause = rw (c.in_ok-close_last.ensures.order, c.close_last.ensures.choices.same_policy, c.close_last.ensures.choices.same_compressor) at c.put_end.ensures.cause in
     elim c.in_ok-close_last.ensures.rest [
       | inl (left, same, still) ↦
           refused_with c.put_end.result _ _ (λ status. stops_unset_at ((compressors g.dyn-1).codings c.args.compressors.now) (g.C.Cmp.cmp self.block.cmp) (g.FP.FilterPolicy.too_large self.filter.policy) (g.FP.FilterPolicy.filter_for self.filter.policy) self.compressor
           (g.FP.FilterPolicy.name self.filter.policy) (stage c.close_last.new.self) g.S.Sink.puts g.S.Sink.flushes unset (stage self) c.close_last.new.sink c.args.sink.now status c.put_end.new.sink same still)
-          (c.put_end.ensures.unset (rw c.close_last.ensures.compressor unset)) cause
+          (c.put_end.ensures.unset (rw c.close_last.ensures.choices.same_compressor unset)) cause
       | inr closed ↦ absurd (closed.0 none)
     ]
 
@@ -54,13 +54,13 @@ returns-clause-ok g c =
             let laid = last.laid written pairs begun in
             rw (sym (append_assoc written last.bytes end.bytes)) (table_made _ (g.met.C.Cmp.preorder self.block.cmp) (g.C.Cmp.shortest_sep self.block.cmp) (g.met.C.Cmp.separates self.block.cmp)
             g.FP.FilterPolicy.filter_for g.FP.FilterPolicy.matches keeps g.FP.FilterPolicy.name self.filter.policy (g.C.Cmp.cmp mid.index.cmp) (g.C.Cmp.short_succ self.block.cmp) self.compressor (stage mid) last.next (written ++ last.bytes) end.bytes pairs size self.block.interval self.index.interval
-            c.in_ok-close_last.ensures.order c.close_last.ensures.policy c.close_last.ensures.intervals laid.0 laid.1 (rw c.close_last.ensures.compressor at end.ended));
+            c.in_ok-close_last.ensures.order c.close_last.ensures.choices.same_policy c.close_last.ensures.choices.same_intervals laid.0 laid.1 (rw c.close_last.ensures.choices.same_compressor at end.ended));
       };
       pieces = record {
         last = stage c.close_last.new.self;
         mid = c.close_last.new.sink;
         closed = c.in_ok-close_last.ensures.rest;
-        ended = PutsEnd-same g.S.Sink.puts g.S.Sink.flushes g.FP.FilterPolicy.filter_for g.FP.FilterPolicy.name c.in_ok-close_last.ensures.order c.close_last.ensures.policy c.close_last.ensures.compressor end;
+        ended = PutsEnd-same g.S.Sink.puts g.S.Sink.flushes g.FP.FilterPolicy.filter_for g.FP.FilterPolicy.name c.in_ok-close_last.ensures.order c.close_last.ensures.choices.same_policy c.close_last.ensures.choices.same_compressor end;
       };
       unbroken = c.in_ok-check_unbroken.ensures.ok;
     }) c.put_end.ensures.ok

@@ -53,8 +53,9 @@ returns-clause-ok g c =
       );
     }
 
-pub returns-then-size_estimate-self-clause-ready : goal.returns-then-size_estimate-self-clause-ready
-returns-then-size_estimate-self-clause-ready g c =
+pub returns-then-size_estimate-self-clause-room : goal.returns-then-size_estimate-self-clause-room
+returns-then-size_estimate-self-clause-room g c =
+    let full = is_full c.args.self.now (omega (arith, c.if-entries-gt0.true, c.entries.ensures)) (omega (arith, c.if-size_estimate-self.true, rw c.args.self.now.started.0 at c.size_estimate.ensures)) in
     let some = some_pairs c.args.self.now.block.built.0 (omega (arith, c.if-entries-gt0.true, c.entries.ensures)) in
     let keeps = keeps_keys g.FP.FilterPolicy.filter_for g.FP.FilterPolicy.matches g.met.FP.FilterPolicy.finds in
     let cmp = g.C.Cmp.cmp c.args.self.now.block.cmp in
@@ -63,28 +64,26 @@ returns-then-size_estimate-self-clause-ready g c =
     (pairs_of None c.args.self.now.index.built.0) (pairs_of None c.args.self.now.block.built.0) c.args.next.now [] some c.requires.sound.0.rise c.requires.sound.0.accepted c.requires.sound.1.accepted
     (λ e. let clash : Less ≡ Greater = sym less ∙ e in cc) in
     OnOk-both c.close_block.result _ _ _ (λ closed ready. (
-      ready,
-      subst (λ o. Follows (g.C.Cmp.accepts o) (g.C.Cmp.cmp o) (stage c.close_block.new.self) c.args.next.now) (sym c.close_block.ensures.choices.same_order)
-          (follows_closed _ (g.C.Cmp.accepts c.args.self.now.block.cmp) cmp (g.C.Cmp.shortest_sep c.args.self.now.block.cmp) g.FP.FilterPolicy.filter_for g.FP.FilterPolicy.matches keeps
-          (stage c.args.self.now) (stage c.close_block.new.self) c.args.self.now.compressor c.args.next.now closed.0 closed.2 c.requires.sound.1.accepted (line.before less)),
+      inr (full, ready.1, closed.0, closed.1, closed.2),
+      (
+        ready.0,
+        subst (λ o. Follows (g.C.Cmp.accepts o) (g.C.Cmp.cmp o) (stage c.close_block.new.self) c.args.next.now) (sym c.close_block.ensures.choices.same_order)
+            (follows_closed _ (g.C.Cmp.accepts c.args.self.now.block.cmp) cmp (g.C.Cmp.shortest_sep c.args.self.now.block.cmp) g.FP.FilterPolicy.filter_for g.FP.FilterPolicy.matches keeps
+            (stage c.args.self.now) (stage c.close_block.new.self) c.args.self.now.compressor c.args.next.now closed.0 closed.2 c.requires.sound.1.accepted (line.before less)),
+      ),
     ))
-    c.close_block.ensures.ok c.close_block.ensures.open_filter
-
-pub returns-then-size_estimate-self-clause-has_room : goal.returns-then-size_estimate-self-clause-has_room
-returns-then-size_estimate-self-clause-has_room g c =
-    let full = is_full c.args.self.now (omega (arith, c.if-entries-gt0.true, c.entries.ensures)) (omega (arith, c.if-size_estimate-self.true, rw c.args.self.now.started.0 at c.size_estimate.ensures)) in
-    OnOk-both c.close_block.result _ _ _ (λ closed fresh. inr (full, fresh, closed.0, closed.1, closed.2)) c.close_block.ensures.ok c.close_block.ensures.fresh
+    c.close_block.ensures.ok c.close_block.ensures.ready
 
 pub returns-then-size_estimate-self-clause-cause : goal.returns-then-size_estimate-self-clause-cause
 returns-then-size_estimate-self-clause-cause g c =
     let full = is_full c.args.self.now (omega (arith, c.if-entries-gt0.true, c.entries.ensures)) (omega (arith, c.if-size_estimate-self.true, rw c.args.self.now.started.0 at c.size_estimate.ensures)) in
     IfErr-with c.close_block.result _ _ (λ status why. (full, why)) c.close_block.ensures.cause
 
-pub returns-clause-has_room : goal.returns-clause-has_room
-returns-clause-has_room g c =
+pub returns-clause-room : goal.returns-clause-room
+returns-clause-room g c =
     let room : IsFull c.args.self.now → ⊥ =
     elim c.else-entries-gt0.branch [
       | else-entries-gt0-via-then-entries-gt0+else-size_estimate-self w ↦ not_full c.args.self.now (inr (omega (arith, w.if-size_estimate-self.false, rw c.args.self.now.started.0 at w.size_estimate.ensures)))
       | else-entries-gt0-via-else-entries-gt0 w ↦ not_full c.args.self.now (inl (omega (arith, w.if-entries-gt0.false, c.entries.ensures)))
     ]
-    in inl (room, refl, refl, refl)
+    in (inl (room, refl, refl, refl), c.requires.sound)

@@ -33,11 +33,11 @@ returns-in_err-meta-2-clause-cause g c =
     )
     )
 
-pub returns-in_err-into_bytes-clause-cause : goal.returns-in_err-into_bytes-clause-cause
-returns-in_err-into_bytes-clause-cause g c =
+pub returns-in_err-lines-clause-cause : goal.returns-in_err-lines-clause-cause
+returns-in_err-lines-clause-cause g c =
     let placed = c.in_ok-filters.filters in
     let meta = c.in_ok-meta-2.ensures.ok in
-    let p = err_from_is_err_and c.from_residual-in_err-into_bytes.result c.from_residual-in_err-into_bytes.ensures.1 in
+    let p = err_from_is_err_and c.from_residual-in_err-lines.result c.from_residual-in_err-lines.ensures.1 in
     rw (p.1, p.2) (
     inr (
       c.in_ok-finish.field-0.items,
@@ -50,7 +50,7 @@ returns-in_err-into_bytes-clause-cause g c =
         inr (
           c.in_ok-meta.meta.items,
           rw (sym c.filter_name-name.ensures, sym c.interval.ensures.same) c.in_ok-meta.ensures.ok,
-          inr (meta.0, meta.1, c.in_ok-meta-2.meta.handle, c.in_ok-meta-2.meta.end, _, meta.2, inl (refl, c.in_err-into_bytes.ensures.memory)),
+          inr (meta.0, meta.1, c.in_ok-meta-2.meta.handle, c.in_ok-meta-2.meta.end, _, meta.2, inl (refl, c.in_err-lines.ensures.memory)),
         ),
       ),
     )
@@ -73,7 +73,7 @@ returns-in_err-index-clause-cause g c =
         inr (
           c.in_ok-meta.meta.items,
           rw (sym c.filter_name-name.ensures, sym c.interval.ensures.same) c.in_ok-meta.ensures.ok,
-          inr (meta.0, meta.1, c.in_ok-meta-2.meta.handle, c.in_ok-meta-2.meta.end, _, meta.2, inr (c.in_ok-into_bytes.field-0.items, c.in_ok-into_bytes.ensures.ok, inl c.in_err-index.ensures.cause)),
+          inr (meta.0, meta.1, c.in_ok-meta-2.meta.handle, c.in_ok-meta-2.meta.end, _, meta.2, inr (c.in_ok-lines.lines.items, c.in_ok-lines.ensures.ok, inl c.in_err-index.ensures.cause)),
         ),
       ),
     )
@@ -104,9 +104,9 @@ returns-clause-cause g c =
             _,
             meta.2,
             inr (
-              c.in_ok-into_bytes.field-0.items,
-              c.in_ok-into_bytes.ensures.ok,
-              inr (index.0, index.1, c.in_ok-index.index.handle, c.in_ok-index.index.end, _, index.2, rw c.new.ensures at why),
+              c.in_ok-lines.lines.items,
+              c.in_ok-lines.ensures.ok,
+              inr (index.0, index.1, c.in_ok-index.index.handle, c.in_ok-index.index.end, _, index.2, rw c.new-footer.ensures at why),
             ),
           ),
         ),
@@ -129,14 +129,14 @@ returns-clause-ok g c =
         filters = c.in_ok-finish.field-0.items;
         meta_text = c.in_ok-meta.meta.items;
         meta_stored = meta.0;
-        index_text = c.in_ok-into_bytes.field-0.items;
+        index_text = c.in_ok-lines.lines.items;
         index_stored = index.0;
         filter = c.in_ok-filters.filters.handle;
         meta = c.in_ok-meta-2.meta.handle;
         index = c.in_ok-index.index.handle;
         filter_block = c.in_ok-finish.ensures.ok;
         meta_made = rw (sym c.filter_name-name.ensures, sym c.interval.ensures.same) c.in_ok-meta.ensures.ok;
-        index_made = c.in_ok-into_bytes.ensures.ok;
+        index_made = c.in_ok-lines.ensures.ok;
         meta_decoded = meta.1;
         index_decoded = index.1;
         filter_placed = block_placed puts filters;
@@ -145,6 +145,6 @@ returns-clause-ok g c =
         encoded = refl;
         ends = footer.ends ∙ ap (λ n. n + 48) (block_ends puts index.2);
       };
-      put = (_, filters.put, (_, meta.2.put, (_, index.2.put, (_, rw c.new.ensures at footer.put, refl))));
+      put = (_, filters.put, (_, meta.2.put, (_, index.2.put, (_, rw c.new-footer.ensures at footer.put, refl))));
       flushed = footer.flushed;
     }) c.put_footer.ensures.ok
