@@ -26,6 +26,7 @@ use leveldb_table::table_builder::builder_core::BuilderCore;
 use std::alloc::Global;
 
 /// A table in memory, and its first and its last key.
+#[derive(Drop)]
 struct BuiltTable {
     bytes: Vec<u8>,
     smallest: Bytes,
