@@ -1,6 +1,7 @@
 -- How a builder gets the pairs of a walk, what its table is to a store, and what the file's calls leave.
 use Rattle.std.proofs.Common.{◌≡◌, ◌≢◌, ◌⊎◌, inl, inr, ⊎_elim, ℕ, zero, suc, ◌+◌, ◌-◌, ◌<◌, ◌≤◌, max, Bool, true, false, cond, List, [], ◌∷◌, ◌++◌, length, take, map, nat_lt, nat_le, Option, None, Some, Result, Ok, Err, refl, sym, ◌∙◌, ap, subst, append_assoc, arith}
 use Rattle.std.specs.Prelude.{All, IsTrue, OnOk, slice_get, slice_index_or, if◌then◌else◌, ◌&&◌}
+use Rattle.std.specs.Global.{Vec}
 use Rattle.std.specs.Option.{option_map}
 use Rattle.std.proofs.lemmas.Bool.{cases_lt, le-leb, lt-ltb}
 use Rattle.std.proofs.lemmas.List.{append-nil, take_all}
@@ -19,19 +20,22 @@ use Rattle.leveldb_base.specs.declared.cmp.Cmp.{Ghosts as CmpGhosts}
 use Rattle.leveldb_base.specs.declared.error.Status.{Status}
 use Rattle.leveldb_base.specs.declared.types.FileMetaData.{FileMetaData}
 use Rattle.leveldb_env.proofs.EnvLemmas.{SameBut-appending, SameBut-emptied, SameBut-refl, SameBut-synced, SameBut-trans, at_same, begun, call, extended-same, synced-same, with_file-twice}
-use Rattle.leveldb_env.proofs.SinkLemmas.{PutsAll-none, PutsAll-trans}
-use Rattle.leveldb_env.specs.Env.{BeforeOrAfter, ChangesFiles, Files, HasCause, Observed, PrefixAppended, Run, SameBut, emptied, extended, file_kept, kept_file, longer_file, synced, with_file}
+use Rattle.leveldb_env.proofs.SinkLemmas.{PutsAll-bytes, PutsAll-none, PutsAll-trans}
+use Rattle.leveldb_env.specs.Env.{BeforeOrAfter, ChangesFiles, Files, HasCause, Observed, PrefixAppended, Run, SameBut, SameLocks, emptied, extended, file_kept, kept_file, longer_file, synced, with_file}
 use Rattle.leveldb_env.specs.Compressor.{Codings, Decodes}
+use Rattle.leveldb_env.specs.declared.env.Env.{Ghosts as EnvGhosts}
 use Rattle.leveldb_env.specs.declared.filter.FilterPolicy.{Ghosts as FilterGhosts}
 use Rattle.leveldb_table.proofs.TableBuilderLemmas.{internal_separated}
 use Rattle.leveldb_table.specs.BlockBuilder.{last_added}
 use Rattle.leveldb_table.specs.Table.{IsTable}
-use Rattle.leveldb_table.specs.TableBuilder.{AddsPair, IsBuiltTable, IsMeaningOf, KeepsChoices, last_of, order_of}
+use Rattle.leveldb_table.specs.TableBuilder.{AddsPair, IsBegun, IsBuiltTable, IsMeaningOf, KeepsChoices, last_of, order_of, policy_of}
 use Rattle.leveldb_table.specs.TableBuilderAdd.{TakesPair}
+use Rattle.leveldb_table.specs.TableBuilderFinish.{IsFinished}
 use Rattle.leveldb_table.specs.declared.table_builder.builder_core.BuilderCore.{BuilderCore}
 use Rattle.leveldb_version.specs.Batches.{Each}
+use Rattle.leveldb_version.specs.Paths.{table_path}
 use Rattle.leveldb_version.specs.Store.{IsFirstKey, IsInternalPair, IsLastKey, IsStoreTable, any_user_key}
-use Rattle.rusty_leveldb.specs.BuildTable.{AddsPairs, CanBeTabled, HasTaken, IsTableBuilt, IsTableFile, IsTableOfStore, IsTableUnder, TableChoices, passed}
+use Rattle.rusty_leveldb.specs.BuildTable.{AddsPairs, CanBeTabled, HasTaken, IsNotTabled, IsTableBuilt, IsTableFile, IsTableOfStore, IsTableUnder, MakesTable, TableChoices, flushes_in_memory, passed, puts_in_memory}
 
 -- ---- pairs in turn
 
@@ -45,7 +49,9 @@ same_Some e = cc
 pub taken_next : (pairs : List Pair) (i : ℕ) (pair : Pair) → slice_get pairs i ≡ Some pair → take (i + 1) pairs ≡ take i pairs ++ pair ∷ []
 taken_next [] i pair there = absurd (some_none (sym there))
 taken_next (first ∷ pairs) zero pair there = ap (λ p. p ∷ []) (same_Some there)
-taken_next (first ∷ pairs) (suc i) pair there = ap (λ ps. first ∷ ps) (taken_next pairs i pair there)
+taken_next (first ∷ pairs) (suc i) pair there =
+    let more : suc i + 1 ≡ suc (i + 1) = omega arith in
+    ap (λ n. take n (first ∷ pairs)) more ∙ ap (λ ps. first ∷ ps) (taken_next pairs i pair there)
 
 pub within : (pairs : List Pair) (i : ℕ) (pair : Pair) → slice_get pairs i ≡ Some pair → i < length pairs
 within [] i pair there = absurd (some_none (sym there))
@@ -109,14 +115,21 @@ pub passed_all : (pairs : List Pair) (position : Option ℕ) → IsPosition pair
 passed_all pairs None here none = refl
 passed_all pairs (Some i) here none = absurd (some_there pairs i here (sym none))
 
+-- so all pairs were taken
+pub taken_all : (pairs : List Pair) (position : Option ℕ) → IsPosition pairs position → None ≡ pair_at pairs position → take (passed pairs position) pairs ≡ pairs
+taken_all pairs position here none = ap (λ n. take n pairs) (passed_all pairs position here none) ∙ take_all (length pairs) pairs (omega arith)
+
+at_first : (first : Pair) (pairs : List Pair) → pair_at (first ∷ pairs) (position_within (first ∷ pairs) 0) ≡ Some first
+at_first first pairs = ap (λ b. pair_at (first ∷ pairs) (if b then Some 0 else None)) (lt-ltb 0 (length (first ∷ pairs)) (omega arith))
+
 pub none_first : (pairs : List Pair) → None ≡ pair_at pairs (position_within pairs 0) → pairs ≡ []
 none_first [] none = refl
-none_first (first ∷ pairs) none = absurd (some_none (sym none))
+none_first (first ∷ pairs) none = absurd (some_none (sym (at_first first pairs) ∙ sym none))
 
 -- the first key, and the last
 pub first_key_is : (pairs : List Pair) (pair : Pair) → Some pair ≡ pair_at pairs (position_within pairs 0) → IsFirstKey pair.0 pairs
 first_key_is [] pair there = absurd (some_none there)
-first_key_is (first ∷ pairs) pair there = (pair.1, pairs, ap (λ p. p ∷ pairs) (same_Some (sym there)))
+first_key_is (first ∷ pairs) pair there = (pair.1, pairs, ap (λ (p : Pair). p ∷ pairs) (same_Some (sym (at_first first pairs) ∙ sym there)))
 
 last_of_more : (first : Pair) (pairs : List Pair) → IsLastKey (last_added (first ∷ pairs)) (first ∷ pairs)
 last_of_more first [] = ([], first.1, refl)
@@ -161,7 +174,7 @@ module _ {S : Type 0} (puts : S → List ℕ → Result (Unit {0}) Status → S 
         (subst (new ((written ++ all.bytes) ++ one.bytes)) (append_assoc before pairs (pair ∷ [])) (one.begun (written ++ all.bytes) (before ++ pairs) (all.begun written before so_far)));
   }
 
-module _ {C FP : Type 0} {order : CmpGhosts C} {filters : FilterGhosts FP} (codings : Codings) where
+module _ {C FP : Type 0} {order : CmpGhosts C} {filters : FilterGhosts FP} where
   KeepsChoices-trans : {old mid new : BuilderCore C FP order filters} → KeepsChoices old mid → KeepsChoices mid new → KeepsChoices old new
   KeepsChoices-trans first second = record {
     same_order = second.same_order ∙ first.same_order;
@@ -174,8 +187,8 @@ module _ {C FP : Type 0} {order : CmpGhosts C} {filters : FilterGhosts FP} (codi
   -- the next pair may be added
   pub next_accepted : {core mid : BuilderCore C FP order filters} (pairs : List Pair) (count : ℕ) (pair : Pair) → CanBeTabled (order.accepts (order_of core)) (order.cmp (order_of core)) pairs → KeepsChoices core mid
       → slice_get pairs count ≡ Some pair → order.accepts (order_of mid) pair.0 ≡ true
-  next_accepted {mid = mid} pairs count pair can kept there =
-      subst (λ c. order.accepts c pair.0 ≡ true) (sym kept.same_order) (accepted_at (λ p. order.accepts (order_of _) p.0 ≡ true) pairs count pair can.accepted there)
+  next_accepted {core} {mid} pairs count pair can kept there =
+      subst (λ c. order.accepts c pair.0 ≡ true) (sym kept.same_order) (accepted_at (λ (p : Pair). order.accepts (order_of core) p.0 ≡ true) pairs count pair can.accepted there)
 
   pub next_rises : {core mid : BuilderCore C FP order filters} (pairs : List Pair) (count : ℕ) (pair : Pair) → CanBeTabled (order.accepts (order_of core)) (order.cmp (order_of core)) pairs → KeepsChoices core mid
       → slice_get pairs count ≡ Some pair → last_of mid ≡ last_added (take count pairs) → mid.count ≡ count → 0 < mid.count → order.cmp (order_of mid) (last_of mid) pair.0 ≡ Less
@@ -183,16 +196,17 @@ module _ {C FP : Type 0} {order : CmpGhosts C} {filters : FilterGhosts FP} (codi
       let less = rises_next (order.cmp (order_of core)) pairs count pair can.rising there (omega (arith, counted, some)) in
       ap (λ c. order.cmp c (last_of mid) pair.0) kept.same_order ∙ ap (λ k. order.cmp (order_of core) k pair.0) last ∙ less
 
-  -- the table of a builder is one under its choices, in other words
-  pub IsTableUnder-same : {c d : C} {p q : FP} {id other interval spacing index_interval index_spacing : ℕ} {bytes : List ℕ} {pairs : List Pair} → c ≡ d → p ≡ q → id ≡ other → interval ≡ spacing → index_interval ≡ index_spacing
-      → IsTableUnder {order = order} {filters = filters} codings c p id interval index_interval bytes pairs → IsTableUnder {order = order} {filters = filters} codings d q other spacing index_spacing bytes pairs
-  IsTableUnder-same {c} {d} {p} {q} {id} {other} {interval} {spacing} {index_interval} {index_spacing} {bytes} {pairs} same_order same_policy same_id same_interval same_index built =
-      subst (λ z. IsTableUnder {order = order} {filters = filters} codings d q other spacing z bytes pairs) same_index
-      (subst (λ z. IsTableUnder {order = order} {filters = filters} codings d q other z index_interval bytes pairs) same_interval
-      (subst (λ z. IsTableUnder {order = order} {filters = filters} codings d q z interval index_interval bytes pairs) same_id
-      (subst (λ z. IsTableUnder {order = order} {filters = filters} codings d z id interval index_interval bytes pairs) same_policy
-      (subst (λ z. IsTableUnder {order = order} {filters = filters} codings z p id interval index_interval bytes pairs) same_order built))))
+-- the table of a builder is one under its choices, in other words
+pub IsTableUnder-same : {C FP : Type 0} (order : CmpGhosts C) (filters : FilterGhosts FP) (codings : Codings) {c d : C} {p q : FP} {id other interval spacing index_interval index_spacing : ℕ} {bytes : List ℕ} {pairs : List Pair} → c ≡ d → p ≡ q → id ≡ other → interval ≡ spacing → index_interval ≡ index_spacing
+    → IsTableUnder order filters codings c p id interval index_interval bytes pairs → IsTableUnder order filters codings d q other spacing index_spacing bytes pairs
+IsTableUnder-same order filters codings {c = c} {d = d} {p = p} {q = q} {id = id} {other = other} {interval = interval} {spacing = spacing} {index_interval = index_interval} {bytes = bytes} {pairs = pairs} same_order same_policy same_id same_interval same_index built =
+    subst (λ z. IsTableUnder order filters codings d q other spacing z bytes pairs) same_index
+    (subst (λ z. IsTableUnder order filters codings d q other z index_interval bytes pairs) same_interval
+    (subst (λ z. IsTableUnder order filters codings d q z interval index_interval bytes pairs) same_id
+    (subst (λ z. IsTableUnder order filters codings d z id interval index_interval bytes pairs) same_policy
+    (subst (λ z. IsTableUnder order filters codings z p id interval index_interval bytes pairs) same_order built))))
 
+module _ {C FP : Type 0} {order : CmpGhosts C} {filters : FilterGhosts FP} (codings : Codings) where
   module _ {S : Type 0} (puts : S → List ℕ → Result (Unit {0}) Status → S → Type 0) where
     -- a builder that has taken no pair yet
     pub HasTaken-none : (core : BuilderCore C FP order filters) (from : S) → core.broken ≡ false → HasTaken codings puts core from [] core from
@@ -213,6 +227,19 @@ module _ {C FP : Type 0} {order : CmpGhosts C} {filters : FilterGhosts FP} (codi
     pub last_taken : {mid new : BuilderCore C FP order filters} {at to : S} (pairs : List Pair) (count : ℕ) (pair : Pair) → slice_get pairs count ≡ Some pair → TakesPair codings puts mid new pair at to
         → last_of new ≡ last_added (take (count + 1) pairs)
     last_taken pairs count pair there takes = takes.last ∙ sym (ap last_added (taken_next pairs count pair there) ∙ last_pushed (take count pairs) pair)
+
+  -- from nothing in memory the builder makes the table
+  pub built_in_memory : {core mid : BuilderCore C FP order filters} {from at to : Vec ℕ} {pairs : List Pair} {size : ℕ} → from.items ≡ [] → IsBegun codings order.accepts order.cmp order.shortest_sep filters.matches core [] []
+      → HasTaken codings puts_in_memory core from pairs mid at → IsFinished codings mid puts_in_memory flushes_in_memory at size to
+      → IsTableUnder order filters codings (order_of core) (policy_of core) core.compressor core.block.interval core.index.interval to.items pairs
+  built_in_memory {core} {mid} {from} {at} {to} {pairs} none begun taken finished =
+      let built = finished.finishes in
+      let made = built.made taken.adds.bytes pairs (taken.adds.begun [] [] begun) in
+      let all = PutsAll-bytes (λ (v : Vec ℕ). v.items) (PutsAll-trans puts_in_memory taken.adds.put built.put) in
+      let items : to.items ≡ taken.adds.bytes ++ built.bytes = built.flushed.same ∙ all ∙ ap (λ b. b ++ (taken.adds.bytes ++ built.bytes)) none in
+      let kept = taken.choices in
+      subst (λ b. IsTableUnder order filters codings (order_of core) (policy_of core) core.compressor core.block.interval core.index.interval b pairs) (sym items)
+      (IsTableUnder-same order filters codings kept.same_order kept.same_policy kept.same_compressor kept.same_intervals.0 kept.same_intervals.1 made.0)
 
 -- ---- a table of the store
 
@@ -300,12 +327,69 @@ module _ (path bytes : List ℕ) where
         ap (synced path) (append.ok modelled ∙ ap (extended path bytes) (opening.ok modelled)) ∙ written_is first in
         record { ok = λ t. subst (λ (f : Files). OnOk synced' (v3.disk.files ≡ f)) made (sync.ok t); now = λ t. run.has; time = run.time }
 
-    -- the file is there once it was made, and after each append
-    pub made_there : v1.disk.files path ≡ None → ⊥
-    made_there gone = some_none (sym (at_same path (Some (kept_file [])) first) ∙ ap (λ (f : Files). f path) (sym (opening.ok modelled)) ∙ gone)
+-- ---- the ends of `build_table`
 
-    pub appended_there : {v2 : Observed} → ChangesFiles {T = Unit {0}} models_disk (extended path bytes) (PrefixAppended path bytes) v1 v2 (Ok tt) → v2.disk.files path ≡ None → ⊥
-    appended_there {v2} append gone =
-        let there1 : emptied path first path ≡ Some (kept_file []) = at_same path (Some (kept_file [])) first in
-        let there2 = extended-same path bytes (emptied path first) (kept_file []) there1 in
-        some_none (sym there2 ∙ ap (λ (f : Files). f path) (sym (append.ok modelled ∙ ap (extended path bytes) (opening.ok modelled))) ∙ gone)
+module _ {C FP : Type 0} {order : CmpGhosts C} {filters : FilterGhosts FP} (choices : TableChoices order filters) (pairs : List Pair) {E F : Type 0} (env : EnvGhosts E F) (Fails : Status → Type 0) (store : List ℕ) (number : ℕ) where
+  -- an error before any call
+  pub MakesTable-before : (old : E) (status : Status) → IsOutOfMemory status ⊎ (IsNotTabled choices pairs status ⊎ Fails status) → MakesTable choices pairs env Fails store number old (Err status) old
+  MakesTable-before old status why = record {
+    number_is = tt;
+    none = λ empty. (refl, tt);
+    made = λ some. tt;
+    has = λ some modelled. tt;
+    run = λ modelled. begun (env.observed old) (SameBut-refl (table_path store number) (env.observed old).disk.files);
+    locks = λ modelled. refl;
+    cause = record { later = omega arith; ok = tt; uncounted = λ excused. refl; cause = inl (⊎_elim (λ memory. inl memory) (λ other. inr (other, refl)) why) };
+  }
+
+  -- no pair
+  pub MakesTable-none : (old : E) (file : FileMetaData) → pairs ≡ [] → file.num ≡ number → file.allowed_seeks ≡ 0 → file.size ≡ 0 → MakesTable choices pairs env Fails store number old (Ok file) old
+  MakesTable-none old file empty number_is seeks size = record {
+    number_is = (number_is, seeks);
+    none = λ none. (refl, size);
+    made = λ some. absurd (some empty);
+    has = λ some modelled. absurd (some empty);
+    run = λ modelled. begun (env.observed old) (SameBut-refl (table_path store number) (env.observed old).disk.files);
+    locks = λ modelled. refl;
+    cause = record { later = omega arith; ok = refl; uncounted = tt; cause = tt };
+  }
+
+  module _ (some : pairs ≢ []) (path bytes : List ℕ) (named : path ≡ table_path store number) {old new : E} (locks : SameLocks env.models_disk (env.observed old) (env.observed new)) where
+    -- a call for the file failed
+    pub MakesTable-failed : (status : Status) → (IsTrue env.models_disk → ChangesFiles {T = Unit {0}} env.models_disk (with_file path (Some (kept_file bytes))) (SameBut path) (env.observed old) (env.observed new) (Err status))
+        → HasCause {T = Unit {0}} IsOutOfMemory (env.failures old) (env.failures new) (Err status) → MakesTable choices pairs env Fails store number old (Err status) new
+    MakesTable-failed status does cause = record {
+      number_is = tt;
+      none = λ empty. absurd (some empty);
+      made = λ more. tt;
+      has = λ more modelled. tt;
+      run = λ modelled. subst (λ p. Run (SameBut p (env.observed old).disk.files) (env.observed old) (env.observed new)) named (record { has = (does modelled).now modelled; time = (does modelled).time });
+      locks = locks;
+      cause = record {
+        later = cause.later;
+        ok = tt;
+        uncounted = λ excused. ⊎_elim (λ memory. cause.uncounted memory) (λ other. ap env.failures other.1) excused;
+        cause = ⊎_elim (λ memory. inl (inl memory)) (λ counted. inr counted) cause.cause;
+      };
+    }
+
+    -- the file was made
+    pub MakesTable-done : (smallest largest : List ℕ) → (IsTrue env.models_disk → ChangesFiles {T = Unit {0}} env.models_disk (with_file path (Some (kept_file bytes))) (SameBut path) (env.observed old) (env.observed new) (Ok tt))
+        → HasCause {T = Unit {0}} IsOutOfMemory (env.failures old) (env.failures new) (Ok tt) → IsTableBuilt choices pairs bytes → IsFirstKey smallest pairs → IsLastKey largest pairs
+        → ((read : List ℕ) → IsTableBuilt choices pairs read → (meaning : List ℕ → Option (List ℕ → List ℕ → Bool)) → IsMeaningOf meaning choices.format.policy_name (λ key. choices.format.matches (user_part key))
+        → IsStoreTable (Decodes choices.format.codings) choices.format.order meaning read pairs)
+        → MakesTable choices pairs env Fails store number old (Ok (record { allowed_seeks = 0; num = number; size = length bytes; smallest = smallest; largest = largest })) new
+    MakesTable-done smallest largest does cause built first last reads =
+        let file : FileMetaData = record { allowed_seeks = 0; num = number; size = length bytes; smallest = smallest; largest = largest } in
+        let there : IsTrue env.models_disk → (env.observed new).disk.files (table_path store number) ≡ Some (kept_file bytes) = λ modelled. subst (λ p. (env.observed new).disk.files p ≡ Some (kept_file bytes)) named
+        (ap (λ (f : Files). f path) ((does modelled).ok modelled) ∙ at_same path (Some (kept_file bytes)) (env.observed old).disk.files) in
+        let made : IsTableFile choices pairs env.models_disk store (env.observed new).disk.files file = record { bytes = bytes; built = built; kept = there; size = refl; smallest = first; largest = last } in
+        record {
+          number_is = (refl, refl);
+          none = λ empty. absurd (some empty);
+          made = λ more. made;
+          has = λ more modelled. file_of_store choices pairs modelled made reads;
+          run = λ modelled. subst (λ p. Run (SameBut p (env.observed old).disk.files) (env.observed old) (env.observed new)) named (record { has = (does modelled).now modelled; time = (does modelled).time });
+          locks = locks;
+          cause = record { later = cause.later; ok = cause.ok; uncounted = tt; cause = tt };
+        }

@@ -1,5 +1,5 @@
 -- What `build_table` makes of a walk, what changes on the way, and why it fails.
-use Rattle.std.specs.Prelude.{◌≡◌, ◌≢◌, ◌⊎◌, ℕ, Bool, true, List, [], ◌++◌, length, take, max, slice_get, All, Option, Some, Result, IfOk, IfErr, IsTrue}
+use Rattle.std.specs.Prelude.{◌≡◌, ◌≢◌, ◌⊎◌, ℕ, Bool, true, false, List, [], ◌++◌, length, take, max, slice_get, All, Option, None, Some, Result, IfOk, IfErr, IsTrue}
 use Rattle.std.specs.Global.{Vec}
 use Rattle.std.specs.declared.cmp.Ordering.{Ordering}
 use Rattle.leveldb_base.specs.Error.{IsOutOfMemory}
@@ -50,14 +50,23 @@ abbrev pub passed : List Pair → Option ℕ → ℕ
 passed pairs None = length pairs
 passed pairs (Some i) = i
 
-module _ {C FP : Type 0} {order : CmpGhosts C} {filters : FilterGhosts FP} (codings : Codings) where
-  -- the table that a builder of these choices makes of pairs
-  abbrev pub IsTableUnder : C → FP → ℕ → ℕ → ℕ → List ℕ → List Pair → Type 0
-  IsTableUnder cmp policy id interval index_interval =
-      IsBuiltTable codings (order.accepts cmp) (order.cmp cmp) (order.shortest_sep cmp)
-      (order.short_succ cmp) (filters.matches policy) (filters.filter_for policy) id
-      (filters.name policy) interval index_interval
+-- the table that a builder of these choices makes of pairs
+abbrev pub IsTableUnder : {C FP : Type 0} → CmpGhosts C → FilterGhosts FP → Codings → C → FP → ℕ
+    → ℕ → ℕ → List ℕ → List Pair → Type 0
+IsTableUnder order filters codings cmp policy id interval index_interval =
+    IsBuiltTable codings (order.accepts cmp) (order.cmp cmp) (order.shortest_sep cmp)
+    (order.short_succ cmp) (filters.matches policy) (filters.filter_for policy) id
+    (filters.name policy) interval index_interval
 
+-- bytes in memory as a sink: a put appends, and a flush does nothing
+abbrev pub puts_in_memory : Vec ℕ → List ℕ → Result (Unit {0}) Status → Vec ℕ → Type 0
+puts_in_memory old bytes result new = AppendsBytes old.items bytes result new.items
+
+-- a flush of bytes in memory does nothing
+abbrev pub flushes_in_memory : Vec ℕ → Result (Unit {0}) Status → Vec ℕ → Type 0
+flushes_in_memory old result new = FlushesNothing old.items result new.items
+
+module _ {C FP : Type 0} {order : CmpGhosts C} {filters : FilterGhosts FP} (codings : Codings) where
   -- nothing is put, no pair is added and no call has failed
   pub record IsUnused (core : BuilderCore C FP order filters) : Type 0 where
     pub begun : IsBegun codings order.accepts order.cmp order.shortest_sep filters.matches core
@@ -98,6 +107,13 @@ module _ {C FP : Type 0} {order : CmpGhosts C} {filters : FilterGhosts FP} (codi
       pub to : S
       pub cause : IsFinishError codings mid puts flushes at status to
 
+  -- Into no bytes in memory the builder takes some of the pairs, and fails at the next one or at the
+  -- end.
+  abbrev pub StopsInMemory : BuilderCore C FP order filters → List Pair → Status → Type 0
+  StopsInMemory core pairs status =
+      (empty : Vec ℕ) × (empty.items ≡ []) × (StopsAtPair puts_in_memory core empty pairs status
+      ⊎ StopsAtEnd puts_in_memory core empty pairs flushes_in_memory status)
+
 -- ---- what a table is built with
 
 -- How a store's files are read; and the order of internal keys, the filter policy for them, the
@@ -128,13 +144,6 @@ choices_of cmp filters keys key_filters codings options = record {
 
 -- ---- what `build_table` does
 
--- bytes in memory as a sink: a put appends, and a flush does nothing
-abbrev pub puts_in_memory : Vec ℕ → List ℕ → Result (Unit {0}) Status → Vec ℕ → Type 0
-puts_in_memory old bytes result new = AppendsBytes old.items bytes result new.items
-
-abbrev pub flushes_in_memory : Vec ℕ → Result (Unit {0}) Status → Vec ℕ → Type 0
-flushes_in_memory old result new = FlushesNothing old.items result new.items
-
 module _ {C FP : Type 0} {order : CmpGhosts C} {filters : FilterGhosts FP}
     (choices : TableChoices order filters) (pairs : List Pair) where
   -- Why no table of the pairs is built in memory: out of memory; or a new builder of these choices
@@ -144,15 +153,13 @@ module _ {C FP : Type 0} {order : CmpGhosts C} {filters : FilterGhosts FP}
       IsOutOfMemory status
       ⊎ ((core : BuilderCore C FP order filters)
       × IsNewBuilder choices.cmp choices.policy choices.id choices.block_size choices.restarts core
-      × (empty : Vec ℕ) × (empty.items ≡ [])
-      × (StopsAtPair choices.format.codings puts_in_memory core empty pairs status
-      ⊎ StopsAtEnd choices.format.codings puts_in_memory core empty pairs flushes_in_memory status))
+      × StopsInMemory choices.format.codings core pairs status)
 
   -- these bytes are the table that a builder of these choices makes of the pairs
   abbrev pub IsTableBuilt : List ℕ → Type 0
   IsTableBuilt bytes =
-      IsTableUnder {order = order} {filters = filters} choices.format.codings choices.cmp
-      choices.policy choices.id (max 1 choices.restarts) (max 1 choices.restarts) bytes pairs
+      IsTableUnder order filters choices.format.codings choices.cmp choices.policy choices.id
+      (max 1 choices.restarts) (max 1 choices.restarts) bytes pairs
 
   -- The file has the table of the pairs, all of it kept, and its metadata is the table's. Where no
   -- disk is modelled, the bytes of the file are left open, but not the metadata.

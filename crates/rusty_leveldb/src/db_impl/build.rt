@@ -10,7 +10,7 @@ ghost use Rattle.leveldb_table.specs.BlockBuilder.{last_added};
 ghost use Rattle.leveldb_table.specs.TableBuilder.{order_of, policy_of, last_of};
 ghost use Rattle.leveldb_version.specs.Batches.{Each};
 ghost use Rattle.leveldb_version.specs.Store.{IsFirstKey, IsInternalPair, IsLastKey};
-ghost use Rattle.rusty_leveldb.specs.BuildTable.{CanBeTabled, HasTaken, IsTableUnder, IsUnused, MakesTable, StopsAtEnd, StopsAtPair, choices_of, flushes_in_memory, puts_in_memory};
+ghost use Rattle.rusty_leveldb.specs.BuildTable.{CanBeTabled, HasTaken, IsTableUnder, IsUnused, MakesTable, StopsAtPair, StopsInMemory, choices_of};
 
 use bytes::Bytes;
 use leveldb_base::cmp::{Cmp, InternalKeyCmp, UserCmp};
@@ -108,16 +108,14 @@ fn build_in_memory<I: LdbIterator, C: Cmp + Copy + Drop, FP: FilterPolicy + Drop
     ensures none { IfOk result (λ table. IfNone table (I.pairs from.old ≡ [])) }
     ensures some { let codings = ⟦<CompressorList as Compressors>⟧.codings compressors.now in
         IfOk result (λ table. IfSome table (λ it.
-        IsTableUnder codings (order_of core) (policy_of core) core.compressor
-        core.block.interval core.index.interval it.bytes.items (I.pairs from.old)
+        IsTableUnder C.Cmp FP.FilterPolicy codings (order_of core) (policy_of core)
+        core.compressor core.block.interval core.index.interval it.bytes.items
+        (I.pairs from.old)
         × IsFirstKey it.smallest (I.pairs from.old) × IsLastKey it.largest (I.pairs from.old))) }
     ensures walk { SameWalk I.pairs I.order I.fails from.old from.new }
     ensures cause { let codings = ⟦<CompressorList as Compressors>⟧.codings compressors.now in
         IfErr result (λ status. IsOutOfMemory status ⊎ I.fails from.old from.new status
-        ⊎ ((empty : Vec ℕ) × (empty.items ≡ [])
-        × (StopsAtPair codings puts_in_memory core empty (I.pairs from.old) status
-        ⊎ StopsAtEnd codings puts_in_memory core empty (I.pairs from.old) flushes_in_memory
-        status))) }
+        ⊎ StopsInMemory codings core (I.pairs from.old) status) }
 {
     from.seek_to_first()?;
     let Some((first, _)) = from.current() else {
