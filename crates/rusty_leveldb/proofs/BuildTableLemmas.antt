@@ -393,3 +393,7 @@ module _ {C FP : Type 0} {order : CmpGhosts C} {filters : FilterGhosts FP} (choi
           locks = locks;
           cause = record { later = cause.later; ok = cause.ok; uncounted = tt; cause = tt };
         }
+
+-- where there is a first key, there is a pair
+pub first_some : {key : List ℕ} {pairs : List Pair} → IsFirstKey key pairs → pairs ≢ []
+first_some first empty = cc (sym first.2 ∙ empty)

@@ -1,6 +1,6 @@
 use Rattle.std.proofs.Common.{◌≡◌, ◌+◌, ◌∙◌, inr, Some, None, ap, subst, sym, take}
 use Rattle.std.proofs.lemmas.Result.{err_from_is_err_and}
-use Rattle.leveldb_base.specs.Types.{IsPosition, next_position, pair_at}
+use Rattle.leveldb_base.specs.Types.{IsPosition, Pair, next_position, pair_at}
 use Rattle.leveldb_env.specs.contracts.compressor.CompressorListCompressors.TheImpl.{ghosts as compressors}
 use Rattle.leveldb_table.specs.BlockBuilder.{last_added}
 use Rattle.rusty_leveldb.specs.BuildTable.{HasTaken, passed}
@@ -12,7 +12,7 @@ add-requires-clause-rising g c =
     let so_far = c.adding.invariant in
     let pairs = g.I.LdbIterator.pairs c.args.from.now in
     let position = g.I.LdbIterator.position c.adding.from in
-    let pair = (c.in-Some.key.now, c.in-Some.value.now) in
+    let pair : Pair = (c.in-Some.key.now, c.in-Some.value.now) in
     let here : Some pair ≡ pair_at pairs position = c.in-Some.ensures ∙ ap (λ ps. pair_at ps position) so_far.same.same_pairs in
     λ unbroken some. next_rises pairs (passed pairs position) pair c.requires.pairs so_far.taken.choices (pair_passed pairs position pair here) so_far.last so_far.count_is some
 
@@ -21,7 +21,7 @@ returns-in_err-add-clause-cause g c =
     let so_far = c.adding.invariant in
     let pairs = g.I.LdbIterator.pairs c.args.from.now in
     let position = g.I.LdbIterator.position c.adding.from in
-    let pair = (c.in-Some.key.now, c.in-Some.value.now) in
+    let pair : Pair = (c.in-Some.key.now, c.in-Some.value.now) in
     let here : Some pair ≡ pair_at pairs position = c.in-Some.ensures ∙ ap (λ ps. pair_at ps position) so_far.same.same_pairs in
     let failed = err_from_is_err_and c.from_residual.result c.from_residual.ensures.1 in
     rw failed.1 (rw failed.2 (inr (record {
@@ -42,7 +42,7 @@ adding-preserved g c =
     let pairs = g.I.LdbIterator.pairs c.args.from.now in
     let position = g.I.LdbIterator.position c.adding.from in
     let count = passed pairs position in
-    let pair = (c.in-Some.key.now, c.in-Some.value.now) in
+    let pair : Pair = (c.in-Some.key.now, c.in-Some.value.now) in
     let here : Some pair ≡ pair_at pairs position = c.in-Some.ensures ∙ ap (λ ps. pair_at ps position) so_far.same.same_pairs in
     let there = pair_passed pairs position pair here in
     let next : passed pairs (g.I.LdbIterator.position c.advance.new.self) ≡ count + 1 =
