@@ -4,6 +4,7 @@ use Rattle.leveldb_base.specs.Types.{Pair, pair_at, position_within}
 use Rattle.leveldb_env.specs.contracts.compressor.CompressorListCompressors.TheImpl.{ghosts as compressors}
 use Rattle.leveldb_table.specs.BlockBuilder.{last_added}
 use Rattle.leveldb_version.specs.Store.{IsFirstKey, IsLastKey}
+use Rattle.rusty_leveldb.specs.BuildTable.{HasTaken, puts_in_memory}
 use Rattle.rusty_leveldb.proofs.BuildTableLemmas.{built_in_memory, first_key_is, last_key_is, none_first}
 use Rattle.rusty_leveldb.proofs.db_impl.build.build_in_memory.Goals as goal
 
@@ -49,8 +50,9 @@ returns-clause-some g c =
     let pair : Pair = (c.in-Some.first.now, c.in-Some.field-0-1.now) in
     let here : Some pair ≡ pair_at pairs (position_within pairs 0) = c.in-Some.ensures ∙ at_first in
     let last : c.in_ok-largest.largest ≡ last_added pairs = c.in_ok-largest.ensures ∙ c.last_key.ensures ∙ c.in_ok-add_pairs.ensures.last ∙ ap last_added kept.same_pairs in
+    let taken : HasTaken codings puts_in_memory c.args.core c.new-bytes.result pairs c.add_pairs.new.core c.add_pairs.new.sink = rw (← kept.same_pairs) c.in_ok-add_pairs.ensures.takes in
     (
-      built_in_memory codings c.new-bytes.ensures.items c.requires.unused.begun (rw (← kept.same_pairs) c.in_ok-add_pairs.ensures.takes) c.in_ok-finish.ensures.ok,
+      built_in_memory codings c.new-bytes.ensures.items c.requires.unused.begun taken c.in_ok-finish.ensures.ok,
       subst (λ k. IsFirstKey k pairs) (sym c.in_ok-smallest.ensures) (first_key_is pairs pair here),
       subst (λ k. IsLastKey k pairs) (sym last) (last_key_is pairs pair here),
     )
