@@ -1,5 +1,5 @@
 -- How a builder gets the pairs of a walk, what its table is to a store, and what the file's calls leave.
-use Rattle.std.proofs.Common.{◌≡◌, ◌≢◌, ◌⊎◌, inl, inr, ⊎_elim, ℕ, zero, suc, ◌+◌, ◌-◌, ◌<◌, ◌≤◌, max, Bool, true, false, cond, List, [], ◌∷◌, ◌++◌, length, take, map, nat_lt, nat_le, Option, None, Some, Result, Ok, Err, refl, sym, ◌∙◌, ap, subst, append_assoc, arith}
+use Rattle.std.proofs.Common.{◌≡◌, ◌≢◌, ◌⊎◌, inl, inr, ⊎_elim, ℕ, zero, suc, ◌+◌, ◌<◌, ◌≤◌, Bool, true, false, List, [], ◌∷◌, ◌++◌, length, take, map, nat_lt, Option, None, Some, Result, Ok, Err, refl, sym, ◌∙◌, ap, subst, append_assoc, arith}
 use Rattle.std.specs.Prelude.{All, IsTrue, OnOk, slice_get, slice_index_or, if◌then◌else◌, ◌&&◌}
 use Rattle.std.specs.Global.{Vec}
 use Rattle.std.specs.Option.{option_map}
@@ -19,7 +19,7 @@ use Rattle.leveldb_base.specs.Types.{IsPosition, Pair, SameWalk, next_position, 
 use Rattle.leveldb_base.specs.declared.cmp.Cmp.{Ghosts as CmpGhosts}
 use Rattle.leveldb_base.specs.declared.error.Status.{Status}
 use Rattle.leveldb_base.specs.declared.types.FileMetaData.{FileMetaData}
-use Rattle.leveldb_env.proofs.EnvLemmas.{SameBut-appending, SameBut-emptied, SameBut-refl, SameBut-synced, SameBut-trans, at_same, begun, call, extended-same, synced-same, with_file-twice}
+use Rattle.leveldb_env.proofs.EnvLemmas.{SameBut-appending, SameBut-emptied, SameBut-refl, SameBut-synced, SameBut-trans, at_same, begun, call, extended-same, with_file-twice}
 use Rattle.leveldb_env.proofs.SinkLemmas.{PutsAll-bytes, PutsAll-none, PutsAll-trans}
 use Rattle.leveldb_env.specs.Env.{BeforeOrAfter, ChangesFiles, Files, HasCause, Observed, PrefixAppended, Run, SameBut, SameLocks, emptied, extended, file_kept, kept_file, longer_file, synced, with_file}
 use Rattle.leveldb_env.specs.Compressor.{Codings, Decodes}
@@ -374,16 +374,16 @@ module _ {C FP : Type 0} {order : CmpGhosts C} {filters : FilterGhosts FP} (choi
     }
 
     -- the file was made
-    pub MakesTable-done : (smallest largest : List ℕ) → (IsTrue env.models_disk → ChangesFiles {T = Unit {0}} env.models_disk (with_file path (Some (kept_file bytes))) (SameBut path) (env.observed old) (env.observed new) (Ok tt))
+    pub MakesTable-done : (smallest largest : List ℕ) (size : ℕ) → size ≡ length bytes → (IsTrue env.models_disk → ChangesFiles {T = Unit {0}} env.models_disk (with_file path (Some (kept_file bytes))) (SameBut path) (env.observed old) (env.observed new) (Ok tt))
         → HasCause {T = Unit {0}} IsOutOfMemory (env.failures old) (env.failures new) (Ok tt) → IsTableBuilt choices pairs bytes → IsFirstKey smallest pairs → IsLastKey largest pairs
         → ((read : List ℕ) → IsTableBuilt choices pairs read → (meaning : List ℕ → Option (List ℕ → List ℕ → Bool)) → IsMeaningOf meaning choices.format.policy_name (λ key. choices.format.matches (user_part key))
         → IsStoreTable (Decodes choices.format.codings) choices.format.order meaning read pairs)
-        → MakesTable choices pairs env Fails store number old (Ok (record { allowed_seeks = 0; num = number; size = length bytes; smallest = smallest; largest = largest })) new
-    MakesTable-done smallest largest does cause built first last reads =
-        let file : FileMetaData = record { allowed_seeks = 0; num = number; size = length bytes; smallest = smallest; largest = largest } in
+        → MakesTable choices pairs env Fails store number old (Ok (record { allowed_seeks = 0; num = number; size = size; smallest = smallest; largest = largest })) new
+    MakesTable-done smallest largest size size_is does cause built first last reads =
+        let file : FileMetaData = record { allowed_seeks = 0; num = number; size = size; smallest = smallest; largest = largest } in
         let there : IsTrue env.models_disk → (env.observed new).disk.files (table_path store number) ≡ Some (kept_file bytes) = λ modelled. subst (λ p. (env.observed new).disk.files p ≡ Some (kept_file bytes)) named
         (ap (λ (f : Files). f path) ((does modelled).ok modelled) ∙ at_same path (Some (kept_file bytes)) (env.observed old).disk.files) in
-        let made : IsTableFile choices pairs env.models_disk store (env.observed new).disk.files file = record { bytes = bytes; built = built; kept = there; size = refl; smallest = first; largest = last } in
+        let made : IsTableFile choices pairs env.models_disk store (env.observed new).disk.files file = record { bytes = bytes; built = built; kept = there; size = size_is; smallest = first; largest = last } in
         record {
           number_is = (refl, refl);
           none = λ empty. absurd (some empty);

@@ -161,9 +161,7 @@ fn with_log(alloc: Global) -> Result<RecordEnv> {
 /// Whether a name in the store's folder is the table's or the log's.
 fn has_no_other(alloc: Global, env: &mut RecordEnv) -> Result<bool> {
     let names = env.children(alloc, "db")?;
-    Ok(names
-        .iter()
-        .all(|name| name.as_str() == "000005.ldb" || name.as_str() == "000003.log"))
+    Ok(names.iter().all(|name| name.as_str() == "000005.ldb" || name.as_str() == "000003.log"))
 }
 
 /// The nth call fails: the error is the device's, and at most the table's file has changed.
@@ -179,7 +177,10 @@ fn fail_at(rt: &impl Abort, alloc: Global, nth: u64, done: bool) -> Result<()> {
         return Err(status);
     }
     assert!(rt; status.code == StatusCode::IOError, "call {nth}, {done}");
-    assert!(rt; env.moment() == before.saturating_add(2 * nth), "call {nth}, {done}");
+    assert!(rt;
+        env.moment() == before.saturating_add(2 * nth),
+        "call {nth}, {done}"
+    );
     assert!(rt; has_no_other(alloc, &mut env)?, "call {nth}, {done}");
     let log = read_file(alloc, &mut env, BESIDE)?;
     assert!(rt; log.as_slice() == b"log", "call {nth}, {done}");

@@ -37,7 +37,12 @@ struct BuiltTable {
 /// the name of a number in the store's folder. It is built in memory, and then its file is created,
 /// appended to once and synced. Over no pair no call is made, and the size is 0. After an Err the
 /// file may be there, whole or in part.
-pub fn build_table<E: Env, I: LdbIterator, C: UserCmp + Copy + Drop, FP: FilterPolicy + Copy + Drop>(
+pub fn build_table<
+    E: Env,
+    I: LdbIterator,
+    C: UserCmp + Copy + Drop,
+    FP: FilterPolicy + Copy + Drop,
+>(
     alloc: Global,
     env: &mut E,
     store: &str,

@@ -1,4 +1,4 @@
-use Rattle.std.proofs.Common.{◌≡◌, ◌≢◌, ◌∙◌, inl, inr, ⊎_elim, List, [], ℕ, refl}
+use Rattle.std.proofs.Common.{◌≡◌, ◌∙◌, inl, inr, ⊎_elim, [], refl}
 use Rattle.std.proofs.lemmas.Result.{err_from_is_err_and}
 use Rattle.leveldb_base.specs.contracts.cmp.internal.InternalKeyCmpCmp.TheImpl.{ghosts as key_order}
 use Rattle.leveldb_env.specs.contracts.compressor.CompressorListCompressors.TheImpl.{ghosts as compressors}
@@ -38,8 +38,8 @@ returns-clause-makes g c =
     let table = rw c.in-Some.is at c.in_ok-table.ensures.some in
     let new = rw c.new-policy.ensures at c.under-core.ensures in
     let named : c.deref.result.now ≡ table_path c.args.store.now c.args.number = c.deref.ensures ∙ c.in_ok-path.ensures.ok in
-    let built : IsTableBuilt choices pairs c.in-Some.table.bytes.items = IsTableUnder-same _ _ _ new.order new.policy new.compressor new.interval.0 new.interval.1 table.0 in
+    let built : IsTableBuilt choices pairs c.in-Some.table.bytes.items = IsTableUnder-same keys key_filters choices.format.codings new.order new.policy new.compressor new.interval.0 new.interval.1 table.0 in
     rw c.len.ensures (MakesTable-done choices pairs g.E.Env _ c.args.store.now c.args.number (first_some table.1) c.deref.result.now c.in-Some.table.bytes.items named c.in_ok-write_synced.ensures.locks
-    c.in-Some.table.smallest c.in-Some.table.largest (rw c.deref-2.ensures.value at c.in_ok-write_synced.ensures.does) c.in_ok-write_synced.ensures.cause built table.1 table.2
+    c.in-Some.table.smallest c.in-Some.table.largest _ c.in-Some.table.bytes.ok.0 (rw c.deref-2.ensures.value at c.in_ok-write_synced.ensures.does) c.in_ok-write_synced.ensures.cause built table.1 table.2
     (λ read is_built meaning known. built_of_store _ (g.met.C.Cmp.preorder cmp) (g.met.C.UserCmp.accepts_all cmp) (g.met.C.UserCmp.exact cmp) (g.C.Cmp.shortest_sep cmp) (g.met.C.Cmp.separates cmp)
     (g.FP.FilterPolicy.matches c.args.options.now.filter_policy) is_built meaning known))

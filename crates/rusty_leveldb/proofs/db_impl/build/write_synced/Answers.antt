@@ -1,4 +1,4 @@
-use Rattle.std.proofs.Common.{◌∙◌, Ok}
+use Rattle.std.proofs.Common.{◌∙◌}
 use Rattle.rusty_leveldb.proofs.BuildTableLemmas.{at_sync}
 use Rattle.rusty_leveldb.proofs.db_impl.build.write_synced.Goals as goal
 
