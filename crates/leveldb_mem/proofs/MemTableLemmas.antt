@@ -11,12 +11,13 @@ use Rattle.std.proofs.lemmas.List.Elements.{All-head, All-tail, Contains-get_or,
 use Rattle.std.specs.declared.cmp.Ordering.TheVariants.{Less, Equal, Greater}
 use Rattle.std.proofs.lemmas.List.Sums.{sum_by-cons, sum_by-append}
 use Rattle.byteorder.specs.Numbers.{length-bytes_low_first}
-use Rattle.leveldb_base.specs.History.{Item, Entry, IsBeforeAll, AreRising, IsNewest}
+use Rattle.leveldb_base.specs.History.{Item, Entry, IsBeforeAll, AreRising, AreUpTo, IsNewest}
+use Rattle.leveldb_base.proofs.HistoryLemmas.{in_cases, in_none}
 use Rattle.leveldb_base.specs.Varint.{little, varint, sized}
 use Rattle.leveldb_base.proofs.VarintLemmas.{length-varint_64, one_sized}
-use Rattle.leveldb_base.specs.KeyTypes.{tag, internal_key, user_part, sequence_part, type_part, memtable_key, front_key, internal_cmp, memtable_cmp}
+use Rattle.leveldb_base.specs.KeyTypes.{tag, greatest_sequence, internal_key, user_part, sequence_part, type_part, memtable_key, front_key, internal_cmp, memtable_cmp}
 use Rattle.leveldb_base.specs.Cmp.{internal_accepts, memtable_accepts, IsPreorderOn}
-use Rattle.leveldb_base.specs.CmpLaws.{length-internal_key, user_part-internal_key, sequence_part-internal_key, internal_accepts-internal_key, alike_right, itself_equal}
+use Rattle.leveldb_base.specs.CmpLaws.{length-internal_key, user_part-internal_key, sequence_part-internal_key, sequence_part-lt, internal_accepts-internal_key, alike_right, itself_equal}
 use Rattle.leveldb_base.proofs.KeyTypesLemmas.{type_part-internal_key, front_key-sized, front_key-memtable_key}
 use Rattle.leveldb_base.specs.declared.key_types.ValueType.{ValueType}
 use Rattle.leveldb_base.specs.Types.{Pair, count_before, position_within, last_position}
@@ -196,6 +197,18 @@ walked_at pairs i h each =
     let key = inner_is pair is in
     let value = value_is pair is in
     slice_get-get_or (walked pairs) i ([], []) long ∙ ap (λ (p : Pair). Some p) there ∙ (λ j. Some (sym key j, sym value j))
+
+number_fits : (key : List ℕ) → (entry_from key).sequence ≤ greatest_sequence
+unfolding entry_from
+number_fits key = let fits = sequence_part-lt (front_key key) in omega (arith, fits)
+
+-- no entry has a number past the greatest
+pub entries_numbered : (pairs : List Pair) → AreUpTo greatest_sequence (entries_of_keys pairs)
+entries_numbered [] entry there = absurd (in_none entry there)
+entries_numbered (pair ∷ pairs) entry there = ⊎_elim
+    (λ (is : entry_from pair.0 ≡ entry). subst (λ (e : Entry). e.sequence ≤ greatest_sequence) is (number_fits pair.0))
+    (λ (rest : Contains (entries_of_keys pairs) entry). entries_numbered pairs entry rest)
+    (in_cases (entry_from pair.0) entry (entries_of_keys pairs) there)
 
 module _ (cmp : List ℕ → List ℕ → Ordering) where
   -- a count of memtable keys by their internal keys is a count of internal keys

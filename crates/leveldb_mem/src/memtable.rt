@@ -2,9 +2,10 @@
 ghost use Rattle.std.specs.Prelude.{◌≡◌, ◌+◌, ◌<◌, ◌≤◌, ◌^◌, ℕ, List, [], ◌∷◌, ◌++◌, length, map};
 ghost use Rattle.std.specs.Prelude.{IsTrue, ◌↔◌, Some, None, slice_get, option_copied};
 ghost use Rattle.std.specs.Option.{option_map, ForSome};
-ghost use Rattle.leveldb_base.specs.History.{placed, greatest, AreRising};
+ghost use Rattle.leveldb_base.specs.History.{placed, greatest, AreRising, AreUpTo};
 ghost use Rattle.leveldb_base.specs.Varint.{varint, sized};
-ghost use Rattle.leveldb_base.specs.KeyTypes.{front_key, internal_cmp, user_part, sequence_part};
+ghost use Rattle.leveldb_base.specs.KeyTypes.{front_key, greatest_sequence, internal_cmp, user_part};
+ghost use Rattle.leveldb_base.specs.KeyTypes.{sequence_part};
 ghost use Rattle.leveldb_base.specs.Types.{position_within, previous_position, last_position};
 ghost use Rattle.leveldb_base.specs.Types.{seek_position};
 ghost use Rattle.leveldb_base.specs.Entries.{FindsNewest, type_of, bytes_of_value, value_of};
@@ -202,8 +203,9 @@ impl<C: UserCmp> MemTable<C> {
             ≡ internal_cmp (C.cmp self.now.cmp) }
         ensures sorted { AreRising (internal_cmp (C.cmp self.now.cmp))
             (map internal_pair self.now.kept.entries) }
+        ensures numbered { AreUpTo greatest_sequence self.now.kept.entries }
     {
-        // This opens the value's invariant for the clause `sorted`.
+        // This opens the value's invariant for the clauses `sorted` and `numbered`.
         let _ = self.map.iter();
         MemtableIterator {
             table: self,

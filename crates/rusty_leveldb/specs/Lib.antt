@@ -1,4 +1,5 @@
 pub mod Boxes
+pub mod BuildTable
 pub mod Format
 pub mod OneLog
 pub mod State

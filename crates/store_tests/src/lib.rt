@@ -4,6 +4,8 @@
 #[cfg(test)]
 mod batches;
 #[cfg(test)]
+mod build_table;
+#[cfg(test)]
 mod crash_disks;
 #[cfg(test)]
 mod crashes;

@@ -1,0 +1,207 @@
+-- What `build_table` makes of a walk, what changes on the way, and why it fails.
+use Rattle.std.specs.Prelude.{◌≡◌, ◌≢◌, ◌⊎◌, ℕ, Bool, true, false, List, [], ◌++◌, length, take, max, slice_get, All, Option, None, Some, Result, IfOk, IsTrue}
+use Rattle.std.specs.Global.{Vec}
+use Rattle.std.specs.declared.cmp.Ordering.{Ordering}
+use Rattle.leveldb_base.specs.Error.{IsOutOfMemory}
+use Rattle.leveldb_base.specs.History.{AreRising, Entry}
+use Rattle.leveldb_base.specs.KeyTypes.{user_part}
+use Rattle.leveldb_base.specs.Types.{Pair}
+use Rattle.leveldb_base.specs.declared.cmp.Cmp.{Ghosts as CmpGhosts}
+use Rattle.leveldb_base.specs.declared.cmp.internal.InternalKeyCmp.{InternalKeyCmp}
+use Rattle.leveldb_base.specs.declared.error.Status.{Status}
+use Rattle.leveldb_base.specs.declared.types.FileMetaData.{FileMetaData}
+use Rattle.leveldb_env.specs.Compressor.{Codings, Decodes}
+use Rattle.leveldb_env.specs.Env.{Files, HasCause, Run, SameBut, SameLocks, kept_file}
+use Rattle.leveldb_env.specs.Options.{Boxed, OptionsOf}
+use Rattle.leveldb_env.specs.Sink.{AppendsBytes, FlushesNothing, PutsAll}
+use Rattle.leveldb_env.specs.declared.compressor.CompressorList.{CompressorList}
+use Rattle.leveldb_env.specs.declared.env.Env.{Ghosts as EnvGhosts}
+use Rattle.leveldb_env.specs.declared.filter.FilterPolicy.{Ghosts as FilterGhosts}
+use Rattle.leveldb_table.specs.TableBuilder.{IsBegun, IsBuiltTable, IsMeaningOf, IsNewBuilder, KeepsChoices}
+use Rattle.leveldb_table.specs.TableBuilderAdd.{IsAddError}
+use Rattle.leveldb_table.specs.TableBuilderFinish.{IsFinishError}
+use Rattle.leveldb_table.specs.declared.table_builder.builder_core.BuilderCore.{BuilderCore}
+use Rattle.leveldb_version.specs.Batches.{Each}
+use Rattle.leveldb_version.specs.Paths.{table_path}
+use Rattle.leveldb_version.specs.Store.{HasTable, IsFirstKey, IsInternalPair, IsLastKey, IsStoreTable}
+use Rattle.leveldb_version.specs.VersionEdit.{new_file_of}
+use Rattle.rusty_leveldb.specs.Engine.{format_of}
+use Rattle.rusty_leveldb.specs.Format.{Format}
+
+-- ---- how a builder gets the pairs of a walk
+
+-- a builder may be given these pairs in turn: their keys are accepted and rise
+pub record CanBeTabled (accepts : List ℕ → Bool) (cmp : List ℕ → List ℕ → Ordering)
+    (pairs : List Pair) : Type 0 where
+  pub accepted : All (λ pair. accepts pair.0 ≡ true) pairs
+  pub rising : AreRising cmp pairs
+
+-- these pairs were added: some bytes were put, and the builder has put these after what it had put
+-- before
+pub record AddsPairs {S : Type 0} (puts : S → List ℕ → Result (Unit {0}) Status → S → Type 0)
+    (old new : List ℕ → List Pair → Type 0) (from : S) (pairs : List Pair) (to : S) : Type 0 where
+  pub bytes : List ℕ
+  pub put : PutsAll puts from bytes to
+  pub begun : (written : List ℕ) (before : List Pair) → old written before
+      → new (written ++ bytes) (before ++ pairs)
+
+-- how many of the pairs a walk has passed that is at this position, after it was at the first
+abbrev pub passed : List Pair → Option ℕ → ℕ
+passed pairs None = length pairs
+passed pairs (Some i) = i
+
+-- the table that a builder of these choices makes of pairs
+abbrev pub IsTableUnder : {C FP : Type 0} → CmpGhosts C → FilterGhosts FP → Codings → C → FP → ℕ
+    → ℕ → ℕ → List ℕ → List Pair → Type 0
+IsTableUnder order filters codings cmp policy id interval index_interval =
+    IsBuiltTable codings (order.accepts cmp) (order.cmp cmp) (order.shortest_sep cmp)
+    (order.short_succ cmp) (filters.matches policy) (filters.filter_for policy) id
+    (filters.name policy) interval index_interval
+
+-- bytes in memory as a sink: a put appends, and a flush does nothing
+abbrev pub puts_in_memory : Vec ℕ → List ℕ → Result (Unit {0}) Status → Vec ℕ → Type 0
+puts_in_memory old bytes result new = AppendsBytes old.items bytes result new.items
+
+-- a flush of bytes in memory does nothing
+abbrev pub flushes_in_memory : Vec ℕ → Result (Unit {0}) Status → Vec ℕ → Type 0
+flushes_in_memory old result new = FlushesNothing old.items result new.items
+
+module _ {C FP : Type 0} {order : CmpGhosts C} {filters : FilterGhosts FP} (codings : Codings) where
+  -- nothing is put, no pair is added and no call has failed
+  pub record IsUnused (core : BuilderCore C FP order filters) : Type 0 where
+    pub begun : IsBegun codings order.accepts order.cmp order.shortest_sep filters.matches core
+        [] []
+    pub unbroken : core.broken ≡ false
+    pub none : core.count ≡ 0
+
+  -- The builder has taken these pairs, by its calls alone.
+  pub record HasTaken {S : Type 0} (puts : S → List ℕ → Result (Unit {0}) Status → S → Type 0)
+      (core : BuilderCore C FP order filters) (from : S) (pairs : List Pair)
+      (mid : BuilderCore C FP order filters) (to : S) : Type 0 where
+    pub adds : AddsPairs puts
+        (IsBegun codings order.accepts order.cmp order.shortest_sep filters.matches core)
+        (IsBegun codings order.accepts order.cmp order.shortest_sep filters.matches mid)
+        from pairs to
+    pub choices : KeepsChoices core mid
+    pub unbroken : mid.broken ≡ false
+
+  module _ {S : Type 0} (puts : S → List ℕ → Result (Unit {0}) Status → S → Type 0)
+      (core : BuilderCore C FP order filters) (from : S) (pairs : List Pair) where
+    -- The builder took the first of these pairs and not the next one, for a cause of its own.
+    pub record StopsAtPair (status : Status) : Type 0 where
+      pub count : ℕ
+      pub pair : Pair
+      pub next : slice_get pairs count ≡ Some pair
+      pub mid : BuilderCore C FP order filters
+      pub at : S
+      pub taken : HasTaken puts core from (take count pairs) mid at
+      pub to : S
+      pub cause : IsAddError codings mid puts pair at status to
+
+    -- The builder took all of them and didn't finish the table, for a cause of its own.
+    pub record StopsAtEnd (flushes : S → Result (Unit {0}) Status → S → Type 0) (status : Status)
+        : Type 0 where
+      pub mid : BuilderCore C FP order filters
+      pub at : S
+      pub taken : HasTaken puts core from pairs mid at
+      pub to : S
+      pub cause : IsFinishError codings mid puts flushes at status to
+
+  -- Into no bytes in memory the builder takes some of the pairs, and fails at the next one or at the
+  -- end.
+  abbrev pub StopsInMemory : BuilderCore C FP order filters → List Pair → Status → Type 0
+  StopsInMemory core pairs status =
+      (empty : Vec ℕ) × (empty.items ≡ []) × (StopsAtPair puts_in_memory core empty pairs status
+      ⊎ StopsAtEnd puts_in_memory core empty pairs flushes_in_memory status)
+
+-- ---- what a table is built with
+
+-- How a store's files are read; and the order of internal keys, the filter policy for them, the
+-- compressor's id, the size of blocks and the restart interval, all of which builders are given.
+pub record TableChoices {C FP : Type 0} (order : CmpGhosts C) (filters : FilterGhosts FP)
+    : Type 0 where
+  pub format : Format
+  pub cmp : C
+  pub policy : FP
+  pub id : ℕ
+  pub block_size : ℕ
+  pub restarts : ℕ
+
+-- The choices of options. `keys` and `key_filters` are the orders and the policies of internal keys
+-- that are made of those of users' keys.
+abbrev pub choices_of : {C FP : Type 0} {B : Boxed} → CmpGhosts C → FilterGhosts FP
+    → (keys : CmpGhosts (InternalKeyCmp C)) (key_filters : FilterGhosts FP)
+    → (CompressorList B.compressors B.compressor → Codings) → OptionsOf C FP B
+    → TableChoices keys key_filters
+choices_of cmp filters keys key_filters codings options = record {
+  format = format_of cmp filters codings options;
+  cmp = record { 0 = options.cmp };
+  policy = options.filter_policy;
+  id = options.compressor;
+  block_size = options.block_size;
+  restarts = options.block_restart_interval;
+}
+
+-- ---- what `build_table` does
+
+module _ {C FP : Type 0} {order : CmpGhosts C} {filters : FilterGhosts FP}
+    (choices : TableChoices order filters) (pairs : List Pair) where
+  -- Why no table of the pairs is built in memory: out of memory; or a new builder of these choices
+  -- takes some of the pairs, and fails at the next one or at the end for a cause of its own.
+  abbrev pub IsNotTabled : Status → Type 0
+  IsNotTabled status =
+      IsOutOfMemory status
+      ⊎ ((core : BuilderCore C FP order filters)
+      × IsNewBuilder choices.cmp choices.policy choices.id choices.block_size choices.restarts core
+      × StopsInMemory choices.format.codings core pairs status)
+
+  -- these bytes are the table that a builder of these choices makes of the pairs
+  abbrev pub IsTableBuilt : List ℕ → Type 0
+  IsTableBuilt bytes =
+      IsTableUnder order filters choices.format.codings choices.cmp choices.policy choices.id
+      (max 1 choices.restarts) (max 1 choices.restarts) bytes pairs
+
+  -- The file has the table of the pairs, all of it kept, and its metadata is the table's. Where no
+  -- disk is modelled, the bytes of the file are left open, but not the metadata.
+  pub record IsTableFile (models_disk : Bool) (store : List ℕ) (files : Files) (file : FileMetaData)
+      : Type 0 where
+    pub bytes : List ℕ
+    pub built : IsTableBuilt bytes
+    pub kept : IsTrue models_disk → files (table_path store file.num) ≡ Some (kept_file bytes)
+    pub size : file.size ≡ length bytes
+    pub smallest : IsFirstKey file.smallest pairs
+    pub largest : IsLastKey file.largest pairs
+
+  -- In a level the file is a table of the store, with the entries of the pairs, whatever names of
+  -- filter policies mean besides this one's.
+  abbrev pub IsTableOfStore : List ℕ → Files → FileMetaData → Type 0
+  IsTableOfStore store files file =
+      (meaning : List ℕ → Option (List ℕ → List ℕ → Bool)) (level : ℕ) (entries : List Entry)
+      → IsMeaningOf meaning choices.format.policy_name
+      (λ key. choices.format.matches (user_part key))
+      → Each IsInternalPair pairs entries
+      → HasTable store choices.format.order
+      (IsStoreTable (Decodes choices.format.codings) choices.format.order meaning) files
+      (record { file = new_file_of (level, file); entries = entries })
+
+  -- what making the table of a walk's pairs under a number returns and leaves
+  pub record MakesTable {E F : Type 0} (env : EnvGhosts E F) (Fails : Status → Type 0)
+      (store : List ℕ) (number : ℕ) (old : E) (result : Result FileMetaData Status) (new : E)
+      : Type 0 where
+    pub number_is : IfOk result (λ file. (file.num ≡ number) × (file.allowed_seeks ≡ 0))
+    -- over no pair no call is made, and the file has no byte
+    pub none : pairs ≡ [] → (new ≡ old) × IfOk result (λ file. file.size ≡ 0)
+    -- else the file is made, and it is a table of the store
+    pub made : pairs ≢ [] → IfOk result
+        (IsTableFile env.models_disk store (env.observed new).disk.files)
+    pub has : pairs ≢ [] → IsTrue env.models_disk
+        → IfOk result (IsTableOfStore store (env.observed new).disk.files)
+    -- now and at each moment on the way no other file changes, nor does a lock
+    pub run : IsTrue env.models_disk → Run (SameBut (table_path store number)
+        (env.observed old).disk.files) (env.observed old) (env.observed new)
+    pub locks : SameLocks env.models_disk (env.observed old) (env.observed new)
+    -- Out of memory; or no table was built in memory or the walk failed, and no call was made; or
+    -- the device failed. Keys out of order are no cause: those of the walk rise.
+    pub cause : HasCause (λ status. IsOutOfMemory status
+        ⊎ ((IsNotTabled status ⊎ Fails status) × (new ≡ old)))
+        (env.failures old) (env.failures new) result

@@ -1,0 +1,243 @@
+//! Tables made of memtables: the calls that they take, what they hold, and what is left where one fails.
+ghost use Rattle.std.specs.Prelude.{◌≡◌, true};
+
+use leveldb_base::cmp::DefaultCmp;
+use leveldb_base::error::{Result, Status, StatusCode, err};
+use leveldb_base::key_types::ValueType;
+use leveldb_base::types::{FileMetaData, LdbIterator};
+use leveldb_env::compressor::Compressor;
+use leveldb_env::env::Env;
+use leveldb_env::env::whole_files::read_file;
+use leveldb_env::filter::BloomPolicy;
+use leveldb_env::mem_env::{Pick, RecordEnv};
+use leveldb_env::options::Options;
+use leveldb_mem::memtable::MemTable;
+use leveldb_table::cache::Cache;
+use leveldb_table::table_reader::Table;
+use rusty_leveldb::db_impl::build_memtable;
+use std::alloc::Global;
+use std::process::Abort;
+use std::test::Fail;
+
+const PATH: &str = "db/000005.ldb";
+
+const BESIDE: &str = "db/000003.log";
+
+/// A value for the key `a` at the sequence 1.
+const ONE: &[u8] = b"a\x01\x01\0\0\0\0\0\0";
+
+/// Keys with several entries, deletions, an empty key and an empty value.
+const ENTRIES: [(u64, ValueType, &[u8], &[u8]); 7] = [
+    (1, ValueType::TypeValue, b"b", b"1"),
+    (2, ValueType::TypeValue, b"a", b""),
+    (3, ValueType::TypeDeletion, b"b", b""),
+    (4, ValueType::TypeValue, b"", b"empty"),
+    (5, ValueType::TypeValue, b"b", b"5"),
+    (6, ValueType::TypeValue, b"\xff\xff", b"6"),
+    (7, ValueType::TypeDeletion, b"never", b""),
+];
+
+fn one_entry(alloc: Global) -> Result<MemTable<DefaultCmp>> {
+    let mut memtable = MemTable::new(alloc, DefaultCmp);
+    memtable.add(1, ValueType::TypeValue, b"a", b"1")?;
+    Ok(memtable)
+}
+
+fn seven_entries(alloc: Global) -> Result<MemTable<DefaultCmp>> {
+    let mut memtable = MemTable::new(alloc, DefaultCmp);
+    for (sequence, kind, key, value) in ENTRIES {
+        memtable.add(sequence, kind, key, value)?;
+    }
+    Ok(memtable)
+}
+
+/// Options under which each block has few entries.
+fn small_blocks() -> Options<DefaultCmp, BloomPolicy> {
+    let mut options = Options::default();
+    options.block_size = 20;
+    options
+}
+
+fn build(
+    alloc: Global,
+    env: &mut RecordEnv,
+    options: &Options<DefaultCmp, BloomPolicy>,
+    memtable: &MemTable<DefaultCmp>,
+) -> Result<FileMetaData> {
+    build_memtable(alloc, env, "db", options, memtable, 5)
+}
+
+/// Whether the file is a table of the memtable's pairs, in their order.
+fn is_table_of(
+    alloc: Global,
+    env: &mut RecordEnv,
+    options: &Options<DefaultCmp, BloomPolicy>,
+    size: usize,
+    memtable: &MemTable<DefaultCmp>,
+) -> Result<bool> {
+    let mut cache = Cache::new(alloc, 4)?;
+    let file = env.open_random_access_file(PATH)?;
+    let table = Table::new(alloc, options, env, &mut cache, file, size)?;
+    let mut found = table.iter(alloc, env, &mut cache)?;
+    let mut wanted = memtable.iter();
+    for _ in 0..=memtable.len() {
+        let there = found.advance(&options.compressor_list)?;
+        if there != wanted.advance()? || found.current() != wanted.current() {
+            return Ok(false);
+        }
+    }
+    Ok(!found.valid() && !wanted.valid())
+}
+
+/// One entry is one table of 177 bytes, made by three calls.
+#[test]
+fn one_entry_takes_three_calls(rt: HostRuntime) -> std::result::Result<(), Fail> {
+    let alloc = rt.alloc();
+    let options = Options::default();
+    let mut env = RecordEnv::new(alloc);
+    let memtable = one_entry(alloc)?;
+    let file = build(alloc, &mut env, &options, &memtable)?;
+    assert!(rt; env.moment() == 6 && file.num == 5 && file.size == 177);
+    assert!(rt; file.smallest.as_slice() == ONE && file.largest.as_slice() == ONE);
+    assert!(rt; read_file(alloc, &mut env, PATH)?.len() == 177);
+    assert!(rt; is_table_of(alloc, &mut env, &options, file.size, &memtable)?);
+    Ok(())
+}
+
+#[test]
+fn no_entry_takes_no_call(rt: HostRuntime) -> std::result::Result<(), Fail> {
+    let alloc = rt.alloc();
+    let mut env = RecordEnv::new(alloc);
+    let memtable = MemTable::new(alloc, DefaultCmp);
+    let file = build(alloc, &mut env, &Options::default(), &memtable)?;
+    assert!(rt; env.moment() == 0 && file.num == 5 && file.size == 0);
+    assert!(rt; file.smallest.is_empty() && file.largest.is_empty());
+    assert!(rt; !env.exists(PATH)?);
+    Ok(())
+}
+
+/// A table of several blocks has all entries, deletions among them, and replaces what was there.
+#[test]
+fn all_entries_are_found(rt: HostRuntime) -> std::result::Result<(), Fail> {
+    let alloc = rt.alloc();
+    let options = small_blocks();
+    let mut env = RecordEnv::new(alloc);
+    build(alloc, &mut env, &options, &one_entry(alloc)?)?;
+    let memtable = seven_entries(alloc)?;
+    let file = build(alloc, &mut env, &options, &memtable)?;
+    assert!(rt; env.moment() == 12);
+    assert!(rt; file.smallest.as_slice() == b"\x01\x04\0\0\0\0\0\0");
+    assert!(rt; file.largest.as_slice() == b"\xff\xff\x01\x06\0\0\0\0\0\0");
+    assert!(rt; is_table_of(alloc, &mut env, &options, file.size, &memtable)?);
+    Ok(())
+}
+
+/// A crash after it returned leaves the whole table, whatever is lost that wasn't synced.
+#[test]
+fn a_crash_leaves_the_table(rt: HostRuntime) -> std::result::Result<(), Fail> {
+    let alloc = rt.alloc();
+    let options = small_blocks();
+    let mut env = RecordEnv::new(alloc);
+    let memtable = seven_entries(alloc)?;
+    let file = build(alloc, &mut env, &options, &memtable)?;
+    assert!(rt; env.tails(alloc, env.moment(), false)?.is_empty());
+    let nothing = Pick {
+        tails: Vec::new(alloc),
+        after: false,
+    };
+    let mut left = env.disk_at(alloc, env.moment(), &nothing)?;
+    assert!(rt; is_table_of(alloc, &mut left, &options, file.size, &memtable)?);
+    Ok(())
+}
+
+/// A file beside the table's, whose bytes aren't durable.
+fn with_log(alloc: Global) -> Result<RecordEnv> {
+    let mut env = RecordEnv::new(alloc);
+    let mut file = env.open_writable_file(BESIDE)?;
+    env.append(&mut file, b"log")?;
+    Ok(env)
+}
+
+/// Whether a name in the store's folder is the table's or the log's.
+fn has_no_other(alloc: Global, env: &mut RecordEnv) -> Result<bool> {
+    let names = env.children(alloc, "db")?;
+    Ok(names.iter().all(|name| name.as_str() == "000005.ldb" || name.as_str() == "000003.log"))
+}
+
+/// The nth call fails: the error is the device's, and at most the table's file has changed.
+fn fail_at(rt: &impl Abort, alloc: Global, nth: u64, done: bool) -> Result<()> {
+    let options = small_blocks();
+    let mut env = with_log(alloc)?;
+    let before = env.moment();
+    env.fail(nth, done);
+    let Err(status) = build(alloc, &mut env, &options, &seven_entries(alloc)?) else {
+        return err(alloc, StatusCode::Unknown, "no failure was reported");
+    };
+    if status.code == StatusCode::OutOfMemory {
+        return Err(status);
+    }
+    assert!(rt; status.code == StatusCode::IOError, "call {nth}, {done}");
+    assert!(rt;
+        env.moment() == before.saturating_add(2 * nth),
+        "call {nth}, {done}"
+    );
+    assert!(rt; has_no_other(alloc, &mut env)?, "call {nth}, {done}");
+    let log = read_file(alloc, &mut env, BESIDE)?;
+    assert!(rt; log.as_slice() == b"log", "call {nth}, {done}");
+    Ok(())
+}
+
+#[test]
+fn each_failure_leaves_only_the_file(rt: HostRuntime) -> std::result::Result<(), Fail> {
+    for nth in 1..=3 {
+        fail_at(&rt, rt.alloc(), nth, false)?;
+        fail_at(&rt, rt.alloc(), nth, true)?;
+    }
+    Ok(())
+}
+
+/// Encodes no block.
+#[derive(Clone, Copy)]
+struct Refusing;
+
+impl Compressor for Refusing {
+    ghost use Rattle.std.specs.Prelude.{None, true, false};
+
+    ghost coding = { λ _. record { decoded = λ stored. None; encode_fails = λ block code. true; decode_fails = λ stored code. true } };
+
+    fn encode(&self, alloc: Global, _block: Vec<u8>) -> Result<Vec<u8>> {
+        err(alloc, StatusCode::CompressionError, "no block is encoded")
+    }
+
+    fn decode(&self, alloc: Global, _stored: Vec<u8>) -> Result<Vec<u8>> {
+        err(alloc, StatusCode::CompressionError, "no block is decoded")
+    }
+}
+
+/// Where the compressor fails, or none is set under the id, no call is made.
+#[test]
+fn a_compressor_fails_before_any_call(rt: HostRuntime) -> std::result::Result<(), Fail> {
+    let alloc = rt.alloc();
+    let mut env = RecordEnv::new(alloc);
+    let memtable = one_entry(alloc)?;
+    let mut options = small_blocks();
+    options.compressor = 9;
+    let unset = build(alloc, &mut env, &options, &memtable);
+    assert!(rt; failed_with(unset, StatusCode::NotSupported)? && env.moment() == 0);
+    let refusing = Box::new(alloc, Refusing)?;
+    options.compressor_list.set_with_id(alloc, 9, refusing)?;
+    let refused = build(alloc, &mut env, &options, &memtable);
+    assert!(rt; failed_with(refused, StatusCode::CompressionError)? && env.moment() == 0);
+    Ok(())
+}
+
+/// Whether a call failed with this code. Out of memory is passed on.
+fn failed_with(answer: Result<FileMetaData>, code: StatusCode) -> Result<bool> {
+    let Err(status) = answer else {
+        return Ok(false);
+    };
+    if status.code == StatusCode::OutOfMemory {
+        return Err(status);
+    }
+    Ok(status.code == code)
+}
