@@ -159,7 +159,7 @@ module _ {C FP : Type 0} {order : CmpGhosts C} {filters : FilterGhosts FP}
   abbrev pub IsTableBuilt : List ℕ → Type 0
   IsTableBuilt bytes =
       IsTableUnder order filters choices.format.codings choices.cmp choices.policy choices.id
-      (max 1 choices.restarts) (max 1 choices.restarts) bytes pairs
+      (max 1 choices.restarts) 1 bytes pairs
 
   -- The file has the table of the pairs, all of it kept, and its metadata is the table's. Where no
   -- disk is modelled, the bytes of the file are left open, but not the metadata.
