@@ -1,5 +1,6 @@
 pub mod Boxes
 pub mod Format
+pub mod Frame
 pub mod OneLog
 pub mod State
 pub mod Unread
@@ -11,6 +12,7 @@ pub mod Laws
 pub mod Recent
 pub mod Replay
 pub mod Engine
+pub mod Calls
 pub mod Shell
 pub mod Lives
 pub mod Language
