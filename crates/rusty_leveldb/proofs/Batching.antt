@@ -20,7 +20,8 @@ use Rattle.rusty_leveldb.specs.Machine.{Keeps, Step}
 use Rattle.rusty_leveldb.specs.Serves.{faults_between, refusal_of}
 use Rattle.rusty_leveldb.specs.Engine.{Recalls, AnswersStill}
 use Rattle.rusty_leveldb.proofs.Writes.Moments.{moments_none}
-use Rattle.rusty_leveldb.proofs.Others.{others_still, spared_still}
+use Rattle.rusty_leveldb.specs.Frame.{MayTouch}
+use Rattle.rusty_leveldb.proofs.Others.{spares_still}
 use Rattle.leveldb_env.specs.Options.{Boxed}
 use Rattle.rusty_leveldb.specs.Boxes.{EngineOf}
 
@@ -55,9 +56,8 @@ module _ {E C FP F : Type 0} {B : Boxed} (env : Ghosts E F) (engine : EngineOf E
     later = omega arith;
     step = subst (λ mode. Step mode faults old (write items sync) (refused (refusal_of status)) old) (sym (is_open store disk old represents.memory_is)) (⊎_elim for_memory for_length why);
     moments = moments_none store (write items sync) old (env.observed at) represents.disk_is;
-    files = spared_still (write items sync) (refused (refusal_of status)) old old (env.observed at).disk.files;
-    others = others_still store (env.observed at).disk;
-    beside = λ opens_not path differs. refl;
+    spares = spares_still store (MayTouch store old.mode (write items sync)) (env.observed at).disk;
+    bytes = λ never. absurd never;
   }
     where
       disk : Disk

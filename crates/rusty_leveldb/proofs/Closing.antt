@@ -17,14 +17,15 @@ use Rattle.rusty_leveldb.specs.State as machine
 use Rattle.rusty_leveldb.specs.State.{State, Request, close, abandon, Answer, done, refused, open_mode, closed}
 use Rattle.rusty_leveldb.specs.Causes.{Faults, Cause, out_of_memory, device_failed, Comes, ReachesDevice}
 use Rattle.rusty_leveldb.specs.Machine.{Step, Responds}
-use Rattle.rusty_leveldb.specs.Serves.{SameBytes, StandsFor, IsSpared, Represents, done_or, refusal_of, faults_between}
+use Rattle.rusty_leveldb.specs.Serves.{StandsFor, IsSpared, Represents, done_or, refusal_of, faults_between}
 use Rattle.rusty_leveldb.specs.Engine.{Recalls, WritesOn, mode_of, Answers}
 use Rattle.rusty_leveldb.specs.Recovery.{IsErrorFor}
 use Rattle.rusty_leveldb.proofs.Ended.{broke, ended, broke_still, ended_still, broke_covered, ended_covered}
 use Rattle.rusty_leveldb.proofs.Writes.Stands.{is_open as open_store}
 use Rattle.rusty_leveldb.proofs.Writes.Found.{memory_found}
 use Rattle.rusty_leveldb.proofs.Writes.Moments.{risk_at, moments_none, moments_still, sync_moments, with_none}
-use Rattle.rusty_leveldb.proofs.Others.{beside_but, but_same, others_with, others_but_log, others_still, spared_still, bytes_same, bytes_synced}
+use Rattle.rusty_leveldb.specs.Frame.{MayTouch, SameBytes}
+use Rattle.rusty_leveldb.proofs.Others.{but_same, spares_with, spares_but_log, spares_same, spares_still, bytes_same, bytes_synced}
 use Rattle.leveldb_env.specs.Options.{Boxed}
 use Rattle.rusty_leveldb.specs.Boxes.{EngineOf}
 
@@ -120,9 +121,8 @@ module _ {E C FP F : Type 0} {B : Boxed} (env : Ghosts E F) where
         later = syncs.cause.later;
         step = subst (λ m. Step m (faults_between (env.failures at) (env.failures now)) old close (refused (refusal_of status)) (broke old old.durable)) (sym mode) (record { cause = cause.0; comes = cause.1; leaves = record { state = refl; durable = inl refl } });
         moments = sync_moments env store before at old (open_store env store before at old is_open represents) now told syncs.does;
-        files = record { untouched = λ never. absurd never; refused = λ never. absurd never; stopped = λ not_open takes. absurd (not_open mode); bytes = λ syncing. bytes_same (env.observed at).disk.files (env.observed now).disk.files (syncs.undone told) };
-        others = others_but_log store (env.observed at).disk (env.observed now).disk (but_same (log_path store) (env.observed at).disk.files (env.observed now).disk.files (syncs.undone told)) (syncs.locks told);
-        beside = λ opens_not. beside_but store (env.observed at).disk.files (env.observed now).disk.files (but_same (log_path store) (env.observed at).disk.files (env.observed now).disk.files (syncs.undone told));
+        bytes = λ syncing. bytes_same (env.observed at).disk.files (env.observed now).disk.files (syncs.undone told);
+        spares = spares_but_log store (env.observed at).disk (env.observed now).disk old.mode close mode tt (but_same (log_path store) (env.observed at).disk.files (env.observed now).disk.files (syncs.undone told)) (syncs.locks told);
       }
 
   -- an engine that was closed remembers that alone
@@ -193,9 +193,8 @@ module _ {E C FP F : Type 0} {B : Boxed} (env : Ghosts E F) where
           later = omega (arith, caused.later);
           step = subst (λ m. Step m (faults_between (env.failures at) (env.failures now)) old close (refused (refusal_of status)) (broke old (length old.history))) (sym is) (record { cause = cause.0; comes = cause.1; leaves = record { state = refl; durable = inr refl } });
           moments = given_back told store old represents does;
-          files = record { untouched = λ never. absurd never; refused = λ never. absurd never; stopped = λ not_open takes. absurd (not_open is); bytes = λ syncing. synced_bytes told store old represents (does.now told) };
-          others = others_but_log store (env.observed at).disk (env.observed now).disk (but_log told store old represents (does.now told)) (relocks told ∙ flushed.flushed.locks told);
-          beside = λ opens_not. beside_but store (env.observed at).disk.files (env.observed now).disk.files (but_log told store old represents (does.now told));
+          bytes = λ syncing. synced_bytes told store old represents (does.now told);
+          spares = spares_but_log store (env.observed at).disk (env.observed now).disk old.mode close is tt (but_log told store old represents (does.now told)) (relocks told ∙ flushed.flushed.locks told);
         }
 
     -- it was done: the store is closed
@@ -214,12 +213,11 @@ module _ {E C FP F : Type 0} {B : Boxed} (env : Ghosts E F) where
           later = omega (arith, caused.later);
           step = subst (λ m. Step m (faults_between (env.failures at) (env.failures now)) old close done (ended old (length old.history) false)) (sym is) (record { operands = λ never. never; numbers = λ never. never }, record { state = refl });
           moments = with_none env store before at old (open_store env store before at old is_open represents) now (given_back told store old represents does);
-          files = record { untouched = λ never. absurd never; refused = λ never. absurd never; stopped = λ not_open takes. absurd (not_open is); bytes = λ syncing. synced_bytes told store old represents (does.now told) };
-          others = others_with store (env.observed at).disk (env.observed now).disk (but_log told store old represents (does.now told))
+          bytes = λ syncing. synced_bytes told store old represents (does.now told);
+          spares = spares_with store (env.observed at).disk (env.observed now).disk old.mode close is tt (but_log told store old represents (does.now told))
               (λ name differs. ap (λ (locked : List ℕ → Bool). locked name) (relocks told)
               ∙ freed_other lock name (env.observed mid).disk.locked (λ e. differs (e ∙ same_lock told store old represents (does.now told)))
               ∙ ap (λ (locked : List ℕ → Bool). locked name) (flushed.flushed.locks told));
-          beside = λ opens_not. beside_but store (env.observed at).disk.files (env.observed now).disk.files (but_log told store old represents (does.now told));
         }
 
   -- ---- a store that is abandoned
@@ -234,9 +232,8 @@ module _ {E C FP F : Type 0} {B : Boxed} (env : Ghosts E F) where
         later = omega arith;
         step = subst (λ m. Step m (faults_between (env.failures at) (env.failures at)) old abandon done old) (sym is) (refl, refl);
         moments = moments_none store abandon old (env.observed at) represents.disk_is;
-        files = spared_still abandon done old old (env.observed at).disk.files;
-        others = others_still store (env.observed at).disk;
-        beside = λ opens_not path apart. refl;
+        spares = spares_still store (MayTouch store old.mode abandon) (env.observed at).disk;
+        bytes = λ never. absurd never;
       }
 
   module _ (before : EngineOf E C FP F B) (at now : E) (differs : before.mode ≡ Closed → ⊥) (lock : List ℕ) (lock_is : lock ≡ string_bytes before.lock) where
@@ -256,9 +253,8 @@ module _ {E C FP F : Type 0} {B : Boxed} (env : Ghosts E F) where
           step = subst (λ m. Step m (faults_between (env.failures at) (env.failures now)) old abandon (refused (refusal_of status)) (ended old old.durable old.locked)) represents.memory_is.mode
               (abandons (faults_between (env.failures at) (env.failures now)) old (ended old old.durable old.locked) (refused (refusal_of status)) before.mode differs (record { cause = cause.0; comes = cause.1; leaves = record { state = refl } }));
           moments = moments_still store old told represents.disk_is does;
-          files = record { untouched = λ touches. does.now told; refused = λ never. absurd never; stopped = λ not_open takes. does.now told; bytes = λ never. absurd never };
-          others = others_but_log store (env.observed at).disk (env.observed now).disk (but_same (log_path store) (env.observed at).disk.files (env.observed now).disk.files (does.now told)) (relocks told);
-          beside = λ opens_not. beside_but store (env.observed at).disk.files (env.observed now).disk.files (but_same (log_path store) (env.observed at).disk.files (env.observed now).disk.files (does.now told));
+          bytes = λ never. absurd never;
+          spares = spares_same store (env.observed at).disk (env.observed now).disk (MayTouch store old.mode abandon) (does.now told) (λ name apart. ap (λ (locked : List ℕ → Bool). locked name) (relocks told));
         }
 
     -- the lock is free
@@ -278,10 +274,9 @@ module _ {E C FP F : Type 0} {B : Boxed} (env : Ghosts E F) where
           step = subst (λ m. Step m (faults_between (env.failures at) (env.failures now)) old abandon done (ended old old.durable false)) represents.memory_is.mode
               (abandons (faults_between (env.failures at) (env.failures now)) old (ended old old.durable false) done before.mode differs (record { operands = λ never. never; numbers = λ never. never }, record { state = refl }));
           moments = moments_still store old told represents.disk_is does;
-          files = record { untouched = λ touches. does.now told; refused = λ never. absurd never; stopped = λ not_open takes. does.now told; bytes = λ never. absurd never };
-          others = others_with store (env.observed at).disk (env.observed now).disk (but_same (log_path store) (env.observed at).disk.files (env.observed now).disk.files (does.now told))
+          bytes = λ never. absurd never;
+          spares = spares_same store (env.observed at).disk (env.observed now).disk (MayTouch store old.mode abandon) (does.now told)
               (λ name apart. ap (λ (locked : List ℕ → Bool). locked name) (relocks told) ∙ freed_other lock name (env.observed at).disk.locked (λ e. apart (e ∙ same_lock)));
-          beside = λ opens_not. beside_but store (env.observed at).disk.files (env.observed now).disk.files (but_same (log_path store) (env.observed at).disk.files (env.observed now).disk.files (does.now told));
         }
 
     -- either

@@ -1,8 +1,9 @@
 -- A look-up is a step of the machine that leaves the state as it is.
 use Rattle.std.proofs.Common.{◌≡◌, ◌≤◌, inl, inr, ℕ, List, length, Option, Some, None, refl, sym, ◌∙◌, ap, subst, arith}
-use Rattle.std.specs.Prelude.{IsErrAnd, Result, Ok, Err}
+use Rattle.std.specs.Prelude.{IsErrAnd, IfErr, Result, Ok, Err}
 use Rattle.leveldb_base.specs.declared.error.Status.{Status}
-use Rattle.leveldb_base.specs.declared.error.StatusCode.TheVariants.{InvalidArgument}
+use Rattle.leveldb_base.specs.declared.error.StatusCode.TheVariants.{InvalidArgument, IOError}
+use Rattle.leveldb_mem.specs.Log.Writer.{WriterState}
 use Rattle.leveldb_base.specs.Error.{text_of, IsOutOfMemory}
 use Rattle.leveldb_base.specs.History.{Entry, entries_of, IsValueAt, SameView}
 use Rattle.leveldb_env.specs.declared.env.Env.{Ghosts}
@@ -16,9 +17,10 @@ use Rattle.rusty_leveldb.specs.State.{State, IsState, get, Answer, found, refuse
 use Rattle.rusty_leveldb.specs.Causes.{Faults, bad_operand, out_of_memory, Misfits, IsLongKey}
 use Rattle.rusty_leveldb.specs.Machine.{Step, Responds}
 use Rattle.rusty_leveldb.specs.Serves.{refusal_of, found_or}
-use Rattle.rusty_leveldb.specs.Engine.{IsClosed, mode_of, Remembers, Recalls, AnswersStill}
+use Rattle.rusty_leveldb.specs.Engine.{IsClosed, RefusedAsClosed, RefusedByMode, mode_of, Remembers, Recalls, AnswersStill}
 use Rattle.rusty_leveldb.proofs.Writes.Moments.{moments_none}
-use Rattle.rusty_leveldb.proofs.Others.{others_still, spared_still}
+use Rattle.rusty_leveldb.specs.Frame.{MayTouch}
+use Rattle.rusty_leveldb.proofs.Others.{spares_still}
 use Rattle.leveldb_env.specs.Options.{Boxed}
 use Rattle.rusty_leveldb.specs.Boxes.{EngineOf}
 
@@ -61,9 +63,8 @@ module _ {E C FP F : Type 0} {B : Boxed} (env : Ghosts E F) (engine : EngineOf E
     later = omega arith;
     step = stays store (env.observed at).disk old represents.disk_is.is_state represents.memory_is _;
     moments = moments_none store (get None key) old (env.observed at) represents.disk_is;
-    files = spared_still (get None key) answer old old (env.observed at).disk.files;
-    others = others_still store (env.observed at).disk;
-    beside = λ opens_not path differs. refl;
+    spares = spares_still store (MayTouch store old.mode (get None key)) (env.observed at).disk;
+    bytes = λ never. absurd never;
   }
 
   -- a store that isn't closed responds in either mode
@@ -72,6 +73,11 @@ module _ {E C FP F : Type 0} {B : Boxed} (env : Ghosts E F) (engine : EngineOf E
   responds_in machine.open_mode faults old answer usable responds = responds
   responds_in machine.broken faults old answer usable responds = responds
   responds_in machine.closed faults old answer usable responds = absurd (usable refl)
+
+  -- a closed store refuses it
+  pub get_shut : (status : Status) → RefusedAsClosed engine.mode status → AnswersStill env engine (get None key) (refused (refusal_of status))
+  get_shut status out = still (refused (refusal_of status))
+      (λ store disk old is recalls faults. subst (λ m. Step m faults old (get None key) (refused (refusal_of status)) old) (sym (ap mode_of out.0) ∙ recalls.mode) (out.1, refl))
 
   in_use : (answer : Answer) → (IsClosed engine.mode → ⊥)
       → ((faults : Faults) (store : List ℕ) (old : State) → IsState old → Remembers env store engine old → Responds faults old (get None key) answer old)
@@ -133,6 +139,15 @@ module _ {E C FP F : Type 0} {B : Boxed} (env : Ghosts E F) (engine : EngineOf E
       get_value newest value copy is same finds =
           found_answer (Some (Some copy)) short
           (subst (λ (v : Option (List ℕ)). FindsNewest engine.recent.kept.entries engine.recent.last key (Some v)) (is ∙ ap (λ (v : List ℕ). Some v) (sym same)) finds)
+
+-- the refusal of a closed store is one by the mode
+pub closed_by_mode : (mode : Mode) (writer : WriterState) (e : Status) → RefusedAsClosed mode e → RefusedByMode mode writer e
+closed_by_mode mode writer e out = (inl out, λ failed is. let never : InvalidArgument ≡ IOError = sym out.1 ∙ failed in cc)
+
+-- an error that this says is one of these
+pub err_of : {T : Type 0} (P Q : Status → Type 0) (result : Result T Status) → ((e : Status) → P e → Q e) → IsErrAnd result P → IfErr result Q
+err_of P Q (Ok value) so fails = absurd fails
+err_of P Q (Err status) so fails = so status fails
 
 -- a key up to the limit
 pub within : (key : List ℕ) → length key ≤ max_length → IsLongKey key → ⊥

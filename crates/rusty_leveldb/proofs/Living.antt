@@ -10,9 +10,9 @@ use Rattle.rusty_leveldb.specs.declared.shell.crash_runs.Report.{Report}
 use Rattle.rusty_leveldb.specs.State.{State, Opening, open_store, abandon, Answer, done, refused}
 use Rattle.rusty_leveldb.specs.Serves.{Represents, refusal_of}
 use Rattle.rusty_leveldb.specs.Engine.{Recalls, Answers, IsOpening, no_engine}
-use Rattle.rusty_leveldb.specs.Shell.{LeadsAt, request_of, answer_of}
+use Rattle.rusty_leveldb.specs.Shell.{request_of, answer_of}
 use Rattle.rusty_leveldb.specs.Lives.{requests_of, answers_of, moments_of, IsAlwaysLife}
-use Rattle.rusty_leveldb.proofs.Playing.{OnlyNow, OpensAs, no_other, first_at, next_one, at_none}
+use Rattle.rusty_leveldb.proofs.Playing.{LeadsAt, OnlyNow, OpensAs, no_other, first_at, next_one, at_none}
 use Rattle.leveldb_env.specs.Options.{Boxed, OptionsOf, nothing_boxed}
 use Rattle.rusty_leveldb.specs.Boxes.{EngineOf}
 

@@ -10,8 +10,12 @@ use Rattle.leveldb_env.proofs.EnvLemmas.{SameBut-created, bytes_eq-apart, at_sam
 use Rattle.leveldb_env.specs.WholeFiles.{Replacing}
 use Rattle.rusty_leveldb.specs.OneLog.{log_path, temp_path}
 use Rattle.leveldb_version.specs.Paths.{lock_path}
-use Rattle.rusty_leveldb.specs.State.{State, Request, Answer}
-use Rattle.rusty_leveldb.specs.Serves.{SameBytes, SparesFiles, IsKeptOrMade, SparesOthers}
+use Rattle.leveldb_version.specs.Paths.{IsFilePath}
+use Rattle.leveldb_base.specs.declared.types.FileType.{FileType}
+use Rattle.leveldb_base.specs.declared.types.FileType.TheVariants.{Log, DBLock, Temp, InfoLog}
+use Rattle.rusty_leveldb.specs.State.{Mode, open_mode, closed, Opening, Request, open_store, write, flush, compact_range, close}
+use Rattle.rusty_leveldb.specs.Frame.{IsOwned, IsData, IsLogType, Touches, IsOwn, MayTouch, IsKeptOrMade, Spares, SameBytes}
+use Rattle.rusty_leveldb.proofs.OneLog.LogFile.{is_three}
 use Rattle.rusty_leveldb.specs.Recovery.{ChangesLogAlone}
 
 -- ---- names that differ
@@ -46,60 +50,115 @@ kept_then was mid now first second = ⊎_elim
     (λ (kept : mid ≡ was). ⊎_elim (λ (same : now ≡ mid). inl (same ∙ kept)) (λ (made : now ≡ or_empty mid). inr (made ∙ ap or_empty kept)) second)
     (λ (made : mid ≡ or_empty was). ⊎_elim (λ (same : now ≡ mid). inr (same ∙ made)) (λ (again : now ≡ or_empty mid). inr (again ∙ ap or_empty made ∙ made_twice was)) second) first
 
--- ---- what isn't the store's
+-- ---- the store's files
 
--- all but the log is as it was
-pub beside_but : (store : List ℕ) (old files : Files) → SameBut (log_path store) old files → (path : List ℕ) → path ≢ log_path store → files path ≡ old path
-beside_but store old files but path differs = but path (apart (log_path store) path differs)
+log_is : (store : List ℕ) → IsFilePath Log store (log_path store)
+log_is store = (codes "000003.log", 3, (codes "000003", is_three, refl), refl)
+
+temp_is : (store : List ℕ) → IsFilePath Temp store (temp_path store)
+temp_is store = (codes "000003.dbtmp", 3, (codes "000003", is_three, refl), refl)
+
+lock_is : (store : List ℕ) → IsFilePath DBLock store (lock_path store)
+lock_is store = (codes "LOCK", 0, (refl, refl), refl)
+
+-- what isn't the store's is neither of them
+module _ (store path : List ℕ) (foreign : IsOwn store path → ⊥) where
+  no_log : path ≢ log_path store
+  no_log e = foreign (subst (IsOwn store) (sym e) (Log, tt, log_is store))
+
+  no_temp : path ≢ temp_path store
+  no_temp e = foreign (subst (IsOwn store) (sym e) (Temp, tt, temp_is store))
+
+  no_lock : path ≢ lock_path store
+  no_lock e = foreign (subst (IsOwn store) (sym e) (DBLock, tt, lock_is store))
+
+-- what a request touches is the store's
+data_owned : (kind : FileType) → IsData kind → IsOwned kind
+data_owned InfoLog never = absurd never
+data_owned kind touched = tt
+
+log_owned : (kind : FileType) → IsLogType kind → IsOwned kind
+log_owned InfoLog never = absurd never
+log_owned kind touched = tt
+
+touched_owned : (mode : Mode) (request : Request) (kind : FileType) → Touches mode request kind → IsOwned kind
+touched_owned closed (open_store opening) kind touched = touched
+touched_owned open_mode (write items sync) kind touched = data_owned kind touched
+touched_owned open_mode (compact_range from to) kind touched = data_owned kind touched
+touched_owned open_mode flush kind touched = log_owned kind touched
+touched_owned open_mode close kind touched = log_owned kind touched
+touched_owned mode request kind touched = absurd touched
+
+pub spares_own : (store : List ℕ) (mode : Mode) (request : Request) (old new : Disk) → Spares store (MayTouch store mode request) old new → Spares store (IsOwn store) old new
+spares_own store mode request old new spares = record {
+  files = λ path foreign. spares.files path (λ may. foreign (may.0, touched_owned mode request may.0 may.1, may.2));
+  lock_file = spares.lock_file;
+  locks = spares.locks;
+}
 
 -- files that are as they were are so but for a name
 pub but_same : (name : List ℕ) (old files : Files) → files ≡ old → SameBut name old files
 but_same name old files is other differs = ap (λ (f : Files). f other) is
 
+-- the log may be touched
+may_touch_log : (store : List ℕ) (mode : Mode) (request : Request) → mode ≡ open_mode → Touches open_mode request Log → MayTouch store mode request (log_path store)
+may_touch_log store mode request is touches = (Log, subst (λ m. Touches m request Log) (sym is) touches, log_is store)
+
 module _ (store : List ℕ) (old new : Disk) where
-  -- the log alone has changed, and these locks haven't
-  pub others_with : SameBut (log_path store) old.files new.files → ((path : List ℕ) → path ≢ lock_path store → new.locked path ≡ old.locked path) → SparesOthers store old new
-  others_with but locks = record {
-    files = λ path log temp lock. but path (apart (log_path store) path log);
-    lock_file = inl (but (lock_path store) (apart (log_path store) (lock_path store) (lock_not_log store)));
+  module _ (mode : Mode) (request : Request) (is : mode ≡ open_mode) (touches : Touches open_mode request Log) where
+    -- the log alone has changed, and these locks haven't
+    pub spares_with : SameBut (log_path store) old.files new.files → ((path : List ℕ) → path ≢ lock_path store → new.locked path ≡ old.locked path)
+        → Spares store (MayTouch store mode request) old new
+    spares_with but locks = record {
+      files = λ path foreign. but path (apart (log_path store) path
+          (λ e. foreign (subst (MayTouch store mode request) (sym e) (may_touch_log store mode request is touches))));
+      lock_file = inl (but (lock_path store) (apart (log_path store) (lock_path store) (lock_not_log store)));
+      locks = locks;
+    }
+
+    -- the log alone has changed, and no lock has
+    pub spares_but_log : SameBut (log_path store) old.files new.files → new.locked ≡ old.locked → Spares store (MayTouch store mode request) old new
+    spares_but_log but locks = spares_with but (λ path differs. ap (λ (locked : List ℕ → Bool). locked path) locks)
+
+  -- no file has changed
+  pub spares_same : (May : List ℕ → Type 0) → new.files ≡ old.files → ((path : List ℕ) → path ≢ lock_path store → new.locked path ≡ old.locked path) → Spares store May old new
+  spares_same May same locks = record {
+    files = λ path foreign. ap (λ (f : Files). f path) same;
+    lock_file = inl (ap (λ (f : Files). f (lock_path store)) same);
     locks = locks;
   }
 
-  -- the log alone has changed, and no lock has
-  pub others_but_log : SameBut (log_path store) old.files new.files → new.locked ≡ old.locked → SparesOthers store old new
-  others_but_log but locks = others_with but (λ path differs. ap (λ (locked : List ℕ → Bool). locked path) locks)
-
   -- the lock's file may have been made
-  pub others_made : BeforeOrAfter (created (lock_path store)) old.files new.files → ((path : List ℕ) → path ≢ lock_path store → new.locked path ≡ old.locked path) → SparesOthers store old new
+  pub others_made : BeforeOrAfter (created (lock_path store)) old.files new.files → ((path : List ℕ) → path ≢ lock_path store → new.locked path ≡ old.locked path) → Spares store (IsOwn store) old new
   others_made passes locks = record {
-    files = λ path log temp lock. SameBut-created (lock_path store) old.files new.files passes path (apart (lock_path store) path lock);
+    files = λ path foreign. SameBut-created (lock_path store) old.files new.files passes path (apart (lock_path store) path (no_lock store path foreign));
     lock_file = ⊎_elim (λ same. inl (ap (λ (f : Files). f (lock_path store)) same))
         (λ made. inr (ap (λ (f : Files). f (lock_path store)) made ∙ at_same (lock_path store) (or_empty (old.files (lock_path store))) old.files)) passes;
     locks = locks;
   }
 
   -- the log may have been replaced
-  pub others_alone : ChangesLogAlone store old.files new.files → ((path : List ℕ) → path ≢ lock_path store → new.locked path ≡ old.locked path) → SparesOthers store old new
+  pub others_alone : ChangesLogAlone store old.files new.files → ((path : List ℕ) → path ≢ lock_path store → new.locked path ≡ old.locked path) → Spares store (IsOwn store) old new
   others_alone rest locks = record {
-    files = λ path log temp lock. rest path log temp;
+    files = λ path foreign. rest path (no_log store path foreign) (no_temp store path foreign);
     lock_file = inl (rest (lock_path store) (lock_not_log store) (lock_not_temp store));
     locks = locks;
   }
 
 -- nothing has changed
-pub others_still : (store : List ℕ) (disk : Disk) → SparesOthers store disk disk
-others_still store disk = record { files = λ path log temp lock. refl; lock_file = inl refl; locks = λ path differs. refl }
+pub spares_still : (store : List ℕ) (May : List ℕ → Type 0) (disk : Disk) → Spares store May disk disk
+spares_still store May disk = record { files = λ path foreign. refl; lock_file = inl refl; locks = λ path differs. refl }
 
-pub others_then : (store : List ℕ) (old mid new : Disk) → SparesOthers store old mid → SparesOthers store mid new → SparesOthers store old new
+pub others_then : (store : List ℕ) (old mid new : Disk) → Spares store (IsOwn store) old mid → Spares store (IsOwn store) mid new → Spares store (IsOwn store) old new
 others_then store old mid new first second = record {
-  files = λ path log temp lock. second.files path log temp lock ∙ first.files path log temp lock;
+  files = λ path foreign. second.files path foreign ∙ first.files path foreign;
   lock_file = kept_then (old.files (lock_path store)) (mid.files (lock_path store)) (new.files (lock_path store)) first.lock_file second.lock_file;
   locks = λ path differs. second.locks path differs ∙ first.locks path differs;
 }
 
--- no file has changed
-pub spared_still : (request : Request) (answer : Answer) (old new : State) (files : Files) → SparesFiles request answer old new files files
-spared_still request answer old new files = record { untouched = λ touches. refl; refused = λ logs is_refused opened. refl; stopped = λ not_open takes. refl; bytes = λ syncing path. refl }
+-- an opening touches what is the store's
+pub opening_spares : (store : List ℕ) (mode : Mode) (opening : Opening) (old new : Disk) → mode ≡ closed → Spares store (IsOwn store) old new → Spares store (MayTouch store mode (open_store opening)) old new
+opening_spares store mode opening old new is spares = subst (λ m. Spares store (MayTouch store m (open_store opening)) old new) (sym is) spares
 
 -- ---- the log alone
 

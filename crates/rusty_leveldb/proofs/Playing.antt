@@ -17,8 +17,10 @@ use Rattle.rusty_leveldb.specs.Runs.{Event, Run, CrashesIn, CrashBefore, last_mo
 use Rattle.rusty_leveldb.specs.Serves.{StandsFor, Represents, Goes, Runs, IsHonestlyLeft, IsBetweenCalls, IsConversation, done_or, refusal_of}
 use Rattle.rusty_leveldb.specs.Engine.{scene, Recalls, Answers, AnswersAs, IsOpening, no_engine}
 use Rattle.rusty_leveldb.proofs.Crashes.{crash_between, crash_inside}
-use Rattle.rusty_leveldb.proofs.Others.{others_still, others_then}
-use Rattle.rusty_leveldb.specs.Shell.{LeadsAt, Leads, LeadsThrough, Plays, PlaysAlways, request_of, answer_of}
+use Rattle.rusty_leveldb.proofs.Others.{spares_still, spares_own, others_then}
+use Rattle.rusty_leveldb.specs.Frame.{IsOwn}
+use Rattle.leveldb_base.specs.Error.{IsOutOfMemory}
+use Rattle.rusty_leveldb.specs.Shell.{Plays, HasRun, request_of, answer_of}
 use Rattle.leveldb_env.specs.Options.{Boxed, OptionsOf, nothing_boxed}
 use Rattle.rusty_leveldb.specs.Boxes.{EngineOf}
 
@@ -31,6 +33,27 @@ OnErr-always (Err error) h = h
 abbrev pub event_of : ℕ → Request → Answer → ℕ → Event
 event_of moment request answer failures =
     record { moment = moment; request = request; answer = answer; failures = failures }
+
+-- ---- words for runs
+
+module _ {E F : Type 0} (C FP : Type 0) {B : Boxed} (env : Ghosts E F) (store : List ℕ) where
+  -- these requests had these answers, each at its moment, from what the disk has on, and what engine and
+  -- disk represent then
+  abbrev pub LeadsAt : E → List Request → List Answer → List ℕ → Option (EngineOf E C FP F B) → E → State → Type 0
+  LeadsAt from requests answers moments engine to old = Runs store (Recalls env store) env.models_moments
+      (scene {C = C} {FP = FP} {B = B} env None from) requests answers moments (scene env engine to) old
+
+  -- the same, at some moments
+  abbrev pub Leads : E → List Request → List Answer → Option (EngineOf E C FP F B) → E → State → Type 0
+  Leads from requests answers engine to old = (moments : List ℕ) × LeadsAt from requests answers moments engine to old
+
+module _ {E F : Type 0} (C FP : Type 0) (env : Ghosts E F) (store : List ℕ) where
+  -- a run of commands, from every state that the disk represents, where the disk is observed
+  abbrev pub PlaysAlways : E → Opening → List Command → List Reply → Result (Unit {0}) Status → E → Type 0
+  PlaysAlways from asked commands given result to = IsTrue env.models_disk
+      → (opening : Opening) → IsOpening store asked opening → (old : State)
+      → Represents store (Recalls {C = C} {FP = FP} {B = nothing_boxed} env store) None (env.observed from).disk old
+      → Plays C FP env store from opening commands given result to old
 
 -- ---- runs
 
@@ -158,7 +181,7 @@ module _ {E F C FP : Type 0} {B : Boxed} (env : Ghosts E F) (only_now : OnlyNow 
     new = old;
     run = (refl, refl);
     represents = is;
-    others = others_still store (env.observed from).disk;
+    others = spares_still store (IsOwn store) (env.observed from).disk;
     since = All-nil (λ (event : Event). (env.observed from).moment ≤ event.moment);
     last = refl;
     ends = λ moment low. (λ all. low, λ most. All-nil (λ (event : Event). event.moment ≤ moment));
@@ -303,7 +326,7 @@ module _ {E F C FP : Type 0} {B : Boxed} (env : Ghosts E F) (only_now : OnlyNow 
       new = goes.new;
       run = run_now;
       represents = goes.represents;
-      others = others_then store (env.observed from).disk (env.observed mid).disk (env.observed to).disk led.others goes.others;
+      others = others_then store (env.observed from).disk (env.observed mid).disk (env.observed to).disk led.others (spares_own store led.new.mode request (env.observed mid).disk (env.observed to).disk goes.spares);
       since = All-append (λ (event : Event). (env.observed from).moment ≤ event.moment) led.events (now ∷ []) led.since
           (All-cons (λ (event : Event). (env.observed from).moment ≤ event.moment) now [] from_first (All-nil (λ (event : Event). (env.observed from).moment ≤ event.moment)));
       last = last_more (env.observed from).moment led.events now;
@@ -390,23 +413,31 @@ module _ {E F : Type 0} {B : Boxed} (C FP : Type 0) (env : Ghosts E F) (only_now
   pub play_end : (from mid to : E) (wanted : Opening) (commands : List Command) (given : List Reply) (engine : EngineOf E C FP F B) (result : Result (Unit {0}) Status)
       → PlaysSoFar C FP env store from wanted commands given engine mid → Answers env (Some engine) mid abandon (done_or result) None to
       → PlaysAlways C FP env store from wanted commands given result to
-  play_end from mid to wanted commands given engine result plays answers_so modelled opening is old represents = by_result result
+  play_end from mid to wanted commands given engine result plays answers_so modelled opening is old represents = inl
       (leads_to_none from (open_store opening ∷ (map request_of commands ++ abandon ∷ [])) (done ∷ (map answer_of given ++ done_or result ∷ [])) to old
       (one_more env only_now store modelled from mid to (open_store opening ∷ map request_of commands) (done ∷ map answer_of given) (Some engine) None abandon (done_or result) old
       (plays modelled opening is old (no_other (env.observed from).disk old represents)) answers_so))
-    where
-      by_result : (result : Result (Unit {0}) Status) → LeadsThrough C FP env store from opening commands given (done_or result) to old → Plays C FP env store from opening commands given result to old
-      by_result (Ok ended) led = led
-      by_result (Err status) led = inl led
 
   pub not_opened : (options : OptionsOf C FP B) (from to : E) (wanted : Opening) (commands : List Command) (given : List Reply) (status : Status) → given ≡ []
       → OpensAs C FP env store from wanted (refused (refusal_of status)) (no_engine options) to → PlaysAlways C FP env store from wanted commands given (Err status) to
   not_opened options from to wanted commands given status none opens modelled opening is old represents =
-      inr (inl (
+      inr (
         none,
-        leads_to_none from (open_store opening ∷ []) (refused (refusal_of status) ∷ []) to old
-            (first_one env only_now store modelled from to (no_engine options) (open_store opening) (refused (refusal_of status)) old (no_other (env.observed from).disk old represents) (opens opening is)),
-      ))
+        inl (leads_to_none from (open_store opening ∷ []) (refused (refusal_of status) ∷ []) to old
+            (first_one env only_now store modelled from to (no_engine options) (open_store opening) (refused (refusal_of status)) old (no_other (env.observed from).disk old represents) (opens opening is))),
+      )
+
+-- a run that had no memory to begin
+pub not_begun : {E F : Type 0} {C FP : Type 0} (env : Ghosts E F) (store : List ℕ) (asked : Opening) (commands : List Command) (from : E) (given : List Reply) (status : Status) → given ≡ [] → IsOutOfMemory status
+    → HasRun C FP env store asked commands from given (Err status) from
+not_begun env store asked commands from given status none memory = record {
+  plays = λ modelled opening is old represents. inr (none, inr (memory, refl));
+  unopened = λ modelled never. (
+    none,
+    record { untouched = λ barred. inl refl; lock = inl refl; others = spares_still store (IsOwn store) (env.observed from).disk },
+  );
+  misnamed = λ no. (refl, none, tt);
+}
 
 -- a command behind those that were answered
 pub commands_up_to : (commands : List Command) (i : ℕ) (command : Command) → i < length commands → command ≡ get_or commands i command → take (i + 1) commands ≡ take i commands ++ command ∷ []

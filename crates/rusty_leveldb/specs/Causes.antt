@@ -125,8 +125,9 @@ abbrev pub CompressorFails : Option Format → StatusCode → Type 0
 CompressorFails None code = ⊥
 CompressorFails (Some format) code = HasCompressorError format code
 
--- When a cause comes, and which code and text it has; damage is no cause, since the disk is whole. How much memory the entries take that
--- are too large isn't in the state: the engine's clauses say it (`IsFull`, `IsTooLarge`).
+-- When a cause comes, and which code and text it has; damage is no cause, since the disk is whole.
+-- How much memory the entries take that are too large isn't in the state: the engine's clauses say
+-- it (`IsFull`, `IsTooLarge`).
 abbrev pub Comes : Faults → State → Request → Refusal → Cause → Type 0
 Comes faults old request refusal out_of_memory =
     TakesMemory request × (refusal.code ≡ OutOfMemory) × (refusal.text ≡ [])

@@ -1,4 +1,5 @@
--- What the engine of a store that is one log has in memory, what that has to do with the disk, and what its calls answer.
+-- What the engine of a store that is one log has in memory, what that has to do with the disk, and
+-- what its calls answer.
 use Rattle.std.specs.Prelude.{◌≡◌, ◌≢◌, ◌≤◌, ◌%◌, ◌⊎◌, ◌↔◌, ℕ, Bool, true, false, List, [], ◌∷◌, ◌++◌, length, Option, Some, None, IsTrue, string_bytes, Contains}
 use Rattle.leveldb_base.specs.declared.cmp.Cmp.{Ghosts as CmpGhosts}
 use Rattle.leveldb_base.specs.declared.error.Status.{Status}
@@ -53,13 +54,19 @@ module _ {E C FP F : Type 0} {B : Boxed} (env : Ghosts E F) (store : List ℕ) w
     pub records : List (List ℕ)
     pub ends : IsLogFile (bytes_of file) records clean
     pub name : env.name_of engine.log ≡ log_path store
-    pub writer : engine.writer ≡ record { size = log_block_size; offset = length (bytes_of file) % log_block_size; broken = false }
+    pub writer : engine.writer ≡ record {
+      size = log_block_size;
+      offset = length (bytes_of file) % log_block_size;
+      broken = false;
+    }
 
   -- memory shows what the history shows, from its end on, and no entry of it is past that end
   pub record Remembers (engine : EngineOf E C FP F B) (state : State) : Type 0 where
     pub last : engine.recent.last ≡ state.last
-    pub same : (t : ℕ) → greatest (entries_of state.history) ≤ t → SameView engine.recent.kept.entries (entries_of state.history) t
-    pub up_to : (entry : Entry) → Contains engine.recent.kept.entries entry → entry.sequence ≤ greatest (entries_of state.history)
+    pub same : (t : ℕ) → greatest (entries_of state.history) ≤ t
+        → SameView engine.recent.kept.entries (entries_of state.history) t
+    pub up_to : (entry : Entry) → Contains engine.recent.kept.entries entry
+        → entry.sequence ≤ greatest (entries_of state.history)
 
   -- what the engine's memory has to do with the disk and the state
   pub record Recalls (engine : EngineOf E C FP F B) (disk : Disk) (state : State) : Type 0 where
@@ -72,10 +79,12 @@ module _ {E C FP F : Type 0} {B : Boxed} (env : Ghosts E F) (store : List ℕ) w
 
 -- where the environment's disk is observed, its moment doesn't fall
 abbrev pub TimeGoesOn : {E F : Type 0} → Ghosts E F → E → E → Type 0
-TimeGoesOn env from to = IsTrue env.models_disk → (env.observed from).moment ≤ (env.observed to).moment
+TimeGoesOn env from to = IsTrue env.models_disk
+    → (env.observed from).moment ≤ (env.observed to).moment
 
 -- no engine of these options
-abbrev pub no_engine : {E C FP F : Type 0} {B : Boxed} → OptionsOf C FP B → Option (EngineOf E C FP F B)
+abbrev pub no_engine : {E C FP F : Type 0} {B : Boxed} → OptionsOf C FP B
+    → Option (EngineOf E C FP F B)
 no_engine options = None
 
 module _ {E C FP F : Type 0} {B : Boxed} (env : Ghosts E F) where
@@ -116,35 +125,49 @@ RefusedAsBroken mode writer e = HasBroken mode writer × IsWriterBroken e
 
 -- one of the two, and of a closed store the first
 abbrev pub RefusedByMode : Mode → WriterState → Status → Type 0
-RefusedByMode mode writer e = (RefusedAsClosed mode e ⊎ RefusedAsBroken mode writer e) × (e.code ≡ IOError → IsClosed mode → ⊥)
+RefusedByMode mode writer e = (RefusedAsClosed mode e ⊎ RefusedAsBroken mode writer e)
+    × (e.code ≡ IOError → IsClosed mode → ⊥)
 
 module _ {E C FP F : Type 0} {B : Boxed} (env : Ghosts E F) where
-  -- an append to the log or a sync of it: out of memory, or a disk that is observed has lost the log, which is
-  -- damage and isn't counted
+  -- a disk that is observed has lost the log, which is damage
+  abbrev pub IsLogLost : EngineOf E C FP F B → E → Status → Type 0
+  IsLogLost engine at e = (e.code ≡ Corruption) × IsTrue env.models_disk
+      × ((env.observed at).disk.files (env.name_of engine.log) ≡ None)
+
+  -- an append to the log or a sync of it: out of memory, or the log is lost, which isn't counted
   abbrev pub LogExcused : EngineOf E C FP F B → E → E → Status → Type 0
   LogExcused engine at now e = IsOutOfMemory e
       ⊎ ((e.code ≡ Corruption) × IsTrue env.models_disk
       × ((env.observed at).disk.files (env.name_of engine.log) ≡ None)
       × (env.failures now ≡ env.failures at))
 
-  -- why a write may fail where the device didn't: the store is closed or broken, the batch is too long, no numbers are left, its entries are too many in memory, or the log vanished
-  abbrev pub WriteExcused : EngineOf E C FP F B → E → E → List Item → Status → Type 0
-  WriteExcused engine at now items e = RefusedAsClosed engine.mode e ⊎ RefusedAsBroken engine.mode engine.writer e
-      ⊎ ((e.code ≡ InvalidArgument) × IsLongBatch items) ⊎ ((e.code ≡ NotSupported) × (AreUsedUp engine.recent.last (length items)
-      ⊎ (IsFull engine.recent.kept items × (env.failures now ≡ env.failures at)))) ⊎ LogExcused engine at now e
+  -- Why a write may fail where the device didn't: the store is closed or broken, the batch is too
+  -- long, no numbers are left, its entries are too many in memory, memory ran out, or the log is
+  -- lost.
+  abbrev pub WriteExcused : EngineOf E C FP F B → E → List Item → Status → Type 0
+  WriteExcused engine at items e = RefusedAsClosed engine.mode e
+      ⊎ RefusedAsBroken engine.mode engine.writer e
+      ⊎ ((e.code ≡ InvalidArgument) × IsLongBatch items)
+      ⊎ ((e.code ≡ NotSupported)
+      × (AreUsedUp engine.recent.last (length items) ⊎ IsFull engine.recent.kept items))
+      ⊎ IsOutOfMemory e ⊎ IsLogLost engine at e
 
-  -- why a flush may fail where the device didn't: the store is closed or broken, or the log vanished
+  -- why a flush may fail where the device didn't: the store is closed or broken, or the log
+  -- vanished
   abbrev pub SyncExcused : EngineOf E C FP F B → E → E → Status → Type 0
-  SyncExcused engine at now e = RefusedAsClosed engine.mode e ⊎ RefusedAsBroken engine.mode engine.writer e
+  SyncExcused engine at now e = RefusedAsClosed engine.mode e
+      ⊎ RefusedAsBroken engine.mode engine.writer e
       ⊎ LogExcused engine at now e
 
-  -- as a sync, where nothing was counted: giving back the lock may be refused with the same code, and that is counted
+  -- as a sync, where nothing was counted: giving back the lock may be refused with the same code,
+  -- and that is counted
   abbrev pub CloseExcused : EngineOf E C FP F B → E → E → Status → Type 0
   CloseExcused engine at now e = SyncExcused engine at now e × (env.failures now ≡ env.failures at)
 
 -- why a look-up may fail: the store is closed, the key is too long, or memory ran out
 abbrev pub GetExcused : Mode → List ℕ → Status → Type 0
-GetExcused mode key e = RefusedAsClosed mode e ⊎ ((e.code ≡ InvalidArgument) × IsLongKey key) ⊎ IsOutOfMemory e
+GetExcused mode key e = RefusedAsClosed mode e ⊎ ((e.code ≡ InvalidArgument) × IsLongKey key)
+    ⊎ IsOutOfMemory e
 
 -- ---- opening
 
@@ -152,8 +175,8 @@ GetExcused mode key e = RefusedAsClosed mode e ⊎ ((e.code ≡ InvalidArgument)
 abbrev pub IsStoreName : List ℕ → Type 0
 IsStoreName name = (name ≢ []) × ((front : List ℕ) → name ≡ front ++ 47 ∷ [] → ⊥)
 
--- the format of a store with these options, where the ghosts say what comparators and filter policies mean,
--- and `codings` which compressors a list has
+-- the format of a store with these options, where the ghosts say what comparators and filter
+-- policies mean, and `codings` which compressors a list has
 abbrev pub format_of : {C FP : Type 0} {B : Boxed} → CmpGhosts C → FilterGhosts FP
     → (CompressorList B.compressors B.compressor → Codings) → OptionsOf C FP B → Format
 format_of cmp filters codings options = record {
@@ -164,8 +187,8 @@ format_of cmp filters codings options = record {
   matches = filters.matches options.filter_policy;
 }
 
--- The opening that the options ask for. A store that is there may be there, whatever they say, and since a
--- store that is one log has no blocks, no compressor is asked for.
+-- The opening that the options ask for. A store that is there may be there, whatever they say, and
+-- since a store that is one log has no blocks, no compressor is asked for.
 abbrev pub opening_of : {C FP : Type 0} {B : Boxed} → CmpGhosts C → FilterGhosts FP
     → (CompressorList B.compressors B.compressor → Codings) → OptionsOf C FP B → Opening
 opening_of cmp filters codings options = record {
@@ -181,11 +204,14 @@ pub record IsOpening (name : List ℕ) (asked opening : Opening) : Type 0 where
   pub same : opening ≡ record asked { fits = opening.fits }
   pub fits : IsTrue opening.fits ↔ IsStoreName name
 
--- why an opening may be refused with no failure of the device: damage, where nothing can be read of the files
+-- why an opening may be refused with no failure of the device: damage, where nothing can be read of
+-- the files
 abbrev pub OpenExcused : Bool → List ℕ → Bool → Observed → Status → Type 0
 OpenExcused models_disk name create_if_missing told e = IsOutOfMemory e
     ⊎ ((e.code ≡ InvalidArgument) × (IsStoreName name → ⊥))
-    ⊎ ((e.code ≡ InvalidArgument) × (create_if_missing ≡ false) × (IsTrue models_disk → told.disk.files (log_path name) ≡ None))
+    ⊎ ((e.code ≡ InvalidArgument) × (create_if_missing ≡ false)
+    × (IsTrue models_disk → told.disk.files (log_path name) ≡ None))
     ⊎ ((e.code ≡ LockError) × (IsTrue models_disk → told.disk.locked (lock_path name) ≡ true))
-    ⊎ ((e.code ≡ Corruption) × (IsTrue models_disk → IsUnreadable (IsOneLog (log_path name)) told.disk.files))
+    ⊎ ((e.code ≡ Corruption)
+    × (IsTrue models_disk → IsUnreadable (IsOneLog (log_path name)) told.disk.files))
     ⊎ IsLargeLog models_disk (told.disk.files (log_path name)) e

@@ -17,7 +17,8 @@ pub record Format : Type 0 where
 -- a compressor fails with this code for some block that it is to encode or decode
 abbrev pub FailsWith : Coding → StatusCode → Type 0
 FailsWith coding code = ((block : List ℕ) × IsTrue (coding.encode_fails block code))
-    ⊎ ((stored : List ℕ) × (coding.decoded stored ≡ None) × IsTrue (coding.decode_fails stored code))
+    ⊎ ((stored : List ℕ) × (coding.decoded stored ≡ None)
+    × IsTrue (coding.decode_fails stored code))
 
 -- a compressor of the format fails with this code
 pub record HasCompressorError (format : Format) (code : StatusCode) : Type 0 where

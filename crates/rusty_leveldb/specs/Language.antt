@@ -19,7 +19,8 @@ hex_word (byte ∷ bytes) = encode_lower (byte ∷ bytes)
 
 -- a change as a word
 abbrev pub item_word : Item → List ℕ
-item_word (item.Put key value) = codes "+" ++ hex_word key.items ++ codes "=" ++ hex_word value.items
+item_word (item.Put key value) =
+    codes "+" ++ hex_word key.items ++ codes "=" ++ hex_word value.items
 item_word (item.Delete key) = codes "-" ++ hex_word key.items
 
 -- whether a write is synced, as a word
@@ -29,9 +30,11 @@ sync_word true = codes "1"
 
 -- the line that is a command, without its newline
 abbrev pub line_of : Command → List ℕ
-line_of (command.Put key value) = codes "put " ++ hex_word key.items ++ codes " " ++ hex_word value.items
+line_of (command.Put key value) =
+    codes "put " ++ hex_word key.items ++ codes " " ++ hex_word value.items
 line_of (command.Delete key) = codes "del " ++ hex_word key.items
-line_of (command.Write sync items) = codes "write " ++ sync_word sync ++ flat_map (λ one. codes " " ++ item_word one) items.items
+line_of (command.Write sync items) =
+    codes "write " ++ sync_word sync ++ flat_map (λ one. codes " " ++ item_word one) items.items
 line_of (command.Get key) = codes "get " ++ hex_word key.items
 line_of command.Flush = codes "flush"
 line_of command.Close = codes "close"
@@ -60,7 +63,8 @@ lines_of commands = flat_map (λ one. line_of one ++ 10 ∷ []) commands
 
 -- the text is these commands; its last newline may be missing
 abbrev pub IsScript : List ℕ → List Command → Type 0
-IsScript text commands = All HasBytes commands × ((text ≡ lines_of commands) ⊎ ((commands ≢ []) × (text ++ 10 ∷ [] ≡ lines_of commands)))
+IsScript text commands = All HasBytes commands
+    × ((text ≡ lines_of commands) ⊎ ((commands ≢ []) × (text ++ 10 ∷ [] ≡ lines_of commands)))
 
 -- the text's line of this number, from 1, is no command, and all before it are
 pub record IsBadLine (text : List ℕ) (number : ℕ) : Type 0 where
@@ -69,7 +73,8 @@ pub record IsBadLine (text : List ℕ) (number : ℕ) : Type 0 where
   pub rest : List ℕ
   pub bytes : All HasBytes before
   pub number_is : number ≡ length before + 1
-  pub text_is : (text ≡ lines_of before ++ line ++ 10 ∷ rest) ⊎ ((text ≡ lines_of before ++ line) × (line ≢ []))
+  pub text_is : (text ≡ lines_of before ++ line ++ 10 ∷ rest)
+      ⊎ ((text ≡ lines_of before ++ line) × (line ≢ []))
   pub one_line : Contains line 10 → ⊥
   pub none : IsNoLine line
 
@@ -91,4 +96,5 @@ reply_lines replies = flat_map reply_line replies
 
 -- a text grew by this one; where it was refused, by some
 abbrev pub Appends : List ℕ → List ℕ → Result (Unit {0}) AllocError → List ℕ → Type 0
-Appends before after result text = (more : List ℕ) × (after ≡ before ++ more) × OnOk result (more ≡ text)
+Appends before after result text = (more : List ℕ) × (after ≡ before ++ more)
+    × OnOk result (more ≡ text)

@@ -53,7 +53,8 @@ CrashSince {E = E} env = (store : List ℕ) (old new : State) (request : Request
     → (files left : Files) → Since (env.observed to) (env.observed from).moment files left
     → IsHonest store files left
     → let risk = risk_of request old new in
-    CarriesPrefix store (Reads store risk.format) (StaysOr risk.opening old.store) risk.bound old.durable
+    CarriesPrefix store (Reads store risk.format) (StaysOr risk.opening old.store) risk.bound
+    old.durable
     risk.history left
 
 -- ---- refusals
@@ -81,7 +82,8 @@ CrashFits = (old new : State) → IsState old → Crashes old (risk_between old)
 -- or inside one that would have led on
 abbrev pub CrashInsideFits : Type 0
 CrashInsideFits = (faults : Faults) (old next new : State)
-    (request : Request) (answer : Answer) → IsState old → Step old.mode faults old request answer next
+    (request : Request) (answer : Answer) → IsState old
+    → Step old.mode faults old request answer next
     → Crashes old (risk_of request old next) new → IsState new
 
 -- so do lives, one after another
@@ -126,8 +128,9 @@ IsInTime moment (crashes at inside counted) = moment ≤ at
 abbrev pub EachAnswerParts : Type 0
 EachAnswerParts = (earlier later : List Life) (start : ℕ) (ending : Ending)
     (answered undone : List Event) (one : Event) (before after : ℕ) (old last : State)
-    → let whole : Life = record { start = start; events = answered ++ one ∷ undone; ending = ending }
-    in let front : Life = record { start = start; events = answered; ending = goes_on } in
+    → let whole : Life =
+    record { start = start; events = answered ++ one ∷ undone; ending = ending } in
+    let front : Life = record { start = start; events = answered; ending = goes_on } in
     let rest : Life = record { start = one.moment; events = undone; ending = ending } in
     IsInTime one.moment ending → Lives before old (earlier ++ whole ∷ later) after last
     → (failures : ℕ) × (state : State) × (next : State)
@@ -196,14 +199,15 @@ abbrev pub NoneHasKey : List ℕ → List (List Item) → Type 0
 NoneHasKey key batches = (batch : List Item) → Contains batches batch
     → (item : Item) → Contains batch item → item.key ≢ key
 
--- After a synced write of a value that was done, and no later write of its key, a look-up of the key
--- in any life finds that value, if it isn't refused.
+-- After a synced write of a value that was done, and no later write of its key, a look-up of the
+-- key in any life finds that value, if it isn't refused.
 abbrev pub SyncedIsRead : Type 0
 SyncedIsRead = (faults later : Faults)
     (old written last new : State) (key value : List ℕ) (lives : List Life) (before after : ℕ)
     (looked : Option (List ℕ))
     → IsState old
-    → Step old.mode faults old (write (record { key = key; value = Some value } ∷ []) true) done written
+    → Step old.mode faults old (write (record { key = key; value = Some value } ∷ []) true) done
+    written
     → NoneHasKey key (asked_in lives) → Lives before written lives after last
     → Step last.mode later last (get None key) (found looked) new → looked ≡ Some value
 
@@ -214,8 +218,8 @@ abbrev pub answered_at : ℕ → Request → Answer → Event
 answered_at moment request answer =
     record { moment = moment; request = request; answer = answer; failures = 0 }
 
--- a life that makes a store and writes a value with a sync, cut short right after that, and one that
--- finds the value
+-- a life that makes a store and writes a value with a sync, cut short right after that, and one
+-- that finds the value
 abbrev pub written_and_found : Opening → List ℕ → List ℕ → List Life
 written_and_found opening key value =
     record {

@@ -1,6 +1,7 @@
 pub mod Boxes
 pub mod BuildTable
 pub mod Format
+pub mod Frame
 pub mod OneLog
 pub mod State
 pub mod Unread
@@ -12,6 +13,7 @@ pub mod Laws
 pub mod Recent
 pub mod Replay
 pub mod Engine
+pub mod Calls
 pub mod Shell
 pub mod Lives
 pub mod Language

@@ -1,5 +1,5 @@
--- Lives of a store on a device that records its calls: what a report says of its life, and what reports say of lives one after another, with
--- crashes between them.
+-- Lives of a store on a device that records its calls: what a report says of its life, and what
+-- reports say of lives one after another, with crashes between them.
 use Rattle.std.specs.Prelude.{◌≡◌, ◌≤◌, ◌↔◌, ◌⊎◌, ◌+◌, ◌-◌, ◌%◌, ◌==◌, ℕ, Bool, false, All, List, [], ◌∷◌, ◌++◌, map, Option, Some, None, unwrap_or, Result, Ok, Err, OnErr, IfOk, IfErr, IsTrue, Vec}
 use Rattle.std.specs.declared.alloc.Global.{Global}
 use Rattle.leveldb_base.specs.declared.cmp.Cmp.{Ghosts as CmpGhosts}
@@ -23,9 +23,9 @@ use Rattle.rusty_leveldb.specs.State.{State, Opening, Request, open_store, aband
 use Rattle.leveldb_version.specs.Holds.{IsHonest}
 use Rattle.rusty_leveldb.specs.Runs as machine
 use Rattle.rusty_leveldb.specs.Runs.{Ending, goes_on, crashes, Lives, new_state}
-use Rattle.rusty_leveldb.specs.Serves.{Represents, IsConversation, refusal_of}
-use Rattle.rusty_leveldb.specs.Engine.{Recalls, IsStoreName, IsOpening, opening_of}
-use Rattle.rusty_leveldb.specs.Shell.{LeadsAt, request_of, answer_of}
+use Rattle.rusty_leveldb.specs.Serves.{Represents, Runs, IsConversation, refusal_of}
+use Rattle.rusty_leveldb.specs.Engine.{Recalls, scene, IsStoreName, IsOpening, opening_of}
+use Rattle.rusty_leveldb.specs.Shell.{request_of, answer_of}
 use Rattle.leveldb_env.specs.Options.{Boxed, nothing_boxed}
 use Rattle.rusty_leveldb.specs.Boxes.{LifeOf}
 
@@ -33,7 +33,8 @@ use Rattle.rusty_leveldb.specs.Boxes.{LifeOf}
 
 -- what a life asks: an opening, and if that is done each command and at last `abandon`
 abbrev pub requests_of : Opening → List Command → Result (Unit {0}) Status → List Request
-requests_of opening commands (Ok opened) = open_store opening ∷ (map request_of commands ++ abandon ∷ [])
+requests_of opening commands (Ok opened) =
+    open_store opening ∷ (map request_of commands ++ abandon ∷ [])
 requests_of opening commands (Err status) = open_store opening ∷ []
 
 -- what it is answered; a report leaves out the answer to `abandon`
@@ -56,12 +57,18 @@ pub record IsReportOf (report : Report) (answers : List Answer) (moments : List 
   pub no_replies : OnErr report.opened (report.replies.items ≡ [])
 
 module _ {E F : Type 0} (C FP : Type 0) (env : Ghosts E F) (store : List ℕ) where
-  -- the report of a run of the machine, from this state on, over the environment as it was to what it is
-  pub record IsLife (from : E) (opening : Opening) (commands : List Command) (report : Report) (to : E) (old : State) : Type 0 where
+  -- the report of a run of the machine, from this state on, over the environment as it was to what
+  -- it is
+  pub record IsLife (from : E) (opening : Opening) (commands : List Command) (report : Report)
+      (to : E) (old : State) : Type 0 where
     pub answers : List Answer
     pub moments : List ℕ
-    pub reported : IsReportOf report answers (map (λ moment. moment - (env.observed from).moment) moments)
-    pub run : LeadsAt C FP {B = nothing_boxed} env store from (requests_of opening commands report.opened) answers moments None to old
+    pub reported : IsReportOf report answers
+        (map (λ moment. moment - (env.observed from).moment) moments)
+    pub run : Runs store (Recalls {C = C} {FP = FP} {B = nothing_boxed} env store)
+        env.models_moments
+        (scene env None from) (requests_of opening commands report.opened) answers moments
+        (scene env None to) old
 
   -- the same from every state that the disk represents
   abbrev pub IsAlwaysLife : E → Opening → List Command → Report → E → Type 0
@@ -78,20 +85,25 @@ pub record IsCrash (device : RecordEnv) (moment : ℕ) (pick : Pick) (left : Rec
   pub come : moment ≤ moment_of device
   pub stood : (record_observed device).at_moment moment (files_then device moment pick.after)
   pub leaves : FilesCrashTo (files_then device moment pick.after) (files_in left)
-  pub files : files_in left ≡ picked (tails_of pick.tails.items) (files_then device moment pick.after)
+  pub files : files_in left ≡ picked (tails_of pick.tails.items)
+      (files_then device moment pick.after)
   pub fresh : IsFresh left
 
 -- the same, with no record in a log or manifest that was never written
-pub record IsHonestCrash (store : List ℕ) (device : RecordEnv) (moment : ℕ) (pick : Pick) (left : RecordEnv) : Type 0 where
+pub record IsHonestCrash (store : List ℕ) (device : RecordEnv) (moment : ℕ) (pick : Pick)
+    (left : RecordEnv) : Type 0 where
   pub crash : IsCrash device moment pick left
   pub honest : IsHonest store (files_then device moment pick.after) (files_in left)
 
--- the device as a life that began at this moment left it, or, if the life has a crash, what a crash of this kind leaves of that
-abbrev pub IsNextDevice : (RecordEnv → ℕ → Pick → RecordEnv → Type 0) → ℕ → Option ℕ → Pick → RecordEnv → RecordEnv → Type 0
+-- the device as a life that began at this moment left it, or, if the life has a crash, what a crash
+-- of this kind leaves of that
+abbrev pub IsNextDevice : (RecordEnv → ℕ → Pick → RecordEnv → Type 0) → ℕ → Option ℕ → Pick
+    → RecordEnv → RecordEnv → Type 0
 IsNextDevice Crash start None pick device next = next ≡ device
 IsNextDevice Crash start (Some moment) pick device next = Crash device (start + moment) pick next
 
--- how the machine's life ends, by the moment of its crash from its start; an odd one is inside a call
+-- how the machine's life ends, by the moment of its crash from its start; an odd one is inside a
+-- call
 abbrev pub ending_of : ℕ → Option ℕ → Ending
 ending_of start None = goes_on
 ending_of start (Some moment) = crashes (start + moment) ((start + moment) % 2 == 1) 0
@@ -103,55 +115,69 @@ with_name fits asked = record asked { fits = fits }
 -- ---- lives, one after another
 
 module _ {C FP F : Type 0} {B : Boxed} (env : Ghosts RecordEnv F) (cmp : CmpGhosts C)
-    (filters : FilterGhosts FP) (codings : CompressorList B.compressors B.compressor → Codings) (store : List ℕ) where
-  -- the report of one life on this device, where the call that the life names was chosen to fail, 0 being none
-  pub record IsLifeOn (device : RecordEnv) (life : LifeOf C FP B) (report : Report) (to : RecordEnv) : Type 0 where
+    (filters : FilterGhosts FP) (codings : CompressorList B.compressors B.compressor → Codings)
+    (store : List ℕ) where
+  -- the report of one life on this device, where the call that the life names was chosen to fail, 0
+  -- being none
+  pub record IsLifeOn (device : RecordEnv) (life : LifeOf C FP B) (report : Report)
+      (to : RecordEnv) : Type 0 where
     pub from : RecordEnv
     pub same : SameObserved device from
     pub failing : (fails_in from, fails_done from) ≡ unwrap_or life.fail (0, false)
-    pub life_is : IsAlwaysLife C FP env store from (opening_of cmp filters codings life.options) life.commands.items report to
+    pub life_is : IsAlwaysLife C FP env store from (opening_of cmp filters codings life.options)
+        life.commands.items report to
 
   -- the reports of lives one after another with crashes of this kind, from this device to that
-  abbrev pub AreReports : (RecordEnv → ℕ → Pick → RecordEnv → Type 0) → RecordEnv → List (LifeOf C FP B) → List Report → RecordEnv → Type 0
+  abbrev pub AreReports : (RecordEnv → ℕ → Pick → RecordEnv → Type 0) → RecordEnv
+      → List (LifeOf C FP B) → List Report → RecordEnv → Type 0
   AreReports Crash device [] [] end = end ≡ device
-  AreReports Crash device (life ∷ lives) (report ∷ reports) end = (to : RecordEnv) × IsLifeOn device life report to
-      × (next : RecordEnv) × IsNextDevice Crash (moment_of device) life.moment life.pick to next × AreReports Crash next lives reports end
+  AreReports Crash device (life ∷ lives) (report ∷ reports) end = (to : RecordEnv)
+      × IsLifeOn device life report to
+      × (next : RecordEnv) × IsNextDevice Crash (moment_of device) life.moment life.pick to next
+      × AreReports Crash next lives reports end
   AreReports Crash device _ _ end = ⊥
 
   -- the same from an empty device on
-  pub record AreReportsTo (Crash : RecordEnv → ℕ → Pick → RecordEnv → Type 0) (lives : List (LifeOf C FP B)) (reports : List Report) (end : RecordEnv) : Type 0 where
+  pub record AreReportsTo (Crash : RecordEnv → ℕ → Pick → RecordEnv → Type 0)
+      (lives : List (LifeOf C FP B)) (reports : List Report) (end : RecordEnv) : Type 0 where
     pub first : RecordEnv
     pub empty : (name : List ℕ) → files_in first name ≡ None
     pub fresh : IsFresh first
     pub reports_are : AreReports Crash first lives reports end
 
   -- and up to some device
-  abbrev pub AreReportsFromNone : (RecordEnv → ℕ → Pick → RecordEnv → Type 0) → List (LifeOf C FP B) → List Report → Type 0
+  abbrev pub AreReportsFromNone : (RecordEnv → ℕ → Pick → RecordEnv → Type 0) → List (LifeOf C FP B)
+      → List Report → Type 0
   AreReportsFromNone Crash lives reports = (end : RecordEnv) × AreReportsTo Crash lives reports end
 
   -- the machine's life of a life and its report, whose moments are from the life's start
-  pub record IsLifeOf (fits : Bool) (life : LifeOf C FP B) (report : Report) (of_machine : machine.Life) : Type 0 where
+  pub record IsLifeOf (fits : Bool) (life : LifeOf C FP B) (report : Report)
+      (of_machine : machine.Life) : Type 0 where
     pub answers : List Answer
     pub moments : List ℕ
     pub reported : IsReportOf report answers moments
     pub asked : IsConversation
-        (requests_of (with_name fits (opening_of cmp filters codings life.options)) life.commands.items report.opened)
+        (requests_of (with_name fits (opening_of cmp filters codings life.options))
+        life.commands.items report.opened)
         answers (map (λ moment. of_machine.start + moment) moments) of_machine.events
     pub ending : of_machine.ending ≡ ending_of of_machine.start life.moment
 
   -- each in turn
   abbrev pub AreLivesOf : Bool → List (LifeOf C FP B) → List Report → List machine.Life → Type 0
   AreLivesOf fits [] [] [] = Unit {0}
-  AreLivesOf fits (life ∷ lives) (report ∷ reports) (one ∷ others) = IsLifeOf fits life report one × AreLivesOf fits lives reports others
+  AreLivesOf fits (life ∷ lives) (report ∷ reports) (one ∷ others) = IsLifeOf fits life report one
+      × AreLivesOf fits lives reports others
   AreLivesOf fits _ _ _ = ⊥
 
-  -- the reports of all lives are one run of the machine with its crash rows, from a missing store on
+  -- the reports of all lives are one run of the machine with its crash rows, from a missing store
+  -- on
   abbrev pub AreOneRun : List (LifeOf C FP B) → List Report → Type 0
   AreOneRun lives reports = (format : Format) (fits : Bool) → (IsTrue fits ↔ IsStoreName store)
       → (of_machine : List machine.Life) × AreLivesOf fits lives reports of_machine
       × (failures : ℕ) × (last : State) × Lives 0 (new_state format) of_machine failures last
 
-  -- a life that ran after those before it has a crash that can't be: its moment is still to come, or no crash leaves what its pick says
+  -- a life that ran after those before it has a crash that can't be: its moment is still to come,
+  -- or no crash leaves what its pick says
   pub record HasNoCrash (lives : List (LifeOf C FP B)) : Type 0 where
     pub before : List (LifeOf C FP B)
     pub life : LifeOf C FP B
@@ -165,15 +191,23 @@ module _ {C FP F : Type 0} {B : Boxed} (env : Ghosts RecordEnv F) (cmp : CmpGhos
     pub life_is : IsLifeOn device life report to
     pub moment : ℕ
     pub crashes : life.moment ≡ Some moment
-    pub none : CanCrashTo to (moment_of device + moment) life.pick.after (tails_of life.pick.tails.items) → ⊥
+    pub none : CanCrashTo to (moment_of device + moment) life.pick.after
+        (tails_of life.pick.tails.items) → ⊥
 
   -- what `lives` returns
-  pub record ReportsLives (lives : List (LifeOf C FP B)) (result : Result (Vec Report Global) Status) : Type 0 where
-    -- each report is of its life, on the device as the life before it left that, or as the crash of that life did
+  pub record ReportsLives (lives : List (LifeOf C FP B))
+      (result : Result (Vec Report Global) Status) : Type 0 where
+    -- each report is of its life, on the device as the life before it left that, or as the crash of
+    -- that life did
     pub reports : IfOk result (λ reports. AreReportsFromNone IsCrash lives reports.items)
     -- if each crash was honest, they are one run of the machine
-    pub run : IfOk result (λ reports. AreReportsFromNone (IsHonestCrash store) lives reports.items → AreOneRun lives reports.items)
+    pub run : IfOk result
+        (λ reports. AreReportsFromNone (IsHonestCrash store) lives reports.items
+        → AreOneRun lives reports.items)
     -- each crash is honest that leaves the kept bytes alone
-    pub kept : IfOk result (λ reports. All (λ life. life.pick.tails.items ≡ []) lives → AreReportsFromNone (IsHonestCrash store) lives reports.items)
+    pub kept : IfOk result
+        (λ reports. All (λ life. life.pick.tails.items ≡ []) lives
+        → AreReportsFromNone (IsHonestCrash store) lives reports.items)
     -- it fails out of memory, or with `InvalidArgument` for a crash that can't be
-    pub error : IfErr result (λ e. IsOutOfMemory e ⊎ ((e.code ≡ InvalidArgument) × HasNoCrash lives))
+    pub error : IfErr result
+        (λ e. IsOutOfMemory e ⊎ ((e.code ≡ InvalidArgument) × HasNoCrash lives))

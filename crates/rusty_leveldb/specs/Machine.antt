@@ -1,5 +1,5 @@
--- The store as a machine: the answers that a request may have in a state, and the states to which they
--- lead.
+-- The store as a machine: the answers that a request may have in a state, and the states to which
+-- they lead.
 use Rattle.std.specs.Prelude.{◌≡◌, ◌≤◌, ◌+◌, ◌⊎◌, ℕ, Bool, true, false, List, [], ◌∷◌, ◌++◌, length, Option, Some, None, Contains, IsTrue}
 use Rattle.std.specs.declared.cmp.Ordering.{Ordering}
 use Rattle.leveldb_base.specs.History.{Item, Entry, History, placed, entries_of, greatest, with_batch, count_of, IsPrefixAtLeast, IsValueAt, IsView}
@@ -129,7 +129,8 @@ IsEarly store_exists = Unit {0}
 IsEarly cause = ⊥
 
 -- the lock is held still, since after the cause had come another call of the device failed
-pub record KeepsLock (faults : Faults) (old : State) (request : Request) (refusal : Refusal) (cause : Cause)
+pub record KeepsLock (faults : Faults) (old : State) (request : Request) (refusal : Refusal)
+    (cause : Cause)
     : Type 0 where
   -- how many calls had failed when the cause had come
   pub mid : ℕ
@@ -137,9 +138,10 @@ pub record KeepsLock (faults : Faults) (old : State) (request : Request) (refusa
   pub comes : Comes (record faults { after = mid }) old request refusal cause
   pub failed : HasFailed mid faults.after
 
--- Not opened: but for what is durable, and a store that was made meanwhile, all is as before. The lock is
--- given back.
-pub record StaysClosed (faults : Faults) (old : State) (opening : Opening) (refusal : Refusal) (cause : Cause)
+-- Not opened: but for what is durable, and a store that was made meanwhile, all is as before. The
+-- lock is given back.
+pub record StaysClosed (faults : Faults) (old : State) (opening : Opening) (refusal : Refusal)
+    (cause : Cause)
     (new : State) : Type 0 where
   pub state : new ≡ record old {
     durable = new.durable;
@@ -161,7 +163,8 @@ IsSequenceOf old None s = s ≡ old.last
 IsSequenceOf old (Some one) s = Contains old.held one × (s ≡ one.sequence)
 
 -- a look-up
-pub record Gets (old : State) (at : Option Snapshot) (key : List ℕ) (value : Option (List ℕ)) : Type 0 where
+pub record Gets (old : State) (at : Option Snapshot) (key : List ℕ)
+    (value : Option (List ℕ)) : Type 0 where
   pub sequence : ℕ
   pub at_is : IsSequenceOf old at sequence
   pub looks : IsValueAt (entries_of old.history) sequence key value
@@ -174,18 +177,21 @@ position_after order pairs position prev = previous_position position
 position_after order pairs position (seek key) = seek_position order pairs key
 position_after order pairs position reset = None
 
--- A move leads where an iterator over the pairs goes. One that is refused has a cause in what befell this
--- very move, and leaves no position.
-abbrev pub MovesTo : Faults → State → Request → List Pair → Option ℕ → Move → Landing → Option ℕ → Type 0
+-- A move leads where an iterator over the pairs goes. One that is refused has a cause in what
+-- befell this very move, and leaves no position.
+abbrev pub MovesTo : Faults → State → Request → List Pair → Option ℕ → Move → Landing → Option ℕ
+    → Type 0
 MovesTo faults old request pairs position move (stands_on pair) next = (MoveMisfits move → ⊥)
-    × (next ≡ position_after old.format.order pairs position move) × (pair_at pairs next ≡ Some pair)
+    × (next ≡ position_after old.format.order pairs position move)
+    × (pair_at pairs next ≡ Some pair)
 MovesTo faults old request pairs position move nowhere next = (MoveMisfits move → ⊥)
     × (position_after old.format.order pairs position move ≡ None) × (next ≡ None)
 MovesTo faults old request pairs position move (move_refused refusal) next =
     ((cause : Cause) × MoveComes faults old request move refusal cause) × (next ≡ None)
 
 -- moves, one after another, each with the faults from the end of the one before to its own
-abbrev pub Moves : Faults → State → Request → List Pair → Option ℕ → List Move → List Landing → Type 0
+abbrev pub Moves : Faults → State → Request → List Pair → Option ℕ → List Move → List Landing
+    → Type 0
 Moves faults old request pairs position [] [] = faults.after ≡ faults.before
 Moves faults old request pairs position (move ∷ moves) (landing ∷ landings) =
     (mid : ℕ) × (faults.before ≤ mid) × (next : Option ℕ)
@@ -230,7 +236,8 @@ abbrev pub KeepsOrBreaks : State → Cause → List Entry → State → Type 0
 KeepsOrBreaks old cause batch new =
     Keeps old new ⊎ (MayBreak cause × (Breaks old None new ⊎ Breaks old (Some batch) new))
 
--- what a request leaves that was refused for this cause; all that a flush asks of the device is a sync
+-- what a request leaves that was refused for this cause; all that a flush asks of the device is a
+-- sync
 abbrev pub LeavesRefused : Faults → State → Request → Refusal → Cause → State → Type 0
 LeavesRefused faults old (open_store opening) refusal cause new =
     StaysClosed faults old opening refusal cause new
@@ -246,7 +253,8 @@ LeavesRefused faults old abandon refusal cause new = Abandons old old.locked new
 LeavesRefused faults old _ refusal cause new = new ≡ old
 
 -- a request that is refused for a cause
-pub record Refuses (faults : Faults) (old : State) (request : Request) (refusal : Refusal) (new : State)
+pub record Refuses (faults : Faults) (old : State) (request : Request) (refusal : Refusal)
+    (new : State)
     : Type 0 where
   pub cause : Cause
   pub comes : Comes faults old request refusal cause
@@ -277,8 +285,8 @@ Step mode faults old request answer new = Responds faults old request answer new
 
 -- ---- a crash
 
--- what a crash may leave: a prefix of this history, numbers up to this bound, files in this format, and a
--- store that an opening makes
+-- what a crash may leave: a prefix of this history, numbers up to this bound, files in this format,
+-- and a store that an opening makes
 pub record Risk : Type 0 where
   pub history : History
   pub bound : ℕ
@@ -295,8 +303,9 @@ risk_between state = record {
   opening = None;
 }
 
--- At a moment of a request, once it has called the device: the history after it, and what is pending then.
--- While a store is opened it is the history before it, since what was pending may yet be found.
+-- At a moment of a request, once it has called the device: the history after it, and what is
+-- pending then. While a store is opened it is the history before it, since what was pending may yet
+-- be found.
 abbrev pub risk_of : Request → State → State → Risk
 risk_of (open_store opening) old new = record (risk_between old) {
   format = format_left opening old.store old.format;
@@ -304,8 +313,8 @@ risk_of (open_store opening) old new = record (risk_between old) {
 }
 risk_of request old new = risk_between new
 
--- A crash leaves a prefix with all that was durable, whole batches only, and all of it is durable from then
--- on. It leaves the store that was there, or one that the opening at work has made.
+-- A crash leaves a prefix with all that was durable, whole batches only, and all of it is durable
+-- from then on. It leaves the store that was there, or one that the opening at work has made.
 pub record Crashes (old : State) (risk : Risk) (new : State) : Type 0 where
   pub prefix : IsPrefixAtLeast old.durable risk.history new.history
   pub stays : StaysOr risk.opening old.store new.store

@@ -37,11 +37,14 @@ entries_in batch = placed batch.first batch.items
 abbrev pub all_entries : List Batch → List Entry
 all_entries batches = flat_map entries_in batches
 
--- each batch begins above this number and above all entries before it, and no number is past the greatest
+-- each batch begins above this number and above all entries before it, and no number is past the
+-- greatest
 abbrev pub AreInOrder : ℕ → List Batch → Type 0
 AreInOrder low [] = Unit {0}
 AreInOrder low (batch ∷ later) =
-    (low < batch.first) × (batch.first ≤ max_sequence) × (greatest (entries_in batch) ≤ max_sequence) × AreInOrder (max low (greatest (entries_in batch))) later
+    (low < batch.first) × (batch.first ≤ max_sequence)
+    × (greatest (entries_in batch) ≤ max_sequence)
+    × AreInOrder (max low (greatest (entries_in batch))) later
 
 -- the bytes are a log of these batches, read to its first bad end
 pub record IsLogOf (bytes : List ℕ) (batches : List Batch) : Type 0 where
@@ -53,12 +56,17 @@ pub record IsLogOf (bytes : List ℕ) (batches : List Batch) : Type 0 where
 
 -- what is read of these batches
 abbrev pub contents_of : List Batch → Contents
-contents_of batches = record { store = made None; entries = all_entries batches; last = greatest (all_entries batches) }
+contents_of batches = record {
+  store = made None;
+  entries = all_entries batches;
+  last = greatest (all_entries batches);
+}
 
 -- what is read of the one file, or of none
 abbrev pub IsRead : Option File → Contents → Type 0
 IsRead None contents = contents ≡ no_contents
-IsRead (Some file) contents = (batches : List Batch) × IsLogOf (bytes_of file) batches × (contents ≡ contents_of batches)
+IsRead (Some file) contents = (batches : List Batch) × IsLogOf (bytes_of file) batches
+    × (contents ≡ contents_of batches)
 
 -- the store is the log under this name, or is missing with it
 abbrev pub IsOneLog : List ℕ → Files → Contents → Type 0

@@ -1,5 +1,5 @@
 -- What the program does: it reads commands, runs them, and writes the replies.
-use Rattle.std.specs.Prelude.{◌≡◌, ◌≢◌, ◌⊎◌, ◌<◌, ◌≤◌, ◌^◌, ℕ, List, [], ◌∷◌, length, Option, Result, Ok, OnOk, IfSome, IsTrue, true, String, string_bytes, false, codes}
+use Rattle.std.specs.Prelude.{◌≡◌, ◌≢◌, ◌⊎◌, ◌<◌, ◌≤◌, ◌^◌, ℕ, List, [], ◌∷◌, length, Option, Result, Ok, IfSome, true, String, string_bytes, false, codes}
 use Rattle.std.specs.Io.KnownBytes.{Appends}
 use Rattle.std.specs.declared.alloc.Global.{Global}
 use Rattle.leveldb_base.specs.Cmp.{bytewise}
@@ -14,9 +14,7 @@ use Rattle.rusty_leveldb.specs.declared.shell.program.Fault.{Fault}
 use Rattle.rusty_leveldb.specs.declared.shell.program.Fault.TheVariants as fault
 use Rattle.rusty_leveldb.specs.Language.{IsScript, IsBadLine, reply_lines}
 use Rattle.rusty_leveldb.specs.State.{Opening}
-use Rattle.rusty_leveldb.specs.Engine.{IsStoreName}
-use Rattle.rusty_leveldb.specs.Recovery.{NeverOpens}
-use Rattle.rusty_leveldb.specs.Shell.{PlaysAlways, IsUnopened}
+use Rattle.rusty_leveldb.specs.Shell.{HasRun}
 
 -- the status that a fault ends the program with
 abbrev pub status_of : Fault → ℕ
@@ -29,8 +27,8 @@ status_of (fault.Refused status) = 1
 abbrev pub IsRefusal : Fault → Type 0
 IsRefusal fault = status_of fault ≡ 1
 
--- A fault is the input's, whose bytes may be known: this line is its first that is no command, or it has more than 2^26 bytes; or reading it was
--- refused.
+-- A fault is the input's, whose bytes may be known: this line is its first that is no command, or
+-- it has more than 2^26 bytes; or reading it was refused.
 abbrev pub IsInputFault : Option (List ℕ) → Fault → Type 0
 IsInputFault input fault.Usage = ⊥
 IsInputFault input (fault.BadLine number) = IfSome input (λ bytes. IsBadLine bytes number)
@@ -50,10 +48,11 @@ IsMisasked args input = (why : Fault) × (status_of why ≡ 2) × IsFault args i
 
 -- the input spells these commands in at most 2^26 bytes, where its bytes are known
 abbrev pub IsInput : Option (List ℕ) → List Command → Type 0
-IsInput input commands = (text : List ℕ) × IfSome input (λ bytes. text ≡ bytes) × (length text ≤ 2 ^ 26) × IsScript text commands
+IsInput input commands = (text : List ℕ) × IfSome input (λ bytes. text ≡ bytes)
+    × (length text ≤ 2 ^ 26) × IsScript text commands
 
--- What the program opens a store with: LevelDB's order of bytes, its filters with ten bits a key, and blocks stored as
--- they are; a missing store is made.
+-- What the program opens a store with: LevelDB's order of bytes, its filters with ten bits a key,
+-- and blocks stored as they are; a missing store is made.
 abbrev pub ldb_opening : Opening
 ldb_opening = record {
   format = record {
@@ -70,24 +69,29 @@ ldb_opening = record {
 }
 
 module _ {E F : Type 0} (env : Ghosts E F) where
-  -- The commands were run in a folder, with these replies, and the run ended so. Where the store is damaged or locked, or the folder's name is none
-  -- of a store's, it was refused with no reply. The filter policy is seen as its number of bits a key.
-  abbrev pub HasRun : List ℕ → List Command → E → List Reply → Result (Unit {0}) Status → E → Type 0
-  HasRun folder commands from given ended to = PlaysAlways DefaultCmp ℕ env folder from ldb_opening commands given ended to
-      × (IsTrue env.models_disk → NeverOpens folder true (env.observed from).disk → (given ≡ []) × IsUnopened env folder true from ended to)
-      × ((IsStoreName folder → ⊥) → (to ≡ from) × (given ≡ []) × OnOk ended ⊥)
-
-  -- the commands were run in a folder, each was replied to, and the output grew by the replies' lines
+  -- the commands were run in a folder, each was replied to, and the output grew by the replies'
+  -- lines; the filter policy is seen as its number of bits a key
   abbrev pub IsPlayed : List ℕ → List Command → E → E → Option (List ℕ) → Option (List ℕ) → Type 0
-  IsPlayed folder commands from to held holds = (given : List Reply) × (length given ≡ length commands)
-      × HasRun folder commands from given (Ok tt) to × Appends held holds (reply_lines given)
+  IsPlayed folder commands from to held holds =
+      (given : List Reply) × (length given ≡ length commands)
+      × HasRun DefaultCmp ℕ env folder ldb_opening commands from given (Ok tt) to
+      × Appends held holds (reply_lines given)
 
-  -- the one argument is a folder, and the commands that the input spells were run in it
-  abbrev pub IsAnswered : List (String Global) → E → E → Option (List ℕ) → Option (List ℕ) → Option (List ℕ) → Type 0
-  IsAnswered args from to input held holds = (folder : String Global) × (args ≡ folder ∷ []) × (commands : List Command) × IsInput input commands
-      × IsPlayed (string_bytes folder) commands from to held holds
+  -- the one argument is a folder, and the commands that the input encodes were run in it
+  abbrev pub IsAnswered : List (String Global) → E → E → Option (List ℕ) → Option (List ℕ)
+      → Option (List ℕ) → Type 0
+  IsAnswered args from to input held holds =
+      (folder : String Global) × (args ≡ folder ∷ [])
+      × (commands : List Command) × IsInput input commands
+      × (given : List Reply) × (length given ≡ length commands)
+      × HasRun DefaultCmp ℕ env (string_bytes folder) ldb_opening commands from given (Ok tt) to
+      × Appends held holds (reply_lines given)
 
-  -- the program left the environment as it was, or it ran the commands that the input spells in the folder that is the one argument
+  -- the program left the environment as it was, or it ran the commands that the input encodes in
+  -- the folder that is the one argument
   abbrev pub IsStopped : List (String Global) → E → E → Option (List ℕ) → Type 0
-  IsStopped args from to input = (to ≡ from) ⊎ ((folder : String Global) × (args ≡ folder ∷ []) × (commands : List Command) × IsInput input commands
-      × (given : List Reply) × (ended : Result (Unit {0}) Status) × HasRun (string_bytes folder) commands from given ended to)
+  IsStopped args from to input = (to ≡ from)
+      ⊎ ((folder : String Global) × (args ≡ folder ∷ [])
+      × (commands : List Command) × IsInput input commands
+      × (given : List Reply) × (ended : Result (Unit {0}) Status)
+      × HasRun DefaultCmp ℕ env (string_bytes folder) ldb_opening commands from given ended to)

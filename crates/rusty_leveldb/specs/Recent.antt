@@ -27,6 +27,8 @@ pub record Inserts (old : Numbered) (batch : Batch) (new : Numbered) : Type 0 wh
   pub gains : IsUnion old.kept.entries (placed batch.first batch.items) new.kept.entries
   pub last : new.last ≡ max old.last (greatest (placed batch.first batch.items))
 
--- with these items, the entries in memory and those for which there is room count for 2^31 bytes at least
+-- with these items, the entries in memory and those for which there is room count for 2^31 bytes at
+-- least
 abbrev pub IsFull : Kept → List Item → Type 0
-IsFull kept items = 2 ^ 31 ≤ memory_of_entries kept.entries + (64 * (kept.places + length items) + bytes_in items)
+IsFull kept items =
+    2 ^ 31 ≤ memory_of_entries kept.entries + (64 * (kept.places + length items) + bytes_in items)

@@ -1,4 +1,5 @@
--- What an opening finds of a store's log, what it leaves of it, and why one of its steps is refused.
+-- What an opening finds of a store's log, what it leaves of it, and why one of its steps is
+-- refused.
 use Rattle.std.specs.Prelude.{◌≡◌, ◌≢◌, ◌≤◌, ◌<◌, ◌+◌, ◌-◌, ◌%◌, ◌^◌, ◌⊎◌, ℕ, Bool, true, false, List, [], length, Option, Some, None, Result, Ok, Err, OnOk, IfErr, IsErrAnd, IsTrue}
 use Rattle.leveldb_base.specs.declared.error.Status.{Status}
 use Rattle.leveldb_base.specs.declared.error.StatusCode.TheVariants.{InvalidArgument, NotFound, Corruption}
@@ -12,7 +13,7 @@ use Rattle.leveldb_version.specs.Contents.{Contents}
 use Rattle.rusty_leveldb.specs.Causes.{HasFailed}
 use Rattle.rusty_leveldb.specs.Recent.{Numbered}
 use Rattle.rusty_leveldb.specs.Replay.{IsReplayed}
-use Rattle.rusty_leveldb.specs.Serves.{SparesOthers}
+use Rattle.rusty_leveldb.specs.Frame.{IsOwn, Spares}
 use Rattle.rusty_leveldb.specs.Engine.{OpenExcused}
 
 -- ---- the log
@@ -42,39 +43,59 @@ pub record IsKeptLog (records : List (List ℕ)) (now : Option File) : Type 0 wh
   pub since : file.since ≡ []
   pub read : IsLogFile (bytes_of file) records clean
 
--- The log is as it was, or has the records that were found there, ends cleanly, and all its bytes are kept. One that ended cleanly has its bytes.
+-- The log is as it was, or has the records that were found there, ends cleanly, and all its bytes
+-- are kept. One that ended cleanly has its bytes.
 abbrev pub SparesLog : Bool → Option File → Option File → Type 0
-SparesLog create was now = (now ≡ was) ⊎ ((records : List (List ℕ)) × (end : End) × IsFoundAs create was records end × IsKeptLog records now
+SparesLog create was now = (now ≡ was)
+    ⊎ ((records : List (List ℕ)) × (end : End) × IsFoundAs create was records end
+    × IsKeptLog records now
     × (end ≡ clean → now ≡ Some (kept_log was)))
 
 -- the log has no reading, or is missing and isn't to be made
 abbrev pub IsUnusable : Bool → Option File → Type 0
-IsUnusable create was = ((contents : Contents) → IsRead was contents → ⊥) ⊎ ((create ≡ false) × (was ≡ None))
+IsUnusable create was = ((contents : Contents) → IsRead was contents → ⊥)
+    ⊎ ((create ≡ false) × (was ≡ None))
 
 -- a disk on which this store isn't opened: its lock is held, or its log is unusable
 abbrev pub NeverOpens : List ℕ → Bool → Disk → Type 0
-NeverOpens name create disk = IsTrue (disk.locked (lock_path name)) ⊎ IsUnusable create (disk.files (log_path name))
+NeverOpens name create disk = IsTrue (disk.locked (lock_path name))
+    ⊎ IsUnusable create (disk.files (log_path name))
 
 -- all but the log and what takes its place stays as it is
 abbrev pub ChangesLogAlone : List ℕ → Files → Files → Type 0
-ChangesLogAlone name before after = (path : List ℕ) → path ≢ log_path name → path ≢ temp_path name → after path ≡ before path
+ChangesLogAlone name before after = (path : List ℕ) → path ≢ log_path name → path ≢ temp_path name
+    → after path ≡ before path
 
--- beside what the refusal tells, at least one more call of the device failed, or the count stands at its greatest
+-- beside what the refusal tells, at least one more call of the device failed, or the count stands
+-- at its greatest
 abbrev pub FailedBeside : Type 0 → ℕ → ℕ → Type 0
-FailedBeside excused before now = (excused × (before < now)) ⊎ (before + 2 ≤ now) ⊎ (now ≡ 2 ^ 64 - 1)
+FailedBeside excused before now = (excused × (before < now)) ⊎ (before + 2 ≤ now)
+    ⊎ (now ≡ 2 ^ 64 - 1)
 
--- What a refused opening leaves, whatever stands under the store's name. The log is as it was, or has the records that were found there. A
--- store that is never opened keeps all its files, but that the lock's may be made. Its lock is as it was, or is held where giving it back
--- was refused, too. What isn't the store's is as it was.
-pub record StaysUnopened (name : List ℕ) (create : Bool) (old new : Observed) (before now : ℕ) (e : Status) : Type 0 where
-  pub log : SparesLog create (old.disk.files (log_path name)) (new.disk.files (log_path name))
-  pub untouched : NeverOpens name create old.disk → BeforeOrAfter (created (lock_path name)) old.disk.files new.disk.files
+-- a disk on which an opening looks no further: the store's lock is held, or it is missing and isn't
+-- to be made
+abbrev pub IsBarred : List ℕ → Bool → Disk → Type 0
+IsBarred name create disk = IsTrue (disk.locked (lock_path name))
+    ⊎ ((create ≡ false) × (disk.files (log_path name) ≡ None))
+
+-- What an opening leaves that fails, whatever is under the store's name.
+pub record StaysUnopened (name : List ℕ) (create : Bool) (old new : Observed) (before now : ℕ)
+    (e : Status) : Type 0 where
+  -- a store that is locked, or is missing and isn't to be made, keeps all its files, but that the
+  -- lock's may be made
+  pub untouched : IsBarred name create old.disk
+      → BeforeOrAfter (created (lock_path name)) old.disk.files new.disk.files
+  -- its lock is as it was, or is held where giving it back failed, too
   pub lock : (new.disk.locked (lock_path name) ≡ old.disk.locked (lock_path name))
-      ⊎ ((new.disk.locked (lock_path name) ≡ true) × FailedBeside (OpenExcused true name create old e) before now)
-  pub others : SparesOthers name old.disk new.disk
+      ⊎ ((new.disk.locked (lock_path name) ≡ true)
+      × FailedBeside (OpenExcused true name create old e) before now)
+  -- what isn't the store's is as it was
+  pub others : Spares name (IsOwn name) old.disk new.disk
 
--- The log has the records that were found there, all its bytes kept, and ends cleanly; memory has what they say, and the writer stands at the end.
-pub record IsRecovered (create : Bool) (was now : Option File) (writer : WriterState) (recent : Numbered) : Type 0 where
+-- The log has the records that were found there, all its bytes kept, and ends cleanly; memory has
+-- what they say, and the writer stands at the end.
+pub record IsRecovered (create : Bool) (was now : Option File) (writer : WriterState)
+    (recent : Numbered) : Type 0 where
   pub records : List (List ℕ)
   pub end : End
   pub was_found : IsFoundAs create was records end
@@ -83,24 +104,32 @@ pub record IsRecovered (create : Bool) (was now : Option File) (writer : WriterS
   pub there : now ≡ Some file
   pub since : file.since ≡ []
   pub read : IsLogFile (bytes_of file) records clean
-  pub stands : writer ≡ record { size = log_block_size; offset = length (bytes_of file) % log_block_size; broken = false }
+  pub stands : writer ≡ record {
+    size = log_block_size;
+    offset = length (bytes_of file) % log_block_size;
+    broken = false;
+  }
 
 -- ---- refusals
 
--- An Ok counts no failed call. An Err is excused, or a failed call was counted, or the count stands at its greatest.
-pub record HasCauses {T : Type 0} (Excused : Status → Type 0) (before now : ℕ) (result : Result T Status) : Type 0 where
+-- An Ok counts no failed call. An Err is excused, or a failed call was counted, or the count stands
+-- at its greatest.
+pub record HasCauses {T : Type 0} (Excused : Status → Type 0) (before now : ℕ)
+    (result : Result T Status) : Type 0 where
   pub later : before ≤ now
   pub ok : OnOk result (now ≡ before)
   pub cause : IfErr result (λ e. Excused e ⊎ HasFailed before now)
 
 -- the same error, but damage for a file that is missing
 abbrev pub IsErrorFor : Status → Status → Type 0
-IsErrorFor raw e = ((raw.code ≢ NotFound) × (e ≡ raw)) ⊎ ((raw.code ≡ NotFound) × (e.code ≡ Corruption))
+IsErrorFor raw e = ((raw.code ≢ NotFound) × (e ≡ raw))
+    ⊎ ((raw.code ≡ NotFound) × (e.code ≡ Corruption))
 
 -- the same answer, but damage for a file that is missing
 abbrev pub IsFoundOr : {T : Type 0} → Result T Status → Result T Status → Type 0
 IsFoundOr (Ok value) result = result ≡ Ok value
-IsFoundOr (Err status) result = ((status.code ≢ NotFound) × (result ≡ Err status)) ⊎ ((status.code ≡ NotFound) × IsErrAnd result (λ e. e.code ≡ Corruption))
+IsFoundOr (Err status) result = ((status.code ≢ NotFound) × (result ≡ Err status))
+    ⊎ ((status.code ≡ NotFound) × IsErrAnd result (λ e. e.code ≡ Corruption))
 
 -- want of memory, or damage of a disk that isn't told
 abbrev pub IsUntold : Bool → Status → Type 0
@@ -108,8 +137,10 @@ IsUntold models_disk e = IsOutOfMemory e ⊎ ((e.code ≡ Corruption) × (IsTrue
 
 -- the log is missing and isn't to be made
 abbrev pub IsNotMade : Bool → Bool → Option File → Status → Type 0
-IsNotMade models_disk create was e = (e.code ≡ InvalidArgument) × (create ≡ false) × (IsTrue models_disk → was ≡ None)
+IsNotMade models_disk create was e = (e.code ≡ InvalidArgument) × (create ≡ false)
+    × (IsTrue models_disk → was ≡ None)
 
 -- the log is no list of batches
 abbrev pub IsNoLog : Bool → Option File → Status → Type 0
-IsNoLog models_disk was e = (e.code ≡ Corruption) × (IsTrue models_disk → (contents : Contents) → IsRead was contents → ⊥)
+IsNoLog models_disk was e = (e.code ≡ Corruption)
+    × (IsTrue models_disk → (contents : Contents) → IsRead was contents → ⊥)

@@ -19,7 +19,8 @@ pub record AreBatches (records : List (List ℕ)) : Type 0 where
 -- memory has just the entries of these batches, and the number of the last
 pub record IsReplayed (records : List (List ℕ)) (recent : Numbered) : Type 0 where
   pub read : AreBatches records
-  pub just : (entry : Entry) → Contains recent.kept.entries entry ↔ Contains (all_entries read.batches) entry
+  pub just : (entry : Entry)
+      → Contains recent.kept.entries entry ↔ Contains (all_entries read.batches) entry
   pub last : recent.last ≡ greatest (all_entries read.batches)
 
 -- the records are no batches in order
@@ -27,7 +28,8 @@ pub record IsDamaged (records : List (List ℕ)) (status : Status) : Type 0 wher
   pub code : status.code ≡ Corruption
   pub none : AreBatches records → ⊥
 
--- With the entries of the batches before it, those of a record's batch count for 2^31 bytes of memory at least.
+-- With the entries of the batches before it, those of a record's batch count for 2^31 bytes of
+-- memory at least.
 pub record AreTooMany (records : List (List ℕ)) : Type 0 where
   pub front : List (List ℕ)
   pub text : List ℕ
@@ -36,12 +38,14 @@ pub record AreTooMany (records : List (List ℕ)) : Type 0 where
   pub read : AreBatches front
   pub batch : Batch
   pub is : IsRecordOf text batch
-  pub past : 2 ^ 31 ≤ memory_of_entries (all_entries read.batches) + (64 * length batch.items + bytes_in batch.items)
+  pub past : 2 ^ 31 ≤ memory_of_entries (all_entries read.batches)
+      + (64 * length batch.items + bytes_in batch.items)
 
 -- a log's file has 2^64 bytes, or its entries are too many for a memtable
 abbrev pub IsTooLarge : Option File → Type 0
 IsTooLarge was = IsSomeAnd was (λ file. (2 ^ 64 ≤ length (bytes_of file))
-    ⊎ ((records : List (List ℕ)) × (end : End) × IsLogFile (bytes_of file) records end × AreTooMany records))
+    ⊎ ((records : List (List ℕ)) × (end : End) × IsLogFile (bytes_of file) records end
+    × AreTooMany records))
 
 -- the log of a disk that is modelled is too large
 abbrev pub IsLargeLog : Bool → Option File → Status → Type 0

@@ -19,8 +19,8 @@ pub record Event : Type 0 where
 abbrev pub faults_of : ℕ → Event → Faults
 faults_of failures event = record { before = failures; after = event.failures }
 
--- from so many failures and the old state on these events come, one after another, up to so many failures
--- and the new state
+-- from so many failures and the old state on these events come, one after another, up to so many
+-- failures and the new state
 abbrev pub Run : ℕ → State → List Event → ℕ → State → Type 0
 Run before old [] after new = (after ≡ before) × (new ≡ old)
 Run before old (event ∷ events) after new = (before ≤ event.failures) × (next : State)
@@ -29,16 +29,16 @@ Run before old (event ∷ events) after new = (before ≤ event.failures) × (ne
 
 -- ---- crashes
 
--- A crash at this moment in a request that leads from one state to the next: inside a call of the device, or
--- between two. At the moment of the last answer, and inside no call, the device hasn't been called yet, so
--- the request has put nothing at risk.
+-- A crash at this moment in a request that leads from one state to the next: inside a call of the
+-- device, or between two. At the moment of the last answer, and inside no call, the device hasn't
+-- been called yet, so the request has put nothing at risk.
 abbrev pub CrashesIn : ℕ → ℕ → Bool → State → Request → State → State → Type 0
 CrashesIn last_answer moment inside state request next new =
     ((moment ≡ last_answer) × (inside ≡ false) × Crashes state (risk_between state) new)
     ⊎ (((last_answer < moment) ⊎ IsTrue inside) × Crashes state (risk_of request state next) new)
 
--- A crash before these events, all of which would have come, up to so many failures and this last state:
--- after the last request, or in the next one.
+-- A crash before these events, all of which would have come, up to so many failures and this last
+-- state: after the last request, or in the next one.
 abbrev pub CrashBefore : ℕ → ℕ → Bool → ℕ → State → List Event → ℕ → State → State → Type 0
 CrashBefore last_answer moment inside failures state [] end last new =
     (end ≡ failures) × (last ≡ state) × Crashes state (risk_between state) new
@@ -53,9 +53,10 @@ abbrev pub last_moment : ℕ → List Event → ℕ
 last_moment start [] = start
 last_moment start (event ∷ events) = last_moment event.moment events
 
--- Of the events from a start on, what was answered by a moment happened; a crash comes then, before the next
--- answer.
-pub record StopsAt (start before : ℕ) (old : State) (events : List Event) (moment : ℕ) (inside : Bool)
+-- Of the events from a start on, what was answered by a moment happened; a crash comes then, before
+-- the next answer.
+pub record StopsAt (start before : ℕ) (old : State) (events : List Event) (moment : ℕ)
+    (inside : Bool)
     (end : ℕ) (last new : State) : Type 0 where
   pub done : List Event
   pub undone : List Event
@@ -84,8 +85,8 @@ new_state format = record {
   format = format;
 }
 
--- how a life ends: it goes on, or a crash cuts it off at this moment, inside a call or not, and the next
--- device has counted so many failures
+-- how a life ends: it goes on, or a crash cuts it off at this moment, inside a call or not, and the
+-- next device has counted so many failures
 pub data Ending : Type 0 where
   goes_on : Ending
   crashes : ℕ → Bool → ℕ → Ending
@@ -107,4 +108,5 @@ LifeLeads start before old events (crashes moment inside counted) after new =
 abbrev pub Lives : ℕ → State → List Life → ℕ → State → Type 0
 Lives before old [] after new = (after ≡ before) × (new ≡ old)
 Lives before old (life ∷ lives) after new = (failures : ℕ) × (next : State)
-    × LifeLeads life.start before old life.events life.ending failures next × Lives failures next lives after new
+    × LifeLeads life.start before old life.events life.ending failures next
+    × Lives failures next lives after new

@@ -1,20 +1,21 @@
--- What the engine's clauses say: from every state that memory and disk represent, a step of the machine.
+-- What the engine's clauses say: from every state that memory and disk represent, a step of the
+-- machine.
 --
--- `store` is the store's path, and `Recalls memory disk state` what the engine's memory has to do with the
--- files and the state.
-use Rattle.std.specs.Prelude.{◌≡◌, ◌≢◌, ◌≤◌, ◌⊎◌, ◌↔◌, ℕ, Bool, List, [], Option, Some, None, Result, Ok, Err, All, false, map, IsTrue}
-use Rattle.std.specs.Option.{option_map}
+-- `store` is the store's path, and `Recalls memory disk state` what the engine's memory has to do
+-- with the files and the state.
+use Rattle.std.specs.Prelude.{◌≡◌, ◌≤◌, ◌⊎◌, ◌↔◌, ℕ, Bool, List, [], Option, Some, None, Result, Ok, Err, All, false, map, IsTrue}
 use Rattle.leveldb_base.specs.declared.error.Status.{Status}
 use Rattle.leveldb_base.specs.Error.{text_of}
-use Rattle.leveldb_env.specs.Env.{File, Files, Disk, FilesCrashTo, bytes_of, or_empty, Observed}
+use Rattle.leveldb_env.specs.Env.{Files, Disk, FilesCrashTo, Observed}
 use Rattle.leveldb_env.specs.Env as calls
 use Rattle.leveldb_version.specs.Paths.{lock_path}
 use Rattle.leveldb_version.specs.Contents.{Contents}
 use Rattle.rusty_leveldb.specs.Format.{Format}
-use Rattle.rusty_leveldb.specs.OneLog.{IsOneLog, log_path, temp_path}
+use Rattle.rusty_leveldb.specs.Frame.{IsOwn, MayTouch, Spares, IsSyncing, SameBytes}
+use Rattle.rusty_leveldb.specs.OneLog.{IsOneLog, log_path}
 use Rattle.leveldb_version.specs.Holds.{IsHonest, IsSafe, Holds}
-use Rattle.rusty_leveldb.specs.State.{State, IsState, open_mode, closed, Request, write, get, walk, get_snapshot, release_snapshot, flush, close, abandon, Refusal, Answer, done, found, refused}
-use Rattle.rusty_leveldb.specs.Causes.{Faults, TakesLock}
+use Rattle.rusty_leveldb.specs.State.{State, IsState, closed, Request, Refusal, Answer, done, found, refused}
+use Rattle.rusty_leveldb.specs.Causes.{Faults}
 use Rattle.rusty_leveldb.specs.Machine.{Step, StaysOr, Risk, risk_of}
 use Rattle.rusty_leveldb.specs.Runs.{Event, Run, last_moment, StopsAt}
 
@@ -45,8 +46,8 @@ given_engine (Err status) = None
 
 -- ---- around a call
 
--- before or after a call: the engine's memory, if there is an engine, what is observed of the environment,
--- and how many of its calls have failed
+-- before or after a call: the engine's memory, if there is an engine, what is observed of the
+-- environment, and how many of its calls have failed
 pub record Scene (M : Type 0) : Type 1 where
   pub memory : Option M
   pub observed : Observed
@@ -63,57 +64,6 @@ pub record IsConversation (requests : List Request) (answers : List Answer) (mom
   pub answers_are : map (λ event. event.answer) events ≡ answers
   pub moments_are : map (λ event. event.moment) events ≡ moments
 
--- ---- what befalls the files
-
--- a request that changes no file: a read, a snapshot given or released, or `abandon`
-abbrev pub TouchesNoFile : Request → Type 0
-TouchesNoFile (get at key) = Unit {0}
-TouchesNoFile (walk at moves) = Unit {0}
-TouchesNoFile get_snapshot = Unit {0}
-TouchesNoFile (release_snapshot one) = Unit {0}
-TouchesNoFile abandon = Unit {0}
-TouchesNoFile request = ⊥
-
--- a request that adds no bytes: it makes a crash keep those that are there
-abbrev pub IsSyncing : Request → Type 0
-IsSyncing flush = Unit {0}
-IsSyncing close = Unit {0}
-IsSyncing request = ⊥
-
--- a request that appends to the log or syncs it, and asks nothing else of the device
-abbrev pub IsLogging : Request → Type 0
-IsLogging (write items sync) = Unit {0}
-IsLogging flush = Unit {0}
-IsLogging request = ⊥
-
--- the answer is a refusal
-abbrev pub IsRefused : Answer → Type 0
-IsRefused (refused refusal) = Unit {0}
-IsRefused answer = ⊥
-
--- each file has the bytes that it had, however many of them a crash keeps
-abbrev pub SameBytes : Files → Files → Type 0
-SameBytes before after = (path : List ℕ) → option_map bytes_of (after path) ≡ option_map bytes_of (before path)
-
--- No file changes where the request touches none, where a write or flush is refused and the store stays open, and where the store isn't
--- open and this is no opening. Behind a flush or a close each file has the bytes that it had.
-pub record SparesFiles (request : Request) (answer : Answer) (old new : State) (before after : Files) : Type 0 where
-  pub untouched : TouchesNoFile request → after ≡ before
-  pub refused : IsLogging request → IsRefused answer → new.mode ≡ open_mode → after ≡ before
-  pub stopped : old.mode ≢ open_mode → (TakesLock request → ⊥) → after ≡ before
-  pub bytes : IsSyncing request → SameBytes before after
-
--- a file stays as it is, or a missing one is made, empty
-abbrev pub IsKeptOrMade : Option File → Option File → Type 0
-IsKeptOrMade before after = (after ≡ before) ⊎ (after ≡ or_empty before)
-
--- Files that are neither the log, nor what takes its place, nor the lock's, stay as they are, and so does every other lock. The lock's file
--- stays, or is made where it is missing.
-pub record SparesOthers (store : List ℕ) (before after : Disk) : Type 0 where
-  pub files : (path : List ℕ) → path ≢ log_path store → path ≢ temp_path store → path ≢ lock_path store → after.files path ≡ before.files path
-  pub lock_file : IsKeptOrMade (before.files (lock_path store)) (after.files (lock_path store))
-  pub locks : (path : List ℕ) → path ≢ lock_path store → after.locked path ≡ before.locked path
-
 -- ---- damage
 
 -- nothing can be read of the files, so they represent no state
@@ -122,15 +72,18 @@ IsUnreadable reads files = (contents : Contents) → reads files contents → �
 
 -- ---- crashes
 
--- these were the files at a moment that has come, and an honest crash at that moment leaves this disk, with no lock held
-pub record IsHonestlyLeft (store : List ℕ) (now : Observed) (moment : ℕ) (files : Files) (left : Disk) : Type 0 where
+-- these were the files at a moment that has come, and an honest crash at that moment leaves this
+-- disk, with no lock held
+pub record IsHonestlyLeft (store : List ℕ) (now : Observed) (moment : ℕ) (files : Files)
+    (left : Disk) : Type 0 where
   pub come : moment ≤ now.moment
   pub stood : now.at_moment moment files
   pub leaves : FilesCrashTo files left.files
   pub honest : IsHonest store files left.files
   pub free : (path : List ℕ) → left.locked path ≡ false
 
--- where moments are observed: at this one the files were these alone, so it is inside no call that changes them
+-- where moments are observed: at this one the files were these alone, so it is inside no call that
+-- changes them
 pub record IsBetweenCalls (models_moments : Bool) (now : Observed) (moment : ℕ) (files : Files)
     : Type 0 where
   pub modelled : IsTrue models_moments
@@ -146,8 +99,8 @@ module _ (store : List ℕ) where
         state.history state.last state.durable state.pending
     pub locked : disk.locked (lock_path store) ≡ state.locked
 
-  -- a crash now leaves a prefix of what is at risk, with at least what was durable before the request, and
-  -- the store that was there or one that the opening at work has made
+  -- a crash now leaves a prefix of what is at risk, with at least what was durable before the
+  -- request, and the store that was there or one that the opening at work has made
   abbrev pub IsSpared : State → Risk → Files → Type 0
   IsSpared old risk files = IsSafe store (Reads store risk.format) (StaysOr risk.opening old.store)
       risk.bound old.durable risk.history files
@@ -168,30 +121,31 @@ module _ (store : List ℕ) where
       pub disk_is : StandsFor disk state
       pub memory_is : IsRecalled memory disk state
 
-    -- From this state, a step to one that memory and disk represent then, and at each moment of the call
-    -- what a crash leaves is spared; what isn't the store's stays as it is, and but for an opening the log
-    -- alone is touched.
-    pub record Goes (from : Scene M) (request : Request) (answer : Answer) (to : Scene M) (old : State)
+    -- From this state, a step to one that memory and disk represent then, and at each moment of the
+    -- call what a crash leaves is spared. All files stay as they are but those that the request may
+    -- touch, and where it only syncs, all bytes do.
+    pub record Goes (from : Scene M) (request : Request) (answer : Answer) (to : Scene M)
+        (old : State)
         : Type 0 where
       pub new : State
       pub represents : Represents to.memory to.observed.disk new
       pub later : from.failures ≤ to.failures
       pub step : Step old.mode (faults_between from.failures to.failures) old request answer new
       pub moments : AtEachMoment request old new from.observed to.observed
-      pub files : SparesFiles request answer old new from.observed.disk.files to.observed.disk.files
-      pub others : SparesOthers store from.observed.disk to.observed.disk
-      pub beside : (TakesLock request → ⊥) → (path : List ℕ) → path ≢ log_path store
-          → to.observed.disk.files path ≡ from.observed.disk.files path
+      pub spares : Spares store (MayTouch store old.mode request) from.observed.disk
+          to.observed.disk
+      pub bytes : IsSyncing request → SameBytes from.observed.disk.files to.observed.disk.files
 
     -- from every state that memory and disk represent
     abbrev pub Serves : Scene M → Request → Answer → Scene M → Type 0
     Serves from request answer to = (old : State) → Represents from.memory from.observed.disk old
         → Goes from request answer to old
 
-    -- A run of these requests with these answers, each given at its moment, to a state that memory and disk
-    -- represent then; what isn't the store's stays as it is. No answer came before the run began, the last as
-    -- it ended, and all of them had come by a moment exactly if the run had ended by then. Wherever an honest crash comes in the run, it stops there, and the disk
-    -- that is left represents the state of the crash.
+    -- A run of these requests with these answers, each given at its moment, to a state that memory
+    -- and disk represent then; what isn't the store's stays as it is. No answer came before the run
+    -- began, the last as it ended, and all of them had come by a moment exactly if the run had
+    -- ended by then. Wherever an honest crash comes in the run, it stops there, and the disk that
+    -- is left represents the state of the crash.
     pub record Runs (models_moments : Bool) (from : Scene M) (requests : List Request)
         (answers : List Answer) (moments : List ℕ) (to : Scene M) (old : State) : Type 0 where
       pub events : List Event
@@ -199,7 +153,7 @@ module _ (store : List ℕ) where
       pub new : State
       pub run : Run from.failures old events to.failures new
       pub represents : Represents to.memory to.observed.disk new
-      pub others : SparesOthers store from.observed.disk to.observed.disk
+      pub others : Spares store (IsOwn store) from.observed.disk to.observed.disk
       pub since : All (λ event. from.observed.moment ≤ event.moment) events
       pub last : last_moment from.observed.moment events ≡ to.observed.moment
       pub ends : (moment : ℕ) → from.observed.moment ≤ moment

@@ -1,5 +1,5 @@
 -- Commands and replies as requests and answers, and what a run of commands is.
-use Rattle.std.specs.Prelude.{◌≡◌, ◌⊎◌, ℕ, Bool, false, List, [], ◌∷◌, ◌++◌, map, Option, Some, None, Result, Ok, Err, IsErrAnd, IsTrue}
+use Rattle.std.specs.Prelude.{◌≡◌, ◌⊎◌, ℕ, Bool, false, List, [], ◌∷◌, ◌++◌, map, Some, None, Result, OnOk, IsErrAnd, IsTrue}
 use Rattle.leveldb_base.specs.declared.error.Status.{Status}
 use Rattle.leveldb_base.specs.History as history
 use Rattle.leveldb_env.specs.declared.env.Env.{Ghosts}
@@ -12,11 +12,10 @@ use Rattle.rusty_leveldb.specs.declared.shell.commands.Item.TheVariants as item
 use Rattle.rusty_leveldb.specs.declared.shell.commands.Reply.{Reply}
 use Rattle.rusty_leveldb.specs.declared.shell.commands.Reply.TheVariants as reply
 use Rattle.rusty_leveldb.specs.State.{State, Opening, Request, open_store, write, get, flush, close, abandon, Answer, done, found, refused}
-use Rattle.rusty_leveldb.specs.Serves.{Represents, Runs, refusal_of}
-use Rattle.rusty_leveldb.specs.Engine.{Recalls, scene, IsOpening}
-use Rattle.rusty_leveldb.specs.Recovery.{StaysUnopened}
-use Rattle.leveldb_env.specs.Options.{Boxed, nothing_boxed}
-use Rattle.rusty_leveldb.specs.Boxes.{EngineOf}
+use Rattle.rusty_leveldb.specs.Serves.{Represents, Runs, refusal_of, done_or}
+use Rattle.rusty_leveldb.specs.Engine.{Recalls, scene, IsOpening, IsStoreName}
+use Rattle.rusty_leveldb.specs.Recovery.{NeverOpens, StaysUnopened}
+use Rattle.leveldb_env.specs.Options.{nothing_boxed}
 
 -- the change that an item asks for
 abbrev pub change_of : Item → history.Item
@@ -41,48 +40,42 @@ answer_of (reply.Refused status) = refused (refusal_of status)
 
 -- ---- runs
 
-module _ {E F : Type 0} (C FP : Type 0) {B : Boxed} (env : Ghosts E F)
-    (store : List ℕ) where
-  -- these requests had these answers, each at its moment, from what the disk has on, and what engine and
-  -- disk represent then
-  abbrev pub LeadsAt : E → List Request → List Answer → List ℕ → Option (EngineOf E C FP F B) → E
-      → State → Type 0
-  LeadsAt from requests answers moments engine to old =
-      Runs store (Recalls env store) env.models_moments
-      (scene {C = C} {FP = FP} {B = B} env None from) requests answers moments
-      (scene env engine to) old
-
-  -- the same, at some moments
-  abbrev pub Leads : E → List Request → List Answer → Option (EngineOf E C FP F B) → E → State → Type 0
-  Leads from requests answers engine to old =
-      (moments : List ℕ) × LeadsAt from requests answers moments engine to old
-
--- the run was refused, and leaves what a refused opening leaves
-abbrev pub IsUnopened : {E F : Type 0} → Ghosts E F → List ℕ → Bool → E → Result (Unit {0}) Status → E → Type 0
-IsUnopened env name create from ended to = IsErrAnd ended (StaysUnopened name create (env.observed from) (env.observed to) (env.failures from) (env.failures to))
+-- the run failed, and leaves what an opening leaves that fails
+abbrev pub IsUnopened : {E F : Type 0} → Ghosts E F → List ℕ → Bool → E → Result (Unit {0}) Status
+    → E
+    → Type 0
+IsUnopened env name create from ended to = IsErrAnd ended
+    (StaysUnopened name create (env.observed from) (env.observed to) (env.failures from)
+    (env.failures to))
 
 module _ {E F : Type 0} (C FP : Type 0) (env : Ghosts E F) (store : List ℕ) where
-  -- the store was opened, each command was answered, and at last it was abandoned with this answer
-  abbrev pub LeadsThrough : E → Opening → List Command → List Reply → Answer → E → State → Type 0
-  LeadsThrough from opening commands given last to old =
-      Leads C FP {B = nothing_boxed} env store from
-      (open_store opening ∷ (map request_of commands ++ abandon ∷ []))
-      (done ∷ (map answer_of given ++ last ∷ [])) None to old
+  -- What a run of commands is, by its result, with the replies that it gave. The store was opened,
+  -- each command was answered, and at last the store was abandoned; or the run failed with no
+  -- reply, since the store wasn't opened, or out of memory before it began.
+  abbrev pub Plays : E → Opening → List Command → List Reply → Result (Unit {0}) Status → E → State
+      → Type 0
+  Plays from opening commands given result to old =
+      let leads : List Request → List Answer → Type 0 = λ requests answers. (moments : List ℕ)
+      × Runs store (Recalls {C = C} {FP = FP} {B = nothing_boxed} env store) env.models_moments
+      (scene env None from) requests answers moments (scene env None to) old in
+      leads (open_store opening ∷ (map request_of commands ++ abandon ∷ []))
+      (done ∷ (map answer_of given ++ done_or result ∷ []))
+      ⊎ IsErrAnd result (λ status. (given ≡ [])
+      × (leads (open_store opening ∷ []) (refused (refusal_of status) ∷ [])
+      ⊎ (IsOutOfMemory status × (to ≡ from))))
 
-  -- What a run of commands is, by its result, with the replies that it gave: it went through; or it was
-  -- refused before it began, out of memory; or the store wasn't opened.
-  abbrev pub Plays : E → Opening → List Command → List Reply → Result (Unit {0}) Status → E → State → Type 0
-  Plays from opening commands given (Ok ended) to old = LeadsThrough from opening commands given done to old
-  Plays from opening commands given (Err status) to old =
-      LeadsThrough from opening commands given (refused (refusal_of status)) to old
-      ⊎ ((given ≡ []) × Leads C FP {B = nothing_boxed} env store from
-      (open_store opening ∷ []) (refused (refusal_of status) ∷ []) None to old)
-      ⊎ ((given ≡ []) × IsOutOfMemory status × (to ≡ from))
-
-  -- the same from every state that the disk represents, where the disk is observed
-  abbrev pub PlaysAlways : E → Opening → List Command → List Reply → Result (Unit {0}) Status → E → Type 0
-  PlaysAlways from asked commands given result to = IsTrue env.models_disk
-      → (opening : Opening) → IsOpening store asked opening → (old : State)
-      → Represents store (Recalls {C = C} {FP = FP} {B = nothing_boxed} env store) None
-      (env.observed from).disk old
-      → Plays from opening commands given result to old
+  -- what a run of commands over the store does, which is opened as it is asked
+  pub record HasRun (asked : Opening) (commands : List Command) (from : E) (given : List Reply)
+      (ended : Result (Unit {0}) Status) (to : E) : Type 0 where
+    -- from every state that a disk represents which is observed
+    pub plays : IsTrue env.models_disk → (opening : Opening) → IsOpening store asked opening
+        → (old : State)
+        → Represents store (Recalls {C = C} {FP = FP} {B = nothing_boxed} env store) None
+        (env.observed from).disk old
+        → Plays from opening commands given ended to old
+    -- a store that is damaged or locked isn't opened, nor is a missing one that isn't to be made
+    pub unopened : IsTrue env.models_disk
+        → NeverOpens store asked.create_if_missing (env.observed from).disk
+        → (given ≡ []) × IsUnopened env store asked.create_if_missing from ended to
+    -- under a name that is no store's no call is made
+    pub misnamed : (IsStoreName store → ⊥) → (to ≡ from) × (given ≡ []) × OnOk ended ⊥

@@ -17,7 +17,8 @@ IsWordReading word (Some bytes) = IsWord word bytes.items
 
 -- two words, parted by a byte
 abbrev pub IsPair : ℕ → List ℕ → List ℕ → List ℕ → Type 0
-IsPair separator words left right = IsBytes left × IsBytes right × (words ≡ hex_word left ++ separator ∷ hex_word right)
+IsPair separator words left right = IsBytes left × IsBytes right
+    × (words ≡ hex_word left ++ separator ∷ hex_word right)
 
 -- what two words were read as
 abbrev pub IsPairReading : ℕ → List ℕ → Option (Vec ℕ Global × Vec ℕ Global) → Type 0

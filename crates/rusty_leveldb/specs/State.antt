@@ -29,7 +29,8 @@ pub record Opening : Type 0 where
   -- the compressor that new blocks ask for is set
   pub compresses : Bool
 
--- the state of the machine: what the store holds, how much of it is durable, and in which mode it is
+-- the state of the machine: what the store holds, how much of it is durable, and in which mode it
+-- is
 pub record State : Type 0 where
   pub history : History
   -- the last number, at or above the history's
@@ -54,7 +55,8 @@ pub record IsAtRest (state : State) : Type 0 where
   pub held : state.held ≡ []
   pub given : state.given ≡ []
 
--- an open store has nothing pending and holds its lock, a broken one holds it, a closed one is at rest
+-- an open store has nothing pending and holds its lock, a broken one holds it, a closed one is at
+-- rest
 abbrev pub SuitsMode : Mode → State → Type 0
 SuitsMode open_mode state = (state.pending ≡ None) × IsTrue state.locked
 SuitsMode broken state = IsTrue state.locked

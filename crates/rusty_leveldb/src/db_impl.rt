@@ -1,4 +1,5 @@
-//! The store of one log: an engine, and `DB`, which is an engine beside a borrow of its environment.
+//! The store of one log: an engine, and `DB`, which is an engine beside a borrow of its
+//! environment.
 
 mod build;
 mod close;

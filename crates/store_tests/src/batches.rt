@@ -79,11 +79,12 @@ fn code_of(answer: Result<()>) -> StatusCode {
 
 fn assert_found(
     rt: &impl Abort,
-    engine: &Engine<MemEnv, DefaultCmp, BloomPolicy>,
+    env: &mut MemEnv,
+    engine: &mut Engine<MemEnv, DefaultCmp, BloomPolicy>,
     rows: &[Change],
 ) -> Result<()> {
     for (key, wanted) in rows {
-        let value = engine.get(key)?;
+        let value = engine.get(env, key)?;
         let found = match &value {
             None => None,
             Some(value) => Some(value.as_slice()),
@@ -102,7 +103,7 @@ fn write_one(
 ) -> Result<()> {
     let batch = batch_of(alloc, step.0)?;
     assert!(rt; code_of(engine.write(env, batch, false)) == step.1);
-    assert_found(rt, engine, step.2)
+    assert_found(rt, env, engine, step.2)
 }
 
 /// Gives a store these batches, one after another.

@@ -100,7 +100,7 @@ cut_honest None = λ was is same_was same_is. absurd (cc)
 cut_honest (Some file) = front_honest file [] file.since refl
 
 -- the log's number
-is_three : IsNumber (codes "000003") 3
+pub is_three : IsNumber (codes "000003") 3
 is_three = record { digits = (lit≤ tt, (lit< tt, (lit< tt, (lit< tt, (lit< tt, (lit< tt, (lit< tt, tt))))))); value = refl; fits = omega arith }
 
 module _ (store : List ℕ) where

@@ -11,7 +11,8 @@ use Rattle.rusty_leveldb.specs.OneLog.{log_path, IsRead, IsOneLog}
 use Rattle.leveldb_version.specs.Paths.{lock_path}
 use Rattle.rusty_leveldb.specs.Causes.{HasFailed}
 use Rattle.rusty_leveldb.specs.Recent.{Numbered}
-use Rattle.rusty_leveldb.specs.Serves.{IsUnreadable, SparesOthers}
+use Rattle.rusty_leveldb.specs.Serves.{IsUnreadable}
+use Rattle.rusty_leveldb.specs.Frame.{IsOwn, Spares}
 use Rattle.rusty_leveldb.specs.Engine.{OpenExcused}
 use Rattle.rusty_leveldb.specs.Replay.{IsTooLarge, IsLargeLog}
 use Rattle.rusty_leveldb.specs.Recovery.{IsFoundAs, SparesLog, IsUnusable, NeverOpens, ChangesLogAlone, IsRecovered, HasCauses}
@@ -73,6 +74,12 @@ pub lock_excused : (name lock : List ℕ) (create models_disk : Bool) (from made
 lock_excused name lock create models_disk from made e modelled is still why = ⊎_elim (λ m. inl m)
     (λ held. inr (inr (inr (held.0, sym (ap (λ (l : List ℕ → Bool). l (lock_path name)) still.locks) ∙ subst (λ l. made.disk.locked l ≡ true) is (held.1 modelled))))) why
 
+-- and in the words of an opening
+pub lock_open_excused : (name : List ℕ) (create : Bool) {models_disk : Bool} (from made : Observed) (lock : List ℕ) (e : Status) → lock ≡ lock_path name → SameLocks models_disk from made
+    → IsLocked models_disk lock made e → OpenExcused models_disk name create from e
+lock_open_excused name create from made lock e is locks why = ⊎_elim (λ m. inl m)
+    (λ held. inr (inr (inr (inl (held.0, λ modelled. sym (ap (λ (l : List ℕ → Bool). l (lock_path name)) (locks modelled)) ∙ subst (λ l. made.disk.locked l ≡ true) is (held.1 modelled)))))) why
+
 -- ---- under the lock
 
 -- the lock was free and is taken, and all files but the lock's are as they were
@@ -103,11 +110,11 @@ lock_taken name lock from made to modelled is still does locks was_free =
     }
 
 -- what isn't the store's, once the lock is taken and the log alone has changed
-taken_alone : (name : List ℕ) (from taken to : Disk) → IsTaken name from taken → ChangesLogAlone name taken.files to.files → ((other : List ℕ) → other ≢ lock_path name → to.locked other ≡ taken.locked other) → SparesOthers name from to
+taken_alone : (name : List ℕ) (from taken to : Disk) → IsTaken name from taken → ChangesLogAlone name taken.files to.files → ((other : List ℕ) → other ≢ lock_path name → to.locked other ≡ taken.locked other) → Spares name (IsOwn name) from to
 taken_alone name from taken to is rest locks = others_then name from taken to (others_made name from taken is.files is.others) (others_alone name taken to rest locks)
 
 -- nothing else of the locks changes while the log is recovered, and no other file
-pub still_taken : (name : List ℕ) (from taken to : Disk) → IsTaken name from taken → to.locked ≡ taken.locked → ChangesLogAlone name taken.files to.files → (to.locked (lock_path name) ≡ true) × SparesOthers name from to
+pub still_taken : (name : List ℕ) (from taken to : Disk) → IsTaken name from taken → to.locked ≡ taken.locked → ChangesLogAlone name taken.files to.files → (to.locked (lock_path name) ≡ true) × Spares name (IsOwn name) from to
 still_taken name from taken to is locks rest = (
   ap (λ (l : List ℕ → Bool). l (lock_path name)) locks ∙ is.held,
   taken_alone name from taken to is rest (λ other apart. ap (λ (l : List ℕ → Bool). l other) locks),

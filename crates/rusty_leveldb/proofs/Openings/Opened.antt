@@ -13,7 +13,9 @@ use Rattle.leveldb_version.specs.Holds.{MatchesHistory, Carries}
 use Rattle.rusty_leveldb.specs.State.{State, IsState, Opening, open_store, open_mode, done}
 use Rattle.rusty_leveldb.specs.Causes.{Misfits, Disagrees}
 use Rattle.rusty_leveldb.specs.Machine.{MayOpen, Opens, Step}
-use Rattle.rusty_leveldb.specs.Serves.{StandsFor, Represents, Goes, faults_between, SparesOthers}
+use Rattle.rusty_leveldb.specs.Serves.{StandsFor, Represents, Goes, faults_between}
+use Rattle.rusty_leveldb.specs.Frame.{IsOwn, Spares}
+use Rattle.rusty_leveldb.proofs.Others.{opening_spares}
 use Rattle.rusty_leveldb.specs.Engine.{IsStoreName, Recalls, Remembers, WritesOn, mode_of}
 use Rattle.rusty_leveldb.specs.Recovery.{IsFoundAs, IsKeptLog, IsRecovered}
 use Rattle.rusty_leveldb.proofs.Histories.{history_part}
@@ -54,7 +56,7 @@ no_bytes i = omega arith
 module _ {E C FP F : Type 0} {B : Boxed} (env : Ghosts E F) (name : List ℕ) (opening_is : Opening) (create : Bool) (is : IsAsked name create opening_is) (is_name : IsStoreName name)
     (from to : Observed) (before after : ℕ) (engine : EngineOf E C FP F B) (got : IsRecovered create (from.disk.files (log_path name)) (to.disk.files (log_path name)) engine.writer engine.recent)
     (mode : mode_of engine.mode ≡ open_mode) (lock : string_bytes engine.lock ≡ lock_path name) (log : env.name_of engine.log ≡ log_path name)
-    (was_free : from.disk.locked (lock_path name) ≡ false) (held : to.disk.locked (lock_path name) ≡ true) (others : SparesOthers name from.disk to.disk)
+    (was_free : from.disk.locked (lock_path name) ≡ false) (held : to.disk.locked (lock_path name) ≡ true) (others : Spares name (IsOwn name) from.disk to.disk)
     (counted : after ≡ before) (passed : Run (Sparing create (from.disk.files (log_path name)) (log_path name)) from to) (old : State) (represents : Represents name (Recalls {E = E} {C = C} {FP = FP} {F = F} {B = B} env name) None from.disk old) where
   found : opening.Finds name (λ now. now ≡ old.store) from.disk.files old.history (old.last + count_of old.pending) old.durable old.pending
   found = opening.opening_finds name from.disk.files old.history old.last old.durable old.pending represents.disk_is.is_state.durable represents.disk_is.holds
@@ -172,7 +174,6 @@ module _ {E C FP F : Type 0} {B : Boxed} (env : Ghosts E F) (name : List ℕ) (o
     later = omega (arith, counted);
     step = subst (λ m. Step m (faults_between before after) old (open_store opening_is) done now) (sym represents.memory_is) (record { operands = misfits; numbers = λ none. let never : true ≡ false = sym is.compresses ∙ none in absurd (cc) }, opens);
     moments = opening_moments create name opening_is old represents.disk_is passed;
-    files = record { untouched = λ never. absurd never; refused = λ never. absurd never; stopped = λ not_open takes. absurd (takes tt); bytes = λ never. absurd never };
-    others = others;
-    beside = λ opens_not. absurd (opens_not tt);
+    spares = opening_spares name old.mode opening_is from.disk to.disk represents.memory_is others;
+    bytes = λ never. absurd never;
   }

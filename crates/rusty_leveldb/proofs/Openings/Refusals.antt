@@ -6,6 +6,7 @@ use Rattle.leveldb_env.specs.Env.{File, HasCause}
 use Rattle.leveldb_base.specs.Error.{IsOutOfMemory}
 use Rattle.leveldb_mem.specs.Log.{End}
 use Rattle.rusty_leveldb.specs.Replay.{IsDamaged}
+use Rattle.rusty_leveldb.specs.Calls.{FailsFor}
 use Rattle.rusty_leveldb.specs.Recovery.{IsFoundAs, HasCauses, IsUntold, IsNoLog}
 use Rattle.rusty_leveldb.proofs.Openings.Logs.{found_batches}
 
@@ -30,6 +31,10 @@ causes_after {before = before} {mid = mid} {now = now} (Err status) same so caus
 -- a refusal of one type of answer and of another
 pub causes_refused : {T U : Type 0} {P : Status → Type 0} {before now : ℕ} {status : Status} → HasCauses {T = T} P before now (Err status) → HasCauses {T = U} P before now (Err status)
 causes_refused causes = record { later = causes.later; ok = tt; cause = causes.cause }
+
+-- a refusal with causes is one that fails for them
+pub fails_of : {T U : Type 0} {P : Status → Type 0} {before now : ℕ} {status : Status} → HasCauses {T = T} P before now (Err status) → FailsFor {T = U} P before now (Err status)
+fails_of causes = record { later = causes.later; cause = causes.cause }
 
 -- a refusal that is excused, where nothing was counted
 pub excused : {T : Type 0} {P : Status → Type 0} {before now : ℕ} {status : Status} → now ≡ before → P status → HasCauses {T = T} P before now (Err status)

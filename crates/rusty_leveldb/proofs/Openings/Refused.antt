@@ -12,7 +12,9 @@ use Rattle.leveldb_version.specs.Paths.{lock_path}
 use Rattle.rusty_leveldb.specs.State.{State, IsState, IsAtRest, SuitsMode, Opening, Request, Refusal, open_store, refused}
 use Rattle.rusty_leveldb.specs.Causes.{HasFailed, Cause, Comes, Disagrees, out_of_memory, device_failed, lock_is_held, bad_operand, too_large}
 use Rattle.rusty_leveldb.specs.Machine.{IsEarly, format_left, Step}
-use Rattle.rusty_leveldb.specs.Serves.{SparesOthers, Represents, Goes, IsUnreadable, faults_between, refusal_of}
+use Rattle.rusty_leveldb.specs.Frame.{IsOwn, Spares}
+use Rattle.rusty_leveldb.proofs.Others.{opening_spares}
+use Rattle.rusty_leveldb.specs.Serves.{Represents, Goes, IsUnreadable, faults_between, refusal_of}
 use Rattle.rusty_leveldb.specs.Engine.{IsStoreName, OpenExcused, Recalls}
 use Rattle.rusty_leveldb.specs.Replay.{IsLargeLog}
 use Rattle.rusty_leveldb.specs.Recovery.{SparesLog, NeverOpens, FailedBeside, StaysUnopened}
@@ -32,7 +34,7 @@ pub record IsGivenUp (name : List ℕ) (create : Bool) (from to : Disk) (before 
   pub log : SparesLog create (from.files (log_path name)) (to.files (log_path name))
   pub lock : (to.locked (lock_path name) ≡ from.locked (lock_path name)) ⊎ ((to.locked (lock_path name) ≡ true) × HasFailed mid after)
   pub untouched : NeverOpens name create from → BeforeOrAfter (created (lock_path name)) from.files to.files
-  pub others : SparesOthers name from to
+  pub others : Spares name (IsOwn name) from to
   pub later : before ≤ mid
   pub ends : mid ≤ after
   pub counts : after < 2 ^ 64
@@ -62,8 +64,7 @@ failed_beside name create from to before mid after e up failed = ⊎_elim (λ (m
 -- what it leaves
 pub unopened : {name : List ℕ} {create : Bool} {from to : Observed} {before mid after : ℕ} {e : Status} → IsGivenUp name create from.disk to.disk before mid after e → StaysUnopened name create from to before after e
 unopened {name} {create} {from} {to} {before} {mid} {after} {e} up = record {
-  log = up.log;
-  untouched = up.untouched;
+  untouched = λ barred. up.untouched (⊎_elim (λ held. inl held) (λ none. inr (inr none)) barred);
   lock = ⊎_elim (λ same. inl same) (λ kept. inr (kept.0, failed_beside name create from to before mid after e up kept.1)) up.lock;
   others = up.others;
 }
@@ -133,9 +134,8 @@ module _ {E C FP F : Type 0} {B : Boxed} (env : Ghosts E F) (name : List ℕ) (o
       };
     });
     moments = opening_moments create name opening old represents.disk_is passed;
-    files = record { untouched = λ never. absurd never; refused = λ never. absurd never; stopped = λ not_open takes. absurd (takes tt); bytes = λ never. absurd never };
-    others = up.others;
-    beside = λ opens_not. absurd (opens_not tt);
+    spares = opening_spares name old.mode opening from.disk to.disk represents.memory_is up.others;
+    bytes = λ never. absurd never;
   }
 
   -- what is left of the files

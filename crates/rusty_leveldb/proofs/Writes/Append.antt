@@ -10,14 +10,14 @@ use Rattle.leveldb_mem.specs.Log.{frame_at}
 use Rattle.leveldb_mem.specs.WriteBatch.{BatchOf}
 use Rattle.rusty_leveldb.specs.declared.db_impl.engine.Mode.TheVariants.{Broken}
 use Rattle.rusty_leveldb.specs.OneLog.{log_path, max_sequence}
-use Rattle.rusty_leveldb.specs.State.{State, open_mode, broken, write, refused}
+use Rattle.rusty_leveldb.specs.State.{State, broken, write, refused}
 use Rattle.rusty_leveldb.specs.Causes.{Faults, out_of_memory, device_failed}
 use Rattle.rusty_leveldb.specs.Machine.{next_batch, Breaks, Step, Responds}
 use Rattle.rusty_leveldb.specs.Serves.{IsSpared, Goes, faults_between, refusal_of}
 use Rattle.rusty_leveldb.specs.Engine.{scene, Recalls}
 use Rattle.rusty_leveldb.proofs.Histories.{entries_more, greatest_append, placed_greatest, placed_length, history_more}
 use Rattle.rusty_leveldb.proofs.OneLog.Writing.{appending_holds}
-use Rattle.rusty_leveldb.proofs.Others.{beside_but, others_but_log}
+use Rattle.rusty_leveldb.proofs.Others.{spares_but_log}
 use Rattle.rusty_leveldb.proofs.Writes.Stands.{Fails, IsOpen, IsStill, broken_with, Broke, broken_is}
 use Rattle.leveldb_env.specs.Options.{Boxed}
 use Rattle.rusty_leveldb.specs.Boxes.{EngineOf}
@@ -81,14 +81,8 @@ module _ {E C FP F : Type 0} {B : Boxed} (env : Ghosts E F) (store : List ℕ) (
       later = later;
       step = subst (λ m. Step m faults old (write items sync) (refused (refusal_of status)) new) (sym was.mode) (refuses status why);
       moments = moments;
-      files = record {
-        untouched = λ never. absurd never;
-        refused = λ logging is_refused opened. absurd (let never : broken ≡ open_mode = opened in cc);
-        stopped = λ not_open takes. absurd (not_open was.mode);
-        bytes = λ never. absurd never;
-      };
-      others = others_but_log store (env.observed from).disk (env.observed to).disk broke.but locks;
-      beside = λ opens_not. beside_but store (env.observed from).disk.files (env.observed to).disk.files broke.but;
+      spares = spares_but_log store (env.observed from).disk (env.observed to).disk old.mode (write items sync) was.mode tt broke.but locks;
+      bytes = λ never. absurd never;
     }
       where
         new : State

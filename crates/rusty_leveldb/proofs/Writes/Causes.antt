@@ -1,5 +1,5 @@
 -- Why a write is refused behind its preparation: each failure of the device is counted, and nothing else.
-use Rattle.std.proofs.Common.{◌≡◌, ◌≤◌, ◌<◌, ◌+◌, ◌⊎◌, inl, inr, ⊎_elim, ℕ, List, length, refl, sym, ◌∙◌, ap, arith, Option, Some, None, Result, Ok, Err, IsTrue, true, false}
+use Rattle.std.proofs.Common.{◌≡◌, ◌≤◌, ◌+◌, ◌⊎◌, inl, inr, ⊎_elim, ℕ, List, [], ◌∷◌, length, refl, sym, ◌∙◌, ap, subst, arith, Option, Some, None, Result, Ok, Err, IsTrue, true, false}
 use Rattle.std.specs.Option.{option_map}
 use Rattle.leveldb_base.specs.declared.error.Status.{Status}
 use Rattle.leveldb_base.specs.History.{Item}
@@ -10,11 +10,14 @@ use Rattle.leveldb_env.specs.EnvFile.{opened, Appends, Syncs}
 use Rattle.leveldb_mem.specs.MemTable.{FailsToPrepare, bytes_in}
 use Rattle.leveldb_mem.specs.Log.Writer.{AddsRecord, FailsToAdd, Flushes}
 use Rattle.leveldb_mem.specs.Log.Writer as writing
-use Rattle.rusty_leveldb.specs.declared.db_impl.engine.Mode.TheVariants.{Open, Broken, Closed}
+use Rattle.rusty_leveldb.specs.declared.db_impl.engine.Mode.TheVariants.{Open}
+use Rattle.leveldb_mem.specs.WriteBatch.{Batch, batch_of, with_item, IsTooLong}
+use Rattle.leveldb_base.specs.Error.{IsOutOfMemory}
+use Rattle.leveldb_base.specs.declared.error.StatusCode.TheVariants.{InvalidArgument}
 use Rattle.rusty_leveldb.specs.Engine.{WriteExcused, LogExcused}
+use Rattle.rusty_leveldb.specs.Calls.{FailsFor}
 use Rattle.rusty_leveldb.specs.Recovery.{IsErrorFor}
 use Rattle.rusty_leveldb.proofs.OneLog.Appending.{batch_some}
-use Rattle.rusty_leveldb.proofs.Writes.Batches.{not_long}
 use Rattle.rusty_leveldb.proofs.Writes.Append.{IsNext}
 use Rattle.rusty_leveldb.proofs.Writes.Found.{memory_found, found_cause}
 use Rattle.leveldb_env.specs.Options.{Boxed}
@@ -26,56 +29,52 @@ none_before (Some file) bytes gone = cc
 
 -- a write for which no memory was taken
 pub prepare_excused : {E C FP F : Type 0} {B : Boxed} (env : Ghosts E F) (engine : EngineOf E C FP F B) (from : E) (items : List Item) (e : Status)
-    → FailsToPrepare engine.recent.kept (length items) (bytes_in items) e → WriteExcused env engine from from items e
-prepare_excused env engine from items e (inl full) = inr (inr (inr (inl (full.0, inr (full.1, refl)))))
+    → FailsToPrepare engine.recent.kept (length items) (bytes_in items) e → WriteExcused env engine from items e
+prepare_excused env engine from items e (inl full) = inr (inr (inr (inl (full.0, inr full.1))))
 prepare_excused env engine from items e (inr memory) = inr (inr (inr (inr (inl memory))))
+
+-- a write whose batch of one change wasn't made
+pub unmade_excused : {E C FP F : Type 0} {B : Boxed} (env : Ghosts E F) (engine : EngineOf E C FP F B) (from : E) (items : List Item) (e : Status) (batch : Batch) (item : Item)
+    → batch ≡ batch_of 0 [] → items ≡ item ∷ [] → (e.code ≡ InvalidArgument) ⊎ IsOutOfMemory e → (e.code ≡ InvalidArgument → IsTooLong (with_item batch item))
+    → WriteExcused env engine from items e
+unmade_excused env engine from items e batch item is one why long = ⊎_elim
+    (λ code. inr (inr (inl (code, rw one (let past : IsTooLong (with_item (batch_of 0 []) item) = subst (λ (b : Batch). IsTooLong (with_item b item)) is (long code) in past)))))
+    (λ memory. inr (inr (inr (inr (inl memory))))) why
 
 module _ {E C FP F : Type 0} {B : Boxed} (env : Ghosts E F) (engine : EngineOf E C FP F B) (from : E) (open_now : engine.mode ≡ Open) (sound : engine.writer.broken ≡ false) (items : List Item) (bytes : List ℕ)
     (next : IsNext engine.recent.last items bytes) where
-  -- the log's own excuses are the only ones that are left
-  to_write : (to : E) (e : Status) → LogExcused env engine from to e → WriteExcused env engine from to items e
-  to_write to e gone = inr (inr (inr (inr gone)))
-
-  -- or nothing was counted, and the entries are too many in memory
-  to_log : (to : E) (e : Status) → WriteExcused env engine from to items e → LogExcused env engine from to e ⊎ (env.failures to ≡ env.failures from)
-  to_log to e (inl out) = absurd (let never : Open ≡ Closed = sym open_now ∙ out.0 in cc)
-  to_log to e (inr (inl down)) = ⊎_elim
-      (λ broke. absurd (let never : Open ≡ Broken = sym open_now ∙ broke in cc))
-      (λ broke. absurd (let never : false ≡ true = sym sound ∙ broke in cc)) down.0
-  to_log to e (inr (inr (inl long))) = absurd (not_long bytes (engine.recent.last + 1) items next.is_batch long.1)
-  to_log to e (inr (inr (inr (inl past)))) = ⊎_elim
-      (λ used. absurd (let first = next.first_fits in let all = next.all_fit in omega (arith, first, all, used)))
-      (λ full. inr full.1) past.1
-  to_log to e (inr (inr (inr (inr gone)))) = inl gone
+  -- the log's own excuses are a write's
+  to_write : (to : E) (e : Status) → LogExcused env engine from to e → WriteExcused env engine from items e
+  to_write to e (inl memory) = inr (inr (inr (inr (inl memory))))
+  to_write to e (inr lost) = inr (inr (inr (inr (inr (lost.0, lost.1, lost.2)))))
 
   write_cause : (to : E) (status : Status) → HasCause {T = Unit {0}} (LogExcused env engine from to) (env.failures from) (env.failures to) (Err status)
-      → HasCause {T = Unit {0}} (WriteExcused env engine from to items) (env.failures from) (env.failures to) (Err status)
+      → FailsFor {T = Unit {0}} (WriteExcused env engine from items) (env.failures from) (env.failures to) (Err status)
   write_cause to status cause = record {
     later = cause.later;
-    ok = tt;
-    uncounted = λ excused. ⊎_elim (λ gone. cause.uncounted gone) (λ same. same) (to_log to status excused);
-    cause = ⊎_elim (λ gone. inl (to_write to status gone)) (λ counted. inr counted) cause.cause;
+    cause = ⊎_elim (λ gone. inl (to_write to status gone))
+        (λ counted. inr (⊎_elim (λ (one : env.failures to ≡ env.failures from + 1). inl (omega (arith, one))) (λ full. inr full.0) counted)) cause.cause;
   }
 
   -- a refused append
   pub append_cause : (e : Status) (writer : writing.WriterState) (log : F) (to : E)
       → (raw : Status) × IsErrorFor raw e × FailsToAdd (Appends env) engine.writer (opened from engine.log) bytes raw writer (opened to log)
-      → HasCause {T = Unit {0}} (WriteExcused env engine from to items) (env.failures from) (env.failures to) (Err e)
+      → FailsFor {T = Unit {0}} (WriteExcused env engine from items) (env.failures from) (env.failures to) (Err e)
   append_cause e writer log to refusal = ⊎_elim
       (λ kept.
       let same : env.failures to ≡ env.failures from = ap (λ o. env.failures o.env) kept.1.same_sink in
-      record { later = omega (arith, same); ok = tt; uncounted = λ excused. same; cause = inl (to_write to e (inl (memory_found refusal.0 e refusal.1 kept.0))) })
+      record { later = omega (arith, same); cause = inl (to_write to e (inl (memory_found refusal.0 e refusal.1 kept.0))) })
       (λ put. write_cause to e (found_cause refusal.0 e refusal.1 env.models_disk (env.name_of engine.log) (env.observed from) (env.failures from) (env.failures to) put.0.cause)) refusal.2.why
 
-  -- where the device refused it, the writer is broken
-  pub append_breaks : (e : Status) (writer : writing.WriterState) (log : F) (to : E)
+  -- time goes on in it
+  pub append_failed_time : (e : Status) (writer : writing.WriterState) (log : F) (to : E)
       → (raw : Status) × IsErrorFor raw e × FailsToAdd (Appends env) engine.writer (opened from engine.log) bytes raw writer (opened to log)
-      → env.failures from < env.failures to → IsTrue writer.broken
-  append_breaks e writer log to refusal more = ⊎_elim
+      → (env.observed from).moment ≤ (env.observed to).moment
+  append_failed_time e writer log to refusal = ⊎_elim
       (λ kept.
-      let same : env.failures to ≡ env.failures from = ap (λ o. env.failures o.env) kept.1.same_sink in
-      absurd (omega (arith, same, more)))
-      (λ put. ap (λ w. w.broken) put.1) refusal.2.why
+      let same : (env.observed to).moment ≡ (env.observed from).moment = ap (λ o. (env.observed o.env).moment) kept.1.same_sink in
+      omega (arith, same))
+      (λ put. put.0.does.time.later) refusal.2.why
 
   -- ---- behind an append that was done
 
@@ -115,7 +114,7 @@ module _ {E C FP F : Type 0} {B : Boxed} (env : Ghosts E F) (engine : EngineOf E
 
     -- a refused sync
     pub sync_cause : (e : Status) (after : writing.WriterState) (log_after : F) (to : E) → (raw : Status) × IsErrorFor raw e × Flushes (Syncs env) writer (opened mid log) (Err raw) after (opened to log_after)
-        → HasCause {T = Unit {0}} (WriteExcused env engine from to items) (env.failures from) (env.failures to) (Err e)
+        → FailsFor {T = Unit {0}} (WriteExcused env engine from items) (env.failures from) (env.failures to) (Err e)
     sync_cause e after log_after to refusal = write_cause to e
         (found_cause refusal.0 e refusal.1 env.models_disk (env.name_of engine.log) (env.observed from) (env.failures from) (env.failures to)
         (cause_after append_counted (cause_same (Err refusal.0) gone_before gone_still refusal.2.flushed.cause)))
@@ -125,5 +124,5 @@ module _ {E C FP F : Type 0} {B : Boxed} (env : Ghosts E F) (engine : EngineOf E
     sync_counted then log_then to flushed = flushed.flushed.cause.ok ∙ append_counted
 
   -- a write that was done
-  pub done_cause : (to : E) → env.failures to ≡ env.failures from → HasCause {T = Unit {0}} (WriteExcused env engine from to items) (env.failures from) (env.failures to) (Ok tt)
-  done_cause to counted = record { later = omega (arith, counted); ok = counted; uncounted = tt; cause = tt }
+  pub done_cause : (to : E) → env.failures to ≡ env.failures from → FailsFor {T = Unit {0}} (WriteExcused env engine from items) (env.failures from) (env.failures to) (Ok tt)
+  done_cause to counted = record { later = omega (arith, counted); cause = tt }

@@ -25,7 +25,7 @@ use Rattle.rusty_leveldb.proofs.FrameBytes.{frame_bytes}
 use Rattle.rusty_leveldb.proofs.Histories.{entries_more, placed_above, up_to_greatest, up_to, greatest_append}
 use Rattle.rusty_leveldb.proofs.OneLog.Appending.{bytes_append, batch_some}
 use Rattle.rusty_leveldb.proofs.OneLog.Writing.{appended_holds, synced_holds}
-use Rattle.rusty_leveldb.proofs.Others.{beside_but, others_but_log}
+use Rattle.rusty_leveldb.proofs.Others.{spares_but_log}
 use Rattle.rusty_leveldb.proofs.Writes.Stands.{IsOpen}
 use Rattle.rusty_leveldb.proofs.Writes.Moments.{risk_behind, append_moments, synced_moments, done_moments}
 use Rattle.rusty_leveldb.proofs.Writes.Batches.{placed_last, not_long, same_set, same_by}
@@ -155,9 +155,8 @@ module _ {E C FP F : Type 0} {B : Boxed} (env : Ghosts E F) (store : List ℕ) (
       step = subst (λ m. Step m (faults_between (env.failures from) (env.failures to)) old (write items sync) done new) (sym was.mode)
           (record { operands = not_long bytes (old.last + 1) items next.is_batch; numbers = not_used_up }, record { state = refl; durable = wrote.covers; synced = wrote.synced_is });
       moments = done_moments env store engine from old was items bytes next wrote.moments;
-      files = record { untouched = λ never. absurd never; refused = λ logging is_refused. absurd is_refused; stopped = λ not_open takes. absurd (not_open was.mode); bytes = λ never. absurd never };
-      others = others_but_log store (env.observed from).disk (env.observed to).disk wrote.but added.locks;
-      beside = λ opens_not. beside_but store (env.observed from).disk.files (env.observed to).disk.files wrote.but;
+      spares = spares_but_log store (env.observed from).disk (env.observed to).disk old.mode (write items sync) was.mode tt wrote.but added.locks;
+      bytes = λ never. absurd never;
     }
 
   -- ---- the log's file

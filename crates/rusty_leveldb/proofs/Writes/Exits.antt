@@ -31,7 +31,7 @@ use Rattle.rusty_leveldb.specs.Boxes.{EngineOf}
 pub begun_with : {M : Type 0} (store : List ℕ) (Recalls : M → _ → State → Type 0) (one other : Option M) (told : _) (failures : ℕ) (request : Request) (answer : Answer) (to : _) (old : State)
     → Goes store Recalls (record { memory = one; observed = told; failures = failures }) request answer to old
     → Goes store Recalls (record { memory = other; observed = told; failures = failures }) request answer to old
-begun_with store Recalls one other told failures request answer to old goes = record { new = goes.new; represents = goes.represents; later = goes.later; step = goes.step; moments = goes.moments; files = goes.files; others = goes.others; beside = goes.beside }
+begun_with store Recalls one other told failures request answer to old goes = record { new = goes.new; represents = goes.represents; later = goes.later; step = goes.step; moments = goes.moments; spares = goes.spares; bytes = goes.bytes }
 
 module _ {E C FP F : Type 0} {B : Boxed} (env : Ghosts E F) (modelled : IsTrue env.models_disk) (store : List ℕ) (engine : EngineOf E C FP F B) (from : E) (old : State) (stood : Was env store engine from old) (open_now : engine.mode ≡ Open)
     (items : List Item) (bytes : List ℕ) (ready : IsNext engine.recent.last items bytes) where

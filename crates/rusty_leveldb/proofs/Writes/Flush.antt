@@ -14,14 +14,14 @@ use Rattle.rusty_leveldb.specs.declared.db_impl.engine.Mode.TheVariants.{Open, B
 use Rattle.leveldb_version.specs.Paths.{lock_path}
 use Rattle.rusty_leveldb.specs.OneLog.{log_path, IsOneLog}
 use Rattle.leveldb_version.specs.Holds.{Holds}
-use Rattle.rusty_leveldb.specs.State.{State, SuitsMode, open_mode, broken, flush, Answer, done, refused}
+use Rattle.rusty_leveldb.specs.State.{State, SuitsMode, flush, Answer, done, refused}
 use Rattle.rusty_leveldb.specs.Causes.{Faults, out_of_memory, device_failed}
 use Rattle.rusty_leveldb.specs.Machine.{Breaks, Step, Responds}
 use Rattle.rusty_leveldb.specs.Serves.{StandsFor, IsSpared, Goes, faults_between, refusal_of, done_or}
 use Rattle.rusty_leveldb.specs.Engine.{scene, Recalls, mode_of, SyncExcused, CloseExcused}
 use Rattle.rusty_leveldb.specs.Recovery.{IsErrorFor}
 use Rattle.rusty_leveldb.proofs.OneLog.Writing.{synced_holds}
-use Rattle.rusty_leveldb.proofs.Others.{beside_but, but_same, others_but_log, bytes_same, bytes_synced}
+use Rattle.rusty_leveldb.proofs.Others.{but_same, spares_but_log, bytes_same, bytes_synced}
 use Rattle.rusty_leveldb.proofs.Writes.Found.{found_cause, fails_found}
 use Rattle.rusty_leveldb.proofs.Writes.Moments.{risk_at, sync_moments, with_none}
 use Rattle.rusty_leveldb.proofs.Writes.Stands.{Fails, fails, Was, IsOpen, is_open, IsStill, remembers_still, broken_with, Broke, broken_is}
@@ -51,14 +51,8 @@ module _ {E C FP F : Type 0} {B : Boxed} (env : Ghosts E F) (store : List ℕ) (
     later = later;
     step = subst (λ m. Step m faults old flush (refused (refusal_of status)) new) (sym was.mode) (refuses status why);
     moments = moments;
-    files = record {
-      untouched = λ never. absurd never;
-      refused = λ logging is_refused opened. absurd (let never : broken ≡ open_mode = opened in cc);
-      stopped = λ not_open takes. absurd (not_open was.mode);
-      bytes = λ syncing. bytes_same (env.observed from).disk.files (env.observed to).disk.files same;
-    };
-    others = others_but_log store (env.observed from).disk (env.observed to).disk broke.but broke.locks;
-    beside = λ opens_not. beside_but store (env.observed from).disk.files (env.observed to).disk.files broke.but;
+    spares = spares_but_log store (env.observed from).disk (env.observed to).disk old.mode flush was.mode tt broke.but broke.locks;
+    bytes = λ syncing. bytes_same (env.observed from).disk.files (env.observed to).disk.files same;
   }
     where
       new : State
@@ -73,9 +67,8 @@ module _ {E C FP F : Type 0} {B : Boxed} (env : Ghosts E F) (store : List ℕ) (
     later = omega (arith, counted);
     step = subst (λ m. Step m faults old flush done new) (sym was.mode) (record { operands = λ no. no; numbers = λ no. no }, record { state = refl });
     moments = with_none env store engine from old was to moments;
-    files = record { untouched = λ never. absurd never; refused = λ logging is_refused. absurd is_refused; stopped = λ not_open takes. absurd (not_open was.mode); bytes = λ syncing. bytes_synced (log_path store) (env.observed from).disk.files (env.observed to).disk.files files };
-    others = others_but_log store (env.observed from).disk (env.observed to).disk (SameBut-synced (log_path store) (env.observed from).disk.files (env.observed to).disk.files (inr files)) locks;
-    beside = λ opens_not. beside_but store (env.observed from).disk.files (env.observed to).disk.files (SameBut-synced (log_path store) (env.observed from).disk.files (env.observed to).disk.files (inr files));
+    spares = spares_but_log store (env.observed from).disk (env.observed to).disk old.mode flush was.mode tt (SameBut-synced (log_path store) (env.observed from).disk.files (env.observed to).disk.files (inr files)) locks;
+    bytes = λ syncing. bytes_synced (log_path store) (env.observed from).disk.files (env.observed to).disk.files files;
   }
     where
       new : State
@@ -194,6 +187,13 @@ module _ {E C FP F : Type 0} {B : Boxed} (env : Ghosts E F) (engine after : Engi
         uncounted = λ excused. excused.1;
         cause = ⊎_elim (λ excused. inl (excused, cause.uncounted excused)) (λ counted. inr counted) cause.cause;
       }
+
+  -- time goes on
+  pub flush_time : (result : Result (Unit {0}) Status) → OnOk result (Flushes (Syncs env) engine.writer (opened from engine.log) (Ok tt) after.writer (opened to after.log))
+      → IfErr result (λ status. (raw : Status) × IsErrorFor raw status × Flushes (Syncs env) engine.writer (opened from engine.log) (Err raw) after.writer (opened to after.log))
+      → (env.observed from).moment ≤ (env.observed to).moment
+  flush_time (Ok unit) synced_now unsynced = synced_now.flushed.does.time.later
+  flush_time (Err status) synced_now unsynced = unsynced.2.flushed.does.time.later
 
   -- a writer that isn't broken leaves the mode
   pub sync_stays : (result : Result (Unit {0}) Status) → OnOk result (after.mode ≡ engine.mode)

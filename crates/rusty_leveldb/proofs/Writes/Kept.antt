@@ -16,7 +16,8 @@ use Rattle.rusty_leveldb.specs.Causes.{AreUsedUp, Faults, Cause, out_of_memory, 
 use Rattle.rusty_leveldb.specs.Machine.{Step, Responds}
 use Rattle.rusty_leveldb.specs.Serves.{Goes, faults_between, refusal_of}
 use Rattle.rusty_leveldb.specs.Engine.{scene, Recalls}
-use Rattle.rusty_leveldb.proofs.Others.{others_still, spared_still}
+use Rattle.rusty_leveldb.specs.Frame.{MayTouch}
+use Rattle.rusty_leveldb.proofs.Others.{spares_still}
 use Rattle.rusty_leveldb.proofs.Writes.Moments.{moments_none}
 use Rattle.rusty_leveldb.proofs.Writes.Stands.{Was, is_open, remembers_still}
 use Rattle.leveldb_env.specs.Options.{Boxed}
@@ -50,9 +51,8 @@ module _ {E C FP F : Type 0} {B : Boxed} (env : Ghosts E F) (store : List ℕ) (
       later = omega arith;
       step = subst (λ m. Step m faults old (write items sync) (refused (refusal_of status)) old) (sym (is_open env store engine from old open_now was).mode) responds;
       moments = moments_none store (write items sync) old (env.observed from) was.disk_is;
-      files = spared_still (write items sync) (refused (refusal_of status)) old old (env.observed from).disk.files;
-      others = others_still store (env.observed from).disk;
-      beside = λ opens_not path differs. refl;
+      spares = spares_still store (MayTouch store old.mode (write items sync)) (env.observed from).disk;
+      bytes = λ never. absurd never;
     }
       where
         responds : Responds faults old (write items sync) (refused (refusal_of status)) old

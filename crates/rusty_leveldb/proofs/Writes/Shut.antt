@@ -14,7 +14,8 @@ use Rattle.rusty_leveldb.specs.Causes.{Faults, IsClosedRefusal, IsBrokenRefusal}
 use Rattle.rusty_leveldb.specs.Machine.{Step}
 use Rattle.rusty_leveldb.specs.Serves.{Goes, faults_between, refusal_of}
 use Rattle.rusty_leveldb.specs.Engine.{scene, Recalls, IsClosed, IsClosedOrBroken, RefusedAsClosed, RefusedAsBroken, mode_of}
-use Rattle.rusty_leveldb.proofs.Others.{others_still, spared_still}
+use Rattle.rusty_leveldb.proofs.Others.{spares_still}
+use Rattle.rusty_leveldb.specs.Frame.{MayTouch}
 use Rattle.rusty_leveldb.proofs.Writes.Moments.{moments_none}
 use Rattle.rusty_leveldb.proofs.Writes.Stands.{Was, is_open}
 use Rattle.leveldb_env.specs.Options.{Boxed}
@@ -69,9 +70,8 @@ module _ {E C FP F : Type 0} {B : Boxed} (env : Ghosts E F) (store : List ℕ) (
     later = omega arith;
     step = step;
     moments = moments_none store request old (env.observed at) was.disk_is;
-    files = spared_still request (refused (refusal_of status)) old old (env.observed at).disk.files;
-    others = others_still store (env.observed at).disk;
-    beside = λ opens_not path differs. refl;
+    spares = spares_still store (MayTouch store old.mode request) (env.observed at).disk;
+    bytes = λ syncing path. refl;
   }
 
   -- the store is closed

@@ -1,6 +1,6 @@
 -- A write is a step of the machine, at each of its exits, from the engine as it was before the preparation.
 use Rattle.std.proofs.Common.{◌≡◌, ◌⊎◌, inl, inr, ◌≤◌, ◌+◌, ◌++◌, ◌∷◌, [], ℕ, List, length, refl, sym, ◌∙◌, ap, subst, arith, Some, Ok, Err, Bool, IsTrue, true, false}
-use Rattle.std.specs.Prelude.{if◌then◌else◌}
+use Rattle.std.specs.Prelude.{if◌then◌else◌, Result, OnErr}
 use Rattle.leveldb_base.specs.declared.error.Status.{Status}
 use Rattle.leveldb_base.specs.History.{Item, AreUpTo}
 use Rattle.leveldb_env.specs.declared.env.Env.{Ghosts}
@@ -8,14 +8,14 @@ use Rattle.leveldb_env.specs.Env.{AreBytes}
 use Rattle.leveldb_env.specs.EnvFile.{opened, Appends, Syncs}
 use Rattle.leveldb_mem.specs.WriteBatch.{Batch, BatchOf, batch_of, with_item}
 use Rattle.leveldb_mem.specs.MemTable.{HasRoom}
-use Rattle.leveldb_mem.specs.Log.Writer.{WriterState, broken_writer, AddsRecord, FailsToAdd, Flushes}
+use Rattle.leveldb_mem.specs.Log.Writer.{WriterState, AddsRecord, FailsToAdd, Flushes}
 use Rattle.rusty_leveldb.specs.declared.db_impl.engine.Mode.{Mode}
 use Rattle.rusty_leveldb.specs.declared.db_impl.engine.Mode.TheVariants.{Open, Broken}
 use Rattle.rusty_leveldb.specs.OneLog.{max_sequence}
 use Rattle.rusty_leveldb.specs.Recent.{Numbered, Follows, Inserts}
 use Rattle.rusty_leveldb.specs.State.{State, open_mode, closed, write, Answer, done, refused}
 use Rattle.rusty_leveldb.specs.Serves.{Goes, refusal_of}
-use Rattle.rusty_leveldb.specs.Engine.{scene, Recalls, mode_of}
+use Rattle.rusty_leveldb.specs.Engine.{scene, Recalls, mode_of, HasBroken, IsClosedOrBroken}
 use Rattle.rusty_leveldb.specs.Recovery.{IsErrorFor}
 use Rattle.rusty_leveldb.proofs.Histories.{placed_greatest}
 use Rattle.rusty_leveldb.proofs.Writes.Stands.{Was}
@@ -159,7 +159,7 @@ options_synced engine recent middle after self rest rest_after self_is = ap (λ 
 
 -- ---- a writer that isn't broken leaves the mode
 
-stays_if : (broken : Bool) (now old : Mode) → now ≡ (if broken then Broken else old) → IsTrue broken ⊎ (now ≡ old)
+pub stays_if : (broken : Bool) (now old : Mode) → now ≡ (if broken then Broken else old) → IsTrue broken ⊎ (now ≡ old)
 stays_if true now old is = inl refl
 stays_if false now old is = inr is
 
@@ -172,6 +172,12 @@ pub stays_synced : {E C FP F : Type 0} {B : Boxed} (old : Mode) (middle after se
 stays_synced old middle after self mode writer same self_is =
     stays_plain old after self (same ∙ mode ∙ ap (λ (w : WriterState). if w.broken then Broken else old) (sym writer)) self_is
 
--- a writer that broke tells so
-pub stays_refused : (old after : WriterState) (before now : Mode) → after ≡ broken_writer old → IsTrue after.broken ⊎ (now ≡ before)
-stays_refused old after before now broke = inl (ap (λ (w : WriterState). w.broken) broke)
+-- an engine whose writer broke has broken
+pub has_broken : (writer : WriterState) (now old : Mode) → IsTrue writer.broken ⊎ (now ≡ old) → HasBroken now writer ⊎ (now ≡ old)
+has_broken writer now old (inl broke) = inl (inr broke)
+has_broken writer now old (inr same) = inr same
+
+-- a sync that failed broke the engine
+pub broken_by : (writer : WriterState) (now : Mode) (result : Result (Unit {0}) Status) → OnErr result (now ≡ Broken) → OnErr result (IsClosedOrBroken now writer)
+broken_by writer now (Ok value) broke = tt
+broken_by writer now (Err status) broke = inr (inl broke)

@@ -20,13 +20,15 @@ use std::alloc::Global;
 pub enum Mode {
     /// It may be read and written to.
     Open,
-    /// An append to its log, a sync of it, or giving back its lock failed: it may be read and abandoned, and every call that writes is refused.
+    /// An append to its log, a sync of it, or giving back its lock failed: it may be read and
+    /// abandoned, and every call that writes is refused.
     Broken,
     /// It is to be opened again.
     Closed,
 }
 
-/// A store that was opened, without its environment. Its lock stays held until `close` or `abandon` gives it back.
+/// A store that was opened, without its environment. Its lock stays held until `close` or `abandon`
+/// gives it back.
 #[derive(Drop)]
 pub struct Engine<E: Env, C: Cmp, FP> {
     pub(crate) alloc: Global,
@@ -54,7 +56,8 @@ pub(crate) fn check_not_closed(alloc: Global, mode: Mode) -> Result<()>
 /// A store that broke refuses every call that writes.
 pub(crate) fn check_open(alloc: Global, mode: Mode, writer: &WriterCore) -> Result<()>
     ensures ok { OnOk result ((mode ≡ Mode.Open) × (writer.now.broken ≡ false)) }
-    ensures cause { IfErr result (λ status. RefusedAsClosed mode status ⊎ RefusedAsBroken mode writer.now status) }
+    ensures cause { IfErr result
+        (λ status. RefusedAsClosed mode status ⊎ RefusedAsBroken mode writer.now status) }
     ensures stuck { IfErr result (λ status. status.code ≡ StatusCode.IOError → IsClosed mode → ⊥) }
 {
     check_not_closed(alloc, mode)?;
@@ -67,10 +70,14 @@ pub(crate) fn check_open(alloc: Global, mode: Mode, writer: &WriterCore) -> Resu
 impl<E: Env, C: UserCmp + Copy, FP: FilterPolicy + Copy> Engine<E, C, FP> {
     /// Whether it may be written to; if not, this is refused as every write is.
     pub fn check_writable(&self) -> Result<()>
-        ensures ok { OnOk result ((store : List ℕ) (disk : Disk) (state : State) → Recalls E.Env store self.now disk state → state.mode ≡ open_mode) }
+        ensures ok { OnOk result
+            ((store : List ℕ) (disk : Disk) (state : State)
+            → Recalls E.Env store self.now disk state → state.mode ≡ open_mode) }
         ensures step { IfErr result (λ status. (items : List Item) (sync : Bool)
             → AnswersStill E.Env self.now (write items sync) (refused (refusal_of status))) }
-        ensures cause { IfErr result (λ status. RefusedAsClosed self.now.mode status ⊎ RefusedAsBroken self.now.mode self.now.writer status) }
+        ensures cause { IfErr result
+            (λ status. RefusedAsClosed self.now.mode status
+            ⊎ RefusedAsBroken self.now.mode self.now.writer status) }
     {
         check_open(self.alloc, self.mode, &self.writer)
     }

@@ -1,15 +1,14 @@
 //! Opening a store: its lock is taken, its log is read, and replaced where it ends badly.
 ghost use Rattle.std.specs.Prelude.{◌≡◌, ◌⊎◌, if◌then◌else◌, length, map, Some, None, IsTrue, IfOk, IfErr, OnOk, false};
-ghost use Rattle.leveldb_env.specs.Env.{bytes_of, HasCause, SameLocks, FilesUnchanged, SameBut, Run};
+ghost use Rattle.leveldb_env.specs.Env.{bytes_of, SameLocks, FilesUnchanged, SameBut, Run};
 ghost use Rattle.leveldb_base.specs.Error.{IsOutOfMemory};
 ghost use Rattle.leveldb_mem.specs.Log.{clean, bad};
 ghost use Rattle.leveldb_mem.specs.Log.Files.{IsHuge};
 ghost use Rattle.rusty_leveldb.specs.OneLog.{log_path};
 ghost use Rattle.rusty_leveldb.specs.Replay.{IsLargeLog};
-ghost use Rattle.rusty_leveldb.specs.State.{Opening, open_store};
-ghost use Rattle.rusty_leveldb.specs.Serves.{done_or, given_engine};
-ghost use Rattle.rusty_leveldb.specs.Engine.{IsStoreName, IsOpening, TimeGoesOn, AnswersAs, OpenExcused, opening_of};
-ghost use Rattle.rusty_leveldb.specs.Recovery.{IsFoundAs, framed_file, kept_log, IsMadeKept, SparesLog, IsUnusable, NeverOpens, ChangesLogAlone, StaysUnopened, IsRecovered, HasCauses, IsFoundOr, IsUntold, IsNotMade, IsNoLog};
+ghost use Rattle.rusty_leveldb.specs.Engine.{opening_of};
+ghost use Rattle.rusty_leveldb.specs.Calls.{EngineOpens};
+ghost use Rattle.rusty_leveldb.specs.Recovery.{IsFoundAs, framed_file, kept_log, IsMadeKept, SparesLog, IsUnusable, ChangesLogAlone, IsRecovered, HasCauses, IsFoundOr, IsUntold, IsNotMade, IsNoLog};
 
 use super::close::give_back;
 use super::engine::{Engine, Mode};
@@ -28,27 +27,18 @@ use std::alloc::Global;
 
 impl<E: Env, C: UserCmp + Copy, FP: FilterPolicy + Copy> Engine<E, C, FP> {
     /// Opens the store under this name, which isn't empty and doesn't end in a slash.
-    /// A missing store is made, or `InvalidArgument` if the options say so; a locked one is `LockError`.
-    /// An opening that fails gives back the lock that it took, unless the device failed once more. A store
-    /// that is damaged or locked, or is missing and isn't to be made, is never opened; its files stay as
-    /// they are, but that its lock's file may be made.
+    /// A missing store is made, or `InvalidArgument` if the options say so; a locked one is
+    /// `LockError`. An opening that fails gives back the lock that it took, unless the device
+    /// failed once more. A store that is damaged or locked, or is missing and isn't to be made, is
+    /// never opened; its files stay as they are, but that its lock's file may be made.
     pub fn open(
         alloc: Global,
         name: &str,
         env: &mut E,
         options: Options<C, FP>,
     ) -> Result<Engine<E, C, FP>>
-        ensures options { IfOk result (λ engine. engine.options ≡ options) }
-        ensures opened { IfOk result (λ engine. (engine.mode ≡ Mode.Open) × (engine.writer.broken ≡ false)) }
-        ensures step { (opening : Opening) → IsOpening name.now (opening_of C.Cmp FP.FilterPolicy
-            ⟦<CompressorList as Compressors>⟧.codings options) opening
-            → AnswersAs E.Env name.now None env.old (open_store opening) (done_or result) (given_engine result) env.new }
-        ensures time { TimeGoesOn E.Env env.old env.new }
-        ensures misnamed { (IsStoreName name.now → ⊥) → (env.new ≡ env.old) × OnOk result ⊥ }
-        ensures log { OnOk result (IsTrue E.models_disk → SparesLog options.create_if_missing ((E.observed env.old).disk.files (log_path name.now)) ((E.observed env.new).disk.files (log_path name.now))) }
-        ensures never_opens { IsTrue E.models_disk → NeverOpens name.now options.create_if_missing (E.observed env.old).disk → OnOk result ⊥ }
-        ensures unopened { IfErr result (λ status. IsTrue E.models_disk → StaysUnopened name.now options.create_if_missing (E.observed env.old) (E.observed env.new) (E.failures env.old) (E.failures env.new) status) }
-        ensures cause { HasCauses (OpenExcused E.models_disk name.now options.create_if_missing (E.observed env.old)) (E.failures env.old) (E.failures env.new) result }
+        ensures { EngineOpens E.Env name.now options (opening_of C.Cmp FP.FilterPolicy
+            ⟦<CompressorList as Compressors>⟧.codings options) env.old result env.new }
     {
         check_name(alloc, name)?;
         let lock = file_name(alloc, name, "LOCK")?;
@@ -81,13 +71,24 @@ fn recover<E: Env, C: UserCmp + Copy>(
     create_if_missing: bool,
 ) -> Result<(E::File, WriterCore, Recent<C>)>
     ensures locks { SameLocks E.models_disk (E.observed env.old) (E.observed env.new) }
-    ensures spares { IsTrue E.models_disk → Run (λ files. SparesLog create_if_missing ((E.observed env.old).disk.files (log_path name.now)) (files (log_path name.now))) (E.observed env.old) (E.observed env.new) }
-    ensures rest { IsTrue E.models_disk → ChangesLogAlone name.now (E.observed env.old).disk.files (E.observed env.new).disk.files }
-    ensures unusable { IsTrue E.models_disk → IsUnusable create_if_missing ((E.observed env.old).disk.files (log_path name.now)) → (E.observed env.new).disk.files ≡ (E.observed env.old).disk.files }
-    ensures ok { IfOk result (λ got. IsTrue E.models_disk → IsRecovered create_if_missing ((E.observed env.old).disk.files (log_path name.now)) ((E.observed env.new).disk.files (log_path name.now)) got.1 got.2) }
-    ensures log { IfOk result (λ got. IsTrue E.models_disk → E.name_of got.0 ≡ log_path name.now) }
-    ensures sound { IfOk result (λ got. got.1.broken ≡ false) }
-    ensures cause { HasCauses (λ e. IsOutOfMemory e ⊎ IsNotMade E.models_disk create_if_missing ((E.observed env.old).disk.files (log_path name.now)) e ⊎ IsNoLog E.models_disk ((E.observed env.old).disk.files (log_path name.now)) e
+    ensures spares { IsTrue E.models_disk
+        → Run (λ files. SparesLog create_if_missing
+        ((E.observed env.old).disk.files (log_path name.now)) (files (log_path name.now)))
+        (E.observed env.old) (E.observed env.new) }
+    ensures rest { IsTrue E.models_disk
+        → ChangesLogAlone name.now (E.observed env.old).disk.files (E.observed env.new).disk.files }
+    ensures unusable { IsTrue E.models_disk
+        → IsUnusable create_if_missing ((E.observed env.old).disk.files (log_path name.now))
+        → (E.observed env.new).disk.files ≡ (E.observed env.old).disk.files }
+    ensures ok { IfOk result (λ got. (got.1.broken ≡ false) × (IsTrue E.models_disk
+        → IsRecovered create_if_missing ((E.observed env.old).disk.files (log_path name.now))
+        ((E.observed env.new).disk.files (log_path name.now)) got.1 got.2
+        × (E.name_of got.0 ≡ log_path name.now))) }
+    ensures cause { HasCauses
+        (λ e. IsOutOfMemory e
+        ⊎ IsNotMade E.models_disk create_if_missing
+        ((E.observed env.old).disk.files (log_path name.now)) e
+        ⊎ IsNoLog E.models_disk ((E.observed env.old).disk.files (log_path name.now)) e
         ⊎ IsLargeLog E.models_disk ((E.observed env.old).disk.files (log_path name.now)) e)
         (E.failures env.old) (E.failures env.new) result }
 {
@@ -101,18 +102,25 @@ fn recover<E: Env, C: UserCmp + Copy>(
     Ok((log, WriterCore::new_with_off(alloc, size), recent))
 }
 
-// The records of the log, and whether it ends cleanly. A missing log has none, where it may be made.
+// The records of the log, and whether it ends cleanly. A missing log has none, where it may be
+// made.
 fn read_log<E: Env>(
     alloc: Global,
     env: &mut E,
     log_name: &str,
     create_if_missing: bool,
 ) -> Result<(Vec<Vec<u8>>, bool)>
-    ensures still { IsTrue E.models_disk → Run (FilesUnchanged (E.observed env.old).disk.files) (E.observed env.old) (E.observed env.new) }
+    ensures still { IsTrue E.models_disk
+        → Run (FilesUnchanged (E.observed env.old).disk.files) (E.observed env.old)
+        (E.observed env.new) }
     ensures locks { SameLocks E.models_disk (E.observed env.old) (E.observed env.new) }
-    ensures log { IfOk result (λ found. IsTrue E.models_disk → IsFoundAs create_if_missing ((E.observed env.old).disk.files log_name.now)
+    ensures log { IfOk result
+        (λ found. IsTrue E.models_disk
+        → IsFoundAs create_if_missing ((E.observed env.old).disk.files log_name.now)
         (map (λ v. v.items) found.0.items) (if found.1 then clean else bad)) }
-    ensures cause { HasCauses (λ e. IsUntold E.models_disk e ⊎ IsNotMade E.models_disk create_if_missing ((E.observed env.old).disk.files log_name.now) e
+    ensures cause { HasCauses
+        (λ e. IsUntold E.models_disk e
+        ⊎ IsNotMade E.models_disk create_if_missing ((E.observed env.old).disk.files log_name.now) e
         ⊎ IsHuge E.models_disk ((E.observed env.old).disk.files log_name.now) e)
         (E.failures env.old) (E.failures env.new) result }
 {
@@ -137,12 +145,18 @@ fn mend<E: Env>(
 ) -> Result<()>
     requires { log_name.now ≡ log_path name.now }
     ensures locks { SameLocks E.models_disk (E.observed env.old) (E.observed env.new) }
-    ensures rest { IsTrue E.models_disk → ChangesLogAlone name.now (E.observed env.old).disk.files (E.observed env.new).disk.files }
-    ensures either { IsTrue E.models_disk → Run (λ files. (files log_name.now ≡ (E.observed env.old).disk.files log_name.now)
-        ⊎ ((is_clean ≡ false) × (files log_name.now ≡ Some (framed_file (map (λ v. v.items) records.now))))) (E.observed env.old) (E.observed env.new) }
+    ensures rest { IsTrue E.models_disk
+        → ChangesLogAlone name.now (E.observed env.old).disk.files (E.observed env.new).disk.files }
+    ensures either { IsTrue E.models_disk
+        → Run (λ files. (files log_name.now ≡ (E.observed env.old).disk.files log_name.now)
+        ⊎ ((is_clean ≡ false)
+        × (files log_name.now ≡ Some (framed_file (map (λ v. v.items) records.now)))))
+        (E.observed env.old) (E.observed env.new) }
     ensures ok { OnOk result (IsTrue E.models_disk → (E.observed env.new).disk.files log_name.now
-        ≡ (if is_clean then (E.observed env.old).disk.files log_name.now else Some (framed_file (map (λ v. v.items) records.now)))) }
-    ensures cause { HasCauses (IsUntold E.models_disk) (E.failures env.old) (E.failures env.new) result }
+        ≡ (if is_clean then (E.observed env.old).disk.files log_name.now
+        else Some (framed_file (map (λ v. v.items) records.now)))) }
+    ensures cause { HasCauses (IsUntold E.models_disk) (E.failures env.old) (E.failures env.new)
+        result }
 {
     if is_clean {
         return Ok(());
@@ -155,12 +169,19 @@ fn mend<E: Env>(
 // The log, which is made where it is missing, all its bytes kept, and how many it has.
 fn open_log<E: Env>(alloc: Global, env: &mut E, log_name: &str) -> Result<(E::File, usize)>
     ensures locks { SameLocks E.models_disk (E.observed env.old) (E.observed env.new) }
-    ensures either { IsTrue E.models_disk → Run (IsMadeKept log_name.now (E.observed env.old).disk.files) (E.observed env.old) (E.observed env.new) }
-    ensures there { OnOk result (IsTrue E.models_disk → (E.observed env.new).disk.files log_name.now ≡ Some (kept_log ((E.observed env.old).disk.files log_name.now))) }
-    ensures others { IsTrue E.models_disk → SameBut log_name.now (E.observed env.old).disk.files (E.observed env.new).disk.files }
-    ensures name { IfOk result (λ got. IsTrue E.models_disk → E.name_of got.0 ≡ log_name.now) }
-    ensures size { IfOk result (λ got. IsTrue E.models_disk → got.1 ≡ length (bytes_of (kept_log ((E.observed env.old).disk.files log_name.now)))) }
-    ensures cause { HasCauses (IsUntold E.models_disk) (E.failures env.old) (E.failures env.new) result }
+    ensures either { IsTrue E.models_disk
+        → Run (IsMadeKept log_name.now (E.observed env.old).disk.files) (E.observed env.old)
+        (E.observed env.new) }
+    ensures others { IsTrue E.models_disk
+        → SameBut log_name.now (E.observed env.old).disk.files (E.observed env.new).disk.files }
+    ensures there { OnOk result (IsTrue E.models_disk
+        → (E.observed env.new).disk.files log_name.now
+        ≡ Some (kept_log ((E.observed env.old).disk.files log_name.now))) }
+    ensures handle { IfOk result (λ got. IsTrue E.models_disk
+        → (E.name_of got.0 ≡ log_name.now)
+        × (got.1 ≡ length (bytes_of (kept_log ((E.observed env.old).disk.files log_name.now))))) }
+    ensures cause { HasCauses (IsUntold E.models_disk) (E.failures env.old) (E.failures env.new)
+        result }
 {
     let mut log = env.open_appendable_file(log_name)?;
     let synced = env.sync(&mut log);

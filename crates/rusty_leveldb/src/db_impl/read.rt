@@ -1,8 +1,8 @@
 //! Reading from a store.
-ghost use Rattle.std.specs.Prelude.{IfErr, IsErrAnd, None};
+ghost use Rattle.std.specs.Prelude.{None};
 ghost use Rattle.rusty_leveldb.specs.State.{get};
 ghost use Rattle.rusty_leveldb.specs.Serves.{found_or};
-ghost use Rattle.rusty_leveldb.specs.Engine.{IsClosed, RefusedAsClosed, AnswersStill, GetExcused};
+ghost use Rattle.rusty_leveldb.specs.Calls.{EngineServes};
 
 use super::engine::{Engine, check_not_closed};
 use bytes::Bytes;
@@ -15,12 +15,12 @@ use leveldb_env::filter::FilterPolicy;
 const MAX_KEY_SIZE: usize = 1 << 30;
 
 impl<E: Env, C: UserCmp + Copy, FP: FilterPolicy + Copy> Engine<E, C, FP> {
-    /// The key's value, or none where it has none.
-    pub fn get(&self, key: &[u8]) -> Result<Option<Bytes>>
-        ensures step { AnswersStill E.Env self.now (get None key.now) (found_or result) }
-        ensures shut { IsClosed self.now.mode → IsErrAnd result (RefusedAsClosed self.now.mode) }
-        ensures cause { IfErr result (GetExcused self.now.mode key.now) }
+    /// The key's value, or none if it has none.
+    pub fn get(&mut self, env: &mut E, key: &[u8]) -> Result<Option<Bytes>>
+        ensures { EngineServes E.Env found_or self.old env.old (get None key.now) result
+            self.new env.new }
     {
+        let _ = env;
         check_not_closed(self.alloc, self.mode)?;
         if key.len() > MAX_KEY_SIZE {
             return err(

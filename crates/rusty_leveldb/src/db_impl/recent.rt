@@ -33,7 +33,8 @@ impl<C: Cmp> Model for Recent<C> {
 
     ghost view = { λ recent. record { kept = recent.memtable.kept; last = recent.last } };
 
-    ghost invariant = { λ recent. AreUpTo recent.last recent.memtable.kept.entries × (recent.last ≤ max_sequence) };
+    ghost invariant = { λ recent. AreUpTo recent.last recent.memtable.kept.entries
+        × (recent.last ≤ max_sequence) };
 }
 
 impl<C: UserCmp> Recent<C> {
@@ -59,8 +60,11 @@ impl<C: UserCmp> Recent<C> {
     /// The first number of a batch of so many entries behind the last.
     /// `NotSupported` where they don't fit.
     pub fn next(&self, alloc: Global, count: u32) -> Result<SequenceNumber>
-        ensures ok { IfOk result (λ first. (first ≡ self.now.last + 1) × (first ≤ max_sequence) × (self.now.last + count ≤ max_sequence)) }
-        ensures cause { IfErr result (λ status. (status.code ≡ NotSupported) × AreUsedUp self.now.last count) }
+        ensures ok { IfOk result
+            (λ first. (first ≡ self.now.last + 1) × (first ≤ max_sequence)
+            × (self.now.last + count ≤ max_sequence)) }
+        ensures cause { IfErr result
+            (λ status. (status.code ≡ NotSupported) × AreUsedUp self.now.last count) }
         ensures numbered { AreUpTo self.now.last self.now.kept.entries }
     {
         let first = self.last + 1;
@@ -80,8 +84,10 @@ impl<C: UserCmp> Recent<C> {
         ensures entries { self.new.kept.entries ≡ self.old.kept.entries }
         ensures last { self.new.last ≡ self.old.last }
         ensures room { OnOk result (HasRoom self.new.kept batch.now.items) }
-        ensures made { OnOk result (self.new.kept.places ≡ max self.old.kept.places (length batch.now.items)) }
-        ensures cause { IfErr result (FailsToPrepare self.old.kept (length batch.now.items) (bytes_in batch.now.items)) }
+        ensures made { OnOk result
+            (self.new.kept.places ≡ max self.old.kept.places (length batch.now.items)) }
+        ensures cause { IfErr result
+            (FailsToPrepare self.old.kept (length batch.now.items) (bytes_in batch.now.items)) }
     {
         self.memtable.prepare(batch)
     }
@@ -91,7 +97,8 @@ impl<C: UserCmp> Recent<C> {
         requires room { HasRoom self.old.kept batch.now.items }
         requires follows { Follows self.old.last batch.now }
         ensures inserts { Inserts self.old batch.now self.new }
-        ensures adds { AddsAll self.old.kept (placed batch.now.first batch.now.items) self.new.kept }
+        ensures adds { AddsAll self.old.kept (placed batch.now.first batch.now.items)
+            self.new.kept }
     {
         let first = batch.sequence();
         let count = u64::from(batch.count());

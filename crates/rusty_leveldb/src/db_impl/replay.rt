@@ -23,7 +23,8 @@ pub(crate) fn replay<C: UserCmp + Copy>(
     records: &[Vec<u8>],
 ) -> Result<Recent<C>>
     ensures ok { IfOk result (λ recent. IsReplayed (map (λ v. v.items) records.now) recent) }
-    ensures cause { IfErr result (λ status. IsOutOfMemory status ⊎ IsDamaged (map (λ v. v.items) records.now) status
+    ensures cause { IfErr result
+        (λ status. IsOutOfMemory status ⊎ IsDamaged (map (λ v. v.items) records.now) status
         ⊎ ((status.code ≡ NotSupported) × AreTooMany (map (λ v. v.items) records.now))) }
 {
     let mut recent = Recent::new(alloc, cmp);
@@ -40,7 +41,8 @@ pub(crate) fn replay<C: UserCmp + Copy>(
 // The batch that a record is.
 fn read_batch(alloc: Global, batch: &mut WriteBatch, bytes: &[u8]) -> Result<()>
     ensures ok { OnOk result (IsRecordOf bytes.now batch.new) }
-    ensures cause { IfErr result (λ status. IsOutOfMemory status ⊎ ((status.code ≡ Corruption) × (IsBatch bytes.now → ⊥))) }
+    ensures cause { IfErr result
+        (λ status. IsOutOfMemory status ⊎ ((status.code ≡ Corruption) × (IsBatch bytes.now → ⊥))) }
 {
     match batch.set_contents(bytes) {
         Err(status) if status.code == StatusCode::InvalidArgument => {
@@ -57,7 +59,8 @@ fn read_batch(alloc: Global, batch: &mut WriteBatch, bytes: &[u8]) -> Result<()>
 // A batch begins above all entries before it, and its numbers fit.
 fn check_follows(alloc: Global, last: SequenceNumber, batch: &WriteBatch) -> Result<()>
     ensures ok { OnOk result (Follows last batch.now) }
-    ensures cause { IfErr result (λ status. (status.code ≡ Corruption) × (Follows last batch.now → ⊥)) }
+    ensures cause { IfErr result
+        (λ status. (status.code ≡ Corruption) × (Follows last batch.now → ⊥)) }
 {
     let first = batch.sequence();
     if first <= last {
@@ -79,7 +82,8 @@ fn check_follows(alloc: Global, last: SequenceNumber, batch: &WriteBatch) -> Res
 
 /// The framing of records as a log.
 pub(crate) fn frame_all(alloc: Global, records: &[Vec<u8>]) -> Result<Vec<u8>>
-    ensures ok { IfOk result (λ bytes. bytes.items ≡ framed log_block_size (map (λ v. v.items) records.now) 0) }
+    ensures ok { IfOk result
+        (λ bytes. bytes.items ≡ framed log_block_size (map (λ v. v.items) records.now) 0) }
     ensures memory { IfErr result IsOutOfMemory }
 {
     let mut writer = LogWriter::new(alloc, Vec::new(alloc));

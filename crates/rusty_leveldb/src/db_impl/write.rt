@@ -1,14 +1,14 @@
 //! Writing to a store: batches, and syncs of its log.
 ghost use Rattle.std.specs.Prelude.{◌≡◌, ◌<◌, ◌∷◌, [], ℕ, if◌then◌else◌, Some, None, Ok, Err, false, IfOk, IfErr, OnOk, OnErr, IsErrAnd, ◌⊎◌, IsTrue};
 ghost use Rattle.leveldb_base.specs.declared.error.Status.{Status};
-ghost use Rattle.leveldb_env.specs.Env.{HasCause, AreBytes};
+ghost use Rattle.leveldb_env.specs.Env.{AreBytes};
 ghost use Rattle.leveldb_env.specs.EnvFile.{opened, Appends, Syncs};
 ghost use Rattle.leveldb_mem.specs.WriteBatch.{item_of};
 ghost use Rattle.leveldb_mem.specs.Log.Writer.{AddsRecord, FailsToAdd, Flushes};
 ghost use Rattle.rusty_leveldb.specs.State.{write, flush};
 ghost use Rattle.rusty_leveldb.specs.Serves.{done_or};
 ghost use Rattle.rusty_leveldb.specs.Recovery.{IsErrorFor};
-ghost use Rattle.rusty_leveldb.specs.Engine.{IsClosedOrBroken, RefusedByMode, TimeGoesOn, Answers, WriteExcused, SyncExcused};
+ghost use Rattle.rusty_leveldb.specs.Calls.{EngineServes};
 
 use super::engine::{Engine, Mode, check_open};
 use super::open::found;
@@ -23,15 +23,8 @@ use std::alloc::Global;
 impl<E: Env, C: UserCmp + Copy, FP: FilterPolicy + Copy> Engine<E, C, FP> {
     /// Gives the key this value, without a sync.
     pub fn put(&mut self, env: &mut E, key: &[u8], value: &[u8]) -> Result<()>
-        ensures options { self.new.options ≡ self.old.options }
-        ensures halted { IsClosedOrBroken self.old.mode self.old.writer → (env.new ≡ env.old) × (self.new ≡ self.old) × IsErrAnd result (RefusedByMode self.old.mode self.old.writer) }
-        ensures breaks { E.failures env.old < E.failures env.new → IsClosedOrBroken self.new.mode self.new.writer }
-        ensures stays { IsTrue self.new.writer.broken ⊎ (self.new.mode ≡ self.old.mode) }
-        ensures time { TimeGoesOn E.Env env.old env.new }
-        ensures step { Answers E.Env (Some self.old) env.old
-            (write (item_of key.now (Some value.now) ∷ []) false) (done_or result) (Some self.new) env.new }
-        ensures cause { HasCause (WriteExcused E.Env self.old env.old env.new (item_of key.now (Some value.now) ∷ []))
-            (E.failures env.old) (E.failures env.new) result }
+        ensures { EngineServes E.Env done_or self.old env.old
+            (write (item_of key.now (Some value.now) ∷ []) false) result self.new env.new }
     {
         check_open(self.alloc, self.mode, &self.writer)?;
         let mut batch = WriteBatch::new(self.alloc)?;
@@ -41,15 +34,8 @@ impl<E: Env, C: UserCmp + Copy, FP: FilterPolicy + Copy> Engine<E, C, FP> {
 
     /// Deletes the key, without a sync.
     pub fn delete(&mut self, env: &mut E, key: &[u8]) -> Result<()>
-        ensures options { self.new.options ≡ self.old.options }
-        ensures halted { IsClosedOrBroken self.old.mode self.old.writer → (env.new ≡ env.old) × (self.new ≡ self.old) × IsErrAnd result (RefusedByMode self.old.mode self.old.writer) }
-        ensures breaks { E.failures env.old < E.failures env.new → IsClosedOrBroken self.new.mode self.new.writer }
-        ensures stays { IsTrue self.new.writer.broken ⊎ (self.new.mode ≡ self.old.mode) }
-        ensures time { TimeGoesOn E.Env env.old env.new }
-        ensures step { Answers E.Env (Some self.old) env.old
-            (write (item_of key.now None ∷ []) false) (done_or result) (Some self.new) env.new }
-        ensures cause { HasCause (WriteExcused E.Env self.old env.old env.new (item_of key.now None ∷ []))
-            (E.failures env.old) (E.failures env.new) result }
+        ensures { EngineServes E.Env done_or self.old env.old
+            (write (item_of key.now None ∷ []) false) result self.new env.new }
     {
         check_open(self.alloc, self.mode, &self.writer)?;
         let mut batch = WriteBatch::new(self.alloc)?;
@@ -57,17 +43,12 @@ impl<E: Env, C: UserCmp + Copy, FP: FilterPolicy + Copy> Engine<E, C, FP> {
         self.write(env, batch, false)
     }
 
-    /// Makes the batch's changes together, behind all others; with `sync` a crash keeps them from then on.
-    /// A failed append or sync breaks the store: the batch isn't seen, and may be there when the store is opened again.
+    /// Makes the batch's changes together, after all others; with `sync` a crash keeps them from
+    /// then on. A failed append or sync breaks the store: the batch isn't seen, and may be there
+    /// when the store is opened again.
     pub fn write(&mut self, env: &mut E, batch: WriteBatch, sync: bool) -> Result<()>
-        ensures options { self.new.options ≡ self.old.options }
-        ensures halted { IsClosedOrBroken self.old.mode self.old.writer → (env.new ≡ env.old) × (self.new ≡ self.old) × IsErrAnd result (RefusedByMode self.old.mode self.old.writer) }
-        ensures breaks { E.failures env.old < E.failures env.new → IsClosedOrBroken self.new.mode self.new.writer }
-        ensures stays { IsTrue self.new.writer.broken ⊎ (self.new.mode ≡ self.old.mode) }
-        ensures time { TimeGoesOn E.Env env.old env.new }
-        ensures step { Answers E.Env (Some self.old) env.old
-            (write batch.items sync) (done_or result) (Some self.new) env.new }
-        ensures cause { HasCause (WriteExcused E.Env self.old env.old env.new batch.items) (E.failures env.old) (E.failures env.new) result }
+        ensures { EngineServes E.Env done_or self.old env.old (write batch.items sync) result
+            self.new env.new }
     {
         check_open(self.alloc, self.mode, &self.writer)?;
         let first = self.recent.next(self.alloc, batch.count())?;
@@ -84,13 +65,7 @@ impl<E: Env, C: UserCmp + Copy, FP: FilterPolicy + Copy> Engine<E, C, FP> {
 
     /// Makes a crash keep all batches.
     pub fn flush(&mut self, env: &mut E) -> Result<()>
-        ensures options { self.new.options ≡ self.old.options }
-        ensures halted { IsClosedOrBroken self.old.mode self.old.writer → (env.new ≡ env.old) × (self.new ≡ self.old) × IsErrAnd result (RefusedByMode self.old.mode self.old.writer) }
-        ensures ended { OnErr result (IsClosedOrBroken self.new.mode self.new.writer) }
-        ensures stays { IsTrue self.new.writer.broken ⊎ (self.new.mode ≡ self.old.mode) }
-        ensures time { TimeGoesOn E.Env env.old env.new }
-        ensures step { Answers E.Env (Some self.old) env.old flush (done_or result) (Some self.new) env.new }
-        ensures cause { HasCause (SyncExcused E.Env self.old env.old env.new) (E.failures env.old) (E.failures env.new) result }
+        ensures { EngineServes E.Env done_or self.old env.old flush result self.new env.new }
     {
         check_open(self.alloc, self.mode, &self.writer)?;
         self.sync(env)
@@ -98,13 +73,22 @@ impl<E: Env, C: UserCmp + Copy, FP: FilterPolicy + Copy> Engine<E, C, FP> {
 
     // Appends a record to the log. An append that was refused once it had begun breaks the store.
     fn append(&mut self, env: &mut E, text: &[u8]) -> Result<()>
-        ensures rest { self.new ≡ record self.old { log = self.new.log; writer = self.new.writer; mode = self.new.mode } }
+        ensures rest { self.new ≡ record self.old {
+          log = self.new.log;
+          writer = self.new.writer;
+          mode = self.new.mode;
+        } }
         ensures bytes { AreBytes text.now }
-        ensures mode { self.new.mode ≡ (if self.new.writer.broken then Mode.Broken else self.old.mode) }
-        ensures ok { OnOk result ((count : ℕ) × AddsRecord (Appends E.Env) self.old.writer (opened env.old self.old.log) text.now count self.new.writer (opened env.new self.new.log)) }
+        ensures mode { self.new.mode
+            ≡ (if self.new.writer.broken then Mode.Broken else self.old.mode) }
+        ensures ok { OnOk result
+            ((count : ℕ)
+            × AddsRecord (Appends E.Env) self.old.writer (opened env.old self.old.log) text.now
+            count self.new.writer (opened env.new self.new.log)) }
         ensures err { self.old.writer.broken ≡ false
             → IfErr result (λ status. (raw : Status) × IsErrorFor raw status
-            × FailsToAdd (Appends E.Env) self.old.writer (opened env.old self.old.log) text.now raw self.new.writer (opened env.new self.new.log)) }
+            × FailsToAdd (Appends E.Env) self.old.writer (opened env.old self.old.log) text.now raw
+            self.new.writer (opened env.new self.new.log)) }
     {
         let appended = append_record(self.alloc, &mut self.writer, env, &mut self.log, text);
         if self.writer.is_broken() {
@@ -116,14 +100,21 @@ impl<E: Env, C: UserCmp + Copy, FP: FilterPolicy + Copy> Engine<E, C, FP> {
 
     // Syncs the log. A failed sync breaks the store.
     pub(crate) fn sync(&mut self, env: &mut E) -> Result<()>
-        ensures rest { self.new ≡ record self.old { log = self.new.log; writer = self.new.writer; mode = self.new.mode } }
+        ensures rest { self.new ≡ record self.old {
+          log = self.new.log;
+          writer = self.new.writer;
+          mode = self.new.mode;
+        } }
         ensures mode_ok { OnOk result (self.new.mode ≡ self.old.mode) }
         ensures mode_err { OnErr result (self.new.mode ≡ Mode.Broken) }
         ensures synced { self.old.writer.broken ≡ false
-            → OnOk result (Flushes (Syncs E.Env) self.old.writer (opened env.old self.old.log) (Ok tt) self.new.writer (opened env.new self.new.log)) }
+            → OnOk result
+            (Flushes (Syncs E.Env) self.old.writer (opened env.old self.old.log) (Ok tt)
+            self.new.writer (opened env.new self.new.log)) }
         ensures unsynced { self.old.writer.broken ≡ false
             → IfErr result (λ status. (raw : Status) × IsErrorFor raw status
-            × Flushes (Syncs E.Env) self.old.writer (opened env.old self.old.log) (Err raw) self.new.writer (opened env.new self.new.log)) }
+            × Flushes (Syncs E.Env) self.old.writer (opened env.old self.old.log) (Err raw)
+            self.new.writer (opened env.new self.new.log)) }
     {
         let synced = sync_log(&mut self.writer, env, &mut self.log);
         let synced = found(self.alloc, synced);
@@ -142,10 +133,13 @@ fn append_record<E: Env>(
     log: &mut E::File,
     text: &[u8],
 ) -> Result<usize>
-    ensures ok { IfOk result (λ count. AddsRecord (Appends E.Env) writer.old (opened env.old log.old) text.now count writer.new (opened env.new log.new)) }
+    ensures ok { IfOk result
+        (λ count. AddsRecord (Appends E.Env) writer.old (opened env.old log.old) text.now count
+        writer.new (opened env.new log.new)) }
     ensures err { writer.old.broken ≡ false
         → IfErr result (λ status. (raw : Status) × IsErrorFor raw status
-        × FailsToAdd (Appends E.Env) writer.old (opened env.old log.old) text.now raw writer.new (opened env.new log.new)) }
+        × FailsToAdd (Appends E.Env) writer.old (opened env.old log.old) text.now raw writer.new
+        (opened env.new log.new)) }
 {
     let appended = put_record(writer, env, log, text);
     found(alloc, appended)
@@ -158,16 +152,22 @@ fn put_record<E: Env>(
     log: &mut E::File,
     text: &[u8],
 ) -> Result<usize>
-    ensures ok { IfOk result (λ count. AddsRecord (Appends E.Env) writer.old (opened env.old log.old) text.now count writer.new (opened env.new log.new)) }
+    ensures ok { IfOk result
+        (λ count. AddsRecord (Appends E.Env) writer.old (opened env.old log.old) text.now count
+        writer.new (opened env.new log.new)) }
     ensures err { writer.old.broken ≡ false
-        → IfErr result (λ status. FailsToAdd (Appends E.Env) writer.old (opened env.old log.old) text.now status writer.new (opened env.new log.new)) }
+        → IfErr result
+        (λ status. FailsToAdd (Appends E.Env) writer.old (opened env.old log.old) text.now status
+        writer.new (opened env.new log.new)) }
 {
     writer.add_record(&mut EnvFile { env, file: log }, text)
 }
 
 // Syncs a log's file.
 fn sync_log<E: Env>(writer: &mut WriterCore, env: &mut E, log: &mut E::File) -> Result<()>
-    ensures { writer.old.broken ≡ false → Flushes (Syncs E.Env) writer.old (opened env.old log.old) result writer.new (opened env.new log.new) }
+    ensures { writer.old.broken ≡ false
+        → Flushes (Syncs E.Env) writer.old (opened env.old log.old) result writer.new
+        (opened env.new log.new) }
 {
     writer.flush(&mut EnvFile { env, file: log })
 }

@@ -39,8 +39,9 @@ pub struct Report {
     pub replies: Vec<(u64, Reply)>,
 }
 
-/// Opens a store, runs the commands one after another and abandons the store. A command that fails is
-/// a reply, and so is an opening that fails a report; only the memory of the replies can be missing.
+/// Opens a store, runs the commands one after another and abandons the store. A command that fails
+/// is a reply, and so is an opening that fails a report; only the memory of the replies can be
+/// missing.
 pub fn live<C: UserCmp + Copy, FP: FilterPolicy + Copy>(
     alloc: Global,
     env: &mut RecordEnv,
@@ -49,7 +50,8 @@ pub fn live<C: UserCmp + Copy, FP: FilterPolicy + Copy>(
     commands: &[Command],
 ) -> Result<Report>
     ensures life { IfOk result (λ report. IsAlwaysLife C FP ⟦<RecordEnv as Env>⟧ name.now env.old
-        (opening_of C.Cmp FP.FilterPolicy ⟦<CompressorList as Compressors>⟧.codings options) commands.now report env.new) }
+        (opening_of C.Cmp FP.FilterPolicy ⟦<CompressorList as Compressors>⟧.codings options)
+        commands.now report env.new) }
     ensures time { moment_of env.old ≤ moment_of env.new }
     ensures error { IfErr result (λ e. IsOutOfMemory e × (env.new ≡ env.old)) }
 {
@@ -76,10 +78,11 @@ pub fn live<C: UserCmp + Copy, FP: FilterPolicy + Copy>(
     })
 }
 
-/// Runs lives of the store under this name, from an empty device on. Each runs to its end; the next begins on the device as it is then, or
-/// on what the life's crash at its moment leaves.
+/// Runs lives of the store under this name, from an empty device on. Each runs to its end; the next
+/// begins on the device as it is then, or on what the life's crash at its moment leaves.
 ///
-/// `InvalidArgument` where a crash can't be: its moment is still to come, or no crash leaves what its pick says.
+/// `InvalidArgument` where a crash can't be: its moment is still to come, or no crash leaves what
+/// its pick says.
 pub fn lives<C: UserCmp + Copy, FP: FilterPolicy + Copy>(
     alloc: Global,
     name: &str,
@@ -121,7 +124,8 @@ fn left_at(
 ) -> Result<RecordEnv>
     ensures crash { IfOk result (λ left. IsCrash env.now (start + moment) pick.now left) }
     ensures error { IfErr result (λ e. IsOutOfMemory e ⊎ ((e.code ≡ StatusCode.InvalidArgument)
-        × (CanCrashTo env.now (start + moment) pick.now.after (tails_of pick.now.tails.items) → ⊥))) }
+        × (CanCrashTo env.now (start + moment) pick.now.after (tails_of pick.now.tails.items)
+        → ⊥))) }
 {
     match start.checked_add(moment) {
         Some(at) => env.disk_at(alloc, at, pick),

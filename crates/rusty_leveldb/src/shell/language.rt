@@ -16,7 +16,8 @@ pub enum Script {
     BadLine(usize),
 }
 
-/// Reads a text of commands, one a line; the last newline may be missing. It is refused for want of memory.
+/// Reads a text of commands, one a line; the last newline may be missing. It is refused for want of
+/// memory.
 pub fn parse(alloc: Global, text: &[u8]) -> Result<Script, AllocError>
     ensures { IfOk result (IsReading text.now) }
 {
@@ -36,7 +37,8 @@ pub fn parse(alloc: Global, text: &[u8]) -> Result<Script, AllocError>
 // The first line of a text, without its newline, and what stands behind that.
 fn next_line(text: &[u8]) -> (&[u8], &[u8])
     ensures one_line { Contains result.0.now 10 → ⊥ }
-    ensures parts { (text.now ≡ result.0.now ++ 10 ∷ result.1.now) ⊎ ((text.now ≡ result.0.now) × (result.1.now ≡ [])) }
+    ensures parts { (text.now ≡ result.0.now ++ 10 ∷ result.1.now)
+        ⊎ ((text.now ≡ result.0.now) × (result.1.now ≡ [])) }
 {
     match split_once(text, b'\n') {
         (line, Some(behind)) => (line, behind),

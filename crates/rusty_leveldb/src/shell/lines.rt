@@ -35,7 +35,8 @@ pub(super) fn read_line(alloc: Global, line: &[u8]) -> Result<Option<Command>, A
 
 // What stands behind these bytes, where a text begins with them.
 fn behind<'a>(text: &'a [u8], head: &[u8]) -> Option<&'a [u8]>
-    ensures { MatchOption result ((rest : List ℕ) → text.now ≢ head.now ++ rest) (λ rest. text.now ≡ head.now ++ rest.now) }
+    ensures { MatchOption result ((rest : List ℕ) → text.now ≢ head.now ++ rest)
+        (λ rest. text.now ≡ head.now ++ rest.now) }
 {
     text.strip_prefix(head)
 }
@@ -88,7 +89,9 @@ fn read_write(alloc: Global, words: &[u8]) -> Result<Option<Command>, AllocError
 
 // Whether a write is synced, and what stands behind that.
 fn read_sync(words: &[u8]) -> Option<(bool, &[u8])>
-    ensures { MatchOption result ((sync : Bool) (text : List ℕ) → words.now ≢ sync_word sync ++ text) (λ found. words.now ≡ sync_word found.0 ++ found.1.now) }
+    ensures { MatchOption result
+        ((sync : Bool) (text : List ℕ) → words.now ≢ sync_word sync ++ text)
+        (λ found. words.now ≡ sync_word found.0 ++ found.1.now) }
 {
     match behind(words, b"0") {
         Some(text) => Some((false, text)),

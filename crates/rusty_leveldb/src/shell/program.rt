@@ -1,9 +1,11 @@
 //! The program: commands in, their replies out.
-ghost use Rattle.std.specs.Prelude.{◌≡◌, ◌≢◌, ◌≤◌, ◌^◌, List, Result, length, IfOk, IfErr, IfSome, OnOk, OnErr, IsErrAnd};
+ghost use Rattle.std.specs.Prelude.{◌≡◌, ◌≢◌, ◌≤◌, ◌^◌, ℕ, List, Result, length, IfOk, IfErr, IfSome, OnOk, OnErr, IsErrAnd};
 ghost use Rattle.leveldb_base.specs.declared.error.Status.{Status};
 ghost use Rattle.std.specs.Io.KnownBytes.{Appends};
 ghost use Rattle.rusty_leveldb.specs.Language.{reply_lines};
-ghost use Rattle.rusty_leveldb.specs.Program.{status_of, IsInputFault, IsFault, IsMisasked, IsInput, HasRun, IsPlayed, IsAnswered, IsStopped};
+ghost use Rattle.rusty_leveldb.specs.Program.{status_of, IsInputFault, IsFault, IsMisasked, IsInput, IsPlayed, IsAnswered, IsStopped, ldb_opening};
+ghost use Rattle.rusty_leveldb.specs.Shell.{HasRun};
+ghost use Rattle.leveldb_base.specs.declared.cmp.DefaultCmp.{DefaultCmp};
 ghost use Rattle.rusty_leveldb.specs.declared.shell.commands.Reply.{Reply};
 ghost use Rattle.rusty_leveldb.specs.declared.shell.program.Fault.TheVariants.{Usage};
 
@@ -48,8 +50,9 @@ impl fmt::Display for Fault {
     }
 }
 
-/// Runs the commands of `input` over the store in the folder that is the one argument, and writes their replies to `out`; a fault is told
-/// on `err`. The status is 0 where all was answered and written, 2 where it was not asked rightly, and 1 where it was refused.
+/// Runs the commands of `input` over the store in the folder that is the one argument, and writes
+/// their replies to `out`; a fault is told on `err`. The status is 0 if all was answered and
+/// written, 2 if the arguments, a line or the length of the input is wrong, and 1 if a call failed.
 pub fn ldb_main<E: Env, I: Read, O: Write, F: Write>(
     alloc: Global,
     env: &mut E,
@@ -58,11 +61,14 @@ pub fn ldb_main<E: Env, I: Read, O: Write, F: Write>(
     out: &mut O,
     err: &mut F,
 ) -> u8
-    ensures answered { result ≡ 0 → IsAnswered E.Env args.now env.old env.new (I.remaining input.old) (O.contents out.old) (O.contents out.new) }
+    ensures answered { result ≡ 0
+        → IsAnswered E.Env args.now env.old env.new (I.remaining input.old)
+        (O.contents out.old) (O.contents out.new) }
     ensures untouched { result ≡ 2 → (env.new ≡ env.old) × (out.new ≡ out.old) }
     ensures misasked { result ≡ 2 → IsMisasked args.now (I.remaining input.old) }
     ensures usage { length args.now ≢ 1 → result ≡ 2 }
-    ensures stopped { result ≡ 1 → IsStopped E.Env args.now env.old env.new (I.remaining input.old) }
+    ensures stopped { result ≡ 1
+        → IsStopped E.Env args.now env.old env.new (I.remaining input.old) }
     ensures statuses { result ≤ 2 }
 {
     match serve(alloc, env, args, input, out) {
@@ -91,9 +97,13 @@ fn serve<E: Env, I: Read, O: Write>(
     input: &mut I,
     out: &mut O,
 ) -> Result<(), Fault>
-    ensures answered { OnOk result (IsAnswered E.Env args.now env.old env.new (I.remaining input.old) (O.contents out.old) (O.contents out.new)) }
-    ensures untouched { IfErr result (λ fault. status_of fault ≡ 2 → (env.new ≡ env.old) × (out.new ≡ out.old)) }
-    ensures stopped { OnErr result (IsStopped E.Env args.now env.old env.new (I.remaining input.old)) }
+    ensures answered { OnOk result
+        (IsAnswered E.Env args.now env.old env.new (I.remaining input.old)
+        (O.contents out.old) (O.contents out.new)) }
+    ensures untouched { IfErr result
+        (λ fault. status_of fault ≡ 2 → (env.new ≡ env.old) × (out.new ≡ out.old)) }
+    ensures stopped { OnErr result
+        (IsStopped E.Env args.now env.old env.new (I.remaining input.old)) }
     ensures fault { IfErr result (IsFault args.now (I.remaining input.old)) }
     ensures usage { length args.now ≢ 1 → IsErrAnd result (λ fault. fault ≡ Usage) }
 {
@@ -112,8 +122,11 @@ fn play<E: Env, O: Write>(
     commands: &[Command],
     out: &mut O,
 ) -> Result<(), Status>
-    ensures played { OnOk result (IsPlayed E.Env folder.now commands.now env.old env.new (O.contents out.old) (O.contents out.new)) }
-    ensures run { (given : List Reply) × (ended : Result (Unit {0}) Status) × HasRun E.Env folder.now commands.now env.old given ended env.new }
+    ensures played { OnOk result (IsPlayed E.Env folder.now commands.now env.old env.new
+        (O.contents out.old) (O.contents out.new)) }
+    ensures run { (given : List Reply) × (ended : Result (Unit {0}) Status)
+        × HasRun DefaultCmp ℕ E.Env folder.now ldb_opening commands.now env.old given ended
+        env.new }
 {
     let mut replies = Vec::new(alloc);
     let played = run(env, folder, Options::default(), commands, &mut replies);
@@ -124,7 +137,8 @@ fn play<E: Env, O: Write>(
 
 // Writes the lines that tell these replies; where memory is refused, those that it has.
 fn print<O: Write>(alloc: Global, out: &mut O, replies: &[Reply]) -> Result<(), Status>
-    ensures { OnOk result (Appends (O.contents out.old) (O.contents out.new) (reply_lines replies.now)) }
+    ensures { OnOk result
+        (Appends (O.contents out.old) (O.contents out.new) (reply_lines replies.now)) }
 {
     let mut text = Vec::new(alloc);
     let told = put_replies(&mut text, replies);
@@ -147,7 +161,8 @@ fn read_commands<I: Read>(alloc: Global, input: &mut I) -> Result<Vec<Command>, 
 
 // All bytes of the input, where there aren't too many.
 fn read_input<I: Read>(alloc: Global, input: &mut I) -> Result<Vec<u8>, Fault>
-    ensures ok { IfOk result (λ text. IfSome (I.remaining input.old) (λ known. text.items ≡ known)) }
+    ensures ok { IfOk result
+        (λ text. IfSome (I.remaining input.old) (λ known. text.items ≡ known)) }
     ensures most { IfOk result (λ text. length text.items ≤ 2 ^ 26) }
     ensures fault { IfErr result (IsInputFault (I.remaining input.old)) }
 {

@@ -8,10 +8,11 @@ use super::words::put_word;
 use leveldb_base::error::StatusCode;
 use std::alloc::AllocError;
 
-/// Writes the lines that tell these replies behind the text. Where it is refused, for want of memory, those of the first replies
-/// stand there.
+/// Writes the lines that tell these replies behind the text. Where it is refused, for want of
+/// memory, those of the first replies stand there.
 pub fn put_replies(out: &mut Vec<u8>, replies: &[Reply]) -> Result<(), AllocError>
-    ensures { (told : ℕ) × (out.new.items ≡ out.old.items ++ reply_lines (take told replies.now)) × OnOk result (told ≡ length replies.now) }
+    ensures { (told : ℕ) × (out.new.items ≡ out.old.items ++ reply_lines (take told replies.now))
+        × OnOk result (told ≡ length replies.now) }
 {
     for reply in replies {
         put_reply(out, reply)?;
@@ -32,7 +33,8 @@ fn put_reply(out: &mut Vec<u8>, reply: &Reply) -> Result<(), AllocError>
     put
 }
 
-// Writes the line that tells a reply behind the text. Where it is refused, part of the line may stand there.
+// Writes the line that tells a reply behind the text. Where it is refused, part of the line may
+// stand there.
 fn put_line(out: &mut Vec<u8>, reply: &Reply) -> Result<(), AllocError>
     ensures { Appends out.old.items out.new.items result (reply_line reply.now) }
 {
@@ -46,7 +48,8 @@ fn put_line(out: &mut Vec<u8>, reply: &Reply) -> Result<(), AllocError>
 
 // Writes the line that tells a value behind the text.
 fn put_value(out: &mut Vec<u8>, value: &[u8]) -> Result<(), AllocError>
-    ensures { Appends out.old.items out.new.items result (codes "value " ++ hex_word value.now ++ codes "\n") }
+    ensures { Appends out.old.items out.new.items result
+        (codes "value " ++ hex_word value.now ++ codes "\n") }
 {
     out.extend_from_slice(b"value ")?;
     put_word(out, value)?;
@@ -55,7 +58,8 @@ fn put_value(out: &mut Vec<u8>, value: &[u8]) -> Result<(), AllocError>
 
 // Writes the line that tells a refusal behind the text.
 fn put_refusal(out: &mut Vec<u8>, code: StatusCode) -> Result<(), AllocError>
-    ensures { Appends out.old.items out.new.items result (codes "refused " ++ code_text code ++ codes "\n") }
+    ensures { Appends out.old.items out.new.items result
+        (codes "refused " ++ code_text code ++ codes "\n") }
 {
     let line = format!(in *out.allocator(); "refused {code}\n")?;
     out.extend_from_slice(line.as_bytes())

@@ -1,13 +1,13 @@
 //! Runs of commands.
-ghost use Rattle.std.specs.Prelude.{◌≡◌, ◌≤◌, ◌⊎◌, ◌++◌, List, Some, length, drop, map, IfOk, OnOk, IfErr, IsTrue};
+ghost use Rattle.std.specs.Prelude.{◌≡◌, ◌≤◌, ◌⊎◌, ◌++◌, List, Some, length, drop, map, IfOk, OnOk, IfErr};
 ghost use Rattle.leveldb_base.specs.Error.{IsOutOfMemory};
 ghost use Rattle.leveldb_mem.specs.WriteBatch.{with_item, IsTooLong};
-ghost use Rattle.rusty_leveldb.specs.Causes.{IsLongBatch, HasFailed};
-ghost use Rattle.rusty_leveldb.specs.Engine.{IsStoreName, TimeGoesOn, Answers, OpenExcused, opening_of};
-ghost use Rattle.rusty_leveldb.specs.Recovery.{NeverOpens};
+ghost use Rattle.rusty_leveldb.specs.Causes.{IsLongBatch};
+ghost use Rattle.rusty_leveldb.specs.Engine.{TimeGoesOn, Answers, OpenExcused, opening_of};
+ghost use Rattle.rusty_leveldb.specs.Calls.{FailsFor};
 ghost use Rattle.rusty_leveldb.specs.Serves.{done_or};
 ghost use Rattle.rusty_leveldb.specs.State as machine;
-ghost use Rattle.rusty_leveldb.specs.Shell.{PlaysAlways, IsUnopened, request_of, answer_of, change_of};
+ghost use Rattle.rusty_leveldb.specs.Shell.{HasRun, request_of, answer_of, change_of};
 
 use super::commands::{Command, Item, Reply};
 use crate::db_impl::Engine;
@@ -20,10 +20,11 @@ use leveldb_env::options::Options;
 use leveldb_mem::write_batch::WriteBatch;
 use std::alloc::Global;
 
-/// Opens a store, answers the commands one after another, and gives back its lock where no command did. A refused command is
-/// answered, and the run goes on. The replies stand behind those that are there; those given stand also where the run is refused: for
-/// want of memory before it begins, or where the store isn't opened or its lock isn't given back. A store that is damaged or locked, or is
-/// missing and isn't to be made, is never opened.
+/// Opens a store, answers the commands one after another, and gives back its lock if no command
+/// did. A command that fails is answered, and the run goes on. The replies come after those that
+/// are there, also if the run fails: out of memory before it begins, or since the store isn't
+/// opened or its lock isn't given back. A store that is damaged or locked, or is missing and isn't
+/// to be made, is never opened.
 pub fn run<E: Env, C: UserCmp + Copy, FP: FilterPolicy + Copy>(
     env: &mut E,
     name: &str,
@@ -31,17 +32,14 @@ pub fn run<E: Env, C: UserCmp + Copy, FP: FilterPolicy + Copy>(
     commands: &[Command],
     replies: &mut Vec<Reply>,
 ) -> Result<()>
-    ensures plays { PlaysAlways C FP E.Env name.now env.old (opening_of C.Cmp FP.FilterPolicy
-        ⟦<CompressorList as Compressors>⟧.codings opt) commands.now
+    ensures runs { HasRun C FP E.Env name.now (opening_of C.Cmp FP.FilterPolicy
+        ⟦<CompressorList as Compressors>⟧.codings opt) commands.now env.old
         (drop (length replies.old.items) replies.new.items) result env.new }
-    ensures behind { (given : List Reply) × (replies.new.items ≡ replies.old.items ++ given) × OnOk result (length given ≡ length commands.now) }
-    ensures misnamed { (IsStoreName name.now → ⊥) → (env.new ≡ env.old) × (replies.new.items ≡ replies.old.items) × OnOk result ⊥ }
-    ensures unopened { IsTrue E.models_disk → NeverOpens name.now opt.create_if_missing (E.observed env.old).disk
-        → (replies.new.items ≡ replies.old.items) × IsUnopened E.Env name.now opt.create_if_missing env.old result env.new }
-    ensures later { E.failures env.old ≤ E.failures env.new }
+    ensures after { (given : List Reply) × (replies.new.items ≡ replies.old.items ++ given)
+        × OnOk result (length given ≡ length commands.now) }
     ensures time { TimeGoesOn E.Env env.old env.new }
-    ensures cause { IfErr result (λ status. OpenExcused E.models_disk name.now opt.create_if_missing (E.observed env.old) status
-        ⊎ HasFailed (E.failures env.old) (E.failures env.new)) }
+    ensures cause { FailsFor (OpenExcused E.models_disk name.now opt.create_if_missing
+        (E.observed env.old)) (E.failures env.old) (E.failures env.new) result }
 {
     let alloc = *replies.allocator();
     replies.reserve(commands.len())?;
@@ -61,7 +59,8 @@ pub(super) fn answer<E: Env, C: UserCmp + Copy, FP: FilterPolicy + Copy>(
     env: &mut E,
     command: &Command,
 ) -> Reply
-    ensures step { Answers E.Env (Some engine.old) env.old (request_of command.now) (answer_of result) (Some engine.new) env.new }
+    ensures step { Answers E.Env (Some engine.old) env.old (request_of command.now)
+        (answer_of result) (Some engine.new) env.new }
     ensures options { engine.new.options ≡ engine.old.options }
     ensures later { E.failures env.old ≤ E.failures env.new }
     ensures time { TimeGoesOn E.Env env.old env.new }
@@ -70,7 +69,7 @@ pub(super) fn answer<E: Env, C: UserCmp + Copy, FP: FilterPolicy + Copy>(
         Command::Put(key, value) => reply_of(engine.put(env, key, value)),
         Command::Delete(key) => reply_of(engine.delete(env, key)),
         Command::Write { sync, items } => reply_of(write(alloc, engine, env, items, *sync)),
-        Command::Get(key) => match engine.get(key) {
+        Command::Get(key) => match engine.get(env, key) {
             Ok(Some(value)) => Reply::Value(value),
             Ok(None) => Reply::Nothing,
             Err(status) => Reply::Refused(status),
@@ -98,7 +97,8 @@ fn write<E: Env, C: UserCmp + Copy, FP: FilterPolicy + Copy>(
     items: &[Item],
     sync: bool,
 ) -> Result<()>
-    ensures step { Answers E.Env (Some engine.old) env.old (machine.write (map change_of items.now) sync) (done_or result) (Some engine.new) env.new }
+    ensures step { Answers E.Env (Some engine.old) env.old
+        (machine.write (map change_of items.now) sync) (done_or result) (Some engine.new) env.new }
     ensures options { engine.new.options ≡ engine.old.options }
     ensures later { E.failures env.old ≤ E.failures env.new }
     ensures time { TimeGoesOn E.Env env.old env.new }
@@ -111,7 +111,9 @@ fn write<E: Env, C: UserCmp + Copy, FP: FilterPolicy + Copy>(
 // These changes as a batch.
 fn batch_of(alloc: Global, items: &[Item]) -> Result<WriteBatch>
     ensures ok { IfOk result (λ batch. batch.items ≡ map change_of items.now) }
-    ensures cause { IfErr result (λ status. IsOutOfMemory status ⊎ ((status.code ≡ StatusCode.InvalidArgument) × IsLongBatch (map change_of items.now))) }
+    ensures cause { IfErr result
+        (λ status. IsOutOfMemory status
+        ⊎ ((status.code ≡ StatusCode.InvalidArgument) × IsLongBatch (map change_of items.now))) }
 {
     let mut batch = WriteBatch::new(alloc)?;
     for item in items {
@@ -123,7 +125,10 @@ fn batch_of(alloc: Global, items: &[Item]) -> Result<WriteBatch>
 // Adds one change.
 fn add(batch: &mut WriteBatch, item: &Item) -> Result<()>
     ensures ok { OnOk result (batch.new ≡ with_item batch.old (change_of item.now)) }
-    ensures cause { IfErr result (λ status. IsOutOfMemory status ⊎ ((status.code ≡ StatusCode.InvalidArgument) × IsTooLong (with_item batch.old (change_of item.now)))) }
+    ensures cause { IfErr result
+        (λ status. IsOutOfMemory status
+        ⊎ ((status.code ≡ StatusCode.InvalidArgument)
+        × IsTooLong (with_item batch.old (change_of item.now)))) }
 {
     match item {
         Item::Put(key, value) => batch.put(key, value),

@@ -1,4 +1,5 @@
-//! The words of the command language: bytes as pairs of lower case digits, and a full stop for none.
+//! The words of the command language: bytes as pairs of lower case digits, and a full stop for
+//! none.
 ghost use Rattle.std.specs.Prelude.{◌≡◌, ◌∷◌, ◌++◌, [], List, ℕ, IfOk, OnOk, MatchOption, Contains};
 ghost use Rattle.hex.specs.Hex.{encode_lower, IsBytes};
 ghost use Rattle.rusty_leveldb.specs.Language.{hex_word, Appends};
@@ -9,7 +10,8 @@ use std::alloc::{AllocError, Global};
 
 const DIGITS: &[u8; 16] = b"0123456789abcdef";
 
-/// Writes bytes as a word behind the text. Where it is refused, for want of memory, part of the word may stand there.
+/// Writes bytes as a word behind the text. Where it is refused, for want of memory, part of the
+/// word may stand there.
 pub(super) fn put_word(out: &mut Vec<u8>, bytes: &[u8]) -> Result<(), AllocError>
     ensures { Appends out.old.items out.new.items result (hex_word bytes.now) }
 {
@@ -49,7 +51,8 @@ pub(super) fn read_word(alloc: Global, word: &[u8]) -> Result<Option<Vec<u8>>, A
 fn read_digits(alloc: Global, word: &[u8]) -> Result<Option<Vec<u8>>, AllocError>
     ensures { IfOk result (λ found. MatchOption found
         ((bytes : List ℕ) → IsWord word.now bytes → ⊥)
-        (λ read. IsBytes read.items × ((bytes : List ℕ) → IsWord word.now bytes → read.items ≡ bytes))) }
+        (λ read. IsBytes read.items
+        × ((bytes : List ℕ) → IsWord word.now bytes → read.items ≡ bytes))) }
 {
     if word == b".".as_slice() {
         return Ok(Some(Vec::new(alloc)));
@@ -63,10 +66,12 @@ fn read_digits(alloc: Global, word: &[u8]) -> Result<Option<Vec<u8>>, AllocError
     }
 }
 
-/// What stands before the first of these bytes in a text, and what stands behind it, where there is one.
+/// What stands before the first of these bytes in a text, and what stands behind it, where there is
+/// one.
 pub(super) fn split_once(text: &[u8], separator: u8) -> (&[u8], Option<&[u8]>)
     ensures before { Contains result.0.now separator → ⊥ }
-    ensures parts { MatchOption result.1 (result.0.now ≡ text.now) (λ behind. text.now ≡ result.0.now ++ separator ∷ behind.now) }
+    ensures parts { MatchOption result.1 (result.0.now ≡ text.now)
+        (λ behind. text.now ≡ result.0.now ++ separator ∷ behind.now) }
 {
     for (place, byte) in text.iter().enumerate() {
         if *byte == separator {

@@ -54,14 +54,16 @@ returns-clause-spares g c = λ modelled.
     (c.in_ok-mend.ensures.ok modelled) (c.open_log.ensures.either modelled)
 
 pub returns-clause-ok : goal.returns-clause-ok
-returns-clause-ok g c = λ modelled.
+returns-clause-ok g c = (
+  ap (λ w. w.broken) c.new_with_off.ensures,
+  λ modelled. (
     open_recovers c.args.create_if_missing (g.E.Env.observed c.args.env.now).disk.files (g.E.Env.observed c.read_log.new.env).disk.files (g.E.Env.observed c.mend.new.env).disk.files (g.E.Env.observed c.open_log.new.env).disk.files
-    c.as_str-log_name.result.now (log_path c.args.name.now) (map (λ v. v.items) c.in_ok-read.read.items) (map (λ v. v.items) c.as_slice-records.result.now) c.in_ok-read.is_clean
-    (c.as_str-log_name.ensures.value ∙ c.in_ok-full_name.ensures.ok) ((c.in_ok-read.ensures.still modelled).has) (ap (map (λ v. v.items)) c.as_slice-records.ensures.value) (c.in_ok-read.ensures.log modelled) c.in_ok-recent.ensures.ok.read
-    c.in_ok-log.size c.new_with_off.result c.in_ok-recent.recent (c.in_ok-mend.ensures.ok modelled) (c.in_ok-log.ensures.there modelled) (c.in_ok-log.ensures.size modelled) c.new_with_off.ensures c.in_ok-recent.ensures.ok
-
-pub returns-clause-log : goal.returns-clause-log
-returns-clause-log g c = λ modelled. c.in_ok-log.ensures.name modelled ∙ c.as_str-log_name.ensures.value ∙ c.in_ok-full_name.ensures.ok
+        c.as_str-log_name.result.now (log_path c.args.name.now) (map (λ v. v.items) c.in_ok-read.read.items) (map (λ v. v.items) c.as_slice-records.result.now) c.in_ok-read.is_clean
+        (c.as_str-log_name.ensures.value ∙ c.in_ok-full_name.ensures.ok) ((c.in_ok-read.ensures.still modelled).has) (ap (map (λ v. v.items)) c.as_slice-records.ensures.value) (c.in_ok-read.ensures.log modelled) c.in_ok-recent.ensures.ok.read
+        c.in_ok-log.size c.new_with_off.result c.in_ok-recent.recent (c.in_ok-mend.ensures.ok modelled) (c.in_ok-log.ensures.there modelled) (c.in_ok-log.ensures.handle modelled).1 c.new_with_off.ensures c.in_ok-recent.ensures.ok,
+    (c.in_ok-log.ensures.handle modelled).0 ∙ c.as_str-log_name.ensures.value ∙ c.in_ok-full_name.ensures.ok,
+  ),
+)
 
 pub returns-in_err-log-clause-rest : goal.returns-in_err-log-clause-rest
 returns-in_err-log-clause-rest g c = λ modelled.

@@ -11,7 +11,8 @@ returns-clause-answered g c =
     let few : length c.args.args.now < 2 = omega (arith, c.in-len1.len_below) in
     let P : List ℕ → Type 0 = λ name. IsPlayed g.E.Env name c.deref.result.now c.args.env.now c.play.new.env (g.O.Write.contents c.args.out.now) (g.O.Write.contents c.play.new.out) in
     let named = subst P c.as_str.ensures.value c.in_ok-play.ensures.played in
-    (folder, one_word c.args.args.now folder some few c.folder-item.is, c.in_ok-commands.commands.items, c.in_ok-commands.ensures.ok, rw c.deref.ensures.value at named)
+    let all = rw c.deref.ensures.value at named in
+    (folder, one_word c.args.args.now folder some few c.folder-item.is, c.in_ok-commands.commands.items, c.in_ok-commands.ensures.ok, all.0, all.1, all.2, all.3)
 
 pub returns-in_err-play-clause-stopped : goal.returns-in_err-play-clause-stopped
 returns-in_err-play-clause-stopped g c =

@@ -27,17 +27,17 @@ returns-in-Write-clause-step g c =
 pub returns-in-Ok-Some-clause-step : goal.returns-in-Ok-Some-clause-step
 returns-in-Ok-Some-clause-step g c =
     answered c.args.command.now (get None c.deref-in-Get.result.now) (Value c.in-Ok-Some.value) (found_or (Ok c.in-Ok-Some.field-0))
-    (rw (c.in-Get.is, c.deref-in-Get.ensures.value) refl) (rw c.in-Ok-Some.field-0-is refl) (c.in-Ok-Some.ensures.step c.args.env.now)
+    (rw (c.in-Get.is, c.deref-in-Get.ensures.value) refl) (rw c.in-Ok-Some.field-0-is refl) c.in-Ok-Some.ensures.step
 
 pub returns-in-Ok-None-clause-step : goal.returns-in-Ok-None-clause-step
 returns-in-Ok-None-clause-step g c =
     answered c.args.command.now (get None c.deref-in-Get.result.now) Nothing (found_or (Ok c.in-Ok-None.field-0))
-    (rw (c.in-Get.is, c.deref-in-Get.ensures.value) refl) (rw c.in-Ok-None.field-0-is refl) (c.in-Ok-None.ensures.step c.args.env.now)
+    (rw (c.in-Get.is, c.deref-in-Get.ensures.value) refl) (rw c.in-Ok-None.field-0-is refl) c.in-Ok-None.ensures.step
 
 pub returns-in-Err-clause-step : goal.returns-in-Err-clause-step
 returns-in-Err-clause-step g c =
     answered c.args.command.now (get None c.deref-in-Get.result.now) (Refused c.in-Err.status) (found_or (Err c.in-Err.status))
-    (rw (c.in-Get.is, c.deref-in-Get.ensures.value) refl) (refl) (c.in-Err.ensures.step c.args.env.now)
+    (rw (c.in-Get.is, c.deref-in-Get.ensures.value) refl) (refl) c.in-Err.ensures.step
 
 pub returns-in-Flush-clause-step : goal.returns-in-Flush-clause-step
 returns-in-Flush-clause-step g c =

@@ -3,16 +3,26 @@ use Rattle.std.proofs.Math.Seq.{drop-length, drop-append_seam}
 use Rattle.std.proofs.lemmas.List.{take_all}
 use Rattle.std.proofs.lemmas.Result.{err_from_is_err_and}
 use Rattle.leveldb_env.specs.contracts.compressor.CompressorListCompressors.TheImpl.{ghosts as compressors}
-use Rattle.rusty_leveldb.proofs.Playing.{play_first, play_more, play_end, not_opened, commands_up_to}
+use Rattle.rusty_leveldb.proofs.Playing.{play_first, play_more, play_end, not_opened, not_begun, commands_up_to}
 use Rattle.rusty_leveldb.specs.Engine.{opening_of}
 use Rattle.rusty_leveldb.proofs.shell.runs.run.Goals as goal
 
-pub returns-in_err-engine-clause-plays : goal.returns-in_err-engine-clause-plays
-returns-in_err-engine-clause-plays g c =
+pub returns-in_err-reserve-clause-runs : goal.returns-in_err-reserve-clause-runs
+returns-in_err-reserve-clause-runs g c =
+    let failed = err_from_is_err_and c.from_residual.result c.from_residual.ensures.1 in
+    let none : drop (length c.args.replies.now.items) c.reserve.new.self.items ≡ [] = rw c.reserve.ensures.items (drop-length c.args.replies.now.items) in
+    rw failed.1 (not_begun g.E.Env c.args.name.now _ c.args.commands.now c.args.env.now (drop (length c.args.replies.now.items) c.reserve.new.self.items) failed.0 none failed.2)
+
+pub returns-in_err-engine-clause-runs : goal.returns-in_err-engine-clause-runs
+returns-in_err-engine-clause-runs g c =
     let failed = err_from_is_err_and c.from_residual-in_err-engine.result c.from_residual-in_err-engine.ensures.1 in
     let none : drop (length c.args.replies.now.items) c.reserve.new.self.items ≡ [] = rw c.reserve.ensures.items (drop-length c.args.replies.now.items) in
-    rw failed.1 (not_opened g.row.C.Denot g.row.FP.Denot g.E.Env (g.met.E.Env.only_now, g.met.E.Env.counts_now) c.args.name.now c.args.opt c.args.env.now c.open.new.env (opening_of g.C.Cmp g.FP.FilterPolicy (compressors g.dyn-2).codings c.args.opt) c.args.commands.now
-    (drop (length c.args.replies.now.items) c.reserve.new.self.items) failed.0 none (rw failed.2 c.in_err-engine.ensures.step))
+    rw (failed.1, failed.2) (record {
+      plays = not_opened g.row.C.Denot g.row.FP.Denot g.E.Env (g.met.E.Env.only_now, g.met.E.Env.counts_now) c.args.name.now c.args.opt c.args.env.now c.open.new.env (opening_of g.C.Cmp g.FP.FilterPolicy (compressors g.dyn-2).codings c.args.opt) c.args.commands.now
+          (drop (length c.args.replies.now.items) c.reserve.new.self.items) c.in_err-engine.field-0.0 none c.in_err-engine.ensures.step;
+      unopened = λ modelled never. (none, c.in_err-engine.ensures.unopened modelled);
+      misnamed = λ no. ((c.in_err-engine.ensures.misnamed no).0, none, tt);
+    })
 
 pub loop-command-init : goal.loop-command-init
 loop-command-init g c = (
@@ -49,28 +59,26 @@ loop-command-preserved g c =
       λ tells. let before = so_far.7 tells in let then = c.answer.ensures.time tells in omega (arith, before, then),
     )
 
-pub returns-clause-plays : goal.returns-clause-plays
-returns-clause-plays g c =
+pub returns-clause-runs : goal.returns-clause-runs
+returns-clause-runs g c =
     let so_far = c.loop-command.invariant in
     let given : drop (length c.args.replies.now.items) c.loop-command.replies.items ≡ so_far.3 = rw so_far.4 (drop-append_seam c.args.replies.now.items so_far.3) in
     let all : take c.loop-command.command-index c.args.commands.now ≡ c.args.commands.now = take_all c.loop-command.command-index c.args.commands.now c.loop-command-test.false in
     let step = c.abandon.ensures.step in
-    rw given (play_end g.row.C.Denot g.row.FP.Denot g.E.Env (g.met.E.Env.only_now, g.met.E.Env.counts_now) c.args.name.now c.args.env.now c.loop-command.env c.abandon.new.env (opening_of g.C.Cmp g.FP.FilterPolicy (compressors g.dyn-2).codings c.args.opt)
-    c.args.commands.now so_far.3 c.loop-command.engine c.abandon.result (rw all at so_far.6) step)
+    rw given (record {
+      plays = play_end g.row.C.Denot g.row.FP.Denot g.E.Env (g.met.E.Env.only_now, g.met.E.Env.counts_now) c.args.name.now c.args.env.now c.loop-command.env c.abandon.new.env (opening_of g.C.Cmp g.FP.FilterPolicy (compressors g.dyn-2).codings c.args.opt)
+          c.args.commands.now so_far.3 c.loop-command.engine c.abandon.result (rw all at so_far.6) step;
+      unopened = λ modelled never. absurd (c.in_ok-engine.ensures.never_opens modelled never);
+      misnamed = λ no. absurd (c.in_ok-engine.ensures.misnamed no).1;
+    })
 
-pub returns-clause-behind : goal.returns-clause-behind
-returns-clause-behind g c =
+pub returns-clause-after : goal.returns-clause-after
+returns-clause-after g c =
     let so_far = c.loop-command.invariant in
     (so_far.3, so_far.4, search rules)
 
-pub returns-clause-later : goal.returns-clause-later
-returns-clause-later g c = search rules
-
 pub returns-clause-cause : goal.returns-clause-cause
 returns-clause-cause g c = search rules
-
-pub returns-clause-unopened : goal.returns-clause-unopened
-returns-clause-unopened g c = λ tells never. absurd (c.in_ok-engine.ensures.never_opens tells never)
 
 pub returns-clause-time : goal.returns-clause-time
 returns-clause-time g c = λ tells.

@@ -1,0 +1,126 @@
+-- What each call on an engine does: one record a call, the same of an engine and of a store that
+-- holds its environment.
+use Rattle.std.specs.Prelude.{◌≡◌, ◌≤◌, ◌⊎◌, ℕ, List, Option, Some, None, false, Result, Ok, Err, OnOk, OnErr, IfOk, IfErr, IsErrAnd, IsTrue}
+use Rattle.leveldb_base.specs.declared.error.Status.{Status}
+use Rattle.leveldb_env.specs.declared.env.Env.{Ghosts}
+use Rattle.leveldb_env.specs.Env.{HasCause}
+use Rattle.leveldb_env.specs.Options.{Boxed, OptionsOf}
+use Rattle.rusty_leveldb.specs.declared.db_impl.engine.Mode.TheVariants.{Open}
+use Rattle.rusty_leveldb.specs.State.{Opening, Request, Answer, open_store, write, get, flush, close, abandon}
+use Rattle.rusty_leveldb.specs.Causes.{HasFailed}
+use Rattle.rusty_leveldb.specs.Serves.{done_or, given_engine}
+use Rattle.rusty_leveldb.specs.Engine.{IsClosed, HasBroken, IsClosedOrBroken, RefusedByMode, TimeGoesOn, AnswersAs, Answers, WriteExcused, SyncExcused, CloseExcused, GetExcused, OpenExcused, IsStoreName, IsOpening}
+use Rattle.rusty_leveldb.specs.Recovery.{NeverOpens, StaysUnopened}
+use Rattle.rusty_leveldb.specs.Boxes.{EngineOf}
+
+-- ---- why a call fails
+
+-- The count of failed calls doesn't fall. An Err is excused, or a call of the device failed. A call
+-- may return Ok though some call of the device failed, as one that deletes a file which isn't
+-- needed.
+pub record FailsFor {T : Type 0} (Excused : Status → Type 0) (before after : ℕ)
+    (result : Result T Status) : Type 0 where
+  pub later : before ≤ after
+  pub cause : IfErr result (λ e. Excused e ⊎ HasFailed before after)
+
+module _ {E C FP F : Type 0} {B : Boxed} (env : Ghosts E F) where
+  -- why a call fails, by its request; each failed call of the device is the reason for which a
+  -- flush or a close fails
+  abbrev pub HasReason : {T : Type 0} → EngineOf E C FP F B → E → Request → Result T Status → E
+      → Type 0
+  HasReason before from (get at key) result to =
+      FailsFor (GetExcused before.mode key) (env.failures from) (env.failures to) result
+  HasReason before from (write items sync) result to =
+      FailsFor (WriteExcused env before from items) (env.failures from) (env.failures to) result
+  HasReason before from flush result to =
+      HasCause (SyncExcused env before from to) (env.failures from) (env.failures to) result
+  HasReason before from close result to =
+      HasCause (CloseExcused env before from to) (env.failures from) (env.failures to) result
+  HasReason before from request result to =
+      HasCause (λ _. ⊥) (env.failures from) (env.failures to) result
+
+-- ---- calls on an engine
+
+module _ {E C FP F : Type 0} {B : Boxed} where
+  -- the mode refuses the request: of a closed store any, of a broken one those that write
+  abbrev pub IsHalted : EngineOf E C FP F B → Request → Type 0
+  IsHalted engine (get at key) = IsClosed engine.mode
+  IsHalted engine request = IsClosedOrBroken engine.mode engine.writer
+
+  -- What becomes of an engine. A look-up leaves its mode and its entries; a write may break it, and
+  -- a flush that fails does; `close` closes it, or leaves it closed or broken.
+  abbrev pub BecomesOf : {T : Type 0} → EngineOf E C FP F B → Request → Result T Status
+      → EngineOf E C FP F B → Type 0
+  BecomesOf before (get at key) result after =
+      (after.mode ≡ before.mode) × (after.recent ≡ before.recent)
+  BecomesOf before close result after = OnOk result (IsClosed after.mode)
+      × OnErr result (IsClosedOrBroken after.mode after.writer)
+  BecomesOf before flush result after =
+      (HasBroken after.mode after.writer ⊎ (after.mode ≡ before.mode))
+      × OnErr result (IsClosedOrBroken after.mode after.writer)
+  BecomesOf before request result after =
+      HasBroken after.mode after.writer ⊎ (after.mode ≡ before.mode)
+
+module _ {E C FP F : Type 0} {B : Boxed} (env : Ghosts E F) where
+  -- a call on an engine, with its answer
+  pub record EngineServes {T : Type 0} (answer_of : Result T Status → Answer)
+      (before : EngineOf E C FP F B) (from : E) (request : Request) (result : Result T Status)
+      (after : EngineOf E C FP F B) (to : E) : Type 0 where
+    -- the options stay
+    pub options : after.options ≡ before.options
+    -- where the mode refuses the request, nothing changes
+    pub halted : IsHalted before request → (to ≡ from) × (after ≡ before)
+        × IsErrAnd result (RefusedByMode before.mode before.writer)
+    -- what becomes of the engine, over any environment
+    pub becomes : BecomesOf before request result after
+    -- where the disk is observed, the call is a step of the machine
+    pub step : Answers env (Some before) from request (answer_of result) (Some after) to
+    -- no moment of the disk is taken back
+    pub time : TimeGoesOn env from to
+    -- why it fails
+    pub cause : HasReason env before from request result to
+
+  -- a call that gives an engine up
+  pub record EngineAbandons (engine : EngineOf E C FP F B) (from : E)
+      (result : Result (Unit {0}) Status)
+      (to : E) : Type 0 where
+    -- one that is closed has given back its lock
+    pub halted : IsClosed engine.mode → (to ≡ from) × OnErr result ⊥
+    -- where the disk is observed, the call is a step of the machine
+    pub step : Answers env (Some engine) from abandon (done_or result) None to
+    -- no moment of the disk is taken back
+    pub time : TimeGoesOn env from to
+    -- it fails only where the device did
+    pub cause : HasCause (λ _. ⊥) (env.failures from) (env.failures to) result
+
+  -- a call that opens the store under a name, as it is asked to by these options
+  pub record EngineOpens (name : List ℕ) (options : OptionsOf C FP B) (asked : Opening) (from : E)
+      (result : Result (EngineOf E C FP F B) Status) (to : E) : Type 0 where
+    -- the engine has these options, is open, and hasn't broken
+    pub opened : IfOk result
+        (λ engine. (engine.options ≡ options) × (engine.mode ≡ Open)
+        × (engine.writer.broken ≡ false))
+    -- where the disk is observed, the call is a step of the machine
+    pub step : (opening : Opening) → IsOpening name asked opening
+        → AnswersAs env name None from (open_store opening) (done_or result) (given_engine result)
+        to
+    -- no moment of the disk is taken back
+    pub time : TimeGoesOn env from to
+    -- under a name that is no store's nothing is opened, and no call is made
+    pub misnamed : (IsStoreName name → ⊥) → (to ≡ from) × OnOk result ⊥
+    -- a store that is locked or damaged isn't opened, nor is a missing one that isn't to be made
+    pub never_opens : IsTrue env.models_disk
+        → NeverOpens name asked.create_if_missing (env.observed from).disk → OnOk result ⊥
+    -- what an opening leaves that fails
+    pub unopened : IfErr result (λ status. IsTrue env.models_disk
+        → StaysUnopened name asked.create_if_missing (env.observed from) (env.observed to)
+        (env.failures from) (env.failures to) status)
+    -- why it fails
+    pub cause : FailsFor
+        (OpenExcused env.models_disk name asked.create_if_missing (env.observed from))
+        (env.failures from) (env.failures to) result
+
+-- the same result, with what this makes of its value
+abbrev pub result_map : {A B S : Type 0} → (A → B) → Result A S → Result B S
+result_map make (Ok value) = Ok (make value)
+result_map make (Err status) = Err status
