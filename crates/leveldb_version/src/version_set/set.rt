@@ -37,15 +37,17 @@ pub struct VersionSet<E: Env> {
     pub(super) log_number: FileNum,
     pub(super) previous_log: FileNum,
     pub(super) manifest: Option<Manifest<E>>,
+
+    // Whether a call on the manifest has failed.
+    pub(super) broken: bool,
 }
 
 impl<E: Env> Model for VersionSet<E> {
-    ghost use Rattle.leveldb_version.specs.VersionSetValue.{VersionSetValue};
+    ghost use Rattle.leveldb_version.specs.VersionSetValue.{VersionSetValue, manifest_state};
 
     ghost Value = { VersionSetValue };
 
     ghost use Rattle.std.specs.Prelude.{string_bytes};
-    ghost use Rattle.std.specs.Option.{option_map};
     ghost use Rattle.leveldb_version.specs.VersionEdit.{edit_of};
 
     ghost view = { λ set. record {
@@ -57,8 +59,7 @@ impl<E: Env> Model for VersionSet<E> {
       last_sequence = set.last_sequence;
       log_number = set.log_number;
       previous_log = set.previous_log;
-      manifest = option_map (λ it. record { path = E.name_of it.file; writer = it.writer })
-          set.manifest;
+      manifest = manifest_state set.broken set.manifest;
     } };
 }
 
@@ -82,6 +83,7 @@ impl<E: Env> VersionSet<E> {
             log_number: 0,
             previous_log: 0,
             manifest: None,
+            broken: false,
         })
     }
 
@@ -92,7 +94,7 @@ impl<E: Env> VersionSet<E> {
         self.next_file
     }
 
-    /// The number of the manifest, in use or to be made.
+    /// The number of the manifest that `CURRENT` names, or 0 where none was read or made.
     pub fn manifest_num(&self) -> FileNum
         ensures { result ≡ self.now.manifest_number }
     {
