@@ -36,7 +36,7 @@ pub record VersionSetValue : Type 0 where
   -- the number that the next file takes, and the one that was given last and may be taken back
   pub next_file : ℕ
   pub given : Option ℕ
-  -- the number of the manifest that `CURRENT` names, or 0 where none was read or made
+  -- the number of the manifest, in use or to be made
   pub manifest_number : ℕ
   -- the greatest number of an entry, the log's number, and that of the log before it, or 0
   pub last_sequence : ℕ

@@ -61,6 +61,12 @@ impl<E: Env> Model for VersionSet<E> {
       previous_log = set.previous_log;
       manifest = manifest_state set.broken set.manifest;
     } };
+
+    ghost use Rattle.std.specs.Prelude.{◌≡◌, false, IfSome};
+    ghost use Rattle.leveldb_mem.specs.Log.{log_block_size};
+
+    ghost invariant = { λ set. set.broken ≡ false → IfSome set.manifest (λ manifest.
+        (manifest.writer.broken ≡ false) × (manifest.writer.size ≡ log_block_size)) };
 }
 
 impl<E: Env> VersionSet<E> {
@@ -94,7 +100,7 @@ impl<E: Env> VersionSet<E> {
         self.next_file
     }
 
-    /// The number of the manifest that `CURRENT` names, or 0 where none was read or made.
+    /// The number of the manifest, in use or to be made.
     pub fn manifest_num(&self) -> FileNum
         ensures { result ≡ self.now.manifest_number }
     {
