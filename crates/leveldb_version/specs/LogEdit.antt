@@ -4,7 +4,7 @@ use Rattle.std.specs.Option.{option_or, unwrap_or}
 use Rattle.leveldb_base.specs.declared.error.Status.{Status}
 use Rattle.leveldb_base.specs.declared.error.StatusCode.TheVariants.{InvalidArgument}
 use Rattle.leveldb_base.specs.Error.{IsOutOfMemory}
-use Rattle.leveldb_env.specs.Env.{ChangesFiles, Files, HasCause, Observed, PrefixAppended, extended, synced}
+use Rattle.leveldb_env.specs.Env.{ChangesFiles, Files, FilesUnchanged, HasCause, Observed, PrefixAppended, Run, extended, synced}
 use Rattle.leveldb_env.specs.WholeFiles.{IsLost, IsLostUnobserved}
 use Rattle.leveldb_mem.specs.Log.{log_block_size}
 use Rattle.leveldb_mem.specs.Log.Writer.{IsWriterBroken, after_frame, frame, new_writer}
@@ -131,10 +131,12 @@ pub record LogEditResult (models_disk : Bool) (old : VersionSetValue)
     (edit : Edit) (before : Observed) (failed : ℕ) (result : Result (Unit {0}) Status)
     (new : VersionSetValue) (after : Observed) (now_failed : ℕ) : Type 0 where
   pub broken_before : old.manifest ≡ broken → IsErrAnd result IsWriterBroken
-      × (new ≡ old) × (after ≡ before) × (now_failed ≡ failed)
+      × (new ≡ old) × Run (FilesUnchanged before.disk.files) before after
+      × (now_failed ≡ failed)
   pub levels : old.manifest ≢ broken → (LevelsFit edit → ⊥)
       → IsErrAnd result (NamesUnknownLevel edit)
-      × (new ≡ old) × (after ≡ before) × (now_failed ≡ failed)
+      × (new ≡ old) × Run (FilesUnchanged before.disk.files) before after
+      × (now_failed ≡ failed)
   pub used : LevelsFit edit → (manifest : OpenManifest) → old.manifest ≡ in_use manifest
       → AppendsEdit models_disk manifest old edit before failed result new after now_failed
   pub not_made : LevelsFit edit → old.manifest ≡ unmade
