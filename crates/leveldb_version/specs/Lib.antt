@@ -17,3 +17,8 @@ pub mod StoreLaws
 pub mod HoldsLaws
 pub mod StoreStays
 pub mod VersionSetLaws
+pub mod LogEdit
+pub mod NewManifest
+pub mod NewStore
+pub mod Recover
+pub mod Tracks

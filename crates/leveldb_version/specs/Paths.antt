@@ -21,6 +21,10 @@ log_path store n = file_path store Log n
 abbrev pub table_path : List ℕ → ℕ → List ℕ
 table_path store n = file_path store Table n
 
+-- the manifest of a number, under the name that a store gives to it
+abbrev pub manifest_path : List ℕ → ℕ → List ℕ
+manifest_path store n = file_path store Descriptor n
+
 -- a path in the store's folder whose name says that it is of this type, with a number if such
 -- names have one
 abbrev pub IsFilePath : FileType → List ℕ → List ℕ → Type 0

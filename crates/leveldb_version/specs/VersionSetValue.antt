@@ -1,5 +1,5 @@
 -- What a version set knows, and what its calls on numbers change of it.
-use Rattle.std.specs.Prelude.{◌≡◌, ◌+◌, ◌-◌, ◌^◌, ℕ, List, [], Option, None, Some, fold, map, max}
+use Rattle.std.specs.Prelude.{◌≡◌, ◌+◌, ◌-◌, ◌^◌, ℕ, Bool, false, true, List, [], Option, None, Some, fold, map, max}
 use Rattle.std.specs.BTreeSet.{insert_key}
 use Rattle.std.specs.Ordering.{nat_cmp}
 use Rattle.leveldb_base.specs.declared.error.Status.{Status}
@@ -7,10 +7,25 @@ use Rattle.leveldb_base.specs.declared.error.StatusCode.TheVariants.{NotSupporte
 use Rattle.leveldb_mem.specs.Log.Writer.{WriterState}
 use Rattle.leveldb_version.specs.VersionEdit.{Edit, NewFile, empty_edit}
 
--- the manifest that edits are appended to: its path, and the writer of its records
+-- a manifest that edits are appended to
 pub record OpenManifest : Type 0 where
+  -- its path, under the store's
   pub path : List ℕ
+  -- the writer of its records
   pub writer : WriterState
+
+-- Which manifest a version set has: none yet, so that the next edit begins a new one; one in use;
+-- or one that is broken, since a call on it failed, so that no edit is taken any more.
+pub data ManifestState : Type 0 where
+  unmade : ManifestState
+  in_use : OpenManifest → ManifestState
+  broken : ManifestState
+
+-- the state of a manifest that was opened or not, and of a set that is broken or not
+abbrev pub manifest_state : Bool → Option OpenManifest → ManifestState
+manifest_state true _ = broken
+manifest_state false None = unmade
+manifest_state false (Some manifest) = in_use manifest
 
 -- a version set
 pub record VersionSetValue : Type 0 where
@@ -27,8 +42,8 @@ pub record VersionSetValue : Type 0 where
   pub last_sequence : ℕ
   pub log_number : ℕ
   pub previous_log : ℕ
-  -- the manifest, once it is open
-  pub manifest : Option OpenManifest
+  -- the manifest that the next edit goes to
+  pub manifest : ManifestState
 
 -- a version set without files, for a store that isn't read yet
 abbrev pub new_version_set : List ℕ → List ℕ → VersionSetValue
@@ -41,7 +56,7 @@ new_version_set store comparator = record {
   last_sequence = 0;
   log_number = 0;
   previous_log = 0;
-  manifest = None;
+  manifest = unmade;
 }
 
 -- ---- numbers of files

@@ -37,15 +37,17 @@ pub struct VersionSet<E: Env> {
     pub(super) log_number: FileNum,
     pub(super) previous_log: FileNum,
     pub(super) manifest: Option<Manifest<E>>,
+
+    // Whether a call on the manifest has failed.
+    pub(super) broken: bool,
 }
 
 impl<E: Env> Model for VersionSet<E> {
-    ghost use Rattle.leveldb_version.specs.VersionSetValue.{VersionSetValue};
+    ghost use Rattle.leveldb_version.specs.VersionSetValue.{VersionSetValue, manifest_state};
 
     ghost Value = { VersionSetValue };
 
     ghost use Rattle.std.specs.Prelude.{string_bytes};
-    ghost use Rattle.std.specs.Option.{option_map};
     ghost use Rattle.leveldb_version.specs.VersionEdit.{edit_of};
 
     ghost view = { λ set. record {
@@ -57,9 +59,14 @@ impl<E: Env> Model for VersionSet<E> {
       last_sequence = set.last_sequence;
       log_number = set.log_number;
       previous_log = set.previous_log;
-      manifest = option_map (λ it. record { path = E.name_of it.file; writer = it.writer })
-          set.manifest;
+      manifest = manifest_state set.broken set.manifest;
     } };
+
+    ghost use Rattle.std.specs.Prelude.{◌≡◌, false, IfSome};
+    ghost use Rattle.leveldb_mem.specs.Log.{log_block_size};
+
+    ghost invariant = { λ set. set.broken ≡ false → IfSome set.manifest (λ manifest.
+        (manifest.writer.broken ≡ false) × (manifest.writer.size ≡ log_block_size)) };
 }
 
 impl<E: Env> VersionSet<E> {
@@ -82,6 +89,7 @@ impl<E: Env> VersionSet<E> {
             log_number: 0,
             previous_log: 0,
             manifest: None,
+            broken: false,
         })
     }
 

@@ -1,0 +1,34 @@
+-- The manifest with which a store begins that isn't there yet.
+use Rattle.std.specs.Prelude.{ℕ, Bool, List, [], ◌∷◌, Some, Result, IsTrue}
+use Rattle.leveldb_base.specs.declared.error.Status.{Status}
+use Rattle.leveldb_env.specs.Env.{ChangesFiles, HasCause, Observed, SameLocks}
+use Rattle.leveldb_env.specs.WholeFiles.{IsLostUnobserved}
+use Rattle.leveldb_version.specs.CurrentFile.{temp_path}
+use Rattle.leveldb_version.specs.NewManifest.{MakingManifest, manifest_bytes, with_manifest}
+use Rattle.leveldb_version.specs.VersionEdit.{Edit, edit_bytes, empty_edit}
+
+-- the one edit of a new store: its comparator's name, no log yet, the number after the manifest's,
+-- and no entry
+abbrev pub first_edit : List ℕ → Edit
+first_edit comparator = record empty_edit {
+  comparator = Some comparator;
+  log_number = Some 0;
+  next_file = Some 2;
+  last_sequence = Some 0;
+}
+
+-- the bytes of its manifest, whose number is 1
+abbrev pub first_manifest : List ℕ → List ℕ
+first_manifest comparator = manifest_bytes (edit_bytes (first_edit comparator) ∷ [])
+
+-- What making a new store returns and leaves: its manifest is made and `CURRENT` names it, or a call
+-- of the environment failed. Then `CURRENT` may name it, too.
+pub record MakeStoreResult (models_disk : Bool) (store comparator : List ℕ) (before : Observed)
+    (failed : ℕ) (result : Result (Unit {0}) Status) (after : Observed) (now_failed : ℕ)
+    : Type 0 where
+  pub does : IsTrue models_disk → ChangesFiles models_disk
+      (with_manifest store 1 (first_manifest comparator))
+      (MakingManifest store 1 (first_manifest comparator)) before after result
+  pub locks : SameLocks models_disk before after
+  pub cause : HasCause (IsLostUnobserved models_disk (temp_path store 1) failed now_failed)
+      failed now_failed result
