@@ -4,6 +4,7 @@ pub mod CurrentLemmas
 pub mod VersionSetLemmas
 pub mod FullEditLemmas
 pub mod SummaryLemmas
+mod NewManifestLemmas
 pub mod NumbersLemmas
 pub mod BatchesLemmas
 pub mod ViewsLemmas
