@@ -5,6 +5,7 @@ pub mod VersionSetLemmas
 pub mod FullEditLemmas
 pub mod SummaryLemmas
 mod NewManifestLemmas
+mod LogEditLemmas
 pub mod NumbersLemmas
 pub mod BatchesLemmas
 pub mod ViewsLemmas

@@ -13,6 +13,7 @@ use std::alloc::Global;
 mod current;
 mod current_file;
 mod full_edit;
+mod log_edit;
 mod manifest;
 mod new_manifest;
 mod new_store;
