@@ -4,6 +4,8 @@ pub mod CurrentLemmas
 pub mod VersionSetLemmas
 pub mod FullEditLemmas
 pub mod SummaryLemmas
+mod NewManifestLemmas
+mod LogEditLemmas
 pub mod NumbersLemmas
 pub mod BatchesLemmas
 pub mod ViewsLemmas

@@ -13,7 +13,10 @@ use std::alloc::Global;
 mod current;
 mod current_file;
 mod full_edit;
+mod log_edit;
 mod manifest;
+mod new_manifest;
+mod new_store;
 mod set;
 mod summary;
 
@@ -21,6 +24,7 @@ pub use current::{
     current_file_name, current_text, manifest_file_name, parse_current_text, temp_file_name,
 };
 pub use current_file::{read_current_file, set_current_file};
+pub use new_store::make_store;
 pub use set::VersionSet;
 
 /// Whether the file's keys are internal keys, of eight bytes at least, and the smallest is not

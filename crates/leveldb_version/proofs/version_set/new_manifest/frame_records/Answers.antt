@@ -1,0 +1,25 @@
+use Rattle.std.proofs.Common.{◌≡◌, ◌∙◌, ◌∷◌, ◌++◌, ◌+◌, List, Vec, ℕ, ap, drop, fold, map, rules, subst, sym}
+use Rattle.std.specs.Global.{Global}
+use Rattle.std.proofs.lemmas.List.{drop_more}
+use Rattle.leveldb_mem.specs.Log.{framed, log_block_size}
+use Rattle.leveldb_mem.specs.Log.Writer.{WriterState, after_frame}
+use Rattle.leveldb_version.proofs.NewManifestLemmas.{framed_more}
+use Rattle.leveldb_version.specs.NewManifest.{manifest_bytes}
+use Rattle.leveldb_version.proofs.version_set.new_manifest.frame_records.Goals as goal
+
+pub loop-record-preserved : goal.loop-record-preserved
+loop-record-preserved c =
+    let items : Vec ℕ Global → List ℕ = λ it. it.items in
+    let others : List (List ℕ) = map items (drop (c.loop-record.record-index + 1) c.args.records.now) in
+    let text : List ℕ = c.record-item.result.items in
+    let left : map items (drop c.loop-record.record-index c.args.records.now) ≡ text ∷ others =
+    ap (map items) (drop_more c.args.records.now c.loop-record.record-index c.record-item.result c.loop-record-test.true
+    ∙ ap (λ z. z ∷ drop (c.loop-record.record-index + 1) c.args.records.now) (sym c.record-item.is)) in
+    let adds = rw c.deref.ensures.value at c.in_ok-add_record.ensures.ok in
+    record {
+      bytes = framed_more items _ text others c.loop-record.invariant.size adds
+          (c.loop-record.invariant.bytes ∙ ap (λ z. c.loop-record.bytes.items ++ framed log_block_size z c.loop-record.writer.offset) left);
+      writer = c.loop-record.invariant.writer ∙ ap (fold after_frame c.loop-record.writer) left ∙ ap (λ w. fold after_frame w others) (sym adds.writer);
+      size = ap (λ (w : WriterState). w.size) adds.writer ∙ c.loop-record.invariant.size;
+      usable = ap (λ (w : WriterState). w.broken) adds.writer ∙ c.loop-record.invariant.usable;
+    }
