@@ -44,3 +44,4 @@ pub mod HoldsLemmas
 pub mod SameStoreLemmas
 pub mod BytesLemmas
 pub mod RenameOpensLemmas
+pub mod RecoverLemmas

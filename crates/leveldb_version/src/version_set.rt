@@ -14,8 +14,10 @@ mod current;
 mod current_file;
 mod full_edit;
 mod manifest;
+mod replay;
 mod set;
 mod summary;
+mod usable;
 
 pub use current::{
     current_file_name, current_text, manifest_file_name, parse_current_text, temp_file_name,
