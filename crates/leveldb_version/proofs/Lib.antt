@@ -44,4 +44,6 @@ pub mod HoldsLemmas
 pub mod SameStoreLemmas
 pub mod BytesLemmas
 pub mod RenameOpensLemmas
+pub mod ReplayLemmas
 pub mod RecoverLemmas
+pub mod UsableLemmas

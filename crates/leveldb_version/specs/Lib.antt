@@ -23,4 +23,5 @@ pub mod NewStore
 pub mod Recover
 pub mod Replay
 pub mod Usable
+pub mod RecoverSteps
 pub mod Tracks

@@ -14,6 +14,7 @@ mod current;
 mod current_file;
 mod full_edit;
 mod manifest;
+mod recover;
 mod replay;
 mod set;
 mod summary;

@@ -1,7 +1,7 @@
 use Rattle.std.proofs.Common.{◌+◌, ℕ, List, map, sym, subst, take}
 use Rattle.std.proofs.lemmas.Result.{err_from_is_err_and}
 use Rattle.leveldb_version.specs.Replay.{AreReplayed}
-use Rattle.leveldb_version.proofs.RecoverLemmas.{one_encodes_none, replayed_one_more, texts, texts_more}
+use Rattle.leveldb_version.proofs.ReplayLemmas.{one_encodes_none, replayed_one_more, texts, texts_more}
 use Rattle.leveldb_version.proofs.version_set.replay.replay.Goals as goal
 
 pub returns-in_err-add_record-clause-cause : goal.returns-in_err-add_record-clause-cause
