@@ -46,4 +46,5 @@ pub mod BytesLemmas
 pub mod RenameOpensLemmas
 pub mod ReplayLemmas
 pub mod RecoverLemmas
+pub mod RecoveredLemmas
 pub mod UsableLemmas
