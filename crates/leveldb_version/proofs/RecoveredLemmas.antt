@@ -85,7 +85,7 @@ module _ (models_disk : Bool) (cmp : List ℕ → List ℕ → Ordering) (compar
         (more_locks : SameLocks models_disk mid after) (same : f1 ≡ f0) (reuses : plan.reuses ≡ true) where
       syncs_named : {T : Type 0} (result : Result T Status) → IsTrue models_disk
           → ChangesFiles models_disk (synced (string_bytes plan.path)) (BeforeOrAfter (synced (string_bytes plan.path))) mid after result
-          → LeavesFiles reuse old before after
+          → LeavesFiles models_disk cmp comparator reuse limit old before after
       syncs_named {T} result modelled does =
           let path : List ℕ = in_folder old.store is.manifest.name in
           let P : List ℕ → Type 0 = λ p. ChangesFiles {T = T} models_disk (synced p) (BeforeOrAfter (synced p)) mid after result in

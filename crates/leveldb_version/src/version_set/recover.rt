@@ -48,11 +48,7 @@ impl<E: Env> VersionSet<E> {
     /// edit begins a new manifest: this one is used on, and synced, where the options say so, its
     /// end is clean and it is below the greatest size of a table.
     /// Fails where a store can't begin with its edits, and then nothing has changed.
-    pub fn recover<C: Cmp, FP>(
-        &mut self,
-        env: &mut E,
-        options: &Options<C, FP>,
-    ) -> Result<bool>
+    pub fn recover<C: Cmp, FP>(&mut self, env: &mut E, options: &Options<C, FP>) -> Result<bool>
         ensures { RecoverResult E.models_disk (C.cmp options.now.cmp) (C.name options.now.cmp)
             options.now.reuse_manifest options.now.max_file_size
             self.old (E.observed env.old) (E.failures env.old)
@@ -191,8 +187,9 @@ fn reopen<E: Env>(alloc: Global, env: &mut E, path: String, size: usize) -> Resu
         (E.observed env.old) (E.observed env.new) result }
     ensures locks { SameLocks E.models_disk (E.observed env.old) (E.observed env.new) }
     ensures manifest { IfOk result (λ manifest. manifest ≡ record {
-        path = string_bytes path;
-        writer = new_writer log_block_size (size % log_block_size) }) }
+      path = string_bytes path;
+      writer = new_writer log_block_size (size % log_block_size);
+    }) }
     ensures cause { HasCause IsOutOfMemory (E.failures env.old) (E.failures env.new) result }
 {
     let mut file = env.open_appendable_file(&path)?;
