@@ -46,3 +46,7 @@ pub mod HoldsLemmas
 pub mod SameStoreLemmas
 pub mod BytesLemmas
 pub mod RenameOpensLemmas
+pub mod ReplayLemmas
+pub mod RecoverLemmas
+pub mod RecoveredLemmas
+pub mod UsableLemmas

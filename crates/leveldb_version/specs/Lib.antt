@@ -21,4 +21,7 @@ pub mod LogEdit
 pub mod NewManifest
 pub mod NewStore
 pub mod Recover
+pub mod Replay
+pub mod Usable
+pub mod RecoverSteps
 pub mod Tracks

@@ -17,8 +17,11 @@ mod log_edit;
 mod manifest;
 mod new_manifest;
 mod new_store;
+mod recover;
+mod replay;
 mod set;
 mod summary;
+mod usable;
 
 pub use current::{
     current_file_name, current_text, manifest_file_name, parse_current_text, temp_file_name,

@@ -1,0 +1,137 @@
+-- What a version set is once it is recovered, and what stands where it isn't.
+use Rattle.std.specs.Prelude.{◌%◌, IsSome, IsSomeAnd, IsTrue, Result, Ok, Err, string_bytes}
+use Rattle.std.proofs.Common.{◌≡◌, ◌⊎◌, inl, inr, ⊎_elim, ℕ, ◌≤◌, ◌+◌, Bool, true, false, List, [], Option, None, Some, refl, sym, ◌∙◌, ap, subst, arith}
+use Rattle.std.specs.Option.{unwrap_or}
+use Rattle.std.specs.declared.cmp.Ordering.{Ordering}
+use Rattle.leveldb_base.specs.Error.{IsOutOfMemory}
+use Rattle.leveldb_base.specs.declared.error.Status.{Status}
+use Rattle.leveldb_env.specs.Env.{BeforeOrAfter, ChangesFiles, File, Files, FilesUnchanged, HasCause, Observed, Run, SameLocks, bytes_of, in_folder, synced}
+use Rattle.leveldb_env.proofs.EnvLemmas.{Run-mono, call}
+use Rattle.leveldb_mem.specs.Log.{log_block_size}
+use Rattle.leveldb_mem.specs.Log.Writer.{new_writer}
+use Rattle.leveldb_version.specs.Current.{IsCurrentText}
+use Rattle.leveldb_version.specs.Paths.{current_path}
+use Rattle.leveldb_version.specs.Recover.{IsNamed, IsRead, IsReusable, LeavesFiles, ReadManifest, RecoverResult, WhyUnrecovered, set_going_on, set_starting_anew, unread}
+use Rattle.leveldb_version.specs.RecoverSteps.{IsPlan, set_settled}
+use Rattle.leveldb_version.specs.VersionSetValue.{ManifestState, OpenManifest, VersionSetValue, in_use, unmade}
+use Rattle.leveldb_version.specs.declared.version_set.recover.Plan.{Plan}
+use Rattle.leveldb_version.proofs.RecoverLemmas.{some_and, and_some, why_memory, cause_of_error}
+
+is_named : (store : List ℕ) (files : Files) (manifest : ReadManifest) → IsRead store files manifest → IsNamed store files manifest.name manifest.number
+is_named store files manifest read =
+    let has = read.has_edits in
+    let P : List ℕ → Type 0 = λ name. IsCurrentText (bytes_of has.current) name manifest.number in
+    let Q : ℕ → Type 0 = λ n. IsCurrentText (bytes_of has.current) has.name n in
+    and_some (λ (file : File). IsCurrentText (bytes_of file) manifest.name manifest.number) (files (current_path store)) has.current has.current_there (subst P read.name (subst Q read.number has.named))
+
+module _ (models_disk : Bool) (cmp : List ℕ → List ℕ → Ordering) (comparator : List ℕ) (reuse : Bool) (limit : ℕ) (old new : VersionSetValue) (before : Observed) where
+  -- nothing was done but reading
+  pub nothing_recovered : (after : Observed) (f0 f1 : ℕ) (status : Status) → (IsTrue models_disk → Run (FilesUnchanged before.disk.files) before after) → SameLocks models_disk before after → new ≡ old
+      → HasCause {T = Bool} (WhyUnrecovered models_disk cmp comparator reuse limit old before f0 f1) f0 f1 (Err status)
+      → RecoverResult models_disk cmp comparator reuse limit old before f0 (Err status) new after f1
+  nothing_recovered after f0 f1 status still locks same cause = record {
+    ok = tt;
+    err = same;
+    files = λ modelled. record { manifest = []; number = 0; run = Run-mono (λ files e. inl e) (still modelled); synced_named = inl (still modelled).has };
+    locks = locks;
+    cause = cause;
+  }
+
+  module _ (plan : Plan) (is : IsPlan models_disk cmp comparator reuse limit old before.disk.files plan) where
+    starting_anew : set_settled old plan.left (plan.next_file + 1) plan.next_file unmade ≡ set_starting_anew old is.manifest
+    starting_anew = λ i. record old {
+      full = is.left.full i;
+      next_file = is.next_file i + 1;
+      given = None;
+      manifest_number = is.next_file i;
+      last_sequence = unwrap_or (is.left.last_sequence i) 0;
+      log_number = unwrap_or (is.left.log_number i) 0;
+      previous_log = unwrap_or (is.left.previous_log i) 0;
+      manifest = unmade;
+    }
+
+    going_on : (manifest : OpenManifest) → manifest ≡ record { path = string_bytes plan.path; writer = new_writer log_block_size (plan.size % log_block_size) }
+        → set_settled old plan.left plan.next_file plan.number (in_use manifest) ≡ set_going_on old is.manifest
+    going_on manifest made =
+        ap (λ m. set_settled old plan.left plan.next_file plan.number (in_use m)) made ∙ λ i. record old {
+          full = is.left.full i;
+          next_file = is.next_file i;
+          given = None;
+          manifest_number = is.number i;
+          last_sequence = unwrap_or (is.left.last_sequence i) 0;
+          log_number = unwrap_or (is.left.log_number i) 0;
+          previous_log = unwrap_or (is.left.previous_log i) 0;
+          manifest = in_use (record { path = is.path i; writer = new_writer log_block_size (is.size i % log_block_size) });
+        }
+
+    pub recovered_anew : (after : Observed) (f0 f1 : ℕ) → (IsTrue models_disk → Run (FilesUnchanged before.disk.files) before after) → SameLocks models_disk before after → f1 ≡ f0
+        → plan.reuses ≡ false → new ≡ set_settled old plan.left (plan.next_file + 1) plan.next_file unmade
+        → RecoverResult models_disk cmp comparator reuse limit old before f0 (Ok true) new after f1
+    recovered_anew after f0 f1 still locks same anew is_new = record {
+      ok = record {
+        manifest = is.manifest;
+        read = is.read;
+        usable = is.usable;
+        goes_on = λ reusable. absurd (let never : true ≡ false = sym (is.reuses.1 reusable) ∙ anew in cc);
+        starts_anew = λ not. (refl, is_new ∙ starting_anew, λ modelled. (still modelled).has);
+      };
+      err = tt;
+      files = λ modelled. record { manifest = []; number = 0; run = Run-mono (λ files e. inl e) (still modelled); synced_named = inl (still modelled).has };
+      locks = locks;
+      cause = record { later = omega (arith, same); ok = same; uncounted = tt; cause = tt };
+    }
+
+    module _ (mid after : Observed) (f0 f1 f2 : ℕ) (still : IsTrue models_disk → Run (FilesUnchanged before.disk.files) before mid) (locks : SameLocks models_disk before mid)
+        (more_locks : SameLocks models_disk mid after) (same : f1 ≡ f0) (reuses : plan.reuses ≡ true) where
+      syncs_named : {T : Type 0} (result : Result T Status) → IsTrue models_disk
+          → ChangesFiles models_disk (synced (string_bytes plan.path)) (BeforeOrAfter (synced (string_bytes plan.path))) mid after result
+          → LeavesFiles models_disk cmp comparator reuse limit old before after
+      syncs_named {T} result modelled does =
+          let path : List ℕ = in_folder old.store is.manifest.name in
+          let P : List ℕ → Type 0 = λ p. ChangesFiles {T = T} models_disk (synced p) (BeforeOrAfter (synced p)) mid after result in
+          let there : mid.disk.files ≡ before.disk.files = (still modelled).has in
+          let moved : (files : Files) → BeforeOrAfter (synced path) mid.disk.files files → BeforeOrAfter (synced path) before.disk.files files
+          = λ files passes. ⊎_elim (λ (e : files ≡ mid.disk.files). inl (e ∙ there)) (λ (e : files ≡ synced path mid.disk.files). inr (e ∙ ap (synced path) there)) passes in
+          record {
+            manifest = is.manifest.name;
+            number = is.manifest.number;
+            run = call modelled (Run-mono (λ files e. inl e) (still modelled)) moved (subst P is.path does);
+            synced_named = inr ((is.reuses.0 reuses).wanted, is_named old.store before.disk.files is.manifest (is.read modelled));
+          }
+
+      pub recovered_going_on : {T : Type 0} (value : T) (manifest : OpenManifest)
+          → (IsTrue models_disk → ChangesFiles models_disk (synced (string_bytes plan.path)) (BeforeOrAfter (synced (string_bytes plan.path))) mid after (Ok value))
+          → f2 ≡ f1 → manifest ≡ record { path = string_bytes plan.path; writer = new_writer log_block_size (plan.size % log_block_size) }
+          → new ≡ set_settled old plan.left plan.next_file plan.number (in_use manifest)
+          → RecoverResult models_disk cmp comparator reuse limit old before f0 (Ok false) new after f2
+      recovered_going_on value manifest does last made is_new = record {
+        ok = record {
+          manifest = is.manifest;
+          read = is.read;
+          usable = is.usable;
+          goes_on = λ reusable. (
+            refl,
+            is_new ∙ going_on manifest made,
+            λ modelled. (does modelled).ok modelled ∙ ap (synced (string_bytes plan.path)) (still modelled).has ∙ ap (λ p. synced p before.disk.files) is.path,
+          );
+          starts_anew = λ not. absurd (not (is.reuses.0 reuses));
+        };
+        err = tt;
+        files = λ modelled. syncs_named (Ok value) modelled (does modelled);
+        locks = λ modelled. more_locks modelled ∙ locks modelled;
+        cause = record { later = omega (arith, same, last); ok = last ∙ same; uncounted = tt; cause = tt };
+      }
+
+      pub reopening_refused : {T : Type 0} (status : Status)
+          → (IsTrue models_disk → ChangesFiles {T = T} models_disk (synced (string_bytes plan.path)) (BeforeOrAfter (synced (string_bytes plan.path))) mid after (Err status))
+          → HasCause {T = T} IsOutOfMemory f1 f2 (Err status) → new ≡ old
+          → RecoverResult models_disk cmp comparator reuse limit old before f0 (Err status) new after f2
+      reopening_refused {T} status does cause same_set =
+          let P : ℕ → Type 0 = λ f. HasCause {T = T} IsOutOfMemory f f2 (Err status) in
+          record {
+            ok = tt;
+            err = same_set;
+            files = λ modelled. syncs_named (Err status) modelled (does modelled);
+            locks = λ modelled. more_locks modelled ∙ locks modelled;
+            cause = cause_of_error status (λ memory. unread (inl (inl memory))) (λ why. why_memory models_disk cmp comparator reuse limit old before f0 f2 status why) (subst P same cause);
+          }

@@ -1,0 +1,9 @@
+use Rattle.std.proofs.Common.{◌∙◌}
+use Rattle.std.specs.Prelude.{string_bytes}
+use Rattle.leveldb_version.proofs.RecoverLemmas.{reopened}
+use Rattle.leveldb_version.proofs.version_set.recover.reopen.Goals as goal
+
+pub returns-clause-does : goal.returns-clause-does
+returns-clause-does g c = λ modelled.
+    reopened g.E.Env.models_disk (string_bytes c.args.path) c.deref.result.now (g.E.Env.name_of c.in_ok-file.file) (g.E.Env.observed c.args.env.now) (g.E.Env.observed c.open_appendable_file.new.self)
+    (g.E.Env.observed c.sync.new.self) c.in_ok-file.file c.in_ok-sync.field-0 _ modelled (c.requires modelled) c.deref.ensures (c.in_ok-file.ensures.file modelled) c.in_ok-file.ensures.does c.in_ok-sync.ensures.does

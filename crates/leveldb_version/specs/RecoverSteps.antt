@@ -1,0 +1,77 @@
+-- What the steps of recovering a version set return, and why they fail.
+use Rattle.std.specs.Prelude.{◌≡◌, ◌<◌, ◌+◌, ◌⊎◌, ◌↔◌, ◌^◌, ℕ, Bool, List, None, Option, IsSomeAnd, IsTrue, length, string_bytes}
+use Rattle.std.specs.Option.{unwrap_or}
+use Rattle.std.specs.declared.cmp.Ordering.{Ordering}
+use Rattle.leveldb_base.specs.declared.error.Status.{Status}
+use Rattle.leveldb_env.specs.Env.{File, Files, Observed, bytes_of, in_folder}
+use Rattle.leveldb_env.specs.WholeFiles.{IsLost}
+use Rattle.leveldb_mem.specs.Log.{End, IsLogFile}
+use Rattle.leveldb_mem.specs.Log.Files.{IsHuge}
+use Rattle.leveldb_version.specs.CurrentFile.{IsCurrentUnread}
+use Rattle.leveldb_version.specs.Recover.{IsNamed, IsRead, IsReusable, IsUsable, ReadManifest, next_number_after}
+use Rattle.leveldb_version.specs.Replay.{IsLeftBy}
+use Rattle.leveldb_version.specs.VersionEdit.{edit_of}
+use Rattle.leveldb_version.specs.VersionSetValue.{ManifestState, VersionSetValue}
+use Rattle.leveldb_version.specs.declared.version_set.recover.Plan.{Plan}
+use Rattle.leveldb_version.specs.declared.version_set.replay.Replayed.{Replayed}
+
+-- ---- reading the manifest
+
+-- the file is there, and is a log of these records before this end, of this size
+abbrev pub IsSizedLog : Option File → List (List ℕ) → End → ℕ → Type 0
+IsSizedLog file records end size = IsSomeAnd file (λ file.
+    IsLogFile (bytes_of file) records end × (length (bytes_of file) ≡ size))
+
+-- the log is missing, or has a record of 2^64 bytes; or memory was out
+abbrev pub IsLogUnread : Bool → List ℕ → Observed → ℕ → ℕ → Status → Type 0
+IsLogUnread models_disk path before failed now_failed e =
+    IsLost models_disk path before failed now_failed e
+    ⊎ ((now_failed ≡ failed) × IsHuge models_disk (before.disk.files path) e)
+
+-- the manifest of this path and number is the one that `CURRENT` names, and has this size and these
+-- records before this end
+pub record IsManifestRead (models_disk : Bool) (store : List ℕ) (files : Files) (path : List ℕ)
+    (number : ℕ) (records : List (List ℕ)) (end : End) (size : ℕ) : Type 0 where
+  pub name : List ℕ
+  pub path_is : path ≡ in_folder store name
+  pub named : IsTrue models_disk → IsNamed store files name number
+  pub read : IsTrue models_disk → IsSizedLog (files path) records end size
+
+-- `CURRENT` names no manifest, or one that isn't read
+abbrev pub IsManifestUnread : Bool → List ℕ → Observed → ℕ → ℕ → Status → Type 0
+IsManifestUnread models_disk store before failed now_failed status =
+    IsCurrentUnread models_disk store before failed now_failed status
+    ⊎ ((name : List ℕ) × (n : ℕ)
+    × (IsTrue models_disk → IsNamed store before.disk.files name n)
+    × IsLogUnread models_disk (in_folder store name) before failed now_failed status)
+
+-- ---- what the set is to become
+
+-- The plan has what was read of a manifest that a store may begin with: where it is and its size,
+-- whether it goes on to be used, what its edits leave, and the number of the next file.
+pub record IsPlan (models_disk : Bool) (cmp : List ℕ → List ℕ → Ordering) (comparator : List ℕ)
+    (reuse : Bool) (limit : ℕ) (old : VersionSetValue) (files : Files) (plan : Plan)
+    : Type 0 where
+  pub manifest : ReadManifest
+  pub read : IsTrue models_disk → IsRead old.store files manifest
+  pub usable : IsUsable cmp comparator manifest.edits
+  pub path : string_bytes plan.path ≡ in_folder old.store manifest.name
+  pub number : plan.number ≡ manifest.number
+  pub size : plan.size ≡ manifest.size
+  pub reuses : IsTrue plan.reuses ↔ IsReusable reuse limit manifest
+  pub left : IsLeftBy manifest.edits plan.left
+  pub next_file : plan.next_file ≡ next_number_after old manifest.edits manifest.number
+  pub fits : plan.next_file + 1 < 2 ^ 64
+
+-- the set that has what edits left, with this manifest and these numbers
+abbrev pub set_settled : VersionSetValue → Replayed → ℕ → ℕ → ManifestState → VersionSetValue
+set_settled old left next_file number manifest = record old {
+  full = edit_of left.full;
+  next_file = next_file;
+  given = None;
+  manifest_number = number;
+  last_sequence = unwrap_or left.last_sequence 0;
+  log_number = unwrap_or left.log_number 0;
+  previous_log = unwrap_or left.previous_log 0;
+  manifest = manifest;
+}

@@ -1,0 +1,202 @@
+//! Recovering a version set from the manifest that `CURRENT` names.
+ghost use Rattle.std.specs.Prelude.{◌≡◌, ◌<◌, ◌⊎◌, ◌%◌, ◌↔◌, Bool, ℕ, List, false, if◌then◌else◌, IfOk, IfSome, IsSome, IsTrue, map, string_bytes};
+ghost use Rattle.leveldb_base.specs.Error.{IsOutOfMemory};
+ghost use Rattle.leveldb_env.specs.Env.{BeforeOrAfter, ChangesFiles, FilesUnchanged, HasCause, Run, SameLocks, synced};
+ghost use Rattle.leveldb_mem.specs.Log.{bad, clean, log_block_size};
+ghost use Rattle.leveldb_mem.specs.Log.Writer.{new_writer};
+ghost use Rattle.leveldb_version.specs.Recover.{RecoverResult, WhyUnrecovered};
+ghost use Rattle.leveldb_version.specs.RecoverSteps.{IsLogUnread, IsManifestRead, IsManifestUnread, IsPlan, IsSizedLog, set_settled};
+ghost use Rattle.leveldb_version.specs.VersionSetValue.{manifest_state};
+
+use super::current_file::read_current_file;
+use super::manifest::Manifest;
+use super::replay::{Replayed, replay};
+use super::set::VersionSet;
+use super::usable::{check_usable, next_number_after};
+use leveldb_base::cmp::Cmp;
+use leveldb_base::error::Result;
+use leveldb_base::types::FileNum;
+use leveldb_env::env::Env;
+use leveldb_env::env::whole_files::found;
+use leveldb_env::options::Options;
+use leveldb_mem::log::{WriterCore, read_log_file};
+use std::alloc::Global;
+
+// What was read of a manifest.
+#[derive(Drop)]
+struct ManifestRead {
+    path: String,
+    number: FileNum,
+    records: Vec<Vec<u8>>,
+    is_clean: bool,
+    size: usize,
+}
+
+// What a set is to become, and whether it goes on with the manifest that was read.
+#[derive(Drop)]
+struct Plan {
+    path: String,
+    number: FileNum,
+    size: usize,
+    reuses: bool,
+    left: Replayed,
+    next_file: FileNum,
+}
+
+impl<E: Env> VersionSet<E> {
+    /// Makes it the set that the manifest leaves which `CURRENT` names. Returns whether the next
+    /// edit begins a new manifest: this one is used on, and synced, where the options say so, its
+    /// end is clean and it is below the greatest size of a table.
+    /// Fails where a store can't begin with its edits, and then nothing has changed.
+    pub fn recover<C: Cmp, FP>(&mut self, env: &mut E, options: &Options<C, FP>) -> Result<bool>
+        ensures { RecoverResult E.models_disk (C.cmp options.now.cmp) (C.name options.now.cmp)
+            options.now.reuse_manifest options.now.max_file_size
+            self.old (E.observed env.old) (E.failures env.old)
+            result self.new (E.observed env.new) (E.failures env.new) }
+    {
+        let plan = self.plan(env, options)?;
+        if plan.reuses {
+            let manifest = reopen(self.alloc, env, plan.path, plan.size)?;
+            self.settle(plan.left, plan.next_file, plan.number, Some(manifest));
+            return Ok(false);
+        }
+        self.settle(plan.left, plan.next_file + 1, plan.next_file, None);
+        Ok(true)
+    }
+
+    // What the set is to become, by the manifest that `CURRENT` names.
+    fn plan<C: Cmp, FP>(&self, env: &mut E, options: &Options<C, FP>) -> Result<Plan>
+        ensures still { IsTrue E.models_disk
+            → Run (FilesUnchanged (E.observed env.old).disk.files) (E.observed env.old)
+            (E.observed env.new) }
+        ensures locks { SameLocks E.models_disk (E.observed env.old) (E.observed env.new) }
+        ensures ok { IfOk result (IsPlan E.models_disk (C.cmp options.now.cmp)
+            (C.name options.now.cmp) options.now.reuse_manifest options.now.max_file_size
+            self.now (E.observed env.old).disk.files) }
+        ensures cause { HasCause (WhyUnrecovered E.models_disk (C.cmp options.now.cmp)
+            (C.name options.now.cmp) options.now.reuse_manifest options.now.max_file_size
+            self.now (E.observed env.old) (E.failures env.old) (E.failures env.new))
+            (E.failures env.old) (E.failures env.new) result }
+    {
+        let read = read_manifest(self.alloc, env, &self.store)?;
+        let left = replay(self.alloc, read.records.as_slice())?;
+        check_usable(self.alloc, &options.cmp, &left)?;
+        let next_file = next_number_after(self.alloc, self.next_file, read.number, &left)?;
+        let reuses = is_reusable(
+            options.reuse_manifest,
+            options.max_file_size,
+            read.is_clean,
+            read.size,
+        );
+        Ok(Plan {
+            path: read.path,
+            number: read.number,
+            size: read.size,
+            reuses,
+            left,
+            next_file,
+        })
+    }
+
+    // Becomes what edits left. It takes no memory.
+    fn settle(
+        &mut self,
+        left: Replayed,
+        next_file: FileNum,
+        number: FileNum,
+        manifest: Option<Manifest<E>>,
+    )
+        requires { IfSome manifest (λ manifest.
+            (manifest.writer.broken ≡ false) × (manifest.writer.size ≡ log_block_size)) }
+        ensures { self.new
+            ≡ set_settled self.old left next_file number (manifest_state false manifest) }
+    {
+        self.full = left.full;
+        self.next_file = next_file;
+        self.given = None;
+        self.manifest_number = number;
+        self.last_sequence = left.last_sequence.unwrap_or(0);
+        self.log_number = left.log_number.unwrap_or(0);
+        self.previous_log = left.previous_log.unwrap_or(0);
+        self.manifest = manifest;
+        self.broken = false;
+    }
+}
+
+// The manifest that `CURRENT` names.
+fn read_manifest<E: Env>(alloc: Global, env: &mut E, store: &str) -> Result<ManifestRead>
+    ensures still { IsTrue E.models_disk
+        → Run (FilesUnchanged (E.observed env.old).disk.files) (E.observed env.old)
+        (E.observed env.new) }
+    ensures locks { SameLocks E.models_disk (E.observed env.old) (E.observed env.new) }
+    ensures ok { IfOk result (λ read. IsManifestRead E.models_disk store.now
+        (E.observed env.old).disk.files (string_bytes read.path) read.number
+        (map (λ v. v.items) read.records.items) (if read.is_clean then clean else bad) read.size) }
+    ensures cause { HasCause (IsManifestUnread E.models_disk store.now (E.observed env.old)
+        (E.failures env.old) (E.failures env.new))
+        (E.failures env.old) (E.failures env.new) result }
+{
+    let (name, number) = read_current_file(alloc, env, store)?;
+    let path = format!(in alloc; "{store}/{name}")?;
+    let (records, is_clean, size) = read_sized_log(alloc, env, &path)?;
+    Ok(ManifestRead {
+        path,
+        number,
+        records,
+        is_clean,
+        size,
+    })
+}
+
+// The records of a log's file, whether it ends between two of them, and its size.
+fn read_sized_log<E: Env>(
+    alloc: Global,
+    env: &mut E,
+    path: &str,
+) -> Result<(Vec<Vec<u8>>, bool, usize)>
+    ensures still { IsTrue E.models_disk
+        → Run (FilesUnchanged (E.observed env.old).disk.files) (E.observed env.old)
+        (E.observed env.new) }
+    ensures locks { SameLocks E.models_disk (E.observed env.old) (E.observed env.new) }
+    ensures ok { IfOk result (λ found. IsTrue E.models_disk
+        → IsSizedLog ((E.observed env.old).disk.files path.now)
+        (map (λ v. v.items) found.0.items) (if found.1 then clean else bad) found.2) }
+    ensures cause { HasCause (IsLogUnread E.models_disk path.now (E.observed env.old)
+        (E.failures env.old) (E.failures env.new))
+        (E.failures env.old) (E.failures env.new) result }
+{
+    let (records, is_clean) = found(alloc, path, read_log_file(alloc, env, path))?;
+    let size = found(alloc, path, env.size_of(path))?;
+    Ok((records, is_clean, size))
+}
+
+// Whether a manifest goes on to be used.
+fn is_reusable(reuse: bool, limit: usize, is_clean: bool, size: usize) -> bool
+    ensures { IsTrue result ↔ (IsTrue reuse × IsTrue is_clean × (size < limit)) }
+{
+    reuse && is_clean && size < limit
+}
+
+// Opens a manifest that is there, to be appended to, with all its bytes kept.
+fn reopen<E: Env>(alloc: Global, env: &mut E, path: String, size: usize) -> Result<Manifest<E>>
+    requires { IsTrue E.models_disk
+        → IsSome ((E.observed env.old).disk.files (string_bytes path)) }
+    ensures does { IsTrue E.models_disk
+        → ChangesFiles E.models_disk (synced (string_bytes path))
+        (BeforeOrAfter (synced (string_bytes path)))
+        (E.observed env.old) (E.observed env.new) result }
+    ensures locks { SameLocks E.models_disk (E.observed env.old) (E.observed env.new) }
+    ensures manifest { IfOk result (λ manifest. manifest ≡ record {
+      path = string_bytes path;
+      writer = new_writer log_block_size (size % log_block_size);
+    }) }
+    ensures cause { HasCause IsOutOfMemory (E.failures env.old) (E.failures env.new) result }
+{
+    let mut file = env.open_appendable_file(&path)?;
+    env.sync(&mut file)?;
+    Ok(Manifest {
+        path,
+        file,
+        writer: WriterCore::new_with_off(alloc, size),
+    })
+}
