@@ -44,3 +44,7 @@ pub mod HoldsLemmas
 pub mod SameStoreLemmas
 pub mod BytesLemmas
 pub mod RenameOpensLemmas
+pub mod LogKeepsLemmas
+pub mod TracksLemmas
+pub mod NewManifestKeepsLemmas
+pub mod NewStoreLemmas
