@@ -4,7 +4,7 @@ use Rattle.leveldb_base.specs.Crc.{crc_of, masked}
 use Rattle.leveldb_base.specs.Types.{Pair}
 use Rattle.leveldb_base.specs.Varint.{little}
 use Rattle.leveldb_env.proofs.EnvLemmas.{appended}
-use Rattle.leveldb_env.specs.Env.{AreBytes, Files, PrefixAppended, bytes_of, extended, in_folder, synced}
+use Rattle.leveldb_env.specs.Env.{AreBytes, Files, PrefixAppended, bytes_of, extended, in_folder}
 use Rattle.leveldb_mem.specs.Log.{checksum, filler, fragment_at, fragment_bytes, frame_at, framed_record, framed_within, log_block_size, record_type, room, Fragment}
 use Rattle.leveldb_mem.specs.Log.Writer.{frame}
 use Rattle.leveldb_version.proofs.BytesLemmas.{append_bytes, bytes_stay}
@@ -17,7 +17,7 @@ use Rattle.leveldb_version.specs.StoreSteps.{AppendedAreBytes, EditRefines, Keep
 use Rattle.leveldb_version.specs.Tracks.{IsInUse, Tracks}
 use Rattle.leveldb_version.specs.VersionEdit.{Edit, FieldFits, IsEdit, IsEncodable, edit_bytes, edit_of_fields, empty_edit}
 use Rattle.leveldb_version.specs.VersionSetValue.{OpenManifest, VersionSetValue, in_use}
-use Rattle.std.proofs.Common.{◌++◌, ◌-◌, ◌/◌, ◌%◌, ◌^◌, ◌∙◌, ◌∷◌, ◌≡◌, ◌<◌, Bool, List, None, Some, [], ap, arith, drop, false, inl, inr, length, nat_le, nat_lt, refl, replicate, subst, suc, sym, take, true, zero, ℕ}
+use Rattle.std.proofs.Common.{◌++◌, ◌-◌, ◌/◌, ◌%◌, ◌^◌, ◌∷◌, ◌≡◌, ◌<◌, Bool, List, None, Some, [], ap, arith, drop, false, inl, inr, length, nat_le, nat_lt, refl, replicate, subst, suc, sym, take, true, zero, ℕ}
 use Rattle.std.proofs.Math.Nat.{mod-lt}
 use Rattle.std.proofs.lemmas.List.Elements.{All-nil}
 use Rattle.std.specs.Int.{byte_at, bytes_low_first}

@@ -8,10 +8,10 @@ use Rattle.leveldb_base.specs.Types.{Pair}
 use Rattle.leveldb_base.specs.declared.types.FileType.{FileType}
 use Rattle.leveldb_base.specs.declared.types.FileType.TheVariants.{Current, Descriptor, Log, Table, Temp}
 use Rattle.leveldb_env.proofs.EnvLemmas.{at_other, at_same, renamed-there, with_file-twice}
-use Rattle.leveldb_env.specs.Env.{FileCrashesTo, Files, FilesCrashTo, SameBut, bytes_of, deleted, in_folder, kept_file, renamed, with_file}
+use Rattle.leveldb_env.specs.Env.{File, FileCrashesTo, Files, SameBut, bytes_of, deleted, in_folder, kept_file, renamed, with_file}
 use Rattle.leveldb_mem.proofs.LawsLemmas.{framing_reads, records_framed, usual_size}
 use Rattle.leveldb_mem.specs.Log.{IsLogFile, clean, framed_record, log_block_size, offset_after}
-use Rattle.leveldb_mem.specs.Log.Writer.{after_frame, new_writer}
+use Rattle.leveldb_mem.specs.Log.Writer.{new_writer}
 use Rattle.leveldb_version.proofs.BytesLemmas.{bytes_stay, fine_kept, with_fine}
 use Rattle.leveldb_version.proofs.CurrentLemmas.{one_current, written_current}
 use Rattle.leveldb_version.proofs.KeepsLemmas.{rename_keeps, unread_keeps}
@@ -28,17 +28,17 @@ use Rattle.leveldb_version.specs.Batches.{Each}
 use Rattle.leveldb_version.specs.Contents.{Contents, Store}
 use Rattle.leveldb_version.specs.Current.{IsCurrentText, current_text}
 use Rattle.leveldb_version.specs.CurrentFile.{temp_path}
-use Rattle.leveldb_version.specs.Holds.{Carries, IsHonest, IsSafe}
+use Rattle.leveldb_version.specs.Holds.{Carries}
 use Rattle.leveldb_version.specs.LogEdit.{edit_record, new_manifest, new_records, set_begun, written_edit}
 use Rattle.leveldb_version.specs.NewManifest.{MakingManifest, manifest_bytes, with_manifest}
 use Rattle.leveldb_version.specs.Paths.{current_path, manifest_path, table_path}
-use Rattle.leveldb_version.specs.Store.{HasEdits, IsManagedBy, IsManifest, IsStore, LastNumbersFit}
+use Rattle.leveldb_version.specs.Store.{HasEdits, IsManifest, IsStore, LastNumbersFit}
 use Rattle.leveldb_version.specs.StoreSteps.{AppendedAreBytes, EditRefines, EditsRefine, HasNextCurrent, IsUnread, KeepsHistory, SameButNextFile}
 use Rattle.leveldb_version.specs.Tracks.{IsInUse, IsNumberedBelow, Tracks}
-use Rattle.leveldb_version.specs.VersionEdit.{Edit, IsEdit, IsEncodable, edit_bytes, empty_edit}
+use Rattle.leveldb_version.specs.VersionEdit.{Edit, IsEdit, IsEncodable, edit_bytes}
 use Rattle.leveldb_version.specs.VersionSet.{FileSet, IsFullEdit, level_file, live_after}
-use Rattle.leveldb_version.specs.VersionSetValue.{OpenManifest, VersionSetValue, in_use, unmade}
-use Rattle.std.proofs.Common.{◌++◌, ◌+◌, ◌%◌, ◌<◌, ◌≤◌, ◌^◌, ◌⊎◌, ◌∙◌, ◌∷◌, ◌≡◌, All, List, None, Option, Some, [], ap, append-nil, arith, false, inl, inr, ⊎_elim, length, length-append, refl, subst, sym, ℕ}
+use Rattle.leveldb_version.specs.VersionSetValue.{VersionSetValue, in_use, unmade}
+use Rattle.std.proofs.Common.{◌++◌, ◌+◌, ◌%◌, ◌<◌, ◌^◌, ◌∙◌, ◌∷◌, ◌≡◌, All, List, None, Option, Some, [], ap, append-nil, arith, false, inl, inr, ⊎_elim, length, length-append, refl, subst, sym, true, ℕ}
 use Rattle.std.proofs.Math.Nat.{mod-add-mod}
 use Rattle.std.proofs.lemmas.List.Elements.{All-cons, All-nil, Contains-push}
 use Rattle.std.specs.Prelude.{◌≢◌, Contains, IsSome}
@@ -218,8 +218,8 @@ module _ (files : Files) (edits : List Edit) (set : VersionSetValue) (edit : Edi
 
   full_some : edit_bytes set.full ≢ []
   full_some = bytes_of_some set.full tracks.left.writable
-      (λ e. let never : IsSome None = subst (λ (it : Edit). IsSome it.comparator) e
-      tracks.left.comparator in absurd never)
+      (λ e. let never : false ≡ true = subst (λ (it : Edit). IsSome it.comparator) e
+      tracks.left.comparator in cc)
 
   pub both_some : All (λ text. text ≢ []) (new_records set edit)
   both_some =
@@ -230,8 +230,7 @@ module _ (files : Files) (edits : List Edit) (set : VersionSetValue) (edit : Edi
   pub both_read : Each IsEdit (new_records set edit) (set.full ∷ written ∷ [])
   both_read = (
     written_is_read set.full tracks.left.writable,
-    written_is_read written can,
-    tt,
+    (written_is_read written can, tt),
   )
 
   -- the first one alone is all that there was
@@ -265,7 +264,7 @@ module _ (files : Files) (edits : List Edit) (set : VersionSetValue) (edit : Edi
         comparator = same.comparator;
         log_number = new.log_number ∙ sym old.log_number;
         previous_log = new.previous_log ∙ sym old.previous_log;
-        next_file = subst IsSome (sym new.next_file) tt;
+        next_file = subst IsSome (sym new.next_file) refl;
         last_sequence = new.last_sequence ∙ sym old.last_sequence;
       }
 
@@ -555,23 +554,23 @@ module _ (store : List ℕ) (cmp : List ℕ → List ℕ → Ordering)
       (both_fit files edits set edit tracks can m.numbers_fit) left contents leaves honest most m))
       now making
     where
-      abbrev n : ℕ
+      n : ℕ
       n = set.manifest_number
 
-      abbrev bytes : List ℕ
+      bytes : List ℕ
       bytes = manifest_bytes (new_records set edit)
 
-      abbrev then : List Edit
+      then : List Edit
       then = edits ++ written_edit set edit ∷ []
 
-      abbrev others : List Edit
+      others : List Edit
       others = set.full ∷ written_edit set edit ∷ []
 
       b : IsNumberedBelow store files edits n
       b = subst (λ s. IsNumberedBelow s files edits n) same (tracks.not_made made)
 
-      abbrev one : Files
+      one : Files
       one = step_one store n b.fits bytes files
 
-      abbrev two : Files
+      two : Files
       two = step_two store n b.fits bytes files

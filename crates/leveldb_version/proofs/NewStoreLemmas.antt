@@ -1,6 +1,5 @@
 -- A new store's manifest: what is done on the way keeps each history, and then all of it is kept.
 use Rattle.leveldb_base.proofs.HistoryLemmas.{in_cases, in_none}
-use Rattle.leveldb_base.specs.History.{History}
 use Rattle.leveldb_base.specs.Names.{IsFileName, file_name}
 use Rattle.leveldb_base.specs.Types.{Pair}
 use Rattle.leveldb_base.specs.declared.types.FileType.{FileType}
@@ -11,15 +10,14 @@ use Rattle.leveldb_version.proofs.FirstCurrentLemmas.{first_current_kept, no_sto
 use Rattle.leveldb_version.proofs.KeepsLemmas.{first_current_keeps, unread_keeps}
 use Rattle.leveldb_version.proofs.LogKeepsLemmas.{bytes_of_some, keeps_then}
 use Rattle.leveldb_version.proofs.ManagedLemmas.{kinds_apart}
-use Rattle.leveldb_version.proofs.NewManifestKeepsLemmas.{current_named, elsewhere, framed_is_manifest, half_same, half_way, manifest_named, manifest_to, next_current, one_bytes, renamed_is, step_one, step_three, step_three_is, step_two, temp_named, temp_to, text_file, then_same, three_bytes, three_same}
+use Rattle.leveldb_version.proofs.NewManifestKeepsLemmas.{current_named, elsewhere, framed_is_manifest, half_same, half_way, manifest_named, next_current, one_bytes, renamed_is, step_one, step_three, step_three_is, step_two, temp_named, text_file, then_same, three_bytes, three_same}
 use Rattle.leveldb_version.proofs.SafeLemmas.{some_is}
 use Rattle.leveldb_version.proofs.UnreadLemmas.{manifest_unread, other_unread, unread_stays_safe}
 use Rattle.leveldb_version.proofs.VersionEditLemmas.{written_is_read}
 use Rattle.leveldb_version.proofs.VersionSetLemmas.{none_is_some}
 use Rattle.leveldb_version.specs.Contents.{Contents, Store, made}
 use Rattle.leveldb_version.specs.CurrentFile.{temp_path}
-use Rattle.leveldb_version.specs.Holds.{Carries}
-use Rattle.leveldb_version.specs.NewManifest.{MakingManifest, with_manifest}
+use Rattle.leveldb_version.specs.NewManifest.{MakingManifest}
 use Rattle.leveldb_version.specs.NewStore.{first_edit, first_manifest}
 use Rattle.leveldb_version.specs.Paths.{current_path, manifest_path}
 use Rattle.leveldb_version.specs.Store.{HasNoStore, IsManifest, IsStore, LastNumbersFit, contents_of}
@@ -27,7 +25,7 @@ use Rattle.leveldb_version.specs.StoreSteps.{AppendedAreBytes, IsAllKept, IsNew,
 use Rattle.leveldb_version.specs.VersionEdit.{Edit, IsEncodable, edit_bytes}
 use Rattle.leveldb_version.specs.VersionSet.{live_after}
 use Rattle.leveldb_version.specs.VersionSetLaws.{NewStoreIsKept}
-use Rattle.std.proofs.Common.{◌<◌, ◌^◌, ◌⊎◌, ◌∙◌, ◌∷◌, ◌≡◌, List, None, Some, [], ap, arith, inl, inr, refl, subst, sym, ⊎_elim, ℕ}
+use Rattle.std.proofs.Common.{◌<◌, ◌^◌, ◌∙◌, ◌∷◌, ◌≡◌, List, None, Some, [], ap, arith, inl, inr, refl, subst, sym, ⊎_elim, ℕ}
 use Rattle.std.proofs.lemmas.List.Elements.{All-cons, All-nil}
 use Rattle.std.specs.Prelude.{◌≢◌, Contains}
 use Rattle.std.specs.declared.cmp.Ordering.{Ordering}
@@ -70,8 +68,8 @@ module _ (store : List ℕ) (cmp : List ℕ → List ℕ → Ordering)
     is_new = record {
       comparator = comparator;
       comparator_is = refl;
-      log_is = tt;
-      next_file_is = tt;
+      log_is = refl;
+      next_file_is = refl;
       last_is = refl;
       no_table = λ file live. none_is_some live;
     }

@@ -16,7 +16,7 @@ use Rattle.leveldb_version.proofs.VersionEditLemmas.{is_encodable, written_is_re
 use Rattle.leveldb_version.proofs.VersionSetLemmas.{applies_in_order, none_is_some}
 use Rattle.leveldb_version.specs.Batches.{Each}
 use Rattle.leveldb_version.specs.Current.{IsCurrentText}
-use Rattle.leveldb_version.specs.FullEdit.{files_after, files_with, files_without, full_after, pointers_with}
+use Rattle.leveldb_version.specs.FullEdit.{files_with, files_without, full_after, pointers_with}
 use Rattle.leveldb_version.specs.LogEdit.{after_edit, edit_record, set_appended, with_bytes_kept, written_edit}
 use Rattle.leveldb_version.specs.Paths.{current_path}
 use Rattle.leveldb_version.specs.Recover.{IsRead, IsReusable, IsUsable, ReadManifest, greatest_file_number, next_number_after, set_going_on, set_left, set_starting_anew}
@@ -27,14 +27,14 @@ use Rattle.leveldb_version.specs.VersionEdit.{Edit, Field, FieldFits, comparator
 use Rattle.leveldb_version.specs.VersionSet.{IsFullEdit, ListsFiles, is_same_file, level_file, live_after}
 use Rattle.leveldb_version.specs.VersionSetLaws.{NamesManifest, StaysTracked}
 use Rattle.leveldb_version.specs.VersionSetValue.{ManifestState, OpenManifest, VersionSetValue, in_use, unmade, with_number_free, with_number_given, with_numbers_used}
-use Rattle.std.proofs.Common.{◌++◌, ◌+◌, ◌%◌, ◌<◌, ◌≤◌, ◌^◌, ◌∙◌, ◌∷◌, ◌≡◌, ◌==◌, All, IfSome, IsUtf8, List, None, Option, Some, [], ap, append-nil, append_assoc, arith, fold, inr, length, length-append, max, not, refl, subst, suc, sym, zero, ℕ}
+use Rattle.std.proofs.Common.{◌++◌, ◌+◌, ◌%◌, ◌<◌, ◌≤◌, ◌^◌, ◌∙◌, ◌∷◌, ◌≡◌, ◌==◌, All, IfSome, IsUtf8, List, None, Option, Some, [], ap, append-nil, append_assoc, arith, fold, inr, length, length-append, max, not, refl, subst, suc, sym, ℕ}
 use Rattle.std.proofs.Math.Nat.{le-max_left, le-max_right, mod-add-mod}
 use Rattle.std.proofs.lemmas.List.Elements.{All-append, All-cons, All-filter, All-nil}
 use Rattle.std.proofs.lemmas.Option.{IfSome_then}
 use Rattle.std.specs.List.{IsDistinct, cons_option, filter, filter_map, last_or}
 use Rattle.std.specs.List.Sorted.{IsStrictlySortedBy}
 use Rattle.std.specs.Option.{option_or, unwrap_or}
-use Rattle.std.specs.Prelude.{Bool, Contains, IsSome, IsSomeAnd, ◌≢◌}
+use Rattle.std.specs.Prelude.{Bool, IsSome, IsSomeAnd, ◌≢◌}
 use Rattle.std.specs.Str.{bytes_eq}
 use Rattle.std.proofs.Common.{false}
 use Rattle.std.specs.declared.cmp.Ordering.{Ordering}
@@ -167,7 +167,7 @@ none_sorted files none = subst (IsStrictlySortedBy file_order) (sym none) tt
 
 can_be_written : (full : Edit) → SetsNoNumber full → full.deleted ≡ [] → FilesFit full
     → IsEncodable full
-can_be_written full none no_deleted fit = is_encodable
+can_be_written full none no_deleted fit = is_encodable {edit = full}
     (record {
       pointers = fit.pointers;
       deleted = subst (All (λ (it : LevelFile). it.0 < 7)) (sym no_deleted)
@@ -183,7 +183,7 @@ can_be_written full none no_deleted fit = is_encodable
       deleted = subst (All (λ (it : LevelFile). it.1 < 2 ^ 64)) (sym no_deleted)
           (All-nil (λ (it : LevelFile). it.1 < 2 ^ 64));
       ordered = none_sorted full.deleted no_deleted;
-      added = λ i d there. (fit.added i d there).1;
+      added = λ i d there. ((fit.added i d there).1, (fit.added i d there).2);
     })
   where
     no_number : (o : Option ℕ) → o ≡ None → IfSome o (λ n. n < 2 ^ 64)
@@ -206,7 +206,7 @@ log_then (Some n) old before = refl
 
 some_of_either : {A : Type 0} (o p : Option A) → IsSome p → IsSome (option_or o p)
 some_of_either None p some = some
-some_of_either (Some x) p some = tt
+some_of_either (Some x) p some = refl
 
 -- the single values that a written edit leaves, whatever was before it
 pub record NumbersAre (edits : List Edit) (set : VersionSetValue) (edit : Edit) : Type 0 where
@@ -258,14 +258,14 @@ left_then edits set edit manifest full writable none some can =
 
 -- ---- the manifest in use
 
-one_in_use : (a b : OpenManifest) → in_use a ≡ in_use b → a ≡ b
+pub one_in_use : (a b : OpenManifest) → in_use a ≡ in_use b → a ≡ b
 one_in_use a b e = cc
 
-not_unmade : {P : Type 0} (manifest : OpenManifest) → in_use manifest ≡ unmade → P
-not_unmade manifest e = absurd cc
+pub not_unmade : {P : Type 0} (manifest : OpenManifest) → in_use manifest ≡ unmade → P
+not_unmade manifest e = absurd (let never : in_use manifest ≡ unmade = e in cc)
 
 not_in_use : {P : Type 0} (manifest : OpenManifest) → unmade ≡ in_use manifest → P
-not_in_use manifest e = absurd cc
+not_in_use manifest e = absurd (let never : unmade ≡ in_use manifest = e in cc)
 
 module _ (store : List ℕ) (files : Files) (edits : List Edit) (m : IsManifestOpen store files edits)
     where
@@ -313,61 +313,65 @@ module _ (store : List ℕ) (files : Files) (edits : List Edit) (m : IsManifestO
       read = subst (λ b. IsLogFile b m.has_edits.is.records clean)
           (sym (append-nil (bytes_of m.has_edits.manifest))) m.clean_end
 
-  -- after an edit is appended the manifest is open
-  module _ (text : List ℕ) (some : text ≢ []) (edit : Edit) (is : IsEdit text edit) where
-    abbrev framed_text : List ℕ
-    framed_text = frame_at (length (bytes_of m.has_edits.manifest)) text
+-- after an edit is appended the manifest is open
+module _ (store : List ℕ) (files : Files) (edits : List Edit) (m : IsManifestOpen store files edits)
+  (text : List ℕ) (some : text ≢ []) (edit : Edit) (is : IsEdit text edit) where
+  abbrev path_of_open : List ℕ
+  path_of_open = in_folder store m.has_edits.name
 
-    read_then : IsLogFile (bytes_of (longer_file framed_text m.has_edits.manifest))
-        (m.has_edits.is.records ++ text ∷ []) clean
-    read_then = subst (λ b. IsLogFile b (m.has_edits.is.records ++ text ∷ []) clean)
-        (append_assoc m.has_edits.manifest.kept m.has_edits.manifest.since framed_text)
-        (log_laws.more (bytes_of m.has_edits.manifest) m.has_edits.is.records text some
-        m.clean_end)
+  abbrev framed_text : List ℕ
+  framed_text = frame_at (length (bytes_of m.has_edits.manifest)) text
 
-    abbrev pub appended_open : IsManifestOpen store (extended path framed_text files)
-        (edits ++ edit ∷ [])
-    appended_open = record {
-      has_edits = record {
-        current = m.has_edits.current;
-        current_there = SameBut-appending path framed_text files
-            (extended path framed_text files) (appended path framed_text files)
-            (current_path store) not_current ∙ m.has_edits.current_there;
-        name = m.has_edits.name;
-        number = m.has_edits.number;
-        named = m.has_edits.named;
-        manifest = longer_file framed_text m.has_edits.manifest;
-        there = extended-same path framed_text files m.has_edits.manifest m.has_edits.there;
-        is = record {
-          records = m.has_edits.is.records ++ text ∷ [];
-          end = clean;
-          read = read_then;
-          each = each_more IsEdit m.has_edits.is.records edits text edit m.has_edits.is.each is;
-        };
+  read_then : IsLogFile (bytes_of (longer_file framed_text m.has_edits.manifest))
+      (m.has_edits.is.records ++ text ∷ []) clean
+  read_then = subst (λ b. IsLogFile b (m.has_edits.is.records ++ text ∷ []) clean)
+      (append_assoc m.has_edits.manifest.kept m.has_edits.manifest.since framed_text)
+      (log_laws.more (bytes_of m.has_edits.manifest) m.has_edits.is.records text some
+      m.clean_end)
+
+  abbrev appended_open : IsManifestOpen store (extended path_of_open framed_text files)
+      (edits ++ edit ∷ [])
+  appended_open = record {
+    has_edits = record {
+      current = m.has_edits.current;
+      current_there = SameBut-appending path_of_open framed_text files
+          (extended path_of_open framed_text files) (appended path_of_open framed_text files)
+          (current_path store) (not_current store files edits m) ∙ m.has_edits.current_there;
+      name = m.has_edits.name;
+      number = m.has_edits.number;
+      named = m.has_edits.named;
+      manifest = longer_file framed_text m.has_edits.manifest;
+      there = extended-same path_of_open framed_text files m.has_edits.manifest m.has_edits.there;
+      is = record {
+        records = m.has_edits.is.records ++ text ∷ [];
+        end = clean;
+        read = read_then;
+        each = each_more IsEdit m.has_edits.is.records edits text edit m.has_edits.is.each is;
       };
-      current_kept = m.current_kept;
-      clean_end = read_then;
-    }
+    };
+    current_kept = m.current_kept;
+    clean_end = read_then;
+  }
 
-    longer_is : length (bytes_of m.has_edits.manifest) + length framed_text
-        ≡ length (bytes_of (longer_file framed_text m.has_edits.manifest))
-    longer_is = sym (length-append (bytes_of m.has_edits.manifest) framed_text)
-        ∙ ap length
-        (append_assoc m.has_edits.manifest.kept m.has_edits.manifest.since framed_text)
+  longer_is : length (bytes_of m.has_edits.manifest) + length framed_text
+      ≡ length (bytes_of (longer_file framed_text m.has_edits.manifest))
+  longer_is = sym (length-append (bytes_of m.has_edits.manifest) framed_text)
+      ∙ ap length
+      (append_assoc m.has_edits.manifest.kept m.has_edits.manifest.since framed_text)
 
-    -- and in use once it is synced
-    pub appended_in_use : (manifest : OpenManifest) → manifest.path ≡ path
-        → manifest.writer
-        ≡ new_writer log_block_size (length (bytes_of m.has_edits.manifest) % log_block_size)
-        → IsInUse store (synced path (extended path framed_text files)) (edits ++ edit ∷ [])
-        (record manifest { writer = after_frame manifest.writer text })
-    appended_in_use manifest path_is writer_is =
-        let size = length (bytes_of m.has_edits.manifest) in
-        synced_in_use store (extended path framed_text files) (edits ++ edit ∷ []) appended_open
-        (record manifest { writer = after_frame manifest.writer text }) path_is
-        (ap (λ w. after_frame w text) writer_is
-        ∙ ap (new_writer log_block_size) (mod-add-mod size log_block_size (length framed_text))
-        ∙ ap (λ n. new_writer log_block_size (n % log_block_size)) longer_is)
+  -- and in use once it is synced
+  pub appended_in_use : (manifest : OpenManifest) → manifest.path ≡ path_of_open
+      → manifest.writer
+      ≡ new_writer log_block_size (length (bytes_of m.has_edits.manifest) % log_block_size)
+      → IsInUse store (synced path_of_open (extended path_of_open framed_text files)) (edits ++ edit ∷ [])
+      (record manifest { writer = after_frame manifest.writer text })
+  appended_in_use manifest path_is writer_is =
+      let size = length (bytes_of m.has_edits.manifest) in
+      synced_in_use store (extended path_of_open framed_text files) (edits ++ edit ∷ []) appended_open
+      (record manifest { writer = after_frame manifest.writer text }) path_is
+      (ap (λ w. after_frame w text) writer_is
+      ∙ ap (new_writer log_block_size) (mod-add-mod size log_block_size (length framed_text))
+      ∙ ap (λ n. new_writer log_block_size (n % log_block_size)) longer_is)
 
 pub appended_is_tracked : (files : Files) (edits : List Edit) (set : VersionSetValue) (edit : Edit)
     → Tracks files edits set → IsEncodable (written_edit set edit)
@@ -412,7 +416,7 @@ appended_is_tracked files edits set edit tracks can manifest is = record {
 none_listed : ListsFiles (live_after []) []
 unfolding IsDistinct
 none_listed = record {
-  live = λ file. (λ c. absurd (in_none file c), λ e. none_is_some e);
+  live = λ file. (λ c. absurd (in_none file c), λ e. absurd (none_is_some e));
   once = tt;
 }
 
@@ -458,7 +462,7 @@ nothing_fits = record {
 }
 
 is_its_value : (o : Option ℕ) → IsSome o → o ≡ Some (unwrap_or o 0)
-is_its_value None some = absurd some
+is_its_value None some = absurd cc
 is_its_value (Some n) some = refl
 
 at_most : (o : Option ℕ) (n : ℕ) → unwrap_or o 0 ≤ n → IfSome o (λ k. k ≤ n)
@@ -485,7 +489,7 @@ recovered_is_left cmp comparator old records edits each usable next number manif
       writable = can_be_written (fold full_after empty_edit edits) none full.deleted
           (each_fits records edits empty_edit each nothing_fits);
       no_numbers = none;
-      comparator = subst IsSome (sym (full.comparator ∙ usable.comparator_is)) tt;
+      comparator = subst IsSome (sym (full.comparator ∙ usable.comparator_is)) refl;
       log_number = is_its_value (live_after edits).log_number usable.log_is;
       previous_log = refl;
       next_file = at_most (live_after edits).next_file next enough;
@@ -544,7 +548,7 @@ going_on_is_tracked cmp comparator reuse limit old manifest files read usable re
       writer = new_writer log_block_size (manifest.size % log_block_size);
     }
 
-    abbrev m : IsManifestOpen old.store files manifest.edits
+    m : IsManifestOpen old.store files manifest.edits
     m = record {
       has_edits = read.has_edits;
       current_kept = kept_is (files (current_path old.store)) read.has_edits.current

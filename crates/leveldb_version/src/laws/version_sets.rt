@@ -1,7 +1,7 @@
 //! Laws of version sets: what edits leave of one, and that logging them, recovering and making a
 //! new store's manifest keep what the disk holds.
 ghost use Rattle.std.specs.Prelude.{ℕ, List};
-ghost use Rattle.leveldb_version.specs.VersionSetLaws.{AppendedEditsAreTracked, AppendedEditsKeep, FullEditsStayFull, GoingOnIsTracked, SetsStayTracked, StartingAnewIsTracked};
+ghost use Rattle.leveldb_version.specs.VersionSetLaws.{AppendedEditsAreTracked, AppendedEditsKeep, BegunEditsAreTracked, BegunEditsKeep, FullEditsStayFull, GoingOnIsTracked, NewStoresAreKept, SetsStayTracked, StartingAnewIsTracked};
 
 use super::stores::StoreFormat;
 
@@ -22,6 +22,7 @@ pub fn recovered_sets_are_tracked()
 /// numbers are given and other files change.
 pub fn logged_edits_are_tracked()
     ensures appended { AppendedEditsAreTracked }
+    ensures begun { BegunEditsAreTracked }
     ensures stay { SetsStayTracked }
 {}
 
@@ -29,4 +30,11 @@ pub fn logged_edits_are_tracked()
 /// whether it is appended to the manifest or begins a new one.
 pub fn logged_edits_keep_histories<F: StoreFormat>()
     ensures appended { (store : List ℕ) → AppendedEditsKeep store F.cmp F.is_table F.allowed }
+    ensures begun { (store : List ℕ) → BegunEditsKeep store F.cmp F.is_table F.allowed }
+{}
+
+/// Each history is kept at every moment while a new store's manifest is made, and then all of that
+/// store is kept.
+pub fn new_stores_are_kept<F: StoreFormat>()
+    ensures { (store : List ℕ) → NewStoresAreKept store F.cmp F.is_table F.allowed }
 {}
