@@ -23,20 +23,19 @@ use Rattle.leveldb_version.specs.Recover.{IsRead, IsReusable, IsUsable, ReadMani
 use Rattle.leveldb_version.specs.Store.{HasEdits}
 use Rattle.leveldb_version.specs.StoreSteps.{IsKept, IsManifestOpen}
 use Rattle.leveldb_version.specs.Tracks.{IsInUse, IsLeftBy, IsNumberedBelow, SetsNoNumber, Tracks}
-use Rattle.leveldb_version.specs.VersionEdit.{Edit, Field, FieldFits, comparator_is, log_is, previous_log_is, next_file_is, last_sequence_is, points, deletes, IsEdit, IsEncodable, LevelFile, NewFile, Pointer, added_in, adds, comparator_in, edit_bytes, edit_of_fields, empty_edit, file_order, pointer_in}
+use Rattle.leveldb_version.specs.VersionEdit.{Edit, Field, FieldFits, IsEdit, IsEncodable, LevelFile, NewFile, Pointer, added_in, adds, comparator_in, comparator_is, deletes, edit_bytes, edit_of_fields, empty_edit, file_order, last_sequence_is, log_is, next_file_is, pointer_in, points, previous_log_is}
 use Rattle.leveldb_version.specs.VersionSet.{IsFullEdit, ListsFiles, is_same_file, level_file, live_after}
 use Rattle.leveldb_version.specs.VersionSetLaws.{NamesManifest, StaysTracked}
 use Rattle.leveldb_version.specs.VersionSetValue.{ManifestState, OpenManifest, VersionSetValue, in_use, unmade, with_number_free, with_number_given, with_numbers_used}
-use Rattle.std.proofs.Common.{◌++◌, ◌+◌, ◌%◌, ◌<◌, ◌≤◌, ◌^◌, ◌∙◌, ◌∷◌, ◌≡◌, ◌==◌, All, IfSome, IsUtf8, List, None, Option, Some, [], ap, append-nil, append_assoc, arith, fold, inr, length, length-append, max, not, refl, subst, suc, sym, ℕ}
+use Rattle.std.proofs.Common.{◌++◌, ◌+◌, ◌%◌, ◌<◌, ◌≤◌, ◌^◌, ◌∙◌, ◌∷◌, ◌≡◌, ◌==◌, All, IfSome, IsUtf8, List, None, Option, Some, [], ap, append-nil, append_assoc, arith, false, fold, inr, length, length-append, max, not, refl, subst, suc, sym, ℕ}
 use Rattle.std.proofs.Math.Nat.{le-max_left, le-max_right, mod-add-mod}
 use Rattle.std.proofs.lemmas.List.Elements.{All-append, All-cons, All-filter, All-nil}
 use Rattle.std.proofs.lemmas.Option.{IfSome_then}
 use Rattle.std.specs.List.{IsDistinct, cons_option, filter, filter_map, last_or}
 use Rattle.std.specs.List.Sorted.{IsStrictlySortedBy}
 use Rattle.std.specs.Option.{option_or, unwrap_or}
-use Rattle.std.specs.Prelude.{Bool, IsSome, IsSomeAnd, ◌≢◌}
+use Rattle.std.specs.Prelude.{◌≢◌, Bool, IsSome, IsSomeAnd}
 use Rattle.std.specs.Str.{bytes_eq}
-use Rattle.std.proofs.Common.{false}
 use Rattle.std.specs.declared.cmp.Ordering.{Ordering}
 
 -- ---- what an edit of all that there is may hold
@@ -268,54 +267,54 @@ not_in_use : {P : Type 0} (manifest : OpenManifest) → unmade ≡ in_use manife
 not_in_use manifest e = absurd (let never : unmade ≡ in_use manifest = e in cc)
 
 module _ (store : List ℕ) (files : Files) (edits : List Edit) (m : IsManifestOpen store files edits)
-    where
-  abbrev path : List ℕ
-  path = in_folder store m.has_edits.name
+  where
+    abbrev path : List ℕ
+    path = in_folder store m.has_edits.name
 
-  not_current : bytes_eq path (current_path store) ≡ false
-  not_current = kinds_apart store m.has_edits.name (file_name Current 0) m.has_edits.number 0
-      Descriptor Current m.has_edits.named.0 (made_name Current 0 refl) (λ e. cc)
+    not_current : bytes_eq path (current_path store) ≡ false
+    not_current = kinds_apart store m.has_edits.name (file_name Current 0) m.has_edits.number 0
+        Descriptor Current m.has_edits.named.0 (made_name Current 0 refl) (λ e. cc)
 
-  -- a manifest that is open is in use once it is synced
-  pub synced_in_use : (manifest : OpenManifest) → manifest.path ≡ path
-      → manifest.writer
-      ≡ new_writer log_block_size (length (bytes_of m.has_edits.manifest) % log_block_size)
-      → IsInUse store (synced path files) edits manifest
-  synced_in_use manifest path_is writer_is = record {
-    opened = record {
-      has_edits = record {
-        current = m.has_edits.current;
-        current_there = SameBut-synced path files (synced path files) (inr refl)
-            (current_path store) not_current ∙ m.has_edits.current_there;
-        name = m.has_edits.name;
-        number = m.has_edits.number;
-        named = m.has_edits.named;
-        manifest = file_kept m.has_edits.manifest;
-        there = synced-same path files m.has_edits.manifest m.has_edits.there;
-        is = record {
-          records = m.has_edits.is.records;
-          end = clean;
-          read = read;
-          each = m.has_edits.is.each;
+    -- a manifest that is open is in use once it is synced
+    pub synced_in_use : (manifest : OpenManifest) → manifest.path ≡ path
+        → manifest.writer
+        ≡ new_writer log_block_size (length (bytes_of m.has_edits.manifest) % log_block_size)
+        → IsInUse store (synced path files) edits manifest
+    synced_in_use manifest path_is writer_is = record {
+      opened = record {
+        has_edits = record {
+          current = m.has_edits.current;
+          current_there = SameBut-synced path files (synced path files) (inr refl)
+              (current_path store) not_current ∙ m.has_edits.current_there;
+          name = m.has_edits.name;
+          number = m.has_edits.number;
+          named = m.has_edits.named;
+          manifest = file_kept m.has_edits.manifest;
+          there = synced-same path files m.has_edits.manifest m.has_edits.there;
+          is = record {
+            records = m.has_edits.is.records;
+            end = clean;
+            read = read;
+            each = m.has_edits.is.each;
+          };
         };
+        current_kept = m.current_kept;
+        clean_end = read;
       };
-      current_kept = m.current_kept;
-      clean_end = read;
-    };
-    manifest_kept = refl;
-    path = path_is;
-    writer = writer_is
-        ∙ ap (λ (b : List ℕ). new_writer log_block_size (length b % log_block_size))
-        (sym (append-nil (bytes_of m.has_edits.manifest)));
-  }
-    where
-      read : IsLogFile (bytes_of (file_kept m.has_edits.manifest)) m.has_edits.is.records clean
-      read = subst (λ b. IsLogFile b m.has_edits.is.records clean)
-          (sym (append-nil (bytes_of m.has_edits.manifest))) m.clean_end
+      manifest_kept = refl;
+      path = path_is;
+      writer = writer_is
+          ∙ ap (λ (b : List ℕ). new_writer log_block_size (length b % log_block_size))
+          (sym (append-nil (bytes_of m.has_edits.manifest)));
+    }
+      where
+        read : IsLogFile (bytes_of (file_kept m.has_edits.manifest)) m.has_edits.is.records clean
+        read = subst (λ b. IsLogFile b m.has_edits.is.records clean)
+            (sym (append-nil (bytes_of m.has_edits.manifest))) m.clean_end
 
 -- after an edit is appended the manifest is open
 module _ (store : List ℕ) (files : Files) (edits : List Edit) (m : IsManifestOpen store files edits)
-  (text : List ℕ) (some : text ≢ []) (edit : Edit) (is : IsEdit text edit) where
+    (text : List ℕ) (some : text ≢ []) (edit : Edit) (is : IsEdit text edit) where
   abbrev path_of_open : List ℕ
   path_of_open = in_folder store m.has_edits.name
 
@@ -662,10 +661,12 @@ module _ (store : List ℕ) (files now : Files) (edits : List Edit)
     number = e.number;
     named = e.named;
     manifest = e.manifest;
-    there = named e.name
-        (e.number, subst
-        (λ o. IsSomeAnd o (λ (file : File). IsCurrentText (bytes_of file) e.name e.number))
-        (sym e.current_there) e.named)
+    there = named e.name (
+      e.number,
+      subst
+          (λ o. IsSomeAnd o (λ (file : File). IsCurrentText (bytes_of file) e.name e.number))
+          (sym e.current_there) e.named,
+    )
         ∙ e.there;
     is = e.is;
   }
