@@ -10,7 +10,7 @@ use Rattle.std.specs.Option.{option_map}
 use Rattle.std.specs.Str.{bytes_eq}
 
 -- bytes after bytes
-append_bytes : (these those : List ℕ) → AreBytes these → AreBytes those → AreBytes (these ++ those)
+pub append_bytes : (these those : List ℕ) → AreBytes these → AreBytes those → AreBytes (these ++ those)
 append_bytes [] those are more i = more i
 append_bytes (b ∷ these) those are more zero = are zero
 append_bytes (b ∷ these) those are more (suc i) =
@@ -20,10 +20,10 @@ no_bytes : AreBytes []
 no_bytes i = omega arith
 
 -- what was appended to a file, where there is one, are bytes
-abbrev Fine : Option File → Type 0
+abbrev pub Fine : Option File → Type 0
 Fine file = (f : File) → file ≡ Some f → AreBytes f.since
 
-fine_kept : (bytes : List ℕ) → Fine (Some (kept_file bytes))
+pub fine_kept : (bytes : List ℕ) → Fine (Some (kept_file bytes))
 fine_kept bytes f is =
     subst (λ (x : File). AreBytes x.since) (some_is (kept_file bytes) f is) no_bytes
 
@@ -46,7 +46,7 @@ fine_none : Fine None
 fine_none f is = absurd cc
 
 -- one file more, or another one
-with_fine : (name : List ℕ) (file : Option File) (files : Files) → AppendedAreBytes files → Fine file
+pub with_fine : (name : List ℕ) (file : Option File) (files : Files) → AppendedAreBytes files → Fine file
     → AppendedAreBytes (with_file name file files)
 with_fine name file files bytes fine other f is = by (bytes_eq name other) refl
   where

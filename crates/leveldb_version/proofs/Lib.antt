@@ -50,3 +50,7 @@ pub mod ReplayLemmas
 pub mod RecoverLemmas
 pub mod RecoveredLemmas
 pub mod UsableLemmas
+pub mod LogKeepsLemmas
+pub mod TracksLemmas
+pub mod NewManifestKeepsLemmas
+pub mod NewStoreLemmas

@@ -55,7 +55,7 @@ cut_honest (Some file) = front_honest file [] file.since refl
 
 -- ---- a crash of files that differ at one name
 
-by_name : (P : List ℕ → Type 0) (name other : List ℕ) → P name
+pub by_name : (P : List ℕ → Type 0) (name other : List ℕ) → P name
     → (bytes_eq name other ≡ false → P other) → P other
 by_name P name other here elsewhere = by (bytes_eq name other) refl
   where

@@ -485,7 +485,7 @@ put_more make view items i item before after next h is e f =
     ∙ ap (λ z. before ++ flat_map field_bytes (map make (map view z))) (ap (λ z. take i items ++ z ∷ []) is ∙ sym (take_more items i item h))
 
 -- a value that fits makes a field that fits
-one_fits : {A : Type 0} (make : A → Field) (Fits : A → Type 0) → ((x : A) → Fits x → FieldFits (make x)) → (o : Option A) → IfSome o Fits → All FieldFits (map make (option_to_list o))
+pub one_fits : {A : Type 0} (make : A → Field) (Fits : A → Type 0) → ((x : A) → Fits x → FieldFits (make x)) → (o : Option A) → IfSome o Fits → All FieldFits (map make (option_to_list o))
 one_fits make Fits h None f = All-nil FieldFits
 one_fits make Fits h (Some x) f = All-cons FieldFits (make x) [] (h x f) (All-nil FieldFits)
 
@@ -506,7 +506,7 @@ pub record TypesKeep (edit : Edit) : Type 0 where
   pub added : All (λ it. (it.number < 2 ^ 64) × (it.size < 2 ^ 64)) edit.added
 
 module _ {edit : Edit} (levels : LevelsFit edit) (kept : TypesKeep edit) where
-  is_encodable : IsEncodable edit
+  pub is_encodable : IsEncodable edit
   is_encodable = record {
     fits = All-append FieldFits _ _ (one_fits comparator_is IsUtf8 (λ x h. h) edit.comparator kept.comparator)
         (All-append FieldFits _ _ (one_fits log_is (λ n. n < 2 ^ 64) (λ x h. h) edit.log_number kept.log_number)
