@@ -1,6 +1,7 @@
 //! Tables built, and their bytes. The lengths are worked by hand from the format.
 use crate::checks::{
-    EIGHT, Given, ONE, add_all, compressed, failed_saying, footer_of, has_pairs, internal_table, table_of,
+    EIGHT, Given, ONE, add_all, compressed, failed_saying, footer_of, has_pairs, internal_table,
+    table_of,
 };
 use bytes::Bytes;
 use leveldb_base::blockhandle::BlockHandle;
