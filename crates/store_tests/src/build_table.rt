@@ -126,8 +126,8 @@ fn all_entries_are_found(rt: HostRuntime) -> std::result::Result<(), Fail> {
     let memtable = seven_entries(alloc)?;
     let file = build(alloc, &mut env, &options, &memtable)?;
     assert!(rt; env.moment() == 12);
-    assert!(rt; file.smallest.as_slice() == b"\x01\x04\0\0\0\0\0\0");
-    assert!(rt; file.largest.as_slice() == b"\xff\xff\x01\x06\0\0\0\0\0\0");
+    assert!(rt; file.smallest.as_slice() == b"\x01\x04\0\0\0\0\0\0".as_slice());
+    assert!(rt; file.largest.as_slice() == b"\xff\xff\x01\x06\0\0\0\0\0\0".as_slice());
     assert!(rt; is_table_of(alloc, &mut env, &options, file.size, &memtable)?);
     Ok(())
 }
@@ -183,7 +183,7 @@ fn fail_at(rt: &impl Abort, alloc: Global, nth: u64, done: bool) -> Result<()> {
     );
     assert!(rt; has_no_other(alloc, &mut env)?, "call {nth}, {done}");
     let log = read_file(alloc, &mut env, BESIDE)?;
-    assert!(rt; log.as_slice() == b"log", "call {nth}, {done}");
+    assert!(rt; log.as_slice() == b"log".as_slice(), "call {nth}, {done}");
     Ok(())
 }
 
