@@ -4,6 +4,8 @@
 #[cfg(test)]
 mod checks;
 #[cfg(test)]
+mod logs;
+#[cfg(test)]
 mod store_files;
 #[cfg(test)]
 mod store_sweeps;
