@@ -3,6 +3,7 @@
 
 #[cfg(test)]
 mod checks;
+mod logs;
 #[cfg(test)]
 mod recovers;
 #[cfg(test)]
