@@ -3,6 +3,7 @@
 
 #[cfg(test)]
 mod checks;
+#[cfg(test)]
 mod logs;
 #[cfg(test)]
 mod recovers;

@@ -3,10 +3,11 @@ use crate::checks::failed_with;
 use bytes::Bytes;
 use leveldb_base::cmp::DefaultCmp;
 use leveldb_base::error::{Result, StatusCode};
-use leveldb_base::types::FileMetaData;
+use leveldb_base::types::{FileMetaData, FileNum};
 use leveldb_env::env::Env;
 use leveldb_env::env::whole_files::read_file;
 use leveldb_env::mem_env::{MemEnv, RecordEnv};
+use leveldb_env::options::Options;
 use leveldb_version::version_edit::VersionEdit;
 use leveldb_version::version_set::{VersionSet, make_store, read_current_file};
 use std::alloc::Global;
@@ -136,4 +137,93 @@ fn unknown_levels_are_no_argument(rt: HostRuntime) -> Result<()> {
     assert!(rt; failed_with(refused, StatusCode::InvalidArgument)?);
     assert!(rt; !env.exists("db/MANIFEST-000000")?);
     set.log_and_apply(&mut env, VersionEdit::new(rt.alloc()))
+}
+
+/// The row of a new store with one table: the first log is 3, the second 4, the table 5 in level 2.
+/// The edit has 33 bytes, and the manifest 41 and 40 more.
+#[test]
+fn edits_go_on_in_the_manifest_of_a_new_store(rt: HostRuntime) -> Result<()> {
+    let mut env = MemEnv::new(rt.alloc());
+    make_store(rt.alloc(), &mut env, "db", &DefaultCmp)?;
+    let mut set = VersionSet::new(rt.alloc(), "db", &DefaultCmp)?;
+    assert!(rt; !set.recover(&mut env, &Options::default())?);
+    assert!(rt; set.new_file_number()? == 3 && set.new_file_number()? == 4);
+    assert!(rt; set.new_file_number()? == 5);
+    set.set_last_seq(1);
+    let mut edit = VersionEdit::new(rt.alloc());
+    edit.set_log_num(4);
+    edit.add_file(2, table_of_a(rt.alloc())?)?;
+    set.log_and_apply(&mut env, edit)?;
+    assert!(rt; env.size_of("db/MANIFEST-000001")? == 81);
+    Ok(())
+}
+
+/// The file of the table of a=1 with the number 5.
+fn table_of_a(alloc: Global) -> Result<FileMetaData> {
+    let key = b"a\x01\x01\x00\x00\x00\x00\x00\x00";
+    Ok(FileMetaData {
+        allowed_seeks: 0,
+        num: 5,
+        size: 177,
+        smallest: Bytes::copy_from_slice(alloc, key)?,
+        largest: Bytes::copy_from_slice(alloc, key)?,
+    })
+}
+
+/// Which manifest `CURRENT` names after the last call of making a new one failed, done or not: the
+/// store has a log 3, and its manifest isn't used on.
+fn named_after(alloc: Global, done: bool) -> Result<FileNum> {
+    let mut env = RecordEnv::new(alloc);
+    make_store(alloc, &mut env, "db", &DefaultCmp)?;
+    let mut options = Options::default();
+    options.reuse_manifest = false;
+    let mut set = new_set(alloc)?;
+    set.mark_file_number_used(3)?;
+    set.recover(&mut env, &options)?;
+    env.fail(7, done);
+    let failed = set.log_and_apply(&mut env, VersionEdit::new(alloc));
+    failed_with(failed, StatusCode::IOError)?;
+    Ok(read_current_file(alloc, &mut env, "db")?.1)
+}
+
+/// The rename to `CURRENT` fails: undone it names the old manifest, done the new one.
+#[test]
+fn failed_rename_names_either_manifest(rt: HostRuntime) -> Result<()> {
+    assert!(rt; named_after(rt.alloc(), false)? == 1);
+    assert!(rt; named_after(rt.alloc(), true)? == 4);
+    Ok(())
+}
+
+/// An edit that is refused for want of memory leaves the set's files, and either the manifest too, so
+/// that the edit may be logged again, or a set that takes no edit any more.
+#[test]
+fn refused_edits_leave_the_files_of_the_set(rt: HostRuntime) -> Result<()> {
+    let mut env = MemEnv::new(rt.alloc());
+    let mut set: VersionSet<MemEnv> = VersionSet::new(rt.alloc(), "db", &DefaultCmp)?;
+    set.log_and_apply(&mut env, VersionEdit::new(rt.alloc()))?;
+    let (edit, again) = (file_added(rt.alloc())?, file_added(rt.alloc())?);
+    if let Err(status) = set.log_and_apply(&mut env, edit) {
+        assert!(rt; set.live_files()?.is_empty());
+        match set.log_and_apply(&mut env, again) {
+            Ok(()) => assert!(rt; env.size_of("db/MANIFEST-000000")? == 50 + 7 + 33),
+            Err(other) => assert!(rt; other.code == StatusCode::IOError),
+        }
+        return Err(status);
+    }
+    Ok(())
+}
+
+/// A recovery that is refused for want of memory leaves the set, and may be done again.
+#[test]
+fn refused_recoveries_leave_the_set(rt: HostRuntime) -> Result<()> {
+    let mut env = MemEnv::new(rt.alloc());
+    make_store(rt.alloc(), &mut env, "db", &DefaultCmp)?;
+    let mut set: VersionSet<MemEnv> = VersionSet::new(rt.alloc(), "db", &DefaultCmp)?;
+    if let Err(status) = set.recover(&mut env, &Options::default()) {
+        assert!(rt; set.next_file_num() == 2 && set.manifest_num() == 0);
+        assert!(rt; !set.recover(&mut env, &Options::default())?);
+        return Err(status);
+    }
+    assert!(rt; set.next_file_num() == 3 && set.manifest_num() == 1);
+    Ok(())
 }
