@@ -20,7 +20,7 @@ use Rattle.leveldb_version.specs.CurrentFile.{IsCurrentUnread}
 use Rattle.leveldb_version.specs.Paths.{current_path}
 use Rattle.leveldb_version.specs.Recover.{HasRecordOfNoEdit, IsNamed, IsRead, IsReusable, IsUsable, LeavesFiles, ReadManifest, RecoverResult, Recovers, WhyUnrecovered, WhyUnusable, lost, next_number_after, no_edit, set_going_on, set_starting_anew, too_long, unread, unusable, used_up}
 use Rattle.leveldb_version.specs.RecoverSteps.{IsLogUnread, IsManifestRead, IsManifestUnread, IsPlan, IsSizedLog, set_settled}
-use Rattle.leveldb_version.specs.Replay.{AreReplayed, IsLeftBy, OneEncodesNoEdit}
+use Rattle.leveldb_version.specs.Replay.{AreReplayed, IsReplayOf, OneEncodesNoEdit}
 use Rattle.leveldb_version.specs.Usable.{next_number_of}
 use Rattle.leveldb_version.specs.VersionEdit.{Edit}
 use Rattle.leveldb_version.specs.VersionSet.{live_after}
@@ -159,7 +159,7 @@ module _ (models_disk : Bool) (old : VersionSetValue) (files : Files) (path : Li
       )
 
 -- the number of the next file, by edits and by what they left
-next_same : (old_next number : ℕ) (edits : List Edit) (left : Replayed) → IsLeftBy edits left
+next_same : (old_next number : ℕ) (edits : List Edit) (left : Replayed) → IsReplayOf edits left
     → next_number_of old_next number left
     ≡ max old_next (max (unwrap_or (live_after edits).next_file 0) (max number (max (unwrap_or (live_after edits).log_number 0) (unwrap_or (live_after edits).previous_log 0))) + 1)
 next_same old_next number edits left is = λ i. max old_next (max (unwrap_or (is.next_file i) 0) (max number (max (unwrap_or (is.log_number i) 0) (unwrap_or (is.previous_log i) 0))) + 1)
@@ -216,7 +216,7 @@ module _ (models_disk : Bool) (cmp : List ℕ → List ℕ → Ordering) (compar
         why)
 
     module _ (left : Replayed) (replayed : AreReplayed records left) where
-      pub plan_unusable : {U : Type 0} (status : Status) → ((edits : List Edit) → IsLeftBy edits left → WhyUnusable cmp comparator edits status) → HasCause {T = U} (Why f0 f1) f0 f1 (Err status)
+      pub plan_unusable : {U : Type 0} (status : Status) → ((edits : List Edit) → IsReplayOf edits left → WhyUnusable cmp comparator edits status) → HasCause {T = U} (Why f0 f1) f0 f1 (Err status)
       plan_unusable status why = cause_uncounted status same (unusable (manifest_of models_disk old before.disk.files path number records end size read left replayed) same
           (is_read models_disk old before.disk.files path number records end size read left replayed) (why replayed.edits replayed.left))
 
@@ -226,7 +226,7 @@ module _ (models_disk : Bool) (cmp : List ℕ → List ℕ → Ordering) (compar
           (subst (λ n. 2 ^ 64 ≤ n + 1) (next_same old.next_file number replayed.edits left replayed.left) why.1))
 
   pub plan_made : (plan : Plan) (records : List (List ℕ)) (is_clean : Bool) → IsManifestRead models_disk old.store before.disk.files (string_bytes plan.path) plan.number records (if is_clean then clean else bad) plan.size
-      → AreReplayed records plan.left → ((edits : List Edit) → IsLeftBy edits plan.left → IsUsable cmp comparator edits)
+      → AreReplayed records plan.left → ((edits : List Edit) → IsReplayOf edits plan.left → IsUsable cmp comparator edits)
       → plan.next_file ≡ next_number_of old.next_file plan.number plan.left → plan.next_file + 1 < 2 ^ 64
       → IsTrue plan.reuses ↔ (IsTrue reuse × IsTrue is_clean × (plan.size < limit))
       → IsPlan models_disk cmp comparator reuse limit old before.disk.files plan

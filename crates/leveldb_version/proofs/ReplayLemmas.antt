@@ -16,7 +16,7 @@ use Rattle.leveldb_version.specs.FullEdit.{full_after}
 use Rattle.leveldb_version.specs.Store.{LastNumbersFit}
 use Rattle.leveldb_version.specs.VersionEdit.{Edit, IsEdit, edit_of, empty_edit}
 use Rattle.leveldb_version.specs.VersionSet.{live_after}
-use Rattle.leveldb_version.specs.Replay.{AreReplayed, EncodesNoEdit, IsLeftBy, IsOneMore, LastNumberFits, OneEncodesNoEdit}
+use Rattle.leveldb_version.specs.Replay.{AreReplayed, EncodesNoEdit, IsReplayOf, IsOneMore, LastNumberFits, OneEncodesNoEdit}
 use Rattle.leveldb_version.specs.declared.version_set.replay.Replayed.{Replayed}
 use Rattle.leveldb_version.proofs.VersionSetLemmas.{applies_in_order}
 
@@ -72,7 +72,7 @@ numbers_fit_more edits edit = (
 
 -- ---- one edit more
 
-pub left_by_one_more : (edits : List Edit) (edit : Edit) (old new : Replayed) → IsLeftBy edits old → IsOneMore edit old new → IsLeftBy (edits ++ edit ∷ []) new
+pub left_by_one_more : (edits : List Edit) (edit : Edit) (old new : Replayed) → IsReplayOf edits old → IsOneMore edit old new → IsReplayOf (edits ++ edit ∷ []) new
 left_by_one_more edits edit old new left more =
     let applied = applies_in_order edits edit in
     let fit = numbers_fit_more edits edit in

@@ -15,7 +15,7 @@ use Rattle.leveldb_base.specs.declared.types.FileMetaData.{FileMetaData}
 use Rattle.leveldb_version.specs.FullEdit.{full_after}
 use Rattle.leveldb_version.specs.Levels.{AreDisjoint}
 use Rattle.leveldb_version.specs.Recover.{AreBeside, IsUsable, Overlap, ShareUserKey, WhyUnusable, no_comparator, no_log, no_next_file, no_last, other_comparator, number_too_great, no_range, overlapping, shared_user_key}
-use Rattle.leveldb_version.specs.Replay.{IsLeftBy}
+use Rattle.leveldb_version.specs.Replay.{IsReplayOf}
 use Rattle.leveldb_version.specs.Store.{LastNumbersFit}
 use Rattle.leveldb_version.specs.Usable.{AreAllApart, ArePeers, ClashesWith, HasClash, HasStartNumbers, IsApartFrom, IsClash, IsOtherComparator, LacksStartNumber}
 use Rattle.leveldb_version.specs.VersionEdit.{Edit, NewFile, edit_of, empty_edit, new_file_of}
@@ -102,7 +102,7 @@ one_without cmp (file ∷ files) not_all = ⊎_elim
 
 -- ---- usable edits
 
-module _ (cmp : List ℕ → List ℕ → Ordering) (comparator : List ℕ) (edits : List Edit) (left : Replayed) (is_left : IsLeftBy edits left) where
+module _ (cmp : List ℕ → List ℕ → Ordering) (comparator : List ℕ) (edits : List Edit) (left : Replayed) (is_left : IsReplayOf edits left) where
   abbrev files_left : List NewFile
   files_left = as_new_files left.full.new_files.items
 

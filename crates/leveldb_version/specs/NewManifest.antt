@@ -17,8 +17,8 @@ abbrev pub with_manifest : List ℕ → ℕ → List ℕ → Files → Files
 with_manifest store n bytes files =
     with_current store n (with_file (manifest_path store n) (Some (kept_file bytes)) files)
 
--- On the way to that: `CURRENT` is as it was, or it names the manifest, which is whole and kept; and
--- but for the manifest and the temporary file all else is as it was.
+-- On the way to that: `CURRENT` is as it was, or it names the manifest, which is whole and kept;
+-- and but for the manifest and the temporary file all else is as it was.
 pub record MakingManifest (store : List ℕ) (n : ℕ) (bytes : List ℕ) (old files : Files)
     : Type 0 where
   pub others : (other : List ℕ) → bytes_eq (manifest_path store n) other ≡ false

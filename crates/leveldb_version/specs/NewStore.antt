@@ -21,8 +21,8 @@ first_edit comparator = record empty_edit {
 abbrev pub first_manifest : List ℕ → List ℕ
 first_manifest comparator = manifest_bytes (edit_bytes (first_edit comparator) ∷ [])
 
--- What making a new store returns and leaves: its manifest is made and `CURRENT` names it, or a call
--- of the environment failed. Then `CURRENT` may name it, too.
+-- What making a new store returns and leaves: its manifest is made and `CURRENT` names it, or a
+-- call of the environment failed. Then `CURRENT` may name it, too.
 pub record MakeStoreResult (models_disk : Bool) (store comparator : List ℕ) (before : Observed)
     (failed : ℕ) (result : Result (Unit {0}) Status) (after : Observed) (now_failed : ℕ)
     : Type 0 where

@@ -45,8 +45,8 @@ module _ (cmp : List ℕ → List ℕ → Ordering) where
     pub others : a.number ≢ b.number
 
   -- The edits give the comparator of this name, log number, next file and last sequence number, and
-  -- no number past the greatest. Each file's keys are a range, and files that are beside one another
-  -- have no user key in common.
+  -- no number past the greatest. Each file's keys are a range, and files that are beside one
+  -- another have no user key in common.
   pub record IsUsable (comparator : List ℕ) (edits : List Edit) : Type 0 where
     pub comparator_is : (live_after edits).comparator ≡ Some comparator
     pub log_is : IsSome (live_after edits).log_number
@@ -58,8 +58,8 @@ module _ (cmp : List ℕ → List ℕ → Ordering) where
     pub disjoint : (a b : NewFile) → AreBeside (live_after edits) a b → AreDisjoint cmp a b
 
   -- Why edits are no beginning of a store: one of the four values isn't given; the comparator has
-  -- another name; a last sequence number is past the greatest; a file's keys are no range; two files
-  -- overlap, or share a user key.
+  -- another name; a last sequence number is past the greatest; a file's keys are no range; two
+  -- files overlap, or share a user key.
   pub data WhyUnusable (comparator : List ℕ) (edits : List Edit) (status : Status) : Type 0 where
     no_comparator : status.code ≡ Corruption → (live_after edits).comparator ≡ None
         → WhyUnusable comparator edits status
@@ -169,7 +169,8 @@ pub record HasRecordOfNoEdit (store : List ℕ) (files : Files) (name : List ℕ
 module _ (models_disk : Bool) (cmp : List ℕ → List ℕ → Ordering) (comparator : List ℕ)
     (reuse : Bool) (limit : ℕ) where
   -- The manifest that was read has edits that a store may begin with, and the set is what they
-  -- leave. It goes on with the manifest, which is synced; or it starts anew, and the answer says so.
+  -- leave. It goes on with the manifest, which is synced; or it starts anew, and the answer says
+  -- so.
   pub record Recovers (old : VersionSetValue) (before : Observed) (anew : Bool)
       (new : VersionSetValue) (after : Observed) : Type 0 where
     pub manifest : ReadManifest
@@ -184,8 +185,8 @@ module _ (models_disk : Bool) (cmp : List ℕ → List ℕ → Ordering) (compar
         × (IsTrue models_disk → after.disk.files ≡ before.disk.files)
 
   -- Why no set is recovered, where that isn't a failure that was counted: `CURRENT` names no
-  -- manifest; the manifest that it names is missing, or has a record of 2^64 bytes, or one that is no
-  -- edit; its edits can't be used; or the numbers of files are used up.
+  -- manifest; the manifest that it names is missing, or has a record of 2^64 bytes, or one that is
+  -- no edit; its edits can't be used; or the numbers of files are used up.
   pub data WhyUnrecovered (old : VersionSetValue) (before : Observed) (failed now_failed : ℕ)
       (status : Status) : Type 0 where
     unread : IsCurrentUnread models_disk old.store before failed now_failed status

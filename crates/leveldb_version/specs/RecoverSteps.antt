@@ -9,7 +9,7 @@ use Rattle.leveldb_mem.specs.Log.{End, IsLogFile}
 use Rattle.leveldb_mem.specs.Log.Files.{IsHuge}
 use Rattle.leveldb_version.specs.CurrentFile.{IsCurrentUnread}
 use Rattle.leveldb_version.specs.Recover.{IsNamed, IsRead, IsReusable, IsUsable, ReadManifest, next_number_after}
-use Rattle.leveldb_version.specs.Replay.{IsLeftBy}
+use Rattle.leveldb_version.specs.Replay.{IsReplayOf}
 use Rattle.leveldb_version.specs.VersionEdit.{edit_of}
 use Rattle.leveldb_version.specs.VersionSetValue.{ManifestState, VersionSetValue}
 use Rattle.leveldb_version.specs.declared.version_set.recover.Plan.{Plan}
@@ -59,7 +59,7 @@ pub record IsPlan (models_disk : Bool) (cmp : List ℕ → List ℕ → Ordering
   pub number : plan.number ≡ manifest.number
   pub size : plan.size ≡ manifest.size
   pub reuses : IsTrue plan.reuses ↔ IsReusable reuse limit manifest
-  pub left : IsLeftBy manifest.edits plan.left
+  pub left : IsReplayOf manifest.edits plan.left
   pub next_file : plan.next_file ≡ next_number_after old manifest.edits manifest.number
   pub fits : plan.next_file + 1 < 2 ^ 64
 

@@ -16,7 +16,7 @@ abbrev pub LastNumberFits : Edit → Type 0
 LastNumberFits edit = IfSome edit.last_sequence (λ n. n ≤ greatest_sequence)
 
 -- the value has what these edits leave
-pub record IsLeftBy (edits : List Edit) (it : Replayed) : Type 0 where
+pub record IsReplayOf (edits : List Edit) (it : Replayed) : Type 0 where
   pub full : edit_of it.full ≡ fold full_after empty_edit edits
   pub log_number : it.log_number ≡ (live_after edits).log_number
   pub previous_log : it.previous_log ≡ (live_after edits).previous_log
@@ -38,7 +38,7 @@ pub record IsOneMore (edit : Edit) (old new : Replayed) : Type 0 where
 pub record AreReplayed (records : List (List ℕ)) (it : Replayed) : Type 0 where
   pub edits : List Edit
   pub each : Each IsEdit records edits
-  pub left : IsLeftBy edits it
+  pub left : IsReplayOf edits it
 
 -- the bytes encode no edit
 pub record EncodesNoEdit (bytes : List ℕ) (status : Status) : Type 0 where

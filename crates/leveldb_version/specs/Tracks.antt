@@ -32,8 +32,8 @@ pub record IsLeftBy (edits : List Edit) (set : VersionSetValue) : Type 0 where
   pub given : IfSome (live_after edits).next_file (λ n. IfSome set.given (λ given. n ≤ given))
   pub last_sequence : IfSome (live_after edits).last_sequence (λ n. n ≤ set.last_sequence)
 
--- the manifest is the one that `CURRENT` names, it is kept and has these edits, and its writer is at
--- its end
+-- the manifest is the one that `CURRENT` names, it is kept and has these edits, and its writer is
+-- at its end
 pub record IsInUse (store : List ℕ) (files : Files) (edits : List Edit) (manifest : OpenManifest)
     : Type 0 where
   pub opened : IsManifestOpen store files edits
@@ -42,8 +42,8 @@ pub record IsInUse (store : List ℕ) (files : Files) (edits : List Edit) (manif
   pub writer : manifest.writer
       ≡ new_writer log_block_size (length (bytes_of opened.has_edits.manifest) % log_block_size)
 
--- `CURRENT` is kept and names a manifest of these edits, whose number is below this one, which a file
--- can have
+-- `CURRENT` is kept and names a manifest of these edits, whose number is below this one, which a
+-- file can have
 pub record IsNumberedBelow (store : List ℕ) (files : Files) (edits : List Edit) (n : ℕ)
     : Type 0 where
   pub has_edits : HasEdits store files edits

@@ -5,7 +5,7 @@ ghost use Rattle.std.specs.declared.cmp.Ordering.TheVariants.{Less};
 ghost use Rattle.leveldb_base.specs.KeyTypes.{internal_cmp, user_part};
 ghost use Rattle.leveldb_version.specs.Levels.{AreDisjoint};
 ghost use Rattle.leveldb_version.specs.Recover.{IsUsable, WhyUnusable};
-ghost use Rattle.leveldb_version.specs.Replay.{IsLeftBy};
+ghost use Rattle.leveldb_version.specs.Replay.{IsReplayOf};
 ghost use Rattle.leveldb_version.specs.Usable.{AreAllApart, ArePeers, ClashesWith, HasClash, HasStartNumbers, IsApartFrom, IsClash, IsOtherComparator, LacksStartNumber, next_number_of};
 ghost use Rattle.leveldb_version.specs.VersionEdit.{Edit, new_file_of};
 
@@ -23,9 +23,9 @@ use std::alloc::Global;
 /// keys are no range, and files of one level from 1 on that overlap are `Corruption`; such files
 /// that share a user key are `NotSupported`.
 pub(super) fn check_usable<C: Cmp>(alloc: Global, ucmp: &C, left: &Replayed) -> Result<()>
-    ensures ok { OnOk result ((edits : List Edit) → IsLeftBy edits left.now
+    ensures ok { OnOk result ((edits : List Edit) → IsReplayOf edits left.now
         → IsUsable (C.cmp ucmp.now) (C.name ucmp.now) edits) }
-    ensures cause { IfErr result (λ status. (edits : List Edit) → IsLeftBy edits left.now
+    ensures cause { IfErr result (λ status. (edits : List Edit) → IsReplayOf edits left.now
         → WhyUnusable (C.cmp ucmp.now) (C.name ucmp.now) edits status) }
 {
     let files = left.full.new_files.as_slice();
