@@ -15,7 +15,7 @@ use Rattle.leveldb_env.specs.contracts.mem_env.record.RecordEnvEnv.TheImpl.{ghos
 use Rattle.leveldb_base.specs.Error.{IsOutOfMemory}
 use Rattle.leveldb_env.specs.Env.{Files, kept_file}
 use Rattle.leveldb_env.specs.declared.mem_env.journal.Call.{Call}
-use Rattle.leveldb_env.specs.Journal.{FilesWere, files_after}
+use Rattle.leveldb_env.specs.Journal.{FilesWere, files_after_calls}
 use Rattle.leveldb_env.specs.MemEnv.{files_of}
 use Rattle.leveldb_env.specs.Picks.{picked, tails_of}
 use Rattle.leveldb_env.specs.Record.{record_observed, moment_of, failures_of, files_in, files_then, SameObserved}
@@ -47,7 +47,7 @@ moments_again start (event ∷ events) all =
 
 -- between two calls of a device the files were one
 even_files : (first : Files) (calls : List Call) (moment : ℕ) (files : Files) → (moment % 2 == 1) ≡ false
-    → FilesWere first calls moment files → files ≡ files_after first calls (moment / 2)
+    → FilesWere first calls moment files → files ≡ files_after_calls first calls (moment / 2)
 even_files first calls moment files even (inl is) = is
 even_files first calls moment files even (inr odd) =
     let never : true ≡ false = subst (λ n. (n == 1) ≡ false) odd.0 even in absurd (cc)
