@@ -177,10 +177,8 @@ fn fail_at(rt: &impl Abort, alloc: Global, nth: u64, done: bool) -> Result<()> {
         return Err(status);
     }
     assert!(rt; status.code == StatusCode::IOError, "call {nth}, {done}");
-    assert!(rt;
-        env.moment() == before.saturating_add(2 * nth),
-        "call {nth}, {done}"
-    );
+    let moment = before.saturating_add(nth).saturating_add(nth);
+    assert!(rt; env.moment() == moment, "call {nth}, {done}");
     assert!(rt; has_no_other(alloc, &mut env)?, "call {nth}, {done}");
     let log = read_file(alloc, &mut env, BESIDE)?;
     assert!(rt; log.as_slice() == b"log".as_slice(), "call {nth}, {done}");
