@@ -1,7 +1,7 @@
 -- Sets of entries that gain some.
-use Rattle.std.proofs.Common.{◌≡◌, ◌≤◌, ◌<◌, ◌+◌, ⊎_elim, ℕ, suc, List, [], ◌∷◌, ap, subst, arith, ◌^◌, Bool, true, false, ◌++◌, get_or, length-append, Result, Ok, Err, refl, sym, ◌∙◌, ◌⊎◌, inl, inr, ◌-◌, length, append-nil, append_assoc}
+use Rattle.std.proofs.Common.{◌≡◌, ◌≤◌, ◌<◌, ◌+◌, ⊎_elim, ℕ, suc, List, [], ◌∷◌, ap, subst, arith, ◌^◌, Bool, true, false, ◌++◌, get_or, length-append, Result, Ok, Err, refl, sym, ◌∙◌, inl, inr, ◌-◌, length, append-nil, append_assoc}
 use Rattle.std.proofs.lemmas.List.Sums.{sum_by-cons}
-use Rattle.std.specs.Prelude.{Contains, ◌↔◌, All, IsErrAnd, IfErr}
+use Rattle.std.specs.Prelude.{Contains, ◌↔◌, All, IsErrAnd}
 use Rattle.std.proofs.lemmas.Bool.{OnTrue_at, OnFalse_at}
 use Rattle.std.proofs.lemmas.List.Elements.{Contains-push_cases, All-append, All-cons, All-tail, Contains-append_left, Contains-append_right, Contains-append_cases, at_from_Contains, Contains-get_or}
 use Rattle.std.proofs.lemmas.Cmp.{ranked}
@@ -16,9 +16,8 @@ use Rattle.leveldb_base.specs.Cmp.{IsPreorderOn}
 use Rattle.leveldb_base.specs.CmpLaws.{itself_equal}
 use Rattle.leveldb_base.specs.KeyTypes.{memtable_cmp}
 use Rattle.leveldb_base.specs.Types.{Pair}
-use Rattle.leveldb_base.specs.Error.{IsOutOfMemory}
 use Rattle.leveldb_base.specs.declared.error.Status.{Status}
-use Rattle.leveldb_base.specs.declared.error.StatusCode.TheVariants.{AlreadyExists, NotSupported}
+use Rattle.leveldb_base.specs.declared.error.StatusCode.TheVariants.{AlreadyExists}
 use Rattle.leveldb_mem.specs.WriteBatch.{item_of}
 use Rattle.leveldb_mem.specs.MemTable.{KeepsRoom, AddResult, PutResult, PrepareResult, FailsToPrepare, bytes_in, value_length, IsUnion, AreNewTo, entry_of, IsNewTo, entry_key, entry_from, entries_of_keys, IsEntryPair, Kept, HasRoom, AddsEntry, AddsAll, Grows, GrowsByAll}
 use Rattle.leveldb_mem.specs.Searching.{key_at}

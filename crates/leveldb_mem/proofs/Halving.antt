@@ -1,5 +1,5 @@
 -- What a search in a list of pairs finds.
-use Rattle.std.proofs.Common.{◌≡◌, ℕ, zero, suc, ◌+◌, ◌<◌, ◌≤◌, Bool, true, false, cond, List, [], ◌∷◌, length, refl, sym, ◌∙◌, ap, arith, ⊎_elim}
+use Rattle.std.proofs.Common.{◌≡◌, ◌⊎◌, ℕ, zero, suc, ◌+◌, ◌-◌, ◌<◌, ◌≤◌, Bool, true, false, cond, List, [], ◌∷◌, length, refl, sym, ◌∙◌, ap, arith, ⊎_elim}
 use Rattle.std.proofs.lemmas.Bool.{false≢true, cases_Bool}
 use Rattle.std.specs.Ordering.{is_lt}
 use Rattle.std.specs.declared.cmp.Ordering.{Ordering}
@@ -53,6 +53,15 @@ module _ (test : List ℕ → Bool) where
           let shift : count_while test pairs + 1 ≡ suc (count_while test pairs) = omega arith in
           ap (λ n. test (key_at (pair ∷ pairs) n)) shift ∙ more (omega (arith, h))
 
+  -- all pass where the last does, and those that do are at the front
+  pub count_all : (pairs : List Pair) → IsParted test pairs → (length pairs ≡ 0) ⊎ (test (key_at pairs (length pairs - 1)) ≡ true) → count_while test pairs ≡ length pairs
+  count_all pairs parted which =
+      count_at pairs (length pairs) (omega arith)
+      (λ i h. ⊎_elim
+      (λ (none : length pairs ≡ 0). absurd (omega (arith, none, h)))
+      (λ (pass : test (key_at pairs (length pairs - 1)) ≡ true). parted i (length pairs - 1) (omega (arith, h)) (omega (arith, h)) pass) which)
+      (λ h. absurd (omega (arith, h)))
+
   module _ {pairs : List Pair} (parted : IsParted test pairs) where
     pub raised : {low high : ℕ} (middle : ℕ) → middle < length pairs → Brackets test pairs low high → test (key_at pairs middle) ≡ true → Brackets test pairs (middle + 1) high
     raised middle h brackets e = record { below = λ i p. parted i middle (omega arith) h e; above = brackets.above }
@@ -69,3 +78,19 @@ module _ (test : List ℕ → Bool) where
 pub count_before-is : (cmp : List ℕ → List ℕ → Ordering) (key : List ℕ) (pairs : List Pair) → count_while (λ k. is_lt (cmp k key)) pairs ≡ count_before cmp key pairs
 count_before-is cmp key [] = refl
 count_before-is cmp key (pair ∷ pairs) = ap (λ n. cond (is_lt (cmp pair.0 key)) (n + 1) 0) (count_before-is cmp key pairs)
+
+-- the keys that pass are those before this one
+abbrev pub PassesBefore : (List ℕ → Bool) → (List ℕ → List ℕ → Ordering) → List ℕ → Type 0
+PassesBefore passes cmp key = (other : List ℕ) → passes other ≡ is_lt (cmp other key)
+
+-- the keys that pass are those before a key
+module _ (cmp : List ℕ → List ℕ → Ordering) (key : List ℕ) {passes : List ℕ → Bool} (before : PassesBefore passes cmp key) where
+  -- so as many pass as are before it
+  pub count_passing : (pairs : List Pair) → count_while passes pairs ≡ count_before cmp key pairs
+  count_passing [] = refl
+  count_passing (pair ∷ pairs) =
+      ap (λ b. cond b (count_while passes pairs + 1) 0) (before pair.0) ∙ ap (λ n. cond (is_lt (cmp pair.0 key)) (n + 1) 0) (count_passing pairs)
+
+  -- and they are at the front where those before it are
+  pub parted_passing : (pairs : List Pair) → IsParted (λ k. is_lt (cmp k key)) pairs → IsParted passes pairs
+  parted_passing pairs parted i j le within pass = before (key_at pairs i) ∙ parted i j le within (sym (before (key_at pairs j)) ∙ pass)

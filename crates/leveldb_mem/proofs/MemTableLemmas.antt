@@ -33,7 +33,7 @@ use Rattle.leveldb_mem.specs.SkipMap.{IsSorted, InsertsPair}
 use Rattle.leveldb_mem.proofs.Rising.{is_less, rising_at, not_less}
 use Rattle.leveldb_mem.proofs.WriteBatchLemmas.{length-batch}
 use Rattle.leveldb_mem.specs.Placed.{bytes_of, memory_of, FailsToReserve}
-use Rattle.leveldb_mem.proofs.Halving.{before_count, at_count, count_before-is}
+use Rattle.leveldb_mem.proofs.Halving.{before_count, at_count, count_before-is, PassesBefore}
 
 -- ---- entries and their memtable keys
 
@@ -56,6 +56,20 @@ value_again : (value : Option (List ℕ)) → value_of (type_of value) (bytes_of
 value_again None = refl
 value_again (Some bytes) = refl
 
+-- an entry's memtable key has the entry's key
+pub entry_user : (entry : Entry) → user_part (front_key (entry_key entry)) ≡ entry.key
+unfolding entry_key
+entry_user entry =
+    let kind = type_of entry.value in
+    ap user_part (front_key-memtable_key entry.key entry.sequence kind (bytes_of_value entry.value)) ∙ user_part-internal_key entry.key entry.sequence kind
+
+-- and its number
+pub entry_number : (entry : Entry) → entry.sequence < 2 ^ 56 → sequence_part (front_key (entry_key entry)) ≡ entry.sequence
+unfolding entry_key
+entry_number entry h =
+    let kind = type_of entry.value in
+    ap sequence_part (front_key-memtable_key entry.key entry.sequence kind (bytes_of_value entry.value)) ∙ sequence_part-internal_key entry.key entry.sequence kind h
+
 -- an entry's memtable key encodes the entry
 pub entry_again : (entry : Entry) → entry.sequence < 2 ^ 56 → entry_from (entry_key entry) ≡ entry
 unfolding entry_from entry_key
@@ -65,15 +79,13 @@ entry_again entry h =
     let key = memtable_key entry.key entry.sequence kind bytes in
     let internal = internal_key entry.key entry.sequence kind in
     let inner : front_key key ≡ internal = front_key-memtable_key entry.key entry.sequence kind bytes in
-    let number : sequence_part (front_key key) ≡ entry.sequence = ap sequence_part inner ∙ sequence_part-internal_key entry.key entry.sequence kind h in
-    let user : user_part (front_key key) ≡ entry.key = ap user_part inner ∙ user_part-internal_key entry.key entry.sequence kind in
     let kind_is : type_part (front_key key) ≡ kind = ap type_part inner ∙ type_part-internal_key entry.key entry.sequence kind h in
     let following : drop (length (sized internal)) key ≡ sized bytes = drop_at (sized internal) (sized bytes) (length (sized internal)) refl in
     let text : inner_value key ≡ bytes =
     ap (λ z. front_key (drop (length (sized z)) key)) inner ∙ ap front_key following ∙ ap front_key (sym (append-nil (sized bytes))) ∙ front_key-sized bytes [] in
     let value : value_of (type_part (front_key key)) (inner_value key) ≡ entry.value =
     ap (λ t. value_of t (inner_value key)) kind_is ∙ ap (value_of kind) text ∙ value_again entry.value in
-    λ i. entry_of (number i) (user i) (value i)
+    λ i. entry_of (entry_number entry h i) (entry_user entry i) (value i)
 
 length-value : (value : Option (List ℕ)) → length (bytes_of_value value) ≡ value_length value
 length-value None = refl
@@ -437,6 +449,12 @@ got_within pairs i entry e = omega (arith, slice_get_within (entries_of_keys pai
 -- whether a memtable key comes before the user's key as of the number
 abbrev pub as_of : (List ℕ → List ℕ → Ordering) → List ℕ → List ℕ → ℕ → Bool
 as_of cmp k user number = is_lt (ordering_then (cmp (user_part (front_key k)) user) (nat_cmp number (sequence_part (front_key k))))
+
+-- the memtable keys before the user's key of another as of its number are those before the other
+pub as_of_key : (cmp : List ℕ → List ℕ → Ordering) (key user : List ℕ) (number : ℕ) → user_part (front_key key) ≡ user → sequence_part (front_key key) ≡ number
+    → PassesBefore (λ k. as_of cmp k user number) (memtable_cmp cmp) key
+as_of_key cmp key user number u n other =
+    ap (λ z. as_of cmp other z number) (sym u) ∙ ap (as_of cmp other (user_part (front_key key))) (sym n)
 
 -- there is no entry after the last
 pub gives_nothing : (pairs : List Pair) (i : ℕ) (user : List ℕ) → length pairs ≤ i → IsValueAt (entries_of_keys pairs) i user None

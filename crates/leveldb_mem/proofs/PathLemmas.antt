@@ -313,6 +313,10 @@ abbrev pub Searches : (List ℕ → Bool) → List ℕ → List ℕ → List ℕ
 Searches test text words nodes from node height path =
     Descends words (take (count_while test (pairs_of_nodes text words nodes)) nodes) (λ n. let pair = pair_of_node text words n in test pair.0) from node height path
 
+-- the node that a height ended at doesn't pass, where there was one
+abbrev pub IsPast : (List ℕ → Bool) → List ℕ → List ℕ → ℕ → Type 0
+IsPast test text words node = node ≢ 0 → (let pair = pair_of_node text words node in test pair.0) ≡ false
+
 module _ (test : List ℕ → Bool) (text : List ℕ) {words : List ℕ} {end : ℕ} {nodes : List ℕ} (skip : IsSkipList words end nodes) {from : ℕ} (most : from ≤ 12)
     (which : (from ≡ 1) ⊎ IsParted test (pairs_of_nodes text words nodes)) where
   pub searches_from : (path : List ℕ) → length path ≡ 12 → Searches test text words nodes from head from path

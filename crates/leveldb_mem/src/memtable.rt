@@ -33,7 +33,7 @@ use leveldb_base::varint::{encode_varint64, get_length_prefixed_slice};
 use std::alloc::Global;
 use std::marker::Model;
 
-mod as_of;
+pub(crate) mod as_of;
 mod iterator;
 
 pub use iterator::MemtableIterator;
@@ -329,7 +329,7 @@ impl<C: UserCmp> MemTable<C> {
         let head = encode_length(&mut first, key.len() + TAG_LEN);
         let mut second = [0; 10];
         let size = encode_length(&mut second, parts.1.len());
-        self.map.put_parts(head, key, &tag, size, parts.1)
+        self.map.put_parts(sequence, head, key, &tag, size, parts.1)
     }
 }
 

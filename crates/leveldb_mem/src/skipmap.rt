@@ -2,6 +2,8 @@
 ghost use Rattle.std.specs.Prelude.{◌≡◌, ◌⊎◌, ◌+◌, ◌^◌, ◌<◌, ◌≤◌, ◌==◌, true, [], ◌++◌, length};
 ghost use Rattle.std.specs.Prelude.{OnOk, OnErr, IfErr, Some, None, slice_get};
 ghost use Rattle.std.specs.Option.{ForSome};
+ghost use Rattle.leveldb_base.specs.Cmp.{memtable_accepts};
+ghost use Rattle.leveldb_base.specs.KeyTypes.{front_key, user_part, sequence_part, memtable_cmp};
 ghost use Rattle.leveldb_base.specs.Types.{seek_position, position_within, previous_position};
 ghost use Rattle.leveldb_base.specs.Types.{last_position, pair_at};
 ghost use Rattle.leveldb_mem.specs.Placed.{rank, memory_of, FailsToReserve};
@@ -9,13 +11,14 @@ ghost use Rattle.leveldb_mem.specs.Searching.{key_at, count_while, IsParted};
 ghost use Rattle.leveldb_mem.specs.SkipMap.{IsSorted, HasNode, position_of_node, key_begins};
 ghost use Rattle.leveldb_mem.specs.SkipMap.{InsertResult, PutKeyResult};
 
+use crate::memtable::as_of::AsOf;
 use crate::skipmap::placed::{HEAD, PlacedPairs};
-use crate::skipmap::search::{AtKey, Probe, find_gap, path_before};
+use crate::skipmap::search::{AtKey, Probe, is_taken, path_before, path_for};
 use crate::skipmap::towers::MAX_HEIGHT;
 pub use crate::skipmap::towers::tower_height;
 use leveldb_base::cmp::{Cmp, MemtableKeyCmp};
 use leveldb_base::error::{Result, StatusCode, err};
-use leveldb_base::types::LdbIterator;
+use leveldb_base::types::{LdbIterator, SequenceNumber};
 use rand_core::SeedableRng;
 use rand_xoshiro::Xoshiro256PlusPlus;
 use std::alloc::Global;
@@ -121,9 +124,14 @@ impl<C: Cmp> SkipMap<C> {
         if key.is_empty() {
             return err(alloc, StatusCode::InvalidArgument, "an empty key");
         }
-        let Some(path) = find_gap(&self.cmp, &self.pairs, key) else {
-            return err(alloc, StatusCode::AlreadyExists, "the key is there");
+        let probe = AtKey {
+            cmp: &self.cmp,
+            key,
         };
+        let path = path_for(&self.pairs, &probe);
+        if is_taken(&self.cmp, &self.pairs, &path, key) {
+            return err(alloc, StatusCode::AlreadyExists, "the key is there");
+        }
         self.pairs.reserve(1, key.len() + value.len())?;
         self.pairs.append(key);
         self.pairs.append(value);
@@ -280,37 +288,6 @@ impl<C: Cmp> SkipMap<C> {
     {
         self.pairs.reserve(places, bytes)
     }
-
-    /// Inserts a key, which comes in five parts, with no value. Returns whether it did: an Equal
-    /// key is left.
-    pub(crate) fn put_parts(&mut self, a: &[u8], b: &[u8], c: &[u8], d: &[u8], e: &[u8]) -> bool
-        requires accepted { C.accepts self.old.cmp
-            (a.now ++ b.now ++ c.now ++ d.now ++ e.now) ≡ true }
-        requires place { 0 < self.old.places }
-        requires bytes { length a.now + length b.now + length c.now + length d.now + length e.now
-            ≤ self.old.bytes }
-        ensures { PutKeyResult (C.cmp self.old.cmp) self.old
-            (a.now ++ b.now ++ c.now ++ d.now ++ e.now) result self.new }
-    {
-        self.pairs.append(a);
-        self.pairs.append(b);
-        self.pairs.append(c);
-        self.pairs.append(d);
-        self.pairs.append(e);
-        let key = self.pairs.tail();
-        let length = key.len();
-        match find_gap(&self.cmp, &self.pairs, key) {
-            None => {
-                self.pairs.drop_tail();
-                false
-            }
-            Some(path) => {
-                let height = tower_height(&mut self.rng);
-                self.pairs.place(&path, length, height);
-                true
-            }
-        }
-    }
 }
 
 impl<C: Cmp> SkipMap<MemtableKeyCmp<C>> {
@@ -321,6 +298,52 @@ impl<C: Cmp> SkipMap<MemtableKeyCmp<C>> {
         ensures places { result.places ≡ 0 }
     {
         SkipMap::new(alloc, MemtableKeyCmp(user_cmp))
+    }
+
+    /// Inserts a memtable key, which comes in five parts, with no value: the user's key is the
+    /// second, and its sequence number is given too. Returns whether it did: an Equal key is left.
+    pub(crate) fn put_parts(
+        &mut self,
+        sequence: SequenceNumber,
+        a: &[u8],
+        user: &[u8],
+        c: &[u8],
+        d: &[u8],
+        e: &[u8],
+    ) -> bool
+        requires accepted { memtable_accepts (C.accepts self.old.cmp.0)
+            (a.now ++ user.now ++ c.now ++ d.now ++ e.now) ≡ true }
+        requires user { user_part (front_key (a.now ++ user.now ++ c.now ++ d.now ++ e.now))
+            ≡ user.now }
+        requires number { sequence_part (front_key (a.now ++ user.now ++ c.now ++ d.now ++ e.now))
+            ≡ sequence }
+        requires place { 0 < self.old.places }
+        requires bytes { length a.now + length user.now + length c.now + length d.now + length e.now
+            ≤ self.old.bytes }
+        ensures { PutKeyResult (memtable_cmp (C.cmp self.old.cmp.0)) self.old
+            (a.now ++ user.now ++ c.now ++ d.now ++ e.now) result self.new }
+    {
+        self.pairs.append(a);
+        self.pairs.append(user);
+        self.pairs.append(c);
+        self.pairs.append(d);
+        self.pairs.append(e);
+        let key = self.pairs.tail();
+        let length = key.len();
+        let cmp = &self.cmp;
+        let probe = AsOf {
+            cmp: &cmp.0,
+            key: user,
+            sequence,
+        };
+        let path = path_for(&self.pairs, &probe);
+        if is_taken(cmp, &self.pairs, &path, key) {
+            self.pairs.drop_tail();
+            return false;
+        }
+        let height = tower_height(&mut self.rng);
+        self.pairs.place(&path, length, height);
+        true
     }
 }
 

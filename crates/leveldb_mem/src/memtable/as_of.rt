@@ -6,6 +6,7 @@ use crate::skipmap::search::Probe;
 use leveldb_base::cmp::Cmp;
 use leveldb_base::key_types::{UserKey, front_key, split_sequence};
 use leveldb_base::types::SequenceNumber;
+use std::cmp::Ordering;
 
 /// Where the key's newest entry at or below the sequence is.
 #[derive(Drop)]
@@ -22,10 +23,12 @@ impl<'a, C: Cmp> Probe for AsOf<'a, C> {
 
     #[inline]
     fn is_after(&self, key: &[u8]) -> bool {
-        let (user, sequence) = split_sequence(front_key(key));
-        self.cmp
-            .cmp(user, self.key)
-            .then(self.sequence.cmp(&sequence))
-            .is_lt()
+        // The number, which may be in another cache line, is read for the user's own key alone.
+        let internal = front_key(key);
+        match self.cmp.cmp(split_sequence(internal).0, self.key) {
+            Ordering::Less => true,
+            Ordering::Equal => self.sequence < split_sequence(internal).1,
+            Ordering::Greater => false,
+        }
     }
 }

@@ -142,7 +142,8 @@ impl PlacedPairs {
     }
 
     /// The path to the position after the pairs that come before something. It goes from the head
-    /// along each height, from the highest of these down.
+    /// along each height, from the highest of these down. A node that ends the search of one height
+    /// isn't compared again at the next.
     #[inline]
     pub(crate) fn path_to<P: Probe>(&self, probe: &P, from: usize) -> Path
         requires some { 0 < length self.now.order }
@@ -157,11 +158,13 @@ impl PlacedPairs {
         let mut path = [HEAD as u32; MAX_HEIGHT];
         let mut node = HEAD;
         let mut height = from;
+        let mut stop = 0;
         'descent: while height > 0 {
             let next = self.words[node + (height - 1)] as usize;
-            if next != 0 && probe.is_after(self.key(next)) {
+            if next != 0 && next != stop && probe.is_after(self.key(next)) {
                 node = next;
             } else {
+                stop = next;
                 height -= 1;
                 path[height] = node as u32;
             }

@@ -1,7 +1,8 @@
 //! Paths to positions among a map's keys.
 ghost use Rattle.std.specs.Prelude.{◌≡◌, ◌+◌, ◌-◌, ◌⊎◌, ◌↔◌, ◌<◌, ◌≤◌, IsTrue, ℕ, Bool, true, List};
 ghost use Rattle.std.specs.Prelude.{[]};
-ghost use Rattle.std.specs.Prelude.{◌∷◌, length, take, MatchOption};
+ghost use Rattle.std.specs.Prelude.{◌∷◌, length, take};
+ghost use Rattle.std.specs.Bool.{OnTrue, OnFalse};
 ghost use Rattle.std.specs.Ordering.{is_lt};
 ghost use Rattle.std.specs.declared.cmp.Ordering.TheVariants.{Less, Equal};
 ghost use Rattle.leveldb_base.specs.Types.{count_before};
@@ -47,8 +48,6 @@ pub(crate) fn path_before<C: Cmp>(cmp: &C, pairs: &PlacedPairs, key: &[u8]) -> P
     ensures place { place_of pairs.now.order result
         ≡ count_before (C.cmp cmp.now) key.now pairs.now.pairs }
     ensures nodes { length pairs.now.order ≡ length pairs.now.pairs }
-    ensures path { C.accepts cmp.now key.now ≡ true → IsPathTo pairs.now.words result 12
-        (take (count_before (C.cmp cmp.now) key.now pairs.now.pairs) pairs.now.order) }
 {
     let probe = AtKey { cmp, key };
     if cmp.accepts(key) {
@@ -56,6 +55,48 @@ pub(crate) fn path_before<C: Cmp>(cmp: &C, pairs: &PlacedPairs, key: &[u8]) -> P
     } else {
         pairs.path_to(&probe, 1)
     }
+}
+
+// Whether all keys are before something.
+#[inline]
+fn is_last_before<P: Probe>(pairs: &PlacedPairs, path: &Path, probe: &P) -> bool
+    requires last { place_of pairs.now.order path.now ≡ length pairs.now.pairs }
+    ensures { IsTrue result ↔ ((length pairs.now.pairs ≡ 0)
+        ⊎ (P.passes probe.now (key_at pairs.now.pairs (length pairs.now.pairs - 1)) ≡ true)) }
+{
+    pairs.len() == 0 || probe.is_after(pairs.key(path[0] as usize))
+}
+
+/// The path to the position after the keys that come before something, where all that do are at
+/// the front. A position after all keys, as each is where they come in order, costs one comparison.
+#[inline]
+pub(crate) fn path_for<P: Probe>(pairs: &PlacedPairs, probe: &P) -> Path
+    requires { IsParted (P.passes probe.now) pairs.now.pairs }
+    ensures place { place_of pairs.now.order result
+        ≡ count_while (P.passes probe.now) pairs.now.pairs }
+    ensures path { IsPathTo pairs.now.words result 12
+        (take (place_of pairs.now.order result) pairs.now.order) }
+{
+    let end = pairs.path_to_end();
+    if is_last_before(pairs, &end, probe) {
+        return end;
+    }
+    pairs.path_to(probe, MAX_HEIGHT)
+}
+
+/// Whether a key is Equal to this one, where the path is to the position after those before it.
+/// If none is, the key comes between the others there.
+#[inline]
+pub(crate) fn is_taken<C: Cmp>(cmp: &C, pairs: &PlacedPairs, path: &Path, key: &[u8]) -> bool
+    requires sorted { IsSorted (C.accepts cmp.now) (C.cmp cmp.now) pairs.now.pairs }
+    requires accepted { C.accepts cmp.now key.now ≡ true }
+    requires place { place_of pairs.now.order path.now
+        ≡ count_before (C.cmp cmp.now) key.now pairs.now.pairs }
+    ensures taken { OnTrue result (HasKey (C.cmp cmp.now) pairs.now.pairs key.now) }
+    ensures gap { OnFalse result (IsGap (C.accepts cmp.now) (C.cmp cmp.now) pairs.now.pairs key.now
+        (place_of pairs.now.order path.now)) }
+{
+    pairs.len() > 0 && is_equal_after(cmp, pairs, path, key)
 }
 
 // Whether the key after a path is Equal to this one.
@@ -69,37 +110,4 @@ fn is_equal_after<C: Cmp>(cmp: &C, pairs: &PlacedPairs, path: &Path, key: &[u8])
 {
     let next = pairs.after(path[0] as usize);
     next != 0 && cmp.cmp(pairs.key(next), key).is_eq()
-}
-
-// Whether all keys are before this one.
-#[inline]
-fn is_last_before<C: Cmp>(cmp: &C, pairs: &PlacedPairs, path: &Path, key: &[u8]) -> bool
-    requires last { place_of pairs.now.order path.now ≡ length pairs.now.pairs }
-    ensures { IsTrue result ↔ ((length pairs.now.pairs ≡ 0)
-        ⊎ (C.cmp cmp.now (key_at pairs.now.pairs (length pairs.now.pairs - 1)) key.now ≡ Less)) }
-{
-    pairs.len() == 0 || cmp.cmp(pairs.key(path[0] as usize), key).is_lt()
-}
-
-/// The path to where the key comes between the others, or none where a key that is there is Equal
-/// to it.
-#[inline]
-pub(crate) fn find_gap<C: Cmp>(cmp: &C, pairs: &PlacedPairs, key: &[u8]) -> Option<Path>
-    requires sorted { IsSorted (C.accepts cmp.now) (C.cmp cmp.now) pairs.now.pairs }
-    requires accepted { C.accepts cmp.now key.now ≡ true }
-    ensures { MatchOption result (HasKey (C.cmp cmp.now) pairs.now.pairs key.now)
-        (λ path. IsGap (C.accepts cmp.now) (C.cmp cmp.now) pairs.now.pairs key.now
-        (place_of pairs.now.order path)
-        × IsPathTo pairs.now.words path 12 (take (place_of pairs.now.order path) pairs.now.order)) }
-{
-    // A key after all others, as each is where they come in order, costs one comparison.
-    let end = pairs.path_to_end();
-    if is_last_before(cmp, pairs, &end, key) {
-        return Some(end);
-    }
-    let path = path_before(cmp, pairs, key);
-    if is_equal_after(cmp, pairs, &path, key) {
-        return None;
-    }
-    Some(path)
 }

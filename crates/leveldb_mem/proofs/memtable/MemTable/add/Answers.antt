@@ -1,4 +1,4 @@
-use Rattle.std.proofs.Common.{◌≡◌, Ok, Err, List, ℕ, Option, subst, option_copied}
+use Rattle.std.proofs.Common.{Ok, Err, List, ℕ, Option, subst}
 use Rattle.std.proofs.lemmas.Result.{err_from_is_err_and}
 use Rattle.leveldb_mem.specs.MemTable.{entry_of, AddResult}
 use Rattle.leveldb_mem.proofs.EntryLemmas.{added, not_added, not_prepared}

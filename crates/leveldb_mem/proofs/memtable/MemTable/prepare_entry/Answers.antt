@@ -1,4 +1,4 @@
-use Rattle.std.proofs.Common.{◌+◌, [], ◌∷◌, length, option_copied, arith}
+use Rattle.std.proofs.Common.{[], ◌∷◌, option_copied, arith}
 use Rattle.std.proofs.lemmas.Result.{on_ok_weaker, IfErr-weaker}
 use Rattle.leveldb_mem.specs.WriteBatch.{item_of}
 use Rattle.leveldb_mem.specs.MemTable.{FailsToPrepare, FailsToNumber, bytes_in}

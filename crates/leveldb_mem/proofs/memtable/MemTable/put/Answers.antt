@@ -2,10 +2,11 @@ use Rattle.std.proofs.Common.{◌≡◌, ◌++◌, true, false, List, option_cop
 use Rattle.std.proofs.lemmas.Bool.{cases_Bool, OnTrue_at, OnTrue_from, OnFalse_at, OnFalse_from}
 use Rattle.std.specs.Prelude.{All}
 use Rattle.leveldb_base.specs.Cmp.{memtable_accepts}
+use Rattle.leveldb_base.specs.KeyTypes.{front_key, user_part, sequence_part}
 use Rattle.leveldb_base.specs.Types.{Pair}
 use Rattle.leveldb_base.specs.Entries.{type_of, bytes_of_value}
 use Rattle.leveldb_mem.specs.MemTable.{entry_of, entry_key, entry_from, IsEntryPair, entries_of_keys}
-use Rattle.leveldb_mem.proofs.MemTableLemmas.{key_of_parts, length-parts, entry_again, accepted_key, grows}
+use Rattle.leveldb_mem.proofs.MemTableLemmas.{key_of_parts, length-parts, entry_again, entry_user, entry_number, accepted_key, grows}
 use Rattle.leveldb_mem.proofs.SkipMapLemmas.{length-five}
 use Rattle.leveldb_mem.proofs.EntryLemmas.{gains_entry, still_entries, not_new, is_new}
 use Rattle.leveldb_mem.proofs.memtable.MemTable.put.Goals as goal
@@ -19,6 +20,22 @@ put_parts-requires-clause-accepted g c =
     c.type_and_bytes-parts.result.0 value c.type_and_bytes-parts.ensures.kind c.type_and_bytes-parts.ensures.bytes c.encode_length-head.ensures c.tag_bytes-tag.ensures c.encode_length-size.ensures in
     ap (memtable_accepts (g.C.Cmp.accepts c.self.inside.map.cmp.0)) whole
     ∙ accepted_key (g.C.Cmp.accepts c.self.inside.map.cmp.0) c.args.key.now c.args.sequence (type_of value) (bytes_of_value value) (g.met.C.UserCmp.accepts_all c.self.inside.map.cmp.0 c.args.key.now)
+
+pub put_parts-requires-clause-user : goal.put_parts-requires-clause-user
+put_parts-requires-clause-user g c =
+    let value = option_copied c.args.value in
+    let whole =
+    key_of_parts c.encode_length-head.result.now c.args.key.now c.tag_bytes-tag.result c.encode_length-size.result.now c.type_and_bytes-parts.result.1.now c.args.sequence
+    c.type_and_bytes-parts.result.0 value c.type_and_bytes-parts.ensures.kind c.type_and_bytes-parts.ensures.bytes c.encode_length-head.ensures c.tag_bytes-tag.ensures c.encode_length-size.ensures in
+    ap (λ k. user_part (front_key k)) whole ∙ entry_user (entry_of c.args.sequence c.args.key.now value)
+
+pub put_parts-requires-clause-number : goal.put_parts-requires-clause-number
+put_parts-requires-clause-number g c =
+    let value = option_copied c.args.value in
+    let whole =
+    key_of_parts c.encode_length-head.result.now c.args.key.now c.tag_bytes-tag.result c.encode_length-size.result.now c.type_and_bytes-parts.result.1.now c.args.sequence
+    c.type_and_bytes-parts.result.0 value c.type_and_bytes-parts.ensures.kind c.type_and_bytes-parts.ensures.bytes c.encode_length-head.ensures c.tag_bytes-tag.ensures c.encode_length-size.ensures in
+    ap (λ k. sequence_part (front_key k)) whole ∙ entry_number (entry_of c.args.sequence c.args.key.now value) c.requires.numbered
 
 pub put_parts-requires-clause-bytes : goal.put_parts-requires-clause-bytes
 put_parts-requires-clause-bytes g c =

@@ -1,4 +1,4 @@
-use Rattle.std.proofs.Common.{◌∙◌, arith}
+use Rattle.std.proofs.Common.{arith}
 use Rattle.leveldb_mem.proofs.MemTableLemmas.{reserves}
 use Rattle.leveldb_mem.proofs.memtable.MemTable.reserve.Goals as goal
 

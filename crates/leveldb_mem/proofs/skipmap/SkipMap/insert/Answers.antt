@@ -1,13 +1,26 @@
-use Rattle.std.proofs.Common.{◌≡◌, ◌+◌, ◌++◌, ◌∙◌, inr, ap, sym, subst, refl, length, List, arith, ap}
+use Rattle.std.proofs.Common.{⊎_elim, ◌≡◌, ◌+◌, ◌++◌, ◌∙◌, inr, ap, sym, subst, refl, length, List, arith, ap}
 use Rattle.std.specs.List.{insert}
 use Rattle.std.proofs.lemmas.Bool.{eqb-false}
 use Rattle.std.proofs.lemmas.Result.{err_from_is_err_and}
+use Rattle.std.proofs.lemmas.Bool.{OnFalse_at}
 use Rattle.leveldb_base.specs.Types.{Pair}
 use Rattle.leveldb_mem.specs.Placed.{place_of, FailsToReserve}
 use Rattle.leveldb_mem.specs.SkipMap.{IsSorted}
-use Rattle.leveldb_mem.proofs.Rising.{placed_at, inserts_at}
+use Rattle.leveldb_mem.proofs.Halving.{count_before-is}
+use Rattle.leveldb_mem.proofs.Rising.{placed_at, inserts_at, parted_by_order}
 use Rattle.leveldb_mem.proofs.SkipMapLemmas.{same_path, not_empty, not_present}
 use Rattle.leveldb_mem.proofs.skipmap.SkipMap.insert.Goals as goal
+
+pub path_for-path-requires : goal.path_for-path-requires
+path_for-path-requires g c =
+    let it = c.self.inside in
+    let ok = ⊎_elim (λ none. absurd (eqb-false (length c.args.key.now) 0 (sym c.if-is_empty.ensures) (ap length none))) (λ ok. ok) (rw (← c.self.view_is) at c.requires) in
+    parted_by_order (g.met.C.Cmp.preorder it.cmp) c.self.invariant.0 c.args.key.now ok
+
+pub is_taken-requires-clause-place : goal.is_taken-requires-clause-place
+is_taken-requires-clause-place g c =
+    let it = c.self.inside in
+    c.path_for-path.ensures.place ∙ count_before-is (g.C.Cmp.cmp it.cmp) c.args.key.now it.pairs.pairs
 
 pub returns-in_err-reserve : goal.returns-in_err-reserve
 returns-in_err-reserve g c =
@@ -26,7 +39,7 @@ returns-in_err-reserve g c =
       places = failed.err;
       bytes = failed.bytes;
       empty = (λ h. absurd (not_empty pairs 1 bytes cause h), λ none. absurd (eqb-false (length c.args.key.now) 0 (sym c.if-is_empty.ensures) (ap length none)));
-      present = (λ h. absurd (not_present pairs 1 bytes cause h), λ h. absurd (c.in-Some.ensures.0.alone h.1));
+      present = (λ h. absurd (not_present pairs 1 bytes cause h), λ h. absurd ((OnFalse_at c.if-is_taken.false c.is_taken.ensures.gap).alone h.1));
       cause = inr (inr cause);
     })
 
@@ -35,25 +48,25 @@ place-requires-clause-at g c =
     let it = c.self.inside in
     let order_is = c.append-2.ensures.order ∙ c.append.ensures.order ∙ c.in_ok-reserve.ensures.order in
     let same = c.append-2.ensures.pairs ∙ c.append.ensures.pairs ∙ c.in_ok-reserve.ensures.pairs in
-    let within = c.in-Some.ensures.0.within in
-    let at : place_of c.append-2.new.self.order c.in-Some.path ≡ place_of it.pairs.order c.in-Some.path = ap (λ o. place_of o c.in-Some.path) order_is in
+    let within = (OnFalse_at c.if-is_taken.false c.is_taken.ensures.gap).within in
+    let at : place_of c.append-2.new.self.order c.path_for-path.result ≡ place_of it.pairs.order c.path_for-path.result = ap (λ o. place_of o c.path_for-path.result) order_is in
     let size : length c.append-2.new.self.pairs ≡ length it.pairs.pairs = ap length same in
     omega (arith, within, at, size)
 
 pub place-requires-clause-path : goal.place-requires-clause-path
 place-requires-clause-path g c =
     let it = c.self.inside in
-    let path = c.in-Some.path in
+    let path = c.path_for-path.result in
     same_path c.reserve.new.self.words c.append-2.new.self.words c.reserve.new.self.order c.append-2.new.self.order path (place_of it.pairs.order path)
     (c.append-2.ensures.words ∙ c.append.ensures.words) (c.append-2.ensures.order ∙ c.append.ensures.order) (ap (λ o. place_of o path) c.in_ok-reserve.ensures.order)
-    (c.in_ok-reserve.ensures.paths path (place_of it.pairs.order path) c.in-Some.ensures.1)
+    (c.in_ok-reserve.ensures.paths path (place_of it.pairs.order path) c.path_for-path.ensures.path)
 
 pub invariant_of-self-2 : goal.invariant_of-self-2
 invariant_of-self-2 g c =
     let it = c.self.inside in
     let key = c.args.key.now in
     let value = c.args.value.now in
-    let path = c.in-Some.path in
+    let path = c.path_for-path.result in
     let same = c.append-2.ensures.pairs ∙ c.append.ensures.pairs ∙ c.in_ok-reserve.ensures.pairs in
     let order_is = c.append-2.ensures.order ∙ c.append.ensures.order ∙ c.in_ok-reserve.ensures.order in
     let tail : c.append-2.new.self.tail ≡ key ++ value =
@@ -61,14 +74,14 @@ invariant_of-self-2 g c =
     let new : c.place.new.self.pairs ≡ insert it.pairs.pairs (place_of it.pairs.order path) (key, value) =
     placed_at it.pairs.pairs c.append-2.new.self.pairs c.place.new.self.pairs c.append-2.new.self.tail key value (place_of c.append-2.new.self.order path) (length key) same tail refl c.place.ensures.pairs
     ∙ ap (λ o. insert it.pairs.pairs (place_of o path) (key, value)) order_is in
-    (subst (λ (ps : List Pair). IsSorted (g.C.Cmp.accepts it.cmp) (g.C.Cmp.cmp it.cmp) ps) (sym new) (c.in-Some.ensures.0.sorted value), c.place.ensures.tail, c.place.ensures.nodes)
+    (subst (λ (ps : List Pair). IsSorted (g.C.Cmp.accepts it.cmp) (g.C.Cmp.cmp it.cmp) ps) (sym new) ((OnFalse_at c.if-is_taken.false c.is_taken.ensures.gap).sorted value), c.place.ensures.tail, c.place.ensures.nodes)
 
 pub returns : goal.returns
 returns g c =
     let it = c.self.inside in
     let key = c.args.key.now in
     let value = c.args.value.now in
-    let path = c.in-Some.path in
+    let path = c.path_for-path.result in
     let same = c.append-2.ensures.pairs ∙ c.append.ensures.pairs ∙ c.in_ok-reserve.ensures.pairs in
     let order_is = c.append-2.ensures.order ∙ c.append.ensures.order ∙ c.in_ok-reserve.ensures.order in
     let tail : c.append-2.new.self.tail ≡ key ++ value =
@@ -79,11 +92,11 @@ returns g c =
     rw (← c.self.view_is) (record {
       cmp = refl;
       ok = inserts_at it.pairs.pairs c.place.new.self.pairs (place_of it.pairs.order path) (key, value) new;
-      sorted = subst (λ (ps : List Pair). IsSorted (g.C.Cmp.accepts it.cmp) (g.C.Cmp.cmp it.cmp) ps) (sym new) (c.in-Some.ensures.0.sorted value);
+      sorted = subst (λ (ps : List Pair). IsSorted (g.C.Cmp.accepts it.cmp) (g.C.Cmp.cmp it.cmp) ps) (sym new) ((OnFalse_at c.if-is_taken.false c.is_taken.ensures.gap).sorted value);
       err = tt;
       places = tt;
       bytes = tt;
       empty = (λ h. absurd h, λ none. absurd (eqb-false (length key) 0 (sym c.if-is_empty.ensures) (ap length none)));
-      present = (λ h. absurd h, λ h. absurd (c.in-Some.ensures.0.alone h.1));
+      present = (λ h. absurd h, λ h. absurd ((OnFalse_at c.if-is_taken.false c.is_taken.ensures.gap).alone h.1));
       cause = tt;
     })

@@ -1,6 +1,5 @@
-use Rattle.std.proofs.Common.{◌≡◌, ◌∙◌, ◌∷◌, Some, refl, sym, slice_index, arith, length}
+use Rattle.std.proofs.Common.{◌∙◌, Some, refl, sym, slice_index, arith, length}
 use Rattle.leveldb_base.proofs.PositionLemmas.{last_before_end}
-use Rattle.leveldb_mem.specs.Placed.{head, rank}
 use Rattle.leveldb_mem.specs.SkipMap.{HasNode}
 use Rattle.leveldb_mem.proofs.SkipMapLemmas.{before_head, before_node, before_has, for_some}
 use Rattle.leveldb_mem.proofs.skipmap.SkipMap.last.Goals as goal

@@ -1,5 +1,4 @@
-use Rattle.std.proofs.Common.{◌∙◌, inr, subst, take}
-use Rattle.leveldb_mem.specs.Placed.{IsPathTo}
+use Rattle.std.proofs.Common.{◌∙◌, inr}
 use Rattle.leveldb_mem.proofs.Halving.{count_before-is}
 use Rattle.leveldb_mem.proofs.Rising.{parted_by_order}
 use Rattle.leveldb_mem.proofs.skipmap.search.path_before.Goals as goal
@@ -9,11 +8,6 @@ path_to-requires-clause-parted g c = inr (parted_by_order (g.met.C.Cmp.preorder 
 
 pub returns-then-accepts-clause-place : goal.returns-then-accepts-clause-place
 returns-then-accepts-clause-place g c = c.path_to.ensures.place ∙ count_before-is (g.C.Cmp.cmp c.args.cmp.now) c.args.key.now c.args.pairs.now.pairs
-
-pub returns-then-accepts-clause-path : goal.returns-then-accepts-clause-path
-returns-then-accepts-clause-path g c = λ _.
-    subst (λ n. IsPathTo c.args.pairs.now.words c.path_to.result 12 (take n c.args.pairs.now.order))
-    (count_before-is (g.C.Cmp.cmp c.args.cmp.now) c.args.key.now c.args.pairs.now.pairs) c.path_to.ensures.path
 
 pub returns-else-accepts-clause-place : goal.returns-else-accepts-clause-place
 returns-else-accepts-clause-place g c = c.path_to-else-accepts.ensures.place ∙ count_before-is (g.C.Cmp.cmp c.args.cmp.now) c.args.key.now c.args.pairs.now.pairs
