@@ -14,3 +14,4 @@ pub mod TableBuilderFinishLemmas
 pub mod TableReaderLemmas
 pub mod TableReaderWalkLemmas
 pub mod TableReaderMovesLemmas
+pub mod TableMoreLemmas

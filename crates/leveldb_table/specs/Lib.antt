@@ -9,6 +9,7 @@ pub mod CacheBorrow
 pub mod BlockCache
 pub mod Footer
 pub mod Table
+pub mod TableLaws
 pub mod PutBlock
 pub mod TableBuilder
 pub mod TableBuilderStage

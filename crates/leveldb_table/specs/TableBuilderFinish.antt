@@ -1,6 +1,6 @@
 -- How the last of a table is put, why a table wasn't finished, and what an error leaves in the
 -- sink: a prefix of what would be there.
-use Rattle.std.specs.Prelude.{◌≡◌, ◌≢◌, ◌⊎◌, ℕ, ◌+◌, true, false, List, [], ◌∷◌, length, Result, Ok}
+use Rattle.std.specs.Prelude.{◌≡◌, ◌≢◌, ◌⊎◌, ℕ, ◌+◌, true, false, List, [], ◌∷◌, length, None, Result, Ok, IsErrAnd}
 use Rattle.std.specs.declared.cmp.Ordering.{Ordering}
 use Rattle.leveldb_base.specs.Cmp.{bytewise}
 use Rattle.leveldb_base.specs.BlockHandle.{Handle, handle_bytes}
@@ -98,6 +98,19 @@ module _ {C FP : Type 0} {order : CmpGhosts C} {policy : PolicyGhosts FP} (codin
       × StopsFromFilters codings (order.cmp core.block.cmp) (policy.too_large core.filter.policy)
       (policy.filter_for core.filter.policy) core.compressor
       (policy.name core.filter.policy) last puts flushes mid status to)
+
+  -- What finishing comes to where no table can be made: a broken builder puts nothing; under an id
+  -- without a compressor an open block isn't closed, and without one at most the filters are put.
+  pub record CannotFinish (from : S) (result : Result ℕ Status) (to : S) : Type 0 where
+    pub broken : core.broken ≡ true → IsErrAnd result IsBroken × (to ≡ from)
+    pub unset : core.broken ≡ false → (stage core).open_pairs ≢ [] → codings core.compressor ≡ None
+        → IsErrAnd result (λ status. IsUnset core.compressor status ⊎ IsOutOfMemory status)
+        × (to ≡ from)
+    pub unset_rest : core.broken ≡ false → (stage core).open_pairs ≡ []
+        → codings core.compressor ≡ None
+        → IsErrAnd result (λ status. StopsUnset (policy.too_large core.filter.policy)
+        (policy.filter_for core.filter.policy) core.compressor (policy.name core.filter.policy)
+        (stage core) puts from status to)
 
 module _ {C FP : Type 0} {order : CmpGhosts C} {policy : PolicyGhosts FP} (codings : Codings)
     (core : BuilderCore C FP order policy)

@@ -116,7 +116,8 @@ module _ {C : Type 0} {order : CmpGhosts C} where
         old_env file) old_env new_env result
     pub ok : ForBytesOf env old_env file (λ bytes.
         GivenParts codings accepts cmp id bytes old_cache Fit
-        (λ parts position. IsIndexed cmp parts old) (λ parts position. OnOk result (IsAtPosition cmp parts new position)))
+        (λ parts position. IsIndexed cmp parts old)
+        (λ parts position. OnOk result (IsAtPosition cmp parts new position)))
     pub steps : ForBytesOf env old_env file (λ bytes. HoldsOnlyOf codings cmp id bytes old_cache
         → OnOk result (Step codings cmp bytes old (Ok (table_position new))))
     pub err : OnErr result (inner_position new.inner ≡ None)

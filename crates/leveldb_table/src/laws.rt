@@ -10,6 +10,7 @@ ghost use Rattle.leveldb_base.specs.declared.cmp.internal.InternalKeyCmp.{Intern
 ghost use Rattle.leveldb_env.specs.Compressor.{Codings, Decodes};
 ghost use Rattle.leveldb_env.specs.FilterBlock.{passes};
 ghost use Rattle.leveldb_table.specs.Table.{Part, HasTableBlocks, IsTable, AllPass, DecodesOne, OneTable, index_pair, filter_key, named_part};
+ghost use Rattle.leveldb_table.specs.TableLaws.{TablesByMore};
 ghost use Rattle.leveldb_table.specs.TableBuilder.{MatchesByUser, SeparatesUsers};
 ghost use Rattle.leveldb_table.specs.TableReader.{HasIndex, OpensAs, CanOpen, HasParts, HandlesFit, KeepsUsersTogether, HasNoneFrom, pairs_in};
 ghost use Rattle.leveldb_base.specs.Varint.{little};
@@ -76,6 +77,11 @@ pub fn tables_have_one_list()
     ensures list { (codings : Codings) (cmp : List ℕ → List ℕ → Ordering)
         → OneTable (Decodes codings) cmp }
     ensures decoded { (codings : Codings) → DecodesOne (Decodes codings) }
+{}
+
+/// A table by some compressors is one by compressors that decode more.
+pub fn more_compressors_keep_tables()
+    ensures { (codings more : Codings) → TablesByMore (Decodes codings) (Decodes more) }
 {}
 
 /// Where the filters rule out a key at the data block that the index names for it, no pair at or

@@ -1,12 +1,11 @@
 //! Table builders, and the parts of a table's file that they share with its readers.
-ghost use Rattle.std.specs.Prelude.{◌≡◌, ◌↔◌, ◌+◌, ◌-◌, ◌^◌, ◌<◌, ◌++◌, ◌∷◌, ◌⊎◌, ◌≢◌, [], List, None, max, true, false, min, IfOk, IfErr, OnOk, OnErr, IsErrAnd, IsTrue};
+ghost use Rattle.std.specs.Prelude.{◌≡◌, ◌↔◌, ◌+◌, ◌-◌, ◌^◌, ◌<◌, ◌++◌, ◌∷◌, List, max, true, false, min, IfOk, IfErr, OnOk, OnErr, IsTrue};
 ghost use Rattle.std.specs.declared.cmp.Ordering.TheVariants.{Less};
-ghost use Rattle.leveldb_env.specs.Compressor.{Codings, IsUnset};
-ghost use Rattle.leveldb_table.specs.TableBuilderFinish.{IsFinished, IsFinishError, StopsUnset};
-ghost use Rattle.leveldb_base.specs.Error.{IsOutOfMemory};
+ghost use Rattle.leveldb_env.specs.Compressor.{Codings};
+ghost use Rattle.leveldb_table.specs.TableBuilderFinish.{IsFinished, IsFinishError, CannotFinish};
 ghost use Rattle.leveldb_table.specs.TableBuilderStage.{with_pair};
 ghost use Rattle.leveldb_table.specs.TableBuilderAdd.{TakesPair, TakesNoPair};
-ghost use Rattle.leveldb_table.specs.TableBuilder.{IsNewBuilder, stage, last_of, order_of, policy_of, KeepsChoices, IsBegun, IsBroken, IsBuiltTable, IsFull, table_estimate, AddsPair, FinishesTable};
+ghost use Rattle.leveldb_table.specs.TableBuilder.{IsNewBuilder, last_of, order_of, policy_of, KeepsChoices, IsBegun, IsBuiltTable, IsFull, table_estimate, AddsPair, FinishesTable};
 
 use crate::table_builder::builder_core::BuilderCore;
 use leveldb_base::cmp::{Cmp, InternalKeyCmp, UserCmp};
@@ -166,17 +165,8 @@ impl<Dst: Sink, C: Cmp + Copy, FP: FilterPolicy + Copy> TableBuilder<Dst, C, FP>
         ensures cause { IfErr result.1 (λ status. IsFinishError
             (⟦<CompressorList as Compressors>⟧.codings compressors.now) self.core Dst.puts
             Dst.flushes self.dst status result.0) }
-        ensures unset_rest { self.core.broken ≡ false → (stage self.core).open_pairs ≡ []
-            → ⟦<CompressorList as Compressors>⟧.codings compressors.now self.core.compressor ≡ None
-            → IsErrAnd result.1 (λ status. StopsUnset (FP.too_large (policy_of self.core))
-            (FP.filter_for (policy_of self.core)) self.core.compressor
-            (FP.name (policy_of self.core)) (stage self.core) Dst.puts self.dst status result.0) }
-        ensures unset { self.core.broken ≡ false → (stage self.core).open_pairs ≢ []
-            → ⟦<CompressorList as Compressors>⟧.codings compressors.now self.core.compressor ≡ None
-            → IsErrAnd result.1 (λ status. IsUnset self.core.compressor status
-            ⊎ IsOutOfMemory status) × (result.0 ≡ self.dst) }
-        ensures broken { self.core.broken ≡ true → IsErrAnd result.1 IsBroken
-            × (result.0 ≡ self.dst) }
+        ensures cannot { CannotFinish (⟦<CompressorList as Compressors>⟧.codings compressors.now)
+            self.core Dst.puts self.dst result.1 result.0 }
     {
         let TableBuilder { core, mut dst } = self;
         let size = core.finish(&mut dst, compressors);

@@ -15,12 +15,13 @@ ghost use Rattle.leveldb_table.specs.TableBlock.{LacksBlock, NamesNone, ReadsFil
 use crate::block::Block;
 use crate::block_cache::{BlockCache, CachedBlock, cache_key};
 use crate::cache::CacheID;
+use crate::damage::corruption;
 use crate::table_block::read_table_block;
 use crate::table_builder::Footer;
 use bytes::Bytes;
 use leveldb_base::blockhandle::BlockHandle;
 use leveldb_base::cmp::{Cmp, DefaultCmp, InternalKeyCmp, UserCmp};
-use leveldb_base::error::{Result, StatusCode, err};
+use leveldb_base::error::Result;
 use leveldb_base::types::LdbIterator;
 use leveldb_env::compressor::{CompressorList, Compressors};
 use leveldb_env::env::Env;
@@ -148,7 +149,8 @@ impl<E: Env, C: Cmp + Copy + Drop, FP: FilterPolicy + Drop> Table<E, C, FP> {
             compressors,
             footer.meta_index,
         )?;
-        let filters = read_filters(alloc, policy, env, &file, &metas)?;
+        let offset = footer.meta_index.offset();
+        let filters = read_filters(alloc, policy, env, &file, &metas, offset)?;
         let id = cache.new_cache_id()?;
         Ok(Table {
             cmp,
@@ -208,7 +210,7 @@ impl<E: Env, C: Cmp + Copy + Drop, FP: FilterPolicy> Table<E, C, FP> {
         let Some((_, value)) = lines.current() else {
             return Ok(self.footer.meta_index.offset());
         };
-        Ok(whole_handle(alloc, value, BAD_LINE)?.offset())
+        Ok(self.line_handle(alloc, value)?.offset())
     }
 
     /// The first pair at or after the key, or none where the filters rule out the key at the block
@@ -231,6 +233,16 @@ impl<E: Env, C: Cmp + Copy + Drop, FP: FilterPolicy> Table<E, C, FP> {
             return core.into_pair();
         }
         Ok(None)
+    }
+
+    // The handle that a line of the index has as its value.
+    fn line_handle(&self, alloc: Global, value: &[u8]) -> Result<BlockHandle>
+        ensures ok { IfOk result
+            (λ handle. HandleFits handle × (value.now ≡ handle_bytes handle)) }
+        ensures err { IfErr result (λ status. (status.code ≡ Corruption)
+            × ((handle : Handle) → HandleFits handle → value.now ≡ handle_bytes handle → ⊥)) }
+    {
+        whole_handle(alloc, value, "index", self.footer.index.offset())
     }
 
     // Whether the filters let a key pass at an offset; without filters each key passes.
@@ -304,17 +316,18 @@ impl<E: Env, C: Cmp + Copy + Drop, FP: FilterPolicy> Table<E, C, FP> {
     }
 }
 
-// What is wrong with a line of the index that names no block.
-const BAD_LINE: &str = "index: no handle of a block";
+// What is wrong with a value of an index or a metaindex that encodes no handle.
+const NO_HANDLE: &str = "no handle of a block";
 
-// The handle that these bytes encode, and nothing else. An error says this.
-fn whole_handle(alloc: Global, bytes: &[u8], bad: &str) -> Result<BlockHandle>
+// The handle that these bytes encode, and nothing else. They are a value of the block that is this
+// part of a table, at this offset of its file.
+fn whole_handle(alloc: Global, bytes: &[u8], part: &str, offset: usize) -> Result<BlockHandle>
     ensures ok { IfOk result (λ handle. HandleFits handle × (bytes.now ≡ handle_bytes handle)) }
     ensures err { IfErr result (λ status. (status.code ≡ Corruption)
         × ((handle : Handle) → HandleFits handle → bytes.now ≡ handle_bytes handle → ⊥)) }
 {
     match BlockHandle::decode(bytes) {
         Some((handle, used)) if used == bytes.len() => Ok(handle),
-        _ => err(alloc, StatusCode::Corruption, bad),
+        _ => corruption(alloc, part, offset, NO_HANDLE),
     }
 }

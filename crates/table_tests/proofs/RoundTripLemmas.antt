@@ -1,11 +1,11 @@
 -- What a table's builder, its file, its look-ups and its walks make of a list of pairs.
-use Rattle.std.proofs.Common.{◌≡◌, ℕ, ◌+◌, ◌-◌, ◌<◌, ◌^◌, Bool, true, false, List, [], ◌∷◌, ◌++◌, length, take, get_or, Option, None, Some, Result, Ok, Err, refl, sym, ◌∙◌, ap, subst, inl, inr, ⊎_elim, arith, zero, suc, map, append_assoc, if◌then◌else◌}
-use Rattle.std.specs.Prelude.{is_some, IsSomeAnd, IfOk, OnOk, IfSome, IsTrue}
+use Rattle.std.proofs.Common.{◌≡◌, ℕ, ◌+◌, ◌-◌, ◌<◌, ◌≤◌, ◌^◌, Bool, true, false, List, [], ◌∷◌, ◌++◌, length, take, reverse, get_or, Option, None, Some, Result, Ok, Err, refl, sym, ◌∙◌, ap, subst, inl, inr, ⊎_elim, arith, map, append_assoc, if◌then◌else◌}
+use Rattle.std.specs.Prelude.{IsSomeAnd, IfOk, OnOk, IfSome, IsTrue}
 use Rattle.std.specs.List.{slice_get}
 use Rattle.std.specs.Option.{option_map}
 use Rattle.std.proofs.lemmas.Bool.{lt-ltb}
-use Rattle.std.proofs.lemmas.Option.{slice_get_cases, slice_get-map, slice_get-get_or, same_Some}
-use Rattle.std.proofs.lemmas.List.{append-nil, take_more, get_or-map, length-map}
+use Rattle.std.proofs.lemmas.Option.{slice_get_cases, slice_get-get_or, slice_get_within, get_or_from_slice_get, same_Some}
+use Rattle.std.proofs.lemmas.List.{append-nil, take_more, take_all, length_push, get_or-map, get_or-reverse, length-map, length-reverse}
 use Rattle.std.specs.Borrow.{Bor}
 use Rattle.std.specs.declared.cmp.Ordering.{Ordering}
 use Rattle.std.specs.declared.cmp.Ordering.TheVariants.{Less}
@@ -18,7 +18,7 @@ use Rattle.leveldb_base.specs.Cmp.{IsPreorderOn, IsExactOrder}
 use Rattle.leveldb_base.specs.Entries.{value_of, entries_of_pairs, found_at, FindsNewest}
 use Rattle.leveldb_base.specs.History.{IsBeforeAll, AreRising}
 use Rattle.leveldb_base.specs.KeyTypes.{user_part, sequence_part, type_part, internal_cmp}
-use Rattle.leveldb_base.specs.Types.{Pair, pair_at, position_within, previous_position, next_position, count_before}
+use Rattle.leveldb_base.specs.Types.{Pair, pair_at, position_within, previous_position, next_position, last_position, count_before}
 use Rattle.leveldb_base.specs.declared.cmp.Cmp.{Ghosts as CmpGhosts}
 use Rattle.leveldb_base.specs.declared.error.Status.{Status}
 use Rattle.leveldb_env.proofs.EnvLemmas.{at_same, extended-same, synced-same}
@@ -42,7 +42,7 @@ use Rattle.leveldb_table.specs.TableBlock.{FileHas, ForBytesOf, KeepsDisk}
 use Rattle.leveldb_table.specs.TableBuilder.{MatchesByUser, AddsPair, IsBuiltTable}
 use Rattle.leveldb_table.specs.TableReader.{HasParts, KeepsUsersTogether, HasNoneFrom, pairs_in, found_in, lines_of, filters_in, lets, OpensTable, IsOpenedAs, AreOfPolicy, GainsBlocksOf}
 use Rattle.leveldb_table.specs.TableReaderBlocks.{StartsOver}
-use Rattle.leveldb_table.specs.TableReaderMoves.{Advances, StepsBack}
+use Rattle.leveldb_table.specs.TableReaderMoves.{MovesOver}
 use Rattle.leveldb_table.specs.TableReaderWalk.{MovesInTable, Outcome, inner_position}
 use Rattle.leveldb_table.specs.declared.block_cache.CachedBlock.{CachedBlock}
 use Rattle.leveldb_table.specs.declared.table_reader.Table.{Table}
@@ -287,24 +287,7 @@ module _ {E F C FP : Type 0} (env : EnvGhosts E F) {order : CmpGhosts C} (accept
         at = record { lines = starts.lines ∙ (index_read built.tabled ready.opens.indexed).0; ordered = ap order.cmp (starts.ordered ∙ ready.ordered.1); at = ap inner_position starts.position };
       })
 
--- the position before the one after `n` pairs is that of the last of them
-pub previous_is : (n : ℕ) → 0 < n → previous_position (Some n) ≡ Some (n - 1)
-previous_is n some = ap (λ b. if b then Some (n - 1) else None) (lt-ltb 0 n some)
-
-pub next_is : (pairs : List Pair) (n : ℕ) → n < length pairs → next_position pairs (previous_position (Some n)) ≡ Some n
-next_is pairs zero within = position_in pairs 0 within
-next_is pairs (suc n) within = ap (next_position pairs) (previous_is (suc n) (omega arith)) ∙ position_in pairs (suc n - 1 + 1) (omega (arith, within)) ∙ ap Some (omega arith)
-
 module _ {E F C : Type 0} (env : EnvGhosts E F) {order : CmpGhosts C} {codings : Codings} {accepts : List ℕ → Bool} {cmp : List ℕ → List ℕ → Ordering} {id : ℕ} {file : F} where
-  -- a walk at a pair says so, and one at none
-  pub is_there : {bytes : List ℕ} {parts : List Part} {state : E} {cache : Cached (CachedBlock C order)} {core : TableCore C order} {n : ℕ} → IsWalkingAt env codings accepts cmp id file bytes parts state cache core (Some n)
-      → is_some (inner_position core.inner) ≡ true
-  is_there walk = ap is_some walk.at.at.at_position
-
-  pub is_nowhere : {bytes : List ℕ} {parts : List Part} {state : E} {cache : Cached (CachedBlock C order)} {core : TableCore C order} → IsWalkingAt env codings accepts cmp id file bytes parts state cache core None
-      → is_some (inner_position core.inner) ≡ false
-  is_nowhere walk = ap is_some walk.at.at
-
   -- a move goes from one position to the next
   pub moves_on : {T : Type 0} {to : List Pair → Option ℕ → Option ℕ} {Step : Codings → (List ℕ → List ℕ → Ordering) → List ℕ → TableCore C order → Outcome → Type 0} {old_env new_env : E}
       {old_cache new_cache : Cached (CachedBlock C order)} {old new : TableCore C order} {bytes : List ℕ} {parts : List Part} {position : Option ℕ} (result : Result T Status)
@@ -318,10 +301,6 @@ module _ {E F C : Type 0} (env : EnvGhosts E F) {order : CmpGhosts C} {codings :
     at = moves.ok bytes at.has parts position at.parted tt at.holds at.at;
   }
   moves_on (Err status) moves at = tt
-
--- the position before the one after some pairs is the last of them
-pub after_is : (n : ℕ) → previous_position (Some (n + 1)) ≡ Some n
-after_is n = previous_is (n + 1) (omega arith) ∙ ap Some (omega arith)
 
 -- ---- pairs of a list
 
@@ -344,16 +323,68 @@ pub adds_next : {S : Type 0} (puts : S → List ℕ → Result (Unit {0}) Status
     → AddsAll puts old mid from (take i (given pairs)) to → AddsPair puts mid new to (held (get_or pairs i d)) end → AddsAll puts old new from (take (i + 1) (given pairs)) end
 adds_next puts {old} {mid} {new} {from} {to} {end} pairs i d within all one = subst (λ z. AddsAll puts old new from z end) (sym (given_next pairs i d within)) (adds_more puts all one)
 
--- the pair at a position
-pub given_at : (pairs : List (Bor (List ℕ) × Bor (List ℕ))) (parts : List Part) (i : ℕ) (d : Bor (List ℕ) × Bor (List ℕ)) → pairs_in parts ≡ given pairs → i < length pairs → pair_at (pairs_in parts) (Some i) ≡ Some (held (get_or pairs i d))
-given_at pairs parts i d same within = ap (λ z. slice_get z i) same ∙ slice_get-map held pairs i ∙ ap (option_map held) (slice_get-get_or pairs i d within)
+-- ---- walks over all pairs of a list
+
+past_end : {X : Type 0} (xs : List X) (i : ℕ) → slice_get xs i ≡ None → length xs ≤ i
+past_end xs i none = ⊎_elim (λ there. absurd (some_none (sym there.2 ∙ none))) (λ past. past.0) (slice_get_cases xs i).1
+
+-- where there is no next pair, all were passed
+pub all_passed : (ordered passed : List Pair) → passed ≡ take (length passed) ordered → slice_get ordered (length passed) ≡ None → passed ≡ ordered
+all_passed ordered passed so_far none = so_far ∙ take_all (length passed) ordered (past_end ordered (length passed) none)
+
+-- and else that one is passed next
+pub more_passed : (ordered passed : List Pair) (pair : Pair) → passed ≡ take (length passed) ordered → slice_get ordered (length passed) ≡ Some pair → passed ++ pair ∷ [] ≡ take (length (passed ++ pair ∷ [])) ordered
+more_passed ordered passed pair so_far there =
+    let within = slice_get_within ordered (length passed) pair there in
+    ap (λ z. z ++ pair ∷ []) so_far
+    ∙ ap (λ z. take (length passed) ordered ++ z ∷ []) (sym (get_or_from_slice_get ordered (length passed) pair pair there))
+    ∙ sym (take_more ordered (length passed) pair within)
+    ∙ ap (λ n. take n ordered) (sym (length_push passed pair))
+
+-- the position of the pair at a place, from the first on
+pub forward_shows : (pairs : List Pair) (n : ℕ) → pair_at pairs (position_within pairs n) ≡ slice_get pairs n
+forward_shows pairs n = ⊎_elim
+    (λ there. ap (pair_at pairs) (position_in pairs n there.1))
+    (λ past. ap (pair_at pairs) (position_out pairs n past.0) ∙ sym past.1) (slice_get_cases pairs n).1
+
+pub forward_moves : (pairs : List Pair) (n : ℕ) → n < length pairs → next_position pairs (position_within pairs n) ≡ position_within pairs (n + 1)
+forward_moves pairs n within = ap (next_position pairs) (position_in pairs n within)
+
+pub forward_ends : (pairs : List Pair) (n : ℕ) → slice_get pairs n ≡ None → position_within pairs n ≡ None
+forward_ends pairs n none = position_out pairs n (past_end pairs n none)
+
+-- the position of the pair at a place, from the last one back
+abbrev pub position_back : List Pair → ℕ → Option ℕ
+position_back pairs n = previous_position (Some (length pairs - n))
+
+previous_is : (n : ℕ) → 0 < n → previous_position (Some n) ≡ Some (n - 1)
+previous_is n some = ap (λ b. if b then Some (n - 1) else None) (lt-ltb 0 n some)
+
+pub back_is : (pairs : List Pair) (n : ℕ) → n < length pairs → position_back pairs n ≡ Some (length pairs - 1 - n)
+back_is pairs n within = previous_is (length pairs - n) (omega (arith, within)) ∙ ap Some (omega (arith, within))
+
+back_ends : (pairs : List Pair) (n : ℕ) → length pairs ≤ n → position_back pairs n ≡ None
+back_ends pairs n past = let zero_is : length pairs - n ≡ 0 = omega (arith, past) in ap (λ k. previous_position (Some k)) zero_is
+
+pub back_starts : (pairs : List Pair) → last_position pairs ≡ position_back pairs 0
+back_starts [] = refl
+back_starts (pair ∷ pairs) = sym (back_is (pair ∷ pairs) 0 (omega arith) ∙ ap Some (omega arith))
+
+pub back_shows : (pairs : List Pair) (n : ℕ) → pair_at pairs (position_back pairs n) ≡ slice_get (reverse pairs) n
+back_shows pairs n = ⊎_elim
+    (λ there.
+    let within : n < length pairs = omega (arith, there.1, length-reverse pairs) in
+    let at : length pairs - 1 - n < length pairs = omega (arith, within) in
+    ap (pair_at pairs) (back_is pairs n within)
+    ∙ slice_get-get_or pairs (length pairs - 1 - n) there.0 at
+    ∙ ap Some (sym (get_or-reverse pairs n there.0 within))
+    ∙ sym (slice_get-get_or (reverse pairs) n there.0 there.1))
+    (λ past. ap (pair_at pairs) (back_ends pairs n (omega (arith, past.0, length-reverse pairs))) ∙ sym past.1) (slice_get_cases (reverse pairs) n).1
+
+pub back_moves : (pairs : List Pair) (n : ℕ) → n < length pairs → previous_position (position_back pairs n) ≡ position_back pairs (n + 1)
+back_moves pairs n within = ap previous_position (back_is pairs n within) ∙ ap (λ k. previous_position (Some k)) (omega (arith, within))
 
 -- ---- moves through them
-
-next_given : (pairs : List (Bor (List ℕ) × Bor (List ℕ))) (parts : List Part) (i : ℕ) → pairs_in parts ≡ given pairs → i < length pairs → next_position (pairs_in parts) (previous_position (Some i)) ≡ Some i
-next_given pairs parts i same within =
-    let long : length (given pairs) ≡ length pairs = length-map {B = Pair} pairs held in
-    next_is (pairs_in parts) i (omega (arith, ap length same, long, within))
 
 module _ {E F C : Type 0} (env : EnvGhosts E F) {order : CmpGhosts C} {codings : Codings} where
   -- a walk is at a position however that is written
@@ -361,21 +392,11 @@ module _ {E F C : Type 0} (env : EnvGhosts E F) {order : CmpGhosts C} {codings :
       → IsWalkingAt env codings accepts cmp id file bytes parts state cache core position → IsWalkingAt env codings accepts cmp id file bytes parts state cache core other
   walks_at {accepts} {cmp} {id} {file} {bytes} {parts} {state} {cache} {core} same walk = subst (IsWalkingAt env codings accepts cmp id file bytes parts state cache core) same walk
 
-  module _ {FP T : Type 0} (table other : Table E C FP F order) (is : other ≡ table) {old_env new_env : E} {old_cache new_cache : Cached (CachedBlock C order)} {old new : TableCore C order} {answer : T} {bytes : List ℕ} {parts : List Part} where
-    -- forward to the next pair
-    pub walks_forward : (pairs : List (Bor (List ℕ) × Bor (List ℕ))) (i : ℕ) → pairs_in parts ≡ given pairs → i < length pairs
-        → Advances env codings other old_env old_cache old (Ok answer) new_env new_cache new
-        → IsWalkingAt env codings (order.accepts table.cmp) (order.cmp table.cmp) table.id table.file bytes parts old_env old_cache old (previous_position (Some i))
-        → IsWalkingAt env codings (order.accepts table.cmp) (order.cmp table.cmp) table.id table.file bytes parts new_env new_cache new (Some i)
-    walks_forward pairs i same_pairs within moves walk =
-        let its = subst (λ (z : Table E C FP F order). Advances env codings z old_env old_cache old (Ok answer) new_env new_cache new) is moves in
-        walks_at (next_given pairs parts i same_pairs within) (moves_on env (Ok answer) its walk)
-
-    -- and back
-    pub walks_back : (i : ℕ)
-        → StepsBack env codings other old_env old_cache old (Ok answer) new_env new_cache new
-        → IsWalkingAt env codings (order.accepts table.cmp) (order.cmp table.cmp) table.id table.file bytes parts old_env old_cache old (Some i)
-        → IsWalkingAt env codings (order.accepts table.cmp) (order.cmp table.cmp) table.id table.file bytes parts new_env new_cache new (previous_position (Some i))
-    walks_back i moves walk =
-        let its = subst (λ (z : Table E C FP F order). StepsBack env codings z old_env old_cache old (Ok answer) new_env new_cache new) is moves in
-        moves_on env (Ok answer) its walk
+  -- a move of a walk over a table that is this one
+  pub walks_on : {FP T : Type 0} {to : List Pair → Option ℕ → Option ℕ} {Step : Codings → (List ℕ → List ℕ → Ordering) → List ℕ → TableCore C order → Outcome → Type 0}
+      (table other : Table E C FP F order) → other ≡ table → {old_env new_env : E} {old_cache new_cache : Cached (CachedBlock C order)} {old new : TableCore C order} {answer : T} {bytes : List ℕ} {parts : List Part} {position : Option ℕ}
+      → MovesOver env codings other (λ _. Unit {0}) to Step old_env old_cache old (Ok answer) new_env new_cache new
+      → IsWalkingAt env codings (order.accepts table.cmp) (order.cmp table.cmp) table.id table.file bytes parts old_env old_cache old position
+      → IsWalkingAt env codings (order.accepts table.cmp) (order.cmp table.cmp) table.id table.file bytes parts new_env new_cache new (to (pairs_in parts) position)
+  walks_on {FP = FP} {to = to} {Step = Step} table other is {old_env} {new_env} {old_cache} {new_cache} {old} {new} {answer} moves walk =
+      moves_on env (Ok answer) (subst (λ (z : Table E C FP F order). MovesOver env codings z (λ _. Unit {0}) to Step old_env old_cache old (Ok answer) new_env new_cache new) is moves) walk

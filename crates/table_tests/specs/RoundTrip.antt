@@ -1,6 +1,6 @@
 -- What a table is that was built of a list of pairs into a file, when it is opened, looked up and
 -- walked over.
-use Rattle.std.specs.Prelude.{◌≡◌, ◌⊎◌, ℕ, Bool, true, List, ◌++◌, length, map, Option, None, IfSome, Result, Ok}
+use Rattle.std.specs.Prelude.{◌≡◌, ◌⊎◌, ℕ, Bool, List, ◌++◌, length, map, reverse, Option, None, IfSome, Result, Ok}
 use Rattle.std.specs.Borrow.{Bor}
 use Rattle.std.specs.declared.cmp.Ordering.{Ordering}
 use Rattle.leveldb_base.specs.Types.{Pair}
@@ -21,6 +21,7 @@ use Rattle.leveldb_table.specs.TableReaderWalk.{IsAtPosition}
 use Rattle.leveldb_table.specs.declared.block_cache.CachedBlock.{CachedBlock}
 use Rattle.leveldb_table.specs.declared.table_reader.Table.{Table}
 use Rattle.leveldb_table.specs.declared.table_reader.walk.TableCore.{TableCore}
+use Rattle.table_tests.specs.declared.round_trip.BothWays.{BothWays}
 
 -- ---- pairs, and what is built of them
 
@@ -93,13 +94,18 @@ abbrev pub FindsFirst : (List ℕ → List ℕ → Ordering) → (List ℕ → L
 FindsFirst cmp user key pairs found = (found ≡ first_from cmp key pairs)
     ⊎ ((found ≡ None) × HasNoneFrom cmp user key pairs)
 
+-- these are the pairs over which a walk went, each once and in order, forward and then back
+pub record ArePassed (pairs : List Pair) (passed : BothWays) : Type 0 where
+  pub forward : passed.forward.items ≡ pairs
+  pub back : passed.back.items ≡ reverse pairs
+
 -- what a table of these pairs gives that is built, opened, looked up and walked over: what was
--- found, and whether the walk went to the pairs both ways
+-- found, and over which pairs the walk went
 pub record ReadsBack (cmp : List ℕ → List ℕ → Ordering) (user : List ℕ → List ℕ) (key : List ℕ)
-    (pairs : List Pair) (answer : Option Pair × Bool) : Type 0 where
+    (pairs : List Pair) (answer : Option Pair × BothWays) : Type 0 where
   pub rising : KeysRise cmp pairs
   pub found : FindsFirst cmp user key pairs answer.0
-  pub walked : answer.1 ≡ true
+  pub passed : ArePassed pairs answer.1
 
 -- ---- walks
 

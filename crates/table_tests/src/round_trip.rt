@@ -1,9 +1,9 @@
 //! A table from outside: built of a list of pairs into a file, opened, looked up and walked over
 //! both ways, and what a caller knows then.
-ghost use Rattle.std.specs.Prelude.{◌≡◌, ◌+◌, ◌<◌, ◌^◌, ℕ, List, length, true, None, Some, IfOk, OnOk, IsTrue};
+ghost use Rattle.std.specs.Prelude.{◌≡◌, ◌+◌, ◌<◌, ◌^◌, ℕ, List, length, reverse, true, None, Some, IfOk, OnOk, IsTrue};
 ghost use Rattle.leveldb_base.specs.Entries.{entries_of_pairs, FindsNewest, found_at};
 ghost use Rattle.leveldb_base.specs.KeyTypes.{user_part, sequence_part};
-ghost use Rattle.leveldb_base.specs.Types.{Pair, pair_of, previous_position};
+ghost use Rattle.leveldb_base.specs.Types.{Pair};
 ghost use Rattle.leveldb_env.specs.Env.{kept_file};
 ghost use Rattle.leveldb_env.specs.EnvFile.{opened};
 ghost use Rattle.leveldb_table.specs.BlockCache.{IsNumbered};
@@ -11,7 +11,7 @@ ghost use Rattle.leveldb_table.specs.Table.{Part};
 ghost use Rattle.leveldb_table.specs.TableBlock.{KeepsDisk, ForBytesOf};
 ghost use Rattle.leveldb_table.specs.TableBuilder.{IsBegun, KeepsChoices, order_of};
 ghost use Rattle.leveldb_table.specs.TableReader.{pairs_in};
-ghost use Rattle.table_tests.specs.RoundTrip.{given, AddsAll, AppendsSynced, IsTableOf, PutsTable, GoesByUser, IsOpen, FindsFirst, ReadsBack, IsWalkingAt};
+ghost use Rattle.table_tests.specs.RoundTrip.{given, AddsAll, AppendsSynced, IsTableOf, PutsTable, GoesByUser, IsOpen, FindsFirst, ReadsBack, ArePassed, IsWalkingAt};
 
 use crate::checks::{Given, options_under};
 use bytes::Bytes;
@@ -29,6 +29,15 @@ use leveldb_table::table_builder::builder_core::BuilderCore;
 use leveldb_table::table_reader::{Table, TableIterator};
 use std::alloc::Global;
 use std::process::Abort;
+
+/// The pairs over which a walk went forward, and then back.
+#[derive(Drop)]
+struct BothWays {
+    forward: Vec<(Bytes, Bytes)>,
+    back: Vec<(Bytes, Bytes)>,
+}
+
+const TOO_MANY: &str = "more pairs than can be counted";
 
 /// Adds pairs to a builder that has none. `InvalidArgument` where keys don't rise.
 fn add_pairs<S: Sink, C: Cmp + Copy, FP: FilterPolicy>(
@@ -174,95 +183,89 @@ fn look_up<E: Env, C: Cmp + Copy + Drop, FP: FilterPolicy + Copy + Drop>(
     table.get(alloc, env, cache, &options.compressor_list, key)
 }
 
-/// Whether two borrowed slices hold what a pair does.
-fn is_pair(found: Option<(&[u8], &[u8])>, pair: &Given<'_>) -> bool
-    ensures { pair_of found.entry ≡ Some (pair.now.0.now, pair.now.1.now) → result ≡ true }
-{
-    let Some((key, value)) = found else {
-        return false;
-    };
-    key == pair.0 && value == pair.1
-}
-
-/// Walks from no position over all pairs to the last, and returns whether they are these.
-fn goes_forward<E: Env, C: Cmp + Copy + Drop, FP: FilterPolicy>(
+/// The pairs over which a walk goes from no position forward, up to no position again.
+fn pairs_forward<E: Env, C: Cmp + Copy + Drop, FP: FilterPolicy>(
+    alloc: Global,
     it: &mut TableIterator<'_, E, C, FP>,
     compressors: &CompressorList,
-    pairs: &[Given<'_>],
-) -> Result<bool>
+) -> Result<Vec<(Bytes, Bytes)>>
     ensures table { it.new.table.now ≡ it.old.table.now }
     ensures walks { let codings = ⟦<CompressorList as Compressors>⟧.codings compressors.now in
         let table = it.old.table.now in
-        IfOk result (λ same. (bytes : List ℕ) (parts : List Part)
-        → pairs_in parts ≡ given pairs.now → IsWalkingAt E.Env codings (C.accepts table.cmp)
-        (C.cmp table.cmp) table.id table.file bytes parts it.old.env.now it.old.cache.now
-        it.old.core None → (same ≡ true) × IsWalkingAt E.Env codings (C.accepts table.cmp)
+        IfOk result (λ passed. (bytes : List ℕ) (parts : List Part)
+        → IsWalkingAt E.Env codings (C.accepts table.cmp) (C.cmp table.cmp) table.id table.file
+        bytes parts it.old.env.now it.old.cache.now it.old.core None
+        → (passed.items ≡ pairs_in parts) × IsWalkingAt E.Env codings (C.accepts table.cmp)
         (C.cmp table.cmp) table.id table.file bytes parts it.new.env.now it.new.cache.now
-        it.new.core (previous_position (Some (length pairs.now)))) }
+        it.new.core None) }
 {
-    for pair in pairs {
-        if !it.advance(compressors)? {
-            return Ok(false);
-        }
-        if !is_pair(it.current(), pair) {
-            return Ok(false);
-        }
+    let mut passed = Vec::new(alloc);
+    it.advance(compressors)?;
+    for step in 0..u64::MAX {
+        let Some((key, value)) = it.current() else {
+            return Ok(passed);
+        };
+        let key = Bytes::copy_from_slice(alloc, key)?;
+        let value = Bytes::copy_from_slice(alloc, value)?;
+        passed.push((key, value))?;
+        it.advance(compressors)?;
     }
-    Ok(true)
+    err(alloc, StatusCode::NotSupported, TOO_MANY)
 }
 
-/// Walks from the last pair over all to no position, and returns whether they are these.
-fn goes_back<E: Env, C: Cmp + Copy + Drop, FP: FilterPolicy>(
+/// The pairs over which a walk goes from the last one back, up to no position.
+fn pairs_back<E: Env, C: Cmp + Copy + Drop, FP: FilterPolicy>(
+    alloc: Global,
     it: &mut TableIterator<'_, E, C, FP>,
     compressors: &CompressorList,
-    pairs: &[Given<'_>],
-) -> Result<bool>
+) -> Result<Vec<(Bytes, Bytes)>>
     ensures { let codings = ⟦<CompressorList as Compressors>⟧.codings compressors.now in
         let table = it.old.table.now in
-        IfOk result (λ same. (bytes : List ℕ) (parts : List Part)
-        → pairs_in parts ≡ given pairs.now → IsWalkingAt E.Env codings (C.accepts table.cmp)
-        (C.cmp table.cmp) table.id table.file bytes parts it.old.env.now it.old.cache.now
-        it.old.core (previous_position (Some (length pairs.now))) → same ≡ true) }
+        IfOk result (λ passed. (bytes : List ℕ) (parts : List Part)
+        → IsWalkingAt E.Env codings (C.accepts table.cmp) (C.cmp table.cmp) table.id table.file
+        bytes parts it.old.env.now it.old.cache.now it.old.core None
+        → passed.items ≡ reverse (pairs_in parts)) }
 {
-    let mut left = pairs.len();
-    while left > 0 {
-        left -= 1;
-        if !is_pair(it.current(), &pairs[left]) {
-            return Ok(false);
-        }
+    let mut passed = Vec::new(alloc);
+    it.seek_to_last(compressors)?;
+    for step in 0..u64::MAX {
+        let Some((key, value)) = it.current() else {
+            return Ok(passed);
+        };
+        let key = Bytes::copy_from_slice(alloc, key)?;
+        let value = Bytes::copy_from_slice(alloc, value)?;
+        passed.push((key, value))?;
         it.prev(compressors)?;
     }
-    Ok(!it.valid())
+    err(alloc, StatusCode::NotSupported, TOO_MANY)
 }
 
-/// Whether a walk over an open table goes to these pairs, one after the other, and back.
-fn walks<E: Env, C: Cmp + Copy + Drop, FP: FilterPolicy + Copy + Drop>(
+/// The pairs of an open table, as one walk goes over them forward and then back.
+fn pairs_both_ways<E: Env, C: Cmp + Copy + Drop, FP: FilterPolicy + Copy + Drop>(
     alloc: Global,
     options: &Options<C, FP>,
     env: &mut E,
     cache: &mut BlockCache<C>,
     table: &Table<E, C, FP>,
-    pairs: &[Given<'_>],
-) -> Result<bool>
+) -> Result<BothWays>
     ensures { let codings = ⟦<CompressorList as Compressors>⟧.codings options.now.compressor_list in
         let cmp = options.now.cmp in let policy = options.now.filter_policy in
-        IfOk result (λ same. (user : List ℕ → List ℕ) (bytes : List ℕ)
+        IfOk result (λ passed. (user : List ℕ → List ℕ) (pairs : List Pair) (bytes : List ℕ)
         → GoesByUser (C.accepts cmp) (C.cmp cmp) (C.shortest_sep cmp) (FP.matches policy) user
         → IsTableOf codings (C.accepts cmp) (C.cmp cmp) (C.shortest_sep cmp) (FP.matches policy)
-        (FP.name policy) (given pairs.now) bytes
+        (FP.name policy) pairs bytes
         → IsOpen E.Env codings cmp policy (FP.name policy) bytes (length bytes) env.old cache.old
-        table.now → same ≡ true) }
+        table.now → ArePassed pairs passed) }
 {
     let compressors = &options.compressor_list;
     let mut it = table.iter(alloc, env, cache)?;
-    if !goes_forward(&mut it, compressors, pairs)? {
-        return Ok(false);
-    }
-    goes_back(&mut it, compressors, pairs)
+    let forward = pairs_forward(alloc, &mut it, compressors)?;
+    let back = pairs_back(alloc, &mut it, compressors)?;
+    Ok(BothWays { forward, back })
 }
 
 /// Builds a table of pairs into a file, opens it, looks a key up, and walks over it both ways.
-/// Returns what was found, and whether the walk went to these pairs.
+/// Returns what was found, and the pairs over which the walk went.
 fn build_and_read<E: Env, C: Cmp + Copy + Drop, FP: FilterPolicy + Copy + Drop>(
     alloc: Global,
     options: &Options<C, FP>,
@@ -270,7 +273,7 @@ fn build_and_read<E: Env, C: Cmp + Copy + Drop, FP: FilterPolicy + Copy + Drop>(
     cache: &mut BlockCache<C>,
     pairs: &[Given<'_>],
     key: &[u8],
-) -> Result<(Option<(Bytes, Bytes)>, bool)>
+) -> Result<(Option<(Bytes, Bytes)>, BothWays)>
     ensures { let cmp = options.now.cmp in (user : List ℕ → List ℕ) → IsTrue E.models_disk
         → IsNumbered cache.old → cache.old.given + 1 < 2 ^ 64 → C.accepts cmp key.now ≡ true
         → GoesByUser (C.accepts cmp) (C.cmp cmp) (C.shortest_sep cmp)
@@ -280,8 +283,8 @@ fn build_and_read<E: Env, C: Cmp + Copy + Drop, FP: FilterPolicy + Copy + Drop>(
     let size = build_file(alloc, options, env, "table", pairs)?;
     let table = open_file(alloc, options, env, cache, "table", size)?;
     let found = look_up(alloc, options, env, cache, &table, key)?;
-    let is_same = walks(alloc, options, env, cache, &table, pairs)?;
-    Ok((found, is_same))
+    let passed = pairs_both_ways(alloc, options, env, cache, &table)?;
+    Ok((found, passed))
 }
 
 /// The same of internal keys: what is found is the newest entry of the key's user key at or below
@@ -293,12 +296,12 @@ fn build_and_read_internal<E: Env, C: UserCmp + Copy + Drop, FP: FilterPolicy + 
     cache: &mut BlockCache<InternalKeyCmp<C>>,
     pairs: &[Given<'_>],
     key: &[u8],
-) -> Result<(Option<(Bytes, Bytes)>, bool)>
+) -> Result<(Option<(Bytes, Bytes)>, BothWays)>
     ensures { IsTrue E.models_disk → IsNumbered cache.old → cache.old.given + 1 < 2 ^ 64
         → ⟦<InternalKeyCmp<C> as Cmp>⟧.accepts options.now.cmp key.now ≡ true
         → IfOk result (λ answer. let user = user_part key.now in
         FindsNewest (entries_of_pairs (given pairs.now)) (sequence_part key.now) user
-        (found_at user answer.0) × (answer.1 ≡ true)) }
+        (found_at user answer.0) × ArePassed (given pairs.now) answer.1) }
 {
     internal_keys_stand_together(&options.cmp);
     internal_keys_are_separated(&options.cmp);
@@ -312,14 +315,28 @@ const ENTRIES: [Given<'static>; 3] = [
     (b"b\x01\x02\0\0\0\0\0\0", b"other"),
 ];
 
-/// Whether this value is found for the user's key `a` at a sequence.
+/// Whether these are the entries, in their order.
+fn are_entries(passed: &[(Bytes, Bytes)]) -> bool {
+    if passed.len() != ENTRIES.len() {
+        return false;
+    }
+    for (found, entry) in passed.iter().zip(&ENTRIES) {
+        if found.0.as_slice() != entry.0 || found.1.as_slice() != entry.1 {
+            return false;
+        }
+    }
+    true
+}
+
+/// Whether this value is found for the user's key `a` at a sequence, and a walk goes over all
+/// entries both ways.
 fn finds_value(rt: &(impl Abort + AllocGlobal), sequence: u8, value: &[u8]) -> Result<bool> {
     let policy = InternalFilterPolicy::new(BloomPolicy::new(10));
     let options = options_under(InternalKeyCmp(DefaultCmp), policy);
     let mut env = MemEnv::new(rt.alloc());
     let mut cache = Cache::new(rt.alloc(), 4)?;
     let key = [b'a', 1, sequence, 0, 0, 0, 0, 0, 0];
-    let (found, is_same) = build_and_read_internal(
+    let (found, mut passed) = build_and_read_internal(
         rt.alloc(),
         &options,
         &mut env,
@@ -330,10 +347,11 @@ fn finds_value(rt: &(impl Abort + AllocGlobal), sequence: u8, value: &[u8]) -> R
     let Some((_, found)) = found else {
         return Ok(false);
     };
-    Ok(is_same && found.as_slice() == value)
+    passed.back.reverse();
+    Ok(found.as_slice() == value && are_entries(&passed.forward) && are_entries(&passed.back))
 }
 
-/// A look-up finds the newest entry at or below its sequence.
+/// A look-up finds the newest entry at or below its sequence, and a walk goes over all entries.
 #[test]
 fn newest_entries(rt: HostRuntime) -> Result<()> {
     assert!(rt; finds_value(&rt, 9, b"new")?);

@@ -18,7 +18,9 @@ use std::alloc::Global;
 pub struct BlockWalk<C: Cmp> {
     block: Block<C>,
     core: BlockCore,
-    pub ghost within: { IsWithin block.contents block.entries.0 core.key.items core.spot } by { IsWithin-prop block.contents block.entries.0 core.key.items core.spot },
+    pub ghost within: { IsWithin block.contents block.entries.0 core.key.items
+        core.spot } by { IsWithin-prop block.contents block.entries.0 core.key.items
+            core.spot },
 }
 
 impl<C: Cmp> BlockWalk<C> {

@@ -73,7 +73,7 @@ impl<C: Cmp + Copy, FP: FilterPolicy> BuilderCore<C, FP> {
     ghost use Rattle.leveldb_table.specs.TableBuilderStage.{Closes, first_key, with_pair};
     ghost use Rattle.leveldb_table.specs.TableBuilder.{IsNewBuilder, stage, last_of, order_of, policy_of, IsBegun, IsBroken, IsReady, IsReadyFor, IsClosable, KeepsChoices, StaysUnfinished, IsBuiltTable, IsFull, table_estimate, PutsEnd, ClosesLast, MakesRoom, AddsPair, FinishesTable};
     ghost use Rattle.leveldb_table.specs.TableBuilderAdd.{TakesPair, TakesNoPair, HasRoom, IsNotClosed};
-    ghost use Rattle.leveldb_table.specs.TableBuilderFinish.{IsFinished, StopsFromFilters, StopsUnset, ClosesRest, IsLeftOpen, IsFinishError};
+    ghost use Rattle.leveldb_table.specs.TableBuilderFinish.{IsFinished, StopsFromFilters, ClosesRest, IsLeftOpen, IsFinishError, CannotFinish};
 
     /// A builder under the options' order and policy as they are.
     pub fn new(alloc: Global, options: &Options<C, FP>) -> BuilderCore<C, FP>
@@ -185,16 +185,8 @@ impl<C: Cmp + Copy, FP: FilterPolicy> BuilderCore<C, FP> {
         ensures cause { IfErr result (λ status. IsFinishError
             (⟦<CompressorList as Compressors>⟧.codings compressors.now) self S.puts S.flushes
             sink.old status sink.new) }
-        ensures unset_rest { self.broken ≡ false → (stage self).open_pairs ≡ []
-            → ⟦<CompressorList as Compressors>⟧.codings compressors.now self.compressor ≡ None
-            → IsErrAnd result (λ status. StopsUnset (FP.too_large (policy_of self))
-            (FP.filter_for (policy_of self)) self.compressor (FP.name (policy_of self))
-            (stage self) S.puts sink.old status sink.new) }
-        ensures unset { self.broken ≡ false → (stage self).open_pairs ≢ []
-            → ⟦<CompressorList as Compressors>⟧.codings compressors.now self.compressor ≡ None
-            → IsErrAnd result (λ status. IsUnset self.compressor status ⊎ IsOutOfMemory status)
-            × (sink.new ≡ sink.old) }
-        ensures broken { self.broken ≡ true → IsErrAnd result IsBroken × (sink.new ≡ sink.old) }
+        ensures cannot { CannotFinish (⟦<CompressorList as Compressors>⟧.codings compressors.now)
+            self S.puts sink.old result sink.new }
     {
         self.check_unbroken()?;
         self.broken = true;

@@ -10,12 +10,12 @@ ghost use Rattle.leveldb_table.specs.TableBlock.{ReadsFile, ForBytesOf, IsDamage
 
 use super::whole_handle;
 use crate::block::Block;
-use crate::damage::corruption;
+use crate::damage::{corruption, too_short};
 use crate::table_block::{read_bytes, read_filter_block, read_table_block};
 use crate::table_builder::{FULL_FOOTER_LENGTH, Footer};
 use leveldb_base::blockhandle::BlockHandle;
 use leveldb_base::cmp::{Cmp, DefaultCmp};
-use leveldb_base::error::{Result, StatusCode, err};
+use leveldb_base::error::Result;
 use leveldb_base::types::LdbIterator;
 use leveldb_env::compressor::{CompressorList, Compressors};
 use leveldb_env::env::Env;
@@ -55,11 +55,7 @@ fn read_footer<E: Env>(alloc: Global, env: &mut E, file: &E::File, size: usize) 
         (λ bytes. EndsInFooter bytes size footer.meta_index footer.index)) }
 {
     let Some(offset) = size.checked_sub(FULL_FOOTER_LENGTH) else {
-        return err(
-            alloc,
-            StatusCode::Corruption,
-            "a file is too short to be a table",
-        );
+        return too_short(alloc, size);
     };
     let bytes = read_bytes(alloc, env, file, "footer", offset, FULL_FOOTER_LENGTH)?;
     match Footer::decode(&bytes) {
@@ -68,13 +64,15 @@ fn read_footer<E: Env>(alloc: Global, env: &mut E, file: &E::File, size: usize) 
     }
 }
 
-/// The filters that the metaindex names under the policy's name, where there are some.
+/// The filters that the metaindex at this offset names under the policy's name, where there are
+/// some.
 pub fn read_filters<E: Env, FP: FilterPolicy + Drop>(
     alloc: Global,
     policy: FP,
     env: &mut E,
     file: &E::File,
     metas: &Block<DefaultCmp>,
+    offset: usize,
 ) -> Result<Option<FilterBlockReader<FP>>>
     ensures reads { ReadsFile E.Env (IsDamaged E.Env (λ bytes. (filters : Option (List (List ℕ)))
         → HasFiltersBy bytes (value_under (filter_key (FP.name policy)) metas.now) filters → ⊥)
@@ -86,7 +84,7 @@ pub fn read_filters<E: Env, FP: FilterPolicy + Drop>(
 {
     let name = policy.name();
     let key = format!(in alloc; "filter.{name}")?;
-    let Some(handle) = handle_under(alloc, metas, key.as_bytes())? else {
+    let Some(handle) = handle_under(alloc, metas, offset, key.as_bytes())? else {
         return Ok(None);
     };
     if handle.size() == 0 {
@@ -95,8 +93,13 @@ pub fn read_filters<E: Env, FP: FilterPolicy + Drop>(
     Ok(Some(read_filter_block(alloc, policy, env, file, handle)?))
 }
 
-// The handle that a metaindex has under a key.
-fn handle_under(alloc: Global, metas: &Block<DefaultCmp>, key: &[u8]) -> Result<Option<BlockHandle>>
+// The handle that the metaindex at this offset has under a key.
+fn handle_under(
+    alloc: Global,
+    metas: &Block<DefaultCmp>,
+    offset: usize,
+    key: &[u8],
+) -> Result<Option<BlockHandle>>
     ensures ok { IfOk result (λ handle. GivesHandle (value_under key.now metas.now) handle) }
     ensures cause { IfErr result (λ status. IsOutOfMemory status
         ⊎ ((status.code ≡ Corruption) × GivesNoHandle (value_under key.now metas.now))) }
@@ -107,7 +110,8 @@ fn handle_under(alloc: Global, metas: &Block<DefaultCmp>, key: &[u8]) -> Result<
         Some((name, value)) if name == key => Ok(Some(whole_handle(
             alloc,
             value,
-            "metaindex: no handle of a filter block",
+            "metaindex",
+            offset,
         )?)),
         _ => Ok(None),
     }

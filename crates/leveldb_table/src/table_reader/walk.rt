@@ -14,11 +14,11 @@ ghost use Rattle.leveldb_table.specs.TableBlock.{LacksBlock, LacksLine, ReadsFil
 use crate::block::BlockWalk;
 use crate::block_cache::BlockCache;
 use crate::damage::corruption;
-use crate::table_reader::{BAD_LINE, Table, whole_handle};
+use crate::table_reader::{NO_HANDLE, Table};
 use bytes::Bytes;
 use leveldb_base::blockhandle::BlockHandle;
 use leveldb_base::cmp::Cmp;
-use leveldb_base::error::{Result, StatusCode, err};
+use leveldb_base::error::Result;
 use leveldb_base::types::LdbIterator;
 use leveldb_env::compressor::{CompressorList, Compressors};
 use leveldb_env::env::Env;
@@ -121,7 +121,7 @@ impl<C: Cmp + Copy + Drop> TableCore<C> {
         let Some((_, value)) = self.index.current() else {
             return Ok(());
         };
-        let handle = whole_handle(self.alloc, value, BAD_LINE)?;
+        let handle = table.line_handle(self.alloc, value)?;
         self.enter(table, env, cache, compressors, handle, key)
     }
 
@@ -208,7 +208,7 @@ impl<C: Cmp + Copy + Drop> TableCore<C> {
         let Some((_, value)) = self.index.current() else {
             return Ok(false);
         };
-        let handle = whole_handle(self.alloc, value, BAD_LINE)?;
+        let handle = table.line_handle(self.alloc, value)?;
         if !table.lets(handle.offset(), key) {
             return Ok(false);
         }
@@ -278,7 +278,7 @@ impl<C: Cmp + Copy + Drop> TableCore<C> {
         }
         self.load_line(table, env, cache, compressors)?;
         if !self.step_forward()? {
-            return self.empty_block_error();
+            return self.empty_block_error(table);
         }
         Ok(true)
     }
@@ -303,7 +303,7 @@ impl<C: Cmp + Copy + Drop> TableCore<C> {
         }
         self.load_line(table, env, cache, compressors)?;
         if !self.to_last()? {
-            return self.empty_block_error();
+            return self.empty_block_error(table);
         }
         Ok(true)
     }
@@ -330,7 +330,7 @@ impl<C: Cmp + Copy + Drop> TableCore<C> {
         if self.to_last()? {
             return Ok(true);
         }
-        self.empty_block_error()
+        self.empty_block_error(table)
     }
 
     // Reads the block that the index's line names, and is at no position of it.
@@ -360,7 +360,7 @@ impl<C: Cmp + Copy + Drop> TableCore<C> {
         let Some((_, value)) = self.index.current() else {
             return Ok(());
         };
-        let handle = whole_handle(self.alloc, value, BAD_LINE)?;
+        let handle = table.line_handle(self.alloc, value)?;
         self.load(table, env, cache, compressors, handle)
     }
 
@@ -442,7 +442,7 @@ impl<C: Cmp + Copy + Drop> TableCore<C> {
     }
 
     // An empty data block isn't allowed.
-    fn empty_block_error(&self) -> Result<bool>
+    fn empty_block_error<E: Env, FP: FilterPolicy>(&self, table: &Table<E, C, FP>) -> Result<bool>
         ensures { IsErrAnd result (λ status. status.code ≡ Corruption) }
     {
         let handle = match self.index.current() {
@@ -451,7 +451,7 @@ impl<C: Cmp + Copy + Drop> TableCore<C> {
         };
         match handle {
             Some((handle, _)) => corruption(self.alloc, "block", handle.offset(), "no entries"),
-            None => err(self.alloc, StatusCode::Corruption, BAD_LINE),
+            None => corruption(self.alloc, "index", table.footer.index.offset(), NO_HANDLE),
         }
     }
 }

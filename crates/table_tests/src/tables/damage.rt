@@ -285,7 +285,7 @@ fn missing_bytes_say_where(rt: HostRuntime) -> Result<()> {
     let options = Options::default();
     let bytes = table_of(&rt, &options, &EIGHT)?;
     let cut = bytes.get(..47).unwrap_or_default();
-    let text = "Corruption: a file is too short to be a table";
+    let text = "Corruption: table of 47 bytes: too short for a footer";
     assert!(rt; opening_says(rt.alloc(), &options, cut, text)?);
     let far = BlockHandle::new(5000, 8);
     let footer = footer_of(&rt, &bytes);
@@ -318,6 +318,51 @@ fn damaged_block_says_where(rt: HostRuntime) -> Result<()> {
     change_byte(&mut bytes, 40, 1);
     let text = "Corruption: block at 0: wrong checksum";
     assert!(rt; look_up_says(rt.alloc(), &options, &bytes, text)?);
+    Ok(())
+}
+
+/// The same of an index whose values are no handles: the data block in its place.
+#[test]
+fn index_without_handles_says_where(rt: HostRuntime) -> Result<()> {
+    let options = compressed(rt.alloc())?;
+    let bytes = table_of(&rt, &options, &EIGHT)?;
+    let data = BlockHandle::new(0, 82);
+    let bytes = with_footer(rt.alloc(), &bytes, footer_of(&rt, &bytes).meta_index, data)?;
+    let text = "Corruption: index at 0: no handle of a block";
+    assert!(rt; look_up_says(rt.alloc(), &options, &bytes, text)?);
+    Ok(())
+}
+
+/// The filters' key, with a value that is no handle.
+const NO_FILTERS: [Given<'static>; 1] = [(b"filter.leveldb.BuiltinBloomFilter2", b"abc")];
+
+/// The same of a metaindex: the data block in its place, whose 48 bytes are one entry of 40 and
+/// one restart point.
+#[test]
+fn metaindex_without_handle_says_where(rt: HostRuntime) -> Result<()> {
+    let options = Options::default();
+    let bytes = table_of(&rt, &options, &NO_FILTERS)?;
+    let data = BlockHandle::new(0, 48);
+    let bytes = with_footer(rt.alloc(), &bytes, data, footer_of(&rt, &bytes).index)?;
+    let text = "Corruption: metaindex at 0: no handle of a block";
+    assert!(rt; opening_says(rt.alloc(), &options, &bytes, text)?);
+    Ok(())
+}
+
+/// A table whose file is deleted while it is open: a block that the cache doesn't have isn't read,
+/// and the error says that the file is missing.
+#[test]
+fn deleted_under_an_open_table(rt: HostRuntime) -> Result<()> {
+    let options = Options::default();
+    let bytes = table_of(&rt, &options, &EIGHT)?;
+    let mut env = MemEnv::new(rt.alloc());
+    let mut cache = Cache::new(rt.alloc(), 1)?;
+    let table = open_file(rt.alloc(), &options, &mut env, &mut cache, &bytes)?;
+    env.delete("table")?;
+    let compressors = &options.compressor_list;
+    let answer = table.get(rt.alloc(), &mut env, &mut cache, compressors, b"abc");
+    let text = "Corruption: table at 0: the file is missing";
+    assert!(rt; failed_saying(answer, StatusCode::Corruption, text)?);
     Ok(())
 }
 

@@ -18,7 +18,7 @@ both P Q (Err status) code other = (code, other)
 
 pub returns-in_default-clause-err : goal.returns-in_default-clause-err
 returns-in_default-clause-err c =
-    both _ _ c.err.result c.err.ensures.code
+    both _ _ c.corruption.result c.corruption.ensures
     (elim c.in_default.branch [
       | in_default-via-in-Some+else-used-bytes w ↦ left_over c.args.bytes.now _ _ w.in-Some.ensures w.if-used-bytes.false
       | in_default-via-in_default w ↦ λ handle fits e. w.in_default.ensures handle [] fits (e ∙ sym (append-nil (handle_bytes handle)))

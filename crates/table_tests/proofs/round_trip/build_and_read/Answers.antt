@@ -13,5 +13,5 @@ returns g c = λ user modelled numbered left fit by.
     record {
       rising = (built.3 (λ _. Some matches) user by.separated by.matched refl).sorted;
       found = c.in_ok-found.ensures.found user (given c.args.pairs.now) bytes by built.3 ready fit;
-      walked = c.in_ok-is_same.ensures user bytes by built.3 (c.look_up.ensures.still bytes ready);
+      passed = c.in_ok-passed.ensures user (given c.args.pairs.now) bytes by built.3 (c.look_up.ensures.still bytes ready);
     }

@@ -12,7 +12,7 @@ returns g c = λ modelled numbered left fit.
     let policy = c.args.options.now.filter_policy in
     let order = g.C.Cmp.cmp cmp.0 in
     let exact = exact_order (g.C.Cmp.accepts cmp.0) order (g.met.C.UserCmp.accepts_all cmp.0) (g.met.C.Cmp.preorder cmp.0) (g.met.C.UserCmp.exact cmp.0) in
-    IfOk-weaker c.build_and_read.result _ _ (λ answer back. (finds_newest order exact c.args.key.now (given c.args.pairs.now) answer.0 back.rising back.found, back.walked))
+    IfOk-weaker c.build_and_read.result _ _ (λ answer back. (finds_newest order exact c.args.key.now (given c.args.pairs.now) answer.0 back.rising back.found, back.passed))
     (c.build_and_read.ensures user_part modelled numbered left fit (record {
       together = c.internal_keys_stand_together.ensures cmp;
       separated = c.internal_keys_are_separated.ensures cmp;

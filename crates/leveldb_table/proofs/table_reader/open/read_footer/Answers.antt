@@ -5,7 +5,7 @@ use Rattle.leveldb_table.proofs.table_reader.open.read_footer.Goals as goal
 
 pub returns-in_default-clause-reads : goal.returns-in_default-clause-reads
 returns-in_default-clause-reads g c =
-    reads_own g.E.Env c.err.result (KeepsDisk-refl g.E.Env c.args.env.now) refl c.err.ensures.code (λ status code. inr (
+    reads_own g.E.Env c.too_short.result (KeepsDisk-refl g.E.Env c.args.env.now) refl c.too_short.ensures (λ status code. inr (
       code,
       λ bytes has meta index ends. c.in_default.ensures (ends_long ends),
     ))

@@ -1,4 +1,5 @@
-use Rattle.std.proofs.Common.{◌++◌, sym, refl, append_assoc, inl, inr}
+use Rattle.std.proofs.Common.{◌++◌, ◌∙◌, sym, refl, append_assoc, inl, inr}
+use Rattle.std.proofs.lemmas.Bool.{true≢false}
 use Rattle.std.proofs.lemmas.Result.{err_from_is_err_and, IfOk-weaker}
 use Rattle.leveldb_env.proofs.SinkLemmas.{PutsAll-trans}
 use Rattle.leveldb_env.specs.contracts.compressor.CompressorListCompressors.TheImpl.{ghosts as compressors}
@@ -23,20 +24,41 @@ returns-clause-cause g c =
     let cause = rw (c.in_ok-close_last.ensures.order, c.close_last.ensures.choices.same_policy, c.close_last.ensures.choices.same_compressor) at c.put_end.ensures.cause in
     IfErr-with c.put_end.result _ _ (λ status why. inr (inr (c.in_ok-check_unbroken.ensures.ok, stage c.close_last.new.self, c.close_last.new.sink, c.in_ok-close_last.ensures.rest, why))) cause
 
-pub returns-in_err-close_last-clause-unset_rest : goal.returns-in_err-close_last-clause-unset_rest
-returns-in_err-close_last-clause-unset_rest g c = λ unbroken none unset. absurd (c.in_err-close_last.ensures.cause.0 none)
+pub returns-in_err-check_unbroken-clause-cannot : goal.returns-in_err-check_unbroken-clause-cannot
+returns-in_err-check_unbroken-clause-cannot g c =
+    let p = err_from_is_err_and c.from_residual.result c.from_residual.ensures.1 in
+    let failed = c.in_err-check_unbroken.ensures.err in
+    rw (p.1, p.2) (record {
+      broken = λ broken. (failed.1, refl);
+      unset = λ unbroken some unset. absurd (true≢false (sym failed.0 ∙ unbroken));
+      unset_rest = λ unbroken none unset. absurd (true≢false (sym failed.0 ∙ unbroken));
+    })
 
-pub returns-clause-unset_rest : goal.returns-clause-unset_rest
-returns-clause-unset_rest g c = λ unbroken none unset.
+pub returns-in_err-close_last-clause-cannot : goal.returns-in_err-close_last-clause-cannot
+returns-in_err-close_last-clause-cannot g c =
+    let p = err_from_is_err_and c.from_residual-in_err-close_last.result c.from_residual-in_err-close_last.ensures.1 in
+    let failed = c.in_err-close_last.ensures in
+    rw (p.1, p.2) (record {
+      broken = λ broken. absurd (true≢false (sym broken ∙ c.in_ok-check_unbroken.ensures.ok));
+      unset = λ unbroken some unset. failed.unset some unset;
+      unset_rest = λ unbroken none unset. absurd (failed.cause.0 none);
+    })
+
+pub returns-clause-cannot : goal.returns-clause-cannot
+returns-clause-cannot g c =
     let self = c.args.self in
     let cause = rw (c.in_ok-close_last.ensures.order, c.close_last.ensures.choices.same_policy, c.close_last.ensures.choices.same_compressor) at c.put_end.ensures.cause in
-    elim c.in_ok-close_last.ensures.rest [
-      | inl (left, same, still) ↦
-          refused_with c.put_end.result _ _ (λ status. stops_unset_at ((compressors g.dyn-1).codings c.args.compressors.now) (g.C.Cmp.cmp self.block.cmp) (g.FP.FilterPolicy.too_large self.filter.policy) (g.FP.FilterPolicy.filter_for self.filter.policy) self.compressor
-          (g.FP.FilterPolicy.name self.filter.policy) (stage c.close_last.new.self) g.S.Sink.puts g.S.Sink.flushes unset (stage self) c.close_last.new.sink c.args.sink.now status c.put_end.new.sink same still)
-          (c.put_end.ensures.unset (rw c.close_last.ensures.choices.same_compressor unset)) cause
-      | inr closed ↦ absurd (closed.0 none)
-    ]
+    record {
+      broken = λ broken. absurd (true≢false (sym broken ∙ c.in_ok-check_unbroken.ensures.ok));
+      unset = λ unbroken some unset. absurd (c.in_ok-close_last.ensures.unset some unset).0;
+      unset_rest = λ unbroken none unset. elim c.in_ok-close_last.ensures.rest [
+        | inl (left, same, still) ↦
+            refused_with c.put_end.result _ _ (λ status. stops_unset_at ((compressors g.dyn-1).codings c.args.compressors.now) (g.C.Cmp.cmp self.block.cmp) (g.FP.FilterPolicy.too_large self.filter.policy) (g.FP.FilterPolicy.filter_for self.filter.policy)
+            self.compressor (g.FP.FilterPolicy.name self.filter.policy) (stage c.close_last.new.self) g.S.Sink.puts g.S.Sink.flushes unset (stage self) c.close_last.new.sink c.args.sink.now status c.put_end.new.sink same still)
+            (c.put_end.ensures.unset (rw c.close_last.ensures.choices.same_compressor unset)) cause
+        | inr closed ↦ absurd (closed.0 none)
+      ];
+    }
 
 pub returns-clause-ok : goal.returns-clause-ok
 returns-clause-ok g c =
