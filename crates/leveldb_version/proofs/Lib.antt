@@ -54,3 +54,16 @@ pub mod LogKeepsLemmas
 pub mod TracksLemmas
 pub mod NewManifestKeepsLemmas
 pub mod NewStoreLemmas
+pub mod TrackedLemmas
+pub mod WrittenLemmas
+pub mod LogsBelowLemmas
+pub mod SwitchLogLemmas
+pub mod BatchWrittenLemmas
+pub mod EditRecordLemmas
+pub mod LogTablesLemmas
+pub mod EditTrackedLemmas
+pub mod WaitingLemmas
+pub mod ShownLemmas
+pub mod RecoveringLemmas
+pub mod OpeningEndLemmas
+pub mod StoreTablesLemmas

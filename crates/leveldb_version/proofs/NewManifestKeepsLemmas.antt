@@ -268,7 +268,7 @@ module _ (files : Files) (edits : List Edit) (set : VersionSetValue) (edit : Edi
         last_sequence = new.last_sequence ∙ sym old.last_sequence;
       }
 
-  both_fit : LastNumbersFit (edits ++ written ∷ []) → LastNumbersFit (set.full ∷ written ∷ [])
+  pub both_fit : LastNumbersFit (edits ++ written ∷ []) → LastNumbersFit (set.full ∷ written ∷ [])
   both_fit fit one n c is = ⊎_elim
       (λ (first : set.full ≡ one). absurd
       (let never : None ≡ Some n = sym tracks.left.no_numbers.last_sequence

@@ -505,7 +505,7 @@ recovered_is_left cmp comparator old records edits each usable next number manif
         (record { log_number = refl; previous_log = refl; next_file = refl; last_sequence = refl })
 
 -- the next number is above those of the edits and of their manifest
-next_is_above : (old : VersionSetValue) (edits : List Edit) (number : ℕ)
+pub next_is_above : (old : VersionSetValue) (edits : List Edit) (number : ℕ)
     → (unwrap_or (live_after edits).next_file 0 < next_number_after old edits number)
     × (number < next_number_after old edits number)
 next_is_above old edits number =

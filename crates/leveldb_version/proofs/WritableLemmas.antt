@@ -34,16 +34,16 @@ module _ (store : List ℕ) (cmp : List ℕ → List ℕ → Ordering)
     abbrev path : List ℕ
     path = log_path store w.log.number
 
-    named : IsFileName (file_name Log w.log.number) w.log.number Log
+    pub named : IsFileName (file_name Log w.log.number) w.log.number Log
     named = made_name Log w.log.number w.log.fits
 
-    table_apart : (one : NewFile) → one.number < 2 ^ 64
+    pub table_apart : (one : NewFile) → one.number < 2 ^ 64
         → bytes_eq path (table_path store one.number) ≡ false
     table_apart one fits =
         kinds_apart store (file_name Log w.log.number) (file_name Table one.number) w.log.number
         one.number Log Table named (made_name Table one.number fits) (λ e. cc)
 
-    other_name : (name : List ℕ) → name ≢ file_name Log w.log.number
+    pub other_name : (name : List ℕ) → name ≢ file_name Log w.log.number
         → bytes_eq path (in_folder store name) ≡ false
     other_name name differ = by (bytes_eq path (in_folder store name)) refl
       where
@@ -53,21 +53,35 @@ module _ (store : List ℕ) (cmp : List ℕ → List ℕ → Ordering)
         by true e = absurd (differ (sym (same_name store (file_name Log w.log.number) name
             ((bytes_decides path (in_folder store name)).0 e))))
 
-    writable_with : IsWritable store now edits
+    pub current_apart : bytes_eq path (current_path store) ≡ false
+    current_apart = kinds_apart store (file_name Log w.log.number) (file_name Current 0) w.log.number 0
+        Log Current named (made_name Current 0 refl) (λ e. cc)
+
+    pub manifest_apart : bytes_eq path (in_folder store w.has_edits.name) ≡ false
+    manifest_apart = kinds_apart store (file_name Log w.log.number) w.has_edits.name w.log.number
+        w.has_edits.number Log Descriptor named w.has_edits.named.0 (λ e. cc)
+
+    -- the logs before it and after it are at other paths
+    pub after_apart : (name : List ℕ) (n : ℕ) → IsFileName name n Log → w.log.number < n
+        → bytes_eq path (in_folder store name) ≡ false
+    after_apart name n is less = numbers_apart store (file_name Log w.log.number) name w.log.number n
+        Log Log named is (λ e. omega (arith, less, e))
+
+    pub before_apart : (n : ℕ) → n < w.log.number → bytes_eq path (log_path store n) ≡ false
+    before_apart n less = numbers_apart store (file_name Log w.log.number) (file_name Log n)
+        w.log.number n Log Log named (made_name Log n (omega (arith, less, w.log.fits)))
+        (λ e. omega (arith, less, e))
+
+    abbrev pub writable_with : IsWritable store now edits
     writable_with = record {
       has_edits = record {
         current = w.has_edits.current;
-        current_there = same (current_path store)
-            (kinds_apart store (file_name Log w.log.number) (file_name Current 0) w.log.number 0
-            Log Current named (made_name Current 0 refl) (λ e. cc)) ∙ w.has_edits.current_there;
+        current_there = same (current_path store) current_apart ∙ w.has_edits.current_there;
         name = w.has_edits.name;
         number = w.has_edits.number;
         named = w.has_edits.named;
         manifest = w.has_edits.manifest;
-        there = same (in_folder store w.has_edits.name)
-            (kinds_apart store (file_name Log w.log.number) w.has_edits.name w.log.number
-            w.has_edits.number Log Descriptor named w.has_edits.named.0 (λ e. cc))
-            ∙ w.has_edits.there;
+        there = same (in_folder store w.has_edits.name) manifest_apart ∙ w.has_edits.there;
         is = w.has_edits.is;
       };
       current = w.current;
@@ -82,19 +96,14 @@ module _ (store : List ℕ) (cmp : List ℕ → List ℕ → Ordering)
           replayed = w.log.last.replayed;
           empty_after = λ name n other is replayed less found.
               w.log.last.empty_after name n other is replayed less
-              (sym (same (in_folder store name)
-              (numbers_apart store (file_name Log w.log.number) name w.log.number n Log Log named is
-              (λ e. omega (arith, less, e)))) ∙ found);
+              (sym (same (in_folder store name) (after_apart name n is less)) ∙ found);
           others_kept = λ name n is replayed differ.
               subst IsKept (sym (same (in_folder store name) (other_name name differ)))
               (w.log.last.others_kept name n is replayed differ);
         };
         clean_before = λ n other less replayed found.
             w.log.clean_before n other less replayed
-            (sym (same (log_path store n)
-            (numbers_apart store (file_name Log w.log.number) (file_name Log n) w.log.number n
-            Log Log named (made_name Log n (omega (arith, less, w.log.fits)))
-            (λ e. omega (arith, less, e)))) ∙ found);
+            (sym (same (log_path store n) (before_apart n less)) ∙ found);
         file = file;
         there = there;
         records = records;
@@ -105,7 +114,7 @@ module _ (store : List ℕ) (cmp : List ℕ → List ℕ → Ordering)
       bytes = bytes;
     }
 
-  pub append_stays_writable : (files : Files) (edits : List Edit) (w : IsWritable store files edits)
+  abbrev pub append_stays_writable : (files : Files) (edits : List Edit) (w : IsWritable store files edits)
       → (first : ℕ) (items : List Item) (text : List ℕ) → BatchOf text first items
       → AppendedAreBytes (extended (log_path store w.log.number)
       (frame_at (length (bytes_of w.log.file)) text) files)
@@ -136,7 +145,7 @@ module _ (store : List ℕ) (cmp : List ℕ → List ℕ → Ordering)
           (log_laws.more (bytes_of w.log.file) w.log.records text
           (batch_some text first items is) w.log.clean_end)
 
-  pub sync_stays_writable : (files : Files) (edits : List Edit) (w : IsWritable store files edits)
+  abbrev pub sync_stays_writable : (files : Files) (edits : List Edit) (w : IsWritable store files edits)
       → IsWritable store (synced (log_path store w.log.number) files) edits
   sync_stays_writable files edits w =
       writable_with files (synced path files) edits w

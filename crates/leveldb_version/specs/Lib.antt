@@ -14,6 +14,7 @@ pub mod Levels
 pub mod Store
 pub mod StoreSteps
 pub mod StoreLaws
+pub mod StoreTables
 pub mod HoldsLaws
 pub mod StoreStays
 pub mod VersionSetLaws
@@ -25,3 +26,7 @@ pub mod Replay
 pub mod Usable
 pub mod RecoverSteps
 pub mod Tracks
+pub mod Writing
+pub mod Opening
+pub mod WritingLaws
+pub mod OpeningLaws

@@ -8,8 +8,10 @@ ghost use Rattle.leveldb_version.specs.Current.{IsCurrentText, current_text};
 ghost use Rattle.leveldb_version.specs.VersionSet.{Applied, IsLive, ListsFiles, IsFullEdit, SameFiles, SameNumbers, HasNumbers, live_after, live_at, level_file, live_files, full_edit};
 
 pub mod levels;
+pub mod opening;
 pub mod stores;
 pub mod version_sets;
+pub mod writing;
 
 /// The same bytes are one edit only, and what is written for an edit is that edit. So decoding what
 /// was encoded gives the edit back, but for the seeks that its new files may take.

@@ -9,6 +9,7 @@ ghost use Rattle.leveldb_version.specs.Contents.{Contents, Store};
 ghost use Rattle.leveldb_version.specs.HoldsLaws.{CrashesHold, NarrowerHolds, WiderHolds};
 ghost use Rattle.leveldb_version.specs.Store.{IsStore};
 ghost use Rattle.leveldb_version.specs.StoreLaws.{BatchesAppend, BatchesStayWritable, CrashesCutStores, EditAppendsKeep, EditsLeaveTables, EditsRefineOnwards, EditsStayOpen, EmptyBatchesMatch, FirstCurrentKeeps, KeepingHolds, KeptHolds, KeptIsSafe, ManifestsAreUnread, MissingIsUnread, NewLogsKeep, NoStoreIsSafe, NothingMatches, ObsoleteIsUnread, OneStoreReading, OneStoreTable, OthersAreUnread, PartsAreSafe, RenamesKeep, SafeCurrentIsKept, SafeTablesAreKept, SetsMatch, FullEditsRefine, StepsCompose, SwapsRefine, SwitchesRefine, SyncMakesDurable, SyncsKeep, SyncsStayWritable, TablesAreBounded, UnreadKeeps, UnreadStays};
+ghost use Rattle.leveldb_version.specs.StoreTables.{HeldTablesByMore, StoreTablesByMore};
 ghost use Rattle.leveldb_version.specs.StoreStays.{BytesStay, FirstCurrentIsKept, ReadByEdits, RenamesOpen, SameAfterNewLogs, SameAfterSyncs, SameAfterUnread};
 
 use leveldb_env::env::Env;
@@ -42,6 +43,14 @@ pub fn files_have_one_reading<F: StoreFormat>()
 pub fn tables_are_bounded()
     ensures list { (codings : Codings) → OneStoreTable (Decodes codings) }
     ensures range { (codings : Codings) → TablesAreBounded (Decodes codings) }
+{}
+
+/// A table by some compressors is one by compressors that decode more, in files too.
+pub fn more_compressors_keep_tables()
+    ensures bytes { (codings more : Codings)
+        → StoreTablesByMore (Decodes codings) (Decodes more) }
+    ensures files { (codings more : Codings)
+        → HeldTablesByMore (Decodes codings) (Decodes more) }
 {}
 
 /// Histories that contents match: none where no store is, the same with an empty batch more, and

@@ -1,9 +1,9 @@
 //! A version set: what the edits of a store's manifest leave, and the numbers that go with it.
-ghost use Rattle.std.specs.Prelude.{◌≡◌, ◌≢◌, ◌+◌, Some, None, map, OnOk, OnErr, IfOk, IfErr, string_bytes};
+ghost use Rattle.std.specs.Prelude.{◌≡◌, ◌≢◌, ◌↔◌, ◌+◌, ◌<◌, ◌^◌, Some, None, map, OnOk, OnErr, IfOk, IfErr, IsTrue, string_bytes};
 ghost use Rattle.leveldb_base.specs.Error.{IsOutOfMemory};
 ghost use Rattle.leveldb_version.specs.Summary.{summary_text};
 ghost use Rattle.leveldb_version.specs.VersionEdit.{new_file_of};
-ghost use Rattle.leveldb_version.specs.VersionSetValue.{new_version_set, with_number_given, with_number_free, with_numbers_used, AreFileNumbersUsedUp, numbers_in_order};
+ghost use Rattle.leveldb_version.specs.VersionSetValue.{new_version_set, with_number_given, with_number_free, with_numbers_used, AreFileNumbersUsedUp, broken, numbers_in_order};
 
 use super::manifest::Manifest;
 use super::summary::summary_of;
@@ -139,6 +139,7 @@ impl<E: Env> VersionSet<E> {
     pub fn new_file_number(&mut self) -> Result<FileNum>
         ensures number { IfOk result (λ n. n ≡ self.old.next_file) }
         ensures ok { OnOk result (self.new ≡ with_number_given self.old) }
+        ensures fits { OnOk result (self.old.next_file + 1 < 2 ^ 64) }
         ensures err { OnErr result (self.new ≡ self.old) }
         ensures cause { IfErr result (AreFileNumbersUsedUp self.old.next_file) }
     {
@@ -171,6 +172,20 @@ impl<E: Env> VersionSet<E> {
         self.next_file = self.next_file.max(next);
         self.given = None;
         Ok(())
+    }
+
+    /// The live files with their levels, in the order in which they were added.
+    pub fn files(&self) -> &[(usize, FileMetaData)]
+        ensures { map new_file_of result.now ≡ self.now.full.added }
+    {
+        self.full.new_files.as_slice()
+    }
+
+    /// Whether a call on its manifest failed: then no edit is logged any more.
+    pub fn is_broken(&self) -> bool
+        ensures { IsTrue result ↔ (self.now.manifest ≡ broken) }
+    {
+        self.broken
     }
 
     /// The numbers of the live files.
