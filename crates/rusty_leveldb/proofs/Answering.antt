@@ -1,10 +1,9 @@
 -- What the program's steps did, put together.
 use Rattle.std.proofs.Common.{◌≡◌, ◌<◌, ◌≤◌, ℕ, Bool, true, List, [], ◌∷◌, ◌++◌, length, drop, get_or, Option, Result, Ok, Err, sym, ap, subst, ◌∙◌, arith}
-use Rattle.std.specs.Prelude.{OnOk, String}
+use Rattle.std.specs.Prelude.{OnOk, String, false, ◌&&◌, is_some}
 use Rattle.std.specs.Io.KnownBytes.{Appends}
 use Rattle.std.specs.declared.alloc.Global.{Global}
 use Rattle.std.proofs.Math.Seq.{drop-append_seam}
-use Rattle.leveldb_base.specs.declared.cmp.DefaultCmp.{DefaultCmp}
 use Rattle.leveldb_base.specs.declared.error.Status.{Status}
 use Rattle.leveldb_env.specs.declared.env.Env.{Ghosts}
 use Rattle.rusty_leveldb.specs.declared.shell.commands.Command.{Command}
@@ -12,6 +11,8 @@ use Rattle.rusty_leveldb.specs.declared.shell.commands.Reply.{Reply}
 use Rattle.rusty_leveldb.specs.State.{Opening}
 use Rattle.rusty_leveldb.specs.Language.{reply_lines}
 use Rattle.leveldb_env.specs.Compressor.{Codings, plain_codings}
+use Rattle.leveldb_env.specs.Options.{Boxed, OptionsOf, HasDefaultChoices}
+use Rattle.rusty_leveldb.specs.Engine.{is_size_within, are_within_limits}
 use Rattle.rusty_leveldb.specs.Shell.{HasRun}
 use Rattle.rusty_leveldb.specs.declared.shell.program.Fault.{Fault}
 use Rattle.rusty_leveldb.specs.declared.shell.program.Fault.TheVariants as fault
@@ -32,15 +33,15 @@ one_word (first ∷ second ∷ others) word some few is = absurd (omega (arith, 
 
 -- a run, whether it went through or not
 pub has_run : {E F : Type 0} (env : Ghosts E F) (folder : List ℕ) (commands : List Command) (from to : E) (given : List Reply) (wanted : Opening) (ended : Result (Unit {0}) Status) → wanted ≡ ldb_opening
-    → HasRun DefaultCmp ℕ env folder wanted commands from given ended to
-    → (given : List Reply) × (ended : Result (Unit {0}) Status) × HasRun DefaultCmp ℕ env folder ldb_opening commands from given ended to
+    → HasRun env folder wanted commands from given ended to
+    → (given : List Reply) × (ended : Result (Unit {0}) Status) × HasRun env folder ldb_opening commands from given ended to
 has_run env folder commands from to given wanted ended asks run =
-    (given, ended, subst (λ (o : Opening). HasRun DefaultCmp ℕ env folder o commands from given ended to) asks run)
+    (given, ended, subst (λ (o : Opening). HasRun env folder o commands from given ended to) asks run)
 
 -- a run that went through, whose replies were written
 pub played : {E F : Type 0} (env : Ghosts E F) (folder : List ℕ) (commands : List Command) (from to : E) (held holds : Option (List ℕ)) (old new told : List Reply) (wanted : Opening)
     (ended : Unit {0}) (r : Result (Unit {0}) Status) → old ≡ [] → wanted ≡ ldb_opening → told ≡ new
-    → HasRun DefaultCmp ℕ env folder wanted commands from (drop (length old) new) (Ok ended) to
+    → HasRun env folder wanted commands from (drop (length old) new) (Ok ended) to
     → ((given : List Reply) × (new ≡ old ++ given) × (length given ≡ length commands))
     → OnOk r (Appends held holds (reply_lines told))
     → OnOk r (IsPlayed env folder commands from to held holds)
@@ -48,8 +49,8 @@ played env folder commands from to held holds old new told wanted ended (Err sta
 played env folder commands from to held holds old new told wanted ended (Ok done) none asks same run behind appends =
     let given = behind.0 in
     let replies : drop (length old) new ≡ given = ap (drop (length old)) behind.1 ∙ drop-append_seam old given in
-    let P : List Reply → Type 0 = λ list. HasRun DefaultCmp ℕ env folder wanted commands from list (Ok tt) to in
-    let Q : Opening → Type 0 = λ o. HasRun DefaultCmp ℕ env folder o commands from given (Ok tt) to in
+    let P : List Reply → Type 0 = λ list. HasRun env folder wanted commands from list (Ok tt) to in
+    let Q : Opening → Type 0 = λ o. HasRun env folder o commands from given (Ok tt) to in
     let T : List Reply → Type 0 = λ list. Appends held holds (reply_lines list) in (
       given,
       behind.2,
@@ -57,7 +58,17 @@ played env folder commands from to held holds old new told wanted ended (Ok done
       subst T (same ∙ behind.1 ∙ ap (λ (list : List Reply). list ++ given) none) appends,
     )
 
--- options with plain blocks that make a missing store ask for the program's opening
-pub asks_so : {codings : Codings} {create : Bool} → codings ≡ plain_codings → create ≡ true
-    → (record ldb_opening { format = record (ldb_opening.format) { codings = codings }; create_if_missing = create }) ≡ ldb_opening
-asks_so same create = λ i. record ldb_opening { format = record (ldb_opening.format) { codings = same i }; create_if_missing = create i }
+-- default sizes and counts are within their limits
+pub default_fits : {C FP : Type 0} {B : Boxed} {options : OptionsOf C FP B} → HasDefaultChoices options → are_within_limits options ≡ true
+default_fits d = λ i.
+    is_size_within 1 (d.write_buffer i) && is_size_within 11 (d.open_files i) && is_size_within 1 (d.file i)
+    && is_size_within 1 (d.block i) && is_size_within 1 (d.restart_interval i) && is_size_within (d.block i) (d.block_cache i)
+
+-- the id 0 is set where blocks are plain
+pub default_compresses : {codings : Codings} {id : ℕ} → codings ≡ plain_codings → id ≡ 0 → is_some (codings id) ≡ true
+default_compresses plain zero = λ i. is_some (plain i (zero i))
+
+-- default options with plain blocks ask for the program's opening
+pub asks_so : {codings : Codings} {create exists fits compresses : Bool} → codings ≡ plain_codings → create ≡ true → exists ≡ false → fits ≡ true → compresses ≡ true
+    → (record ldb_opening { format = record (ldb_opening.format) { codings = codings }; create_if_missing = create; error_if_exists = exists; fits = fits; compresses = compresses }) ≡ ldb_opening
+asks_so same create exists fits compresses = λ i. record ldb_opening { format = record (ldb_opening.format) { codings = same i }; create_if_missing = create i; error_if_exists = exists i; fits = fits i; compresses = compresses i }

@@ -12,8 +12,9 @@ use Rattle.rusty_leveldb.specs.State.{State}
 use Rattle.rusty_leveldb.specs.Machine.{Risk}
 use Rattle.rusty_leveldb.specs.Unread.{Ignores, SameBeside, IsSparedBeside}
 use Rattle.rusty_leveldb.proofs.OneLog.LogFile.{cut, cut_leaves, cut_honest}
+use Rattle.leveldb_store.specs.Format.{Meaning}
 
-module _ (store : List ℕ) (beside : List ℕ → Bool) where
+module _ (store : List ℕ) (meaning : Meaning) (beside : List ℕ → Bool) where
   -- From what a crash leaves of the later files: what it may leave of the earlier ones, with the unread files cut to their kept bytes.
   module _ (old files : Files) (same : SameBeside beside old files) (left : Files) (leaves : FilesCrashTo files left) where
     base : Files
@@ -40,7 +41,7 @@ module _ (store : List ℕ) (beside : List ℕ → Bool) where
         by false is at = honest path file crashed journal (same path is ∙ was) at
 
   -- the later files are spared as the earlier ones were
-  pub ignores_beside : (state : State) (risk : Risk) (old files : Files) → SameBeside beside old files → IsSparedBeside store beside state risk old → IsSparedBeside store beside state risk files
+  pub ignores_beside : (state : State) (risk : Risk) (old files : Files) → SameBeside beside old files → IsSparedBeside store meaning beside state risk old → IsSparedBeside store meaning beside state risk files
   ignores_beside state risk old files same is = record {
     spared = λ left leaves honest.
         let b = base old files same left leaves in
@@ -61,7 +62,7 @@ module _ (store : List ℕ) (beside : List ℕ → Bool) where
   }
 
   -- so it ignores each name of the set
-  pub ignores_one : (name : List ℕ) → beside name ≡ true → (state : State) (risk : Risk) → Ignores name (IsSparedBeside store beside state risk)
+  pub ignores_one : (name : List ℕ) → beside name ≡ true → (state : State) (risk : Risk) → Ignores name (IsSparedBeside store meaning beside state risk)
   ignores_one name is state risk old files but = ignores_beside state risk old files (λ path apart. but path (differ path apart (bytes_eq name path) refl))
     where
       differ : (path : List ℕ) → beside path ≡ false → (b : Bool) → bytes_eq name path ≡ b → bytes_eq name path ≡ false

@@ -55,7 +55,7 @@ carries_nothing store files none = record {
 }
 
 pub nothing_stands : NothingStands
-nothing_stands store format disk none free = record {
+nothing_stands store meaning format disk none free = record {
   is_state = record {
     history = record { placed = λ k d lt. absurd (let never : ⊥ = omega arith in never); rising = tt };
     reached = omega arith;
@@ -73,4 +73,5 @@ nothing_stands store format disk none free = record {
     };
   };
   locked = free;
+  agrees = λ never. absurd (never refl);
 }

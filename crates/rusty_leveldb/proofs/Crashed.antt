@@ -12,6 +12,7 @@ use Rattle.rusty_leveldb.specs.Machine.{Risk, Crashes}
 use Rattle.rusty_leveldb.specs.Serves.{Reads, StandsFor, IsSpared}
 use Rattle.rusty_leveldb.proofs.Bounds.{carries_more, carries_just}
 use Rattle.rusty_leveldb.proofs.Histories.{history_part, greatest_part}
+use Rattle.leveldb_store.specs.Format.{Meaning}
 
 no_bytes : (tail : List ℕ) → length tail ≤ 0 → tail ≡ []
 no_bytes [] le = refl
@@ -47,11 +48,11 @@ module _ (store : List ℕ) (reads : Files → Contents → Type 0) where
       )
 
 -- the crash row
-module _ (store : List ℕ) where
-  pub crash_row : (old : State) (risk : Risk) (files : Files) (left : Disk) → IsHistory risk.history → greatest (entries_of risk.history) ≤ risk.bound → IsSpared store old risk files
-      → FilesCrashTo files left.files → IsHonest store files left.files → ((name : List ℕ) → left.locked name ≡ false) → (then : State) × Crashes old risk then × StandsFor store left then
+module _ (store : List ℕ) (meaning : Meaning) where
+  pub crash_row : (old : State) (risk : Risk) (files : Files) (left : Disk) → IsHistory risk.history → greatest (entries_of risk.history) ≤ risk.bound → IsSpared store meaning old risk files
+      → FilesCrashTo files left.files → IsHonest store files left.files → ((name : List ℕ) → left.locked name ≡ false) → (then : State) × Crashes old risk then × StandsFor store meaning left then
   crash_row old risk files left is reached spared leaves honest free =
-      let found = crash_holds store (Reads store risk.format) files left.files risk.bound old.durable risk.history spared leaves honest in
+      let found = crash_holds store (Reads store meaning) files left.files risk.bound old.durable risk.history spared leaves honest in
       let c = found.0 in
       let low = greatest_part old.durable risk.history c.part c.prefix in
       let then : State = record {
@@ -64,7 +65,7 @@ module _ (store : List ℕ) where
         mode = closed;
         locked = false;
         store = c.carries.contents.store;
-        format = risk.format;
+        format = old.format;
       } in (
         then,
         record { prefix = c.prefix; stays = c.carries.matches.store; state = refl },
@@ -79,5 +80,6 @@ module _ (store : List ℕ) where
           };
           holds = found.1;
           locked = free (lock_path store);
+          agrees = λ never. absurd (never refl);
         },
       )

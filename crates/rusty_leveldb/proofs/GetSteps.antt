@@ -21,8 +21,9 @@ use Rattle.rusty_leveldb.specs.Engine.{IsClosed, RefusedAsClosed, RefusedByMode,
 use Rattle.rusty_leveldb.proofs.Writes.Moments.{moments_none}
 use Rattle.rusty_leveldb.specs.Frame.{MayTouch}
 use Rattle.rusty_leveldb.proofs.Others.{spares_still}
-use Rattle.leveldb_env.specs.Options.{Boxed}
+use Rattle.leveldb_env.specs.Options.{Boxed, OptionsOf}
 use Rattle.rusty_leveldb.specs.Boxes.{EngineOf}
+use Rattle.leveldb_store.specs.Format.{Format}
 
 -- ---- what is found
 
@@ -50,19 +51,19 @@ shut_mode Open e = absurd (cc)
 shut_mode Broken e = absurd (cc)
 shut_mode Closed e = refl
 
-module _ {E C FP F : Type 0} {B : Boxed} (env : Ghosts E F) (engine : EngineOf E C FP F B) (key : List ℕ) where
+module _ {E C FP F : Type 0} {B : Boxed} (env : Ghosts E F) (formats : OptionsOf C FP B → Format) (engine : EngineOf E C FP F B) (key : List ℕ) where
   -- the state answers so and stays
   abbrev Stays : Answer → State → Type 0
   Stays answer old = (faults : Faults) → Step old.mode faults old (get None key) answer old
 
-  still : (answer : Answer) → ((store : List ℕ) (disk : Disk) (old : State) → IsState old → Recalls env store engine disk old → Stays answer old)
-      → AnswersStill env engine (get None key) answer
-  still answer stays at store told old represents = record {
+  still : (answer : Answer) → ((store : List ℕ) (disk : Disk) (old : State) → IsState old → Recalls env formats store engine disk old → Stays answer old)
+      → AnswersStill env formats engine (get None key) answer
+  still answer stays at store meaning told old represents = record {
     new = old;
     represents = represents;
     later = omega arith;
     step = stays store (env.observed at).disk old represents.disk_is.is_state represents.memory_is _;
-    moments = moments_none store (get None key) old (env.observed at) represents.disk_is;
+    moments = moments_none store meaning (get None key) old (env.observed at) represents.disk_is;
     spares = spares_still store (MayTouch store old.mode (get None key)) (env.observed at).disk;
     bytes = λ never. absurd never;
   }
@@ -75,31 +76,31 @@ module _ {E C FP F : Type 0} {B : Boxed} (env : Ghosts E F) (engine : EngineOf E
   responds_in machine.closed faults old answer usable responds = absurd (usable refl)
 
   -- a closed store refuses it
-  pub get_shut : (status : Status) → RefusedAsClosed engine.mode status → AnswersStill env engine (get None key) (refused (refusal_of status))
+  pub get_shut : (status : Status) → RefusedAsClosed engine.mode status → AnswersStill env formats engine (get None key) (refused (refusal_of status))
   get_shut status out = still (refused (refusal_of status))
       (λ store disk old is recalls faults. subst (λ m. Step m faults old (get None key) (refused (refusal_of status)) old) (sym (ap mode_of out.0) ∙ recalls.mode) (out.1, refl))
 
   in_use : (answer : Answer) → (IsClosed engine.mode → ⊥)
       → ((faults : Faults) (store : List ℕ) (old : State) → IsState old → Remembers env store engine old → Responds faults old (get None key) answer old)
-      → AnswersStill env engine (get None key) answer
+      → AnswersStill env formats engine (get None key) answer
   in_use answer usable responds = still answer
       (λ store disk old is recalls faults.
       let not_closed : old.mode ≡ machine.closed → ⊥ = λ e. usable (shut_mode engine.mode (recalls.mode ∙ e)) in
       responds_in old.mode faults old answer not_closed (responds faults store old is (recalls.shows not_closed)))
 
   module _ (usable : IsClosed engine.mode → ⊥) where
-    long_refused : (status : Status) → status.code ≡ InvalidArgument → IsLongKey key → AnswersStill env engine (get None key) (refused (refusal_of status))
+    long_refused : (status : Status) → status.code ≡ InvalidArgument → IsLongKey key → AnswersStill env formats engine (get None key) (refused (refusal_of status))
     long_refused status code long = in_use (refused (refusal_of status)) usable (λ faults store old is remembers. record { cause = bad_operand; comes = (code, inr long); leaves = refl })
 
     pub get_long : (result : Result (Option (List ℕ)) Status) → IsErrAnd result (λ status. status.code ≡ InvalidArgument) → IsLongKey key
-        → AnswersStill env engine (get None key) (found_or result)
+        → AnswersStill env formats engine (get None key) (found_or result)
     get_long (Ok value) fails long = absurd fails
     get_long (Err status) code long = long_refused status code long
 
-    starved_refused : (status : Status) → IsOutOfMemory status → AnswersStill env engine (get None key) (refused (refusal_of status))
+    starved_refused : (status : Status) → IsOutOfMemory status → AnswersStill env formats engine (get None key) (refused (refusal_of status))
     starved_refused status (code, none) = in_use (refused (refusal_of status)) usable (λ faults store old is remembers. record { cause = out_of_memory; comes = (tt, code, ap text_of none); leaves = refl })
 
-    pub get_starved : (result : Result (Option (List ℕ)) Status) → IsErrAnd result IsOutOfMemory → AnswersStill env engine (get None key) (found_or result)
+    pub get_starved : (result : Result (Option (List ℕ)) Status) → IsErrAnd result IsOutOfMemory → AnswersStill env formats engine (get None key) (found_or result)
     get_starved (Ok value) fails = absurd fails
     get_starved (Err status) starved = starved_refused status starved
 
@@ -111,7 +112,7 @@ module _ {E C FP F : Type 0} {B : Boxed} (env : Ghosts E F) (engine : EngineOf E
         (subst (λ (last : ℕ). FindsNewest engine.recent.kept.entries last key newest) remembers.last finds))
 
     found_answer : (newest : Option (Option (List ℕ))) → (IsLongKey key → ⊥) → FindsNewest engine.recent.kept.entries engine.recent.last key newest
-        → AnswersStill env engine (get None key) (found (value_found newest))
+        → AnswersStill env formats engine (get None key) (found (value_found newest))
     found_answer newest short finds = in_use (found (value_found newest)) usable
         (λ faults store old is remembers. (
           record { operands = fits old; numbers = λ never. never },
@@ -124,18 +125,18 @@ module _ {E C FP F : Type 0} {B : Boxed} (env : Ghosts E F) (engine : EngineOf E
 
     module _ (short : IsLongKey key → ⊥) where
       -- no entry of the key
-      pub get_missing : FindsNewest engine.recent.kept.entries engine.recent.last key None → AnswersStill env engine (get None key) (found None)
+      pub get_missing : FindsNewest engine.recent.kept.entries engine.recent.last key None → AnswersStill env formats engine (get None key) (found None)
       get_missing finds = found_answer None short finds
 
       -- a deletion
       pub get_deleted : (value : Option (List ℕ)) → value ≡ None → FindsNewest engine.recent.kept.entries engine.recent.last key (Some value)
-          → AnswersStill env engine (get None key) (found None)
+          → AnswersStill env formats engine (get None key) (found None)
       get_deleted value none finds =
           found_answer (Some None) short (subst (λ (v : Option (List ℕ)). FindsNewest engine.recent.kept.entries engine.recent.last key (Some v)) none finds)
 
       -- a value, and a copy of it is answered
       pub get_value : (newest : Option (List ℕ)) (value copy : List ℕ) → newest ≡ Some value → copy ≡ value
-          → FindsNewest engine.recent.kept.entries engine.recent.last key (Some newest) → AnswersStill env engine (get None key) (found (Some copy))
+          → FindsNewest engine.recent.kept.entries engine.recent.last key (Some newest) → AnswersStill env formats engine (get None key) (found (Some copy))
       get_value newest value copy is same finds =
           found_answer (Some (Some copy)) short
           (subst (λ (v : Option (List ℕ)). FindsNewest engine.recent.kept.entries engine.recent.last key (Some v)) (is ∙ ap (λ (v : List ℕ). Some v) (sym same)) finds)

@@ -29,12 +29,12 @@ greatest_none first [] none = omega arith
 greatest_none first (item ∷ items) none = absurd (omega arith)
 
 -- a batch that was put behind
-module _ (batch : Batch) (old : Numbered) (low : AreUpTo old.last old.kept.entries) (fits : old.last ≤ max_sequence) (follows : Follows old.last batch)
+module _ {C : Type 0} (batch : Batch) (old : Numbered C) (low : AreUpTo old.last old.kept.entries) (fits : old.last ≤ max_sequence) (follows : Follows old.last batch)
     (first count : ℕ) (first_is : first ≡ batch.first) (count_is : count ≡ length batch.items) where
   pub new_entries : AreNewTo old.kept.entries (placed first batch.items)
   new_entries = new_after old.last old.kept.entries first batch.items low (omega (arith, follows.above, first_is))
 
-  module _ (after : Kept) (gains : IsUnion old.kept.entries (placed first batch.items) after.entries) where
+  module _ (after : Kept) (cmp : C) (cmp_is : cmp ≡ old.cmp) (gains : IsUnion old.kept.entries (placed first batch.items) after.entries) where
     same : placed first batch.items ≡ placed batch.first batch.items
     same = ap (λ n. placed n batch.items) first_is
 
@@ -51,8 +51,8 @@ module _ (batch : Batch) (old : Numbered) (low : AreUpTo old.last old.kept.entri
         omega (arith, most, follows.all_fit),
       )
 
-      pub some_inserted : Inserts old batch (record { kept = after; last = first + (count - 1) })
-      some_inserted = record { gains = gained; last = omega (arith, most, follows.above, first_is) }
+      pub some_inserted : Inserts old batch (record { cmp = cmp; kept = after; last = first + (count - 1) })
+      some_inserted = record { cmp = cmp_is; gains = gained; last = omega (arith, most, follows.above, first_is) }
 
     module _ (none : count ≤ 0) where
       least : greatest (placed batch.first batch.items) ≡ 0
@@ -64,5 +64,5 @@ module _ (batch : Batch) (old : Numbered) (low : AreUpTo old.last old.kept.entri
         fits,
       )
 
-      pub none_inserted : Inserts old batch (record { kept = after; last = old.last })
-      none_inserted = record { gains = gained; last = omega (arith, least) }
+      pub none_inserted : Inserts old batch (record { cmp = cmp; kept = after; last = old.last })
+      none_inserted = record { cmp = cmp_is; gains = gained; last = omega (arith, least) }

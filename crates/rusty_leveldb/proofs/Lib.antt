@@ -2,7 +2,6 @@ pub mod Histories
 pub mod MachineLemmas
 pub mod RunsLemmas
 pub mod LawsLemmas
-mod BuildTableLemmas
 mod Inserted
 pub mod Readings
 pub mod Bounds

@@ -6,6 +6,8 @@ use Rattle.leveldb_base.specs.declared.cmp.Cmp.{Ghosts as CmpGhosts}
 use Rattle.leveldb_env.specs.declared.compressor.CompressorList.{CompressorList}
 use Rattle.leveldb_env.specs.Compressor.{Codings}
 use Rattle.leveldb_env.specs.declared.filter.FilterPolicy.{Ghosts as FilterGhosts}
+use Rattle.std.proofs.Math.Nat.{mul-mod_right}
+use Rattle.std.proofs.lemmas.List.Elements.{All-head, All-tail}
 use Rattle.std.specs.Option.{option_map}
 use Rattle.leveldb_base.specs.declared.error.Status.{Status}
 use Rattle.leveldb_base.specs.declared.error.StatusCode.TheVariants.{InvalidArgument}
@@ -24,13 +26,15 @@ use Rattle.rusty_leveldb.specs.State.{State, Opening, closed}
 use Rattle.leveldb_version.specs.Holds.{IsHonest}
 use Rattle.rusty_leveldb.specs.Runs as machine
 use Rattle.rusty_leveldb.specs.Runs.{Event, Run, CrashBefore, last_moment, StopsAt, LifeLeads, Lives, new_state}
-use Rattle.rusty_leveldb.specs.Serves.{StandsFor, Represents, IsBetweenCalls, IsConversation}
-use Rattle.rusty_leveldb.specs.Engine.{Recalls, IsStoreName, IsOpening, opening_of}
+use Rattle.rusty_leveldb.specs.Serves.{StandsFor, Represents, recalls_nothing, IsBetweenCalls, IsConversation}
+use Rattle.rusty_leveldb.specs.Engine.{IsStoreName, IsOpening, opening_of}
 use Rattle.rusty_leveldb.specs.Lives.{requests_of, IsLife, with_name, ending_of, IsCrash, IsHonestCrash, IsNextDevice, IsReportOf, IsLifeOn, AreReports, AreReportsFromNone, IsLifeOf, AreLivesOf, AreOneRun, HasNoCrash, ReportsLives}
 use Rattle.rusty_leveldb.proofs.OneLog.LogFile.{front_honest}
 use Rattle.rusty_leveldb.proofs.Bounds.{nothing_stands}
-use Rattle.leveldb_env.specs.Options.{Boxed, nothing_boxed}
+use Rattle.rusty_leveldb.proofs.Openings.Asked.{and_both, and_true}
+use Rattle.leveldb_env.specs.Options.{Boxed}
 use Rattle.rusty_leveldb.specs.Boxes.{LifeOf}
+use Rattle.leveldb_store.specs.Format.{Meaning, Agrees, format_of}
 
 -- ---- moments from a life's start
 
@@ -85,30 +89,36 @@ same_disk : (device from : RecordEnv) → SameObserved device from → (record_o
 same_disk device from same = λ i. record { files = same.files i; locked = same.locks i }
 
 -- the disk represents a state
-abbrev pub Stands : Type 0 → Type 0 → List ℕ → RecordEnv → State → Type 0
-Stands C FP store device old = Represents store (Recalls {C = C} {FP = FP} {B = nothing_boxed} ghosts store) None (record_observed device).disk old
+abbrev pub Stands : List ℕ → Meaning → RecordEnv → State → Type 0
+Stands store meaning device old = Represents store meaning recalls_nothing None (record_observed device).disk old
 
 opens_so : (store : List ℕ) (fits : Bool) (wanted : Opening) → (IsTrue fits ↔ IsStoreName store) → IsOpening store wanted (with_name fits wanted)
-opens_so store fits wanted name_fits = record { same = refl; fits = name_fits }
+opens_so store fits wanted name_fits = record {
+  same = refl;
+  fits = (
+    λ is. let both = and_both fits wanted.fits is in (name_fits.0 both.0, both.1),
+    λ both. and_true fits wanted.fits (name_fits.1 both.0) both.1,
+  );
+}
 
-module _ {C FP : Type 0} {B : Boxed} (cmp : CmpGhosts C) (filters : FilterGhosts FP) (codings : CompressorList B.compressors B.compressor → Codings) (store : List ℕ) (fits : Bool) where
+module _ {C FP : Type 0} {B : Boxed} (cmp : CmpGhosts C) (filters : FilterGhosts FP) (codings : CompressorList B.compressors B.compressor → Codings) (store : List ℕ) (fits : Bool) (meaning : Meaning) where
   abbrev RunFrom : List (LifeOf C FP B) → List Report → RecordEnv → State → Type 0
   RunFrom lives reports device old = (of_machine : List machine.Life) × AreLivesOf ghosts cmp filters codings store fits lives reports of_machine × (failures : ℕ) × (last : State) × Lives (failures_of device) old of_machine failures last
 
   -- one life, and what comes after it
-  module _ (name_fits : IsTrue fits ↔ IsStoreName store) (device to next : RecordEnv) (life : LifeOf C FP B) (lives : List (LifeOf C FP B)) (report : Report) (reports : List Report) (old : State) (stands : Stands C FP store device old)
-      (is : IsLifeOn ghosts cmp filters codings store device life report to) (rest : (then : State) → Stands C FP store next then → RunFrom lives reports next then) where
+  module _ (name_fits : IsTrue fits ↔ IsStoreName store) (device to next : RecordEnv) (life : LifeOf C FP B) (lives : List (LifeOf C FP B)) (report : Report) (reports : List Report) (old : State) (stands : Stands store meaning device old)
+      (agrees : Agrees (format_of cmp filters codings life.options) meaning) (is : IsLifeOn ghosts cmp filters codings store device life report to) (rest : (then : State) → Stands store meaning next then → RunFrom lives reports next then) where
     abbrev start : ℕ
     start = moment_of device
 
     abbrev opening : Opening
     opening = with_name fits (opening_of cmp filters codings life.options)
 
-    stands_from : Stands C FP store is.from old
-    stands_from = subst (λ disk. Represents store (Recalls {C = C} {FP = FP} {B = nothing_boxed} ghosts store) None disk old) (sym (same_disk device is.from is.same)) stands
+    stands_from : Stands store meaning is.from old
+    stands_from = subst (λ disk. Represents store meaning recalls_nothing None disk old) (sym (same_disk device is.from is.same)) stands
 
-    lived : IsLife C FP ghosts store is.from opening life.commands.items report to old
-    lived = is.life_is opening (opens_so store fits (opening_of cmp filters codings life.options) name_fits) old stands_from
+    lived : IsLife ghosts store meaning is.from opening life.commands.items report to old
+    lived = is.life_is opening (opens_so store fits (opening_of cmp filters codings life.options) name_fits) meaning agrees old stands_from
 
     -- the machine's life
     abbrev of_life : machine.Life
@@ -128,16 +138,17 @@ module _ {C FP : Type 0} {B : Boxed} (cmp : CmpGhosts C) (filters : FilterGhosts
       reported = subst (λ n. IsReportOf report lived.answers (map (λ m. m - n) lived.moments)) same_start lived.reported;
       asked = subst (λ ms. IsConversation (requests_of opening life.commands.items report.opened) lived.answers ms lived.run.events) (sym again) lived.run.asked;
       ending = refl;
+      outside = mul-mod_right 2 device.journal.count;
     }
 
-    join : (then : State) → Stands C FP store next then → LifeLeads start (failures_of device) old lived.run.events (ending_of start life.moment) (failures_of next) then
+    join : (then : State) → Stands store meaning next then → LifeLeads start (failures_of device) old lived.run.events (ending_of start life.moment) (failures_of next) then
         → RunFrom (life ∷ lives) (report ∷ reports) device old
     join then stands_then leads =
         let others = rest then stands_then in
         (of_life ∷ others.0, (life_of, others.1), others.2, others.3, (failures_of next, then, leads, others.4))
 
     by_end : (moment : Option ℕ) → life.moment ≡ moment → IsNextDevice (IsHonestCrash store) start moment life.pick to next → RunFrom (life ∷ lives) (report ∷ reports) device old
-    by_end None ends follows = join lived.run.new (subst (λ d. Stands C FP store d lived.run.new) (sym follows) lived.run.represents)
+    by_end None ends follows = join lived.run.new (subst (λ d. Stands store meaning d lived.run.new) (sym follows) lived.run.represents)
         (subst (λ m. LifeLeads start (failures_of device) old lived.run.events (ending_of start m) (failures_of next) lived.run.new) (sym ends)
         (subst (λ n. Run n old lived.run.events (failures_of next) lived.run.new) is.same.failures
         (subst (λ (d : RecordEnv). Run (failures_of is.from) old lived.run.events (failures_of d) lived.run.new) (sym follows) lived.run.run)))
@@ -158,14 +169,14 @@ module _ {C FP : Type 0} {B : Boxed} (cmp : CmpGhosts C) (filters : FilterGhosts
         (subst (λ m. LifeLeads start (failures_of device) old lived.run.events (ending_of start m) (failures_of next) stops.0) (sym ends)
         ((failures_of to, lived.run.new, stopped), crash.fresh.failures))
 
-  pub lives_run : (IsTrue fits ↔ IsStoreName store) → (device : RecordEnv) (lives : List (LifeOf C FP B)) (reports : List Report) (end : RecordEnv) (old : State) → Stands C FP store device old
+  pub lives_run : (IsTrue fits ↔ IsStoreName store) → (device : RecordEnv) (lives : List (LifeOf C FP B)) (reports : List Report) (end : RecordEnv) (old : State) → All (λ life. Agrees (format_of cmp filters codings life.options) meaning) lives → Stands store meaning device old
       → AreReports ghosts cmp filters codings store (IsHonestCrash store) device lives reports end → RunFrom lives reports device old
-  lives_run name_fits device [] [] end old stands are = ([], tt, failures_of device, old, (refl, refl))
-  lives_run name_fits device (life ∷ lives) (report ∷ reports) end old stands are =
-      by_end name_fits device are.0 are.2 life lives report reports old stands are.1
-      (λ then stands_then. lives_run name_fits are.2 lives reports end then stands_then are.4) life.moment refl are.3
-  lives_run name_fits device [] (report ∷ reports) end old stands are = absurd are
-  lives_run name_fits device (life ∷ lives) [] end old stands are = absurd are
+  lives_run name_fits device [] [] end old agree stands are = ([], tt, failures_of device, old, (refl, refl))
+  lives_run name_fits device (life ∷ lives) (report ∷ reports) end old agree stands are =
+      by_end name_fits device are.0 are.2 life lives report reports old stands (All-head (λ (one : LifeOf C FP B). Agrees (format_of cmp filters codings one.options) meaning) life lives agree) are.1
+      (λ then stands_then. lives_run name_fits are.2 lives reports end then (All-tail (λ (one : LifeOf C FP B). Agrees (format_of cmp filters codings one.options) meaning) life lives agree) stands_then are.4) life.moment refl are.3
+  lives_run name_fits device [] (report ∷ reports) end old agree stands are = absurd are
+  lives_run name_fits device (life ∷ lives) [] end old agree stands are = absurd are
 
 -- ---- crashes that leave the kept bytes alone
 
@@ -185,11 +196,11 @@ honest_next store start (Some moment) pick to next none crash =
 
 module _ {C FP : Type 0} {B : Boxed} (cmp : CmpGhosts C) (filters : FilterGhosts FP) (codings : CompressorList B.compressors B.compressor → Codings) (store : List ℕ) where
   one_run : (lives : List (LifeOf C FP B)) (reports : List Report) → AreReportsFromNone ghosts cmp filters codings store (IsHonestCrash store) lives reports → AreOneRun ghosts cmp filters codings store lives reports
-  one_run lives reports are format fits name_fits =
+  one_run lives reports are format fits name_fits meaning agree =
       let first = are.1.first in
       let fresh = are.1.fresh in
-      let stands : StandsFor store (record_observed first).disk (new_state format) = nothing_stands store format (record_observed first).disk (are.1.empty _) (fresh.free _) in
-      let all = lives_run cmp filters codings store fits name_fits first lives reports are.0 (new_state format) (record { disk_is = stands; memory_is = refl }) are.1.reports_are in
+      let stands : StandsFor store meaning (record_observed first).disk (new_state format) = nothing_stands store meaning format (record_observed first).disk (are.1.empty _) (fresh.free _) in
+      let all = lives_run cmp filters codings store fits meaning name_fits first lives reports are.0 (new_state format) agree (record { disk_is = stands; memory_is = refl }) are.1.reports_are in
       (all.0, all.1, all.2, all.3, subst (λ n. Lives n (new_state format) all.0 all.2 all.3) fresh.failures all.4)
 
   -- so lives without tails are honest

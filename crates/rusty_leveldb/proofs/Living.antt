@@ -12,9 +12,10 @@ use Rattle.rusty_leveldb.specs.Serves.{Represents, refusal_of}
 use Rattle.rusty_leveldb.specs.Engine.{Recalls, Answers, IsOpening, no_engine}
 use Rattle.rusty_leveldb.specs.Shell.{request_of, answer_of}
 use Rattle.rusty_leveldb.specs.Lives.{requests_of, answers_of, moments_of, IsAlwaysLife}
-use Rattle.rusty_leveldb.proofs.Playing.{LeadsAt, OnlyNow, OpensAs, no_other, first_at, next_one, at_none}
-use Rattle.leveldb_env.specs.Options.{Boxed, OptionsOf, nothing_boxed}
+use Rattle.rusty_leveldb.proofs.Playing.{LeadsAt, LeadsToNone, OnlyNow, OpensAs, no_other, first_at, next_one, at_none}
+use Rattle.leveldb_env.specs.Options.{Boxed, OptionsOf}
 use Rattle.rusty_leveldb.specs.Boxes.{EngineOf}
+use Rattle.leveldb_store.specs.Format.{Format, Meaning, Agrees}
 
 -- the moments of replies, from a life's start
 abbrev pub Given : ℕ → List (ℕ × Reply) → List ℕ → Type 0
@@ -24,41 +25,41 @@ pub given_more : (start : ℕ) (replies : List (ℕ × Reply)) (moments : List �
 given_more start replies moments moment told reply given is = map-append (λ (r : ℕ × Reply). r.0) replies ((told, reply) ∷ [])
     ∙ ap (λ ms. ms ++ told ∷ []) given ∙ ap (λ t. map (λ m. m - start) moments ++ t ∷ []) is ∙ sym (map-append (λ m. m - start) moments (moment ∷ []))
 
-module _ {E F : Type 0} {B : Boxed} (C FP : Type 0) (env : Ghosts E F) (store : List ℕ) where
+module _ {E F : Type 0} {B : Boxed} (C FP : Type 0) (env : Ghosts E F) (formats : OptionsOf C FP B → Format) (store : List ℕ) where
   -- so far the store was opened and these commands were given these replies
   abbrev pub LivesSoFar : E → Opening → List Command → List (ℕ × Reply) → List ℕ → EngineOf E C FP F B → E → Type 0
   LivesSoFar from wanted commands replies given engine to = (opening : Opening) → IsOpening store wanted opening
-      → (old : State) → Represents store (Recalls {C = C} {FP = FP} {B = B} env store) None (env.observed from).disk old
-      → (first : ℕ) × LeadsAt C FP env store from (open_store opening ∷ map request_of commands) (done ∷ map (λ (reply : ℕ × Reply). answer_of reply.1) replies) (first ∷ given) (Some engine) to old
+      → (meaning : Meaning) → Agrees opening.format meaning → (old : State) → Represents store meaning (Recalls {C = C} {FP = FP} {B = B} env formats store) None (env.observed from).disk old
+      → (first : ℕ) × LeadsAt C FP env formats store meaning from (open_store opening ∷ map request_of commands) (done ∷ map (λ (reply : ℕ × Reply). answer_of reply.1) replies) (first ∷ given) (Some engine) to old
 
-module _ {E F : Type 0} {B : Boxed} (C FP : Type 0) (env : Ghosts E F) (only_now : OnlyNow env) (modelled : IsTrue env.models_disk) (store : List ℕ) where
-  pub lives_first : (from to : E) (wanted : Opening) (engine : EngineOf E C FP F B) → OpensAs C FP env store from wanted done (Some engine) to → LivesSoFar C FP env store from wanted [] [] [] engine to
-  lives_first from to wanted engine opens opening is old represents = ((env.observed to).moment, first_at env only_now store modelled from to (Some engine) (open_store opening) done old represents (opens opening is))
+module _ {E F : Type 0} {B : Boxed} (C FP : Type 0) (env : Ghosts E F) (formats : OptionsOf C FP B → Format) (only_now : OnlyNow env) (modelled : IsTrue env.models_disk) (store : List ℕ) where
+  pub lives_first : (from to : E) (wanted : Opening) (engine : EngineOf E C FP F B) → OpensAs C FP env formats store from wanted done (Some engine) to → LivesSoFar C FP env formats store from wanted [] [] [] engine to
+  lives_first from to wanted engine opens opening is meaning agrees old represents = ((env.observed to).moment, first_at env formats only_now store meaning modelled from to (Some engine) (open_store opening) done old represents (opens opening is meaning agrees))
 
   pub lives_more : (from mid to : E) (wanted : Opening) (commands : List Command) (replies : List (ℕ × Reply)) (given : List ℕ) (engine after : EngineOf E C FP F B) (command : Command) (told : ℕ) (reply : Reply)
-      → LivesSoFar C FP env store from wanted commands replies given engine mid → Answers env (Some engine) mid (request_of command) (answer_of reply) (Some after) to
-      → LivesSoFar C FP env store from wanted (commands ++ command ∷ []) (replies ++ (told, reply) ∷ []) (given ++ (env.observed to).moment ∷ []) after to
-  lives_more from mid to wanted commands replies given engine after command told reply lives answers_so opening is old represents =
-      let led = lives opening is old represents in
-      let next = next_one env only_now store modelled None from mid to (open_store opening ∷ map request_of commands) (done ∷ map (λ (r : ℕ × Reply). answer_of r.1) replies) (led.0 ∷ given) (Some engine) (Some after)
-      (request_of command) (answer_of reply) old led.1 (answers_so store) in (
+      → LivesSoFar C FP env formats store from wanted commands replies given engine mid → Answers env formats (Some engine) mid (request_of command) (answer_of reply) (Some after) to
+      → LivesSoFar C FP env formats store from wanted (commands ++ command ∷ []) (replies ++ (told, reply) ∷ []) (given ++ (env.observed to).moment ∷ []) after to
+  lives_more from mid to wanted commands replies given engine after command told reply lives answers_so opening is meaning agrees old represents =
+      let led = lives opening is meaning agrees old represents in
+      let next = next_one env formats only_now store meaning modelled None from mid to (open_store opening ∷ map request_of commands) (done ∷ map (λ (r : ℕ × Reply). answer_of r.1) replies) (led.0 ∷ given) (Some engine) (Some after)
+      (request_of command) (answer_of reply) old led.1 (answers_so store meaning) in (
         led.0,
-        subst (λ as'. LeadsAt C FP env store from (open_store opening ∷ map request_of (commands ++ command ∷ [])) (done ∷ as') (led.0 ∷ (given ++ (env.observed to).moment ∷ [])) (Some after) to old)
+        subst (λ as'. LeadsAt C FP env formats store meaning from (open_store opening ∷ map request_of (commands ++ command ∷ [])) (done ∷ as') (led.0 ∷ (given ++ (env.observed to).moment ∷ [])) (Some after) to old)
             (sym (map-append (λ (r : ℕ × Reply). answer_of r.1) replies ((told, reply) ∷ [])))
-            (subst (λ rs. LeadsAt C FP env store from (open_store opening ∷ rs) (done ∷ (map (λ (r : ℕ × Reply). answer_of r.1) replies ++ answer_of reply ∷ [])) (led.0 ∷ (given ++ (env.observed to).moment ∷ [])) (Some after) to old)
+            (subst (λ rs. LeadsAt C FP env formats store meaning from (open_store opening ∷ rs) (done ∷ (map (λ (r : ℕ × Reply). answer_of r.1) replies ++ answer_of reply ∷ [])) (led.0 ∷ (given ++ (env.observed to).moment ∷ [])) (Some after) to old)
             (sym (map-append request_of commands (command ∷ []))) next),
       )
 
   -- the life ends
   pub lives_end : (from mid to : E) (wanted : Opening) (commands : List Command) (given : List ℕ) (engine : EngineOf E C FP F B) (ending : Answer) (report : Report) → report.opened ≡ Ok tt
-      → Given (env.observed from).moment report.replies.items given → LivesSoFar C FP env store from wanted commands report.replies.items given engine mid → Answers env (Some engine) mid abandon ending None to
-      → IsAlwaysLife C FP env store from wanted commands report to
-  lives_end from mid to wanted commands given engine ending report opened told lives answers_so opening is old represents =
-      let led = lives opening is old (no_other (env.observed from).disk old represents) in
+      → Given (env.observed from).moment report.replies.items given → LivesSoFar C FP env formats store from wanted commands report.replies.items given engine mid → Answers env formats (Some engine) mid abandon ending None to
+      → IsAlwaysLife env store from wanted commands report to
+  lives_end from mid to wanted commands given engine ending report opened told lives answers_so opening is meaning agrees old represents =
+      let led = lives opening is meaning agrees old (no_other (env.observed from).disk old represents) in
       let start = (env.observed from).moment in
       let replies = report.replies.items in
-      let next = next_one env only_now store modelled None from mid to (open_store opening ∷ map request_of commands) (done ∷ map (λ (r : ℕ × Reply). answer_of r.1) replies) (led.0 ∷ given) (Some engine) None
-      abandon ending old led.1 (answers_so store) in
+      let next = next_one env formats only_now store meaning modelled None from mid to (open_store opening ∷ map request_of commands) (done ∷ map (λ (r : ℕ × Reply). answer_of r.1) replies) (led.0 ∷ given) (Some engine) None
+      abandon ending old led.1 (answers_so store meaning) in
       record {
         answers = done ∷ (map (λ (r : ℕ × Reply). answer_of r.1) replies ++ ending ∷ []);
         moments = led.0 ∷ (given ++ (env.observed to).moment ∷ []);
@@ -71,15 +72,15 @@ module _ {E F : Type 0} {B : Boxed} (C FP : Type 0) (env : Ghosts E F) (only_now
               ∙ ap (λ o. moments_of o replies (led.0 - start) ((env.observed to).moment - start)) (sym opened);
           no_replies = subst (λ o. OnErr o (replies ≡ [])) (sym opened) tt;
         };
-        run = subst (λ o. LeadsAt C FP {B = nothing_boxed} env store from (requests_of opening commands o) (done ∷ (map (λ (r : ℕ × Reply). answer_of r.1) replies ++ ending ∷ [])) (led.0 ∷ (given ++ (env.observed to).moment ∷ [])) None to old) (sym opened)
-            (at_none C FP env only_now store from (open_store opening ∷ (map request_of commands ++ abandon ∷ [])) (done ∷ (map (λ (r : ℕ × Reply). answer_of r.1) replies ++ ending ∷ []))
+        run = subst (λ o. LeadsToNone env store meaning from (requests_of opening commands o) (done ∷ (map (λ (r : ℕ × Reply). answer_of r.1) replies ++ ending ∷ [])) (led.0 ∷ (given ++ (env.observed to).moment ∷ [])) to old) (sym opened)
+            (at_none C FP env formats only_now store meaning from (open_store opening ∷ (map request_of commands ++ abandon ∷ [])) (done ∷ (map (λ (r : ℕ × Reply). answer_of r.1) replies ++ ending ∷ []))
             (led.0 ∷ (given ++ (env.observed to).moment ∷ [])) to old next);
       }
 
   -- the store wasn't opened
   pub not_lived : (options : OptionsOf C FP B) (from to : E) (wanted : Opening) (commands : List Command) (report : Report) (status : Status) → report.opened ≡ Err status → report.replies.items ≡ []
-      → OpensAs C FP env store from wanted (refused (refusal_of status)) (no_engine options) to → IsAlwaysLife C FP env store from wanted commands report to
-  not_lived options from to wanted commands report status opened none opens opening is old represents =
+      → OpensAs C FP env formats store from wanted (refused (refusal_of status)) (no_engine options) to → IsAlwaysLife env store from wanted commands report to
+  not_lived options from to wanted commands report status opened none opens opening is meaning agrees old represents =
       let start = (env.observed from).moment in
       let last = (env.observed to).moment in
       record {
@@ -93,7 +94,7 @@ module _ {E F : Type 0} {B : Boxed} (C FP : Type 0) (env : Ghosts E F) (only_now
           moments_are = ap (λ o. moments_of o report.replies.items (last - start) (last - start)) (sym opened);
           no_replies = subst (λ o. OnErr o (report.replies.items ≡ [])) (sym opened) none;
         };
-        run = subst (λ o. LeadsAt C FP {B = nothing_boxed} env store from (requests_of opening commands o) (refused (refusal_of status) ∷ []) (last ∷ []) None to old) (sym opened)
-            (at_none C FP env only_now store from (open_store opening ∷ []) (refused (refusal_of status) ∷ []) (last ∷ []) to old
-            (first_at env only_now store modelled from to (no_engine options) (open_store opening) (refused (refusal_of status)) old (no_other (env.observed from).disk old represents) (opens opening is)));
+        run = subst (λ o. LeadsToNone env store meaning from (requests_of opening commands o) (refused (refusal_of status) ∷ []) (last ∷ []) to old) (sym opened)
+            (at_none C FP env formats only_now store meaning from (open_store opening ∷ []) (refused (refusal_of status) ∷ []) (last ∷ []) to old
+            (first_at env formats only_now store meaning modelled from to (no_engine options) (open_store opening) (refused (refusal_of status)) old (no_other (env.observed from).disk old represents) (opens opening is meaning agrees)));
       }

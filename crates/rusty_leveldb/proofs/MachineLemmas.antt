@@ -6,7 +6,7 @@ use Rattle.leveldb_base.specs.History.{Item, Entry, History, IsHistory, placed, 
 use Rattle.leveldb_base.proofs.HistoryLemmas.{in_none, in_rest}
 use Rattle.rusty_leveldb.specs.State.{Mode, open_mode, broken, closed, Snapshot, Opening, State, SuitsMode, IsState, Request, open_store, write, get, walk, get_snapshot, release_snapshot, flush, compact_range, close, abandon, Refusal, Answer, done, found, walked, snapshot, refused}
 use Rattle.rusty_leveldb.specs.Causes.{Faults, Cause, device_failed, IsClosedRefusal, IsBrokenRefusal}
-use Rattle.rusty_leveldb.specs.Machine.{MayGrow, Keeps, next_batch, Writes, AllDurable, Breaks, Gives, Releases, Closes, Abandons, Opens, StaysClosed, format_left, MayBreak, KeepsOrBreaks, Succeeds, LeavesRefused, Responds, Rejects, Step, Risk, risk_between, risk_of, Crashes}
+use Rattle.rusty_leveldb.specs.Machine.{MayGrow, Keeps, next_batch, Writes, AllDurable, Breaks, Gives, Releases, Closes, Abandons, Opens, StaysClosed, MayBreak, KeepsOrBreaks, Succeeds, LeavesRefused, Responds, Rejects, Step, Risk, risk_between, risk_of, Crashes}
 use Rattle.rusty_leveldb.specs.Laws.{asked_by, StepFits, CrashFits, CrashInsideFits}
 use Rattle.rusty_leveldb.proofs.Histories.{entries_more, greatest_append, placed_greatest, placed_length, history_more, history_part, greatest_part}
 
@@ -375,7 +375,6 @@ module _ (old : State) (is : IsState old) where
         durable = new.durable;
         locked = new.locked;
         store = new.store;
-        format = format_left opening old.store old.format;
       }
 
       rest : SuitsMode closed old
@@ -449,10 +448,7 @@ crash_between_fits old new is c = crash_fits old is (risk_between old) new is.hi
 
 -- what is at risk in an opening
 abbrev pub risk_opening : Opening → State → Risk
-risk_opening opening old = record (risk_between old) {
-  format = format_left opening old.store old.format;
-  opening = Some opening;
-}
+risk_opening opening old = record (risk_between old) { opening = Some opening }
 
 -- what is at risk in a request, by whether it is an opening
 pub risk_cases : (request : Request) (old new : State)

@@ -13,6 +13,7 @@ use Rattle.rusty_leveldb.specs.State.{State}
 use Rattle.rusty_leveldb.specs.Machine.{StaysOr, Risk, risk_between}
 use Rattle.rusty_leveldb.specs.Serves.{Reads, StandsFor, IsSpared}
 use Rattle.rusty_leveldb.proofs.Bounds.{carries_more, carries_allow}
+use Rattle.leveldb_store.specs.Format.{Meaning}
 
 -- ---- a greater risk
 
@@ -65,30 +66,30 @@ prefix_within least durable risk more part few grows b =
       first = b.first ∙ ap (take b.count) grows.first ∙ take_twice grows.count b.count more.history fits;
     }
 
-module _ (store : List ℕ) where
+module _ (store : List ℕ) (meaning : Meaning) where
   -- what is spared in a later step is spared in the whole call
   pub spared_more : (old middle : State) (risk more : Risk) → old.durable ≤ middle.durable → Allows middle risk old more → Grows risk more
-      → (files : Files) → IsSpared store middle risk files → IsSpared store old more files
+      → (files : Files) → IsSpared store meaning middle risk files → IsSpared store meaning old more files
   spared_more old middle risk more few allows grows files spared left leaves honest =
       let c = spared left leaves honest in
       record {
         part = c.part;
         prefix = prefix_within old.durable middle.durable risk more c.part few grows c.prefix;
-        carries = carries_more store (Reads store risk.format) risk.bound more.bound grows.bound c.part left (carries_allow store (Reads store risk.format) risk.bound c.part left allows c.carries);
+        carries = carries_more store (Reads store meaning) risk.bound more.bound grows.bound c.part left (carries_allow store (Reads store meaning) risk.bound c.part left allows c.carries);
       }
 
   -- One step after another: the first is spared with the state in which the call began, the second with the one between them.
   pub steps_join : {first mid now : Observed} (old middle : State) (risk more : Risk) → old.durable ≤ middle.durable → Allows old risk old more → Allows middle more old more → Grows risk more
-      → Run (IsSpared store old risk) first mid → Run (IsSpared store middle more) mid now → Run (IsSpared store old more) first now
+      → Run (IsSpared store meaning old risk) first mid → Run (IsSpared store meaning middle more) mid now → Run (IsSpared store meaning old more) first now
   steps_join old middle risk more few first then grows before after = Run-trans
       (Run-mono (spared_more old old risk more (omega arith) first grows) before)
       (spared_more old middle more more few then (grows_same more more.bound (omega arith))) after
 
   -- between two calls
-  pub spared_now : (disk : Disk) (state : State) → StandsFor store disk state → IsSpared store state (risk_between state) disk.files
+  pub spared_now : (disk : Disk) (state : State) → StandsFor store meaning disk state → IsSpared store meaning state (risk_between state) disk.files
   spared_now disk state stands = stands.holds.crash
 
   -- Each honest disk that a crash leaves since the call began carries a prefix of what is at risk, with all that was durable then.
-  pub spared_since : {first now : Observed} (old : State) (risk : Risk) → Run (IsSpared store old risk) first now → ((files : Files) → now.at_moment now.moment files → files ≡ now.disk.files)
-      → (files left : Files) → Since now first.moment files left → IsHonest store files left → CarriesPrefix store (Reads store risk.format) (StaysOr risk.opening old.store) risk.bound old.durable risk.history left
+  pub spared_since : {first now : Observed} (old : State) (risk : Risk) → Run (IsSpared store meaning old risk) first now → ((files : Files) → now.at_moment now.moment files → files ≡ now.disk.files)
+      → (files left : Files) → Since now first.moment files left → IsHonest store files left → CarriesPrefix store (Reads store meaning) (StaysOr risk.opening old.store) risk.bound old.durable risk.history left
   spared_since old risk run only files left since honest = since_start run only since.0 files since.1 since.2 since.3 left since.4 honest

@@ -14,15 +14,16 @@ use Rattle.rusty_leveldb.specs.State.{State, Opening, Request, open_store, aband
 use Rattle.leveldb_version.specs.Holds.{IsHonest}
 use Rattle.rusty_leveldb.specs.Machine.{Step, Crashes, risk_between}
 use Rattle.rusty_leveldb.specs.Runs.{Event, Run, CrashesIn, CrashBefore, last_moment, StopsAt, faults_of}
-use Rattle.rusty_leveldb.specs.Serves.{StandsFor, Represents, Goes, Runs, IsHonestlyLeft, IsBetweenCalls, IsConversation, done_or, refusal_of}
+use Rattle.rusty_leveldb.specs.Serves.{StandsFor, Represents, Goes, Runs, recalls_nothing, IsHonestlyLeft, IsBetweenCalls, IsConversation, done_or, refusal_of}
 use Rattle.rusty_leveldb.specs.Engine.{scene, Recalls, Answers, AnswersAs, IsOpening, no_engine}
 use Rattle.rusty_leveldb.proofs.Crashes.{crash_between, crash_inside}
 use Rattle.rusty_leveldb.proofs.Others.{spares_still, spares_own, others_then}
 use Rattle.rusty_leveldb.specs.Frame.{IsOwn}
 use Rattle.leveldb_base.specs.Error.{IsOutOfMemory}
 use Rattle.rusty_leveldb.specs.Shell.{Plays, HasRun, request_of, answer_of}
-use Rattle.leveldb_env.specs.Options.{Boxed, OptionsOf, nothing_boxed}
+use Rattle.leveldb_env.specs.Options.{Boxed, OptionsOf}
 use Rattle.rusty_leveldb.specs.Boxes.{EngineOf}
+use Rattle.leveldb_store.specs.Format.{Format, Meaning, Agrees}
 
 -- what holds anyway holds of a refusal
 pub OnErr-always : {T E P : Type 0} (result : Result T E) → P → OnErr result P
@@ -36,24 +37,29 @@ event_of moment request answer failures =
 
 -- ---- words for runs
 
-module _ {E F : Type 0} (C FP : Type 0) {B : Boxed} (env : Ghosts E F) (store : List ℕ) where
+module _ {E F : Type 0} (C FP : Type 0) {B : Boxed} (env : Ghosts E F) (formats : OptionsOf C FP B → Format) (store : List ℕ) (meaning : Meaning) where
   -- these requests had these answers, each at its moment, from what the disk has on, and what engine and
   -- disk represent then
   abbrev pub LeadsAt : E → List Request → List Answer → List ℕ → Option (EngineOf E C FP F B) → E → State → Type 0
-  LeadsAt from requests answers moments engine to old = Runs store (Recalls env store) env.models_moments
-      (scene {C = C} {FP = FP} {B = B} env None from) requests answers moments (scene env engine to) old
+  LeadsAt from requests answers moments engine to old = Runs store meaning (Recalls env formats store) env.models_moments
+      (scene env None from) requests answers moments (scene env engine to) old
 
   -- the same, at some moments
   abbrev pub Leads : E → List Request → List Answer → Option (EngineOf E C FP F B) → E → State → Type 0
   Leads from requests answers engine to old = (moments : List ℕ) × LeadsAt from requests answers moments engine to old
 
-module _ {E F : Type 0} (C FP : Type 0) (env : Ghosts E F) (store : List ℕ) where
+-- the same where no engine is left
+abbrev pub LeadsToNone : {E F : Type 0} → Ghosts E F → List ℕ → Meaning → E → List Request → List Answer → List ℕ → E → State → Type 0
+LeadsToNone env store meaning from requests answers moments to old = Runs store meaning recalls_nothing env.models_moments
+    (scene env None from) requests answers moments (scene env None to) old
+
+module _ {E F : Type 0} (env : Ghosts E F) (store : List ℕ) where
   -- a run of commands, from every state that the disk represents, where the disk is observed
   abbrev pub PlaysAlways : E → Opening → List Command → List Reply → Result (Unit {0}) Status → E → Type 0
   PlaysAlways from asked commands given result to = IsTrue env.models_disk
-      → (opening : Opening) → IsOpening store asked opening → (old : State)
-      → Represents store (Recalls {C = C} {FP = FP} {B = nothing_boxed} env store) None (env.observed from).disk old
-      → Plays C FP env store from opening commands given result to old
+      → (opening : Opening) → IsOpening store asked opening → (meaning : Meaning) → Agrees opening.format meaning → (old : State)
+      → Represents store meaning (recalls_nothing) None (env.observed from).disk old
+      → Plays env store meaning from opening commands given result to old
 
 -- ---- runs
 
@@ -149,19 +155,19 @@ OnlyNow {E = E} env = ((e : E) (files : Files) → (env.observed e).at_moment (e
     × ((e : E) → IsTrue env.models_moments
     → (env.observed e).at_moment (env.observed e).moment (env.observed e).disk.files)
 
-module _ {E F : Type 0} (env : Ghosts E F) (only_now : OnlyNow env) (store : List ℕ) where
+module _ {E F : Type 0} (env : Ghosts E F) (only_now : OnlyNow env) (store : List ℕ) (meaning : Meaning) where
   -- a crash where the files are those of the disk
-  crash_same : (at : E) (old : State) → StandsFor store (env.observed at).disk old → (now : Observed) (moment : ℕ)
+  crash_same : (at : E) (old : State) → StandsFor store meaning (env.observed at).disk old → (now : Observed) (moment : ℕ)
       (files : Files) (left : Disk) → files ≡ (env.observed at).disk.files → IsHonestlyLeft store now moment files left
-      → (then : State) × Crashes old (risk_between old) then × StandsFor store left then
+      → (then : State) × Crashes old (risk_between old) then × StandsFor store meaning left then
   crash_same at old stands now moment files left same crash =
-      crash_between store old (env.observed at).disk left stands
+      crash_between store meaning old (env.observed at).disk left stands
       (record { files = subst (λ f. FilesCrashTo f left.files) same crash.leaves; free = crash.free })
       (subst (λ f. IsHonest store f left.files) same crash.honest)
 
   -- a crash at the end
-  crash_now : (at : E) (old : State) → StandsFor store (env.observed at).disk old → (moment : ℕ) (files : Files) (left : Disk) → moment ≡ (env.observed at).moment → IsHonestlyLeft store (env.observed at) moment files left
-      → (then : State) × Crashes old (risk_between old) then × StandsFor store left then
+  crash_now : (at : E) (old : State) → StandsFor store meaning (env.observed at).disk old → (moment : ℕ) (files : Files) (left : Disk) → moment ≡ (env.observed at).moment → IsHonestlyLeft store (env.observed at) moment files left
+      → (then : State) × Crashes old (risk_between old) then × StandsFor store meaning left then
   crash_now at old stands moment files left is crash =
       crash_same at old stands (env.observed at) moment files left
       (only_now.0 at files (subst (λ n. (env.observed at).at_moment n files) is crash.stood)) crash
@@ -171,10 +177,10 @@ by_inside : {P : Type 0} (inside : Bool) → (inside ≡ true → P) → (inside
 by_inside true inner outer = inner refl
 by_inside false inner outer = outer refl
 
-module _ {E F C FP : Type 0} {B : Boxed} (env : Ghosts E F) (only_now : OnlyNow env) (store : List ℕ) (modelled : IsTrue env.models_disk) where
+module _ {E F C FP : Type 0} {B : Boxed} (env : Ghosts E F) (formats : OptionsOf C FP B → Format) (only_now : OnlyNow env) (store : List ℕ) (meaning : Meaning) (modelled : IsTrue env.models_disk) where
   -- nothing was asked yet
-  no_requests : (from : E) (engine : Option (EngineOf E C FP F B)) (old : State) → Represents store (Recalls {C = C} {FP = FP} {B = B} env store) engine (env.observed from).disk old
-      → Runs store (Recalls env store) env.models_moments (scene env engine from) [] [] [] (scene env engine from) old
+  no_requests : (from : E) (engine : Option (EngineOf E C FP F B)) (old : State) → Represents store meaning (Recalls {C = C} {FP = FP} {B = B} env formats store) engine (env.observed from).disk old
+      → Runs store meaning (Recalls env formats store) env.models_moments (scene env engine from) [] [] [] (scene env engine from) old
   no_requests from engine old is = record {
     events = [];
     asked = record { requests_are = refl; answers_are = refl; moments_are = refl };
@@ -186,7 +192,7 @@ module _ {E F C FP : Type 0} {B : Boxed} (env : Ghosts E F) (only_now : OnlyNow 
     last = refl;
     ends = λ moment low. (λ all. low, λ most. All-nil (λ (event : Event). event.moment ≤ moment));
     stops = λ moment inside files left low crash between.
-        let c = crash_now env only_now store from old is.disk_is moment files left (omega (arith, low, crash.come)) crash in (
+        let c = crash_now env only_now store meaning from old is.disk_is moment files left (omega (arith, low, crash.come)) crash in (
           c.0,
           record {
             done = [];
@@ -205,8 +211,8 @@ module _ {E F C FP : Type 0} {B : Boxed} (env : Ghosts E F) (only_now : OnlyNow 
 
   -- one request more
   module _ (before : Option (EngineOf E C FP F B)) (from mid to : E) (requests : List Request) (answers : List Answer) (moments : List ℕ) (engine after : Option (EngineOf E C FP F B)) (request : Request) (answer : Answer) (old : State)
-      (led : Runs store (Recalls env store) env.models_moments (scene env before from) requests answers moments (scene env engine mid) old) (answers_so : AnswersAs env store engine mid request answer after to) where
-    goes : Goes store (Recalls env store) (scene env engine mid) request answer (scene env after to) led.new
+      (led : Runs store meaning (Recalls env formats store) env.models_moments (scene env before from) requests answers moments (scene env engine mid) old) (answers_so : AnswersAs env formats store meaning engine mid request answer after to) where
+    goes : Goes store meaning (Recalls env formats store) (scene env engine mid) request answer (scene env after to) led.new
     goes = answers_so modelled led.new led.represents
 
     abbrev now : Event
@@ -230,11 +236,11 @@ module _ {E F C FP : Type 0} {B : Boxed} (env : Ghosts E F) (only_now : OnlyNow 
     abbrev Stops : ℕ → Bool → Disk → Type 0
     Stops moment inside left = (then : State)
         × StopsAt (env.observed from).moment (env.failures from) old (led.events ++ now ∷ []) moment inside (env.failures to) goes.new then
-        × StandsFor store left then
+        × StandsFor store meaning left then
 
     -- in the last request
     stops_in : (moment : ℕ) (inside : Bool) (left : Disk) → (env.observed from).moment ≤ moment → (env.observed mid).moment ≤ moment → moment < (env.observed to).moment
-        → (then : State) × CrashesIn (last_moment (env.observed from).moment led.events) moment inside led.new request goes.new then × StandsFor store left then
+        → (then : State) × CrashesIn (last_moment (env.observed from).moment led.events) moment inside led.new request goes.new then × StandsFor store meaning left then
         → Stops moment inside left
     stops_in moment inside left low late early c = (
       c.0,
@@ -257,7 +263,7 @@ module _ {E F C FP : Type 0} {B : Boxed} (env : Ghosts E F) (only_now : OnlyNow 
         → IsHonestlyLeft store (env.observed to) moment files left
         → (last_moment (env.observed from).moment led.events < moment) ⊎ IsTrue inside → Stops moment inside left
     stops_inside moment inside files left low late early crash begun =
-        let c = crash_inside store led.new goes.new request files left led.represents.disk_is.is_state goes.represents.disk_is.is_state (goes.moments.time.meanwhile moment files late early crash.stood) crash.leaves crash.honest crash.free in
+        let c = crash_inside store meaning led.new goes.new request files left led.represents.disk_is.is_state goes.represents.disk_is.is_state (goes.moments.time.meanwhile moment files late early crash.stood) crash.leaves crash.honest crash.free in
         stops_in moment inside left low late early (c.0, inr (begun, c.1), c.2)
 
     -- before that
@@ -266,14 +272,14 @@ module _ {E F C FP : Type 0} {B : Boxed} (env : Ghosts E F) (only_now : OnlyNow 
     stops_before moment inside files left low at early crash out between =
         let here = goes.moments.time.kept (env.observed mid).moment (env.observed mid).disk.files (omega arith) (only_now.1 mid between.modelled) in
         let same = between.alone (env.observed mid).disk.files (subst (λ n. (env.observed to).at_moment n (env.observed mid).disk.files) (sym at) here) in
-        let c = crash_same env only_now store mid led.new led.represents.disk_is (env.observed to) moment files left (sym same) crash in
+        let c = crash_same env only_now store meaning mid led.new led.represents.disk_is (env.observed to) moment files left (sym same) crash in
         stops_in moment inside left low (omega (arith, at)) early (c.0, inl (at ∙ sym last_is, out, c.1), c.2)
 
     -- after it
     stops_after : (moment : ℕ) (inside : Bool) (files : Files) (left : Disk) → (env.observed from).moment ≤ moment → (env.observed to).moment ≤ moment
         → IsHonestlyLeft store (env.observed to) moment files left → Stops moment inside left
     stops_after moment inside files left low end crash =
-        let c = crash_now env only_now store to goes.new goes.represents.disk_is moment files left (omega (arith, end, crash.come)) crash in (
+        let c = crash_now env only_now store meaning to goes.new goes.represents.disk_is moment files left (omega (arith, end, crash.come)) crash in (
           c.0,
           record {
             done = led.events ++ now ∷ [];
@@ -319,7 +325,7 @@ module _ {E F C FP : Type 0} {B : Boxed} (env : Ghosts E F) (only_now : OnlyNow 
     from_first : (env.observed from).moment ≤ (env.observed to).moment
     from_first = let low = last_low (env.observed from).moment (env.observed from).moment led.events (omega arith) led.since in omega (arith, low, last_is, time)
 
-    pub next_one : Runs store (Recalls env store) env.models_moments (scene env before from) (requests ++ request ∷ []) (answers ++ answer ∷ []) (moments ++ (env.observed to).moment ∷ []) (scene env after to) old
+    pub next_one : Runs store meaning (Recalls env formats store) env.models_moments (scene env before from) (requests ++ request ∷ []) (answers ++ answer ∷ []) (moments ++ (env.observed to).moment ∷ []) (scene env after to) old
     next_one = record {
       events = led.events ++ now ∷ [];
       asked = conversation_more requests answers moments led.events request answer (env.failures to) (env.observed to).moment led.asked;
@@ -338,50 +344,50 @@ module _ {E F C FP : Type 0} {B : Boxed} (env : Ghosts E F) (only_now : OnlyNow 
     }
 
   pub one_more : (from mid to : E) (requests : List Request) (answers : List Answer) (engine after : Option (EngineOf E C FP F B)) (request : Request) (answer : Answer) (old : State)
-      → Leads C FP env store from requests answers engine mid old → Answers env engine mid request answer after to
-      → Leads C FP env store from (requests ++ request ∷ []) (answers ++ answer ∷ []) after to old
-  one_more from mid to requests answers engine after request answer old led answers_so = (led.0 ++ (env.observed to).moment ∷ [], next_one None from mid to requests answers led.0 engine after request answer old led.1 (answers_so store))
+      → Leads C FP env formats store meaning from requests answers engine mid old → Answers env formats engine mid request answer after to
+      → Leads C FP env formats store meaning from (requests ++ request ∷ []) (answers ++ answer ∷ []) after to old
+  one_more from mid to requests answers engine after request answer old led answers_so = (led.0 ++ (env.observed to).moment ∷ [], next_one None from mid to requests answers led.0 engine after request answer old led.1 (answers_so store meaning))
 
   pub first_at : (from to : E) (after : Option (EngineOf E C FP F B)) (request : Request) (answer : Answer) (old : State)
-      → Represents store (Recalls {C = C} {FP = FP} {B = B} env store) None (env.observed from).disk old → AnswersAs env store None from request answer after to
-      → LeadsAt C FP env store from (request ∷ []) (answer ∷ []) ((env.observed to).moment ∷ []) after to old
+      → Represents store meaning (Recalls {C = C} {FP = FP} {B = B} env formats store) None (env.observed from).disk old → AnswersAs env formats store meaning None from request answer after to
+      → LeadsAt C FP env formats store meaning from (request ∷ []) (answer ∷ []) ((env.observed to).moment ∷ []) after to old
   first_at from to after request answer old is answers_so = next_one None from from to [] [] [] None after request answer old (no_requests from None old is) answers_so
 
   pub first_one : (from to : E) (after : Option (EngineOf E C FP F B)) (request : Request) (answer : Answer) (old : State)
-      → Represents store (Recalls {C = C} {FP = FP} {B = B} env store) None (env.observed from).disk old → AnswersAs env store None from request answer after to
-      → Leads C FP env store from (request ∷ []) (answer ∷ []) after to old
+      → Represents store meaning (Recalls {C = C} {FP = FP} {B = B} env formats store) None (env.observed from).disk old → AnswersAs env formats store meaning None from request answer after to
+      → Leads C FP env formats store meaning from (request ∷ []) (answer ∷ []) after to old
   first_one from to after request answer old is answers_so = ((env.observed to).moment ∷ [], first_at from to after request answer old is answers_so)
 
 -- the same of a command and its reply
-pub answered : {E F C FP : Type 0} {B : Boxed} {env : Ghosts E F} {before after : Option (EngineOf E C FP F B)} {from to : E}
+pub answered : {E F C FP : Type 0} {B : Boxed} {env : Ghosts E F} {formats : OptionsOf C FP B → Format} {before after : Option (EngineOf E C FP F B)} {from to : E}
     (command : Command) (request : Request) (reply : Reply) (answer : Answer) → request_of command ≡ request → answer_of reply ≡ answer
-    → Answers env before from request answer after to → Answers env before from (request_of command) (answer_of reply) after to
-answered {env = env} {before = before} {after = after} {from = from} {to = to} command request reply answer asks gives so =
-    subst (λ r. Answers env before from r (answer_of reply) after to) (sym asks) (subst (λ a. Answers env before from request a after to) (sym gives) so)
+    → Answers env formats before from request answer after to → Answers env formats before from (request_of command) (answer_of reply) after to
+answered {env = env} {formats = formats} {before = before} {after = after} {from = from} {to = to} command request reply answer asks gives so =
+    subst (λ r. Answers env formats before from r (answer_of reply) after to) (sym asks) (subst (λ a. Answers env formats before from request a after to) (sym gives) so)
 
 -- ---- commands
 
 -- where no engine stands, none of another kind does
-pub no_other : {M N : Type 0} {store : List ℕ} {this : M → Disk → State → Type 0} {that : N → Disk → State → Type 0} (disk : Disk) (state : State)
-    → Represents store this None disk state → Represents store that None disk state
+pub no_other : {M N : Type 0} {store : List ℕ} {meaning : Meaning} {this : M → Disk → State → Type 0} {that : N → Disk → State → Type 0} (disk : Disk) (state : State)
+    → Represents store meaning this None disk state → Represents store meaning that None disk state
 no_other disk state represents = record { disk_is = represents.disk_is; memory_is = represents.memory_is }
 
-module _ {E F : Type 0} {B : Boxed} (C FP : Type 0) (env : Ghosts E F) (store : List ℕ) where
+module _ {E F : Type 0} {B : Boxed} (C FP : Type 0) (env : Ghosts E F) (formats : OptionsOf C FP B → Format) (store : List ℕ) where
   -- so far the store was opened and these commands were given these replies, from every state that the disk stood for
   abbrev pub PlaysSoFar : E → Opening → List Command → List Reply → EngineOf E C FP F B → E → Type 0
   PlaysSoFar from wanted commands given engine to = IsTrue env.models_disk → (opening : Opening) → IsOpening store wanted opening
-      → (old : State) → Represents store (Recalls {C = C} {FP = FP} {B = B} env store) None (env.observed from).disk old
-      → Leads C FP env store from (open_store opening ∷ map request_of commands) (done ∷ map answer_of given) (Some engine) to old
+      → (meaning : Meaning) → Agrees opening.format meaning → (old : State) → Represents store meaning (Recalls {C = C} {FP = FP} {B = B} env formats store) None (env.observed from).disk old
+      → Leads C FP env formats store meaning from (open_store opening ∷ map request_of commands) (done ∷ map answer_of given) (Some engine) to old
 
   -- what an opening of the store answers
   abbrev pub OpensAs : E → Opening → Answer → Option (EngineOf E C FP F B) → E → Type 0
-  OpensAs from wanted answer engine to = (opening : Opening) → IsOpening store wanted opening → AnswersAs env store None from (open_store opening) answer engine to
+  OpensAs from wanted answer engine to = (opening : Opening) → IsOpening store wanted opening → (meaning : Meaning) → Agrees opening.format meaning → AnswersAs env formats store meaning None from (open_store opening) answer engine to
 
-module _ {E F : Type 0} {B : Boxed} (C FP : Type 0) (env : Ghosts E F) (only_now : OnlyNow env) (store : List ℕ) where
+module _ {E F : Type 0} {B : Boxed} (C FP : Type 0) (env : Ghosts E F) (formats : OptionsOf C FP B → Format) (only_now : OnlyNow env) (store : List ℕ) where
   -- the same of a run at whose end no engine stands
-  pub at_none : (from : E) (requests : List Request) (answers : List Answer) (moments : List ℕ) (to : E) (old : State)
-      → LeadsAt C FP {B = B} env store from requests answers moments None to old → LeadsAt C FP {B = nothing_boxed} env store from requests answers moments None to old
-  at_none from requests answers moments to old led = record {
+  pub at_none : (meaning : Meaning) (from : E) (requests : List Request) (answers : List Answer) (moments : List ℕ) (to : E) (old : State)
+      → LeadsAt C FP {B = B} env formats store meaning from requests answers moments None to old → LeadsToNone env store meaning from requests answers moments to old
+  at_none meaning from requests answers moments to old led = record {
     events = led.events;
     asked = led.asked;
     new = led.new;
@@ -394,44 +400,44 @@ module _ {E F : Type 0} {B : Boxed} (C FP : Type 0) (env : Ghosts E F) (only_now
     stops = led.stops;
   }
 
-  leads_to_none : (from : E) (requests : List Request) (answers : List Answer) (to : E) (old : State)
-      → Leads C FP {B = B} env store from requests answers None to old → Leads C FP {B = nothing_boxed} env store from requests answers None to old
-  leads_to_none from requests answers to old led = (led.0, at_none from requests answers led.0 to old led.1)
+  leads_to_none : (meaning : Meaning) (from : E) (requests : List Request) (answers : List Answer) (to : E) (old : State)
+      → Leads C FP {B = B} env formats store meaning from requests answers None to old → (moments : List ℕ) × LeadsToNone env store meaning from requests answers moments to old
+  leads_to_none meaning from requests answers to old led = (led.0, at_none meaning from requests answers led.0 to old led.1)
 
-  pub play_first : (from to : E) (wanted : Opening) (engine : EngineOf E C FP F B) → OpensAs C FP env store from wanted done (Some engine) to → PlaysSoFar C FP env store from wanted [] [] engine to
-  play_first from to wanted engine opens modelled opening is old represents = first_one env only_now store modelled from to (Some engine) (open_store opening) done old represents (opens opening is)
+  pub play_first : (from to : E) (wanted : Opening) (engine : EngineOf E C FP F B) → OpensAs C FP env formats store from wanted done (Some engine) to → PlaysSoFar C FP env formats store from wanted [] [] engine to
+  play_first from to wanted engine opens modelled opening is meaning agrees old represents = first_one env formats only_now store meaning modelled from to (Some engine) (open_store opening) done old represents (opens opening is meaning agrees)
 
   pub play_more : (from mid to : E) (wanted : Opening) (commands : List Command) (given : List Reply) (engine after : EngineOf E C FP F B) (command : Command) (reply : Reply)
-      → PlaysSoFar C FP env store from wanted commands given engine mid → Answers env (Some engine) mid (request_of command) (answer_of reply) (Some after) to
-      → PlaysSoFar C FP env store from wanted (commands ++ command ∷ []) (given ++ reply ∷ []) after to
-  play_more from mid to wanted commands given engine after command reply plays answers_so modelled opening is old represents =
-      let led = one_more env only_now store modelled from mid to (open_store opening ∷ map request_of commands) (done ∷ map answer_of given) (Some engine) (Some after) (request_of command) (answer_of reply) old
-      (plays modelled opening is old represents) answers_so in
-      subst (λ as'. Leads C FP env store from (open_store opening ∷ map request_of (commands ++ command ∷ [])) (done ∷ as') (Some after) to old) (sym (map-append answer_of given (reply ∷ [])))
-      (subst (λ rs. Leads C FP env store from (open_store opening ∷ rs) (done ∷ (map answer_of given ++ answer_of reply ∷ [])) (Some after) to old) (sym (map-append request_of commands (command ∷ []))) led)
+      → PlaysSoFar C FP env formats store from wanted commands given engine mid → Answers env formats (Some engine) mid (request_of command) (answer_of reply) (Some after) to
+      → PlaysSoFar C FP env formats store from wanted (commands ++ command ∷ []) (given ++ reply ∷ []) after to
+  play_more from mid to wanted commands given engine after command reply plays answers_so modelled opening is meaning agrees old represents =
+      let led = one_more env formats only_now store meaning modelled from mid to (open_store opening ∷ map request_of commands) (done ∷ map answer_of given) (Some engine) (Some after) (request_of command) (answer_of reply) old
+      (plays modelled opening is meaning agrees old represents) answers_so in
+      subst (λ as'. Leads C FP env formats store meaning from (open_store opening ∷ map request_of (commands ++ command ∷ [])) (done ∷ as') (Some after) to old) (sym (map-append answer_of given (reply ∷ [])))
+      (subst (λ rs. Leads C FP env formats store meaning from (open_store opening ∷ rs) (done ∷ (map answer_of given ++ answer_of reply ∷ [])) (Some after) to old) (sym (map-append request_of commands (command ∷ []))) led)
 
   pub play_end : (from mid to : E) (wanted : Opening) (commands : List Command) (given : List Reply) (engine : EngineOf E C FP F B) (result : Result (Unit {0}) Status)
-      → PlaysSoFar C FP env store from wanted commands given engine mid → Answers env (Some engine) mid abandon (done_or result) None to
-      → PlaysAlways C FP env store from wanted commands given result to
-  play_end from mid to wanted commands given engine result plays answers_so modelled opening is old represents = inl
-      (leads_to_none from (open_store opening ∷ (map request_of commands ++ abandon ∷ [])) (done ∷ (map answer_of given ++ done_or result ∷ [])) to old
-      (one_more env only_now store modelled from mid to (open_store opening ∷ map request_of commands) (done ∷ map answer_of given) (Some engine) None abandon (done_or result) old
-      (plays modelled opening is old (no_other (env.observed from).disk old represents)) answers_so))
+      → PlaysSoFar C FP env formats store from wanted commands given engine mid → Answers env formats (Some engine) mid abandon (done_or result) None to
+      → PlaysAlways env store from wanted commands given result to
+  play_end from mid to wanted commands given engine result plays answers_so modelled opening is meaning agrees old represents = inl
+      (leads_to_none meaning from (open_store opening ∷ (map request_of commands ++ abandon ∷ [])) (done ∷ (map answer_of given ++ done_or result ∷ [])) to old
+      (one_more env formats only_now store meaning modelled from mid to (open_store opening ∷ map request_of commands) (done ∷ map answer_of given) (Some engine) None abandon (done_or result) old
+      (plays modelled opening is meaning agrees old (no_other (env.observed from).disk old represents)) answers_so))
 
   pub not_opened : (options : OptionsOf C FP B) (from to : E) (wanted : Opening) (commands : List Command) (given : List Reply) (status : Status) → given ≡ []
-      → OpensAs C FP env store from wanted (refused (refusal_of status)) (no_engine options) to → PlaysAlways C FP env store from wanted commands given (Err status) to
-  not_opened options from to wanted commands given status none opens modelled opening is old represents =
+      → OpensAs C FP env formats store from wanted (refused (refusal_of status)) (no_engine options) to → PlaysAlways env store from wanted commands given (Err status) to
+  not_opened options from to wanted commands given status none opens modelled opening is meaning agrees old represents =
       inr (
         none,
-        inl (leads_to_none from (open_store opening ∷ []) (refused (refusal_of status) ∷ []) to old
-            (first_one env only_now store modelled from to (no_engine options) (open_store opening) (refused (refusal_of status)) old (no_other (env.observed from).disk old represents) (opens opening is))),
+        inl (leads_to_none meaning from (open_store opening ∷ []) (refused (refusal_of status) ∷ []) to old
+            (first_one env formats only_now store meaning modelled from to (no_engine options) (open_store opening) (refused (refusal_of status)) old (no_other (env.observed from).disk old represents) (opens opening is meaning agrees))),
       )
 
 -- a run that had no memory to begin
-pub not_begun : {E F : Type 0} {C FP : Type 0} (env : Ghosts E F) (store : List ℕ) (asked : Opening) (commands : List Command) (from : E) (given : List Reply) (status : Status) → given ≡ [] → IsOutOfMemory status
-    → HasRun C FP env store asked commands from given (Err status) from
+pub not_begun : {E F : Type 0} (env : Ghosts E F) (store : List ℕ) (asked : Opening) (commands : List Command) (from : E) (given : List Reply) (status : Status) → given ≡ [] → IsOutOfMemory status
+    → HasRun env store asked commands from given (Err status) from
 not_begun env store asked commands from given status none memory = record {
-  plays = λ modelled opening is old represents. inr (none, inr (memory, refl));
+  plays = λ modelled opening is meaning agrees old represents. inr (none, inr (memory, refl));
   unopened = λ modelled never. (
     none,
     record { untouched = λ barred. inl refl; lock = inl refl; others = spares_still store (IsOwn store) (env.observed from).disk },

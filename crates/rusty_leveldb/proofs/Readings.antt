@@ -59,4 +59,4 @@ one_read (Some file) these those a b = a.2 ∙ ap contents_of (one_log (bytes_of
 
 -- and so are two of one disk
 pub one_reading : OneReading
-one_reading store format files these those a b = one_read _ these those a b
+one_reading store meaning files these those a b = one_read _ these those a b

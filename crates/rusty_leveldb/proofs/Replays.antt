@@ -69,7 +69,7 @@ each_is_batch : (front : List (List ℕ)) (text : List ℕ) (rest : List (List �
 each_is_batch front text rest are = let s = each_splits IsRecordOf front text rest are.batches are.each in (s.here, s.is)
 
 -- among records that are batches in order each follows those before it
-each_follows : (front : List (List ℕ)) (text : List ℕ) (rest : List (List ℕ)) (recent : Numbered) (batch : Batch) → IsReplayed front recent → IsRecordOf text batch → AreBatches (front ++ text ∷ rest) → Follows recent.last batch
+each_follows : {C : Type 0} (front : List (List ℕ)) (text : List ℕ) (rest : List (List ℕ)) (recent : Numbered C) (batch : Batch) → IsReplayed front recent → IsRecordOf text batch → AreBatches (front ++ text ∷ rest) → Follows recent.last batch
 each_follows front text rest recent batch was is are =
     let s = each_splits IsRecordOf front text rest are.batches are.each in
     let order : AreInOrder 0 (s.front ++ s.here ∷ s.rest) = subst (AreInOrder 0) s.whole are.order in
@@ -97,7 +97,7 @@ just_more kept all more new just gains entry = (
 )
 
 -- a record more, whose batch follows and is inserted
-pub replayed_more : (records : List (List ℕ)) (text : List ℕ) (batch : Batch) (old mid new : Numbered) → IsReplayed records old → IsRecordOf text batch → Follows old.last batch
+pub replayed_more : {C : Type 0} (records : List (List ℕ)) (text : List ℕ) (batch : Batch) (old mid new : Numbered C) → IsReplayed records old → IsRecordOf text batch → Follows old.last batch
     → mid.kept.entries ≡ old.kept.entries → mid.last ≡ old.last → Inserts mid batch new → IsReplayed (records ++ text ∷ []) new
 replayed_more records text batch old mid new was is follows entries last inserts = record {
   read = record {
@@ -115,7 +115,7 @@ replayed_more records text batch old mid new was is follows entries last inserts
     more = all_more was.read.batches batch
 
 -- no record is read
-pub replayed_none : (recent : Numbered) → recent.kept.entries ≡ [] → recent.last ≡ 0 → IsReplayed [] recent
+pub replayed_none : {C : Type 0} (recent : Numbered C) → recent.kept.entries ≡ [] → recent.last ≡ 0 → IsReplayed [] recent
 replayed_none recent entries last = record {
   read = record { batches = []; each = tt; order = tt };
   just = λ entry. subst (λ es. Contains es entry ↔ Contains [] entry) (sym entries) (λ c. c, λ c. c);
@@ -129,12 +129,12 @@ memory_append : (xs ys : List Entry) → memory_of_entries (xs ++ ys) ≡ memory
 memory_append xs ys = omega (arith, length-append xs ys, sum_by-append (λ entry. length (entry_key entry)) xs ys)
 
 -- the records are replayed, and memory has each entry once and no room for others
-pub record Replaying (records : List (List ℕ)) (recent : Numbered) : Type 0 where
+pub record Replaying {C : Type 0} (records : List (List ℕ)) (recent : Numbered C) : Type 0 where
   pub is : IsReplayed records recent
   pub places : recent.kept.places ≡ 0
   pub memory : memory_of_entries recent.kept.entries ≡ memory_of_entries (all_entries is.read.batches)
 
-pub replaying_none : (recent : Numbered) → recent.kept.entries ≡ [] → recent.last ≡ 0 → recent.kept.places ≡ 0 → Replaying [] recent
+pub replaying_none : {C : Type 0} (recent : Numbered C) → recent.kept.entries ≡ [] → recent.last ≡ 0 → recent.kept.places ≡ 0 → Replaying [] recent
 unfolding replayed_none
 replaying_none recent entries last places = record {
   is = replayed_none recent entries last;
@@ -146,7 +146,7 @@ length-placed : (first : ℕ) (items : List Item) → length (placed first items
 length-placed first [] = refl
 length-placed first (item ∷ items) = ap (λ n. suc n) (length-placed (first + 1) items)
 
-pub replaying_more : (records : List (List ℕ)) (text : List ℕ) (batch : Batch) (old mid new : Numbered) → Replaying records old → IsRecordOf text batch → Follows old.last batch
+pub replaying_more : {C : Type 0} (records : List (List ℕ)) (text : List ℕ) (batch : Batch) (old mid new : Numbered C) → Replaying records old → IsRecordOf text batch → Follows old.last batch
     → mid.kept.entries ≡ old.kept.entries → mid.last ≡ old.last → mid.kept.places ≡ max old.kept.places (length batch.items) → Inserts mid batch new
     → AddsAll mid.kept (placed batch.first batch.items) new.kept → Replaying (records ++ text ∷ []) new
 unfolding replayed_more
@@ -187,7 +187,7 @@ unread_batch all front text rest status split why =
     ⊎_elim (λ memory. inl memory) (λ is. inr (inl is)) (not_batches all front text rest status split why)
 
 -- a batch that is too much for a memtable
-pub too_many : (all front : List (List ℕ)) (text : List ℕ) (rest : List (List ℕ)) (status : Status) (recent : Numbered) (batch : Batch) → all ≡ front ++ text ∷ rest
+pub too_many : {C : Type 0} (all front : List (List ℕ)) (text : List ℕ) (rest : List (List ℕ)) (status : Status) (recent : Numbered C) (batch : Batch) → all ≡ front ++ text ∷ rest
     → Replaying front recent → IsRecordOf text batch → FailsToPrepare recent.kept (length batch.items) (bytes_in batch.items) status
     → IsOutOfMemory status ⊎ IsDamaged all status ⊎ ((status.code ≡ NotSupported) × AreTooMany all)
 too_many all front text rest status recent batch split was is (inl full) = inr (inr (
@@ -206,7 +206,7 @@ too_many all front text rest status recent batch split was is (inl full) = inr (
 too_many all front text rest status recent batch split was is (inr memory) = inl memory
 
 -- a batch that doesn't follow those before it
-pub not_in_order : (all front : List (List ℕ)) (text : List ℕ) (rest : List (List ℕ)) (status : Status) (recent : Numbered) (last : ℕ) (batch : Batch) → all ≡ front ++ text ∷ rest
+pub not_in_order : {C : Type 0} (all front : List (List ℕ)) (text : List ℕ) (rest : List (List ℕ)) (status : Status) (recent : Numbered C) (last : ℕ) (batch : Batch) → all ≡ front ++ text ∷ rest
     → IsReplayed front recent → last ≡ recent.last → IsRecordOf text batch → (status.code ≡ Corruption) × (Follows last batch → ⊥) → IsDamaged all status
 not_in_order all front text rest status recent last batch split was same is bad =
     record { code = bad.0; none = λ are. bad.1 (subst (λ n. Follows n batch) (sym same) (each_follows front text rest recent batch was is (subst AreBatches split are))) }

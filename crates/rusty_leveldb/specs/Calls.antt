@@ -6,7 +6,8 @@ use Rattle.leveldb_env.specs.declared.env.Env.{Ghosts}
 use Rattle.leveldb_env.specs.Env.{HasCause}
 use Rattle.leveldb_env.specs.Options.{Boxed, OptionsOf}
 use Rattle.rusty_leveldb.specs.declared.db_impl.engine.Mode.TheVariants.{Open}
-use Rattle.rusty_leveldb.specs.State.{Opening, Request, Answer, open_store, write, get, flush, close, abandon}
+use Rattle.leveldb_store.specs.Format.{Format, Meaning, Agrees}
+use Rattle.rusty_leveldb.specs.State.{Opening, Request, Answer, open_store, write, get, walk, get_snapshot, release_snapshot, flush, close, abandon}
 use Rattle.rusty_leveldb.specs.Causes.{HasFailed}
 use Rattle.rusty_leveldb.specs.Serves.{done_or, given_engine}
 use Rattle.rusty_leveldb.specs.Engine.{IsClosed, HasBroken, IsClosedOrBroken, RefusedByMode, TimeGoesOn, AnswersAs, Answers, WriteExcused, SyncExcused, CloseExcused, GetExcused, OpenExcused, IsStoreName, IsOpening}
@@ -45,14 +46,23 @@ module _ {E C FP F : Type 0} {B : Boxed} where
   -- the mode refuses the request: of a closed store any, of a broken one those that write
   abbrev pub IsHalted : EngineOf E C FP F B → Request → Type 0
   IsHalted engine (get at key) = IsClosed engine.mode
+  IsHalted engine (walk at moves) = IsClosed engine.mode
+  IsHalted engine get_snapshot = IsClosed engine.mode
+  IsHalted engine (release_snapshot one) = IsClosed engine.mode
   IsHalted engine request = IsClosedOrBroken engine.mode engine.writer
 
-  -- What becomes of an engine. A look-up leaves its mode and its entries; a write may break it, and
+  -- what a read leaves of an engine: its mode and its entries
+  abbrev pub IsReadOnly : EngineOf E C FP F B → EngineOf E C FP F B → Type 0
+  IsReadOnly before after = (after.mode ≡ before.mode) × (after.recent ≡ before.recent)
+
+  -- What becomes of an engine. A read leaves its mode and its entries; a write may break it, and
   -- a flush that fails does; `close` closes it, or leaves it closed or broken.
   abbrev pub BecomesOf : {T : Type 0} → EngineOf E C FP F B → Request → Result T Status
       → EngineOf E C FP F B → Type 0
-  BecomesOf before (get at key) result after =
-      (after.mode ≡ before.mode) × (after.recent ≡ before.recent)
+  BecomesOf before (get at key) result after = IsReadOnly before after
+  BecomesOf before (walk at moves) result after = IsReadOnly before after
+  BecomesOf before get_snapshot result after = IsReadOnly before after
+  BecomesOf before (release_snapshot one) result after = IsReadOnly before after
   BecomesOf before close result after = OnOk result (IsClosed after.mode)
       × OnErr result (IsClosedOrBroken after.mode after.writer)
   BecomesOf before flush result after =
@@ -61,7 +71,9 @@ module _ {E C FP F : Type 0} {B : Boxed} where
   BecomesOf before request result after =
       HasBroken after.mode after.writer ⊎ (after.mode ≡ before.mode)
 
-module _ {E C FP F : Type 0} {B : Boxed} (env : Ghosts E F) where
+-- `formats` says of options which format they have
+module _ {E C FP F : Type 0} {B : Boxed} (env : Ghosts E F)
+    (formats : OptionsOf C FP B → Format) where
   -- a call on an engine, with its answer
   pub record EngineServes {T : Type 0} (answer_of : Result T Status → Answer)
       (before : EngineOf E C FP F B) (from : E) (request : Request) (result : Result T Status)
@@ -74,7 +86,7 @@ module _ {E C FP F : Type 0} {B : Boxed} (env : Ghosts E F) where
     -- what becomes of the engine, over any environment
     pub becomes : BecomesOf before request result after
     -- where the disk is observed, the call is a step of the machine
-    pub step : Answers env (Some before) from request (answer_of result) (Some after) to
+    pub step : Answers env formats (Some before) from request (answer_of result) (Some after) to
     -- no moment of the disk is taken back
     pub time : TimeGoesOn env from to
     -- why it fails
@@ -87,7 +99,7 @@ module _ {E C FP F : Type 0} {B : Boxed} (env : Ghosts E F) where
     -- one that is closed has given back its lock
     pub halted : IsClosed engine.mode → (to ≡ from) × OnErr result ⊥
     -- where the disk is observed, the call is a step of the machine
-    pub step : Answers env (Some engine) from abandon (done_or result) None to
+    pub step : Answers env formats (Some engine) from abandon (done_or result) None to
     -- no moment of the disk is taken back
     pub time : TimeGoesOn env from to
     -- it fails only where the device did
@@ -100,24 +112,29 @@ module _ {E C FP F : Type 0} {B : Boxed} (env : Ghosts E F) where
     pub opened : IfOk result
         (λ engine. (engine.options ≡ options) × (engine.mode ≡ Open)
         × (engine.writer.broken ≡ false))
-    -- where the disk is observed, the call is a step of the machine
+    -- where the disk is observed, the call is a step of the machine, if the options say of names
+    -- and ids what they mean
     pub step : (opening : Opening) → IsOpening name asked opening
-        → AnswersAs env name None from (open_store opening) (done_or result) (given_engine result)
-        to
+        → (meaning : Meaning) → Agrees opening.format meaning
+        → AnswersAs env formats name meaning None from (open_store opening) (done_or result)
+        (given_engine result) to
     -- no moment of the disk is taken back
     pub time : TimeGoesOn env from to
-    -- under a name that is no store's nothing is opened, and no call is made
-    pub misnamed : (IsStoreName name → ⊥) → (to ≡ from) × OnOk result ⊥
-    -- a store that is locked or damaged isn't opened, nor is a missing one that isn't to be made
+    -- under a name that is no store's nothing is opened, and no call is made; nor with a size or a
+    -- count past its limits, or without the compressor of new blocks
+    pub misnamed : (IsStoreName name × IsTrue asked.fits × IsTrue asked.compresses → ⊥)
+        → (to ≡ from) × OnOk result ⊥
+    -- a store that is locked or damaged isn't opened, nor is a missing one that isn't to be made,
+    -- or one that is there and must not be
     pub never_opens : IsTrue env.models_disk
-        → NeverOpens name asked.create_if_missing (env.observed from).disk → OnOk result ⊥
+        → NeverOpens name asked (env.observed from).disk → OnOk result ⊥
     -- what an opening leaves that fails
     pub unopened : IfErr result (λ status. IsTrue env.models_disk
-        → StaysUnopened name asked.create_if_missing (env.observed from) (env.observed to)
+        → StaysUnopened name asked (env.observed from) (env.observed to)
         (env.failures from) (env.failures to) status)
     -- why it fails
     pub cause : FailsFor
-        (OpenExcused env.models_disk name asked.create_if_missing (env.observed from))
+        (OpenExcused env.models_disk name asked (env.observed from))
         (env.failures from) (env.failures to) result
 
 -- the same result, with what this makes of its value

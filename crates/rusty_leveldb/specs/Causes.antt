@@ -5,7 +5,7 @@ use Rattle.leveldb_base.specs.declared.error.StatusCode.TheVariants.{OutOfMemory
 use Rattle.leveldb_base.specs.History.{Item}
 use Rattle.leveldb_mem.specs.WriteBatch.{batch_bytes, max_length}
 use Rattle.leveldb_version.specs.Contents.{Store, missing, made}
-use Rattle.rusty_leveldb.specs.Format.{Format, HasCompressorError}
+use Rattle.leveldb_store.specs.Format.{Format, HasCompressorError}
 use Rattle.rusty_leveldb.specs.OneLog.{max_sequence}
 use Rattle.rusty_leveldb.specs.State.{State, Opening, Snapshot, Refusal, Request, open_store, write, get, walk, get_snapshot, release_snapshot, compact_range, abandon, Move, seek, reset}
 
@@ -111,16 +111,15 @@ ReachesDevice get_snapshot = ⊥
 ReachesDevice (release_snapshot one) = ⊥
 ReachesDevice _ = Unit {0}
 
--- the format in which a request reads or writes blocks of tables, if it does
+-- The format in which a request writes blocks of tables, if it does. What a request reads of a disk
+-- that represents a state its compressors decode.
 abbrev pub block_format : State → Request → Option Format
 block_format old (open_store opening) = Some opening.format
 block_format old (write items sync) = Some old.format
-block_format old (get at key) = Some old.format
-block_format old (walk at moves) = Some old.format
 block_format old (compact_range from to) = Some old.format
 block_format old _ = None
 
--- a compressor of the format fails with the code
+-- a compressor of the format fails with the code as it encodes
 abbrev pub CompressorFails : Option Format → StatusCode → Type 0
 CompressorFails None code = ⊥
 CompressorFails (Some format) code = HasCompressorError format code

@@ -1,9 +1,9 @@
 -- What the engine of a store that is one log has in memory, what that has to do with the disk, and
 -- what its calls answer.
-use Rattle.std.specs.Prelude.{◌≡◌, ◌≢◌, ◌≤◌, ◌%◌, ◌⊎◌, ◌↔◌, ℕ, Bool, true, false, List, [], ◌∷◌, ◌++◌, length, Option, Some, None, IsTrue, string_bytes, Contains}
+use Rattle.std.specs.Prelude.{◌≡◌, ◌≢◌, ◌≤◌, ◌%◌, ◌⊎◌, ◌↔◌, ℕ, Bool, true, false, List, [], ◌∷◌, ◌++◌, length, Option, Some, None, IsTrue, string_bytes, Contains, ◌&&◌, nat_le, ◌^◌, is_some}
 use Rattle.leveldb_base.specs.declared.cmp.Cmp.{Ghosts as CmpGhosts}
 use Rattle.leveldb_base.specs.declared.error.Status.{Status}
-use Rattle.leveldb_base.specs.declared.error.StatusCode.TheVariants.{InvalidArgument, NotSupported, Corruption, IOError, LockError}
+use Rattle.leveldb_base.specs.declared.error.StatusCode.TheVariants.{InvalidArgument, AlreadyExists, NotSupported, Corruption, IOError, LockError}
 use Rattle.leveldb_base.specs.History.{Item, Entry, entries_of, greatest, SameView}
 use Rattle.leveldb_env.specs.declared.env.Env.{Ghosts}
 use Rattle.leveldb_env.specs.declared.filter.FilterPolicy.{Ghosts as FilterGhosts}
@@ -19,7 +19,7 @@ use Rattle.leveldb_version.specs.Paths.{lock_path}
 use Rattle.rusty_leveldb.specs.OneLog.{log_path, IsOneLog}
 use Rattle.rusty_leveldb.specs.Recent.{IsFull}
 use Rattle.rusty_leveldb.specs.Replay.{IsLargeLog}
-use Rattle.rusty_leveldb.specs.Format.{Format}
+use Rattle.leveldb_store.specs.Format.{Format, Meaning, format_of}
 use Rattle.rusty_leveldb.specs.State as machine
 use Rattle.rusty_leveldb.specs.State.{State, Opening, Request, Answer, open_mode, closed}
 use Rattle.rusty_leveldb.specs.Causes.{AreUsedUp, IsLongKey, IsLongBatch}
@@ -68,12 +68,17 @@ module _ {E C FP F : Type 0} {B : Boxed} (env : Ghosts E F) (store : List ℕ) w
     pub up_to : (entry : Entry) → Contains engine.recent.kept.entries entry
         → entry.sequence ≤ greatest (entries_of state.history)
 
-  -- what the engine's memory has to do with the disk and the state
+module _ {E C FP F : Type 0} {B : Boxed} (env : Ghosts E F) (formats : OptionsOf C FP B → Format)
+    (store : List ℕ) where
+  -- What the engine's memory has to do with the disk and the state. Where it isn't closed, its
+  -- options are those of the last opening, and its memtable has their comparator.
   pub record Recalls (engine : EngineOf E C FP F B) (disk : Disk) (state : State) : Type 0 where
     pub mode : mode_of engine.mode ≡ state.mode
     pub lock : string_bytes engine.lock ≡ lock_path store
-    pub shows : (state.mode ≡ closed → ⊥) → Remembers engine state
-    pub writes : state.mode ≡ open_mode → WritesOn engine disk
+    pub format : (state.mode ≡ closed → ⊥) → formats engine.options ≡ state.format
+    pub cmp : engine.recent.cmp ≡ engine.options.cmp
+    pub shows : (state.mode ≡ closed → ⊥) → Remembers env store engine state
+    pub writes : state.mode ≡ open_mode → WritesOn env store engine disk
 
 -- ---- what the calls answer
 
@@ -87,26 +92,30 @@ abbrev pub no_engine : {E C FP F : Type 0} {B : Boxed} → OptionsOf C FP B
     → Option (EngineOf E C FP F B)
 no_engine options = None
 
-module _ {E C FP F : Type 0} {B : Boxed} (env : Ghosts E F) where
-  -- before or after a call
-  abbrev pub scene : Option (EngineOf E C FP F B) → E → Scene (EngineOf E C FP F B)
-  scene engine at = record {
-    memory = engine;
-    observed = env.observed at;
-    failures = env.failures at;
-  }
+-- before or after a call
+abbrev pub scene : {E F M : Type 0} → Ghosts E F → Option M → E → Scene M
+scene env memory at = record {
+  memory = memory;
+  observed = env.observed at;
+  failures = env.failures at;
+}
 
+-- `formats` says of options which format they have
+module _ {E C FP F : Type 0} {B : Boxed} (env : Ghosts E F)
+    (formats : OptionsOf C FP B → Format) where
   -- where the disk is observed, the call is a step of the machine, for the store under this name
-  abbrev pub AnswersAs : List ℕ → Option (EngineOf E C FP F B) → E → Request → Answer
+  -- with names and ids of this meaning
+  abbrev pub AnswersAs : List ℕ → Meaning → Option (EngineOf E C FP F B) → E → Request → Answer
       → Option (EngineOf E C FP F B) → E → Type 0
-  AnswersAs store before from request answer after to = IsTrue env.models_disk
-      → Serves store (Recalls env store) (scene before from) request answer (scene after to)
+  AnswersAs store meaning before from request answer after to = IsTrue env.models_disk
+      → Serves store meaning (Recalls env formats store) (scene env before from) request answer
+      (scene env after to)
 
   -- the same, whatever store engine and disk represent
   abbrev pub Answers : Option (EngineOf E C FP F B) → E → Request → Answer
       → Option (EngineOf E C FP F B) → E → Type 0
-  Answers before from request answer after to =
-      (store : List ℕ) → AnswersAs store before from request answer after to
+  Answers before from request answer after to = (store : List ℕ) (meaning : Meaning)
+      → AnswersAs store meaning before from request answer after to
 
   -- the same of a call that leaves engine and environment as they are
   abbrev pub AnswersStill : EngineOf E C FP F B → Request → Answer → Type 0
@@ -175,43 +184,47 @@ GetExcused mode key e = RefusedAsClosed mode e ⊎ ((e.code ≡ InvalidArgument)
 abbrev pub IsStoreName : List ℕ → Type 0
 IsStoreName name = (name ≢ []) × ((front : List ℕ) → name ≡ front ++ 47 ∷ [] → ⊥)
 
--- the format of a store with these options, where the ghosts say what comparators and filter
--- policies mean, and `codings` which compressors a list has
-abbrev pub format_of : {C FP : Type 0} {B : Boxed} → CmpGhosts C → FilterGhosts FP
-    → (CompressorList B.compressors B.compressor → Codings) → OptionsOf C FP B → Format
-format_of cmp filters codings options = record {
-  order = cmp.cmp options.cmp;
-  order_name = cmp.name options.cmp;
-  codings = codings options.compressor_list;
-  policy_name = filters.name options.filter_policy;
-  matches = filters.matches options.filter_policy;
-}
+-- from the least to 2^30
+abbrev pub is_size_within : ℕ → ℕ → Bool
+is_size_within least n = nat_le least n && nat_le n (2 ^ 30)
 
--- The opening that the options ask for. A store that is there may be there, whatever they say, and
--- since a store that is one log has no blocks, no compressor is asked for.
+-- each size and count of the options is within its limits (`AreWithinLimits`)
+abbrev pub are_within_limits : {C FP : Type 0} {B : Boxed} → OptionsOf C FP B → Bool
+are_within_limits options =
+    is_size_within 1 options.write_buffer_size
+    && is_size_within 11 options.max_open_files
+    && is_size_within 1 options.max_file_size
+    && is_size_within 1 options.block_size
+    && is_size_within 1 options.block_restart_interval
+    && is_size_within options.block_size options.block_cache_capacity_bytes
+
+-- the opening that the options ask for, under a name that is a store's
 abbrev pub opening_of : {C FP : Type 0} {B : Boxed} → CmpGhosts C → FilterGhosts FP
     → (CompressorList B.compressors B.compressor → Codings) → OptionsOf C FP B → Opening
 opening_of cmp filters codings options = record {
   format = format_of cmp filters codings options;
   create_if_missing = options.create_if_missing;
-  error_if_exists = false;
-  fits = true;
-  compresses = true;
+  error_if_exists = options.error_if_exists;
+  fits = are_within_limits options;
+  compresses = is_some (codings options.compressor_list options.compressor);
 }
 
--- the opening that is asked for, under a name that is a store's exactly if it fits
+-- the opening that is asked for, under this name: it fits if the name is a store's, too
 pub record IsOpening (name : List ℕ) (asked opening : Opening) : Type 0 where
   pub same : opening ≡ record asked { fits = opening.fits }
-  pub fits : IsTrue opening.fits ↔ IsStoreName name
+  pub fits : IsTrue opening.fits ↔ (IsStoreName name × IsTrue asked.fits)
 
--- why an opening may be refused with no failure of the device: damage, where nothing can be read of
--- the files
-abbrev pub OpenExcused : Bool → List ℕ → Bool → Observed → Status → Type 0
-OpenExcused models_disk name create_if_missing told e = IsOutOfMemory e
-    ⊎ ((e.code ≡ InvalidArgument) × (IsStoreName name → ⊥))
-    ⊎ ((e.code ≡ InvalidArgument) × (create_if_missing ≡ false)
+-- why an opening may be refused with no failure of the device: among others damage, where nothing
+-- can be read of the files
+abbrev pub OpenExcused : Bool → List ℕ → Opening → Observed → Status → Type 0
+OpenExcused models_disk name asked told e = IsOutOfMemory e
+    ⊎ ((e.code ≡ InvalidArgument) × (IsStoreName name × IsTrue asked.fits → ⊥))
+    ⊎ ((e.code ≡ InvalidArgument) × (asked.create_if_missing ≡ false)
     × (IsTrue models_disk → told.disk.files (log_path name) ≡ None))
     ⊎ ((e.code ≡ LockError) × (IsTrue models_disk → told.disk.locked (lock_path name) ≡ true))
     ⊎ ((e.code ≡ Corruption)
     × (IsTrue models_disk → IsUnreadable (IsOneLog (log_path name)) told.disk.files))
     ⊎ IsLargeLog models_disk (told.disk.files (log_path name)) e
+    ⊎ ((e.code ≡ NotSupported) × (asked.compresses ≡ false))
+    ⊎ ((e.code ≡ AlreadyExists) × IsTrue asked.error_if_exists
+    × (IsTrue models_disk → told.disk.files (log_path name) ≢ None))

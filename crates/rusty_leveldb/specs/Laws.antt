@@ -1,11 +1,11 @@
--- What holds of the machine and of disks that hold its history, in the format of this store.
+-- What holds of the machine and of disks that hold its history, whatever names in files mean.
 use Rattle.std.specs.Prelude.{◌≡◌, ◌≢◌, ◌≤◌, ◌⊎◌, ℕ, List, [], ◌∷◌, ◌++◌, map, flat_map, take, Option, Some, None, Contains, true, false, IsTrue, nat_le, if◌then◌else◌}
 use Rattle.leveldb_base.specs.History.{Item, Entry, History}
 use Rattle.leveldb_env.specs.declared.env.Env.{Ghosts}
 use Rattle.leveldb_env.specs.Env.{Files, Disk, FilesCrashTo, DiskCrashesTo, Since}
 use Rattle.leveldb_version.specs.Paths.{lock_path}
 use Rattle.leveldb_version.specs.Contents.{Contents}
-use Rattle.rusty_leveldb.specs.Format.{Format}
+use Rattle.leveldb_store.specs.Format.{Format, Meaning}
 use Rattle.rusty_leveldb.specs.OneLog.{log_path}
 use Rattle.leveldb_version.specs.Holds.{IsHonest, CarriesPrefix}
 use Rattle.rusty_leveldb.specs.State.{State, IsState, broken, closed, Opening, Request, open_store, write, get, flush, close, Answer, done, found, Refusal, refused}
@@ -18,44 +18,45 @@ use Rattle.rusty_leveldb.specs.Serves.{Reads, StandsFor, IsSpared, AtEachMoment}
 
 -- files have one reading
 abbrev pub OneReading : Type 0
-OneReading = (store : List ℕ) (format : Format) (files : Files) (these those : Contents)
-    → Reads store format files these → Reads store format files those → these ≡ those
+OneReading = (store : List ℕ) (meaning : Meaning) (files : Files) (these those : Contents)
+    → Reads store meaning files these → Reads store meaning files those → these ≡ those
 
 -- where neither a log nor a lock is, a new store is represented
 abbrev pub NothingStands : Type 0
-NothingStands = (store : List ℕ) (format : Format) (disk : Disk)
+NothingStands = (store : List ℕ) (meaning : Meaning) (format : Format) (disk : Disk)
     → disk.files (log_path store) ≡ None → disk.locked (lock_path store) ≡ false
-    → StandsFor store disk (new_state format)
+    → StandsFor store meaning disk (new_state format)
 
 -- an honest crash between two requests leaves a disk that represents a state of the crash row
 abbrev pub CrashBetween : Type 0
-CrashBetween = (store : List ℕ) (old : State) (disk left : Disk)
-    → StandsFor store disk old → DiskCrashesTo disk left
+CrashBetween = (store : List ℕ) (meaning : Meaning) (old : State) (disk left : Disk)
+    → StandsFor store meaning disk old → DiskCrashesTo disk left
     → IsHonest store disk.files left.files
     → (after : State) × Crashes old (risk_between old) after
-    × StandsFor store left after
+    × StandsFor store meaning left after
 
 -- and so does one at a moment inside a request that led from the old state to the new one
 abbrev pub CrashInside : Type 0
-CrashInside = (store : List ℕ) (old new : State) (request : Request) (files : Files) (left : Disk)
-    → IsState old → IsState new → IsSpared store old (risk_of request old new) files
+CrashInside = (store : List ℕ) (meaning : Meaning) (old new : State) (request : Request)
+    (files : Files) (left : Disk)
+    → IsState old → IsState new → IsSpared store meaning old (risk_of request old new) files
     → FilesCrashTo files left.files → IsHonest store files left.files
     → ((name : List ℕ) → left.locked name ≡ false)
     → (after : State) × Crashes old (risk_of request old new) after
-    × StandsFor store left after
+    × StandsFor store meaning left after
 
 -- From a call's moments: wherever an honest crash comes since the call began, what is left carries
 -- a prefix of what was at risk, the pending batch included, with all that was durable as the call
 -- began.
 abbrev pub CrashSince : {E F : Type 0} → Ghosts E F → Type 0
-CrashSince {E = E} env = (store : List ℕ) (old new : State) (request : Request) (from to : E)
-    → AtEachMoment store request old new (env.observed from) (env.observed to)
+CrashSince {E = E} env = (store : List ℕ) (meaning : Meaning) (old new : State)
+    (request : Request) (from to : E)
+    → AtEachMoment store meaning request old new (env.observed from) (env.observed to)
     → (files left : Files) → Since (env.observed to) (env.observed from).moment files left
     → IsHonest store files left
     → let risk = risk_of request old new in
-    CarriesPrefix store (Reads store risk.format) (StaysOr risk.opening old.store) risk.bound
-    old.durable
-    risk.history left
+    CarriesPrefix store (Reads store meaning) (StaysOr risk.opening old.store) risk.bound
+    old.durable risk.history left
 
 -- ---- refusals
 

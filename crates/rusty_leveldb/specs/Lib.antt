@@ -1,6 +1,4 @@
 pub mod Boxes
-pub mod BuildTable
-pub mod Format
 pub mod Frame
 pub mod OneLog
 pub mod State

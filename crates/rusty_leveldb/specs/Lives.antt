@@ -1,6 +1,6 @@
 -- Lives of a store on a device that records its calls: what a report says of its life, and what
 -- reports say of lives one after another, with crashes between them.
-use Rattle.std.specs.Prelude.{◌≡◌, ◌≤◌, ◌↔◌, ◌⊎◌, ◌+◌, ◌-◌, ◌%◌, ◌==◌, ℕ, Bool, false, All, List, [], ◌∷◌, ◌++◌, map, Option, Some, None, unwrap_or, Result, Ok, Err, OnErr, IfOk, IfErr, IsTrue, Vec}
+use Rattle.std.specs.Prelude.{◌≡◌, ◌≤◌, ◌↔◌, ◌⊎◌, ◌+◌, ◌-◌, ◌%◌, ◌==◌, ◌&&◌, ℕ, Bool, false, All, List, [], ◌∷◌, ◌++◌, map, Option, Some, None, unwrap_or, Result, Ok, Err, OnErr, IfOk, IfErr, IsTrue, Vec}
 use Rattle.std.specs.declared.alloc.Global.{Global}
 use Rattle.leveldb_base.specs.declared.cmp.Cmp.{Ghosts as CmpGhosts}
 use Rattle.leveldb_base.specs.declared.error.Status.{Status}
@@ -18,15 +18,15 @@ use Rattle.leveldb_env.specs.Record.{record_observed, moment_of, fails_in, fails
 use Rattle.rusty_leveldb.specs.declared.shell.commands.Command.{Command}
 use Rattle.rusty_leveldb.specs.declared.shell.commands.Reply.{Reply}
 use Rattle.rusty_leveldb.specs.declared.shell.crash_runs.Report.{Report}
-use Rattle.rusty_leveldb.specs.Format.{Format}
+use Rattle.leveldb_store.specs.Format.{Format, Meaning, Agrees, format_of}
 use Rattle.rusty_leveldb.specs.State.{State, Opening, Request, open_store, abandon, Answer, done, refused}
 use Rattle.leveldb_version.specs.Holds.{IsHonest}
 use Rattle.rusty_leveldb.specs.Runs as machine
 use Rattle.rusty_leveldb.specs.Runs.{Ending, goes_on, crashes, Lives, new_state}
-use Rattle.rusty_leveldb.specs.Serves.{Represents, Runs, IsConversation, refusal_of}
-use Rattle.rusty_leveldb.specs.Engine.{Recalls, scene, IsStoreName, IsOpening, opening_of}
+use Rattle.rusty_leveldb.specs.Serves.{Represents, Runs, recalls_nothing, IsConversation, refusal_of}
+use Rattle.rusty_leveldb.specs.Engine.{scene, IsStoreName, IsOpening, opening_of}
 use Rattle.rusty_leveldb.specs.Shell.{request_of, answer_of}
-use Rattle.leveldb_env.specs.Options.{Boxed, nothing_boxed}
+use Rattle.leveldb_env.specs.Options.{Boxed}
 use Rattle.rusty_leveldb.specs.Boxes.{LifeOf}
 
 -- ---- a report
@@ -56,27 +56,25 @@ pub record IsReportOf (report : Report) (answers : List Answer) (moments : List 
   pub moments_are : moments ≡ moments_of report.opened report.replies.items first last
   pub no_replies : OnErr report.opened (report.replies.items ≡ [])
 
-module _ {E F : Type 0} (C FP : Type 0) (env : Ghosts E F) (store : List ℕ) where
+module _ {E F : Type 0} (env : Ghosts E F) (store : List ℕ) where
   -- the report of a run of the machine, from this state on, over the environment as it was to what
   -- it is
-  pub record IsLife (from : E) (opening : Opening) (commands : List Command) (report : Report)
-      (to : E) (old : State) : Type 0 where
+  pub record IsLife (meaning : Meaning) (from : E) (opening : Opening) (commands : List Command)
+      (report : Report) (to : E) (old : State) : Type 0 where
     pub answers : List Answer
     pub moments : List ℕ
     pub reported : IsReportOf report answers
         (map (λ moment. moment - (env.observed from).moment) moments)
-    pub run : Runs store (Recalls {C = C} {FP = FP} {B = nothing_boxed} env store)
-        env.models_moments
-        (scene env None from) (requests_of opening commands report.opened) answers moments
-        (scene env None to) old
+    pub run : Runs store meaning recalls_nothing env.models_moments (scene env None from)
+        (requests_of opening commands report.opened) answers moments (scene env None to) old
 
-  -- the same from every state that the disk represents
+  -- the same from every state that the disk represents, if the options say of names and ids what
+  -- they mean
   abbrev pub IsAlwaysLife : E → Opening → List Command → Report → E → Type 0
   IsAlwaysLife from asked commands report to = (opening : Opening) → IsOpening store asked opening
-      → (old : State)
-      → Represents store (Recalls {C = C} {FP = FP} {B = nothing_boxed} env store) None
-      (env.observed from).disk old
-      → IsLife from opening commands report to old
+      → (meaning : Meaning) → Agrees opening.format meaning → (old : State)
+      → Represents store meaning recalls_nothing None (env.observed from).disk old
+      → IsLife meaning from opening commands report to old
 
 -- ---- what follows a life
 
@@ -108,9 +106,9 @@ abbrev pub ending_of : ℕ → Option ℕ → Ending
 ending_of start None = goes_on
 ending_of start (Some moment) = crashes (start + moment) ((start + moment) % 2 == 1) 0
 
--- the opening that is asked for, under a name that fits or not
+-- the opening that is asked for, under a name that is a store's or not
 abbrev pub with_name : Bool → Opening → Opening
-with_name fits asked = record asked { fits = fits }
+with_name named asked = record asked { fits = named && asked.fits }
 
 -- ---- lives, one after another
 
@@ -124,7 +122,7 @@ module _ {C FP F : Type 0} {B : Boxed} (env : Ghosts RecordEnv F) (cmp : CmpGhos
     pub from : RecordEnv
     pub same : SameObserved device from
     pub failing : (fails_in from, fails_done from) ≡ unwrap_or life.fail (0, false)
-    pub life_is : IsAlwaysLife C FP env store from (opening_of cmp filters codings life.options)
+    pub life_is : IsAlwaysLife env store from (opening_of cmp filters codings life.options)
         life.commands.items report to
 
   -- the reports of lives one after another with crashes of this kind, from this device to that
@@ -150,30 +148,35 @@ module _ {C FP F : Type 0} {B : Boxed} (env : Ghosts RecordEnv F) (cmp : CmpGhos
       → List Report → Type 0
   AreReportsFromNone Crash lives reports = (end : RecordEnv) × AreReportsTo Crash lives reports end
 
-  -- the machine's life of a life and its report, whose moments are from the life's start
-  pub record IsLifeOf (fits : Bool) (life : LifeOf C FP B) (report : Report)
+  -- the machine's life of a life and its report, whose moments are from the life's start; it starts
+  -- inside no call, at an even moment
+  pub record IsLifeOf (named : Bool) (life : LifeOf C FP B) (report : Report)
       (of_machine : machine.Life) : Type 0 where
     pub answers : List Answer
     pub moments : List ℕ
     pub reported : IsReportOf report answers moments
     pub asked : IsConversation
-        (requests_of (with_name fits (opening_of cmp filters codings life.options))
+        (requests_of (with_name named (opening_of cmp filters codings life.options))
         life.commands.items report.opened)
         answers (map (λ moment. of_machine.start + moment) moments) of_machine.events
     pub ending : of_machine.ending ≡ ending_of of_machine.start life.moment
+    pub outside : of_machine.start % 2 ≡ 0
 
   -- each in turn
   abbrev pub AreLivesOf : Bool → List (LifeOf C FP B) → List Report → List machine.Life → Type 0
-  AreLivesOf fits [] [] [] = Unit {0}
-  AreLivesOf fits (life ∷ lives) (report ∷ reports) (one ∷ others) = IsLifeOf fits life report one
-      × AreLivesOf fits lives reports others
-  AreLivesOf fits _ _ _ = ⊥
+  AreLivesOf named [] [] [] = Unit {0}
+  AreLivesOf named (life ∷ lives) (report ∷ reports) (one ∷ others) =
+      IsLifeOf named life report one × AreLivesOf named lives reports others
+  AreLivesOf named _ _ _ = ⊥
 
   -- the reports of all lives are one run of the machine with its crash rows, from a missing store
-  -- on
+  -- on, if the options of all lives say of names and ids what they mean
   abbrev pub AreOneRun : List (LifeOf C FP B) → List Report → Type 0
-  AreOneRun lives reports = (format : Format) (fits : Bool) → (IsTrue fits ↔ IsStoreName store)
-      → (of_machine : List machine.Life) × AreLivesOf fits lives reports of_machine
+  AreOneRun lives reports = (format : Format) (named : Bool)
+      → (IsTrue named ↔ IsStoreName store)
+      → (meaning : Meaning)
+      → All (λ life. Agrees (format_of cmp filters codings life.options) meaning) lives
+      → (of_machine : List machine.Life) × AreLivesOf named lives reports of_machine
       × (failures : ℕ) × (last : State) × Lives 0 (new_state format) of_machine failures last
 
   -- a life that ran after those before it has a crash that can't be: its moment is still to come,

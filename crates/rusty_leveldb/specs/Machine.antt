@@ -5,9 +5,8 @@ use Rattle.std.specs.declared.cmp.Ordering.{Ordering}
 use Rattle.leveldb_base.specs.History.{Item, Entry, History, placed, entries_of, greatest, with_batch, count_of, IsPrefixAtLeast, IsValueAt, IsView}
 use Rattle.leveldb_base.specs.Types.{Pair, position_within, next_position, previous_position, seek_position, pair_at}
 use Rattle.leveldb_version.specs.Contents.{Store, missing, made}
-use Rattle.rusty_leveldb.specs.Format.{Format}
 use Rattle.rusty_leveldb.specs.State.{Mode, open_mode, broken, closed, Snapshot, Opening, State, Move, seek_to_first, advance, prev, seek, reset, Request, open_store, write, get, walk, get_snapshot, release_snapshot, flush, compact_range, close, abandon, Refusal, Landing, stands_on, nowhere, move_refused, Answer, done, found, walked, snapshot, refused}
-use Rattle.rusty_leveldb.specs.Causes.{Faults, Cause, out_of_memory, device_failed, lock_is_held, bad_operand, store_exists, HasFailed, Fits, MoveMisfits, Comes, MoveComes, IsClosedRefusal, IsBrokenRefusal}
+use Rattle.rusty_leveldb.specs.Causes.{Faults, Cause, out_of_memory, device_failed, lock_is_held, bad_operand, store_exists, used_up, HasFailed, Fits, MoveMisfits, Comes, MoveComes, IsClosedRefusal, IsBrokenRefusal}
 
 -- ---- writing
 
@@ -88,11 +87,6 @@ abbrev pub StaysOr : Option Opening → Store → Store → Type 0
 StaysOr None old now = now ≡ old
 StaysOr (Some opening) old now = (now ≡ old) ⊎ ((old ≡ missing) × IsStoreOf opening now)
 
--- the format of the files that an opening at work leaves: a store that was there has its own
-abbrev pub format_left : Opening → Store → Format → Format
-format_left opening missing format = opening.format
-format_left opening (made name) format = format
-
 -- a store may be opened so: a missing one is to be made, and one that is there may be there
 abbrev pub MayOpen : Opening → Store → Type 0
 MayOpen opening missing = IsTrue opening.create_if_missing
@@ -126,6 +120,7 @@ abbrev pub IsEarly : Cause → Type 0
 IsEarly lock_is_held = Unit {0}
 IsEarly bad_operand = Unit {0}
 IsEarly store_exists = Unit {0}
+IsEarly used_up = Unit {0}
 IsEarly cause = ⊥
 
 -- the lock is held still, since after the cause had come another call of the device failed
@@ -147,7 +142,6 @@ pub record StaysClosed (faults : Faults) (old : State) (opening : Opening) (refu
     durable = new.durable;
     locked = new.locked;
     store = new.store;
-    format = format_left opening old.store old.format;
   }
   pub durable : MayGrow old.durable old.history new.durable
   pub stays : StaysOr (Some opening) old.store new.store
@@ -285,12 +279,11 @@ Step mode faults old request answer new = Responds faults old request answer new
 
 -- ---- a crash
 
--- what a crash may leave: a prefix of this history, numbers up to this bound, files in this format,
--- and a store that an opening makes
+-- what a crash may leave: a prefix of this history, numbers up to this bound, and a store that an
+-- opening makes
 pub record Risk : Type 0 where
   pub history : History
   pub bound : ℕ
-  pub format : Format
   -- the opening that is at work, if one is
   pub opening : Option Opening
 
@@ -299,7 +292,6 @@ abbrev pub risk_between : State → Risk
 risk_between state = record {
   history = with_batch state.history state.pending;
   bound = state.last + count_of state.pending;
-  format = state.format;
   opening = None;
 }
 
@@ -307,10 +299,7 @@ risk_between state = record {
 -- pending then. While a store is opened it is the history before it, since what was pending may yet
 -- be found.
 abbrev pub risk_of : Request → State → State → Risk
-risk_of (open_store opening) old new = record (risk_between old) {
-  format = format_left opening old.store old.format;
-  opening = Some opening;
-}
+risk_of (open_store opening) old new = record (risk_between old) { opening = Some opening }
 risk_of request old new = risk_between new
 
 -- A crash leaves a prefix with all that was durable, whole batches only, and all of it is durable
@@ -328,5 +317,5 @@ pub record Crashes (old : State) (risk : Risk) (new : State) : Type 0 where
     mode = closed;
     locked = false;
     store = new.store;
-    format = risk.format;
+    format = old.format;
   }

@@ -3,7 +3,6 @@ use Rattle.std.specs.Prelude.{◌≡◌, ◌≢◌, ◌⊎◌, ◌<◌, ◌≤�
 use Rattle.std.specs.Io.KnownBytes.{Appends}
 use Rattle.std.specs.declared.alloc.Global.{Global}
 use Rattle.leveldb_base.specs.Cmp.{bytewise}
-use Rattle.leveldb_base.specs.declared.cmp.DefaultCmp.{DefaultCmp}
 use Rattle.leveldb_base.specs.declared.error.Status.{Status}
 use Rattle.leveldb_env.specs.declared.env.Env.{Ghosts}
 use Rattle.leveldb_env.specs.Bloom.{bloom_matches}
@@ -70,11 +69,11 @@ ldb_opening = record {
 
 module _ {E F : Type 0} (env : Ghosts E F) where
   -- the commands were run in a folder, each was replied to, and the output grew by the replies'
-  -- lines; the filter policy is seen as its number of bits a key
+  -- lines
   abbrev pub IsPlayed : List ℕ → List Command → E → E → Option (List ℕ) → Option (List ℕ) → Type 0
   IsPlayed folder commands from to held holds =
       (given : List Reply) × (length given ≡ length commands)
-      × HasRun DefaultCmp ℕ env folder ldb_opening commands from given (Ok tt) to
+      × HasRun env folder ldb_opening commands from given (Ok tt) to
       × Appends held holds (reply_lines given)
 
   -- the one argument is a folder, and the commands that the input encodes were run in it
@@ -84,7 +83,7 @@ module _ {E F : Type 0} (env : Ghosts E F) where
       (folder : String Global) × (args ≡ folder ∷ [])
       × (commands : List Command) × IsInput input commands
       × (given : List Reply) × (length given ≡ length commands)
-      × HasRun DefaultCmp ℕ env (string_bytes folder) ldb_opening commands from given (Ok tt) to
+      × HasRun env (string_bytes folder) ldb_opening commands from given (Ok tt) to
       × Appends held holds (reply_lines given)
 
   -- the program left the environment as it was, or it ran the commands that the input encodes in
@@ -94,4 +93,4 @@ module _ {E F : Type 0} (env : Ghosts E F) where
       ⊎ ((folder : String Global) × (args ≡ folder ∷ [])
       × (commands : List Command) × IsInput input commands
       × (given : List Reply) × (ended : Result (Unit {0}) Status)
-      × HasRun DefaultCmp ℕ env (string_bytes folder) ldb_opening commands from given ended to)
+      × HasRun env (string_bytes folder) ldb_opening commands from given ended to)

@@ -11,8 +11,9 @@ use Rattle.rusty_leveldb.specs.OneLog.{max_sequence}
 abbrev pub lent_newest : Option (Option (Bor (List ℕ))) → Option (Option (List ℕ))
 lent_newest found = option_map option_copied found
 
--- entries, and the last number, which none of them is past
-pub record Numbered : Type 0 where
+-- a comparator of users' keys, entries, and the last number, which none of them is past
+pub record Numbered (C : Type 0) : Type 0 where
+  pub cmp : C
   pub kept : Kept
   pub last : ℕ
 
@@ -23,7 +24,9 @@ pub record Follows (last : ℕ) (batch : Batch) : Type 0 where
   pub all_fit : greatest (placed batch.first batch.items) ≤ max_sequence
 
 -- the batch's entries have come, and the last number is the last of them, if it has any
-pub record Inserts (old : Numbered) (batch : Batch) (new : Numbered) : Type 0 where
+pub record Inserts {C : Type 0} (old : Numbered C) (batch : Batch) (new : Numbered C)
+    : Type 0 where
+  pub cmp : new.cmp ≡ old.cmp
   pub gains : IsUnion old.kept.entries (placed batch.first batch.items) new.kept.entries
   pub last : new.last ≡ max old.last (greatest (placed batch.first batch.items))
 

@@ -2,7 +2,7 @@
 -- refused.
 use Rattle.std.specs.Prelude.{◌≡◌, ◌≢◌, ◌≤◌, ◌<◌, ◌+◌, ◌-◌, ◌%◌, ◌^◌, ◌⊎◌, ℕ, Bool, true, false, List, [], length, Option, Some, None, Result, Ok, Err, OnOk, IfErr, IsErrAnd, IsTrue}
 use Rattle.leveldb_base.specs.declared.error.Status.{Status}
-use Rattle.leveldb_base.specs.declared.error.StatusCode.TheVariants.{InvalidArgument, NotFound, Corruption}
+use Rattle.leveldb_base.specs.declared.error.StatusCode.TheVariants.{InvalidArgument, AlreadyExists, NotFound, Corruption}
 use Rattle.leveldb_env.specs.Env.{File, Files, Disk, bytes_of, kept_file, file_kept, created, Observed, BeforeOrAfter}
 use Rattle.leveldb_base.specs.Error.{IsOutOfMemory}
 use Rattle.leveldb_mem.specs.Log.{log_block_size, End, clean, IsLogFile, framed}
@@ -11,6 +11,7 @@ use Rattle.leveldb_version.specs.Paths.{lock_path}
 use Rattle.rusty_leveldb.specs.OneLog.{log_path, temp_path, IsRead}
 use Rattle.leveldb_version.specs.Contents.{Contents}
 use Rattle.rusty_leveldb.specs.Causes.{HasFailed}
+use Rattle.rusty_leveldb.specs.State.{Opening}
 use Rattle.rusty_leveldb.specs.Recent.{Numbered}
 use Rattle.rusty_leveldb.specs.Replay.{IsReplayed}
 use Rattle.rusty_leveldb.specs.Frame.{IsOwn, Spares}
@@ -56,10 +57,15 @@ abbrev pub IsUnusable : Bool → Option File → Type 0
 IsUnusable create was = ((contents : Contents) → IsRead was contents → ⊥)
     ⊎ ((create ≡ false) × (was ≡ None))
 
--- a disk on which this store isn't opened: its lock is held, or its log is unusable
-abbrev pub NeverOpens : List ℕ → Bool → Disk → Type 0
-NeverOpens name create disk = IsTrue (disk.locked (lock_path name))
-    ⊎ IsUnusable create (disk.files (log_path name))
+-- the log is there, and must not be
+abbrev pub IsUnwanted : Bool → Option File → Type 0
+IsUnwanted error_if_exists was = IsTrue error_if_exists × (was ≢ None)
+
+-- a disk on which this store isn't opened: its lock is held, or its log is unusable or unwanted
+abbrev pub NeverOpens : List ℕ → Opening → Disk → Type 0
+NeverOpens name asked disk = IsTrue (disk.locked (lock_path name))
+    ⊎ IsUnusable asked.create_if_missing (disk.files (log_path name))
+    ⊎ IsUnwanted asked.error_if_exists (disk.files (log_path name))
 
 -- all but the log and what takes its place stays as it is
 abbrev pub ChangesLogAlone : List ℕ → Files → Files → Type 0
@@ -73,29 +79,30 @@ FailedBeside excused before now = (excused × (before < now)) ⊎ (before + 2 �
     ⊎ (now ≡ 2 ^ 64 - 1)
 
 -- a disk on which an opening looks no further: the store's lock is held, or it is missing and isn't
--- to be made
-abbrev pub IsBarred : List ℕ → Bool → Disk → Type 0
-IsBarred name create disk = IsTrue (disk.locked (lock_path name))
-    ⊎ ((create ≡ false) × (disk.files (log_path name) ≡ None))
+-- to be made, or is there and must not be
+abbrev pub IsBarred : List ℕ → Opening → Disk → Type 0
+IsBarred name asked disk = IsTrue (disk.locked (lock_path name))
+    ⊎ ((asked.create_if_missing ≡ false) × (disk.files (log_path name) ≡ None))
+    ⊎ IsUnwanted asked.error_if_exists (disk.files (log_path name))
 
 -- What an opening leaves that fails, whatever is under the store's name.
-pub record StaysUnopened (name : List ℕ) (create : Bool) (old new : Observed) (before now : ℕ)
+pub record StaysUnopened (name : List ℕ) (asked : Opening) (old new : Observed) (before now : ℕ)
     (e : Status) : Type 0 where
-  -- a store that is locked, or is missing and isn't to be made, keeps all its files, but that the
-  -- lock's may be made
-  pub untouched : IsBarred name create old.disk
+  -- a store that is locked, or is missing and isn't to be made, or is there and must not be, keeps
+  -- all its files, but that the lock's may be made
+  pub untouched : IsBarred name asked old.disk
       → BeforeOrAfter (created (lock_path name)) old.disk.files new.disk.files
   -- its lock is as it was, or is held where giving it back failed, too
   pub lock : (new.disk.locked (lock_path name) ≡ old.disk.locked (lock_path name))
       ⊎ ((new.disk.locked (lock_path name) ≡ true)
-      × FailedBeside (OpenExcused true name create old e) before now)
+      × FailedBeside (OpenExcused true name asked old e) before now)
   -- what isn't the store's is as it was
   pub others : Spares name (IsOwn name) old.disk new.disk
 
 -- The log has the records that were found there, all its bytes kept, and ends cleanly; memory has
 -- what they say, and the writer stands at the end.
-pub record IsRecovered (create : Bool) (was now : Option File) (writer : WriterState)
-    (recent : Numbered) : Type 0 where
+pub record IsRecovered {C : Type 0} (create : Bool) (was now : Option File) (writer : WriterState)
+    (recent : Numbered C) : Type 0 where
   pub records : List (List ℕ)
   pub end : End
   pub was_found : IsFoundAs create was records end
@@ -139,6 +146,11 @@ IsUntold models_disk e = IsOutOfMemory e ⊎ ((e.code ≡ Corruption) × (IsTrue
 abbrev pub IsNotMade : Bool → Bool → Option File → Status → Type 0
 IsNotMade models_disk create was e = (e.code ≡ InvalidArgument) × (create ≡ false)
     × (IsTrue models_disk → was ≡ None)
+
+-- the log is there, and must not be
+abbrev pub IsThere : Bool → Bool → Option File → Status → Type 0
+IsThere models_disk error_if_exists was e = (e.code ≡ AlreadyExists) × IsTrue error_if_exists
+    × (IsTrue models_disk → was ≢ None)
 
 -- the log is no list of batches
 abbrev pub IsNoLog : Bool → Option File → Status → Type 0

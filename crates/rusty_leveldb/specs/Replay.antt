@@ -17,7 +17,7 @@ pub record AreBatches (records : List (List ℕ)) : Type 0 where
   pub order : AreInOrder 0 batches
 
 -- memory has just the entries of these batches, and the number of the last
-pub record IsReplayed (records : List (List ℕ)) (recent : Numbered) : Type 0 where
+pub record IsReplayed {C : Type 0} (records : List (List ℕ)) (recent : Numbered C) : Type 0 where
   pub read : AreBatches records
   pub just : (entry : Entry)
       → Contains recent.kept.entries entry ↔ Contains (all_entries read.batches) entry

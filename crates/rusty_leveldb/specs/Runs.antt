@@ -1,7 +1,7 @@
 -- Runs of the machine, one request after another, and lives with crashes between them.
 use Rattle.std.specs.Prelude.{◌≡◌, ◌≤◌, ◌<◌, ◌⊎◌, ℕ, Bool, List, [], ◌∷◌, ◌++◌, None, All, false, IsTrue}
 use Rattle.leveldb_version.specs.Contents.{missing}
-use Rattle.rusty_leveldb.specs.Format.{Format}
+use Rattle.leveldb_store.specs.Format.{Format}
 use Rattle.rusty_leveldb.specs.State.{State, Request, Answer, closed}
 use Rattle.rusty_leveldb.specs.Causes.{Faults}
 use Rattle.rusty_leveldb.specs.Machine.{Step, risk_between, risk_of, Crashes}

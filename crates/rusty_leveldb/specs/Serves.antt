@@ -1,8 +1,8 @@
 -- What the engine's clauses say: from every state that memory and disk represent, a step of the
 -- machine.
 --
--- `store` is the store's path, and `Recalls memory disk state` what the engine's memory has to do
--- with the files and the state.
+-- `store` is the store's path, `meaning` what names and ids in its files mean, and `Recalls memory
+-- disk state` what the engine's memory has to do with the files and the state.
 use Rattle.std.specs.Prelude.{◌≡◌, ◌≤◌, ◌⊎◌, ◌↔◌, ℕ, Bool, List, [], Option, Some, None, Result, Ok, Err, All, false, map, IsTrue}
 use Rattle.leveldb_base.specs.declared.error.Status.{Status}
 use Rattle.leveldb_base.specs.Error.{text_of}
@@ -10,7 +10,7 @@ use Rattle.leveldb_env.specs.Env.{Files, Disk, FilesCrashTo, Observed}
 use Rattle.leveldb_env.specs.Env as calls
 use Rattle.leveldb_version.specs.Paths.{lock_path}
 use Rattle.leveldb_version.specs.Contents.{Contents}
-use Rattle.rusty_leveldb.specs.Format.{Format}
+use Rattle.leveldb_store.specs.Format.{Meaning, Agrees}
 use Rattle.rusty_leveldb.specs.Frame.{IsOwn, MayTouch, Spares, IsSyncing, SameBytes}
 use Rattle.rusty_leveldb.specs.OneLog.{IsOneLog, log_path}
 use Rattle.leveldb_version.specs.Holds.{IsHonest, IsSafe, Holds}
@@ -19,9 +19,9 @@ use Rattle.rusty_leveldb.specs.Causes.{Faults}
 use Rattle.rusty_leveldb.specs.Machine.{Step, StaysOr, Risk, risk_of}
 use Rattle.rusty_leveldb.specs.Runs.{Event, Run, last_moment, StopsAt}
 
--- how the store's files are read in a format; a store that is one log has no tables, so any will do
-abbrev pub Reads : List ℕ → Format → Files → Contents → Type 0
-Reads store format = IsOneLog (log_path store)
+-- how the store's files are read; one that is a log has no table, so whatever its names mean
+abbrev pub Reads : List ℕ → Meaning → Files → Contents → Type 0
+Reads store meaning = IsOneLog (log_path store)
 
 -- ---- results as answers
 
@@ -57,6 +57,10 @@ pub record Scene (M : Type 0) : Type 1 where
 abbrev pub faults_between : ℕ → ℕ → Faults
 faults_between before after = record { before = before; after = after }
 
+-- what no engine remembers
+abbrev pub recalls_nothing : Unit {0} → Disk → State → Type 0
+recalls_nothing memory disk state = ⊥
+
 -- these requests had these answers at these moments
 pub record IsConversation (requests : List Request) (answers : List Answer) (moments : List ℕ)
     (events : List Event) : Type 0 where
@@ -91,18 +95,20 @@ pub record IsBetweenCalls (models_moments : Bool) (now : Observed) (moment : ℕ
 
 -- ---- the engine's clauses
 
-module _ (store : List ℕ) where
-  -- the disk represents a state: it holds the state's store and history, and the lock is as said
+module _ (store : List ℕ) (meaning : Meaning) where
+  -- The disk represents a state: it holds the state's store and history, and the lock is as said. A
+  -- store that is open says of names and ids what they mean.
   pub record StandsFor (disk : Disk) (state : State) : Type 0 where
     pub is_state : IsState state
-    pub holds : Holds store (Reads store state.format) (λ now. now ≡ state.store) disk.files
+    pub holds : Holds store (Reads store meaning) (λ now. now ≡ state.store) disk.files
         state.history state.last state.durable state.pending
     pub locked : disk.locked (lock_path store) ≡ state.locked
+    pub agrees : (state.mode ≡ closed → ⊥) → Agrees state.format meaning
 
   -- a crash now leaves a prefix of what is at risk, with at least what was durable before the
   -- request, and the store that was there or one that the opening at work has made
   abbrev pub IsSpared : State → Risk → Files → Type 0
-  IsSpared old risk files = IsSafe store (Reads store risk.format) (StaysOr risk.opening old.store)
+  IsSpared old risk files = IsSafe store (Reads store meaning) (StaysOr risk.opening old.store)
       risk.bound old.durable risk.history files
 
   -- the same at each moment of a request, its end among them; what was observed before stays

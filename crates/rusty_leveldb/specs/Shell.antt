@@ -11,11 +11,11 @@ use Rattle.rusty_leveldb.specs.declared.shell.commands.Item.{Item}
 use Rattle.rusty_leveldb.specs.declared.shell.commands.Item.TheVariants as item
 use Rattle.rusty_leveldb.specs.declared.shell.commands.Reply.{Reply}
 use Rattle.rusty_leveldb.specs.declared.shell.commands.Reply.TheVariants as reply
+use Rattle.leveldb_store.specs.Format.{Meaning, Agrees}
 use Rattle.rusty_leveldb.specs.State.{State, Opening, Request, open_store, write, get, flush, close, abandon, Answer, done, found, refused}
-use Rattle.rusty_leveldb.specs.Serves.{Represents, Runs, refusal_of, done_or}
-use Rattle.rusty_leveldb.specs.Engine.{Recalls, scene, IsOpening, IsStoreName}
+use Rattle.rusty_leveldb.specs.Serves.{Represents, Runs, recalls_nothing, refusal_of, done_or}
+use Rattle.rusty_leveldb.specs.Engine.{scene, IsOpening, IsStoreName}
 use Rattle.rusty_leveldb.specs.Recovery.{NeverOpens, StaysUnopened}
-use Rattle.leveldb_env.specs.Options.{nothing_boxed}
 
 -- the change that an item asks for
 abbrev pub change_of : Item → history.Item
@@ -41,23 +41,22 @@ answer_of (reply.Refused status) = refused (refusal_of status)
 -- ---- runs
 
 -- the run failed, and leaves what an opening leaves that fails
-abbrev pub IsUnopened : {E F : Type 0} → Ghosts E F → List ℕ → Bool → E → Result (Unit {0}) Status
-    → E
-    → Type 0
-IsUnopened env name create from ended to = IsErrAnd ended
-    (StaysUnopened name create (env.observed from) (env.observed to) (env.failures from)
+abbrev pub IsUnopened : {E F : Type 0} → Ghosts E F → List ℕ → Opening → E
+    → Result (Unit {0}) Status → E → Type 0
+IsUnopened env name asked from ended to = IsErrAnd ended
+    (StaysUnopened name asked (env.observed from) (env.observed to) (env.failures from)
     (env.failures to))
 
-module _ {E F : Type 0} (C FP : Type 0) (env : Ghosts E F) (store : List ℕ) where
+module _ {E F : Type 0} (env : Ghosts E F) (store : List ℕ) where
   -- What a run of commands is, by its result, with the replies that it gave. The store was opened,
   -- each command was answered, and at last the store was abandoned; or the run failed with no
   -- reply, since the store wasn't opened, or out of memory before it began.
-  abbrev pub Plays : E → Opening → List Command → List Reply → Result (Unit {0}) Status → E → State
-      → Type 0
-  Plays from opening commands given result to old =
+  abbrev pub Plays : Meaning → E → Opening → List Command → List Reply → Result (Unit {0}) Status
+      → E → State → Type 0
+  Plays meaning from opening commands given result to old =
       let leads : List Request → List Answer → Type 0 = λ requests answers. (moments : List ℕ)
-      × Runs store (Recalls {C = C} {FP = FP} {B = nothing_boxed} env store) env.models_moments
-      (scene env None from) requests answers moments (scene env None to) old in
+      × Runs store meaning recalls_nothing env.models_moments (scene env None from) requests
+      answers moments (scene env None to) old in
       leads (open_store opening ∷ (map request_of commands ++ abandon ∷ []))
       (done ∷ (map answer_of given ++ done_or result ∷ []))
       ⊎ IsErrAnd result (λ status. (given ≡ [])
@@ -67,15 +66,17 @@ module _ {E F : Type 0} (C FP : Type 0) (env : Ghosts E F) (store : List ℕ) wh
   -- what a run of commands over the store does, which is opened as it is asked
   pub record HasRun (asked : Opening) (commands : List Command) (from : E) (given : List Reply)
       (ended : Result (Unit {0}) Status) (to : E) : Type 0 where
-    -- from every state that a disk represents which is observed
+    -- from every state that a disk represents which is observed, if the options say of names and
+    -- ids what they mean
     pub plays : IsTrue env.models_disk → (opening : Opening) → IsOpening store asked opening
-        → (old : State)
-        → Represents store (Recalls {C = C} {FP = FP} {B = nothing_boxed} env store) None
-        (env.observed from).disk old
-        → Plays from opening commands given ended to old
-    -- a store that is damaged or locked isn't opened, nor is a missing one that isn't to be made
+        → (meaning : Meaning) → Agrees opening.format meaning → (old : State)
+        → Represents store meaning recalls_nothing None (env.observed from).disk old
+        → Plays meaning from opening commands given ended to old
+    -- a store that is damaged or locked isn't opened, nor is a missing one that isn't to be made,
+    -- or one that is there and must not be
     pub unopened : IsTrue env.models_disk
-        → NeverOpens store asked.create_if_missing (env.observed from).disk
-        → (given ≡ []) × IsUnopened env store asked.create_if_missing from ended to
-    -- under a name that is no store's no call is made
-    pub misnamed : (IsStoreName store → ⊥) → (to ≡ from) × (given ≡ []) × OnOk ended ⊥
+        → NeverOpens store asked (env.observed from).disk
+        → (given ≡ []) × IsUnopened env store asked from ended to
+    -- under a name that is no store's no call is made, nor with options that don't fit
+    pub misnamed : (IsStoreName store × IsTrue asked.fits × IsTrue asked.compresses → ⊥)
+        → (to ≡ from) × (given ≡ []) × OnOk ended ⊥

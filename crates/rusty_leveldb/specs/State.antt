@@ -4,7 +4,7 @@ use Rattle.leveldb_base.specs.declared.error.StatusCode.{StatusCode}
 use Rattle.leveldb_base.specs.History.{Item, Entry, History, IsHistory, entries_of, greatest, with_batch, count_of}
 use Rattle.leveldb_base.specs.Types.{Pair}
 use Rattle.leveldb_version.specs.Contents.{Store}
-use Rattle.rusty_leveldb.specs.Format.{Format}
+use Rattle.leveldb_store.specs.Format.{Format}
 
 -- ---- the state
 
@@ -24,9 +24,9 @@ pub record Opening : Type 0 where
   pub format : Format
   pub create_if_missing : Bool
   pub error_if_exists : Bool
-  -- the store's name and each number are within their limits
+  -- the name is a store's, and each size and count is within its limits
   pub fits : Bool
-  -- the compressor that new blocks ask for is set
+  -- the compressor by which new blocks are stored is set
   pub compresses : Bool
 
 -- the state of the machine: what the store holds, how much of it is durable, and in which mode it
@@ -47,7 +47,7 @@ pub record State : Type 0 where
   pub locked : Bool
   -- which store is there
   pub store : Store
-  -- how its files are read, by its last opening
+  -- what the options of its last opening say
   pub format : Format
 
 -- a closed store holds no snapshot and has given out none

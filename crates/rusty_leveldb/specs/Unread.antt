@@ -3,6 +3,7 @@
 use Rattle.std.specs.Prelude.{◌≡◌, ℕ, Bool, false, List}
 use Rattle.leveldb_env.specs.Env.{Files, FilesCrashTo, SameBut}
 use Rattle.leveldb_version.specs.Contents.{Contents}
+use Rattle.leveldb_store.specs.Format.{Meaning}
 use Rattle.rusty_leveldb.specs.State.{State}
 use Rattle.rusty_leveldb.specs.Machine.{Risk}
 use Rattle.rusty_leveldb.specs.Serves.{Reads, IsSpared}
@@ -23,8 +24,7 @@ AreUnread reads beside files = (left one other : Files) (contents : Contents)
     → reads one contents → reads other contents
 
 -- what a crash leaves of these files is spared, and the names in this set are unread
-pub record IsSparedBeside (store : List ℕ) (beside : List ℕ → Bool) (old : State) (risk : Risk)
-    (files : Files)
-    : Type 0 where
-  pub spared : IsSpared store old risk files
-  pub unread : AreUnread (Reads store risk.format) beside files
+pub record IsSparedBeside (store : List ℕ) (meaning : Meaning) (beside : List ℕ → Bool)
+    (old : State) (risk : Risk) (files : Files) : Type 0 where
+  pub spared : IsSpared store meaning old risk files
+  pub unread : AreUnread (Reads store meaning) beside files

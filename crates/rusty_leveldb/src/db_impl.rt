@@ -1,7 +1,6 @@
 //! The store of one log: an engine, and `DB`, which is an engine beside a borrow of its
 //! environment.
 
-mod build;
 mod close;
 mod engine;
 mod names;
@@ -12,6 +11,6 @@ mod replay;
 mod store;
 mod write;
 
-pub use build::{build_memtable, build_table};
 pub use engine::{Engine, Mode};
+pub use leveldb_store::build::{build_memtable, build_table};
 pub use store::{DB, Store};

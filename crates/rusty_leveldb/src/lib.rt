@@ -14,7 +14,14 @@ pub use leveldb_env::compressor::{Compressor, CompressorId, CompressorList};
 pub use leveldb_env::filter::{BloomPolicy, FilterPolicy};
 pub use leveldb_env::mem_env::MemEnv;
 pub use leveldb_env::options::Options;
-pub use leveldb_env::{compressor, env, filter, filter_block, mem_env, options};
+pub use leveldb_env::{
+    compressor, disk_env, env, filter, filter_block, infolog, laws as env_laws, mem_env, options,
+};
 pub use leveldb_mem::skipmap::SkipMap;
 pub use leveldb_mem::write_batch::WriteBatch;
 pub use leveldb_mem::{laws as log_laws, log, memtable, skipmap, write_batch};
+pub use leveldb_table::{
+    block, block_builder, block_cache, cache, laws as table_laws, table_block, table_builder,
+    table_reader,
+};
+pub use leveldb_version::{laws as version_laws, version_edit, version_set};

@@ -10,7 +10,7 @@ use Rattle.leveldb_mem.specs.Log.{log_block_size, End, clean, bad}
 use Rattle.leveldb_mem.specs.Log.Writer.{WriterState}
 use Rattle.rusty_leveldb.specs.Recent.{Numbered}
 use Rattle.rusty_leveldb.specs.Replay.{AreBatches, IsReplayed, IsDamaged, AreTooMany, IsTooLarge, IsLargeLog}
-use Rattle.rusty_leveldb.specs.Recovery.{IsFoundAs, framed_file, kept_log, IsMadeKept, SparesLog, IsRecovered, HasCauses, IsFoundOr, IsUntold, IsNotMade, IsNoLog}
+use Rattle.rusty_leveldb.specs.Recovery.{IsFoundAs, framed_file, kept_log, IsMadeKept, SparesLog, IsRecovered, HasCauses, IsFoundOr, IsUntold, IsNotMade, IsThere, IsNoLog}
 use Rattle.leveldb_mem.specs.Log.Files.{IsHuge}
 use Rattle.leveldb_base.specs.declared.error.StatusCode.TheVariants.{NotSupported}
 use Rattle.rusty_leveldb.proofs.Openings.Logs.{mending_spares, opening_spares, opened_recovers}
@@ -64,7 +64,7 @@ module _ (create : Bool) (first read mid now : Files) (name path : List ℕ) (te
   open_spares is either = subst (λ p. SparesLog create (first p) (now p)) named (opening_spares create (first name) records is_clean has are (mid name) (now name) (since_first is) either)
 
   -- when it is open
-  pub open_recovers : (size : ℕ) (writer : WriterState) (recent : Numbered) → mid name ≡ (if is_clean then read name else Some (framed_file records)) → now name ≡ Some (kept_log (mid name))
+  pub open_recovers : {C : Type 0} (size : ℕ) (writer : WriterState) (recent : Numbered C) → mid name ≡ (if is_clean then read name else Some (framed_file records)) → now name ≡ Some (kept_log (mid name))
       → size ≡ length (bytes_of (kept_log (mid name))) → writer ≡ record { size = log_block_size; offset = size % log_block_size; broken = false } → IsReplayed records recent
       → IsRecovered create (first path) (now path) writer recent
   open_recovers size writer recent is there sized stands replayed = subst (λ p. IsRecovered create (first p) (now p) writer recent) named
@@ -95,8 +95,8 @@ no_middle [] text back e = cc
 no_middle (first ∷ front) text back e = cc
 
 -- why the log is not recovered
-abbrev pub RecoveryExcused : Bool → Bool → Option File → Status → Type 0
-RecoveryExcused models_disk create was e = IsOutOfMemory e ⊎ IsNotMade models_disk create was e ⊎ IsNoLog models_disk was e ⊎ IsLargeLog models_disk was e
+abbrev pub RecoveryExcused : Bool → Bool → Bool → Option File → Status → Type 0
+RecoveryExcused models_disk create fresh was e = IsOutOfMemory e ⊎ IsNotMade models_disk create was e ⊎ IsNoLog models_disk was e ⊎ IsLargeLog models_disk was e ⊎ IsThere models_disk fresh was e
 
 -- a file of 2^64 bytes is too large
 huge_file : (was : Option File) → IsSomeAnd was (λ file. 2 ^ 64 ≤ length (bytes_of file)) → IsTooLarge was
@@ -109,21 +109,25 @@ many_entries create None records end found many = absurd (let none : [] ≡ many
 many_entries create (Some file) records end found many = inr (records, end, found, many)
 
 -- a reading that is refused
-pub read_refused : {T U : Type 0} (models_disk create : Bool) (files : Files) {before now : ℕ} {status : Status} (name path : List ℕ) → name ≡ path
-    → HasCauses {T = T} (λ e. IsUntold models_disk e ⊎ IsNotMade models_disk create (files name) e ⊎ IsHuge models_disk (files name) e) before now (Err status) → HasCauses {T = U} (RecoveryExcused models_disk create (files path)) before now (Err status)
-read_refused {U = U} models_disk create files {before = before} {now = now} {status = status} name path named causes =
-    subst (λ p. HasCauses {T = U} (RecoveryExcused models_disk create (files p)) before now (Err status)) named
+pub read_refused : {T U : Type 0} (models_disk create fresh : Bool) (files : Files) {before now : ℕ} {status : Status} (name path : List ℕ) → name ≡ path
+    → HasCauses {T = T} (λ e. IsUntold models_disk e ⊎ IsNotMade models_disk create (files name) e ⊎ IsHuge models_disk (files name) e ⊎ IsThere models_disk fresh (files name) e) before now (Err status) → HasCauses {T = U} (RecoveryExcused models_disk create fresh (files path)) before now (Err status)
+read_refused {U = U} models_disk create fresh files {before = before} {now = now} {status = status} name path named causes =
+    subst (λ p. HasCauses {T = U} (RecoveryExcused models_disk create fresh (files p)) before now (Err status)) named
     (causes_refused (causes_after (Err status) refl
     (λ e why. ⊎_elim (λ u. ⊎_elim (λ m. inl m) (λ n. inr (inr (inl n))) (untold models_disk (files name) e u))
-    (λ others. ⊎_elim (λ n. inr (inl n)) (λ huge. inr (inr (inr (huge.0, λ modelled. huge_file (files name) (huge.1 modelled))))) others) why) causes))
+    (λ others. ⊎_elim (λ n. inr (inl n)) (λ others. ⊎_elim (λ huge. inr (inr (inr (inl (huge.0, λ modelled. huge_file (files name) (huge.1 modelled)))))) (λ there. inr (inr (inr (inr there)))) others) others) why) causes))
 
 -- a replay that is refused
-pub replay_refused : {T : Type 0} (models_disk create : Bool) (files : Files) {before now : ℕ} {status : Status} (name path : List ℕ) (texts records : List (List ℕ)) (end : End) → name ≡ path → now ≡ before
+pub replay_refused : {T : Type 0} (models_disk create fresh : Bool) (files : Files) {before now : ℕ} {status : Status} (name path : List ℕ) (texts records : List (List ℕ)) (end : End) → name ≡ path → now ≡ before
     → records ≡ texts → (IsTrue models_disk → IsFoundAs create (files name) texts end) → IsOutOfMemory status ⊎ IsDamaged records status ⊎ ((status.code ≡ NotSupported) × AreTooMany records)
-    → HasCauses {T = T} (RecoveryExcused models_disk create (files path)) before now (Err status)
-replay_refused {T = T} models_disk create files {before = before} {now = now} {status = status} name path texts records end named counted same found why =
-    subst (λ p. HasCauses {T = T} (RecoveryExcused models_disk create (files p)) before now (Err status)) named
+    → HasCauses {T = T} (RecoveryExcused models_disk create fresh (files path)) before now (Err status)
+replay_refused {T = T} models_disk create fresh files {before = before} {now = now} {status = status} name path texts records end named counted same found why =
+    subst (λ p. HasCauses {T = T} (RecoveryExcused models_disk create fresh (files p)) before now (Err status)) named
     (excused counted (⊎_elim (λ m. inl m)
     (λ others. ⊎_elim
     (λ is. inr (inr (inl (damaged models_disk create (files name) texts end status found (subst (λ rs. IsDamaged rs status) same is)))))
-    (λ many. inr (inr (inr (many.0, λ modelled. many_entries create (files name) texts end (found modelled) (subst AreTooMany same many.1))))) others) why))
+    (λ many. inr (inr (inr (inl (many.0, λ modelled. many_entries create (files name) texts end (found modelled) (subst AreTooMany same many.1)))))) others) why))
+
+-- where a log must not be, none is
+pub wanted_here : {fresh : Bool} (name path : List ℕ) (files : Files) → name ≡ path → (IsTrue fresh → files name ≡ None) → IsTrue fresh → files path ≡ None
+wanted_here {fresh = fresh} name path files named none = subst (λ p. IsTrue fresh → files p ≡ None) named none

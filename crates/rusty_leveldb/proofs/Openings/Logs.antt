@@ -96,7 +96,7 @@ module _ (create : Bool) (was : Option File) (records : List (List ℕ)) (is_cle
       )) either
 
   -- an opened log is recovered
-  pub opened_recovers : (mid now : Option File) (size : ℕ) (writer : WriterState) (recent : Numbered) → mid ≡ (if is_clean then was else Some (framed_file records)) → now ≡ Some (kept_log mid)
+  pub opened_recovers : {C : Type 0} (mid now : Option File) (size : ℕ) (writer : WriterState) (recent : Numbered C) → mid ≡ (if is_clean then was else Some (framed_file records)) → now ≡ Some (kept_log mid)
       → size ≡ length (bytes_of (kept_log mid)) → writer ≡ record { size = log_block_size; offset = size % log_block_size; broken = false } → IsReplayed records recent → IsRecovered create was now writer recent
   opened_recovers mid now size writer recent is there sized stands replayed = record {
     records = records;

@@ -16,21 +16,22 @@ use Rattle.rusty_leveldb.proofs.Bounds.{safe_allow}
 use Rattle.rusty_leveldb.proofs.Others.{log_kept}
 use Rattle.rusty_leveldb.proofs.Openings.Calls.{Sparing}
 use Rattle.rusty_leveldb.proofs.Openings.Survives.{Survives, survives_now, survives_same, survives_kept}
+use Rattle.leveldb_store.specs.Format.{Meaning}
 
 -- ---- what is spared
 
-spared_of : (store : List ℕ) (opening : Opening) (old : State) (there : Store) (files : Files) → Survives store opening old there files
-    → IsSpared store old (risk_opening opening old) files
-spared_of store opening old there files s = safe_allow store (IsOneLog (log_path store)) (old.last + count_of old.pending) old.durable (with_batch old.history old.pending) files
+spared_of : (store : List ℕ) (meaning : Meaning) (opening : Opening) (old : State) (there : Store) (files : Files) → Survives store opening old there files
+    → IsSpared store meaning old (risk_opening opening old) files
+spared_of store meaning opening old there files s = safe_allow store (IsOneLog (log_path store)) (old.last + count_of old.pending) old.durable (with_batch old.history old.pending) files
     (λ now is. subst (StaysOr (Some opening) old.store) (sym is) s.stays) s.holds.crash
 
 -- from a disk that stands for the state
-pub opening_moments : {first now : Observed} (create : Bool) (store : List ℕ) (opening : Opening) (old : State) → StandsFor store first.disk old
-    → Run (Sparing create (first.disk.files (log_path store)) (log_path store)) first now → Run (IsSpared store old (risk_opening opening old)) first now
-opening_moments {first} create store opening old stands run = Run-mono
+pub opening_moments : {first now : Observed} (create : Bool) (store : List ℕ) (meaning : Meaning) (opening : Opening) (old : State) → StandsFor store meaning first.disk old
+    → Run (Sparing create (first.disk.files (log_path store)) (log_path store)) first now → Run (IsSpared store meaning old (risk_opening opening old)) first now
+opening_moments {first} create store meaning opening old stands run = Run-mono
     (λ files spares. ⊎_elim
-    (λ is. spared_of store opening old old.store files (survives_same store opening old first.disk.files files old.store is (survives_now store opening old first.disk stands)))
-    (λ kept. spared_of store opening old (made None) files (survives_kept store opening old first.disk.files files create kept.0 kept.1 kept.2 kept.3 stands.is_state.durable (survives_now store opening old first.disk stands)))
+    (λ is. spared_of store meaning opening old old.store files (survives_same store opening old first.disk.files files old.store is (survives_now store meaning opening old first.disk stands)))
+    (λ kept. spared_of store meaning opening old (made None) files (survives_kept store opening old first.disk.files files create kept.0 kept.1 kept.2 kept.3 stands.is_state.durable (survives_now store meaning opening old first.disk stands)))
     spares) run
 
 -- ---- the calls of an opening

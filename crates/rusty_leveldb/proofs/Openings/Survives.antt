@@ -15,6 +15,7 @@ use Rattle.rusty_leveldb.proofs.OneLog.Kept.{kept_safe}
 use Rattle.rusty_leveldb.proofs.OneLog.Disks.{holds_on}
 use Rattle.rusty_leveldb.proofs.OneLog.Opening.{opening_finds}
 use Rattle.rusty_leveldb.proofs.Openings.Logs.{carried_over, kept_is_kept}
+use Rattle.leveldb_store.specs.Format.{Meaning}
 
 -- the files hold what the state says, with this store, which the opening may have made
 pub record Survives (store : List ℕ) (opening : Opening) (old : State) (there : Store) (files : Files) : Type 0 where
@@ -38,8 +39,8 @@ stays_made opening None contents there read is = inr (sym is ∙ ap (λ (c : Con
 stays_made opening (Some file) contents there read is = inl (sym (log_store file contents read) ∙ is)
 
 -- before anything is done
-pub survives_now : (store : List ℕ) (opening : Opening) (old : State) (disk : Disk) → StandsFor store disk old → Survives store opening old old.store disk.files
-survives_now store opening old disk stands = record { holds = stands.holds; stays = inl refl }
+pub survives_now : (store : List ℕ) (meaning : Meaning) (opening : Opening) (old : State) (disk : Disk) → StandsFor store meaning disk old → Survives store opening old old.store disk.files
+survives_now store meaning opening old disk stands = record { holds = stands.holds; stays = inl refl }
 
 module _ (store : List ℕ) (opening : Opening) (old : State) (files new : Files) where
   -- where the log is as it was

@@ -19,8 +19,9 @@ use Rattle.rusty_leveldb.proofs.Histories.{entries_more, greatest_append, placed
 use Rattle.rusty_leveldb.proofs.OneLog.Writing.{appending_holds}
 use Rattle.rusty_leveldb.proofs.Others.{spares_but_log}
 use Rattle.rusty_leveldb.proofs.Writes.Stands.{Fails, IsOpen, IsStill, broken_with, Broke, broken_is}
-use Rattle.leveldb_env.specs.Options.{Boxed}
+use Rattle.leveldb_env.specs.Options.{Boxed, OptionsOf}
 use Rattle.rusty_leveldb.specs.Boxes.{EngineOf}
+use Rattle.leveldb_store.specs.Format.{Format, Meaning}
 
 -- a batch that may follow, and its record
 pub record IsNext (last : ℕ) (items : List Item) (bytes : List ℕ) : Type 0 where
@@ -29,7 +30,7 @@ pub record IsNext (last : ℕ) (items : List Item) (bytes : List ℕ) : Type 0 w
   pub all_fit : last + length items ≤ max_sequence
   pub are : AreBytes bytes
 
-module _ {E C FP F : Type 0} {B : Boxed} (env : Ghosts E F) (store : List ℕ) (engine : EngineOf E C FP F B) (from : E) (old : State) (was : IsOpen env store engine from old)
+module _ {E C FP F : Type 0} {B : Boxed} (env : Ghosts E F) (formats : OptionsOf C FP B → Format) (store : List ℕ) (meaning : Meaning) (engine : EngineOf E C FP F B) (from : E) (old : State) (was : IsOpen env formats store meaning engine from old)
     (items : List Item) (bytes : List ℕ) (next : IsNext old.last items bytes) where
   abbrev pub batch : List Entry
   batch = next_batch old items
@@ -72,12 +73,12 @@ module _ {E C FP F : Type 0} {B : Boxed} (env : Ghosts E F) (store : List ℕ) (
     refuses status (inr device) = record { cause = device_failed; comes = (tt, device); leaves = inr (tt, inr breaks) }
 
     -- the log refused the append or the sync behind it, so the store is broken with the batch pending
-    pub write_broke : (status : Status) → Run (IsSpared store old (record { history = longer; bound = old.last + length batch; format = old.format; opening = None })) (env.observed from) (env.observed to) → env.failures from ≤ env.failures to → Fails status (env.failures from) (env.failures to) → PrefixAppended name frame (env.observed from).disk.files (env.observed to).disk.files
-        → (env.observed to).disk.locked ≡ (env.observed from).disk.locked → IsStill env store engine after → after.mode ≡ Broken
-        → Goes store (Recalls env store) (scene env (Some engine) from) (write items sync) (refused (refusal_of status)) (scene env (Some after) to) old
+    pub write_broke : (status : Status) → Run (IsSpared store meaning old (record { history = longer; bound = old.last + length batch; opening = None })) (env.observed from) (env.observed to) → env.failures from ≤ env.failures to → Fails status (env.failures from) (env.failures to) → PrefixAppended name frame (env.observed from).disk.files (env.observed to).disk.files
+        → (env.observed to).disk.locked ≡ (env.observed from).disk.locked → IsStill env formats store meaning engine after → after.mode ≡ Broken
+        → Goes store meaning (Recalls env formats store) (scene env (Some engine) from) (write items sync) (refused (refusal_of status)) (scene env (Some after) to) old
     write_broke status moments later why passes locks still mode = record {
       new = new;
-      represents = broken_is env store engine after from to old (Some batch) was broke;
+      represents = broken_is env formats store meaning engine after from to old (Some batch) was broke;
       later = later;
       step = subst (λ m. Step m faults old (write items sync) (refused (refusal_of status)) new) (sym was.mode) (refuses status why);
       moments = moments;
@@ -88,7 +89,7 @@ module _ {E C FP F : Type 0} {B : Boxed} (env : Ghosts E F) (store : List ℕ) (
         new : State
         new = broken_with old (Some batch)
 
-        broke : Broke env store engine after from to old (Some batch)
+        broke : Broke env formats store meaning engine after from to old (Some batch)
         broke = record {
           still = still;
           mode = mode;

@@ -30,23 +30,25 @@ use Rattle.rusty_leveldb.proofs.Writes.Stands.{IsOpen}
 use Rattle.rusty_leveldb.proofs.Writes.Moments.{risk_behind, append_moments, synced_moments, done_moments}
 use Rattle.rusty_leveldb.proofs.Writes.Batches.{placed_last, not_long, same_set, same_by}
 use Rattle.rusty_leveldb.proofs.Writes.Append.{IsNext, batch, longer, frame, longer_history, longer_reached}
-use Rattle.leveldb_env.specs.Options.{Boxed}
+use Rattle.leveldb_env.specs.Options.{Boxed, OptionsOf}
 use Rattle.rusty_leveldb.specs.Boxes.{EngineOf}
+use Rattle.leveldb_store.specs.Format.{Format, Meaning}
 
-module _ {E C FP F : Type 0} {B : Boxed} (env : Ghosts E F) (store : List ℕ) (engine : EngineOf E C FP F B) (from : E) (old : State) (was : IsOpen env store engine from old)
+module _ {E C FP F : Type 0} {B : Boxed} (env : Ghosts E F) (formats : OptionsOf C FP B → Format) (store : List ℕ) (meaning : Meaning) (engine : EngineOf E C FP F B) (from : E) (old : State) (was : IsOpen env formats store meaning engine from old)
     (items : List Item) (bytes : List ℕ) (next : IsNext old.last items bytes) (after : EngineOf E C FP F B) (to : E) where
   abbrev the_batch : List Entry
-  the_batch = batch env store engine from old was items bytes next
+  the_batch = batch env formats store meaning engine from old was items bytes next
 
   abbrev the_longer : History
-  the_longer = longer env store engine from old was items bytes next
+  the_longer = longer env formats store meaning engine from old was items bytes next
 
   abbrev the_frame : List ℕ
-  the_frame = frame env store engine from old was items bytes next
+  the_frame = frame env formats store meaning engine from old was items bytes next
 
   -- what the engine has behind the write, and what it left alone
   pub record Added : Type 0 where
     pub locks : (env.observed to).disk.locked ≡ (env.observed from).disk.locked
+    pub options : after.options ≡ engine.options
     pub lock : after.lock ≡ engine.lock
     pub mode : after.mode ≡ Open
     pub writer : after.writer ≡ after_frame engine.writer bytes
@@ -57,7 +59,7 @@ module _ {E C FP F : Type 0} {B : Boxed} (env : Ghosts E F) (store : List ℕ) (
 
   -- the log's file behind the append, and so many batches that are durable
   pub record Wrote (sync : Bool) : Type 0 where
-    pub moments : Run (IsSpared store old (risk_behind env store engine from old was items bytes next)) (env.observed from) (env.observed to)
+    pub moments : Run (IsSpared store meaning old (risk_behind env formats store meaning engine from old was items bytes next)) (env.observed from) (env.observed to)
     pub durable : ℕ
     pub covers : MayGrow old.durable old.history durable ⊎ (durable ≡ length the_longer)
     pub synced_is : IsTrue sync → durable ≡ length the_longer
@@ -101,19 +103,20 @@ module _ {E C FP F : Type 0} {B : Boxed} (env : Ghosts E F) (store : List ℕ) (
 
     is_state : IsState new
     is_state = record {
-      history = subst (λ p. IsHistory (with_batch the_longer p)) (sym was.none) (longer_history env store engine from old was items bytes next);
-      reached = longer_reached env store engine from old was items bytes next;
-      pending = subst (λ p. greatest (entries_of (with_batch the_longer p)) ≤ old.last + length items + count_of p) (sym was.none) (omega (arith, longer_reached env store engine from old was items bytes next));
+      history = subst (λ p. IsHistory (with_batch the_longer p)) (sym was.none) (longer_history env formats store meaning engine from old was items bytes next);
+      reached = longer_reached env formats store meaning engine from old was items bytes next;
+      pending = subst (λ p. greatest (entries_of (with_batch the_longer p)) ≤ old.last + length items + count_of p) (sym was.none) (omega (arith, longer_reached env formats store meaning engine from old was items bytes next));
       durable = wrote.within;
       held = λ one there. (omega (arith, (was.disk_is.is_state.held one there).0), (was.disk_is.is_state.held one there).1);
       mode = subst (λ m. SuitsMode m new) (sym was.mode) (was.none, was.held);
     }
 
-    stands : StandsFor store (env.observed to).disk new
+    stands : StandsFor store meaning (env.observed to).disk new
     stands = record {
       is_state = is_state;
       holds = subst (λ p. Holds store (IsOneLog (log_path store)) (λ there. there ≡ old.store) (env.observed to).disk.files the_longer (old.last + length items) wrote.durable p) (sym was.none) wrote.holds;
       locked = ap (λ locked. locked (lock_path store)) added.locks ∙ was.disk_is.locked;
+      agrees = λ in_use. was.agrees;
     }
 
     writer_is : after.writer ≡ record { size = log_block_size; offset = length (bytes_of wrote.file) % log_block_size; broken = false }
@@ -122,10 +125,12 @@ module _ {E C FP F : Type 0} {B : Boxed} (env : Ghosts E F) (store : List ℕ) (
         place : (length (bytes_of was.writes.file) % log_block_size + length the_frame) % log_block_size ≡ length (bytes_of wrote.file) % log_block_size
         place = let all = ap length wrote.bytes_are ∙ length-append (bytes_of was.writes.file) the_frame in omega arith
 
-    recalls : Recalls env store after (env.observed to).disk new
+    recalls : Recalls env formats store after (env.observed to).disk new
     recalls = record {
       mode = ap mode_of added.mode ∙ sym was.mode;
       lock = ap (λ lock. string_bytes lock) added.lock ∙ was.lock;
+      format = λ in_use. ap formats added.options ∙ was.format;
+      cmp = added.inserts.cmp ∙ was.cmp ∙ ap (λ (o : OptionsOf C FP B). o.cmp) (sym added.options);
       shows = λ opened. record {
         last = added.inserts.last ∙ ap (λ n. max n (greatest the_batch)) was.memory_is.last ∙ placed_last old.last items;
         same = shows_more added.inserts added.up_to_last;
@@ -147,14 +152,14 @@ module _ {E C FP F : Type 0} {B : Boxed} (env : Ghosts E F) (store : List ℕ) (
     not_used_up up = let first = next.first_fits in let all = next.all_fit in omega arith
 
     -- the write is done
-    pub wrote_goes : Goes store (Recalls env store) (scene env (Some engine) from) (write items sync) done (scene env (Some after) to) old
+    pub wrote_goes : Goes store meaning (Recalls env formats store) (scene env (Some engine) from) (write items sync) done (scene env (Some after) to) old
     wrote_goes = record {
       new = new;
       represents = record { disk_is = stands; memory_is = recalls };
       later = omega (arith, added.counted);
       step = subst (λ m. Step m (faults_between (env.failures from) (env.failures to)) old (write items sync) done new) (sym was.mode)
           (record { operands = not_long bytes (old.last + 1) items next.is_batch; numbers = not_used_up }, record { state = refl; durable = wrote.covers; synced = wrote.synced_is });
-      moments = done_moments env store engine from old was items bytes next wrote.moments;
+      moments = done_moments env formats store meaning engine from old was items bytes next wrote.moments;
       spares = spares_but_log store (env.observed from).disk (env.observed to).disk old.mode (write items sync) was.mode tt wrote.but added.locks;
       bytes = λ never. absurd never;
     }
@@ -174,7 +179,7 @@ module _ {E C FP F : Type 0} {B : Boxed} (env : Ghosts E F) (store : List ℕ) (
   -- where nothing was synced
   pub unsynced : Run (PrefixAppended (log_path store) the_frame (env.observed from).disk.files) (env.observed from) (env.observed to) → (env.observed to).disk.files ≡ extended (log_path store) the_frame (env.observed from).disk.files → Wrote false
   unsynced run files = record {
-    moments = append_moments env store engine from old was items bytes next run;
+    moments = append_moments env formats store meaning engine from old was items bytes next run;
     durable = old.durable;
     covers = inl (inl refl);
     synced_is = λ never. absurd (cc);
@@ -192,7 +197,7 @@ module _ {E C FP F : Type 0} {B : Boxed} (env : Ghosts E F) (store : List ℕ) (
   pub synced_then : (told : Observed) → Run (PrefixAppended (log_path store) the_frame (env.observed from).disk.files) (env.observed from) told → told.disk.files ≡ extended (log_path store) the_frame (env.observed from).disk.files
       → Run (BeforeOrAfter (synced (log_path store)) told.disk.files) told (env.observed to) → (env.observed to).disk.files ≡ synced (log_path store) told.disk.files → (sync : Bool) → Wrote sync
   synced_then told run first syncing files sync = record {
-    moments = synced_moments env store engine from old was items bytes next (append_moments env store engine from old was items bytes next run) first syncing;
+    moments = synced_moments env formats store meaning engine from old was items bytes next (append_moments env formats store meaning engine from old was items bytes next run) first syncing;
     durable = length the_longer;
     covers = inr refl;
     synced_is = λ asked. refl;

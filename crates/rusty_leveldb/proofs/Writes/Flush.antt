@@ -24,13 +24,14 @@ use Rattle.rusty_leveldb.proofs.OneLog.Writing.{synced_holds}
 use Rattle.rusty_leveldb.proofs.Others.{but_same, spares_but_log, bytes_same, bytes_synced}
 use Rattle.rusty_leveldb.proofs.Writes.Found.{found_cause, fails_found}
 use Rattle.rusty_leveldb.proofs.Writes.Moments.{risk_at, sync_moments, with_none}
-use Rattle.rusty_leveldb.proofs.Writes.Stands.{Fails, fails, Was, IsOpen, is_open, IsStill, remembers_still, broken_with, Broke, broken_is}
-use Rattle.leveldb_env.specs.Options.{Boxed}
+use Rattle.rusty_leveldb.proofs.Writes.Stands.{Fails, fails, Was, IsOpen, is_open, IsStill, still_cmp, remembers_still, broken_with, Broke, broken_is}
+use Rattle.leveldb_env.specs.Options.{Boxed, OptionsOf}
 use Rattle.rusty_leveldb.specs.Boxes.{EngineOf}
+use Rattle.leveldb_store.specs.Format.{Format, Meaning}
 
-module _ {E C FP F : Type 0} {B : Boxed} (env : Ghosts E F) (store : List ℕ) (engine after : EngineOf E C FP F B) (from to : E) (old : State) (was : IsOpen env store engine from old) where
+module _ {E C FP F : Type 0} {B : Boxed} (env : Ghosts E F) (formats : OptionsOf C FP B → Format) (store : List ℕ) (meaning : Meaning) (engine after : EngineOf E C FP F B) (from to : E) (old : State) (was : IsOpen env formats store meaning engine from old) where
   abbrev Flushed : Answer → Type 0
-  Flushed answer = Goes store (Recalls env store) (scene env (Some engine) from) flush answer (scene env (Some after) to) old
+  Flushed answer = Goes store meaning (Recalls env formats store) (scene env (Some engine) from) flush answer (scene env (Some after) to) old
 
   abbrev faults : Faults
   faults = faults_between (env.failures from) (env.failures to)
@@ -43,11 +44,11 @@ module _ {E C FP F : Type 0} {B : Boxed} (env : Ghosts E F) (store : List ℕ) (
   refuses status (inr device) = record { cause = device_failed; comes = (tt, device); leaves = breaks }
 
   -- a refused sync breaks the store
-  pub flush_refused : (status : Status) → Run (IsSpared store old (risk_at old.format old.history (old.last + 0))) (env.observed from) (env.observed to) → env.failures from ≤ env.failures to → Fails status (env.failures from) (env.failures to) → (env.observed to).disk.files ≡ (env.observed from).disk.files
-      → Broke env store engine after from to old None → Flushed (refused (refusal_of status))
+  pub flush_refused : (status : Status) → Run (IsSpared store meaning old (risk_at old.history (old.last + 0))) (env.observed from) (env.observed to) → env.failures from ≤ env.failures to → Fails status (env.failures from) (env.failures to) → (env.observed to).disk.files ≡ (env.observed from).disk.files
+      → Broke env formats store meaning engine after from to old None → Flushed (refused (refusal_of status))
   flush_refused status moments later why same broke = record {
     new = new;
-    represents = broken_is env store engine after from to old None was broke;
+    represents = broken_is env formats store meaning engine after from to old None was broke;
     later = later;
     step = subst (λ m. Step m faults old flush (refused (refusal_of status)) new) (sym was.mode) (refuses status why);
     moments = moments;
@@ -59,14 +60,14 @@ module _ {E C FP F : Type 0} {B : Boxed} (env : Ghosts E F) (store : List ℕ) (
       new = broken_with old None
 
   -- a sync that was done covers all
-  pub flush_done : Run (IsSpared store old (risk_at old.format old.history (old.last + 0))) (env.observed from) (env.observed to) → (env.observed to).disk.files ≡ synced (log_path store) (env.observed from).disk.files → (env.observed to).disk.locked ≡ (env.observed from).disk.locked
-      → env.failures to ≡ env.failures from → IsStill env store engine after → after.mode ≡ Open → after.writer ≡ engine.writer → env.name_of after.log ≡ env.name_of engine.log → Flushed done
+  pub flush_done : Run (IsSpared store meaning old (risk_at old.history (old.last + 0))) (env.observed from) (env.observed to) → (env.observed to).disk.files ≡ synced (log_path store) (env.observed from).disk.files → (env.observed to).disk.locked ≡ (env.observed from).disk.locked
+      → env.failures to ≡ env.failures from → IsStill env formats store meaning engine after → after.mode ≡ Open → after.writer ≡ engine.writer → env.name_of after.log ≡ env.name_of engine.log → Flushed done
   flush_done moments files locks counted still mode writer log = record {
     new = new;
     represents = record { disk_is = stands; memory_is = recalls };
     later = omega (arith, counted);
     step = subst (λ m. Step m faults old flush done new) (sym was.mode) (record { operands = λ no. no; numbers = λ no. no }, record { state = refl });
-    moments = with_none env store engine from old was to moments;
+    moments = with_none env formats store meaning engine from old was to moments;
     spares = spares_but_log store (env.observed from).disk (env.observed to).disk old.mode flush was.mode tt (SameBut-synced (log_path store) (env.observed from).disk.files (env.observed to).disk.files (inr files)) locks;
     bytes = λ syncing. bytes_synced (log_path store) (env.observed from).disk.files (env.observed to).disk.files files;
   }
@@ -86,7 +87,7 @@ module _ {E C FP F : Type 0} {B : Boxed} (env : Ghosts E F) (store : List ℕ) (
       holds : Holds store (IsOneLog (log_path store)) (λ there. there ≡ old.store) (env.observed to).disk.files old.history old.last (length old.history) None
       holds = synced_holds store (env.observed from).disk.files old.history old.last old.durable was.holds was.disk_is.is_state.durable (env.observed to).disk.files files
 
-      stands : StandsFor store (env.observed to).disk new
+      stands : StandsFor store meaning (env.observed to).disk new
       stands = record {
         is_state = record {
           history = was.disk_is.is_state.history;
@@ -98,13 +99,16 @@ module _ {E C FP F : Type 0} {B : Boxed} (env : Ghosts E F) (store : List ℕ) (
         };
         holds = subst (λ p. Holds store (IsOneLog (log_path store)) (λ there. there ≡ old.store) (env.observed to).disk.files old.history old.last (length old.history) p) (sym was.none) holds;
         locked = ap (λ locked. locked (lock_path store)) locks ∙ was.disk_is.locked;
+        agrees = λ in_use. was.agrees;
       }
 
-      recalls : Recalls env store after (env.observed to).disk new
+      recalls : Recalls env formats store after (env.observed to).disk new
       recalls = record {
         mode = ap mode_of mode ∙ sym was.mode;
         lock = ap (λ lock. string_bytes lock) still.lock ∙ was.lock;
-        shows = λ opened. remembers_still env store engine after old new refl refl still was.memory_is;
+        format = λ in_use. ap formats still.options ∙ was.format;
+        cmp = still_cmp env formats store meaning engine after still was.cmp;
+        shows = λ opened. remembers_still env formats store meaning engine after old new refl refl still was.memory_is;
         writes = λ opened. record {
           file = file;
           there = there;
@@ -117,26 +121,26 @@ module _ {E C FP F : Type 0} {B : Boxed} (env : Ghosts E F) (store : List ℕ) (
       }
 
 -- what the sync answered and did is a step of the machine
-module _ {E C FP F : Type 0} {B : Boxed} (env : Ghosts E F) (engine after : EngineOf E C FP F B) (from to : E) (open_now : engine.mode ≡ Open)
-    (rest : after ≡ record engine { log = after.log; writer = after.writer; mode = after.mode }) (modelled : IsTrue env.models_disk) (store : List ℕ) (old : State) (stood : Was env store engine from old) where
-  was : IsOpen env store engine from old
-  was = is_open env store engine from old open_now stood
+module _ {E C FP F : Type 0} {B : Boxed} (env : Ghosts E F) (formats : OptionsOf C FP B → Format) (engine after : EngineOf E C FP F B) (from to : E) (open_now : engine.mode ≡ Open)
+    (rest : after ≡ record engine { log = after.log; writer = after.writer; mode = after.mode }) (modelled : IsTrue env.models_disk) (store : List ℕ) (meaning : Meaning) (old : State) (stood : Was env formats store meaning engine from old) where
+  was : IsOpen env formats store meaning engine from old
+  was = is_open env formats store meaning engine from old open_now stood
 
-  still : IsStill env store engine after
-  still = record { lock = ap (λ e. e.lock) rest; entries = ap (λ e. e.recent.kept.entries) rest; last = ap (λ e. e.recent.last) rest }
+  still : IsStill env formats store meaning engine after
+  still = record { options = ap (λ e. e.options) rest; cmp = ap (λ e. e.recent.cmp) rest; lock = ap (λ e. e.lock) rest; entries = ap (λ e. e.recent.kept.entries) rest; last = ap (λ e. e.recent.last) rest }
 
   pub flush_step : (result : Result (Unit {0}) Status) → OnOk result (after.mode ≡ engine.mode) → OnErr result (after.mode ≡ Broken)
       → OnOk result (Flushes (Syncs env) engine.writer (opened from engine.log) (Ok tt) after.writer (opened to after.log))
       → IfErr result (λ status. (raw : Status) × IsErrorFor raw status × Flushes (Syncs env) engine.writer (opened from engine.log) (Err raw) after.writer (opened to after.log))
-      → Goes store (Recalls env store) (scene env (Some engine) from) flush (done_or result) (scene env (Some after) to) old
+      → Goes store meaning (Recalls env formats store) (scene env (Some engine) from) flush (done_or result) (scene env (Some after) to) old
   flush_step (Ok unit) same_mode broke_mode synced_now unsynced =
       let sync = synced_now.flushed in
-      flush_done env store engine after from to old was (sync_moments env store engine from old was to modelled sync.does) (sync.does.ok modelled ∙ ap (λ name. synced name (env.observed from).disk.files) was.writes.name) (sync.locks modelled) sync.cause.ok still
+      flush_done env formats store meaning engine after from to old was (sync_moments env formats store meaning engine from old was to modelled sync.does) (sync.does.ok modelled ∙ ap (λ name. synced name (env.observed from).disk.files) was.writes.name) (sync.locks modelled) sync.cause.ok still
       (same_mode ∙ open_now) synced_now.ok (sync.file modelled)
   flush_step (Err status) same_mode broke_mode synced_now unsynced =
       let sync = unsynced.2.flushed in
       let same = sync.undone modelled in
-      (flush_refused env store engine after from to old was status (sync_moments env store engine from old was to modelled sync.does) sync.cause.later
+      (flush_refused env formats store meaning engine after from to old was status (sync_moments env formats store meaning engine from old was to modelled sync.does) sync.cause.later
       (fails_found unsynced.0 status unsynced.1 (env.failures from) (env.failures to) (fails env.models_disk (env.name_of engine.log) (env.observed from) was.writes.file (env.failures from) (env.failures to) unsynced.0 (ap (env.observed from).disk.files was.writes.name ∙ was.writes.there) sync.cause))
       same (record {
         still = still;

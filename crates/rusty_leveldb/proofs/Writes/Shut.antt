@@ -18,8 +18,9 @@ use Rattle.rusty_leveldb.proofs.Others.{spares_still}
 use Rattle.rusty_leveldb.specs.Frame.{MayTouch}
 use Rattle.rusty_leveldb.proofs.Writes.Moments.{moments_none}
 use Rattle.rusty_leveldb.proofs.Writes.Stands.{Was, is_open}
-use Rattle.leveldb_env.specs.Options.{Boxed}
+use Rattle.leveldb_env.specs.Options.{Boxed, OptionsOf}
 use Rattle.rusty_leveldb.specs.Boxes.{EngineOf}
+use Rattle.leveldb_store.specs.Format.{Format, Meaning}
 
 broken_text : (err : Option (String Global)) → IfSome err (λ text. string_bytes text ≡ codes "IOError: reopen the store") → (text_of err ≡ []) ⊎ (text_of err ≡ codes "IOError: reopen the store")
 broken_text None is = inl refl
@@ -55,13 +56,13 @@ module _ (faults : Faults) (old : State) where
   broken_step close logs refusal says = (says, refl)
   broken_step request logs refusal says = absurd logs
 
-module _ {E C FP F : Type 0} {B : Boxed} (env : Ghosts E F) (store : List ℕ) (engine : EngineOf E C FP F B) (at : E) (old : State) (was : Was env store engine at old)
+module _ {E C FP F : Type 0} {B : Boxed} (env : Ghosts E F) (formats : OptionsOf C FP B → Format) (store : List ℕ) (meaning : Meaning) (engine : EngineOf E C FP F B) (at : E) (old : State) (was : Was env formats store meaning engine at old)
     (request : Request) (logs : IsRefusedByMode request) (status : Status) where
   abbrev faults : Faults
   faults = faults_between (env.failures at) (env.failures at)
 
   abbrev Refused : Type 0
-  Refused = Goes store (Recalls env store) (scene env (Some engine) at) request (refused (refusal_of status)) (scene env (Some engine) at) old
+  Refused = Goes store meaning (Recalls env formats store) (scene env (Some engine) at) request (refused (refusal_of status)) (scene env (Some engine) at) old
 
   stays : Step old.mode faults old request (refused (refusal_of status)) old → Refused
   stays step = record {
@@ -69,7 +70,7 @@ module _ {E C FP F : Type 0} {B : Boxed} (env : Ghosts E F) (store : List ℕ) (
     represents = was;
     later = omega arith;
     step = step;
-    moments = moments_none store request old (env.observed at) was.disk_is;
+    moments = moments_none store meaning request old (env.observed at) was.disk_is;
     spares = spares_still store (MayTouch store old.mode request) (env.observed at).disk;
     bytes = λ syncing path. refl;
   }
@@ -84,7 +85,7 @@ module _ {E C FP F : Type 0} {B : Boxed} (env : Ghosts E F) (store : List ℕ) (
     where
       by_mode : (mode : Mode) → engine.mode ≡ mode → Refused
       by_mode Open is =
-          let sound : engine.writer.broken ≡ false = ap (λ w. w.broken) (is_open env store engine at old is was).writes.writer in
+          let sound : engine.writer.broken ≡ false = ap (λ w. w.broken) (is_open env formats store meaning engine at old is was).writes.writer in
           ⊎_elim (λ (broke : engine.mode ≡ Broken). absurd (let never : Open ≡ Broken = sym is ∙ broke in cc))
           (λ (broke : IsTrue engine.writer.broken). absurd (let never : false ≡ true = sym sound ∙ broke in cc)) down.0
       by_mode Broken is = stays (subst (λ m. Step m faults old request (refused (refusal_of status)) old) (ap mode_of (sym is) ∙ was.memory_is.mode)

@@ -14,8 +14,9 @@ use Rattle.rusty_leveldb.specs.State.{State, SuitsMode, open_mode, broken, close
 use Rattle.rusty_leveldb.specs.Causes.{HasFailed}
 use Rattle.rusty_leveldb.specs.Serves.{StandsFor, Represents}
 use Rattle.rusty_leveldb.specs.Engine.{mode_of, WritesOn, Remembers, Recalls}
-use Rattle.leveldb_env.specs.Options.{Boxed}
+use Rattle.leveldb_env.specs.Options.{Boxed, OptionsOf}
 use Rattle.rusty_leveldb.specs.Boxes.{EngineOf}
+use Rattle.leveldb_store.specs.Format.{Format, Meaning, Agrees}
 
 -- why a log refused a call
 abbrev pub Fails : Status → ℕ → ℕ → Type 0
@@ -32,9 +33,9 @@ fails models_disk name told file before after status there cause = ⊎_elim
 abbrev pub broken_with : State → Option (List Entry) → State
 broken_with old batch = record old { pending = batch; mode = broken }
 
-module _ {E C FP F : Type 0} {B : Boxed} (env : Ghosts E F) (store : List ℕ) where
+module _ {E C FP F : Type 0} {B : Boxed} (env : Ghosts E F) (formats : OptionsOf C FP B → Format) (store : List ℕ) (meaning : Meaning) where
   abbrev pub Was : EngineOf E C FP F B → E → State → Type 0
-  Was engine at old = Represents store (Recalls env store) (Some engine) (env.observed at).disk old
+  Was engine at old = Represents store meaning (Recalls env formats store) (Some engine) (env.observed at).disk old
 
   -- ---- an open store
 
@@ -43,8 +44,11 @@ module _ {E C FP F : Type 0} {B : Boxed} (env : Ghosts E F) (store : List ℕ) w
     pub mode : old.mode ≡ open_mode
     pub none : old.pending ≡ None
     pub held : IsTrue old.locked
-    pub disk_is : StandsFor store (env.observed at).disk old
+    pub disk_is : StandsFor store meaning (env.observed at).disk old
     pub holds : Holds store (IsOneLog (log_path store)) (λ now. now ≡ old.store) (env.observed at).disk.files old.history old.last old.durable None
+    pub agrees : Agrees old.format meaning
+    pub format : formats engine.options ≡ old.format
+    pub cmp : engine.recent.cmp ≡ engine.options.cmp
     pub lock : string_bytes engine.lock ≡ lock_path store
     pub memory_is : Remembers env store engine old
     pub writes : WritesOn env store engine (env.observed at).disk
@@ -56,13 +60,19 @@ module _ {E C FP F : Type 0} {B : Boxed} (env : Ghosts E F) (store : List ℕ) w
     held = suits.1;
     disk_is = was.disk_is;
     holds = holds;
+    agrees = was.disk_is.agrees in_use;
+    format = was.memory_is.format in_use;
+    cmp = was.memory_is.cmp;
     lock = was.memory_is.lock;
-    memory_is = was.memory_is.shows (λ shut. let never : open_mode ≡ closed = sym mode ∙ shut in cc);
+    memory_is = was.memory_is.shows in_use;
     writes = writes;
   }
     where
       mode : old.mode ≡ open_mode
       mode = sym was.memory_is.mode ∙ ap mode_of open_now
+
+      in_use : old.mode ≡ closed → ⊥
+      in_use shut = let never : open_mode ≡ closed = sym mode ∙ shut in cc
 
       suits : (old.pending ≡ None) × IsTrue old.locked
       suits = subst (λ m. SuitsMode m old) mode was.disk_is.is_state.mode
@@ -75,11 +85,16 @@ module _ {E C FP F : Type 0} {B : Boxed} (env : Ghosts E F) (store : List ℕ) w
 
   -- ---- memory
 
-  -- the entries, their last number and the lock's name are as they were
+  -- the entries, their last number, the options, the comparator and the lock's name are as they were
   pub record IsStill (engine after : EngineOf E C FP F B) : Type 0 where
+    pub options : after.options ≡ engine.options
+    pub cmp : after.recent.cmp ≡ engine.recent.cmp
     pub lock : after.lock ≡ engine.lock
     pub entries : after.recent.kept.entries ≡ engine.recent.kept.entries
     pub last : after.recent.last ≡ engine.recent.last
+
+  pub still_cmp : (engine after : EngineOf E C FP F B) → IsStill engine after → engine.recent.cmp ≡ engine.options.cmp → after.recent.cmp ≡ after.options.cmp
+  still_cmp engine after still is = still.cmp ∙ is ∙ ap (λ (o : OptionsOf C FP B). o.cmp) (sym still.options)
 
   pub remembers_still : (engine after : EngineOf E C FP F B) (old new : State) → new.history ≡ old.history → new.last ≡ old.last → IsStill engine after → Remembers env store engine old → Remembers env store after new
   remembers_still engine after old new history last still memory = record {
@@ -114,10 +129,13 @@ module _ {E C FP F : Type 0} {B : Boxed} (env : Ghosts E F) (store : List ℕ) w
       };
       holds = broke.holds;
       locked = ap (λ locked. locked (lock_path store)) broke.locks ∙ was.disk_is.locked;
+      agrees = λ in_use. was.agrees;
     };
     memory_is = record {
       mode = ap mode_of broke.mode;
       lock = ap (λ lock. string_bytes lock) broke.still.lock ∙ was.lock;
+      format = λ in_use. ap formats broke.still.options ∙ was.format;
+      cmp = still_cmp engine after broke.still was.cmp;
       shows = λ open_or_broken. remembers_still engine after old (broken_with old batch) refl refl broke.still was.memory_is;
       writes = λ opened. absurd (cc);
     };

@@ -22,8 +22,9 @@ use Rattle.rusty_leveldb.proofs.Writes.Stands.{Was}
 use Rattle.rusty_leveldb.proofs.Writes.Kept.{prepared_was}
 use Rattle.rusty_leveldb.proofs.Writes.Append.{IsNext}
 use Rattle.rusty_leveldb.proofs.Writes.Exits.{begun_with, append_refused, done_unsynced, done_synced, sync_refused}
-use Rattle.leveldb_env.specs.Options.{Boxed}
+use Rattle.leveldb_env.specs.Options.{Boxed, OptionsOf}
 use Rattle.rusty_leveldb.specs.Boxes.{EngineOf}
+use Rattle.leveldb_store.specs.Format.{Format, Meaning}
 
 -- ---- the batch
 
@@ -55,32 +56,32 @@ follows last now items batch bytes next is same = subst (λ b. Follows now b) (s
 
 -- ---- the exits
 
-module _ {E C FP F : Type 0} {B : Boxed} (env : Ghosts E F) (store : List ℕ) (engine : EngineOf E C FP F B) (from : E) (old : State) (items : List Item) (sync : Bool) (after : EngineOf E C FP F B) (to : E) where
+module _ {E C FP F : Type 0} {B : Boxed} (env : Ghosts E F) (formats : OptionsOf C FP B → Format) (store : List ℕ) (meaning : Meaning) (engine : EngineOf E C FP F B) (from : E) (old : State) (items : List Item) (sync : Bool) (after : EngineOf E C FP F B) (to : E) where
   abbrev pub Wrote : Answer → Type 0
-  Wrote answer = Goes store (Recalls env store) (scene env (Some engine) from) (write items sync) answer (scene env (Some after) to) old
+  Wrote answer = Goes store meaning (Recalls env formats store) (scene env (Some engine) from) (write items sync) answer (scene env (Some after) to) old
 
-module _ {E C FP F : Type 0} {B : Boxed} (env : Ghosts E F) (modelled : IsTrue env.models_disk) (store : List ℕ) (engine : EngineOf E C FP F B) (from : E) (old : State) (stood : Was env store engine from old)
-    (open_now : engine.mode ≡ Open) (recent : Numbered) (entries : recent.kept.entries ≡ engine.recent.kept.entries) (last : recent.last ≡ engine.recent.last) (items : List Item) (sync : Bool) (bytes : List ℕ)
+module _ {E C FP F : Type 0} {B : Boxed} (env : Ghosts E F) (formats : OptionsOf C FP B → Format) (modelled : IsTrue env.models_disk) (store : List ℕ) (meaning : Meaning) (engine : EngineOf E C FP F B) (from : E) (old : State) (stood : Was env formats store meaning engine from old)
+    (open_now : engine.mode ≡ Open) (recent : Numbered C) (cmp : recent.cmp ≡ engine.recent.cmp) (entries : recent.kept.entries ≡ engine.recent.kept.entries) (last : recent.last ≡ engine.recent.last) (items : List Item) (sync : Bool) (bytes : List ℕ)
     (next : IsNext engine.recent.last items bytes) where
   -- the engine behind the preparation
   abbrev prepared : EngineOf E C FP F B
   prepared = record engine { recent = recent }
 
-  now : Was env store prepared from old
-  now = prepared_was env store engine from old stood recent entries last
+  now : Was env formats store meaning prepared from old
+  now = prepared_was env formats store meaning engine from old stood recent cmp entries last
 
   next_now : IsNext recent.last items bytes
   next_now = subst (λ n. IsNext n items bytes) (sym last) next
 
-  from_prepared : (answer : Answer) (after : EngineOf E C FP F B) (to : E) → Wrote env store prepared from old items sync after to answer → Wrote env store engine from old items sync after to answer
-  from_prepared answer after to goes = begun_with store (Recalls env store) (Some prepared) (Some engine) (env.observed from) (env.failures from) (write items sync) answer (scene env (Some after) to) old goes
+  from_prepared : (answer : Answer) (after : EngineOf E C FP F B) (to : E) → Wrote env formats store meaning prepared from old items sync after to answer → Wrote env formats store meaning engine from old items sync after to answer
+  from_prepared answer after to goes = begun_with store meaning (Recalls env formats store) (Some prepared) (Some engine) (env.observed from) (env.failures from) (write items sync) answer (scene env (Some after) to) old goes
 
   -- the append was refused
   pub refused_append : (after : EngineOf E C FP F B) (to : E) (status : Status) → after ≡ record prepared { log = after.log; writer = after.writer; mode = after.mode } → after.mode ≡ (if after.writer.broken then Broken else engine.mode)
       → (raw : Status) × IsErrorFor raw status × FailsToAdd (Appends env) engine.writer (opened from engine.log) bytes raw after.writer (opened to after.log)
-      → Wrote env store engine from old items sync after to (refused (refusal_of status))
+      → Wrote env formats store meaning engine from old items sync after to (refused (refusal_of status))
   refused_append after to status rest mode refusal = from_prepared (refused (refusal_of status)) after to
-      (append_refused env modelled store prepared from old now open_now items bytes next_now sync after to rest mode refusal.0 status refusal.1 refusal.2)
+      (append_refused env formats modelled store meaning prepared from old now open_now items bytes next_now sync after to rest mode refusal.0 status refusal.1 refusal.2)
 
   -- it was done
   module _ (middle : EngineOf E C FP F B) (mid : E) (rest : middle ≡ record prepared { log = middle.log; writer = middle.writer; mode = middle.mode }) (mode : middle.mode ≡ (if middle.writer.broken then Broken else engine.mode))
@@ -88,11 +89,11 @@ module _ {E C FP F : Type 0} {B : Boxed} (env : Ghosts E F) (modelled : IsTrue e
     -- and the sync was refused
     pub refused_sync : (after : EngineOf E C FP F B) (to : E) (status : Status) → after ≡ record middle { log = after.log; writer = after.writer; mode = after.mode } → after.mode ≡ Broken
         → (raw : Status) × IsErrorFor raw status × Flushes (Syncs env) middle.writer (opened mid middle.log) (Err raw) after.writer (opened to after.log)
-        → Wrote env store engine from old items sync after to (refused (refusal_of status))
+        → Wrote env formats store meaning engine from old items sync after to (refused (refusal_of status))
     refused_sync after to status rest_after broke refusal = from_prepared (refused (refusal_of status)) after to
-        (sync_refused env modelled store prepared from old now open_now items bytes next_now middle mid rest mode count adds sync after to rest_after refusal.0 status refusal.1 broke refusal.2)
+        (sync_refused env formats modelled store meaning prepared from old now open_now items bytes next_now middle mid rest mode count adds sync after to rest_after refusal.0 status refusal.1 broke refusal.2)
 
-    module _ (batch : Batch) (batch_is : batch ≡ batch_of (engine.recent.last + 1) items) (below : AreUpTo engine.recent.last engine.recent.kept.entries) (inserted : Numbered) (self : EngineOf E C FP F B) (inserts : Inserts self.recent batch inserted) (at : E) where
+    module _ (batch : Batch) (batch_is : batch ≡ batch_of (engine.recent.last + 1) items) (below : AreUpTo engine.recent.last engine.recent.kept.entries) (inserted : Numbered C) (self : EngineOf E C FP F B) (inserts : Inserts self.recent batch inserted) (at : E) where
       last_is : engine.recent.last ≡ old.last
       last_is = sym last ∙ last_now
         where
@@ -109,50 +110,50 @@ module _ {E C FP F : Type 0} {B : Boxed} (env : Ghosts E F) (modelled : IsTrue e
       below_now = subst (λ n. AreUpTo n recent.kept.entries) (sym last) (subst (λ es. AreUpTo engine.recent.last es) (sym entries) below)
 
       -- it was all that was asked for
-      pub done_plain : sync ≡ false → self ≡ middle → at ≡ mid → Wrote env store engine from old items sync (record self { recent = inserted }) at done
-      done_plain plain self_is at_is = subst (λ (e : E). Wrote env store engine from old items sync (record self { recent = inserted }) e done) (sym at_is)
-          (subst (λ (m : EngineOf E C FP F B). Wrote env store engine from old items sync (record m { recent = inserted }) mid done) (sym self_is)
+      pub done_plain : sync ≡ false → self ≡ middle → at ≡ mid → Wrote env formats store meaning engine from old items sync (record self { recent = inserted }) at done
+      done_plain plain self_is at_is = subst (λ (e : E). Wrote env formats store meaning engine from old items sync (record self { recent = inserted }) e done) (sym at_is)
+          (subst (λ (m : EngineOf E C FP F B). Wrote env formats store meaning engine from old items sync (record m { recent = inserted }) mid done) (sym self_is)
           (from_prepared done (record middle { recent = inserted }) mid
-          (done_unsynced env modelled store prepared from old now open_now items bytes next_now middle mid rest mode count adds sync plain inserted
+          (done_unsynced env formats modelled store meaning prepared from old now open_now items bytes next_now middle mid rest mode count adds sync plain inserted
           (inserts_now (ap (λ (m : EngineOf E C FP F B). m.recent) self_is ∙ ap (λ (m : EngineOf E C FP F B). m.recent) rest)) below_now)))
 
       -- the sync was done too
       pub done_with_sync : (after : EngineOf E C FP F B) (to : E) → after ≡ record middle { log = after.log; writer = after.writer; mode = after.mode } → after.mode ≡ middle.mode
-          → Flushes (Syncs env) middle.writer (opened mid middle.log) (Ok tt) after.writer (opened to after.log) → self ≡ after → at ≡ to → Wrote env store engine from old items sync (record self { recent = inserted }) at done
-      done_with_sync after to rest_after same_mode flushed self_is at_is = subst (λ (e : E). Wrote env store engine from old items sync (record self { recent = inserted }) e done) (sym at_is)
-          (subst (λ (m : EngineOf E C FP F B). Wrote env store engine from old items sync (record m { recent = inserted }) to done) (sym self_is)
+          → Flushes (Syncs env) middle.writer (opened mid middle.log) (Ok tt) after.writer (opened to after.log) → self ≡ after → at ≡ to → Wrote env formats store meaning engine from old items sync (record self { recent = inserted }) at done
+      done_with_sync after to rest_after same_mode flushed self_is at_is = subst (λ (e : E). Wrote env formats store meaning engine from old items sync (record self { recent = inserted }) e done) (sym at_is)
+          (subst (λ (m : EngineOf E C FP F B). Wrote env formats store meaning engine from old items sync (record m { recent = inserted }) to done) (sym self_is)
           (from_prepared done (record after { recent = inserted }) to
-          (done_synced env modelled store prepared from old now open_now items bytes next_now middle mid rest mode count adds sync after to rest_after same_mode flushed inserted
+          (done_synced env formats modelled store meaning prepared from old now open_now items bytes next_now middle mid rest mode count adds sync after to rest_after same_mode flushed inserted
           (inserts_now (ap (λ (m : EngineOf E C FP F B). m.recent) self_is ∙ ap (λ (m : EngineOf E C FP F B). m.recent) rest_after ∙ ap (λ (m : EngineOf E C FP F B). m.recent) rest)) below_now)))
 
 -- the last number is the engine's, before the insertion
-pub last_plain : {E C FP F : Type 0} {B : Boxed} (engine : EngineOf E C FP F B) (recent : Numbered) → recent.last ≡ engine.recent.last → (middle self : EngineOf E C FP F B)
+pub last_plain : {E C FP F : Type 0} {B : Boxed} (engine : EngineOf E C FP F B) (recent : Numbered C) → recent.last ≡ engine.recent.last → (middle self : EngineOf E C FP F B)
     → middle ≡ record engine { recent = recent; log = middle.log; writer = middle.writer; mode = middle.mode } → self ≡ middle → self.recent.last ≡ engine.recent.last
 last_plain engine recent last middle self rest self_is = ap (λ m. m.recent.last) self_is ∙ ap (λ m. m.recent.last) rest ∙ last
 
-pub last_synced : {E C FP F : Type 0} {B : Boxed} (engine : EngineOf E C FP F B) (recent : Numbered) → recent.last ≡ engine.recent.last → (middle after self : EngineOf E C FP F B)
+pub last_synced : {E C FP F : Type 0} {B : Boxed} (engine : EngineOf E C FP F B) (recent : Numbered C) → recent.last ≡ engine.recent.last → (middle after self : EngineOf E C FP F B)
     → middle ≡ record engine { recent = recent; log = middle.log; writer = middle.writer; mode = middle.mode } → after ≡ record middle { log = after.log; writer = after.writer; mode = after.mode } → self ≡ after
     → self.recent.last ≡ engine.recent.last
 last_synced engine recent last middle after self rest rest_after self_is = ap (λ m. m.recent.last) self_is ∙ ap (λ m. m.recent.last) rest_after ∙ ap (λ m. m.recent.last) rest ∙ last
 
 -- the room that was made in memory is there still
-pub room_plain : {E C FP F : Type 0} {B : Boxed} (engine : EngineOf E C FP F B) (recent : Numbered) (items : List Item) → HasRoom recent.kept items → (middle self : EngineOf E C FP F B)
+pub room_plain : {E C FP F : Type 0} {B : Boxed} (engine : EngineOf E C FP F B) (recent : Numbered C) (items : List Item) → HasRoom recent.kept items → (middle self : EngineOf E C FP F B)
     → middle ≡ record engine { recent = recent; log = middle.log; writer = middle.writer; mode = middle.mode } → self ≡ middle → HasRoom self.recent.kept items
 room_plain engine recent items room middle self rest self_is =
     subst (λ r. HasRoom r.kept items) (sym (ap (λ m. m.recent) self_is ∙ ap (λ m. m.recent) rest)) room
 
-pub room_synced : {E C FP F : Type 0} {B : Boxed} (engine : EngineOf E C FP F B) (recent : Numbered) (items : List Item) → HasRoom recent.kept items → (middle after self : EngineOf E C FP F B)
+pub room_synced : {E C FP F : Type 0} {B : Boxed} (engine : EngineOf E C FP F B) (recent : Numbered C) (items : List Item) → HasRoom recent.kept items → (middle after self : EngineOf E C FP F B)
     → middle ≡ record engine { recent = recent; log = middle.log; writer = middle.writer; mode = middle.mode } → after ≡ record middle { log = after.log; writer = after.writer; mode = after.mode } → self ≡ after
     → HasRoom self.recent.kept items
 room_synced engine recent items room middle after self rest rest_after self_is =
     subst (λ r. HasRoom r.kept items) (sym (ap (λ m. m.recent) self_is ∙ ap (λ m. m.recent) rest_after ∙ ap (λ m. m.recent) rest)) room
 
 -- the options are the engine's
-pub options_plain : {E C FP F : Type 0} {B : Boxed} (engine : EngineOf E C FP F B) (recent : Numbered) (middle self : EngineOf E C FP F B)
+pub options_plain : {E C FP F : Type 0} {B : Boxed} (engine : EngineOf E C FP F B) (recent : Numbered C) (middle self : EngineOf E C FP F B)
     → middle ≡ record engine { recent = recent; log = middle.log; writer = middle.writer; mode = middle.mode } → self ≡ middle → self.options ≡ engine.options
 options_plain engine recent middle self rest self_is = ap (λ m. m.options) self_is ∙ ap (λ m. m.options) rest
 
-pub options_synced : {E C FP F : Type 0} {B : Boxed} (engine : EngineOf E C FP F B) (recent : Numbered) (middle after self : EngineOf E C FP F B)
+pub options_synced : {E C FP F : Type 0} {B : Boxed} (engine : EngineOf E C FP F B) (recent : Numbered C) (middle after self : EngineOf E C FP F B)
     → middle ≡ record engine { recent = recent; log = middle.log; writer = middle.writer; mode = middle.mode } → after ≡ record middle { log = after.log; writer = after.writer; mode = after.mode } → self ≡ after
     → self.options ≡ engine.options
 options_synced engine recent middle after self rest rest_after self_is = ap (λ m. m.options) self_is ∙ ap (λ m. m.options) rest_after ∙ ap (λ m. m.options) rest

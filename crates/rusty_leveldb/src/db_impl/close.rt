@@ -3,11 +3,13 @@ ghost use Rattle.std.specs.Prelude.{false};
 ghost use Rattle.leveldb_env.specs.Env.{lock_set, same, ChangesFiles, FilesUnchanged, ChangesLocks, HasCause};
 ghost use Rattle.rusty_leveldb.specs.State.{close};
 ghost use Rattle.rusty_leveldb.specs.Serves.{done_or};
+ghost use Rattle.leveldb_store.specs.Format.{format_of};
 ghost use Rattle.rusty_leveldb.specs.Calls.{EngineServes, EngineAbandons};
 
 use super::engine::{Engine, Mode, check_open};
 use leveldb_base::cmp::UserCmp;
 use leveldb_base::error::{Result, StatusCode};
+use leveldb_env::compressor::{CompressorList, Compressors};
 use leveldb_env::env::Env;
 use leveldb_env::filter::FilterPolicy;
 
@@ -15,7 +17,9 @@ impl<E: Env, C: UserCmp + Copy, FP: FilterPolicy + Copy> Engine<E, C, FP> {
     /// Makes a crash keep all batches and gives back the lock. An open store that fails to do so is
     /// broken, and keeps its lock.
     pub fn close(&mut self, env: &mut E) -> Result<()>
-        ensures { EngineServes E.Env done_or self.old env.old close result self.new env.new }
+        ensures { let formats = format_of C.Cmp FP.FilterPolicy
+            ⟦<CompressorList as Compressors>⟧.codings in
+            EngineServes E.Env formats done_or self.old env.old close result self.new env.new }
     {
         check_open(self.alloc, self.mode, &self.writer)?;
         self.sync(env)?;
@@ -29,7 +33,9 @@ impl<E: Env, C: UserCmp + Copy, FP: FilterPolicy + Copy> Engine<E, C, FP> {
 
     /// Gives back the lock, where `close` hasn't. Nothing is synced; a closed store does nothing.
     pub fn abandon(self, env: &mut E) -> Result<()>
-        ensures { EngineAbandons E.Env self env.old result env.new }
+        ensures { let formats = format_of C.Cmp FP.FilterPolicy
+            ⟦<CompressorList as Compressors>⟧.codings in
+            EngineAbandons E.Env formats self env.old result env.new }
     {
         if self.mode == Mode::Closed {
             return Ok(());

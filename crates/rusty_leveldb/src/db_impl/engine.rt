@@ -5,10 +5,12 @@ ghost use Rattle.leveldb_env.specs.Env.{Disk};
 ghost use Rattle.rusty_leveldb.specs.State.{State, open_mode, write, refused};
 ghost use Rattle.rusty_leveldb.specs.Serves.{refusal_of};
 ghost use Rattle.rusty_leveldb.specs.Engine.{IsClosed, RefusedAsClosed, RefusedAsBroken, Recalls, AnswersStill};
+ghost use Rattle.leveldb_store.specs.Format.{format_of};
 
 use super::recent::Recent;
 use leveldb_base::cmp::{Cmp, UserCmp};
 use leveldb_base::error::{Result, StatusCode, err};
+use leveldb_env::compressor::{CompressorList, Compressors};
 use leveldb_env::env::Env;
 use leveldb_env::filter::FilterPolicy;
 use leveldb_env::options::Options;
@@ -70,11 +72,15 @@ pub(crate) fn check_open(alloc: Global, mode: Mode, writer: &WriterCore) -> Resu
 impl<E: Env, C: UserCmp + Copy, FP: FilterPolicy + Copy> Engine<E, C, FP> {
     /// Whether it may be written to; if not, this is refused as every write is.
     pub fn check_writable(&self) -> Result<()>
-        ensures ok { OnOk result
-            ((store : List ℕ) (disk : Disk) (state : State)
-            → Recalls E.Env store self.now disk state → state.mode ≡ open_mode) }
-        ensures step { IfErr result (λ status. (items : List Item) (sync : Bool)
-            → AnswersStill E.Env self.now (write items sync) (refused (refusal_of status))) }
+        ensures ok { let formats = format_of C.Cmp FP.FilterPolicy
+            ⟦<CompressorList as Compressors>⟧.codings in
+            OnOk result ((store : List ℕ) (disk : Disk) (state : State)
+            → Recalls E.Env formats store self.now disk state → state.mode ≡ open_mode) }
+        ensures step { let formats = format_of C.Cmp FP.FilterPolicy
+            ⟦<CompressorList as Compressors>⟧.codings in
+            IfErr result (λ status. (items : List Item) (sync : Bool)
+            → AnswersStill E.Env formats self.now (write items sync)
+            (refused (refusal_of status))) }
         ensures cause { IfErr result
             (λ status. RefusedAsClosed self.now.mode status
             ⊎ RefusedAsBroken self.now.mode self.now.writer status) }

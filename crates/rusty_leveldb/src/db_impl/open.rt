@@ -7,8 +7,9 @@ ghost use Rattle.leveldb_mem.specs.Log.Files.{IsHuge};
 ghost use Rattle.rusty_leveldb.specs.OneLog.{log_path};
 ghost use Rattle.rusty_leveldb.specs.Replay.{IsLargeLog};
 ghost use Rattle.rusty_leveldb.specs.Engine.{opening_of};
+ghost use Rattle.leveldb_store.specs.Format.{format_of};
 ghost use Rattle.rusty_leveldb.specs.Calls.{EngineOpens};
-ghost use Rattle.rusty_leveldb.specs.Recovery.{IsFoundAs, framed_file, kept_log, IsMadeKept, SparesLog, IsUnusable, ChangesLogAlone, IsRecovered, HasCauses, IsFoundOr, IsUntold, IsNotMade, IsNoLog};
+ghost use Rattle.rusty_leveldb.specs.Recovery.{IsFoundAs, framed_file, kept_log, IsMadeKept, SparesLog, IsUnusable, IsUnwanted, IsThere, ChangesLogAlone, IsRecovered, HasCauses, IsFoundOr, IsUntold, IsNotMade, IsNoLog};
 
 use super::close::give_back;
 use super::engine::{Engine, Mode};
@@ -27,24 +28,35 @@ use std::alloc::Global;
 
 impl<E: Env, C: UserCmp + Copy, FP: FilterPolicy + Copy> Engine<E, C, FP> {
     /// Opens the store under this name, which isn't empty and doesn't end in a slash.
-    /// A missing store is made, or `InvalidArgument` if the options say so; a locked one is
-    /// `LockError`. An opening that fails gives back the lock that it took, unless the device
-    /// failed once more. A store that is damaged or locked, or is missing and isn't to be made, is
-    /// never opened; its files stay as they are, but that its lock's file may be made.
+    /// A missing store is made, or `InvalidArgument` if the options say so; one that is there is
+    /// opened, or `AlreadyExists` if they say so; a locked one is `LockError`. Options that
+    /// `Options::check` refuses make no call. An opening that fails gives back the lock that it
+    /// took, unless the device failed once more. A store that is damaged or locked, or is missing
+    /// and isn't to be made, or is there and must not be, is never opened; its files stay as they
+    /// are, but that its lock's file may be made.
     pub fn open(
         alloc: Global,
         name: &str,
         env: &mut E,
         options: Options<C, FP>,
     ) -> Result<Engine<E, C, FP>>
-        ensures { EngineOpens E.Env name.now options (opening_of C.Cmp FP.FilterPolicy
-            ⟦<CompressorList as Compressors>⟧.codings options) env.old result env.new }
+        ensures { let codings = ⟦<CompressorList as Compressors>⟧.codings in
+            EngineOpens E.Env (format_of C.Cmp FP.FilterPolicy codings) name.now options
+            (opening_of C.Cmp FP.FilterPolicy codings options) env.old result env.new }
     {
         check_name(alloc, name)?;
+        options.check(alloc)?;
         let lock = file_name(alloc, name, "LOCK")?;
         env.mkdir(name)?;
         env.lock(&lock)?;
-        match recover(alloc, name, env, options.cmp, options.create_if_missing) {
+        match recover(
+            alloc,
+            name,
+            env,
+            options.cmp,
+            options.create_if_missing,
+            options.error_if_exists,
+        ) {
             Ok((log, writer, recent)) => Ok(Engine {
                 alloc,
                 options,
@@ -69,6 +81,7 @@ fn recover<E: Env, C: UserCmp + Copy>(
     env: &mut E,
     cmp: C,
     create_if_missing: bool,
+    error_if_exists: bool,
 ) -> Result<(E::File, WriterCore, Recent<C>)>
     ensures locks { SameLocks E.models_disk (E.observed env.old) (E.observed env.new) }
     ensures spares { IsTrue E.models_disk
@@ -79,7 +92,11 @@ fn recover<E: Env, C: UserCmp + Copy>(
         → ChangesLogAlone name.now (E.observed env.old).disk.files (E.observed env.new).disk.files }
     ensures unusable { IsTrue E.models_disk
         → IsUnusable create_if_missing ((E.observed env.old).disk.files (log_path name.now))
+        ⊎ IsUnwanted error_if_exists ((E.observed env.old).disk.files (log_path name.now))
         → (E.observed env.new).disk.files ≡ (E.observed env.old).disk.files }
+    ensures cmp { IfOk result (λ got. got.2.cmp ≡ cmp) }
+    ensures wanted { OnOk result (IsTrue E.models_disk → IsTrue error_if_exists
+        → (E.observed env.old).disk.files (log_path name.now) ≡ None) }
     ensures ok { IfOk result (λ got. (got.1.broken ≡ false) × (IsTrue E.models_disk
         → IsRecovered create_if_missing ((E.observed env.old).disk.files (log_path name.now))
         ((E.observed env.new).disk.files (log_path name.now)) got.1 got.2
@@ -89,12 +106,14 @@ fn recover<E: Env, C: UserCmp + Copy>(
         ⊎ IsNotMade E.models_disk create_if_missing
         ((E.observed env.old).disk.files (log_path name.now)) e
         ⊎ IsNoLog E.models_disk ((E.observed env.old).disk.files (log_path name.now)) e
-        ⊎ IsLargeLog E.models_disk ((E.observed env.old).disk.files (log_path name.now)) e)
+        ⊎ IsLargeLog E.models_disk ((E.observed env.old).disk.files (log_path name.now)) e
+        ⊎ IsThere E.models_disk error_if_exists
+        ((E.observed env.old).disk.files (log_path name.now)) e)
         (E.failures env.old) (E.failures env.new) result }
 {
     let full_name = file_name(alloc, name, "000003.log")?;
     let log_name = full_name.as_str();
-    let (read, is_clean) = read_log(alloc, env, log_name, create_if_missing)?;
+    let (read, is_clean) = read_log(alloc, env, log_name, create_if_missing, error_if_exists)?;
     let records = read.as_slice();
     let recent = replay(alloc, cmp, records)?;
     mend(alloc, name, env, log_name, records, is_clean)?;
@@ -103,12 +122,13 @@ fn recover<E: Env, C: UserCmp + Copy>(
 }
 
 // The records of the log, and whether it ends cleanly. A missing log has none, where it may be
-// made.
+// made; one that is there may have to be missing.
 fn read_log<E: Env>(
     alloc: Global,
     env: &mut E,
     log_name: &str,
     create_if_missing: bool,
+    error_if_exists: bool,
 ) -> Result<(Vec<Vec<u8>>, bool)>
     ensures still { IsTrue E.models_disk
         → Run (FilesUnchanged (E.observed env.old).disk.files) (E.observed env.old)
@@ -118,13 +138,19 @@ fn read_log<E: Env>(
         (λ found. IsTrue E.models_disk
         → IsFoundAs create_if_missing ((E.observed env.old).disk.files log_name.now)
         (map (λ v. v.items) found.0.items) (if found.1 then clean else bad)) }
+    ensures wanted { OnOk result (IsTrue E.models_disk → IsTrue error_if_exists
+        → (E.observed env.old).disk.files log_name.now ≡ None) }
     ensures cause { HasCauses
         (λ e. IsUntold E.models_disk e
         ⊎ IsNotMade E.models_disk create_if_missing ((E.observed env.old).disk.files log_name.now) e
-        ⊎ IsHuge E.models_disk ((E.observed env.old).disk.files log_name.now) e)
+        ⊎ IsHuge E.models_disk ((E.observed env.old).disk.files log_name.now) e
+        ⊎ IsThere E.models_disk error_if_exists ((E.observed env.old).disk.files log_name.now) e)
         (E.failures env.old) (E.failures env.new) result }
 {
     if env.exists(log_name)? {
+        if error_if_exists {
+            return err(alloc, StatusCode::AlreadyExists, "there is a store");
+        }
         let read = read_log_file(alloc, env, log_name);
         return found(alloc, read);
     }

@@ -29,9 +29,13 @@ impl<C: Cmp> Model for Recent<C> {
     ghost use Rattle.rusty_leveldb.specs.Recent.{Numbered};
     ghost use Rattle.rusty_leveldb.specs.OneLog.{max_sequence};
 
-    ghost Value = { Numbered };
+    ghost Value = { Numbered C };
 
-    ghost view = { λ recent. record { kept = recent.memtable.kept; last = recent.last } };
+    ghost view = { λ recent. record {
+      cmp = recent.memtable.cmp;
+      kept = recent.memtable.kept;
+      last = recent.last;
+    } };
 
     ghost invariant = { λ recent. AreUpTo recent.last recent.memtable.kept.entries
         × (recent.last ≤ max_sequence) };
@@ -40,6 +44,7 @@ impl<C: Cmp> Model for Recent<C> {
 impl<C: UserCmp> Recent<C> {
     /// No entry yet, and keys in the order of `cmp`.
     pub fn new(alloc: Global, cmp: C) -> Recent<C>
+        ensures cmp { result.cmp ≡ cmp }
         ensures entries { result.kept.entries ≡ [] }
         ensures places { result.kept.places ≡ 0 }
         ensures last { result.last ≡ 0 }
@@ -81,6 +86,7 @@ impl<C: UserCmp> Recent<C> {
     /// Takes all the memory that the batch's entries need.
     /// `NotSupported` if the entries would be too many for a memtable.
     pub fn prepare(&mut self, batch: &WriteBatch) -> Result<()>
+        ensures cmp { self.new.cmp ≡ self.old.cmp }
         ensures entries { self.new.kept.entries ≡ self.old.kept.entries }
         ensures last { self.new.last ≡ self.old.last }
         ensures room { OnOk result (HasRoom self.new.kept batch.now.items) }

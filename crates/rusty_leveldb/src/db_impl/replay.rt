@@ -22,6 +22,7 @@ pub(crate) fn replay<C: UserCmp + Copy>(
     cmp: C,
     records: &[Vec<u8>],
 ) -> Result<Recent<C>>
+    ensures cmp { IfOk result (λ recent. recent.cmp ≡ cmp) }
     ensures ok { IfOk result (λ recent. IsReplayed (map (λ v. v.items) records.now) recent) }
     ensures cause { IfErr result
         (λ status. IsOutOfMemory status ⊎ IsDamaged (map (λ v. v.items) records.now) status

@@ -5,6 +5,7 @@ ghost use Rattle.leveldb_mem.specs.WriteBatch.{item_of};
 ghost use Rattle.rusty_leveldb.specs.State.{write, get, flush, close};
 ghost use Rattle.rusty_leveldb.specs.Serves.{done_or, found_or};
 ghost use Rattle.rusty_leveldb.specs.Engine.{opening_of};
+ghost use Rattle.leveldb_store.specs.Format.{format_of};
 ghost use Rattle.rusty_leveldb.specs.Calls.{EngineServes, EngineAbandons, EngineOpens, result_map};
 
 use super::engine::Engine;
@@ -52,10 +53,11 @@ impl<'e, E: Env, S: Drop> Store<'e, E, S> {
 
 impl<'e, E: Env, C: UserCmp + Copy, FP: FilterPolicy + Copy> Store<'e, E, Engine<E, C, FP>> {
     /// Opens the store under this name, which isn't empty and doesn't end in a slash.
-    /// A missing store is made, or `InvalidArgument` if the options say so; a locked one is
-    /// `LockError`. An opening that fails gives back the lock that it took, unless the device
-    /// failed once more. A store that is damaged or locked, or is missing and isn't to be made, is
-    /// never opened.
+    /// A missing store is made, or `InvalidArgument` if the options say so; one that is there is
+    /// opened, or `AlreadyExists` if they say so; a locked one is `LockError`. Options that
+    /// `Options::check` refuses make no call. An opening that fails gives back the lock that it
+    /// took, unless the device failed once more. A store that is damaged or locked, or is missing
+    /// and isn't to be made, or is there and must not be, is never opened.
     pub fn open(
         alloc: Global,
         name: &str,
@@ -63,9 +65,10 @@ impl<'e, E: Env, C: UserCmp + Copy, FP: FilterPolicy + Copy> Store<'e, E, Engine
         options: Options<C, FP>,
     ) -> Result<DB<'e, E, C, FP>>
         ensures same_reference { IfOk result (λ db. db.env.ghost_name ≡ env.entry.ghost_name) }
-        ensures opens { (left : E) × IfOk result (λ db. db.env.now ≡ left)
-            × EngineOpens E.Env name.now options (opening_of C.Cmp FP.FilterPolicy
-            ⟦<CompressorList as Compressors>⟧.codings options) env.old
+        ensures opens { let codings = ⟦<CompressorList as Compressors>⟧.codings in
+            (left : E) × IfOk result (λ db. db.env.now ≡ left)
+            × EngineOpens E.Env (format_of C.Cmp FP.FilterPolicy codings) name.now options
+            (opening_of C.Cmp FP.FilterPolicy codings options) env.old
             (result_map (λ db. db.state) result) left }
     {
         let engine = Engine::open(alloc, name, &mut *env, options)?;
@@ -75,7 +78,9 @@ impl<'e, E: Env, C: UserCmp + Copy, FP: FilterPolicy + Copy> Store<'e, E, Engine
     /// Gives the key this value, without a sync.
     pub fn put(&mut self, key: &[u8], value: &[u8]) -> Result<()>
         ensures same_reference { self.new.env.ghost_name ≡ self.old.env.ghost_name }
-        ensures serves { EngineServes E.Env done_or self.old.state self.old.env.now
+        ensures serves { let formats = format_of C.Cmp FP.FilterPolicy
+            ⟦<CompressorList as Compressors>⟧.codings in
+            EngineServes E.Env formats done_or self.old.state self.old.env.now
             (write (item_of key.now (Some value.now) ∷ []) false) result self.new.state
             self.new.env.now }
     {
@@ -85,7 +90,9 @@ impl<'e, E: Env, C: UserCmp + Copy, FP: FilterPolicy + Copy> Store<'e, E, Engine
     /// Deletes the key, without a sync.
     pub fn delete(&mut self, key: &[u8]) -> Result<()>
         ensures same_reference { self.new.env.ghost_name ≡ self.old.env.ghost_name }
-        ensures serves { EngineServes E.Env done_or self.old.state self.old.env.now
+        ensures serves { let formats = format_of C.Cmp FP.FilterPolicy
+            ⟦<CompressorList as Compressors>⟧.codings in
+            EngineServes E.Env formats done_or self.old.state self.old.env.now
             (write (item_of key.now None ∷ []) false) result self.new.state self.new.env.now }
     {
         self.state.delete(&mut *self.env, key)
@@ -96,7 +103,9 @@ impl<'e, E: Env, C: UserCmp + Copy, FP: FilterPolicy + Copy> Store<'e, E, Engine
     /// when the store is opened again.
     pub fn write(&mut self, batch: WriteBatch, sync: bool) -> Result<()>
         ensures same_reference { self.new.env.ghost_name ≡ self.old.env.ghost_name }
-        ensures serves { EngineServes E.Env done_or self.old.state self.old.env.now
+        ensures serves { let formats = format_of C.Cmp FP.FilterPolicy
+            ⟦<CompressorList as Compressors>⟧.codings in
+            EngineServes E.Env formats done_or self.old.state self.old.env.now
             (write batch.items sync) result self.new.state self.new.env.now }
     {
         self.state.write(&mut *self.env, batch, sync)
@@ -105,7 +114,9 @@ impl<'e, E: Env, C: UserCmp + Copy, FP: FilterPolicy + Copy> Store<'e, E, Engine
     /// Makes a crash keep all batches.
     pub fn flush(&mut self) -> Result<()>
         ensures same_reference { self.new.env.ghost_name ≡ self.old.env.ghost_name }
-        ensures serves { EngineServes E.Env done_or self.old.state self.old.env.now
+        ensures serves { let formats = format_of C.Cmp FP.FilterPolicy
+            ⟦<CompressorList as Compressors>⟧.codings in
+            EngineServes E.Env formats done_or self.old.state self.old.env.now
             flush result self.new.state self.new.env.now }
     {
         self.state.flush(&mut *self.env)
@@ -114,7 +125,9 @@ impl<'e, E: Env, C: UserCmp + Copy, FP: FilterPolicy + Copy> Store<'e, E, Engine
     /// The key's value, or none if it has none.
     pub fn get(&mut self, key: &[u8]) -> Result<Option<Bytes>>
         ensures same_reference { self.new.env.ghost_name ≡ self.old.env.ghost_name }
-        ensures serves { EngineServes E.Env found_or self.old.state self.old.env.now
+        ensures serves { let formats = format_of C.Cmp FP.FilterPolicy
+            ⟦<CompressorList as Compressors>⟧.codings in
+            EngineServes E.Env formats found_or self.old.state self.old.env.now
             (get None key.now) result self.new.state self.new.env.now }
     {
         self.state.get(&mut *self.env, key)
@@ -124,7 +137,9 @@ impl<'e, E: Env, C: UserCmp + Copy, FP: FilterPolicy + Copy> Store<'e, E, Engine
     /// broken, and keeps its lock.
     pub fn close(&mut self) -> Result<()>
         ensures same_reference { self.new.env.ghost_name ≡ self.old.env.ghost_name }
-        ensures serves { EngineServes E.Env done_or self.old.state self.old.env.now
+        ensures serves { let formats = format_of C.Cmp FP.FilterPolicy
+            ⟦<CompressorList as Compressors>⟧.codings in
+            EngineServes E.Env formats done_or self.old.state self.old.env.now
             close result self.new.state self.new.env.now }
     {
         self.state.close(&mut *self.env)
@@ -132,7 +147,10 @@ impl<'e, E: Env, C: UserCmp + Copy, FP: FilterPolicy + Copy> Store<'e, E, Engine
 
     /// Gives back the lock, where `close` hasn't. Nothing is synced; a closed store does nothing.
     pub fn abandon(self) -> Result<()>
-        ensures { EngineAbandons E.Env self.entry.state self.entry.env.now result self.exit.0.now }
+        ensures { let formats = format_of C.Cmp FP.FilterPolicy
+            ⟦<CompressorList as Compressors>⟧.codings in
+            EngineAbandons E.Env formats self.entry.state self.entry.env.now result
+            self.exit.0.now }
     {
         let Store { env, state } = self;
         state.abandon(env)

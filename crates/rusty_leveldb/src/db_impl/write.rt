@@ -8,12 +8,14 @@ ghost use Rattle.leveldb_mem.specs.Log.Writer.{AddsRecord, FailsToAdd, Flushes};
 ghost use Rattle.rusty_leveldb.specs.State.{write, flush};
 ghost use Rattle.rusty_leveldb.specs.Serves.{done_or};
 ghost use Rattle.rusty_leveldb.specs.Recovery.{IsErrorFor};
+ghost use Rattle.leveldb_store.specs.Format.{format_of};
 ghost use Rattle.rusty_leveldb.specs.Calls.{EngineServes};
 
 use super::engine::{Engine, Mode, check_open};
 use super::open::found;
 use leveldb_base::cmp::UserCmp;
 use leveldb_base::error::Result;
+use leveldb_env::compressor::{CompressorList, Compressors};
 use leveldb_env::env::{Env, EnvFile};
 use leveldb_env::filter::FilterPolicy;
 use leveldb_mem::log::WriterCore;
@@ -23,7 +25,9 @@ use std::alloc::Global;
 impl<E: Env, C: UserCmp + Copy, FP: FilterPolicy + Copy> Engine<E, C, FP> {
     /// Gives the key this value, without a sync.
     pub fn put(&mut self, env: &mut E, key: &[u8], value: &[u8]) -> Result<()>
-        ensures { EngineServes E.Env done_or self.old env.old
+        ensures { let formats = format_of C.Cmp FP.FilterPolicy
+            ⟦<CompressorList as Compressors>⟧.codings in
+            EngineServes E.Env formats done_or self.old env.old
             (write (item_of key.now (Some value.now) ∷ []) false) result self.new env.new }
     {
         check_open(self.alloc, self.mode, &self.writer)?;
@@ -34,7 +38,9 @@ impl<E: Env, C: UserCmp + Copy, FP: FilterPolicy + Copy> Engine<E, C, FP> {
 
     /// Deletes the key, without a sync.
     pub fn delete(&mut self, env: &mut E, key: &[u8]) -> Result<()>
-        ensures { EngineServes E.Env done_or self.old env.old
+        ensures { let formats = format_of C.Cmp FP.FilterPolicy
+            ⟦<CompressorList as Compressors>⟧.codings in
+            EngineServes E.Env formats done_or self.old env.old
             (write (item_of key.now None ∷ []) false) result self.new env.new }
     {
         check_open(self.alloc, self.mode, &self.writer)?;
@@ -47,7 +53,9 @@ impl<E: Env, C: UserCmp + Copy, FP: FilterPolicy + Copy> Engine<E, C, FP> {
     /// then on. A failed append or sync breaks the store: the batch isn't seen, and may be there
     /// when the store is opened again.
     pub fn write(&mut self, env: &mut E, batch: WriteBatch, sync: bool) -> Result<()>
-        ensures { EngineServes E.Env done_or self.old env.old (write batch.items sync) result
+        ensures { let formats = format_of C.Cmp FP.FilterPolicy
+            ⟦<CompressorList as Compressors>⟧.codings in
+            EngineServes E.Env formats done_or self.old env.old (write batch.items sync) result
             self.new env.new }
     {
         check_open(self.alloc, self.mode, &self.writer)?;
@@ -65,7 +73,9 @@ impl<E: Env, C: UserCmp + Copy, FP: FilterPolicy + Copy> Engine<E, C, FP> {
 
     /// Makes a crash keep all batches.
     pub fn flush(&mut self, env: &mut E) -> Result<()>
-        ensures { EngineServes E.Env done_or self.old env.old flush result self.new env.new }
+        ensures { let formats = format_of C.Cmp FP.FilterPolicy
+            ⟦<CompressorList as Compressors>⟧.codings in
+            EngineServes E.Env formats done_or self.old env.old flush result self.new env.new }
     {
         check_open(self.alloc, self.mode, &self.writer)?;
         self.sync(env)

@@ -49,7 +49,7 @@ pub fn live<C: UserCmp + Copy, FP: FilterPolicy + Copy>(
     options: Options<C, FP>,
     commands: &[Command],
 ) -> Result<Report>
-    ensures life { IfOk result (λ report. IsAlwaysLife C FP ⟦<RecordEnv as Env>⟧ name.now env.old
+    ensures life { IfOk result (λ report. IsAlwaysLife ⟦<RecordEnv as Env>⟧ name.now env.old
         (opening_of C.Cmp FP.FilterPolicy ⟦<CompressorList as Compressors>⟧.codings options)
         commands.now report env.new) }
     ensures time { moment_of env.old ≤ moment_of env.new }

@@ -5,7 +5,6 @@ ghost use Rattle.std.specs.Io.KnownBytes.{Appends};
 ghost use Rattle.rusty_leveldb.specs.Language.{reply_lines};
 ghost use Rattle.rusty_leveldb.specs.Program.{status_of, IsInputFault, IsFault, IsMisasked, IsInput, IsPlayed, IsAnswered, IsStopped, ldb_opening};
 ghost use Rattle.rusty_leveldb.specs.Shell.{HasRun};
-ghost use Rattle.leveldb_base.specs.declared.cmp.DefaultCmp.{DefaultCmp};
 ghost use Rattle.rusty_leveldb.specs.declared.shell.commands.Reply.{Reply};
 ghost use Rattle.rusty_leveldb.specs.declared.shell.program.Fault.TheVariants.{Usage};
 
@@ -125,7 +124,7 @@ fn play<E: Env, O: Write>(
     ensures played { OnOk result (IsPlayed E.Env folder.now commands.now env.old env.new
         (O.contents out.old) (O.contents out.new)) }
     ensures run { (given : List Reply) × (ended : Result (Unit {0}) Status)
-        × HasRun DefaultCmp ℕ E.Env folder.now ldb_opening commands.now env.old given ended
+        × HasRun E.Env folder.now ldb_opening commands.now env.old given ended
         env.new }
 {
     let mut replies = Vec::new(alloc);

@@ -4,6 +4,7 @@ ghost use Rattle.leveldb_base.specs.Error.{IsOutOfMemory};
 ghost use Rattle.leveldb_mem.specs.WriteBatch.{with_item, IsTooLong};
 ghost use Rattle.rusty_leveldb.specs.Causes.{IsLongBatch};
 ghost use Rattle.rusty_leveldb.specs.Engine.{TimeGoesOn, Answers, OpenExcused, opening_of};
+ghost use Rattle.leveldb_store.specs.Format.{format_of};
 ghost use Rattle.rusty_leveldb.specs.Calls.{FailsFor};
 ghost use Rattle.rusty_leveldb.specs.Serves.{done_or};
 ghost use Rattle.rusty_leveldb.specs.State as machine;
@@ -32,14 +33,15 @@ pub fn run<E: Env, C: UserCmp + Copy, FP: FilterPolicy + Copy>(
     commands: &[Command],
     replies: &mut Vec<Reply>,
 ) -> Result<()>
-    ensures runs { HasRun C FP E.Env name.now (opening_of C.Cmp FP.FilterPolicy
+    ensures runs { HasRun E.Env name.now (opening_of C.Cmp FP.FilterPolicy
         ⟦<CompressorList as Compressors>⟧.codings opt) commands.now env.old
         (drop (length replies.old.items) replies.new.items) result env.new }
     ensures after { (given : List Reply) × (replies.new.items ≡ replies.old.items ++ given)
         × OnOk result (length given ≡ length commands.now) }
     ensures time { TimeGoesOn E.Env env.old env.new }
-    ensures cause { FailsFor (OpenExcused E.models_disk name.now opt.create_if_missing
-        (E.observed env.old)) (E.failures env.old) (E.failures env.new) result }
+    ensures cause { FailsFor (OpenExcused E.models_disk name.now (opening_of C.Cmp FP.FilterPolicy
+        ⟦<CompressorList as Compressors>⟧.codings opt) (E.observed env.old)) (E.failures env.old)
+        (E.failures env.new) result }
 {
     let alloc = *replies.allocator();
     replies.reserve(commands.len())?;
@@ -59,7 +61,9 @@ pub(super) fn answer<E: Env, C: UserCmp + Copy, FP: FilterPolicy + Copy>(
     env: &mut E,
     command: &Command,
 ) -> Reply
-    ensures step { Answers E.Env (Some engine.old) env.old (request_of command.now)
+    ensures step { let formats = format_of C.Cmp FP.FilterPolicy
+        ⟦<CompressorList as Compressors>⟧.codings in
+        Answers E.Env formats (Some engine.old) env.old (request_of command.now)
         (answer_of result) (Some engine.new) env.new }
     ensures options { engine.new.options ≡ engine.old.options }
     ensures later { E.failures env.old ≤ E.failures env.new }
@@ -97,7 +101,9 @@ fn write<E: Env, C: UserCmp + Copy, FP: FilterPolicy + Copy>(
     items: &[Item],
     sync: bool,
 ) -> Result<()>
-    ensures step { Answers E.Env (Some engine.old) env.old
+    ensures step { let formats = format_of C.Cmp FP.FilterPolicy
+        ⟦<CompressorList as Compressors>⟧.codings in
+        Answers E.Env formats (Some engine.old) env.old
         (machine.write (map change_of items.now) sync) (done_or result) (Some engine.new) env.new }
     ensures options { engine.new.options ≡ engine.old.options }
     ensures later { E.failures env.old ≤ E.failures env.new }

@@ -3,5 +3,5 @@ use Rattle.rusty_leveldb.proofs.Moments.{spared_since}
 use Rattle.rusty_leveldb.proofs.promises.crashes_since_entry_leave_a_prefix.Goals as goal
 
 pub returns : goal.returns
-returns g c store old new request from to moments files left since honest =
-    spared_since store old (risk_of request old new) moments (g.met.E.Env.only_now to) files left since honest
+returns g c store meaning old new request from to moments files left since honest =
+    spared_since store meaning old (risk_of request old new) moments (g.met.E.Env.only_now to) files left since honest

@@ -37,7 +37,7 @@ loop-life-preserved g c =
       from = c.fail.new.self;
       same = c.fail.ensures.same;
       failing = search rules;
-      life_is = subst (λ commands. IsAlwaysLife g.row.C.Denot g.row.FP.Denot ghosts c.args.name.now c.fail.new.self (opening_of g.C.Cmp g.FP.FilterPolicy (compressors g.dyn-2).codings c.in-Some.life.options) commands report c.live.new.env) c.deref.ensures.value c.in_ok-report.ensures.life;
+      life_is = subst (λ commands. IsAlwaysLife ghosts c.args.name.now c.fail.new.self (opening_of g.C.Cmp g.FP.FilterPolicy (compressors g.dyn-2).codings c.in-Some.life.options) commands report c.live.new.env) c.deref.ensures.value c.in_ok-report.ensures.life;
     } in
     let more = reports_more g.C.Cmp g.FP.FilterPolicy (compressors g.dyn-2).codings c.args.name.now IsCrash so_far.2.first c.loop-life.yielded c.loop-life.reports.items c.loop-life.env c.live.new.env c.match-moment.env life report so_far.2.reports_are is
     (elim c.match-moment.branch [
@@ -64,7 +64,7 @@ returns-in_err-env g c =
       from = c.fail.new.self;
       same = c.fail.ensures.same;
       failing = search rules;
-      life_is = subst (λ commands. IsAlwaysLife g.row.C.Denot g.row.FP.Denot ghosts c.args.name.now c.fail.new.self (opening_of g.C.Cmp g.FP.FilterPolicy (compressors g.dyn-2).codings c.in-Some.life.options) commands c.in_ok-report.report c.live.new.env) c.deref.ensures.value c.in_ok-report.ensures.life;
+      life_is = subst (λ commands. IsAlwaysLife ghosts c.args.name.now c.fail.new.self (opening_of g.C.Cmp g.FP.FilterPolicy (compressors g.dyn-2).codings c.in-Some.life.options) commands c.in_ok-report.report c.live.new.env) c.deref.ensures.value c.in_ok-report.ensures.life;
     } in
     rw (p.1, p.2) (fails_for g.C.Cmp g.FP.FilterPolicy (compressors g.dyn-2).codings c.args.name.now c.args.lives.items c.in_err-env.field-0.0
     (⊎_elim inl (λ why. inr (

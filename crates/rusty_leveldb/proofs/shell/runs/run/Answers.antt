@@ -5,6 +5,7 @@ use Rattle.std.proofs.lemmas.Result.{err_from_is_err_and}
 use Rattle.leveldb_env.specs.contracts.compressor.CompressorListCompressors.TheImpl.{ghosts as compressors}
 use Rattle.rusty_leveldb.proofs.Playing.{play_first, play_more, play_end, not_opened, not_begun, commands_up_to}
 use Rattle.rusty_leveldb.specs.Engine.{opening_of}
+use Rattle.leveldb_store.specs.Format.{format_of}
 use Rattle.rusty_leveldb.proofs.shell.runs.run.Goals as goal
 
 pub returns-in_err-reserve-clause-runs : goal.returns-in_err-reserve-clause-runs
@@ -18,7 +19,7 @@ returns-in_err-engine-clause-runs g c =
     let failed = err_from_is_err_and c.from_residual-in_err-engine.result c.from_residual-in_err-engine.ensures.1 in
     let none : drop (length c.args.replies.now.items) c.reserve.new.self.items ≡ [] = rw c.reserve.ensures.items (drop-length c.args.replies.now.items) in
     rw (failed.1, failed.2) (record {
-      plays = not_opened g.row.C.Denot g.row.FP.Denot g.E.Env (g.met.E.Env.only_now, g.met.E.Env.counts_now) c.args.name.now c.args.opt c.args.env.now c.open.new.env (opening_of g.C.Cmp g.FP.FilterPolicy (compressors g.dyn-2).codings c.args.opt) c.args.commands.now
+      plays = not_opened g.row.C.Denot g.row.FP.Denot g.E.Env (format_of g.C.Cmp g.FP.FilterPolicy (compressors g.dyn-2).codings) (g.met.E.Env.only_now, g.met.E.Env.counts_now) c.args.name.now c.args.opt c.args.env.now c.open.new.env (opening_of g.C.Cmp g.FP.FilterPolicy (compressors g.dyn-2).codings c.args.opt) c.args.commands.now
           (drop (length c.args.replies.now.items) c.reserve.new.self.items) c.in_err-engine.field-0.0 none c.in_err-engine.ensures.step;
       unopened = λ modelled never. (none, c.in_err-engine.ensures.unopened modelled);
       misnamed = λ no. ((c.in_err-engine.ensures.misnamed no).0, none, tt);
@@ -32,7 +33,7 @@ loop-command-init g c = (
   [],
   search rules,
   refl,
-  play_first g.row.C.Denot g.row.FP.Denot g.E.Env (g.met.E.Env.only_now, g.met.E.Env.counts_now) c.args.name.now c.args.env.now c.open.new.env (opening_of g.C.Cmp g.FP.FilterPolicy (compressors g.dyn-2).codings c.args.opt) c.in_ok-engine.engine c.in_ok-engine.ensures.step,
+  play_first g.row.C.Denot g.row.FP.Denot g.E.Env (format_of g.C.Cmp g.FP.FilterPolicy (compressors g.dyn-2).codings) (g.met.E.Env.only_now, g.met.E.Env.counts_now) c.args.name.now c.args.env.now c.open.new.env (opening_of g.C.Cmp g.FP.FilterPolicy (compressors g.dyn-2).codings c.args.opt) c.in_ok-engine.engine c.in_ok-engine.ensures.step,
   c.in_ok-engine.ensures.time,
 )
 
@@ -46,7 +47,7 @@ loop-command-preserved g c =
     let reply = c.answer.result in
     let pushed : c.push.new.self.items ≡ c.loop-command.replies.items ++ reply ∷ [] = search rules in
     let step = c.answer.ensures.step in
-    let more = play_more g.row.C.Denot g.row.FP.Denot g.E.Env (g.met.E.Env.only_now, g.met.E.Env.counts_now) c.args.name.now c.args.env.now c.loop-command.env c.answer.new.env (opening_of g.C.Cmp g.FP.FilterPolicy (compressors g.dyn-2).codings c.args.opt)
+    let more = play_more g.row.C.Denot g.row.FP.Denot g.E.Env (format_of g.C.Cmp g.FP.FilterPolicy (compressors g.dyn-2).codings) (g.met.E.Env.only_now, g.met.E.Env.counts_now) c.args.name.now c.args.env.now c.loop-command.env c.answer.new.env (opening_of g.C.Cmp g.FP.FilterPolicy (compressors g.dyn-2).codings c.args.opt)
     (take c.loop-command.command-index c.args.commands.now) so_far.3 c.loop-command.engine c.answer.new.engine command reply so_far.6 step in
     let behind = commands_up_to c.args.commands.now c.loop-command.command-index command c.loop-command-test.true c.command-item.is in (
       search rules,
@@ -66,7 +67,7 @@ returns-clause-runs g c =
     let all : take c.loop-command.command-index c.args.commands.now ≡ c.args.commands.now = take_all c.loop-command.command-index c.args.commands.now c.loop-command-test.false in
     let step = c.abandon.ensures.step in
     rw given (record {
-      plays = play_end g.row.C.Denot g.row.FP.Denot g.E.Env (g.met.E.Env.only_now, g.met.E.Env.counts_now) c.args.name.now c.args.env.now c.loop-command.env c.abandon.new.env (opening_of g.C.Cmp g.FP.FilterPolicy (compressors g.dyn-2).codings c.args.opt)
+      plays = play_end g.row.C.Denot g.row.FP.Denot g.E.Env (format_of g.C.Cmp g.FP.FilterPolicy (compressors g.dyn-2).codings) (g.met.E.Env.only_now, g.met.E.Env.counts_now) c.args.name.now c.args.env.now c.loop-command.env c.abandon.new.env (opening_of g.C.Cmp g.FP.FilterPolicy (compressors g.dyn-2).codings c.args.opt)
           c.args.commands.now so_far.3 c.loop-command.engine c.abandon.result (rw all at so_far.6) step;
       unopened = λ modelled never. absurd (c.in_ok-engine.ensures.never_opens modelled never);
       misnamed = λ no. absurd (c.in_ok-engine.ensures.misnamed no).1;

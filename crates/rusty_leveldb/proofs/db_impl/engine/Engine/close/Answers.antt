@@ -14,7 +14,7 @@ returns-in_err-check_open g c =
       options = refl;
       halted = λ halted. (refl, refl, (c.in_err-check_open.ensures.cause, c.in_err-check_open.ensures.stuck));
       becomes = (tt, (elim c.in_err-check_open.ensures.cause [ inl closed ↦ inl closed.0 | inr broken ↦ inr broken.0 ]));
-      step = λ store tells old was. shut g.E.Env store c.args.self.now c.args.env.now old was close tt c.in_err-check_open.field-0.0 c.in_err-check_open.ensures.cause c.in_err-check_open.ensures.stuck;
+      step = λ store meaning tells old was. shut g.E.Env _ store meaning c.args.self.now c.args.env.now old was close tt c.in_err-check_open.field-0.0 c.in_err-check_open.ensures.cause c.in_err-check_open.ensures.stuck;
       time = λ modelled. omega arith;
       cause = record { later = omega arith; ok = tt; uncounted = λ why. refl; cause = inl ((elim c.in_err-check_open.ensures.cause [ inl closed ↦ inl closed | inr broken ↦ inr (inl broken) ]), refl) };
     })
@@ -27,7 +27,7 @@ returns-in_err-sync g c =
       options = ap (λ m. m.options) c.in_err-sync.ensures.rest;
       halted = λ halted. absurd (not_halted c.args.self.now.mode c.args.self.now.writer c.in_ok-check_open.ensures.ok.0 c.in_ok-check_open.ensures.ok.1 halted);
       becomes = (tt, inr (inl c.in_err-sync.ensures.mode_err));
-      step = sync_refused g.E.Env c.args.self.now c.sync.new.self c.args.env.now c.sync.new.env c.in_err-sync.field-0.0 c.in_ok-check_open.ensures.ok.0 c.in_err-sync.ensures.rest c.in_err-sync.ensures.mode_err unsynced;
+      step = sync_refused g.E.Env _ c.args.self.now c.sync.new.self c.args.env.now c.sync.new.env c.in_err-sync.field-0.0 c.in_ok-check_open.ensures.ok.0 c.in_err-sync.ensures.rest c.in_err-sync.ensures.mode_err unsynced;
       time = λ modelled. unsynced.2.flushed.does.time.later;
       cause = close_cause g.E.Env c.args.self.now c.sync.new.self c.args.env.now c.sync.new.env c.in_ok-check_open.ensures.ok.0 c.in_ok-check_open.ensures.ok.1 c.in_err-sync.field-0.0 unsynced;
     })
@@ -39,7 +39,7 @@ returns-in-Err g c =
       options = ap (λ m. m.options) c.in_ok-sync.ensures.rest;
       halted = λ halted. absurd (not_halted c.args.self.now.mode c.args.self.now.writer c.in_ok-check_open.ensures.ok.0 c.in_ok-check_open.ensures.ok.1 halted);
       becomes = (tt, inr (inl refl));
-      step = unlock_refused g.E.Env c.args.self.now c.sync.new.self c.args.env.now c.sync.new.env c.give_back.new.env c.in_ok-check_open.ensures.ok.0 c.in_ok-sync.ensures.rest synced c.deref.result.now c.deref.ensures
+      step = unlock_refused g.E.Env _ c.args.self.now c.sync.new.self c.args.env.now c.sync.new.env c.give_back.new.env c.in_ok-check_open.ensures.ok.0 c.in_ok-sync.ensures.rest synced c.deref.result.now c.deref.ensures
           c.in-Err.status c.in-Err.ensures.does c.in-Err.ensures.locks c.in-Err.ensures.cause;
       time = λ modelled. let first = synced.flushed.does.time.later in let second = c.in-Err.ensures.does.time.later in omega (arith, first, second);
       cause = counted_refusal (g.E.Env.failures c.args.env.now) (g.E.Env.failures c.sync.new.env) (g.E.Env.failures c.give_back.new.env) c.in-Err.status
@@ -54,7 +54,7 @@ returns g c =
       options = ap (λ m. m.options) c.in_ok-sync.ensures.rest;
       halted = λ halted. absurd (not_halted c.args.self.now.mode c.args.self.now.writer c.in_ok-check_open.ensures.ok.0 c.in_ok-check_open.ensures.ok.1 halted);
       becomes = (refl, tt);
-      step = unlocked g.E.Env c.args.self.now c.sync.new.self c.args.env.now c.sync.new.env c.give_back.new.env c.in_ok-check_open.ensures.ok.0 c.in_ok-sync.ensures.rest synced c.deref.result.now c.deref.ensures
+      step = unlocked g.E.Env _ c.args.self.now c.sync.new.self c.args.env.now c.sync.new.env c.give_back.new.env c.in_ok-check_open.ensures.ok.0 c.in_ok-sync.ensures.rest synced c.deref.result.now c.deref.ensures
           c.in_default.ensures.does c.in_default.ensures.locks c.in_default.ensures.cause;
       time = λ modelled. let first = synced.flushed.does.time.later in let second = c.in_default.ensures.does.time.later in omega (arith, first, second);
       cause = record { later = omega (arith, counted); ok = counted; uncounted = tt; cause = tt };

@@ -16,7 +16,7 @@ returns-in_err-check_not_closed g c =
       options = refl;
       halted = λ halted. (refl, refl, closed_by_mode c.args.self.now.mode c.args.self.now.writer c.in_err-check_not_closed.field-0.0 c.in_err-check_not_closed.ensures.cause);
       becomes = (refl, refl);
-      step = get_shut g.E.Env c.args.self.now c.args.key.now c.in_err-check_not_closed.field-0.0 c.in_err-check_not_closed.ensures.cause c.args.env.now;
+      step = get_shut g.E.Env _ c.args.self.now c.args.key.now c.in_err-check_not_closed.field-0.0 c.in_err-check_not_closed.ensures.cause c.args.env.now;
       time = λ modelled. omega arith;
       cause = record { later = omega arith; cause = inl (inl c.in_err-check_not_closed.ensures.cause) };
     })
@@ -27,7 +27,7 @@ returns-then-key-gt-MAX_KEY_SIZE g c =
       options = refl;
       halted = λ halted. absurd (c.in_ok-check_not_closed.ensures.ok halted);
       becomes = (refl, refl);
-      step = get_long g.E.Env c.args.self.now c.args.key.now c.in_ok-check_not_closed.ensures.ok c.err.result c.err.ensures.code c.if-key-gt-MAX_KEY_SIZE.true c.args.env.now;
+      step = get_long g.E.Env _ c.args.self.now c.args.key.now c.in_ok-check_not_closed.ensures.ok c.err.result c.err.ensures.code c.if-key-gt-MAX_KEY_SIZE.true c.args.env.now;
       time = λ modelled. omega arith;
       cause = record { later = omega arith; cause = err_of (λ e. e.code ≡ InvalidArgument) _ c.err.result (λ e code. inl (inr (inl (code, c.if-key-gt-MAX_KEY_SIZE.true)))) c.err.ensures.code };
     }
@@ -38,7 +38,7 @@ returns-in_err-copy_from_slice g c =
       options = refl;
       halted = λ halted. absurd (c.in_ok-check_not_closed.ensures.ok halted);
       becomes = (refl, refl);
-      step = get_starved g.E.Env c.args.self.now c.args.key.now c.in_ok-check_not_closed.ensures.ok c.from_residual-in_err-copy_from_slice.result c.from_residual-in_err-copy_from_slice.ensures.1 c.args.env.now;
+      step = get_starved g.E.Env _ c.args.self.now c.args.key.now c.in_ok-check_not_closed.ensures.ok c.from_residual-in_err-copy_from_slice.result c.from_residual-in_err-copy_from_slice.ensures.1 c.args.env.now;
       time = λ modelled. omega arith;
       cause = record { later = omega arith; cause = err_of IsOutOfMemory _ c.from_residual-in_err-copy_from_slice.result (λ e memory. inl (inr (inr memory))) c.from_residual-in_err-copy_from_slice.ensures.1 };
     }
@@ -49,7 +49,7 @@ returns-in_default g c =
       options = refl;
       halted = λ halted. absurd (c.in_ok-check_not_closed.ensures.ok halted);
       becomes = (refl, refl);
-      step = get_missing g.E.Env c.args.self.now c.args.key.now c.in_ok-check_not_closed.ensures.ok (within c.args.key.now c.if-key-gt-MAX_KEY_SIZE.false)
+      step = get_missing g.E.Env _ c.args.self.now c.args.key.now c.in_ok-check_not_closed.ensures.ok (within c.args.key.now c.if-key-gt-MAX_KEY_SIZE.false)
           (subst (λ (newest : Option (Option (Bor (List ℕ)))). FindsNewest c.args.self.now.recent.kept.entries c.args.self.now.recent.last c.args.key.now (lent_newest newest))
           c.in_default.is c.newest.ensures) c.args.env.now;
       time = λ modelled. omega arith;
@@ -62,7 +62,7 @@ returns-in_default-newest g c =
       options = refl;
       halted = λ halted. absurd (c.in_ok-check_not_closed.ensures.ok halted);
       becomes = (refl, refl);
-      step = get_deleted g.E.Env c.args.self.now c.args.key.now c.in_ok-check_not_closed.ensures.ok (within c.args.key.now c.if-key-gt-MAX_KEY_SIZE.false)
+      step = get_deleted g.E.Env _ c.args.self.now c.args.key.now c.in_ok-check_not_closed.ensures.ok (within c.args.key.now c.if-key-gt-MAX_KEY_SIZE.false)
           (option_copied c.in-Some.newest) (ap (λ (value : Option (Bor (List ℕ))). option_copied value) c.in_default-newest.is) c.in-Some.ensures c.args.env.now;
       time = λ modelled. omega arith;
       cause = record { later = omega arith; cause = tt };
@@ -74,7 +74,7 @@ returns g c =
       options = refl;
       halted = λ halted. absurd (c.in_ok-check_not_closed.ensures.ok halted);
       becomes = (refl, refl);
-      step = get_value g.E.Env c.args.self.now c.args.key.now c.in_ok-check_not_closed.ensures.ok (within c.args.key.now c.if-key-gt-MAX_KEY_SIZE.false)
+      step = get_value g.E.Env _ c.args.self.now c.args.key.now c.in_ok-check_not_closed.ensures.ok (within c.args.key.now c.if-key-gt-MAX_KEY_SIZE.false)
           (option_copied c.in-Some.newest) c.in-Some-newest.value.now c.in_ok-copy_from_slice.field-0
           (ap (λ (value : Option (Bor (List ℕ))). option_copied value) c.in-Some-newest.is) c.in_ok-copy_from_slice.ensures c.in-Some.ensures c.args.env.now;
       time = λ modelled. omega arith;

@@ -20,7 +20,7 @@ returns-in_err-check_open g c =
       options = refl;
       halted = λ halted. (refl, refl, (c.in_err-check_open.ensures.cause, c.in_err-check_open.ensures.stuck));
       becomes = inr refl;
-      step = λ store tells old was. shut g.E.Env store c.args.self.now c.args.env.now old was (write c.args.batch.items c.args.sync) tt c.in_err-check_open.field-0.0 c.in_err-check_open.ensures.cause c.in_err-check_open.ensures.stuck;
+      step = λ store meaning tells old was. shut g.E.Env _ store meaning c.args.self.now c.args.env.now old was (write c.args.batch.items c.args.sync) tt c.in_err-check_open.field-0.0 c.in_err-check_open.ensures.cause c.in_err-check_open.ensures.stuck;
       time = λ modelled. omega arith;
       cause = record { later = omega arith; cause = inl (elim c.in_err-check_open.ensures.cause [ inl closed ↦ inl closed | inr broken ↦ inr (inl broken) ]) };
     })
@@ -32,7 +32,7 @@ returns-in_err-first g c =
       options = refl;
       halted = λ halted. absurd (not_halted c.args.self.now.mode c.args.self.now.writer c.in_ok-check_open.ensures.ok.0 c.in_ok-check_open.ensures.ok.1 halted);
       becomes = inr refl;
-      step = λ store tells old was. used_up_goes g.E.Env store c.args.self.now c.args.env.now old was c.in_ok-check_open.ensures.ok.0 c.args.batch.items c.args.sync c.in_err-first.field-0.0 c.count.result c.count.ensures
+      step = λ store meaning tells old was. used_up_goes g.E.Env _ store meaning c.args.self.now c.args.env.now old was c.in_ok-check_open.ensures.ok.0 c.args.batch.items c.args.sync c.in_err-first.field-0.0 c.count.result c.count.ensures
           c.in_err-first.ensures.cause.0 c.in_err-first.ensures.cause.1;
       time = λ modelled. omega arith;
       cause = record { later = omega arith; cause = inl (inr (inr (inr (inl (c.in_err-first.ensures.cause.0, inl (subst (λ n. AreUsedUp c.args.self.now.recent.last n) c.count.ensures c.in_err-first.ensures.cause.1)))))) };
@@ -45,8 +45,8 @@ returns-in_err-prepare g c =
       options = refl;
       halted = λ halted. absurd (not_halted c.args.self.now.mode c.args.self.now.writer c.in_ok-check_open.ensures.ok.0 c.in_ok-check_open.ensures.ok.1 halted);
       becomes = inr refl;
-      step = λ store tells old was. unprepared_goes g.E.Env store c.args.self.now c.args.env.now old was c.in_ok-check_open.ensures.ok.0 c.args.batch.items c.args.sync c.in_err-prepare.field-0.0
-          (record c.args.self.now { recent = c.prepare.new.self }) (prepared_was g.E.Env store c.args.self.now c.args.env.now old was c.prepare.new.self c.prepare.ensures.entries c.prepare.ensures.last) c.args.self.now.recent.kept (length c.args.batch.items) (bytes_in c.args.batch.items) c.in_err-prepare.ensures.cause;
+      step = λ store meaning tells old was. unprepared_goes g.E.Env _ store meaning c.args.self.now c.args.env.now old was c.in_ok-check_open.ensures.ok.0 c.args.batch.items c.args.sync c.in_err-prepare.field-0.0
+          (record c.args.self.now { recent = c.prepare.new.self }) (prepared_was g.E.Env _ store meaning c.args.self.now c.args.env.now old was c.prepare.new.self c.prepare.ensures.cmp c.prepare.ensures.entries c.prepare.ensures.last) c.args.self.now.recent.kept (length c.args.batch.items) (bytes_in c.args.batch.items) c.in_err-prepare.ensures.cause;
       time = λ modelled. omega arith;
       cause = record { later = omega arith; cause = inl (prepare_excused g.E.Env c.args.self.now c.args.env.now c.args.batch.items c.in_err-prepare.field-0.0 c.in_err-prepare.ensures.cause) };
     })
@@ -59,7 +59,7 @@ returns-in_err-append g c =
       options = ap (λ m. m.options) c.append.ensures.rest;
       halted = λ halted. absurd (not_halted c.args.self.now.mode c.args.self.now.writer c.in_ok-check_open.ensures.ok.0 c.in_ok-check_open.ensures.ok.1 halted);
       becomes = has_broken c.append.new.self.writer c.append.new.self.mode c.args.self.now.mode (stays_if c.append.new.self.writer.broken c.append.new.self.mode c.args.self.now.mode c.append.ensures.mode);
-      step = λ store tells old was. refused_append g.E.Env tells store c.args.self.now c.args.env.now old was c.in_ok-check_open.ensures.ok.0 c.prepare.new.self c.prepare.ensures.entries c.prepare.ensures.last c.args.batch.items c.args.sync c.contents.result.now next c.append.new.self c.append.new.env c.in_err-append.field-0.0
+      step = λ store meaning tells old was. refused_append g.E.Env _ tells store meaning c.args.self.now c.args.env.now old was c.in_ok-check_open.ensures.ok.0 c.prepare.new.self c.prepare.ensures.cmp c.prepare.ensures.entries c.prepare.ensures.last c.args.batch.items c.args.sync c.contents.result.now next c.append.new.self c.append.new.env c.in_err-append.field-0.0
           c.append.ensures.rest c.append.ensures.mode (c.in_err-append.ensures.err c.in_ok-check_open.ensures.ok.1);
       time = λ modelled. append_failed_time g.E.Env c.args.self.now c.args.env.now c.in_ok-check_open.ensures.ok.0 c.in_ok-check_open.ensures.ok.1 c.args.batch.items c.contents.result.now next c.in_err-append.field-0.0 c.append.new.self.writer c.append.new.self.log c.append.new.env (c.in_err-append.ensures.err c.in_ok-check_open.ensures.ok.1);
       cause = append_cause g.E.Env c.args.self.now c.args.env.now c.in_ok-check_open.ensures.ok.0 c.in_ok-check_open.ensures.ok.1 c.args.batch.items c.contents.result.now next c.in_err-append.field-0.0
@@ -74,7 +74,7 @@ returns-in_err-sync g c =
       options = ap (λ m. m.options) c.sync.ensures.rest ∙ ap (λ m. m.options) c.append.ensures.rest;
       halted = λ halted. absurd (not_halted c.args.self.now.mode c.args.self.now.writer c.in_ok-check_open.ensures.ok.0 c.in_ok-check_open.ensures.ok.1 halted);
       becomes = inl (inl c.in_err-sync.ensures.mode_err);
-      step = λ store tells old was. refused_sync g.E.Env tells store c.args.self.now c.args.env.now old was c.in_ok-check_open.ensures.ok.0 c.prepare.new.self c.prepare.ensures.entries c.prepare.ensures.last c.args.batch.items c.args.sync c.contents.result.now next c.append.new.self c.append.new.env c.append.ensures.rest c.append.ensures.mode c.in_ok-append.ensures.ok.0 c.in_ok-append.ensures.ok.1
+      step = λ store meaning tells old was. refused_sync g.E.Env _ tells store meaning c.args.self.now c.args.env.now old was c.in_ok-check_open.ensures.ok.0 c.prepare.new.self c.prepare.ensures.cmp c.prepare.ensures.entries c.prepare.ensures.last c.args.batch.items c.args.sync c.contents.result.now next c.append.new.self c.append.new.env c.append.ensures.rest c.append.ensures.mode c.in_ok-append.ensures.ok.0 c.in_ok-append.ensures.ok.1
           c.sync.new.self c.sync.new.env c.in_err-sync.field-0.0 c.sync.ensures.rest c.in_err-sync.ensures.mode_err
           (c.in_err-sync.ensures.unsynced (still_sound g.E.Env c.args.self.now c.args.env.now c.in_ok-check_open.ensures.ok.0 c.in_ok-check_open.ensures.ok.1 c.args.batch.items c.contents.result.now next c.append.new.self.writer c.append.new.self.log c.append.new.env c.in_ok-append.ensures.ok.0 c.in_ok-append.ensures.ok.1));
       time = λ modelled. sync_time g.E.Env c.args.self.now c.args.env.now c.in_ok-check_open.ensures.ok.0 c.in_ok-check_open.ensures.ok.1 c.args.batch.items c.contents.result.now next c.append.new.self.writer c.append.new.self.log c.append.new.env c.in_ok-append.ensures.ok.0 c.in_ok-append.ensures.ok.1
@@ -118,12 +118,12 @@ returns g c =
             stays_synced c.args.self.now.mode c.append.new.self w.sync.new.self c.if-sync.self c.append.ensures.mode flushed.ok w.in_ok-sync.ensures.mode_ok w.self-is
         | else-sync w ↦ stays_plain c.args.self.now.mode c.append.new.self c.if-sync.self c.append.ensures.mode w.self-is
       ]);
-      step = λ store tells old was. let batch_is : c.set_sequence.new.self ≡ batch_of (c.args.self.now.recent.last + 1) c.args.batch.items = batch_behind c.args.self.now.recent.last c.in_ok-first.first c.args.batch.items c.set_sequence.new.self c.in_ok-first.ensures.ok.0 c.set_sequence.ensures in
+      step = λ store meaning tells old was. let batch_is : c.set_sequence.new.self ≡ batch_of (c.args.self.now.recent.last + 1) c.args.batch.items = batch_behind c.args.self.now.recent.last c.in_ok-first.first c.args.batch.items c.set_sequence.new.self c.in_ok-first.ensures.ok.0 c.set_sequence.ensures in
           elim c.if-sync.branch [
-            | then-sync+in_ok-sync w ↦ done_with_sync g.E.Env tells store c.args.self.now c.args.env.now old was c.in_ok-check_open.ensures.ok.0 c.prepare.new.self c.prepare.ensures.entries c.prepare.ensures.last c.args.batch.items c.args.sync c.contents.result.now next c.append.new.self c.append.new.env c.append.ensures.rest c.append.ensures.mode c.in_ok-append.ensures.ok.0 c.in_ok-append.ensures.ok.1 c.set_sequence.new.self batch_is c.next.ensures.numbered c.insert.new.self c.if-sync.self c.insert.ensures.inserts c.if-sync.env
+            | then-sync+in_ok-sync w ↦ done_with_sync g.E.Env _ tells store meaning c.args.self.now c.args.env.now old was c.in_ok-check_open.ensures.ok.0 c.prepare.new.self c.prepare.ensures.cmp c.prepare.ensures.entries c.prepare.ensures.last c.args.batch.items c.args.sync c.contents.result.now next c.append.new.self c.append.new.env c.append.ensures.rest c.append.ensures.mode c.in_ok-append.ensures.ok.0 c.in_ok-append.ensures.ok.1 c.set_sequence.new.self batch_is c.next.ensures.numbered c.insert.new.self c.if-sync.self c.insert.ensures.inserts c.if-sync.env
                 w.sync.new.self w.sync.new.env w.sync.ensures.rest w.in_ok-sync.ensures.mode_ok
                 (w.in_ok-sync.ensures.synced (still_sound g.E.Env c.args.self.now c.args.env.now c.in_ok-check_open.ensures.ok.0 c.in_ok-check_open.ensures.ok.1 c.args.batch.items c.contents.result.now next c.append.new.self.writer c.append.new.self.log c.append.new.env c.in_ok-append.ensures.ok.0 c.in_ok-append.ensures.ok.1)) w.self-is w.env-is
-            | else-sync w ↦ done_plain g.E.Env tells store c.args.self.now c.args.env.now old was c.in_ok-check_open.ensures.ok.0 c.prepare.new.self c.prepare.ensures.entries c.prepare.ensures.last c.args.batch.items c.args.sync c.contents.result.now next c.append.new.self c.append.new.env c.append.ensures.rest c.append.ensures.mode c.in_ok-append.ensures.ok.0 c.in_ok-append.ensures.ok.1 c.set_sequence.new.self batch_is c.next.ensures.numbered c.insert.new.self c.if-sync.self c.insert.ensures.inserts c.if-sync.env w.if-sync.false w.self-is w.env-is
+            | else-sync w ↦ done_plain g.E.Env _ tells store meaning c.args.self.now c.args.env.now old was c.in_ok-check_open.ensures.ok.0 c.prepare.new.self c.prepare.ensures.cmp c.prepare.ensures.entries c.prepare.ensures.last c.args.batch.items c.args.sync c.contents.result.now next c.append.new.self c.append.new.env c.append.ensures.rest c.append.ensures.mode c.in_ok-append.ensures.ok.0 c.in_ok-append.ensures.ok.1 c.set_sequence.new.self batch_is c.next.ensures.numbered c.insert.new.self c.if-sync.self c.insert.ensures.inserts c.if-sync.env w.if-sync.false w.self-is w.env-is
           ];
       time = λ modelled. elim c.if-sync.branch [
         | then-sync+in_ok-sync w ↦ subst (λ e. (g.E.Env.observed c.args.env.now).moment ≤ (g.E.Env.observed e).moment) (sym w.env-is)

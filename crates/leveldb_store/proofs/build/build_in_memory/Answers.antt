@@ -4,9 +4,9 @@ use Rattle.leveldb_base.specs.Types.{Pair, pair_at, position_within}
 use Rattle.leveldb_env.specs.contracts.compressor.CompressorListCompressors.TheImpl.{ghosts as compressors}
 use Rattle.leveldb_table.specs.BlockBuilder.{last_added}
 use Rattle.leveldb_version.specs.Store.{IsFirstKey, IsLastKey}
-use Rattle.rusty_leveldb.specs.BuildTable.{HasTaken, puts_in_memory}
-use Rattle.rusty_leveldb.proofs.BuildTableLemmas.{built_in_memory, first_key_is, last_key_is, none_first}
-use Rattle.rusty_leveldb.proofs.db_impl.build.build_in_memory.Goals as goal
+use Rattle.leveldb_store.specs.BuildTable.{HasTaken, puts_in_memory}
+use Rattle.leveldb_store.proofs.BuildTableLemmas.{built_in_memory, first_key_is, last_key_is, none_first}
+use Rattle.leveldb_store.proofs.build.build_in_memory.Goals as goal
 
 pub returns-in_default-clause-none : goal.returns-in_default-clause-none
 returns-in_default-clause-none g c =

@@ -3,8 +3,8 @@ use Rattle.leveldb_base.specs.Types.{SameWalk}
 use Rattle.leveldb_env.specs.contracts.compressor.CompressorListCompressors.TheImpl.{ghosts as compressors}
 use Rattle.leveldb_table.specs.BlockBuilder.{last_added}
 use Rattle.leveldb_table.specs.TableBuilder.{last_of}
-use Rattle.rusty_leveldb.specs.BuildTable.{HasTaken, passed}
-use Rattle.rusty_leveldb.proofs.db_impl.build.add_pairs.Given as goal
+use Rattle.leveldb_store.specs.BuildTable.{HasTaken, passed}
+use Rattle.leveldb_store.proofs.build.add_pairs.Given as goal
 
 -- the builder has taken the pairs that the walk has passed
 abbrev pub invariant-adding : goal.invariant-adding

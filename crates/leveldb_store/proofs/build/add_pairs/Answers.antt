@@ -3,9 +3,9 @@ use Rattle.std.proofs.lemmas.Result.{err_from_is_err_and}
 use Rattle.leveldb_base.specs.Types.{IsPosition, Pair, next_position, pair_at}
 use Rattle.leveldb_env.specs.contracts.compressor.CompressorListCompressors.TheImpl.{ghosts as compressors}
 use Rattle.leveldb_table.specs.BlockBuilder.{last_added}
-use Rattle.rusty_leveldb.specs.BuildTable.{HasTaken, passed}
-use Rattle.rusty_leveldb.proofs.BuildTableLemmas.{HasTaken-more, SameWalk-trans, last_taken, next_rises, pair_passed, passed_next, taken_all}
-use Rattle.rusty_leveldb.proofs.db_impl.build.add_pairs.Goals as goal
+use Rattle.leveldb_store.specs.BuildTable.{HasTaken, passed}
+use Rattle.leveldb_store.proofs.BuildTableLemmas.{HasTaken-more, SameWalk-trans, last_taken, next_rises, pair_passed, passed_next, taken_all}
+use Rattle.leveldb_store.proofs.build.add_pairs.Goals as goal
 
 pub add-requires-clause-rising : goal.add-requires-clause-rising
 add-requires-clause-rising g c =

@@ -1,6 +1,6 @@
 use Rattle.std.proofs.Common.{◌∙◌}
-use Rattle.rusty_leveldb.proofs.BuildTableLemmas.{at_sync}
-use Rattle.rusty_leveldb.proofs.db_impl.build.write_synced.Goals as goal
+use Rattle.leveldb_store.proofs.BuildTableLemmas.{at_sync}
+use Rattle.leveldb_store.proofs.build.write_synced.Goals as goal
 
 pub returns-clause-does : goal.returns-clause-does
 returns-clause-does g c = λ modelled.

@@ -1,5 +1,5 @@
-use Rattle.rusty_leveldb.proofs.BuildTableLemmas.{Each-internal, tagged_internal}
-use Rattle.rusty_leveldb.proofs.db_impl.build.build_memtable.Goals as goal
+use Rattle.leveldb_store.proofs.BuildTableLemmas.{Each-internal, tagged_internal}
+use Rattle.leveldb_store.proofs.build.build_memtable.Goals as goal
 
 pub build_table-requires-clause-tagged : goal.build_table-requires-clause-tagged
 build_table-requires-clause-tagged g c = tagged_internal c.iter-walk.result.table.now.kept.entries

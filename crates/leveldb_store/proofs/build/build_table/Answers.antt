@@ -4,9 +4,9 @@ use Rattle.leveldb_base.specs.contracts.cmp.internal.InternalKeyCmpCmp.TheImpl.{
 use Rattle.leveldb_env.specs.contracts.compressor.CompressorListCompressors.TheImpl.{ghosts as compressors}
 use Rattle.leveldb_env.specs.contracts.filter.internal.InternalFilterPolicyFilterPolicy.TheImpl.{ghosts as key_policy}
 use Rattle.leveldb_version.specs.Paths.{table_path}
-use Rattle.rusty_leveldb.specs.BuildTable.{IsTableBuilt, choices_of}
-use Rattle.rusty_leveldb.proofs.BuildTableLemmas.{IsTableUnder-same, MakesTable-before, MakesTable-done, MakesTable-failed, MakesTable-none, built_of_store, first_some}
-use Rattle.rusty_leveldb.proofs.db_impl.build.build_table.Goals as goal
+use Rattle.leveldb_store.specs.BuildTable.{IsTableBuilt, choices_of}
+use Rattle.leveldb_store.proofs.BuildTableLemmas.{IsTableUnder-same, MakesTable-before, MakesTable-done, MakesTable-failed, MakesTable-none, built_of_store, first_some}
+use Rattle.leveldb_store.proofs.build.build_table.Goals as goal
 
 pub returns-in_err-table-clause-makes : goal.returns-in_err-table-clause-makes
 returns-in_err-table-clause-makes g c =

@@ -10,7 +10,7 @@ ghost use Rattle.leveldb_table.specs.BlockBuilder.{last_added};
 ghost use Rattle.leveldb_table.specs.TableBuilder.{order_of, policy_of, last_of};
 ghost use Rattle.leveldb_version.specs.Batches.{Each};
 ghost use Rattle.leveldb_version.specs.Store.{IsFirstKey, IsInternalPair, IsLastKey};
-ghost use Rattle.rusty_leveldb.specs.BuildTable.{CanBeTabled, HasTaken, IsTableUnder, IsUnused, MakesTable, StopsAtPair, StopsInMemory, choices_of};
+ghost use Rattle.leveldb_store.specs.BuildTable.{CanBeTabled, HasTaken, IsTableUnder, IsUnused, MakesTable, StopsAtPair, StopsInMemory, choices_of};
 
 use bytes::Bytes;
 use leveldb_base::cmp::{Cmp, InternalKeyCmp, UserCmp};

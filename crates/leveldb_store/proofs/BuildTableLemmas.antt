@@ -35,7 +35,7 @@ use Rattle.leveldb_table.specs.declared.table_builder.builder_core.BuilderCore.{
 use Rattle.leveldb_version.specs.Batches.{Each}
 use Rattle.leveldb_version.specs.Paths.{table_path}
 use Rattle.leveldb_version.specs.Store.{IsFirstKey, IsInternalPair, IsLastKey, IsStoreTable, any_user_key}
-use Rattle.rusty_leveldb.specs.BuildTable.{AddsPairs, CanBeTabled, HasTaken, IsNotTabled, IsTableBuilt, IsTableFile, IsTableOfStore, IsTableUnder, MakesTable, TableChoices, flushes_in_memory, passed, puts_in_memory}
+use Rattle.leveldb_store.specs.BuildTable.{AddsPairs, CanBeTabled, HasTaken, IsNotTabled, IsTableBuilt, IsTableFile, IsTableOfStore, IsTableUnder, MakesTable, TableChoices, flushes_in_memory, passed, puts_in_memory}
 
 -- ---- pairs in turn
 

@@ -1,0 +1,2 @@
+mod BuildTableLemmas
+pub mod WriteLemmas

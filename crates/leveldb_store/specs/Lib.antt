@@ -1,0 +1,4 @@
+pub mod Format
+pub mod BuildTable
+pub mod OpenStore
+pub mod Write

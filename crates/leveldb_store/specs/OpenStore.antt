@@ -1,0 +1,29 @@
+-- A store that is open: what is in memory of it.
+use Rattle.std.specs.Prelude.{◌≡◌, ◌≢◌, ℕ, Bool, Option, false}
+use Rattle.leveldb_mem.specs.Log.Writer.{WriterState}
+use Rattle.leveldb_mem.specs.MemTable.{Kept}
+use Rattle.leveldb_version.specs.VersionSetValue.{VersionSetValue, broken}
+
+-- a log that batches are appended to
+pub record OpenLogValue : Type 0 where
+  -- its number
+  pub number : ℕ
+  -- the writer of its records
+  pub writer : WriterState
+
+-- an open store
+pub record OpenStoreValue (C : Type 0) : Type 0 where
+  -- the comparator of user keys
+  pub cmp : C
+  -- the version set
+  pub set : VersionSetValue
+  -- the log to which batches are appended
+  pub log : OpenLogValue
+  -- the memtable of that log, and the one of the logs before it, which waits to be a table
+  pub recent : Kept
+  pub waiting : Option Kept
+
+-- no call on its manifest or its log has failed
+pub record IsUnbroken {C : Type 0} (value : OpenStoreValue C) : Type 0 where
+  pub manifest : value.set.manifest ≢ broken
+  pub log : value.log.writer.broken ≡ false

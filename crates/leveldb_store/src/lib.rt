@@ -1,0 +1,6 @@
+//! A store's tables of its memtables, and a store that is open: its memtables, its version set, and
+//! the log to which batches are appended.
+#![tactic(auto)]
+
+pub mod build;
+pub mod open_store;

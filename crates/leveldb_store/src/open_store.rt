@@ -1,0 +1,78 @@
+//! An open store: what is in memory of it, and the log to which batches are appended.
+ghost use Rattle.std.specs.Prelude.{◌≡◌, ◌↔◌, IsTrue, false};
+ghost use Rattle.leveldb_store.specs.OpenStore.{IsUnbroken};
+
+mod write;
+
+use leveldb_base::cmp::{Cmp, UserCmp};
+use leveldb_base::types::{FileNum, SequenceNumber};
+use leveldb_env::env::Env;
+use leveldb_mem::log::WriterCore;
+use leveldb_mem::memtable::MemTable;
+use leveldb_version::version_set::VersionSet;
+use std::alloc::Global;
+use std::marker::Model;
+
+/// A log that batches are appended to: its number, its file, and the writer of its records.
+#[derive(Drop)]
+pub(crate) struct OpenLog<E: Env> {
+    pub(crate) number: FileNum,
+    pub(crate) file: E::File,
+    pub(crate) writer: WriterCore,
+}
+
+/// A store that is open, without its lock and its environment, which each call is given.
+#[derive(Drop)]
+pub struct OpenStore<E: Env, C: Cmp> {
+    pub(crate) alloc: Global,
+    // The store's path.
+    pub(crate) name: String,
+    pub(crate) cmp: C,
+    pub(crate) versions: VersionSet<E>,
+    pub(crate) log: OpenLog<E>,
+    // The entries of the log's batches.
+    pub(crate) recent: MemTable<C>,
+    // Those of the logs before it, until they are in a table.
+    pub(crate) waiting: Option<MemTable<C>>,
+}
+
+impl<E: Env, C: Cmp> Model for OpenStore<E, C> {
+    ghost use Rattle.std.specs.Prelude.{◌≡◌, IfSome, IsTrue, string_bytes};
+    ghost use Rattle.std.specs.Option.{option_map};
+    ghost use Rattle.leveldb_version.specs.Paths.{log_path};
+    ghost use Rattle.leveldb_store.specs.OpenStore.{OpenStoreValue};
+
+    ghost Value = { OpenStoreValue C };
+
+    ghost view = { λ it. record {
+      cmp = it.cmp;
+      set = it.versions;
+      log = record { number = it.log.number; writer = it.log.writer };
+      recent = it.recent.kept;
+      waiting = option_map (λ memtable. memtable.kept) it.waiting;
+    } };
+
+    // The version set is of the store's path, the log's file has the log's path, and both memtables
+    // have the store's order.
+    ghost invariant = { λ it. (it.versions.store ≡ string_bytes it.name)
+        × (IsTrue E.models_disk → E.name_of it.log.file ≡ log_path (string_bytes it.name) it.log.number)
+        × (it.recent.cmp ≡ it.cmp)
+        × IfSome it.waiting (λ memtable. memtable.cmp ≡ it.cmp) };
+}
+
+impl<E: Env, C: UserCmp + Copy> OpenStore<E, C> {
+    /// The number of the last entry.
+    pub fn last_sequence(&self) -> SequenceNumber
+        ensures { result ≡ self.now.set.last_sequence }
+    {
+        self.versions.last_seq()
+    }
+
+    /// Whether a call on its manifest or its log failed: it may be read, and nothing is written to
+    /// it any more.
+    pub fn is_broken(&self) -> bool
+        ensures { (result ≡ false) ↔ IsUnbroken self.now }
+    {
+        self.versions.is_broken() || self.log.writer.is_broken()
+    }
+}

@@ -1,0 +1,111 @@
+//! Writing a batch: memory for it, its record, and its entries; and syncs of the log.
+ghost use Rattle.std.specs.Prelude.{◌≡◌, ◌+◌, true, false, IfErr, IfOk, IsErrAnd, OnOk};
+ghost use Rattle.leveldb_env.specs.Env.{AreBytes};
+ghost use Rattle.leveldb_env.specs.EnvFile.{Appends, Syncs, opened};
+ghost use Rattle.leveldb_mem.specs.Log.Writer.{AddsRecord, FailsToAdd, Flushes, IsWriterBroken};
+ghost use Rattle.leveldb_mem.specs.WriteBatch.{BatchOf, batch_bytes};
+ghost use Rattle.leveldb_store.specs.Write.{AppendsToLog, AreNumbersUsedUp, CanBeInserted, HasNumbers, InsertsBatch, PreparesBatch, SyncsLog};
+
+use super::OpenStore;
+use leveldb_base::cmp::UserCmp;
+use leveldb_base::error::{Result, StatusCode, err};
+use leveldb_base::names::log_file_name;
+use leveldb_base::types::{MAX_SEQUENCE_NUMBER, SequenceNumber};
+use leveldb_env::env::whole_files::found;
+use leveldb_env::env::{Env, EnvFile};
+use leveldb_mem::log::WriterCore;
+use leveldb_mem::write_batch::WriteBatch;
+
+impl<E: Env, C: UserCmp + Copy> OpenStore<E, C> {
+    /// Takes the memory for a batch's entries, and gives the batch its numbers.
+    /// `NotSupported` if the numbers are used up, or the entries are too many for a memtable.
+    pub fn prepare(&mut self, batch: &mut WriteBatch) -> Result<()>
+        ensures { PreparesBatch self.old batch.old result self.new batch.new }
+    {
+        let first = self.next_sequence(batch.count())?;
+        self.recent.prepare(batch)?;
+        batch.set_sequence(first);
+        Ok(())
+    }
+
+    /// Inserts the entries of a batch that was prepared. It takes no memory.
+    pub fn insert(&mut self, batch: &WriteBatch)
+        requires { CanBeInserted self.old batch.now }
+        ensures { InsertsBatch self.old batch.now self.new }
+    {
+        let last = self.versions.last_seq() + u64::from(batch.count());
+        self.recent.insert_prepared(batch.sequence(), batch);
+        self.versions.set_last_seq(last);
+    }
+
+    // The first number of a batch of so many entries after the last.
+    fn next_sequence(&self, count: u32) -> Result<SequenceNumber>
+        ensures ok { IfOk result (λ first. first ≡ self.now.set.last_sequence + 1) }
+        ensures numbers { OnOk result (HasNumbers self.now.set.last_sequence count) }
+        ensures cause { IfErr result (AreNumbersUsedUp self.now.set.last_sequence count) }
+    {
+        let last = self.versions.last_seq();
+        let left = MAX_SEQUENCE_NUMBER.saturating_sub(last);
+        if left == 0 || left < u64::from(count) {
+            return err(
+                self.alloc,
+                StatusCode::NotSupported,
+                "the sequence numbers are used up",
+            );
+        }
+        Ok(last + 1)
+    }
+
+    /// Makes a crash keep all batches. If it fails once it has begun, the store is broken.
+    pub fn sync(&mut self, env: &mut E) -> Result<()>
+        ensures { SyncsLog E.Env self.old env.old result self.new env.new }
+    {
+        let path = log_file_name(self.alloc, &self.name, self.log.number)?;
+        let synced = sync_file(&mut self.log.writer, env, &mut self.log.file);
+        found(self.alloc, &path, synced)
+    }
+
+    /// Appends the record of a batch. If that fails once it has begun, the store is broken, and the
+    /// batch may be found when it is opened again.
+    pub fn append(&mut self, env: &mut E, batch: &WriteBatch) -> Result<()>
+        ensures appends { AppendsToLog E.Env self.old env.old
+            (batch_bytes batch.now.first batch.now.items) result self.new env.new }
+        ensures encoded { BatchOf (batch_bytes batch.now.first batch.now.items) batch.now.first
+            batch.now.items }
+        ensures bytes { AreBytes (batch_bytes batch.now.first batch.now.items) }
+    {
+        let text = batch.contents();
+        let path = log_file_name(self.alloc, &self.name, self.log.number)?;
+        let added = put_record(&mut self.log.writer, env, &mut self.log.file, text);
+        found(self.alloc, &path, added)?;
+        Ok(())
+    }
+}
+
+// Adds a record to a log's file.
+fn put_record<E: Env>(
+    writer: &mut WriterCore,
+    env: &mut E,
+    file: &mut E::File,
+    text: &[u8],
+) -> Result<usize>
+    ensures ok { IfOk result (λ count. AddsRecord (Appends E.Env) writer.old
+        (opened env.old file.old) text.now count writer.new (opened env.new file.new)) }
+    ensures err { writer.old.broken ≡ false → IfErr result (λ status.
+        FailsToAdd (Appends E.Env) writer.old (opened env.old file.old) text.now status writer.new
+        (opened env.new file.new)) }
+    ensures broken { writer.old.broken ≡ true → IsErrAnd result IsWriterBroken
+        × (writer.new ≡ writer.old) × (env.new ≡ env.old) × (file.new ≡ file.old) }
+{
+    writer.add_record(&mut EnvFile { env, file }, text)
+}
+
+// Syncs a log's file.
+fn sync_file<E: Env>(writer: &mut WriterCore, env: &mut E, file: &mut E::File) -> Result<()>
+    ensures usable { writer.old.broken ≡ false → Flushes (Syncs E.Env) writer.old
+        (opened env.old file.old) result writer.new (opened env.new file.new) }
+    ensures broken { writer.old.broken ≡ true → IsErrAnd result IsWriterBroken
+        × (writer.new ≡ writer.old) × (env.new ≡ env.old) × (file.new ≡ file.old) }
+{
+    writer.flush(&mut EnvFile { env, file })
+}
