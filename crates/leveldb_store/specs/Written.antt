@@ -1,0 +1,104 @@
+-- What an open store's memory has to do with the files, and what a call keeps of that.
+use Rattle.std.specs.Prelude.{◌≡◌, ◌≤◌, ◌%◌, ℕ, Bool, List, [], Option, None, Some, All, IsTrue, length, map}
+use Rattle.std.specs.declared.cmp.Ordering.{Ordering}
+use Rattle.leveldb_base.specs.History.{Entry, History, entries_of, greatest}
+use Rattle.leveldb_base.specs.Types.{Pair}
+use Rattle.leveldb_base.specs.declared.types.FileType.{FileType}
+use Rattle.leveldb_base.specs.declared.types.FileType.TheVariants.{Log, Table, Descriptor, Temp}
+use Rattle.leveldb_env.specs.Compressor.{Decodes}
+use Rattle.leveldb_env.specs.Env.{Files, Observed, Run, SameLocks, bytes_of}
+use Rattle.leveldb_mem.specs.Log.{log_block_size}
+use Rattle.leveldb_mem.specs.Log.Writer.{new_writer}
+use Rattle.leveldb_mem.specs.MemTable.{Kept}
+use Rattle.leveldb_version.specs.Contents.{Store}
+use Rattle.leveldb_version.specs.Levels.{LiveTable}
+use Rattle.leveldb_version.specs.Paths.{IsFilePath}
+use Rattle.leveldb_version.specs.Store.{HasTable, IsStoreTable}
+use Rattle.leveldb_version.specs.StoreSteps.{KeepsHistory}
+use Rattle.leveldb_version.specs.VersionEdit.{Edit}
+use Rattle.leveldb_version.specs.Writing.{EngineMemory, IsWrittenBy, ShowsHistory}
+use Rattle.leveldb_store.specs.Format.{Meaning}
+use Rattle.leveldb_store.specs.OpenStore.{IsUnbroken, OpenStoreValue}
+
+-- ---- memory
+
+-- the entries of a memtable that waits, if one does
+abbrev pub waiting_entries : Option Kept → List Entry
+waiting_entries None = []
+waiting_entries (Some waiting) = waiting.entries
+
+-- an open store as the laws of a store's files know it
+abbrev pub memory_of : {C : Type 0} → OpenStoreValue C → EngineMemory
+memory_of value = record {
+  set = value.set;
+  log = value.log.number;
+  recent = value.recent.entries;
+  waiting = waiting_entries value.waiting;
+}
+
+-- ---- files
+
+-- bytes are a table of a store whose names and ids mean this, in this order of user keys
+abbrev pub IsTableOf : (List ℕ → List ℕ → Ordering) → Meaning → List ℕ → List Pair → Type 0
+IsTableOf cmp meaning = IsStoreTable (Decodes meaning.codings) cmp meaning.filters
+
+-- the types of files that change while a store is open
+abbrev pub IsData : FileType → Type 0
+IsData Log = Unit {0}
+IsData Table = Unit {0}
+IsData Descriptor = Unit {0}
+IsData Temp = Unit {0}
+IsData kind = ⊥
+
+-- a path of such a file
+abbrev pub IsDataPath : List ℕ → List ℕ → Type 0
+IsDataPath store path = (kind : FileType) × IsData kind × IsFilePath kind store path
+
+-- `cmp` is the order of user keys, and `meaning` what names and ids in the files mean.
+module _ {C : Type 0} (cmp : List ℕ → List ℕ → Ordering) (meaning : Meaning) where
+  -- The files are a store that is written with what is in memory, and the log's writer is at the
+  -- log's end.
+  pub record IsWritten (value : OpenStoreValue C) (files : Files) : Type 0 where
+    pub edits : List Edit
+    pub by : IsWrittenBy value.set.store cmp (IsTableOf cmp meaning) files edits (memory_of value)
+    pub writer : value.log.writer
+        ≡ new_writer log_block_size (length (bytes_of by.writable.log.file) % log_block_size)
+
+  -- the tables are those of the set's live files, in their order, and each is there
+  pub record HasLiveTables (value : OpenStoreValue C) (files : Files) (tables : List LiveTable)
+      : Type 0 where
+    pub files_are : map (λ (table : LiveTable). table.file) tables ≡ value.set.full.added
+    pub each : All (HasTable value.set.store cmp (IsTableOf cmp meaning) files) tables
+
+  -- the entries in memory and in the live tables show the history
+  pub record Shows (value : OpenStoreValue C) (files : Files) (history : History)
+      : Type 0 where
+    pub tables : List LiveTable
+    pub has : HasLiveTables value files tables
+    pub shows : ShowsHistory cmp (memory_of value) tables history (greatest (entries_of history))
+
+  -- ---- calls
+
+  -- What a call keeps that adds no batch, of a store that was written before it.
+  pub record KeepsStore (allowed : Store → Type 0) (old : OpenStoreValue C) (from : Observed)
+      (new : OpenStoreValue C) (to : Observed) : Type 0 where
+    -- whatever history the files held, they hold it now and at each moment on the way
+    pub moments : (bound : ℕ) → old.set.last_sequence ≤ bound
+        → Run (KeepsHistory old.set.store cmp (IsTableOf cmp meaning) allowed bound
+        from.disk.files) from to
+    -- the store is written on, unless the call broke it
+    pub written : IsUnbroken new → IsWritten new to.disk.files
+    -- what it showed it shows
+    pub shows : (history : History) → Shows old from.disk.files history
+        → Shows new to.disk.files history
+
+-- What a call leaves alone that adds no batch: the store's path, its order and its last number, all
+-- files but logs, tables, manifests and temporary files of the store, and all locks.
+pub record SparesRest {C : Type 0} (models_disk : Bool) (old : OpenStoreValue C) (from : Observed)
+    (new : OpenStoreValue C) (to : Observed) : Type 0 where
+  pub store : new.set.store ≡ old.set.store
+  pub cmp : new.cmp ≡ old.cmp
+  pub last : new.set.last_sequence ≡ old.set.last_sequence
+  pub files : IsTrue models_disk → (path : List ℕ) → (IsDataPath old.set.store path → ⊥)
+      → to.disk.files path ≡ from.disk.files path
+  pub locks : SameLocks models_disk from to
