@@ -96,9 +96,15 @@ waits_shown cmp before after tables history from none empty waits s = record {
     memory : after.recent ++ after.waiting ≡ before.recent ++ before.waiting
     memory = ap (λ es. es ++ after.waiting) empty ∙ waits ∙ sym (append-nil before.recent) ∙ ap (λ es. before.recent ++ es) (sym none)
 
-module _ {C : Type 0} (cmp : List ℕ → List ℕ → Ordering) (meaning : Meaning) where
+module _ (cmp : List ℕ → List ℕ → Ordering) (meaning : Meaning) where
   abbrev IsTable : List ℕ → List Pair → Type 0
   IsTable = IsTableOf cmp meaning
+
+  abbrev pub Keeps : (Store → Type 0) → List ℕ → ℕ → Files → Files → Type 0
+  Keeps allowed store = KeepsHistory store cmp IsTable allowed
+
+  pub keeps_same : (allowed : Store → Type 0) (store : List ℕ) (bound : ℕ) (files now : Files) → now ≡ files → Keeps allowed store bound files now
+  keeps_same allowed store bound files now same = subst (Keeps allowed store bound files) (sym same) (record { now = λ history c. c; crash = λ durable history s. s })
 
   table_stays : (store : List ℕ) (before after : Files) (table : LiveTable) → after (table_path store table.file.number) ≡ before (table_path store table.file.number)
       → HasTable store cmp IsTable before table → HasTable store cmp IsTable after table
@@ -113,17 +119,18 @@ module _ {C : Type 0} (cmp : List ℕ → List ℕ → Ordering) (meaning : Mean
     largest = has.largest;
   }
 
+module _ {C : Type 0} (cmp : List ℕ → List ℕ → Ordering) (meaning : Meaning) where
   -- the set has the same files, whose tables stay
   tables_stay : (old new : OpenStoreValue C) (before after : Files) (tables : List LiveTable) → new.set.store ≡ old.set.store → new.set.full ≡ old.set.full
       → ((file : NewFile) → Contains old.set.full.added file → after (table_path old.set.store file.number) ≡ before (table_path old.set.store file.number))
       → HasLiveTables cmp meaning old before tables → HasLiveTables cmp meaning new after tables
   tables_stay old new before after tables same_store same_full same has = record {
     files_are = has.files_are ∙ sym (ap (λ (e : Edit). e.added) same_full);
-    each = subst (λ s. All (HasTable s cmp IsTable after) tables) (sym same_store)
+    each = subst (λ s. All (HasTable s cmp (IsTableOf cmp meaning) after) tables) (sym same_store)
         (λ k d here.
         let table = slice_index_or tables k d in
         let live : Contains old.set.full.added table.file = subst (λ files. Contains files table.file) has.files_are (map_in (λ (t : LiveTable). t.file) tables table (All-contains_itself tables k d here)) in
-        table_stays old.set.store before after table (same table.file live) (has.each k d here));
+        table_stays cmp meaning old.set.store before after table (same table.file live) (has.each k d here));
   }
 
   -- what was shown is shown by the same memory where the tables stay
@@ -141,7 +148,7 @@ module _ {C : Type 0} (cmp : List ℕ → List ℕ → Ordering) (meaning : Mean
   -- ---- what is written
 
   -- the files are written with these, where the writer is at the log's end
-  pub written_as : (value : OpenStoreValue C) (files : Files) (edits : List Edit) → IsWrittenBy value.set.store cmp IsTable files edits (memory_of value) → (file : File)
+  pub written_as : (value : OpenStoreValue C) (files : Files) (edits : List Edit) → IsWrittenBy value.set.store cmp (IsTableOf cmp meaning) files edits (memory_of value) → (file : File)
       → files (open_log_path value) ≡ Some file → value.log.writer ≡ new_writer log_block_size (length (bytes_of file) % log_block_size) → IsWritten cmp meaning value files
   written_as value files edits by file there writer = record {
     edits = edits;
@@ -151,12 +158,6 @@ module _ {C : Type 0} (cmp : List ℕ → List ℕ → Ordering) (meaning : Mean
   }
 
   module _ (allowed : Store → Type 0) where
-    abbrev pub Keeps : List ℕ → ℕ → Files → Files → Type 0
-    Keeps store = KeepsHistory store cmp IsTable allowed
-
-    pub keeps_same : (store : List ℕ) (bound : ℕ) (files now : Files) → now ≡ files → Keeps store bound files now
-    keeps_same store bound files now same = subst (Keeps store bound files) (sym same) (record { now = λ history c. c; crash = λ durable history s. s })
-
     module _ (old : OpenStoreValue C) where
       -- the store with the next number given
       abbrev pub given : OpenStoreValue C
@@ -173,7 +174,6 @@ module _ {C : Type 0} (cmp : List ℕ → List ℕ → Ordering) (meaning : Mean
 
       -- the value after a switch
       pub record IsSwitched (new : OpenStoreValue C) : Type 0 where
-        pub cmp : new.cmp ≡ old.cmp
         pub set : new.set ≡ with_number_given old.set
         pub log : new.log ≡ record { number = old.set.next_file; writer = new_writer log_block_size 0 }
         pub recent : new.recent.entries ≡ []
@@ -198,24 +198,24 @@ module _ {C : Type 0} (cmp : List ℕ → List ℕ → Ordering) (meaning : Mean
         -- ---- no call
 
         written_given_there : IsWritten cmp meaning given first
-        written_given_there = written_as given first w.edits (written_given store cmp IsTable first w.edits (memory_of old) w.by) log_file there w.writer
+        written_given_there = written_as given first w.edits (written_given store cmp (IsTableOf cmp meaning) first w.edits (memory_of old) w.by) log_file there w.writer
 
         pub keeps_given : KeepsStore cmp meaning allowed old from given from
         keeps_given = record {
-          moments = λ bound reached. begun from (keeps_same store bound first first refl);
+          moments = λ bound reached. begun from (keeps_same cmp meaning allowed store bound first first refl);
           written = λ unbroken. written_given_there;
           shows = λ history s. shows_stay old given first first history refl refl refl refl (λ file live. refl) s;
         }
 
         -- ---- the log is synced
 
-        sync_passes : (bound : ℕ) (files : Files) → BeforeOrAfter (synced path) first files → Keeps store bound first files
-        sync_passes bound files (inl same) = keeps_same store bound first files same
-        sync_passes bound files (inr is) = subst (Keeps store bound first) (sym is) (sync_keeps store cmp IsTable allowed path first (λ file here. w.by.tracked.bytes path file here) bound)
+        sync_passes : (bound : ℕ) (files : Files) → BeforeOrAfter (synced path) first files → Keeps cmp meaning allowed store bound first files
+        sync_passes bound files (inl same) = keeps_same cmp meaning allowed store bound first files same
+        sync_passes bound files (inr is) = subst (Keeps cmp meaning allowed store bound first) (sym is) (sync_keeps store cmp (IsTableOf cmp meaning) allowed path first (λ file here. w.by.tracked.bytes path file here) bound)
 
         module _ {models_disk : Bool} (modelled : IsTrue models_disk) where
           sync_run : {mid : Observed} {result : Result (Unit {0}) Status} → ChangesFiles models_disk (synced path) (BeforeOrAfter (synced path)) from mid result
-              → (bound : ℕ) → Run (Keeps store bound first) from mid
+              → (bound : ℕ) → Run (Keeps cmp meaning allowed store bound first) from mid
           sync_run does bound = Run-mono (sync_passes bound) (Run-call modelled does)
 
           -- a sync that failed
@@ -238,15 +238,15 @@ module _ {C : Type 0} (cmp : List ℕ → List ℕ → Ordering) (meaning : Mean
             synced_is : second ≡ synced path first
             synced_is = syncing.ok modelled
 
-            written_second : IsWrittenBy store cmp IsTable second w.edits (memory_of old)
-            written_second = subst (λ f. IsWrittenBy store cmp IsTable f w.edits (memory_of old)) (sym synced_is) (written_synced store cmp IsTable first w.edits (memory_of old) w.by)
+            written_second : IsWrittenBy store cmp (IsTableOf cmp meaning) second w.edits (memory_of old)
+            written_second = subst (λ f. IsWrittenBy store cmp (IsTableOf cmp meaning) f w.edits (memory_of old)) (sym synced_is) (written_synced store cmp (IsTableOf cmp meaning) first w.edits (memory_of old) w.by)
 
-            made : (files : Files) → BeforeOrAfter (emptied next_path) second files → NewLogIsWritten store cmp IsTable allowed second w.edits (memory_of old) files
-            made files passes = new_log_written store cmp IsTable second w.edits (memory_of old) written_second more files passes allowed
+            made : (files : Files) → BeforeOrAfter (emptied next_path) second files → NewLogIsWritten store cmp (IsTableOf cmp meaning) allowed second w.edits (memory_of old) files
+            made files passes = new_log_written store cmp (IsTableOf cmp meaning) second w.edits (memory_of old) written_second more files passes allowed
 
-            run : (bound : ℕ) → Run (Keeps store bound first) from to
+            run : (bound : ℕ) → Run (Keeps cmp meaning allowed store bound first) from to
             run bound = call modelled (sync_run syncing bound)
-                (λ files passes. keeps_then store cmp IsTable allowed bound first second files (sync_run syncing bound).has ((made files passes).keeps bound)) opening
+                (λ files passes. keeps_then store cmp (IsTableOf cmp meaning) allowed bound first second files (sync_run syncing bound).has ((made files passes).keeps bound)) opening
 
             kept_second : second path ≡ Some (file_kept log_file)
             kept_second = ap (λ (f : Files). f path) synced_is ∙ synced-same path first log_file there
@@ -269,7 +269,7 @@ module _ {C : Type 0} (cmp : List ℕ → List ℕ → Ordering) (meaning : Mean
             pub keeps_switched : (new : OpenStoreValue C) → IsSwitched new → old.waiting ≡ None → to.disk.files ≡ emptied next_path second → KeepsStore cmp meaning allowed old from new to
             keeps_switched new switched none made_is = record {
               moments = λ bound reached. run bound;
-              written = λ unbroken. written_as new to.disk.files w.edits (subst (λ (m : EngineMemory). IsWrittenBy m.set.store cmp IsTable to.disk.files w.edits m) memory_is by_new) (kept_file [])
+              written = λ unbroken. written_as new to.disk.files w.edits (subst (λ (m : EngineMemory). IsWrittenBy m.set.store cmp (IsTableOf cmp meaning) to.disk.files w.edits m) memory_is by_new) (kept_file [])
                   (ap to.disk.files path_is ∙ new_there) (ap (λ (l : OpenLogValue). l.writer) switched.log);
               shows = λ history s. record {
                 tables = s.tables;
@@ -284,7 +284,7 @@ module _ {C : Type 0} (cmp : List ℕ → List ℕ → Ordering) (meaning : Mean
                 new_there : to.disk.files next_path ≡ Some (kept_file [])
                 new_there = ap (λ (f : Files). f next_path) made_is ∙ at_same next_path (Some (kept_file [])) second
 
-                by_new : IsWrittenBy store cmp IsTable to.disk.files w.edits (switched_memory (memory_of old))
+                by_new : IsWrittenBy store cmp (IsTableOf cmp meaning) to.disk.files w.edits (switched_memory (memory_of old))
                 by_new = (made to.disk.files (opening.now modelled)).switches new_there (subst IsKept (sym kept_second) refl) none_wait
 
                 memory_is : switched_memory (memory_of old) ≡ memory_of new
@@ -301,89 +301,134 @@ module _ {C : Type 0} (cmp : List ℕ → List ℕ → Ordering) (meaning : Mean
 -- ---- what the call changes
 
 module _ {E F C : Type 0} (env : Ghosts E F) (old : OpenStoreValue C) (from : E) where
+  -- ---- a sync
+
+  -- a fact of each value that a sync may leave
+  stays_or_breaks : (P : OpenStoreValue C → Type 0) → ((writer : WriterState) → P (with_writer old writer)) → (new : OpenStoreValue C) (to : E) (status : Status) → StaysOrBreaks env old from new to status → P new
+  stays_or_breaks P all new to status = ⊎_elim
+      (λ (stays : IsOutOfMemory status × (new ≡ old) × (to ≡ from)). subst P (sym stays.1) (all old.log.writer))
+      (λ (breaks : new ≡ with_writer old (broken_writer old.log.writer)). subst P (sym breaks) (all (broken_writer old.log.writer)))
+
+  left_by_sync : (P : OpenStoreValue C → Type 0) → ((writer : WriterState) → P (with_writer old writer)) → (result : Result (Unit {0}) Status) (new : OpenStoreValue C) (to : E) → SyncsLog env old from result new to → P new
+  left_by_sync P all (Ok value) new to sync = subst P (sym sync.ok) (all old.log.writer)
+  left_by_sync P all (Err status) new to sync = stays_or_breaks P all new to status sync.err
+
+  -- a sync changes nothing but the log
+  pub sync_spares : old.log.number < 2 ^ 64 → (result : Result (Unit {0}) Status) (new : OpenStoreValue C) (to : E) → SyncsLog env old from result new to → SparesRest env.models_disk old (env.observed from) new (env.observed to)
+  sync_spares fits result new to sync = record {
+    store = left_by_sync (λ (v : OpenStoreValue C). v.set.store ≡ old.set.store) (λ writer. refl) result new to sync;
+    cmp = left_by_sync (λ (v : OpenStoreValue C). v.cmp ≡ old.cmp) (λ writer. refl) result new to sync;
+    last = left_by_sync (λ (v : OpenStoreValue C). v.set.last_sequence ≡ old.set.last_sequence) (λ writer. refl) result new to sync;
+    files = λ modelled. others_stay old.set.store old.log.number fits (env.observed from).disk.files (env.observed to).disk.files
+        (SameBut-synced (open_log_path old) (env.observed from).disk.files (env.observed to).disk.files ((sync.does modelled).now modelled));
+    locks = sync.locks;
+  }
+
+-- ---- what a switch changes
+
+module _ {E F C : Type 0} (env : Ghosts E F) (old : OpenStoreValue C) (from : E) (more : old.set.next_file + 1 < 2 ^ 64) where
   abbrev next : OpenStoreValue C
   next = record old { set = with_number_given old.set }
 
-  -- a call that changed nothing but logs
-  spares : (new : OpenStoreValue C) (to : E) → new.set ≡ with_number_given old.set → new.cmp ≡ old.cmp
-      → (IsTrue env.models_disk → (path : List ℕ) → (IsDataPath old.set.store path → ⊥) → (env.observed to).disk.files path ≡ (env.observed from).disk.files path)
-      → SameLocks env.models_disk (env.observed from) (env.observed to) → SparesRest env.models_disk old (env.observed from) new (env.observed to)
-  spares new to set same_cmp others locks = record {
-    store = ap (λ (v : VersionSetValue). v.store) set;
-    cmp = same_cmp;
-    last = ap (λ (v : VersionSetValue). v.last_sequence) set;
-    files = others;
-    locks = locks;
+  -- what spares the rest after a number was given spares it before
+  abbrev pub spares_before : {models_disk : Bool} {at : Observed} {new : OpenStoreValue C} {to : Observed} → SparesRest models_disk next at new to → SparesRest models_disk old at new to
+  spares_before rest = record { store = rest.store; cmp = rest.cmp; last = rest.last; files = rest.files; locks = rest.locks }
+
+  number_left : (status : Status) → AreFileNumbersUsedUp old.set.next_file status → ⊥
+  number_left status up = let last = up.last in omega (arith, last, more)
+
+  -- a sync that failed
+  pub unsynced : (new : OpenStoreValue C) (to : E) (status : Status) → SyncsLog env next from (Err status) new to → SparesRest env.models_disk next (env.observed from) new (env.observed to) → SwitchesLog env old from (Err status) new to
+  unsynced new to status sync rest = record {
+    number = tt;
+    waits = tt;
+    empty = tt;
+    err = stays_or_breaks env next from (λ (v : OpenStoreValue C). MayGiveNumber old.set v.set × (v.log.number ≡ old.log.number) × (v.recent ≡ old.recent) × (v.waiting ≡ old.waiting)) (λ writer. (inr refl, refl, refl, refl)) new to status sync.err;
+    rest = spares_before rest;
+    cause = cause_same (Err status) (λ e lost. inr lost) (λ e fails. ⊎_elim (λ up. absurd (number_left e up)) (λ lost. lost) fails) sync.cause;
   }
 
-  -- the log was synced after a number was given
-  pub synced_given : (set : VersionSetValue) → set ≡ with_number_given old.set → (result : Result (Unit {0}) Status) (new : OpenStoreValue C) (to : E) → SyncsLog env (record old { set = set }) from result new to → SyncsLog env next from result new to
-  synced_given set is result new to sync = subst (λ it. SyncsLog env (record old { set = it }) from result new to) is sync
+  module _ (mid : E) (sync : SyncsLog env next from (Ok tt) next mid) (rest : SparesRest env.models_disk next (env.observed from) next (env.observed mid)) (to : E)
+      {T : Type 0} (result : Result T Status) (opening : ChangesFiles env.models_disk (emptied (log_path old.set.store old.set.next_file)) (BeforeOrAfter (emptied (log_path old.set.store old.set.next_file))) (env.observed mid) (env.observed to) result)
+      (locks : SameLocks env.models_disk (env.observed mid) (env.observed to)) where
+    spares : (new : OpenStoreValue C) → new.set ≡ with_number_given old.set → new.cmp ≡ old.cmp → SparesRest env.models_disk old (env.observed from) new (env.observed to)
+    spares new set same_cmp = record {
+      store = ap (λ (v : VersionSetValue). v.store) set;
+      cmp = same_cmp;
+      last = ap (λ (v : VersionSetValue). v.last_sequence) set;
+      files = λ modelled path other. others_stay old.set.store old.set.next_file (omega (arith, more)) (env.observed mid).disk.files (env.observed to).disk.files
+          (SameBut-emptied (log_path old.set.store old.set.next_file) (env.observed mid).disk.files (env.observed to).disk.files (opening.now modelled)) path other
+          ∙ rest.files modelled path other;
+      locks = λ modelled. locks modelled ∙ rest.locks modelled;
+    }
 
-  module _ (more : old.set.next_file + 1 < 2 ^ 64) (fits : old.log.number < 2 ^ 64) where
-    number_left : (status : Status) → AreFileNumbersUsedUp old.set.next_file status → ⊥
-    number_left status up = let last = up.last in omega (arith, last, more)
-
-    -- a sync that failed
-    pub unsynced : (new : OpenStoreValue C) (to : E) (status : Status) → SyncsLog env next from (Err status) new to → SwitchesLog env old from (Err status) new to
-    unsynced new to status sync = record {
+    -- the log's file wasn't made
+    pub unmade : (status : Status) → HasCause {T = T} IsOutOfMemory (env.failures mid) (env.failures to) (Err status) → SwitchesLog env old from (Err status) next to
+    unmade status cause = record {
       number = tt;
       waits = tt;
       empty = tt;
-      err = by (λ (v : OpenStoreValue C). MayGiveNumber old.set v.set × (v.log.number ≡ old.log.number) × (v.recent ≡ old.recent) × (v.waiting ≡ old.waiting)) (λ writer. (inr refl, refl, refl, refl));
-      rest = spares new to (by (λ (v : OpenStoreValue C). v.set ≡ with_number_given old.set) (λ writer. refl)) (by (λ (v : OpenStoreValue C). v.cmp ≡ old.cmp) (λ writer. refl))
-          (λ modelled path other. ap (λ (f : Files). f path) (sync.undone modelled)) sync.locks;
-      cause = cause_same (Err status) (λ e lost. inr lost) (λ e fails. ⊎_elim (λ up. absurd (number_left e up)) (λ lost. lost) fails) sync.cause;
+      err = (inr refl, refl, refl, refl);
+      rest = spares next refl refl;
+      cause = record {
+        later = omega (arith, cause.later, sync.cause.ok);
+        ok = tt;
+        uncounted = λ fails. ⊎_elim (λ up. absurd (number_left status up))
+            (λ lost. ⊎_elim
+            (λ there. ⊎_elim (λ memory. cause.uncounted memory ∙ sync.cause.ok) (λ missing. missing.2) there)
+            (λ (broken : (old.log.writer.broken ≡ true) × IsWriterBroken status). let never : true ≡ false = sym broken.0 ∙ sync.usable in cc) lost) fails;
+        cause = ⊎_elim (λ memory. inl (inr (inl (inl memory))))
+            (λ counted. inr (⊎_elim (λ (one : env.failures to ≡ env.failures mid + 1). inl (one ∙ ap (λ n. n + 1) sync.cause.ok))
+            (λ (most : (env.failures mid ≡ 2 ^ 64 - 1) × (env.failures to ≡ env.failures mid)). inr (sym sync.cause.ok ∙ most.0, most.1 ∙ sync.cause.ok)) counted)) cause.cause;
+      };
     }
-      where
-        by : (P : OpenStoreValue C → Type 0) → ((writer : WriterState) → P (with_writer next writer)) → P new
-        by P all = ⊎_elim
-            (λ (stays : IsOutOfMemory status × (new ≡ next) × (to ≡ from)). subst P (sym stays.1) (all old.log.writer))
-            (λ (breaks : new ≡ with_writer next (broken_writer old.log.writer)). subst P (sym breaks) (all (broken_writer old.log.writer)))
-            sync.err
 
-    module _ (mid : E) (sync : SyncsLog env next from (Ok tt) next mid) (to : E)
-        {T : Type 0} (result : Result T Status) (opening : ChangesFiles env.models_disk (emptied (log_path old.set.store old.set.next_file)) (BeforeOrAfter (emptied (log_path old.set.store old.set.next_file))) (env.observed mid) (env.observed to) result)
-        (locks : SameLocks env.models_disk (env.observed mid) (env.observed to)) where
-      others_then : IsTrue env.models_disk → (path : List ℕ) → (IsDataPath old.set.store path → ⊥) → (env.observed to).disk.files path ≡ (env.observed from).disk.files path
-      others_then modelled path other =
-          others_stay old.set.store old.set.next_file (omega (arith, more)) (env.observed mid).disk.files (env.observed to).disk.files
-          (SameBut-emptied (log_path old.set.store old.set.next_file) (env.observed mid).disk.files (env.observed to).disk.files (opening.now modelled)) path other
-          ∙ others_stay old.set.store old.log.number fits (env.observed from).disk.files (env.observed mid).disk.files
-          (SameBut-synced (open_log_path old) (env.observed from).disk.files (env.observed mid).disk.files ((sync.does modelled).now modelled)) path other
+    -- the log was switched
+    pub switched : (new : OpenStoreValue C) → new.cmp ≡ old.cmp → new.set ≡ with_number_given old.set → new.log.number ≡ old.set.next_file → new.recent.entries ≡ [] → new.waiting ≡ Some old.recent
+        → env.failures to ≡ env.failures mid → SwitchesLog env old from (Ok tt) new to
+    switched new same_cmp set number empty waits counted = record {
+      number = (set, number);
+      waits = waits;
+      empty = empty;
+      err = tt;
+      rest = spares new set same_cmp;
+      cause = record { later = omega (arith, counted, sync.cause.ok); ok = counted ∙ sync.cause.ok; uncounted = tt; cause = tt };
+    }
 
-      locks_then : SameLocks env.models_disk (env.observed from) (env.observed to)
-      locks_then modelled = locks modelled ∙ sync.locks modelled
+-- ---- that the store is written on
 
-      -- the log's file wasn't made
-      pub unmade : (status : Status) → HasCause {T = T} IsOutOfMemory (env.failures mid) (env.failures to) (Err status) → SwitchesLog env old from (Err status) next to
-      unmade status cause = record {
-        number = tt;
-        waits = tt;
-        empty = tt;
-        err = (inr refl, refl, refl, refl);
-        rest = spares next to refl refl others_then locks_then;
-        cause = record {
-          later = omega (arith, cause.later, sync.cause.ok);
-          ok = tt;
-          uncounted = λ fails. ⊎_elim (λ up. absurd (number_left status up))
-              (λ lost. ⊎_elim
-              (λ there. ⊎_elim (λ memory. cause.uncounted memory ∙ sync.cause.ok) (λ missing. missing.2) there)
-              (λ (broken : (old.log.writer.broken ≡ true) × IsWriterBroken status). let never : true ≡ false = sym broken.0 ∙ sync.usable in cc) lost) fails;
-          cause = ⊎_elim (λ memory. inl (inr (inl (inl memory))))
-              (λ counted. inr (⊎_elim (λ (one : env.failures to ≡ env.failures mid + 1). inl (one ∙ ap (λ n. n + 1) sync.cause.ok))
-              (λ (most : (env.failures mid ≡ 2 ^ 64 - 1) × (env.failures to ≡ env.failures mid)). inr (sym sync.cause.ok ∙ most.0, most.1 ∙ sync.cause.ok)) counted)) cause.cause;
-        };
-      }
+module _ {E F C : Type 0} (env : Ghosts E F) (old : OpenStoreValue C) (from : E) (modelled : IsTrue env.models_disk) (cmp : List ℕ → List ℕ → Ordering) (meaning : Meaning) (allowed : Store → Type 0)
+    (w : IsWritten cmp meaning old (env.observed from).disk.files) where
+  abbrev first_next : OpenStoreValue C
+  first_next = record old { set = with_number_given old.set }
 
-      -- the log was switched
-      pub switched : (new : OpenStoreValue C) → new.cmp ≡ old.cmp → new.set ≡ with_number_given old.set → new.log.number ≡ old.set.next_file → new.recent.entries ≡ [] → new.waiting ≡ Some old.recent
-          → env.failures to ≡ env.failures mid → SwitchesLog env old from (Ok tt) new to
-      switched new same_cmp set number empty waits counted = record {
-        number = (set, number);
-        waits = waits;
-        empty = empty;
-        err = tt;
-        rest = spares new to set same_cmp others_then locks_then;
-        cause = record { later = omega (arith, counted, sync.cause.ok); ok = counted ∙ sync.cause.ok; uncounted = tt; cause = tt };
-      }
+  abbrev Kept : E → OpenStoreValue C → Type 0
+  Kept to new = KeepsStore cmp meaning allowed old (env.observed from) new (env.observed to)
+
+  -- after a sync that failed
+  pub unsynced_keeps : (new : OpenStoreValue C) (to : E) (status : Status) → SyncsLog env first_next from (Err status) new to → KeepsStore cmp meaning allowed old (env.observed from) new (env.observed to)
+  unsynced_keeps new to status sync = ⊎_elim
+      (λ (stays : IsOutOfMemory status × (new ≡ first_next) × (to ≡ from)). subst (Kept to) (sym stays.1) (keeps old.log.writer (λ usable. refl)))
+      (λ (breaks : new ≡ with_writer first_next (broken_writer old.log.writer)). subst (Kept to) (sym breaks) (keeps (broken_writer old.log.writer) (λ usable. let never : true ≡ false = usable in cc)))
+      sync.err
+    where
+      keeps : (writer : WriterState) → (writer.broken ≡ false → writer ≡ old.log.writer) → Kept to (with_writer first_next writer)
+      keeps writer usable = keeps_unsynced cmp meaning allowed old (env.observed from) w modelled (env.observed to) status (sync.does modelled) (sync.undone modelled) writer usable
+
+-- ---- facts of values after a call
+
+module _ {C : Type 0} where
+  -- the store with another set
+  abbrev pub with_set : OpenStoreValue C → VersionSetValue → OpenStoreValue C
+  with_set value set = record value { set = set }
+
+  pub after_giving : (before old : OpenStoreValue C) → before ≡ old → (set : VersionSetValue) → set ≡ with_number_given before.set → with_set before set ≡ with_set old (with_number_given old.set)
+  after_giving before old same set is = λ i. with_set (same i) ((is ∙ ap (λ (v : OpenStoreValue C). with_number_given v.set) same) i)
+
+module _ {E F C : Type 0} (env : Ghosts E F) (from : E) {before now new : OpenStoreValue C} (same : new ≡ before) (given : before ≡ now) (to : E) where
+  -- a sync that was made, said of the value after it
+  pub sync_made : SyncsLog env before from (Ok tt) new to → SyncsLog env now from (Ok tt) now to
+  sync_made sync = subst (λ v. SyncsLog env v from (Ok tt) v to) given (subst (λ v. SyncsLog env before from (Ok tt) v to) same sync)
+
+  pub spared_by_sync : SparesRest env.models_disk before (env.observed from) new (env.observed to) → SparesRest env.models_disk now (env.observed from) now (env.observed to)
+  spared_by_sync rest = subst (λ v. SparesRest env.models_disk v (env.observed from) v (env.observed to)) given (subst (λ v. SparesRest env.models_disk before (env.observed from) v (env.observed to)) same rest)
