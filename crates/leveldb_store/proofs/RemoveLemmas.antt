@@ -15,6 +15,7 @@ use Rattle.std.proofs.lemmas.Bool.{cases_lt}
 use Rattle.std.proofs.lemmas.Cmp.{nat_cmp_total}
 use Rattle.std.proofs.lemmas.List.{get_or_default}
 use Rattle.std.proofs.lemmas.List.Elements.{All-cons, All-contains, All-contains_itself, All-from_recursion, All-head, All-nil, All-tail, All-weaker, Contains-append_cases, Contains-push_cases}
+use Rattle.std.proofs.lemmas.Map.Keys.{IsDistinct-head, IsDistinct-tail}
 use Rattle.std.proofs.lemmas.Map.Lookups.{exact_unsigned}
 use Rattle.std.proofs.lemmas.Map.Views.{All-insert_key, All-set_contains, Contains-from_any}
 use Rattle.std.proofs.lemmas.Str.Parse.{IsNumeralModel, not_in_digits, numerals_by_value, tells_digits}
@@ -176,8 +177,8 @@ name_unslashed name n Table (inr is) c = numbered_unslashed [] (codes ".sst") na
 name_unslashed name n Descriptor is c = numbered_unslashed (codes "MANIFEST-") [] name n refl refl is c
 name_unslashed name n Current is c = unslashed (codes "CURRENT") refl (subst (λ z. Contains z 47) is.0 c)
 name_unslashed name n Temp is c = numbered_unslashed [] (codes ".dbtmp") name n refl refl is c
-name_unslashed name n InfoLog (inl is, zero) c = unslashed (codes "LOG") refl (subst (λ z. Contains z 47) is c)
-name_unslashed name n InfoLog (inr is, zero) c = unslashed (codes "LOG.old") refl (subst (λ z. Contains z 47) is c)
+name_unslashed name n InfoLog (inl is, none) c = unslashed (codes "LOG") refl (subst (λ z. Contains z 47) is c)
+name_unslashed name n InfoLog (inr is, none) c = unslashed (codes "LOG.old") refl (subst (λ z. Contains z 47) is c)
 
 -- ---- one file is removed
 
@@ -423,7 +424,7 @@ next_item f (first ∷ items) (suc i) item within is =
 distinct_rest : (i : ℕ) (names : List (List ℕ)) → IsDistinct bytes_eq names → IsDistinct bytes_eq (drop i names)
 distinct_rest zero names distinct = distinct
 distinct_rest (suc i) [] distinct = distinct
-distinct_rest (suc i) (first ∷ names) distinct = distinct_rest i names distinct.1
+distinct_rest (suc i) (first ∷ names) distinct = distinct_rest i names (IsDistinct-tail bytes_eq first names distinct)
 
 in_rest_of : (i : ℕ) (names : List (List ℕ)) (name : List ℕ) → Contains (drop i names) name → Contains names name
 in_rest_of zero names name c = c
@@ -447,10 +448,11 @@ module _ {E F : Type 0} (env : Ghosts E F) (set : VersionSetValue) (from : E) wh
       let it : RemovesName env set mid (f item) result to = subst (λ z. RemovesName env set mid z result to) named removes in
       let here : Contains (drop i names) (f item) = subst (λ xs. Contains xs (f item)) (sym next.1) (in_front (f item) (drop (i + 1) names)) in
       let there : IsTrue env.models_disk → (env.observed mid).disk.files (in_folder set.store (f item)) ≢ None = λ modelled none.
-      absurd (subst (λ o. IsSome o) (sym (rest modelled (f item) here) ∙ none) (((listed modelled).each (f item)).0 (in_rest_of i names (f item) here)).1) in
+      let wrong : false ≡ true = subst (λ o. IsSome o) (sym (rest modelled (f item) here) ∙ none) (((listed modelled).each (f item)).0 (in_rest_of i names (f item) here)).1 in cc in
       let apart : IsTrue env.models_disk → (other : List ℕ) → Contains (drop (i + 1) names) other → bytes_eq (f item) other ≡ false = λ modelled other c.
       All-contains (λ y. bytes_eq (f item) y ≡ false) (drop (i + 1) names) other
-      (All-from_recursion (λ y. bytes_eq (f item) y ≡ false) (drop (i + 1) names) (subst (IsDistinct bytes_eq) next.1 (distinct_rest i names (listed modelled).once)).0) c in
+      (All-from_recursion (λ y. bytes_eq (f item) y ≡ false) (drop (i + 1) names)
+      (IsDistinct-head bytes_eq (f item) (drop (i + 1) names) (subst (IsDistinct bytes_eq) next.1 (distinct_rest i names (listed modelled).once)))) c in
       (
         subst (λ r. RemovesNames env set from (take (i + 1) names) r to) (sym both_is)
             (subst (λ xs. RemovesNames env set from xs (result_and first result) to) (sym next.0)
@@ -462,45 +464,20 @@ module _ {E F : Type 0} (env : Ghosts E F) (set : VersionSetValue) (from : E) wh
 
 -- ---- the whole call
 
+-- where nothing changed before, files were removed alone from the start on
+pub removing_after : (set : VersionSetValue) (from mid to : Observed) → Run (FilesUnchanged from.disk.files) from mid → Run (AreRemoved set mid.disk.files) mid to → Run (AreRemoved set from.disk.files) from to
+removing_after set from mid to listing removing = Run-trans (Run-mono (λ files same. none_removed set from.disk.files files same) listing)
+    (λ files removed. subst (λ f. AreRemoved set f files) listing.has removed) removing
+
 module _ {E F : Type 0} (env : Ghosts E F) (set : VersionSetValue) (from : E) where
-  -- nothing was done, as the set is broken
-  pub RemovesObsolete-broken : set.manifest ≡ broken → RemovesObsolete env set from (Ok tt) from
-  RemovesObsolete-broken is = record {
-    others = λ modelled path. inl refl;
-    all = λ usable. absurd (usable is);
-    broken_keeps = λ again. (refl, refl);
-    locks = λ modelled. refl;
-    cause = record { later = omega arith; ok = refl; cause = tt };
-  }
-
-  -- an error before a file was deleted
-  pub RemovesObsolete-before : (set.manifest ≢ broken) → (status : Status) (to : E)
-      → (IsTrue env.models_disk → (env.observed to).disk.files ≡ (env.observed from).disk.files) → SameLocks env.models_disk (env.observed from) (env.observed to)
-      → HasCause {T = Unit {0}} (IsEmptyFolder env.models_disk set.store (env.observed from)) (env.failures from) (env.failures to) (Err status) → RemovesObsolete env set from (Err status) to
-  RemovesObsolete-before usable status to same locks cause = record {
-    others = λ modelled path. inl (ap (λ (f : Files). f path) (same modelled));
-    all = λ again. tt;
-    broken_keeps = λ is. absurd (usable is);
-    locks = locks;
-    cause = record {
-      later = cause.later;
-      ok = tt;
-      cause = ⊎_elim (λ excused. inl excused) (λ counted. ⊎_elim
-          (λ (one : env.failures to ≡ env.failures from + 1). inr (inl (omega (arith, one))))
-          (λ most. inr (inr most)) counted) cause.cause;
-    };
-  }
-
-  module _ (usable : set.manifest ≢ broken) (mid : E) (listing : Run (FilesUnchanged (env.observed from).disk.files) (env.observed from) (env.observed mid)) (counted : env.failures mid ≡ env.failures from)
+  module _ (usable : set.manifest ≢ broken) (mid : E) (listing : IsTrue env.models_disk → Run (FilesUnchanged (env.observed from).disk.files) (env.observed from) (env.observed mid)) (counted : env.failures mid ≡ env.failures from)
       (names : List (List ℕ)) (listed : IsTrue env.models_disk → ListsChildren (env.observed from).disk.files set.store names) (result : Result (Unit {0}) Status) (to : E)
       (removes : RemovesNames env set mid names result to) where
     abbrev first_files : Files
     first_files = (env.observed from).disk.files
 
-    -- from the start on, files were removed alone
-    pub removing : IsTrue env.models_disk → Run (AreRemoved set first_files) (env.observed from) (env.observed to)
-    removing modelled = Run-trans (Run-mono (λ files same. none_removed set first_files files same) listing)
-        (λ files removed. subst (λ f. AreRemoved set f files) listing.has removed) (removes.run modelled)
+    removing : IsTrue env.models_disk → Run (AreRemoved set first_files) (env.observed from) (env.observed to)
+    removing modelled = removing_after set (env.observed from) (env.observed mid) (env.observed to) (listing modelled) (removes.run modelled)
 
     gone_at : IsTrue env.models_disk → (path : List ℕ) → first_files path ≡ None → (env.observed to).disk.files path ≡ None
     gone_at modelled path none = ⊎_elim (λ stays. stays ∙ none) (λ removed. removed.1) (removes_no_other set first_files (env.observed to).disk.files (removing modelled).has path)
@@ -514,7 +491,7 @@ module _ {E F : Type 0} (env : Ghosts E F) (set : VersionSetValue) (from : E) wh
         by : IsTrue env.models_disk → (name : List ℕ) → IsObsoleteName set name → (file : Option File) → first_files (in_folder set.store name) ≡ file → (env.observed to).disk.files (in_folder set.store name) ≡ None
         by modelled name obsolete None none = gone_at modelled (in_folder set.store name) none
         by modelled name obsolete (Some file) some = each modelled name
-            (((listed modelled).each name).1 (name_unslashed name obsolete.0 obsolete.1 obsolete.2, subst (λ o. IsSome o) (sym some) tt)) obsolete
+            (((listed modelled).each name).1 (name_unslashed name obsolete.0 obsolete.1 obsolete.2, subst (λ o. IsSome o) (sym some) refl)) obsolete
 
     pub RemovesObsolete-after : SameLocks env.models_disk (env.observed from) (env.observed mid) → RemovesObsolete env set from result to
     RemovesObsolete-after locks = record {
