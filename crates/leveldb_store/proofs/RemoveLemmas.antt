@@ -295,8 +295,10 @@ module _ (set : VersionSetValue) where
           → (deleted first (without_files paths files) other ≡ files other) ⊎ (IsObsoletePath set other × (deleted first (without_files paths files) other ≡ None))
       by true e before =
           let same = (bytes_decides first other).0 e in
-          inr (subst (IsObsoletePath set) same (All-head (IsObsoletePath set) first paths obsolete),
-          subst (λ p. deleted first (without_files paths files) p ≡ None) same (at_same first None (without_files paths files)))
+          inr (
+            subst (IsObsoletePath set) same (All-head (IsObsoletePath set) first paths obsolete),
+            subst (λ p. deleted first (without_files paths files) p ≡ None) same (at_same first None (without_files paths files)),
+          )
       by false e before = ⊎_elim (λ stays. inl (at_other first None (without_files paths files) other e ∙ stays))
           (λ gone. inr (gone.0, at_other first None (without_files paths files) other e ∙ gone.1)) before
 
@@ -452,8 +454,7 @@ module _ {E F : Type 0} (env : Ghosts E F) (set : VersionSetValue) (from : E) wh
       let apart : IsTrue env.models_disk → (other : List ℕ) → Contains (drop (i + 1) names) other → bytes_eq (f item) other ≡ false = λ modelled other c.
       All-contains (λ y. bytes_eq (f item) y ≡ false) (drop (i + 1) names) other
       (All-from_recursion (λ y. bytes_eq (f item) y ≡ false) (drop (i + 1) names)
-      (IsDistinct-head bytes_eq (f item) (drop (i + 1) names) (subst (IsDistinct bytes_eq) next.1 (distinct_rest i names (listed modelled).once)))) c in
-      (
+      (IsDistinct-head bytes_eq (f item) (drop (i + 1) names) (subst (IsDistinct bytes_eq) next.1 (distinct_rest i names (listed modelled).once)))) c in (
         subst (λ r. RemovesNames env set from (take (i + 1) names) r to) (sym both_is)
             (subst (λ xs. RemovesNames env set from xs (result_and first result) to) (sym next.0)
             (one_more_name env set from (take i names) first mid so_far (f item) there result to it)),

@@ -75,7 +75,6 @@ tables_same store n before after same k = same (table_path store k) (log_is_no_t
 
 -- ---- what is shown
 
-
 same_entries : (these those : List Entry) → these ≡ those → SameEntries these those
 same_entries these those e = λ entry. (subst (λ es. Contains es entry) e, subst (λ es. Contains es entry) (sym e))
 

@@ -35,12 +35,7 @@ impl<E: Env, C: UserCmp + Copy> OpenStore<E, C> {
     }
 
     // Deletes those of the folder's files that are obsolete.
-    fn remove_all(
-        &self,
-        env: &mut E,
-        live: &BTreeSet<FileNum>,
-        names: &[String],
-    ) -> Result<()>
+    fn remove_all(&self, env: &mut E, live: &BTreeSet<FileNum>, names: &[String]) -> Result<()>
         requires live { live.now.keys ≡ numbers_in_order self.now.set.full.added }
         requires listed { IsTrue E.models_disk → ListsChildren (E.observed env.old).disk.files
             self.now.set.store (map string_bytes names.now) }

@@ -21,9 +21,10 @@ impl<E: Env, C: UserCmp + Copy> OpenStore<E, C> {
         self.waiting.is_some()
     }
 
-    /// Makes a crash keep all batches, and begins a log of the next number, to which batches go:
-    /// the entries of the one before wait. After an Err they are where they were, and the store is
-    /// broken if the log wasn't synced. A number whose file couldn't be made isn't given again.
+    /// Makes a crash keep all batches, and begins a log of the next number: batches go to it, and
+    /// the entries of the one before wait. After an Err they are where they were. The store is
+    /// broken if a sync of the log failed once it had begun. A number that was given for a log that
+    /// couldn't be made isn't given again.
     pub fn switch_log(&mut self, env: &mut E) -> Result<()>
         requires { self.old.waiting ≡ None }
         ensures switches { SwitchesLog E.Env self.old env.old result self.new env.new }
