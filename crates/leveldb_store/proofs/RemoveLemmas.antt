@@ -1,6 +1,6 @@
 -- Which files are obsolete, and what their removal keeps of an open store.
-use Rattle.std.proofs.Common.{◌≡◌, ◌⊎◌, ◌∙◌, ◌++◌, ◌+◌, ◌-◌, ◌^◌, ◌<◌, ◌≤◌, ◌%◌, inl, inr, ⊎_elim, ℕ, Bool, true, false, cond, drop, eqb, List, [], ◌∷◌, None, Option, Some, Ok, Err, Result, ap, append-nil, arith, fold, get_or, length, map, refl, subst, suc, sym, take, zero}
-use Rattle.std.specs.Prelude.{◌↔◌, ◌≢◌, All, Contains, IfErr, IsSome, IsTrue, OnOk, codes, not}
+use Rattle.std.proofs.Common.{◌≡◌, ◌⊎◌, ◌∙◌, ◌++◌, ◌+◌, ◌-◌, ◌^◌, ◌<◌, ◌≤◌, inl, inr, ⊎_elim, ℕ, Bool, true, false, cond, drop, eqb, List, [], ◌∷◌, None, Option, Some, Ok, Err, Result, ap, arith, fold, get_or, length, map, refl, subst, suc, sym, take, zero}
+use Rattle.std.specs.Prelude.{◌↔◌, ◌≢◌, All, Contains, IsSome, IsTrue, OnOk, codes, not}
 use Rattle.std.specs.BTreeMap.{is_at}
 use Rattle.std.specs.BTreeSet.{BTreeSet, contains, insert_key}
 use Rattle.std.specs.Cmp.Lexicographic.{bytes_decides}
@@ -28,8 +28,8 @@ use Rattle.leveldb_base.specs.declared.error.Status.{Status}
 use Rattle.leveldb_base.specs.declared.error.StatusCode.TheVariants.{NotFound}
 use Rattle.leveldb_base.specs.declared.types.FileType.{FileType}
 use Rattle.leveldb_base.specs.declared.types.FileType.TheVariants.{Current, DBLock, Descriptor, InfoLog, Log, Table, Temp}
-use Rattle.leveldb_env.proofs.EnvLemmas.{Run-call, Run-mono, Run-trans, SameBut-deleted, at_other, at_same, begun, bytes_eq-apart, call, with_file-itself}
-use Rattle.leveldb_env.specs.Env.{BeforeOrAfter, ChangesFiles, File, Files, FilesUnchanged, HasCause, IsEmptyFolder, IsMissing, ListsChildren, Observed, Run, SameBut, SameLocks, bytes_of, deleted, in_folder, same, with_file}
+use Rattle.leveldb_env.proofs.EnvLemmas.{Run-mono, Run-trans, SameBut-deleted, at_other, at_same, begun, bytes_eq-apart, call, with_file-itself}
+use Rattle.leveldb_env.specs.Env.{BeforeOrAfter, ChangesFiles, File, Files, FilesUnchanged, HasCause, IsEmptyFolder, ListsChildren, Observed, Run, SameBut, SameLocks, deleted, in_folder, same, with_file}
 use Rattle.leveldb_env.specs.declared.env.Env.{Ghosts}
 use Rattle.leveldb_version.proofs.BytesLemmas.{bytes_stay}
 use Rattle.leveldb_version.proofs.KeepsLemmas.{unread_keeps}
@@ -43,11 +43,10 @@ use Rattle.leveldb_version.specs.StoreSteps.{IsUnnamed, IsUnread}
 use Rattle.leveldb_version.specs.VersionEdit.{NewFile}
 use Rattle.leveldb_version.specs.VersionSet.{live_after}
 use Rattle.leveldb_version.specs.VersionSetValue.{VersionSetValue, broken, numbers_in_order}
-use Rattle.leveldb_version.specs.Writing.{IsObsolete, IsWrittenBy}
+use Rattle.leveldb_version.specs.Writing.{IsObsolete}
 use Rattle.leveldb_store.specs.Format.{Meaning}
 use Rattle.leveldb_store.specs.OpenStore.{OpenStoreValue}
 use Rattle.leveldb_store.specs.Switch.{AreRemoved, DeletesFile, HasFirstCause, IsObsoleteName, IsObsoletePath, RemovesName, RemovesNames, RemovesNoOther, RemovesObsolete, without_files}
-use Rattle.leveldb_store.specs.Write.{open_log_path}
 use Rattle.leveldb_store.specs.Written.{IsTableOf, IsWritten, KeepsStore, Shows, memory_of}
 use Rattle.leveldb_store.proofs.SwitchLemmas.{Keeps, keeps_same, shows_stay, written_as}
 

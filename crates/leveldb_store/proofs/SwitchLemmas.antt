@@ -1,6 +1,6 @@
 -- What a switch of the log makes of an open store, and that the store is written on.
-use Rattle.std.proofs.Common.{◌≡◌, ◌⊎◌, ◌∙◌, ◌∷◌, ◌++◌, ◌+◌, ◌-◌, ◌^◌, ◌<◌, ◌≤◌, ◌%◌, inl, inr, ⊎_elim, ℕ, Bool, true, false, List, [], None, Option, Some, Ok, Err, Result, ap, append-nil, arith, drop, get_or, length, length-append, map, refl, subst, sym}
-use Rattle.std.specs.Prelude.{◌≢◌, All, Contains, IfErr, IsTrue, OnErr, OnOk, codes, slice_index_or}
+use Rattle.std.proofs.Common.{◌≡◌, ◌∙◌, ◌∷◌, ◌++◌, ◌+◌, ◌-◌, ◌^◌, ◌<◌, ◌%◌, inl, inr, ⊎_elim, ℕ, Bool, true, false, List, [], None, Some, Ok, Err, Result, ap, append-nil, arith, drop, get_or, length, length-append, refl, subst, sym}
+use Rattle.std.specs.Prelude.{◌≢◌, All, Contains, IsTrue, codes, slice_index_or}
 use Rattle.std.specs.Cmp.Lexicographic.{bytes_decides}
 use Rattle.std.specs.Str.{bytes_eq}
 use Rattle.std.specs.declared.cmp.Ordering.{Ordering}
@@ -16,7 +16,7 @@ use Rattle.leveldb_base.specs.Names.{file_name, six_digits}
 use Rattle.leveldb_base.specs.Types.{Pair}
 use Rattle.leveldb_base.specs.declared.error.Status.{Status}
 use Rattle.leveldb_base.specs.declared.types.FileType.TheVariants.{Log, Table}
-use Rattle.leveldb_env.proofs.EnvLemmas.{Run-call, Run-mono, SameBut-emptied, SameBut-synced, at_same, begun, bytes_eq-apart, call, cause_after, cause_same, synced-same}
+use Rattle.leveldb_env.proofs.EnvLemmas.{Run-call, Run-mono, SameBut-emptied, SameBut-synced, at_same, begun, bytes_eq-apart, call, cause_same, synced-same}
 use Rattle.leveldb_env.specs.Env.{BeforeOrAfter, ChangesFiles, File, Files, HasCause, Observed, Run, SameBut, SameLocks, bytes_of, emptied, file_kept, kept_file, synced}
 use Rattle.leveldb_env.specs.declared.env.Env.{Ghosts}
 use Rattle.leveldb_mem.specs.Log.{log_block_size}
@@ -37,9 +37,9 @@ use Rattle.leveldb_version.specs.VersionSetValue.{AreFileNumbersUsedUp, VersionS
 use Rattle.leveldb_version.specs.Writing.{EngineMemory, IsWrittenBy, ShowsHistory, switched_memory}
 use Rattle.leveldb_version.specs.WritingLaws.{NewLogIsWritten}
 use Rattle.leveldb_store.specs.Format.{Meaning}
-use Rattle.leveldb_store.specs.OpenStore.{IsUnbroken, OpenLogValue, OpenStoreValue}
-use Rattle.leveldb_store.specs.Switch.{FailsToSwitch, MayGiveNumber, SwitchesLog}
-use Rattle.leveldb_store.specs.Write.{IsLogLost, StaysOrBreaks, SyncsLog, open_log_path, with_writer}
+use Rattle.leveldb_store.specs.OpenStore.{OpenLogValue, OpenStoreValue}
+use Rattle.leveldb_store.specs.Switch.{MayGiveNumber, SwitchesLog}
+use Rattle.leveldb_store.specs.Write.{StaysOrBreaks, SyncsLog, open_log_path, with_writer}
 use Rattle.leveldb_store.specs.Written.{HasLiveTables, IsDataPath, IsTableOf, IsWritten, KeepsStore, Shows, SparesRest, memory_of, waiting_entries}
 
 -- ---- names

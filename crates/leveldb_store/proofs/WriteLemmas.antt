@@ -1,6 +1,6 @@
 -- What syncs of the log, and appends to it, make of an open store.
 use Rattle.std.specs.Prelude.{◌≢◌, IsErrAnd, IsTrue, OnErr, OnOk, IfErr, IfOk}
-use Rattle.std.proofs.Common.{◌≡◌, ◌⊎◌, ◌∙◌, ◌∷◌, ◌+◌, ◌≤◌, length, inl, inr, ⊎_elim, ℕ, Bool, true, false, List, [], None, Ok, Err, Result, ap, arith, refl, subst, sym}
+use Rattle.std.proofs.Common.{◌≡◌, ◌∙◌, ◌∷◌, ◌+◌, ◌≤◌, length, inl, inr, ⊎_elim, ℕ, Bool, true, false, List, [], None, Ok, Err, Result, ap, arith, refl, subst, sym}
 use Rattle.leveldb_base.specs.History.{Item, greatest, placed}
 use Rattle.leveldb_base.specs.declared.error.Status.{Status}
 use Rattle.leveldb_base.specs.declared.error.StatusCode.TheVariants.{IOError, NotFound, OutOfMemory}

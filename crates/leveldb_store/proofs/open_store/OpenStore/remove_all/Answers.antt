@@ -1,4 +1,4 @@
-use Rattle.std.proofs.Common.{◌≡◌, ◌≤◌, List, arith, length, map, refl, subst, take, ℕ}
+use Rattle.std.proofs.Common.{◌≡◌, arith, map, refl, subst, take}
 use Rattle.std.specs.Prelude.{string_bytes}
 use Rattle.std.proofs.lemmas.List.{length-map, take_all}
 use Rattle.leveldb_store.specs.Switch.{RemovesNames}

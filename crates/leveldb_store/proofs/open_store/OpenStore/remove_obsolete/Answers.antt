@@ -1,4 +1,4 @@
-use Rattle.std.proofs.Common.{◌≡◌, ◌∙◌, List, ap, false, map, subst, sym, true}
+use Rattle.std.proofs.Common.{◌≡◌, ◌∙◌, ap, false, map, subst, sym, true}
 use Rattle.std.specs.Prelude.{◌≢◌, IsTrue, string_bytes}
 use Rattle.leveldb_env.proofs.EnvLemmas.{Run-call, Run-mono}
 use Rattle.leveldb_env.specs.Env.{ListsChildren}
