@@ -1,2 +1,4 @@
 mod BuildTableLemmas
 pub mod WriteLemmas
+pub mod SwitchLemmas
+pub mod RemoveLemmas

@@ -2,6 +2,8 @@
 ghost use Rattle.std.specs.Prelude.{◌≡◌, ◌↔◌, IsTrue, false};
 ghost use Rattle.leveldb_store.specs.OpenStore.{IsUnbroken};
 
+mod obsolete;
+mod switch;
 mod write;
 
 use leveldb_base::cmp::{Cmp, UserCmp};
@@ -37,9 +39,10 @@ pub struct OpenStore<E: Env, C: Cmp> {
 }
 
 impl<E: Env, C: Cmp> Model for OpenStore<E, C> {
-    ghost use Rattle.std.specs.Prelude.{◌≡◌, IfSome, IsTrue, string_bytes};
+    ghost use Rattle.std.specs.Prelude.{◌≡◌, ◌≢◌, IfSome, IsTrue, string_bytes};
     ghost use Rattle.std.specs.Option.{option_map};
     ghost use Rattle.leveldb_version.specs.Paths.{log_path};
+    ghost use Rattle.leveldb_version.specs.VersionSetValue.{unmade};
     ghost use Rattle.leveldb_store.specs.OpenStore.{OpenStoreValue};
 
     ghost Value = { OpenStoreValue C };
@@ -53,11 +56,12 @@ impl<E: Env, C: Cmp> Model for OpenStore<E, C> {
     } };
 
     // The version set is of the store's path, the log's file has the log's path, and both memtables
-    // have the store's order.
+    // have the store's order. An open store's manifest is in use or broken.
     ghost invariant = { λ it. (it.versions.store ≡ string_bytes it.name)
         × (IsTrue E.models_disk → E.name_of it.log.file ≡ log_path (string_bytes it.name) it.log.number)
         × (it.recent.cmp ≡ it.cmp)
-        × IfSome it.waiting (λ memtable. memtable.cmp ≡ it.cmp) };
+        × IfSome it.waiting (λ memtable. memtable.cmp ≡ it.cmp)
+        × (it.versions.manifest ≢ unmade) };
 }
 
 impl<E: Env, C: UserCmp + Copy> OpenStore<E, C> {
