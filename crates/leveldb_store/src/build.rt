@@ -129,17 +129,26 @@ fn build_in_memory<I: LdbIterator, C: Cmp + Copy + Drop, FP: FilterPolicy + Drop
     let Some((first, _)) = from.current() else {
         return Ok(None);
     };
-    let smallest = Bytes::copy_from_slice(alloc, first)?;
+    let smallest = copied_key(alloc, first)?;
     let mut core = core;
     let mut bytes = Vec::new(alloc);
     add_pairs(&mut core, &mut bytes, compressors, from)?;
-    let largest = Bytes::copy_from_slice(alloc, core.last_key())?;
+    let largest = copied_key(alloc, core.last_key())?;
     core.finish(&mut bytes, compressors)?;
     Ok(Some(BuiltTable {
         bytes,
         smallest,
         largest,
     }))
+}
+
+// A copy of a key.
+fn copied_key(alloc: Global, key: &[u8]) -> Result<Bytes>
+    ensures ok { IfOk result (λ copy. copy ≡ key.now) }
+    ensures bytes { OnOk result (AreBytes key.now) }
+    ensures memory { IfErr result IsOutOfMemory }
+{
+    Ok(Bytes::copy_from_slice(alloc, key)?)
 }
 
 // Adds the pairs of a walk that is at the first one.
