@@ -1,2 +1,4 @@
 mod BuildTableLemmas
 pub mod WriteLemmas
+pub mod TableKeepsLemmas
+pub mod TableWaitingLemmas
