@@ -5,3 +5,4 @@ pub mod Write
 pub mod Written
 pub mod Switch
 pub mod Read
+pub mod Opening
