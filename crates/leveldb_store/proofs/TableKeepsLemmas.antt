@@ -293,7 +293,7 @@ module _ {C : Type 0} (cmp : List ℕ → List ℕ → Ordering) (meaning : Mean
       by then.set.store (sym store)
     where
       file : is.by.writable.log.file ≡ v.writable.log.file
-      file = same_log value.set.store old new is.edits edits (memory_of value) (memory_of then)
+      file = same_log cmp meaning value.set.store old new is.edits edits (memory_of value) (memory_of then)
           is.by v (ap (λ (l : _). l.number) log) same
 
       Written : List ℕ → Type 0
@@ -513,11 +513,11 @@ module _ {C : Type 0} (cmp : List ℕ → List ℕ → Ordering) (meaning : Mean
           shows_failed set same_store full history s =
               let then = shows_made history s in
               record {
-                tables = s.tables;
-                has = live_on cmp meaning given (record old { set = set }) mid now s.tables
-                    same_store full (same_tables s.tables s.has.files_are) then.has;
+                tables = then.tables;
+                has = live_on cmp meaning given (record old { set = set }) mid now then.tables
+                    same_store full (same_tables then.tables then.has.files_are) then.has;
                 shows = shows_again cmp (memory_of given) (memory_of (record old { set = set }))
-                    s.tables s.tables history (greatest (entries_of history)) refl refl
+                    then.tables then.tables history (greatest (entries_of history)) refl refl
                     (λ t c. c) (λ t c. c) then.shows;
               }
 

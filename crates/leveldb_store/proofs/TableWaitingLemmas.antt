@@ -22,26 +22,27 @@ use Rattle.leveldb_env.specs.Env.{Files, HasCause, Observed, Run, SameBut, kept_
 use Rattle.leveldb_env.specs.WholeFiles.{IsLost}
 use Rattle.leveldb_env.specs.declared.env.Env.{Ghosts}
 use Rattle.leveldb_env.specs.declared.filter.FilterPolicy.{Ghosts as FilterGhosts}
-use Rattle.leveldb_mem.specs.Log.Writer.{IsWriterBroken}
+use Rattle.leveldb_mem.specs.Log.Writer.{IsWriterBroken, frame}
 use Rattle.leveldb_table.specs.TableLaws.{DecodesMore}
 use Rattle.leveldb_version.proofs.StoreTablesLemmas.{held_tables_by_more}
 use Rattle.leveldb_version.specs.Batches.{Each}
 use Rattle.leveldb_version.specs.Contents.{Store}
 use Rattle.leveldb_version.specs.Levels.{LiveTable}
-use Rattle.leveldb_version.specs.LogEdit.{AppendsEdit, LogEditResult, set_appended}
+use Rattle.leveldb_version.specs.LogEdit.{AppendsEdit, LogEditResult, edit_record, set_appended, with_bytes_kept}
+use Rattle.leveldb_version.specs.Opening.{FitsEdit}
 use Rattle.leveldb_version.specs.Paths.{IsFilePath, table_path}
 use Rattle.leveldb_version.specs.Store.{HasTable, IsInternalPair, IsStoreTable}
 use Rattle.leveldb_version.specs.StoreSteps.{AppendedAreBytes, IsKept, KeepsHistory}
 use Rattle.leveldb_version.specs.VersionEdit.{Edit, LevelsFit, NewFile, edit_of, empty_edit, new_file_of}
 use Rattle.leveldb_version.specs.VersionSetValue.{AreFileNumbersUsedUp, ManifestState, OpenManifest, VersionSetValue, broken, in_use, unmade, with_number_given}
-use Rattle.leveldb_version.specs.Writing.{table_edit}
+use Rattle.leveldb_version.specs.Writing.{IsWrittenBy, table_edit}
 use Rattle.leveldb_version.specs.declared.version_edit.VersionEdit.{VersionEdit}
 use Rattle.leveldb_store.proofs.TableKeepsLemmas.{KeepsHistory-refl, KeepsHistory-trans, appending_and_syncing, done, given, is_table_path, keeps_logged, keeps_made, shows_done, shows_failed, shows_made, types_apart, w_made, written_done, written_made}
 use Rattle.leveldb_store.specs.BuildTable.{IsNotTabled, IsTableOfStore, MakesTable, TableChoices}
 use Rattle.leveldb_store.specs.Format.{Agrees, Format, Meaning}
 use Rattle.leveldb_store.specs.OpenStore.{HasOwnManifest, IsUnbroken, OpenStoreValue}
 use Rattle.leveldb_store.specs.Switch.{FailsToTable, IsManifestLost, LogsTable, TablesWaiting}
-use Rattle.leveldb_store.specs.Written.{IsTableOf, IsWritten, KeepsWritten, SparesRest, waiting_entries}
+use Rattle.leveldb_store.specs.Written.{IsData, IsDataPath, IsTableOf, IsWritten, KeepsStore, KeepsWritten, Shows, SparesRest, memory_of, waiting_entries}
 
 -- ---- the edit
 
@@ -142,3 +143,156 @@ own_again old new kept own manifest used =
     let its = own was.0 was.1 in
     subst (λ s. IsFilePath Descriptor s manifest.path) (sym kept.store)
     (its.0, its.1, its.2, was.2 ∙ its.3)
+
+-- ---- what is kept
+
+-- compressors that are set in a format decode the same by what ids mean
+agreed_decode_more : (format : Format) (meaning : Meaning) → Agrees format meaning
+    → DecodesMore (Decodes format.codings) (Decodes meaning.codings)
+agreed_decode_more format meaning agrees id stored text decoded =
+    by (format.codings id) refl decoded
+  where
+    by : (o : Option Coding) → format.codings id ≡ o → decoded_under o stored ≡ Some text
+        → Decodes meaning.codings id stored text
+    by None e found = absurd (let never : None ≡ Some text = found in cc)
+    by (Some coding) e found =
+        ap (λ (o : Option Coding). decoded_under o stored) (agrees.codings id coding e) ∙ found
+
+some_pairs : (entries : List Entry) → entries ≢ [] → map internal_pair entries ≢ []
+some_pairs [] some e = some refl
+some_pairs (entry ∷ entries) some e =
+    let never : internal_pair entry ∷ map internal_pair entries ≡ [] = e in cc
+
+module _ {C : Type 0} (cmp : List ℕ → List ℕ → Ordering) (meaning : Meaning) where
+  -- where nothing is done
+  pub keeps_nothing : (value : OpenStoreValue C) (observed : Observed)
+      → KeepsWritten cmp meaning value observed value observed
+  keeps_nothing value observed allowed is = record {
+    moments = λ bound late. begun observed (KeepsHistory-refl observed.disk.files);
+    written = λ unbroken. is;
+    shows = λ history s. s;
+  }
+
+  module _ (old : OpenStoreValue C) (next_fits : old.set.next_file + 1 < 2 ^ 64)
+      (v0 v1 : Observed)
+      (run : Run (SameBut (table_path old.set.store old.set.next_file) v0.disk.files) v0 v1)
+      (bytes : AppendedAreBytes v0.disk.files → AppendedAreBytes v1.disk.files) where
+    abbrev Keeps : (Store → Type 0) → ℕ → Files → Files → Type 0
+    Keeps = KeepsHistory old.set.store cmp (IsTableOf cmp meaning)
+
+    run_made : IsWritten cmp meaning old v0.disk.files → (allowed : Store → Type 0) (bound : ℕ)
+        → Run (Keeps allowed bound v0.disk.files) v0 v1
+    run_made is allowed bound =
+        Run-mono (λ files same. keeps_made cmp meaning old v0.disk.files is next_fits files same
+        allowed bound) run
+
+    -- where no table is made
+    pub keeps_unmade : KeepsWritten cmp meaning old v0
+        (record old { set = with_number_given old.set }) v1
+    keeps_unmade allowed is = record {
+      moments = λ bound late. run_made is (λ s. IsTrue (allowed s)) bound;
+      written = λ unbroken. written_made cmp meaning old v0.disk.files is next_fits v1.disk.files
+          run.has (bytes is.by.tracked.bytes);
+      shows = shows_made cmp meaning old v0.disk.files is next_fits v1.disk.files run.has;
+    }
+
+    module _ (total : IsTotalOrder cmp) (file : NewFile) (level : file.level ≡ 0)
+        (number : file.number ≡ old.set.next_file) (edit_fits : FitsEdit file)
+        (has : HasTable old.set.store cmp (IsTableOf cmp meaning) v1.disk.files
+        (record { file = file; entries = waiting_entries old.waiting }))
+        (kept : IsKept (v1.disk.files (table_path old.set.store file.number)))
+        {models_disk : Bool} (modelled : IsTrue models_disk) {v2 : Observed}
+        {failed now_failed : ℕ} {set : VersionSetValue} where
+      -- the edit is logged, or not
+      abbrev pub Logs : Result (Unit {0}) Status → Type 0
+      Logs result = (manifest : OpenManifest) → old.set.manifest ≡ in_use manifest
+          → AppendsEdit models_disk manifest (with_number_given old.set)
+          (table_edit old.log.number file) v1 failed result set v2 now_failed
+
+      module _ (is : IsWritten cmp meaning old v0.disk.files) (result : Result (Unit {0}) Status)
+          (logs : Logs result) where
+        w1 : IsWrittenBy old.set.store cmp (IsTableOf cmp meaning) v1.disk.files is.edits
+            (memory_of (record old { set = with_number_given old.set }))
+        w1 = w_made cmp meaning old v0.disk.files is next_fits v1.disk.files run.has
+            (bytes is.by.tracked.bytes)
+
+        abbrev logged : AppendsEdit models_disk w1.manifest (with_number_given old.set)
+            (table_edit old.log.number file) v1 failed result set v2 now_failed
+        logged = logs w1.manifest w1.is_in_use
+
+        -- at each moment of both each history is kept
+        run_logged : (allowed : Store → Type 0) (bound : ℕ) → old.set.last_sequence ≤ bound
+            → Run (Keeps allowed bound v0.disk.files) v0 v2
+        run_logged allowed bound late =
+            Run-trans (run_made is allowed bound)
+            (λ files second. KeepsHistory-trans
+            (keeps_made cmp meaning old v0.disk.files is next_fits v1.disk.files run.has allowed
+            bound) second)
+            (Run-mono
+            (λ files passes. keeps_logged cmp meaning old v0.disk.files is next_fits
+            v1.disk.files run.has (bytes is.by.tracked.bytes) total file level number edit_fits
+            has kept allowed bound late files passes)
+            (Run-call modelled (logged.does modelled)))
+
+      -- where its edit isn't logged
+      pub keeps_unlogged : (status : Status) → Logs (Err status)
+          → KeepsWritten cmp meaning old v0 (record old { set = set }) v2
+      keeps_unlogged status logs allowed is = record {
+        moments = run_logged is (Err status) logs (λ s. IsTrue (allowed s));
+        written = λ unbroken. ⊎_elim
+            (λ memory.
+            subst (λ f. IsWritten cmp meaning (record old { set = set }) f)
+            (sym (memory.2 modelled))
+            (subst (λ x. IsWritten cmp meaning (record old { set = x }) v1.disk.files)
+            (sym memory.1)
+            (written_made cmp meaning old v0.disk.files is next_fits v1.disk.files run.has
+            (bytes is.by.tracked.bytes))))
+            (λ broke. absurd
+            (unbroken.manifest (ap (λ (s : VersionSetValue). s.manifest) broke)))
+            l.err;
+        shows = shows_failed cmp meaning old v0.disk.files is next_fits v1.disk.files run.has
+            (bytes is.by.tracked.bytes) total file level number edit_fits has kept
+            v2.disk.files ((l.does modelled).now modelled) set
+            (⊎_elim (λ memory. ap (λ (s : VersionSetValue). s.store) memory.1)
+            (λ broke. ap (λ (s : VersionSetValue). s.store) broke) l.err)
+            (⊎_elim (λ memory. ap (λ (s : VersionSetValue). s.full) memory.1)
+            (λ broke. ap (λ (s : VersionSetValue). s.full) broke) l.err);
+      }
+        where
+          l : AppendsEdit models_disk (w1 is (Err status) logs).manifest
+              (with_number_given old.set) (table_edit old.log.number file) v1 failed (Err status)
+              set v2 now_failed
+          l = logs (w1 is (Err status) logs).manifest (w1 is (Err status) logs).is_in_use
+
+      -- where it is
+      pub keeps_tabled : Logs (Ok tt)
+          → KeepsWritten cmp meaning old v0 (record old { set = set; waiting = None }) v2
+      keeps_tabled logs allowed is = record {
+        moments = run_logged is (Ok tt) logs (λ s. IsTrue (allowed s));
+        written = λ unbroken.
+            subst (λ x. IsWritten cmp meaning (record old { set = x; waiting = None })
+            v2.disk.files) (sym l.ok)
+            (written_done cmp meaning old v0.disk.files is next_fits v1.disk.files run.has
+            (bytes is.by.tracked.bytes) total file level number edit_fits has kept v2.disk.files
+            files);
+        shows = λ history s.
+            subst (λ x. Shows cmp meaning (record old { set = x; waiting = None }) v2.disk.files
+            history) (sym l.ok)
+            (shows_done cmp meaning old v0.disk.files is next_fits v1.disk.files run.has
+            (bytes is.by.tracked.bytes) total file level number edit_fits has kept v2.disk.files
+            files history s);
+      }
+        where
+          w : IsWrittenBy old.set.store cmp (IsTableOf cmp meaning) v1.disk.files is.edits
+              (memory_of (record old { set = with_number_given old.set }))
+          w = w1 is (Ok tt) logs
+
+          l : AppendsEdit models_disk w.manifest (with_number_given old.set)
+              (table_edit old.log.number file) v1 failed (Ok tt) set v2 now_failed
+          l = logs w.manifest w.is_in_use
+
+          files : v2.disk.files ≡ with_bytes_kept w.manifest.path
+              (frame w.manifest.writer
+              (edit_record (with_number_given old.set) (table_edit old.log.number file)))
+              v1.disk.files
+          files = (l.does modelled).ok modelled
