@@ -1,6 +1,6 @@
 -- How the entries that wait become a table: its edit, the ends of the call, and what it keeps.
 use Rattle.std.specs.Prelude.{◌≢◌, All, IsErrAnd, IsTrue, IfErr, IfOk, OnErr, OnOk}
-use Rattle.std.proofs.Common.{◌≡◌, ◌⊎◌, ◌∙◌, ◌∷◌, ◌++◌, ◌+◌, ◌≤◌, ◌<◌, ◌^◌, inl, inr, ⊎_elim, ℕ, Bool, true, false, List, [], map, Option, None, Some, Ok, Err, Result, ap, arith, refl, subst, sym}
+use Rattle.std.proofs.Common.{◌≡◌, ◌⊎◌, ◌∙◌, ◌∷◌, ◌++◌, ◌+◌, ◌-◌, ◌≤◌, ◌<◌, ◌^◌, inl, inr, ⊎_elim, ℕ, Bool, true, false, List, [], map, Option, None, Some, Ok, Err, Result, ap, arith, refl, subst, sym}
 use Rattle.std.proofs.lemmas.List.{map-append}
 use Rattle.std.proofs.lemmas.List.Elements.{All-cons, All-nil}
 use Rattle.std.specs.Cmp.{IsTotalOrder}
@@ -15,10 +15,11 @@ use Rattle.leveldb_base.specs.Types.{Pair}
 use Rattle.leveldb_base.specs.declared.cmp.Cmp.{Ghosts as CmpGhosts}
 use Rattle.leveldb_base.specs.declared.error.Status.{Status}
 use Rattle.leveldb_base.specs.declared.types.FileMetaData.{FileMetaData}
+use Rattle.leveldb_base.specs.declared.types.FileType.{FileType}
 use Rattle.leveldb_base.specs.declared.types.FileType.TheVariants.{Descriptor, Table}
 use Rattle.leveldb_env.proofs.EnvLemmas.{Run-call, Run-mono, Run-trans, begun}
 use Rattle.leveldb_env.specs.Compressor.{Codings, Coding, Decodes, decoded_under}
-use Rattle.leveldb_env.specs.Env.{Files, HasCause, Observed, Run, SameBut, kept_file}
+use Rattle.leveldb_env.specs.Env.{Files, HasCause, Observed, Run, SameBut, SameLocks, kept_file}
 use Rattle.leveldb_env.specs.WholeFiles.{IsLost}
 use Rattle.leveldb_env.specs.declared.env.Env.{Ghosts}
 use Rattle.leveldb_env.specs.declared.filter.FilterPolicy.{Ghosts as FilterGhosts}
@@ -186,6 +187,12 @@ module _ {C : Type 0} (cmp : List ℕ → List ℕ → Ordering) (meaning : Mean
         Run-mono (λ files same. keeps_made cmp meaning old v0.disk.files is next_fits files same
         allowed bound) run
 
+    abbrev w1 : (is : IsWritten cmp meaning old v0.disk.files)
+        → IsWrittenBy old.set.store cmp (IsTableOf cmp meaning) v1.disk.files is.edits
+        (memory_of (record old { set = with_number_given old.set }))
+    w1 is = w_made cmp meaning old v0.disk.files is next_fits v1.disk.files run.has
+        (bytes is.by.tracked.bytes)
+
     -- where no table is made
     pub keeps_unmade : KeepsWritten cmp meaning old v0
         (record old { set = with_number_given old.set }) v1
@@ -201,8 +208,8 @@ module _ {C : Type 0} (cmp : List ℕ → List ℕ → Ordering) (meaning : Mean
         (has : HasTable old.set.store cmp (IsTableOf cmp meaning) v1.disk.files
         (record { file = file; entries = waiting_entries old.waiting }))
         (kept : IsKept (v1.disk.files (table_path old.set.store file.number)))
-        {models_disk : Bool} (modelled : IsTrue models_disk) {v2 : Observed}
-        {failed now_failed : ℕ} {set : VersionSetValue} where
+        (models_disk : Bool) (modelled : IsTrue models_disk) (v2 : Observed)
+        (failed now_failed : ℕ) (set : VersionSetValue) where
       -- the edit is logged, or not
       abbrev pub Logs : Result (Unit {0}) Status → Type 0
       Logs result = (manifest : OpenManifest) → old.set.manifest ≡ in_use manifest
@@ -211,14 +218,9 @@ module _ {C : Type 0} (cmp : List ℕ → List ℕ → Ordering) (meaning : Mean
 
       module _ (is : IsWritten cmp meaning old v0.disk.files) (result : Result (Unit {0}) Status)
           (logs : Logs result) where
-        w1 : IsWrittenBy old.set.store cmp (IsTableOf cmp meaning) v1.disk.files is.edits
-            (memory_of (record old { set = with_number_given old.set }))
-        w1 = w_made cmp meaning old v0.disk.files is next_fits v1.disk.files run.has
-            (bytes is.by.tracked.bytes)
-
-        abbrev logged : AppendsEdit models_disk w1.manifest (with_number_given old.set)
+        abbrev logged : AppendsEdit models_disk (w1 is).manifest (with_number_given old.set)
             (table_edit old.log.number file) v1 failed result set v2 now_failed
-        logged = logs w1.manifest w1.is_in_use
+        logged = logs (w1 is).manifest (w1 is).is_in_use
 
         -- at each moment of both each history is kept
         run_logged : (allowed : Store → Type 0) (bound : ℕ) → old.set.last_sequence ≤ bound
@@ -259,10 +261,9 @@ module _ {C : Type 0} (cmp : List ℕ → List ℕ → Ordering) (meaning : Mean
             (λ broke. ap (λ (s : VersionSetValue). s.full) broke) l.err);
       }
         where
-          l : AppendsEdit models_disk (w1 is (Err status) logs).manifest
-              (with_number_given old.set) (table_edit old.log.number file) v1 failed (Err status)
-              set v2 now_failed
-          l = logs (w1 is (Err status) logs).manifest (w1 is (Err status) logs).is_in_use
+          l : AppendsEdit models_disk (w1 is).manifest (with_number_given old.set)
+              (table_edit old.log.number file) v1 failed (Err status) set v2 now_failed
+          l = logs (w1 is).manifest (w1 is).is_in_use
 
       -- where it is
       pub keeps_tabled : Logs (Ok tt)
@@ -283,16 +284,241 @@ module _ {C : Type 0} (cmp : List ℕ → List ℕ → Ordering) (meaning : Mean
             files history s);
       }
         where
-          w : IsWrittenBy old.set.store cmp (IsTableOf cmp meaning) v1.disk.files is.edits
-              (memory_of (record old { set = with_number_given old.set }))
-          w = w1 is (Ok tt) logs
-
-          l : AppendsEdit models_disk w.manifest (with_number_given old.set)
+          l : AppendsEdit models_disk (w1 is).manifest (with_number_given old.set)
               (table_edit old.log.number file) v1 failed (Ok tt) set v2 now_failed
-          l = logs w.manifest w.is_in_use
+          l = logs (w1 is).manifest (w1 is).is_in_use
 
-          files : v2.disk.files ≡ with_bytes_kept w.manifest.path
-              (frame w.manifest.writer
+          files : v2.disk.files ≡ with_bytes_kept (w1 is).manifest.path
+              (frame (w1 is).manifest.writer
               (edit_record (with_number_given old.set) (table_edit old.log.number file)))
               v1.disk.files
           files = (l.does modelled).ok modelled
+
+-- ---- the ends of the call
+
+-- the set is as it was but for its manifest
+module _ {E F C D FP : Type 0} {order : CmpGhosts D} {filters : FilterGhosts FP} (env : Ghosts E F)
+    (choices : TableChoices order filters) (old : OpenStoreValue C) (from : E) where
+  abbrev pairs : List Pair
+  pairs = map internal_pair (waiting_entries old.waiting)
+
+  abbrev Tables : Result (Unit {0}) Status → OpenStoreValue C → E → Type 0
+  Tables result new to = TablesWaiting env old from choices pairs result new to
+
+  spares_nothing : SparesRest env.models_disk old (env.observed from) old (env.observed from)
+  spares_nothing = record {
+    store = refl;
+    cmp = refl;
+    last = refl;
+    files = λ modelled path other. refl;
+    locks = λ modelled. refl;
+  }
+
+  -- nothing was done
+  pub tables_nothing : (status : Status) → FailsToTable env old from choices pairs from status
+      → Tables (Err status) old from
+  tables_nothing status why = record {
+    logged = tt;
+    none_waits = tt;
+    waits = refl;
+    err = inl (inl refl);
+    broken_before = λ is. (refl, refl);
+    recent = refl;
+    log = refl;
+    rest = spares_nothing;
+    cause = record { later = omega arith; ok = tt; uncounted = λ excused. refl; cause = inl why };
+  }
+
+  module _ (usable : old.set.manifest ≢ broken) (next_fits : old.set.next_file + 1 < 2 ^ 64)
+      (mid : E) where
+    abbrev Makes : Result FileMetaData Status → Type 0
+    Makes result = MakesTable choices pairs env (λ status. ⊥) old.set.store old.set.next_file from
+        result mid
+
+    abbrev given_set : VersionSetValue
+    given_set = with_number_given old.set
+
+    never_used_up : {P : Type 0} (status : Status) → AreFileNumbersUsedUp old.set.next_file status
+        → P
+    never_used_up status used = absurd (omega (arith, used.last, next_fits))
+
+    is_new_path : IsFilePath Table old.set.store
+        (table_path old.set.store old.set.next_file)
+    is_new_path = is_table_path old.set.store old.set.next_file (omega (arith, next_fits))
+
+    -- a path that isn't one of the store's data is another one
+    away : (path other : List ℕ) (k : FileType) → IsData k → IsFilePath k old.set.store path
+        → (IsDataPath old.set.store other → ⊥) → bytes_eq path other ≡ false
+    away path other k is_data its spared = by (bytes_eq path other) refl
+      where
+        by : (b : Bool) → bytes_eq path other ≡ b → bytes_eq path other ≡ false
+        by false e = e
+        by true e = absurd (spared
+            (k, is_data, subst (IsFilePath k old.set.store) ((bytes_decides path other).0 e) its))
+
+    spares_made : (result : Result FileMetaData Status) → Makes result → IsTrue env.models_disk
+        → (path : List ℕ) → (IsDataPath old.set.store path → ⊥)
+        → (env.observed mid).disk.files path ≡ (env.observed from).disk.files path
+    spares_made result m modelled path spared = (m.run modelled).has path
+        (away (table_path old.set.store old.set.next_file) path Table tt is_new_path spared)
+
+    -- no table was built
+    pub tables_unbuilt : (status : Status) → Makes (Err status)
+        → Tables (Err status) (record old { set = given_set }) mid
+    tables_unbuilt status m = record {
+      logged = tt;
+      none_waits = tt;
+      waits = refl;
+      err = inl (inr refl);
+      broken_before = λ is. absurd (usable is);
+      recent = refl;
+      log = refl;
+      rest = record {
+        store = refl;
+        cmp = refl;
+        last = refl;
+        files = spares_made (Err status) m;
+        locks = m.locks;
+      };
+      cause = record {
+        later = m.cause.later;
+        ok = tt;
+        uncounted = uncounted;
+        cause = ⊎_elim
+            (λ excused. inl (inr (⊎_elim (λ memory. inl memory)
+            (λ other. inr (inl (⊎_elim (λ is. is) (λ never. absurd never) other.0, other.1)))
+            excused)))
+            (λ counted. inr counted) m.cause.cause;
+      };
+    }
+      where
+        uncounted : FailsToTable env old from choices pairs mid status
+            → env.failures mid ≡ env.failures from
+        uncounted (inl used) = never_used_up status used
+        uncounted (inr (inl memory)) = m.cause.uncounted (inl memory)
+        uncounted (inr (inr (inl built))) = ap env.failures built.1
+        uncounted (inr (inr (inr (inl lost)))) = ⊎_elim
+            (λ memory. m.cause.uncounted (inl memory)) (λ missing. missing.2) lost.2
+        uncounted (inr (inr (inr (inr broke)))) = absurd (usable broke.0)
+
+    -- ---- the edit was logged, or not
+
+    module _ (file : FileMetaData) (m : Makes (Ok file)) (manifest : OpenManifest)
+        (used : old.set.manifest ≡ in_use manifest)
+        (own : IsTrue env.models_disk → HasOwnManifest old.set) {to : E}
+        (locks : SameLocks env.models_disk (env.observed mid) (env.observed to))
+        (set : VersionSetValue) where
+      abbrev edit : Edit
+      edit = table_edit old.log.number (new_file_of (0, file))
+
+      abbrev Logged : Result (Unit {0}) Status → Type 0
+      Logged result = AppendsEdit env.models_disk manifest given_set edit (env.observed mid)
+          (env.failures mid) result set (env.observed to) (env.failures to)
+
+      same_count : env.failures mid ≡ env.failures from
+      same_count = m.cause.ok
+
+      spares_logged : (result : Result (Unit {0}) Status) → Logged result
+          → IsTrue env.models_disk → (path : List ℕ) → (IsDataPath old.set.store path → ⊥)
+          → (env.observed to).disk.files path ≡ (env.observed from).disk.files path
+      spares_logged result l modelled path spared =
+          appending_and_syncing manifest.path _ (env.observed mid).disk.files
+          (env.observed to).disk.files ((l.does modelled).now modelled) path
+          (away manifest.path path Descriptor tt (own modelled manifest used) spared)
+          ∙ spares_made (Ok file) m modelled path spared
+
+      locks_all : SameLocks env.models_disk (env.observed from) (env.observed to)
+      locks_all modelled = locks modelled ∙ m.locks modelled
+
+      -- what the manifest's path had before the table was made
+      lost_before : (status : Status) → IsLost env.models_disk manifest.path (env.observed mid)
+          (env.failures mid) (env.failures to) status
+          → IsLost env.models_disk manifest.path (env.observed from) (env.failures from)
+          (env.failures to) status
+      lost_before status (inl memory) = inl memory
+      lost_before status (inr missing) = inr (
+        missing.0,
+        λ modelled. sym ((m.run modelled).has manifest.path
+            (types_apart old.set.store (table_path old.set.store old.set.next_file) manifest.path
+            Table Descriptor is_new_path (own modelled manifest used) (λ e. cc)))
+            ∙ missing.1 modelled,
+        missing.2 ∙ same_count,
+      )
+
+      -- the edit wasn't logged
+      pub tables_unlogged : (status : Status) → Logged (Err status)
+          → Tables (Err status) (record old { set = set }) to
+      tables_unlogged status l = record {
+        logged = tt;
+        none_waits = tt;
+        waits = refl;
+        err = ⊎_elim (λ memory. inl (inr memory.1)) (λ broke. inr broke) l.err;
+        broken_before = λ is. absurd (usable is);
+        recent = refl;
+        log = refl;
+        rest = record {
+          store = either (λ s. s.store) refl refl;
+          cmp = refl;
+          last = either (λ s. s.last_sequence) refl refl;
+          files = spares_logged (Err status) l;
+          locks = locks_all;
+        };
+        cause = record {
+          later = omega (arith, l.cause.later, same_count);
+          ok = tt;
+          uncounted = λ excused. uncounted excused;
+          cause = ⊎_elim
+              (λ lost. inl (inr (inr (inr (inl (manifest, used, lost_before status lost))))))
+              (λ counted. inr (subst
+              (λ k. (env.failures to ≡ k + 1) ⊎ ((k ≡ 2 ^ 64 - 1) × (env.failures to ≡ k)))
+              same_count counted)) l.cause.cause;
+        };
+      }
+        where
+          either : {A : Type 0} (part : VersionSetValue → A) → part given_set ≡ part old.set
+              → part (record given_set { manifest = broken }) ≡ part old.set
+              → part set ≡ part old.set
+          either part same broke = ⊎_elim (λ memory. ap part memory.1 ∙ same)
+              (λ is. ap part is ∙ broke) l.err
+
+          uncounted : FailsToTable env old from choices pairs to status
+              → env.failures to ≡ env.failures from
+          uncounted (inl numbers) = never_used_up status numbers
+          uncounted (inr (inl memory)) = l.cause.uncounted (inl memory) ∙ same_count
+          uncounted (inr (inr (inl built))) = ap env.failures built.1
+          uncounted (inr (inr (inr (inl lost)))) = ⊎_elim
+              (λ memory. l.cause.uncounted (inl memory) ∙ same_count) (λ missing. missing.2) lost.2
+          uncounted (inr (inr (inr (inr broke)))) = absurd (usable broke.0)
+
+      -- it was
+      pub tables_logged : Logged (Ok tt)
+          → Tables (Ok tt) (record old { set = set; waiting = None }) to
+      tables_logged l = record {
+        logged = record {
+          manifest = manifest;
+          was_in_use = used;
+          file = new_file_of (0, file);
+          level = refl;
+          number = m.number_is.0;
+          set = l.ok;
+        };
+        none_waits = refl;
+        waits = tt;
+        err = tt;
+        broken_before = λ is. absurd (usable is);
+        recent = refl;
+        log = refl;
+        rest = record {
+          store = ap (λ (s : VersionSetValue). s.store) l.ok;
+          cmp = refl;
+          last = ap (λ (s : VersionSetValue). s.last_sequence) l.ok;
+          files = spares_logged (Ok tt) l;
+          locks = locks_all;
+        };
+        cause = record {
+          later = omega (arith, l.cause.later, same_count);
+          ok = l.cause.ok ∙ same_count;
+          uncounted = tt;
+          cause = tt;
+        };
+      }
