@@ -1,5 +1,5 @@
 -- How the entries that wait become a table: its edit, the ends of the call, and what it keeps.
-use Rattle.std.specs.Prelude.{◌≢◌, All, IsErrAnd, IsTrue, IfErr, IfOk, OnErr, OnOk}
+use Rattle.std.specs.Prelude.{◌≢◌, All, IsErrAnd, IsTrue, IfErr, IfOk, IfSome, OnErr, OnOk}
 use Rattle.std.proofs.Common.{◌≡◌, ◌⊎◌, ◌∙◌, ◌∷◌, ◌++◌, ◌+◌, ◌-◌, ◌≤◌, ◌<◌, ◌^◌, inl, inr, ⊎_elim, ℕ, Bool, true, false, List, [], map, Option, None, Some, Ok, Err, Result, ap, arith, refl, subst, sym}
 use Rattle.std.proofs.lemmas.List.{map-append}
 use Rattle.std.proofs.lemmas.List.Elements.{All-cons, All-nil}
@@ -24,6 +24,7 @@ use Rattle.leveldb_env.specs.WholeFiles.{IsLost}
 use Rattle.leveldb_env.specs.declared.env.Env.{Ghosts}
 use Rattle.leveldb_env.specs.declared.filter.FilterPolicy.{Ghosts as FilterGhosts}
 use Rattle.leveldb_mem.specs.Log.Writer.{IsWriterBroken, frame}
+use Rattle.leveldb_table.specs.TableBuilder.{IsMeaningOf}
 use Rattle.leveldb_table.specs.TableLaws.{DecodesMore}
 use Rattle.leveldb_version.proofs.StoreTablesLemmas.{held_tables_by_more}
 use Rattle.leveldb_version.specs.Batches.{Each}
@@ -522,3 +523,70 @@ module _ {E F C D FP : Type 0} {order : CmpGhosts D} {filters : FilterGhosts FP}
           cause = tt;
         };
       }
+
+-- ---- what the call keeps, by what it made
+
+module _ {E F C D FP : Type 0} {order : CmpGhosts D} {filters : FilterGhosts FP} (env : Ghosts E F)
+    (choices : TableChoices order filters) (old : OpenStoreValue C) (from mid : E)
+    (file : FileMetaData) (some : waiting_entries old.waiting ≢ [])
+    (each : Each IsInternalPair (map internal_pair (waiting_entries old.waiting))
+    (waiting_entries old.waiting))
+    (m : MakesTable choices (map internal_pair (waiting_entries old.waiting)) env (λ status. ⊥)
+    old.set.store old.set.next_file from (Ok file) mid)
+    (modelled : IsTrue env.models_disk) (cmp : List ℕ → List ℕ → Ordering)
+    (same : choices.format.order ≡ cmp) (meaning : Meaning)
+    (agrees : Agrees choices.format meaning) where
+  abbrev made_table : LiveTable
+  made_table = record {
+    file = new_file_of (0, file);
+    entries = waiting_entries old.waiting;
+  }
+
+  -- the table is there by what names and ids mean
+  has_made : HasTable old.set.store cmp (IsTableOf cmp meaning) (env.observed mid).disk.files
+      made_table
+  has_made =
+      let f = choices.format in
+      let known : IsMeaningOf meaning.filters f.policy_name (λ key. f.matches (user_part key)) =
+      subst (λ (o : Option (List ℕ → List ℕ → Bool)).
+      IfSome o (λ known. known ≡ (λ key. f.matches (user_part key)))) (sym agrees.filters) refl in
+      let here = m.has (some_pairs (waiting_entries old.waiting) some) modelled meaning.filters 0
+      (waiting_entries old.waiting) known each in
+      subst (λ o. HasTable old.set.store o (IsTableOf o meaning) (env.observed mid).disk.files
+      made_table) same
+      (held_tables_by_more (Decodes f.codings) (Decodes meaning.codings)
+      (agreed_decode_more f meaning agrees) old.set.store f.order meaning.filters
+      (env.observed mid).disk.files made_table here)
+
+  -- all of it is kept
+  kept_made : IsKept ((env.observed mid).disk.files (table_path old.set.store file.num))
+  kept_made = subst IsKept
+      (sym ((m.made (some_pairs (waiting_entries old.waiting) some)).kept modelled)) refl
+
+  module _ (next_fits : old.set.next_file + 1 < 2 ^ 64) (total : IsTotalOrder cmp) (to : E)
+      (set : VersionSetValue) where
+    abbrev LogsEdit : Result (Unit {0}) Status → Type 0
+    LogsEdit result = (manifest : OpenManifest) → old.set.manifest ≡ in_use manifest
+        → AppendsEdit env.models_disk manifest (with_number_given old.set)
+        (table_edit old.log.number (new_file_of (0, file))) (env.observed mid) (env.failures mid)
+        result set (env.observed to) (env.failures to)
+
+    -- an edit that wasn't logged
+    pub keeps_failed : (status : Status) → LogsEdit (Err status)
+        → KeepsWritten cmp meaning old (env.observed from) (record old { set = set })
+        (env.observed to)
+    keeps_failed status logs =
+        keeps_unlogged cmp meaning old next_fits (env.observed from) (env.observed mid)
+        (m.run modelled) (m.bytes modelled) total (new_file_of (0, file)) refl m.number_is.0
+        (m.fits 0) has_made kept_made env.models_disk modelled (env.observed to)
+        (env.failures mid) (env.failures to) set status logs
+
+    -- one that was
+    pub keeps_done : LogsEdit (Ok tt)
+        → KeepsWritten cmp meaning old (env.observed from)
+        (record old { set = set; waiting = None }) (env.observed to)
+    keeps_done logs =
+        keeps_tabled cmp meaning old next_fits (env.observed from) (env.observed mid)
+        (m.run modelled) (m.bytes modelled) total (new_file_of (0, file)) refl m.number_is.0
+        (m.fits 0) has_made kept_made env.models_disk modelled (env.observed to)
+        (env.failures mid) (env.failures to) set logs
