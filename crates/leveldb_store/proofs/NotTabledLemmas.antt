@@ -20,8 +20,8 @@ use Rattle.leveldb_table.specs.declared.table_builder.builder_core.BuilderCore.{
 use Rattle.leveldb_store.specs.BuildTable.{IsNotTabled, TableChoices, flushes_in_memory, puts_in_memory}
 use Rattle.leveldb_store.specs.Format.{HasCompressorError}
 
--- why a builder that isn't broken fails that puts into memory: out of memory, what isn't supported, or
--- a compressor that is set
+-- why a builder that isn't broken fails that puts into memory: out of memory, what isn't supported,
+-- or a compressor that is set
 abbrev pub IsBuildFault : Codings → Status → Type 0
 IsBuildFault codings status = IsOutOfMemory status ⊎ (status.code ≡ NotSupported)
     ⊎ ((id : ℕ) × (coding : Coding) × (codings id ≡ Some coding) × (block : List ℕ)
@@ -76,7 +76,7 @@ module _ (codings : Codings) (status : Status) where
       → Type 0)
       → ((handle : Handle) (end : ℕ) (mid to : Vec ℕ) → Rest handle end mid status to → Fault)
       → (from to : Vec ℕ) → StopsFrom puts_in_memory codings id text offset Rest from status to
-          → Fault
+      → Fault
   stops_fault id text offset Rest so from to (inl not_put) =
       not_put_fault id text offset from to not_put
   stops_fault id text offset Rest so from to (inr later) = so later.2 later.3 later.4 to later.6
@@ -122,13 +122,15 @@ module _ (codings : Codings) (status : Status) where
     finish_fault core from to usable (inr (inr (_, last, mid, _, stops))) = at_filters stops
       where
         at_index : (meta : Handle) (end : ℕ) (mid to : Vec ℕ)
-            → StopsFromIndex codings (order.cmp core.block.cmp) (filters.too_large core.filter.policy)
-            (filters.filter_for core.filter.policy) core.compressor (filters.name core.filter.policy)
-            last puts_in_memory flushes_in_memory meta end mid status to → Fault
+            → StopsFromIndex codings (order.cmp core.block.cmp)
+            (filters.too_large core.filter.policy) (filters.filter_for core.filter.policy)
+            core.compressor (filters.name core.filter.policy) last puts_in_memory
+            flushes_in_memory meta end mid status to → Fault
         at_index meta end mid to (inl memory) = memory_fault memory.1
         at_index meta end mid to (inr made) = stops_fault core.compressor made.0 end
             (λ index. StopsAtFooter puts_in_memory flushes_in_memory (footer_bytes meta index))
-            (λ index offset at then footer. footer_fault (footer_bytes meta index) offset at then footer)
+            (λ index offset at then footer.
+            footer_fault (footer_bytes meta index) offset at then footer)
             mid to made.2
 
         at_filters : StopsFromFilters codings (order.cmp core.block.cmp)
@@ -142,15 +144,18 @@ module _ (codings : Codings) (status : Status) where
             metaindex_fault _ handle none.1
         at_filters (inr (text, _, inr (handle, end, at, _, inr meta))) =
             stops_fault core.compressor meta.0 end
-            (StopsFromIndex codings (order.cmp core.block.cmp) (filters.too_large core.filter.policy)
-            (filters.filter_for core.filter.policy) core.compressor (filters.name core.filter.policy)
-            last puts_in_memory flushes_in_memory) at_index at to meta.2
+            (StopsFromIndex codings (order.cmp core.block.cmp)
+            (filters.too_large core.filter.policy) (filters.filter_for core.filter.policy)
+            core.compressor (filters.name core.filter.policy) last puts_in_memory
+            flushes_in_memory) at_index at to meta.2
 
--- Memory is out; it isn't supported: an entry, a filter or a count that is too large, or an id without
--- a compressor; or a compressor that is set fails for a block.
-pub not_tabled_causes : {C FP : Type 0} {order : CmpGhosts C} {filters : FilterGhosts FP} (choices : TableChoices order filters) (pairs : List Pair) (status : Status)
+-- Memory is out; it isn't supported, as an entry, a filter or a count that is too large, or an id
+-- without a compressor; or a compressor that is set fails for a block.
+pub not_tabled_causes : {C FP : Type 0} {order : CmpGhosts C} {filters : FilterGhosts FP}
+    (choices : TableChoices order filters) (pairs : List Pair) (status : Status)
     → IsNotTabled choices pairs status
-    → IsOutOfMemory status ⊎ (status.code ≡ NotSupported) ⊎ HasCompressorError choices.format status.code
+    → IsOutOfMemory status ⊎ (status.code ≡ NotSupported)
+    ⊎ HasCompressorError choices.format status.code
 not_tabled_causes choices pairs status (inl memory) = inl memory
 not_tabled_causes choices pairs status (inr (core, new, stops)) = ⊎_elim (λ memory. inl memory)
     (λ other. inr (⊎_elim (λ code. inl code)

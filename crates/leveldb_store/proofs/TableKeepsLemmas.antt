@@ -1,30 +1,26 @@
--- What a table of the entries that wait keeps of a store that is written, while it is made and while
--- its edit is logged.
-use Rattle.std.specs.Prelude.{◌≢◌, All, Contains, IsTrue, IfErr, OnOk}
-use Rattle.std.proofs.Common.{◌≡◌, ◌⊎◌, ◌∙◌, ◌∷◌, ◌++◌, ◌+◌, ◌≤◌, ◌<◌, ◌^◌, ◌%◌, ◌==◌, not, cond, inl, inr, ⊎_elim, ℕ, Bool, true, false, List, [], length, map, Option, None, Some, Ok, Err, Result, ap, arith, refl, subst, sym}
-use Rattle.std.proofs.lemmas.List.Elements.{All-cons, All-contains, All-contains_itself, All-head, All-nil, All-push, All-tail, All-weaker, Contains-append_cases, Contains-append_left, Contains-append_right, Contains-push, Contains-push_cases}
+-- What a table of the entries that wait keeps of a store that is written, while it is made and
+-- while its edit is logged.
+use Rattle.std.specs.Prelude.{◌≢◌, All, Contains}
+use Rattle.std.proofs.Common.{◌≡◌, ◌∙◌, ◌∷◌, ◌++◌, ◌+◌, ◌≤◌, ◌<◌, ◌^◌, ◌%◌, not, cond, inl, inr, ⊎_elim, ℕ, Bool, true, false, List, [], length, map, None, Some, ap, arith, refl, subst, sym}
+use Rattle.std.proofs.lemmas.List.Elements.{All-contains, All-contains_itself, All-head, All-push, All-tail, All-weaker, Contains-append_cases, Contains-append_left, Contains-append_right, Contains-push, Contains-push_cases}
 use Rattle.std.specs.Cmp.{IsTotalOrder}
 use Rattle.std.specs.List.{filter}
 use Rattle.std.specs.Str.{bytes_eq}
 use Rattle.std.specs.declared.cmp.Ordering.{Ordering}
 use Rattle.leveldb_base.proofs.EntriesLemmas.{in_map, map_in}
-use Rattle.leveldb_base.proofs.HistoryLemmas.{in_cases, in_front, in_none, in_rest}
+use Rattle.leveldb_base.proofs.HistoryLemmas.{in_cases, in_front, in_rest}
 use Rattle.leveldb_base.proofs.NamesLemmas.{made_name}
-use Rattle.leveldb_base.specs.Error.{IsOutOfMemory}
 use Rattle.leveldb_base.specs.History.{Entry, History, entries_of, greatest}
 use Rattle.leveldb_base.specs.KeyTypes.{internal_cmp}
-use Rattle.leveldb_base.specs.Layers.{IsOlder}
-use Rattle.leveldb_base.specs.Names.{IsFileName, file_name}
+use Rattle.leveldb_base.specs.Names.{file_name}
 use Rattle.leveldb_base.specs.Types.{Pair}
-use Rattle.leveldb_base.specs.declared.error.Status.{Status}
 use Rattle.leveldb_base.specs.declared.types.FileType.{FileType}
 use Rattle.leveldb_base.specs.declared.types.FileType.TheVariants.{Descriptor, Log, Table}
-use Rattle.leveldb_env.proofs.EnvLemmas.{Run-call, Run-mono, Run-trans, SameBut-appending, SameBut-synced, SameBut-trans, appended, begun}
-use Rattle.leveldb_env.specs.Compressor.{Codings, Decodes}
-use Rattle.leveldb_env.specs.Env.{Files, Observed, Run, SameBut, bytes_of, extended, in_folder}
+use Rattle.leveldb_env.proofs.EnvLemmas.{SameBut-appending, SameBut-synced, SameBut-trans, appended}
+use Rattle.leveldb_env.specs.Compressor.{Decodes}
+use Rattle.leveldb_env.specs.Env.{Files, SameBut, bytes_of, extended, in_folder}
 use Rattle.leveldb_mem.specs.Log.{log_block_size}
 use Rattle.leveldb_mem.specs.Log.Writer.{frame, new_writer}
-use Rattle.leveldb_mem.specs.MemTable.{Kept}
 use Rattle.leveldb_table.proofs.TableReaderLemmas.{one_table}
 use Rattle.leveldb_table.specs.Table.{DecodesOne}
 use Rattle.leveldb_version.proofs.KeepsLemmas.{unread_keeps}
@@ -39,21 +35,21 @@ use Rattle.leveldb_version.proofs.ViewsLemmas.{same_sets, view_trans}
 use Rattle.leveldb_version.proofs.WaitingLemmas.{waiting_is_tabled, waiting_may_go_to_level_zero}
 use Rattle.leveldb_version.proofs.WrittenLemmas.{new_table_unread, written_given, written_unread}
 use Rattle.leveldb_version.specs.Contents.{Store}
-use Rattle.leveldb_version.specs.FullEdit.{files_with, files_without}
+use Rattle.leveldb_version.specs.FullEdit.{files_with}
 use Rattle.leveldb_version.specs.Levels.{CanBeAdded, IsBounded, LiveTable, table_entries}
-use Rattle.leveldb_version.specs.LogEdit.{AppendingAndSyncing, AppendsEdit, edit_record, set_appended, with_bytes_kept, written_edit}
+use Rattle.leveldb_version.specs.LogEdit.{AppendingAndSyncing, edit_record, set_appended, with_bytes_kept, written_edit}
 use Rattle.leveldb_version.specs.Opening.{FitsEdit}
 use Rattle.leveldb_version.specs.Paths.{IsFilePath, log_path, table_path}
 use Rattle.leveldb_version.specs.Store.{HasTable, HasTables, OneTableReading, SameEntries}
 use Rattle.leveldb_version.specs.StoreSteps.{AppendedAreBytes, IsKept, IsUnread, KeepsHistory}
-use Rattle.leveldb_version.specs.VersionEdit.{Edit, LevelFile, NewFile}
+use Rattle.leveldb_version.specs.VersionEdit.{Edit, NewFile}
 use Rattle.leveldb_version.specs.VersionSet.{is_same_file, level_file, live_after}
-use Rattle.leveldb_version.specs.VersionSetValue.{VersionSetValue, broken, with_number_given}
+use Rattle.leveldb_version.specs.VersionSetValue.{VersionSetValue, with_number_given}
 use Rattle.leveldb_version.specs.Writing.{EngineMemory, IsNumberedUpTo, IsWrittenBy, ShowsHistory, table_edit}
 use Rattle.leveldb_version.specs.WritingLaws.{HasWaiting, TablesAreInRange, WaitingIsTabled}
 use Rattle.leveldb_store.specs.Format.{Meaning}
-use Rattle.leveldb_store.specs.OpenStore.{IsUnbroken, OpenStoreValue}
-use Rattle.leveldb_store.specs.Written.{HasLiveTables, IsTableOf, IsWritten, KeepsStore, Shows, memory_of, waiting_entries}
+use Rattle.leveldb_store.specs.OpenStore.{OpenStoreValue}
+use Rattle.leveldb_store.specs.Written.{HasLiveTables, IsTableOf, IsWritten, Shows, memory_of, waiting_entries}
 
 -- ---- lists
 
@@ -130,7 +126,8 @@ module _ (cmp : List ℕ → List ℕ → Ordering) where
       → ShowsHistory cmp memory these history from → ShowsHistory cmp other those history from
   shows_again memory other these those history from recent waiting to back s =
       same_memory_shows cmp memory other those history from
-      (λ entry. subst (λ es. SameEntries memory.recent es) (sym recent) (itself memory.recent) entry)
+      (λ entry.
+      subst (λ es. SameEntries memory.recent es) (sym recent) (itself memory.recent) entry)
       (λ entry.
       subst (λ es. SameEntries memory.waiting es) (sym waiting) (itself memory.waiting) entry)
       (record {
@@ -223,9 +220,11 @@ module _ (cmp : List ℕ → List ℕ → Ordering) (meaning : Meaning) where
     pub live_below : (file : NewFile) → Contains memory.set.full.added file
         → (file.number < 2 ^ 64) × (file.number < memory.set.next_file)
     live_below file c =
-        let l = live_file file c in
-        (l.1, live_is_below store cmp (IsTableOf cmp meaning) files edits memory.set w.tracked file
-        l.1 l.0)
+        let l = live_file file c in (
+          l.1,
+          live_is_below store cmp (IsTableOf cmp meaning) files edits memory.set w.tracked file
+              l.1 l.0,
+        )
 
     -- so tables in the order of the set's files are those that are live
     pub live_tables : (tables : List LiveTable)
@@ -235,9 +234,11 @@ module _ (cmp : List ℕ → List ℕ → Ordering) (meaning : Meaning) where
     live_tables tables files_are each = record {
       each = λ table c.
           let l = live_file table.file (subst (λ fs. Contains fs table.file) files_are
-          (map_in (λ (t : LiveTable). t.file) tables table c)) in
-          (All-contains (HasTable store cmp (IsTableOf cmp meaning) files) tables table each c,
-          l.0, l.1);
+          (map_in (λ (t : LiveTable). t.file) tables table c)) in (
+            All-contains (HasTable store cmp (IsTableOf cmp meaning) files) tables table each c,
+            l.0,
+            l.1,
+          );
       all = λ file live.
           in_map (λ (t : LiveTable). t.file) tables file
           (subst (λ fs. Contains fs file) (sym files_are)
@@ -293,8 +294,8 @@ module _ {C : Type 0} (cmp : List ℕ → List ℕ → Ordering) (meaning : Mean
       by then.set.store (sym store)
     where
       file : is.by.writable.log.file ≡ v.writable.log.file
-      file = same_log cmp meaning value.set.store old new is.edits edits (memory_of value) (memory_of then)
-          is.by v (ap (λ (l : _). l.number) log) same
+      file = same_log cmp meaning value.set.store old new is.edits edits (memory_of value)
+          (memory_of then) is.by v (ap (λ (l : _). l.number) log) same
 
       Written : List ℕ → Type 0
       Written s = (w : IsWrittenBy s cmp (IsTableOf cmp meaning) new edits (memory_of then))
@@ -302,8 +303,11 @@ module _ {C : Type 0} (cmp : List ℕ → List ℕ → Ordering) (meaning : Mean
           ≡ new_writer log_block_size (length (bytes_of w.writable.log.file) % log_block_size))
 
       here : Written value.set.store
-      here = (v, ap (λ (l : _). l.writer) log ∙ is.writer
-          ∙ ap (λ f. new_writer log_block_size (length (bytes_of f) % log_block_size)) file)
+      here = (
+        v,
+        ap (λ (l : _). l.writer) log ∙ is.writer
+            ∙ ap (λ f. new_writer log_block_size (length (bytes_of f) % log_block_size)) file,
+      )
 
       by : (s : List ℕ) → value.set.store ≡ s → IsWritten cmp meaning then new
       by s e = let w = subst Written (sym store) here in
@@ -481,9 +485,12 @@ module _ {C : Type 0} (cmp : List ℕ → List ℕ → Ordering) (meaning : Mean
 
         is_manifest : IsFilePath Descriptor store manifest
         is_manifest =
-            let used = w_made.tracked.tracks.used w_made.manifest w_made.is_in_use in
-            (used.opened.has_edits.name, used.opened.has_edits.number,
-            used.opened.has_edits.named.0, used.path)
+            let used = w_made.tracked.tracks.used w_made.manifest w_made.is_in_use in (
+              used.opened.has_edits.name,
+              used.opened.has_edits.number,
+              used.opened.has_edits.named.0,
+              used.path,
+            )
 
         module _ (now : Files) (passes : AppendingAndSyncing manifest framed mid now) where
           others : (k : FileType) (other : List ℕ) → IsFilePath k store other → Descriptor ≢ k

@@ -1,5 +1,5 @@
 -- How the entries that wait become a table: its edit, the ends of the call, and what it keeps.
-use Rattle.std.specs.Prelude.{◌≢◌, All, IsErrAnd, IsTrue, IfErr, IfOk, IfSome, OnErr, OnOk}
+use Rattle.std.specs.Prelude.{◌≢◌, IsTrue, IfSome}
 use Rattle.std.proofs.Common.{◌≡◌, ◌⊎◌, ◌∙◌, ◌∷◌, ◌++◌, ◌+◌, ◌-◌, ◌≤◌, ◌<◌, ◌^◌, inl, inr, ⊎_elim, ℕ, Bool, true, false, List, [], map, Option, None, Some, Ok, Err, Result, ap, arith, refl, subst, sym}
 use Rattle.std.proofs.lemmas.List.{map-append}
 use Rattle.std.proofs.lemmas.List.Elements.{All-cons, All-nil}
@@ -8,7 +8,6 @@ use Rattle.std.specs.Cmp.Lexicographic.{bytes_decides}
 use Rattle.std.specs.Str.{bytes_eq}
 use Rattle.std.specs.declared.cmp.Ordering.{Ordering}
 use Rattle.leveldb_base.specs.Entries.{internal_pair}
-use Rattle.leveldb_base.specs.Error.{IsOutOfMemory}
 use Rattle.leveldb_base.specs.History.{Entry}
 use Rattle.leveldb_base.specs.KeyTypes.{user_part}
 use Rattle.leveldb_base.specs.Types.{Pair}
@@ -18,33 +17,33 @@ use Rattle.leveldb_base.specs.declared.types.FileMetaData.{FileMetaData}
 use Rattle.leveldb_base.specs.declared.types.FileType.{FileType}
 use Rattle.leveldb_base.specs.declared.types.FileType.TheVariants.{Descriptor, Table}
 use Rattle.leveldb_env.proofs.EnvLemmas.{Run-call, Run-mono, Run-trans, begun}
-use Rattle.leveldb_env.specs.Compressor.{Codings, Coding, Decodes, decoded_under}
-use Rattle.leveldb_env.specs.Env.{Files, HasCause, Observed, Run, SameBut, SameLocks, kept_file}
+use Rattle.leveldb_env.specs.Compressor.{Coding, Decodes, decoded_under}
+use Rattle.leveldb_env.specs.Env.{Files, Observed, Run, SameBut, SameLocks}
 use Rattle.leveldb_env.specs.WholeFiles.{IsLost}
 use Rattle.leveldb_env.specs.declared.env.Env.{Ghosts}
 use Rattle.leveldb_env.specs.declared.filter.FilterPolicy.{Ghosts as FilterGhosts}
-use Rattle.leveldb_mem.specs.Log.Writer.{IsWriterBroken, frame}
+use Rattle.leveldb_mem.specs.Log.Writer.{frame}
 use Rattle.leveldb_table.specs.TableBuilder.{IsMeaningOf}
 use Rattle.leveldb_table.specs.TableLaws.{DecodesMore}
 use Rattle.leveldb_version.proofs.StoreTablesLemmas.{held_tables_by_more}
 use Rattle.leveldb_version.specs.Batches.{Each}
 use Rattle.leveldb_version.specs.Contents.{Store}
 use Rattle.leveldb_version.specs.Levels.{LiveTable}
-use Rattle.leveldb_version.specs.LogEdit.{AppendsEdit, LogEditResult, edit_record, set_appended, with_bytes_kept}
+use Rattle.leveldb_version.specs.LogEdit.{AppendsEdit, edit_record, with_bytes_kept}
 use Rattle.leveldb_version.specs.Opening.{FitsEdit}
 use Rattle.leveldb_version.specs.Paths.{IsFilePath, table_path}
-use Rattle.leveldb_version.specs.Store.{HasTable, IsInternalPair, IsStoreTable}
+use Rattle.leveldb_version.specs.Store.{HasTable, IsInternalPair}
 use Rattle.leveldb_version.specs.StoreSteps.{AppendedAreBytes, IsKept, KeepsHistory}
 use Rattle.leveldb_version.specs.VersionEdit.{Edit, LevelsFit, NewFile, edit_of, empty_edit, new_file_of}
 use Rattle.leveldb_version.specs.VersionSetValue.{AreFileNumbersUsedUp, ManifestState, OpenManifest, VersionSetValue, broken, in_use, unmade, with_number_given}
 use Rattle.leveldb_version.specs.Writing.{IsWrittenBy, table_edit}
 use Rattle.leveldb_version.specs.declared.version_edit.VersionEdit.{VersionEdit}
-use Rattle.leveldb_store.proofs.TableKeepsLemmas.{KeepsHistory-refl, KeepsHistory-trans, appending_and_syncing, done, given, is_table_path, keeps_logged, keeps_made, shows_done, shows_failed, shows_made, types_apart, w_made, written_done, written_made}
-use Rattle.leveldb_store.specs.BuildTable.{IsNotTabled, IsTableOfStore, MakesTable, TableChoices}
+use Rattle.leveldb_store.proofs.TableKeepsLemmas.{KeepsHistory-refl, KeepsHistory-trans, appending_and_syncing, is_table_path, keeps_logged, keeps_made, shows_done, shows_failed, shows_made, types_apart, w_made, written_done, written_made}
+use Rattle.leveldb_store.specs.BuildTable.{MakesTable, TableChoices}
 use Rattle.leveldb_store.specs.Format.{Agrees, Format, Meaning}
-use Rattle.leveldb_store.specs.OpenStore.{HasOwnManifest, IsUnbroken, OpenStoreValue}
-use Rattle.leveldb_store.specs.Switch.{FailsToTable, IsManifestLost, LogsTable, TablesWaiting}
-use Rattle.leveldb_store.specs.Written.{IsData, IsDataPath, IsTableOf, IsWritten, KeepsStore, KeepsWritten, Shows, SparesRest, memory_of, waiting_entries}
+use Rattle.leveldb_store.specs.OpenStore.{HasOwnManifest, OpenStoreValue}
+use Rattle.leveldb_store.specs.Switch.{FailsToTable, TablesWaiting}
+use Rattle.leveldb_store.specs.Written.{IsData, IsDataPath, IsTableOf, IsWritten, KeepsWritten, Shows, SparesRest, memory_of, waiting_entries}
 
 -- ---- the edit
 

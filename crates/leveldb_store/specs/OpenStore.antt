@@ -1,5 +1,5 @@
 -- A store that is open: what is in memory of it.
-use Rattle.std.specs.Prelude.{◌≡◌, ◌≢◌, ℕ, Bool, Option, false}
+use Rattle.std.specs.Prelude.{◌≡◌, ◌≢◌, ℕ, Option, false}
 use Rattle.leveldb_base.specs.declared.types.FileType.TheVariants.{Descriptor}
 use Rattle.leveldb_mem.specs.Log.Writer.{WriterState}
 use Rattle.leveldb_mem.specs.MemTable.{Kept}

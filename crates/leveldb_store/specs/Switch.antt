@@ -1,6 +1,6 @@
 -- What a switch of the log, the table of the entries that wait, and the removal of obsolete files
 -- change of an open store, and why each fails.
-use Rattle.std.specs.Prelude.{◌≡◌, ◌≢◌, ◌⊎◌, ℕ, [], List, None, Some, Result, IfErr, OnErr, OnOk, IsTrue}
+use Rattle.std.specs.Prelude.{◌≡◌, ◌≢◌, ◌⊎◌, ℕ, [], List, None, Some, Result, OnErr, OnOk, IsTrue}
 use Rattle.leveldb_base.specs.Error.{IsOutOfMemory}
 use Rattle.leveldb_base.specs.Names.{IsFileName}
 use Rattle.leveldb_base.specs.Types.{Pair}
@@ -68,8 +68,8 @@ module _ {E F C : Type 0} (env : Ghosts E F) (old : OpenStoreValue C) (from : E)
       (env.failures to) status)
       ⊎ ((old.set.manifest ≡ broken) × IsWriterBroken status)
 
-  -- Why the entries aren't in a table: the numbers of files are used up; out of memory; no table was
-  -- built of them, and no call was made; or the manifest is lost.
+  -- Why the entries aren't in a table: the numbers of files are used up; out of memory; no table
+  -- was built of them, and no call was made; or the manifest is lost.
   abbrev pub FailsToTable : {D FP : Type 0} {order : CmpGhosts D} {filters : FilterGhosts FP}
       → TableChoices order filters → List Pair → E → Status → Type 0
   FailsToTable choices pairs to status = AreFileNumbersUsedUp old.set.next_file status

@@ -1,5 +1,5 @@
 //! The table of the entries that wait, and its edit.
-ghost use Rattle.std.specs.Prelude.{◌≡◌, ◌≢◌, [], IfOk, IsTrue, OnErr, OnOk, map};
+ghost use Rattle.std.specs.Prelude.{◌≡◌, ◌≢◌, [], IsTrue, map};
 ghost use Rattle.leveldb_base.specs.Entries.{internal_pair};
 ghost use Rattle.leveldb_env.specs.Env.{SameLocks};
 ghost use Rattle.leveldb_version.specs.Batches.{Each};
@@ -26,8 +26,8 @@ use leveldb_version::version_edit::VersionEdit;
 
 impl<E: Env, C: UserCmp + Copy + Drop> OpenStore<E, C> {
     /// Makes a table of the entries that wait, in level 0, and logs it: then the logs that had them
-    /// aren't needed any more. Once a call on the manifest has failed it is `IOError`, and nothing
-    /// is done.
+    /// aren't needed any more. Returns `IOError`, and does nothing, if a call on the manifest failed
+    /// before.
     pub fn table_waiting<FP: FilterPolicy + Copy + Drop>(
         &mut self,
         env: &mut E,

@@ -1,4 +1,4 @@
-use Rattle.std.proofs.Common.{◌≡◌, ◌∙◌, List, ℕ, sym}
+use Rattle.std.proofs.Common.{◌≡◌, ◌∙◌, sym}
 use Rattle.leveldb_store.proofs.open_store.OpenStore.build_waiting.Goals as goal
 
 pub returns-clause-makes : goal.returns-clause-makes

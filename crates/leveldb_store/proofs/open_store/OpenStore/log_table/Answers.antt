@@ -1,8 +1,6 @@
 use Rattle.std.proofs.Common.{◌≡◌, ◌∙◌, ap, subst, sym}
-use Rattle.std.specs.Prelude.{IsTrue}
-use Rattle.leveldb_version.specs.LogEdit.{AppendsEdit, LogEditResult}
+use Rattle.leveldb_version.specs.LogEdit.{LogEditResult}
 use Rattle.leveldb_version.specs.VersionEdit.{edit_of, new_file_of}
-use Rattle.leveldb_version.specs.VersionSetValue.{VersionSetValue}
 use Rattle.leveldb_version.specs.Writing.{table_edit}
 use Rattle.leveldb_store.proofs.TableWaitingLemmas.{KeepsManifest, in_use_of, keeps_manifest, own_again, table_edit_fits, table_edit_made}
 use Rattle.leveldb_store.proofs.open_store.OpenStore.log_table.Goals as goal
