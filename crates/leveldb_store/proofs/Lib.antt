@@ -2,3 +2,6 @@ mod BuildTableLemmas
 pub mod WriteLemmas
 pub mod SwitchLemmas
 pub mod RemoveLemmas
+pub mod TableKeepsLemmas
+pub mod TableWaitingLemmas
+pub mod NotTabledLemmas

@@ -69,6 +69,14 @@ module _ {E F C : Type 0} (env : Ghosts E F) (old : OpenStoreValue C) (from : E)
       (env.failures to) status)
       ⊎ ((old.set.manifest ≡ broken) × IsWriterBroken status)
 
+  -- Why the entries aren't in a table: the numbers of files are used up; out of memory; no table
+  -- was built of them, and no call was made; or the manifest is lost.
+  abbrev pub FailsToTable : {D FP : Type 0} {order : CmpGhosts D} {filters : FilterGhosts FP}
+      → TableChoices order filters → List Pair → E → Status → Type 0
+  FailsToTable choices pairs to status = AreFileNumbersUsedUp old.set.next_file status
+      ⊎ IsOutOfMemory status ⊎ (IsNotTabled choices pairs status × (to ≡ from))
+      ⊎ IsManifestLost to status
+
   -- The entries that waited are in a table of level 0, which the set has; `pairs` are they. After
   -- an Err they wait still; a number may have been given, and the set be broken.
   pub record TablesWaiting {D FP : Type 0} {order : CmpGhosts D} {filters : FilterGhosts FP}
@@ -79,12 +87,13 @@ module _ {E F C : Type 0} (env : Ghosts E F) (old : OpenStoreValue C) (from : E)
     pub waits : OnErr result (new.waiting ≡ old.waiting)
     pub err : OnErr result (MayGiveNumber old.set new.set
         ⊎ (new.set ≡ record (with_number_given old.set) { manifest = broken }))
+    -- where the set was broken before, no call is made
+    pub broken_before : old.set.manifest ≡ broken → (new ≡ old) × (to ≡ from)
     pub recent : new.recent ≡ old.recent
     pub log : new.log ≡ old.log
     pub rest : SparesRest env.models_disk old (env.observed from) new (env.observed to)
-    pub cause : HasCause (λ status. AreFileNumbersUsedUp old.set.next_file status
-        ⊎ IsNotTabled choices pairs status ⊎ IsManifestLost to status)
-        (env.failures from) (env.failures to) result
+    pub cause : HasCause (FailsToTable choices pairs to) (env.failures from) (env.failures to)
+        result
 
 -- ---- obsolete files
 

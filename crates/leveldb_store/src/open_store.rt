@@ -4,6 +4,7 @@ ghost use Rattle.leveldb_store.specs.OpenStore.{IsUnbroken};
 
 mod obsolete;
 mod switch;
+mod table;
 mod write;
 
 use leveldb_base::cmp::{Cmp, UserCmp};
@@ -43,7 +44,7 @@ impl<E: Env, C: Cmp> Model for OpenStore<E, C> {
     ghost use Rattle.std.specs.Option.{option_map};
     ghost use Rattle.leveldb_version.specs.Paths.{log_path};
     ghost use Rattle.leveldb_version.specs.VersionSetValue.{unmade};
-    ghost use Rattle.leveldb_store.specs.OpenStore.{OpenStoreValue};
+    ghost use Rattle.leveldb_store.specs.OpenStore.{HasOwnManifest, OpenStoreValue};
 
     ghost Value = { OpenStoreValue C };
 
@@ -56,11 +57,13 @@ impl<E: Env, C: Cmp> Model for OpenStore<E, C> {
     } };
 
     // The version set is of the store's path, the log's file has the log's path, and both memtables
-    // have the store's order. An open store's manifest is in use or broken.
+    // have the store's order. A manifest in use is in the store's folder. The manifest is in use or
+    // broken.
     ghost invariant = { λ it. (it.versions.store ≡ string_bytes it.name)
         × (IsTrue E.models_disk → E.name_of it.log.file ≡ log_path (string_bytes it.name) it.log.number)
         × (it.recent.cmp ≡ it.cmp)
         × IfSome it.waiting (λ memtable. memtable.cmp ≡ it.cmp)
+        × (IsTrue E.models_disk → HasOwnManifest it.versions)
         × (it.versions.manifest ≢ unmade) };
 }
 
