@@ -5,3 +5,5 @@ pub mod Write
 pub mod Written
 pub mod Switch
 pub mod Read
+pub mod ReadTable
+pub mod Search

@@ -2,6 +2,9 @@
 ghost use Rattle.std.specs.Prelude.{◌≡◌, ◌↔◌, IsTrue, false};
 ghost use Rattle.leveldb_store.specs.OpenStore.{IsUnbroken};
 
+mod read;
+mod read_table;
+mod search;
 mod write;
 
 use leveldb_base::cmp::{Cmp, UserCmp};

@@ -1,0 +1,72 @@
+//! The order in which a look-up goes through the live tables.
+ghost use Rattle.std.specs.Prelude.{◌≡◌, ◌<◌, ◌↔◌, IfSome, IsTrue, map, option_copied, option_map};
+ghost use Rattle.leveldb_version.specs.Levels.{IsInRange};
+ghost use Rattle.leveldb_version.specs.VersionEdit.{new_file_of};
+ghost use Rattle.leveldb_store.specs.Search.{IsNext, IsPast, rank};
+
+use leveldb_base::cmp::Cmp;
+use leveldb_base::key_types::split_sequence;
+use leveldb_base::types::FileMetaData;
+
+/// Where a file comes in a look-up: by its level, and then by its number, of which the greater ones
+/// come first in level 0.
+pub(super) fn rank(file: &(usize, FileMetaData)) -> u128
+    ensures { result ≡ rank (new_file_of file.now) }
+{
+    let place = if file.0 == 0 {
+        u64::MAX - file.1.num
+    } else {
+        file.1.num
+    };
+    file.0 as u128 * (1 << 64) + u128::from(place)
+}
+
+/// The file that is searched next for a key: the first by rank of those past a rank in whose range
+/// the key is.
+pub(super) fn next_file<'a, C: Cmp>(
+    cmp: &C,
+    files: &'a [(usize, FileMetaData)],
+    last: Option<u128>,
+    key: &[u8],
+) -> Option<&'a (usize, FileMetaData)>
+    ensures { IsNext (C.cmp cmp.now) (map new_file_of files.now) last key.now
+        (option_map new_file_of (option_copied result)) }
+{
+    let mut next: Option<&'a (usize, FileMetaData)> = None;
+    for file in files {
+        if is_past(last, rank(file)) && is_in_range(cmp, file, key) && is_before(file, next) {
+            next = Some(file);
+        }
+    }
+    next
+}
+
+// Whether a rank is past the last one, if there is one.
+fn is_past(last: Option<u128>, rank: u128) -> bool
+    ensures { IsTrue result ↔ IsPast last rank }
+{
+    match last {
+        None => true,
+        Some(last) => last < rank,
+    }
+}
+
+// Whether a key is in the range of a file.
+fn is_in_range<C: Cmp>(cmp: &C, file: &(usize, FileMetaData), key: &[u8]) -> bool
+    ensures { IsTrue result ↔ IsInRange (C.cmp cmp.now) (new_file_of file.now) key.now }
+{
+    let (smallest, _) = split_sequence(&file.1.smallest);
+    let (largest, _) = split_sequence(&file.1.largest);
+    !cmp.cmp(key, smallest).is_lt() && !cmp.cmp(largest, key).is_lt()
+}
+
+// Whether a file comes before another, if there is one.
+fn is_before(file: &(usize, FileMetaData), other: Option<&(usize, FileMetaData)>) -> bool
+    ensures { IsTrue result ↔ IfSome (option_copied other)
+        (λ one. rank (new_file_of file.now) < rank (new_file_of one)) }
+{
+    match other {
+        None => true,
+        Some(other) => rank(file) < rank(other),
+    }
+}
