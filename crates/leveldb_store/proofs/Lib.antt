@@ -1,2 +1,5 @@
 mod BuildTableLemmas
 pub mod WriteLemmas
+mod ReadTableLemmas
+mod NewestLemmas
+mod SearchLemmas

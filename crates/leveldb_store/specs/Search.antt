@@ -1,5 +1,5 @@
 -- In which order a look-up goes through the live tables, and what it finds in them.
-use Rattle.std.specs.Prelude.{◌≡◌, ◌==◌, ◌<◌, ◌≤◌, ◌+◌, ◌-◌, ◌*◌, ◌^◌, ℕ, List, Option, None, Some, Contains, IfOk, IsTrue, Result, if◌then◌else◌}
+use Rattle.std.specs.Prelude.{◌≡◌, ◌==◌, ◌<◌, ◌≤◌, ◌+◌, ◌-◌, ◌*◌, ◌^◌, ℕ, List, Option, None, Some, Contains, IfOk, IfSome, IsTrue, Result, if◌then◌else◌}
 use Rattle.std.specs.declared.cmp.Ordering.{Ordering}
 use Rattle.leveldb_base.specs.Entries.{FindsNewest}
 use Rattle.leveldb_base.specs.declared.error.Status.{Status}
@@ -14,16 +14,26 @@ use Rattle.leveldb_store.specs.Written.{HasLiveTables}
 
 -- ---- the order of files
 
--- Where a file comes in a look-up: by its level, and then by its number, of which the greater ones
--- come first in level 0.
+-- where a file comes among those of its level: by its number, of which the greater ones come first
+-- in level 0
+abbrev pub place_in_level : NewFile → ℕ
+place_in_level file = if file.level == 0 then 2 ^ 64 - 1 - file.number else file.number
+
+-- where a file comes in a look-up: by its level, and then by its place there
 abbrev pub rank : NewFile → ℕ
-rank file = file.level * 2 ^ 64
-    + (if file.level == 0 then 2 ^ 64 - 1 - file.number else file.number)
+rank file = file.level * 2 ^ 64 + place_in_level file
 
 -- past the rank of the file that was searched last, if one was
 abbrev pub IsPast : Option ℕ → ℕ → Type 0
 IsPast None n = Unit {0}
 IsPast (Some last) n = last < n
+
+-- a file is past a rank, has the key in its range, and comes before another, if there is one
+pub record ComesNext (cmp : List ℕ → List ℕ → Ordering) (last : Option ℕ) (key : List ℕ)
+    (other : Option NewFile) (file : NewFile) : Type 0 where
+  pub past : IsPast last (rank file)
+  pub in_range : IsInRange cmp file key
+  pub before : IfSome other (λ one. rank file < rank one)
 
 module _ (cmp : List ℕ → List ℕ → Ordering) (files : List NewFile) (last : Option ℕ)
     (key : List ℕ) where

@@ -2,23 +2,29 @@
 ghost use Rattle.std.specs.Prelude.{◌≡◌, ◌<◌, ◌↔◌, IfSome, IsTrue, map, option_copied, option_map};
 ghost use Rattle.leveldb_version.specs.Levels.{IsInRange};
 ghost use Rattle.leveldb_version.specs.VersionEdit.{new_file_of};
-ghost use Rattle.leveldb_store.specs.Search.{IsNext, IsPast, rank};
+ghost use Rattle.leveldb_store.specs.Search.{ComesNext, IsNext, IsPast, place_in_level, rank};
 
 use leveldb_base::cmp::Cmp;
 use leveldb_base::key_types::split_sequence;
-use leveldb_base::types::FileMetaData;
+use leveldb_base::types::{FileMetaData, FileNum};
 
 /// Where a file comes in a look-up: by its level, and then by its number, of which the greater ones
 /// come first in level 0.
 pub(super) fn rank(file: &(usize, FileMetaData)) -> u128
     ensures { result ≡ rank (new_file_of file.now) }
 {
-    let place = if file.0 == 0 {
-        u64::MAX - file.1.num
+    file.0 as u128 * (1 << 64) + u128::from(place_in_level(file))
+}
+
+// Where a file comes among those of its level.
+fn place_in_level(file: &(usize, FileMetaData)) -> FileNum
+    ensures { result ≡ place_in_level (new_file_of file.now) }
+{
+    if file.0 == 0 {
+        FileNum::MAX - file.1.num
     } else {
         file.1.num
-    };
-    file.0 as u128 * (1 << 64) + u128::from(place)
+    }
 }
 
 /// The file that is searched next for a key: the first by rank of those past a rank in whose range
@@ -34,11 +40,26 @@ pub(super) fn next_file<'a, C: Cmp>(
 {
     let mut next: Option<&'a (usize, FileMetaData)> = None;
     for file in files {
-        if is_past(last, rank(file)) && is_in_range(cmp, file, key) && is_before(file, next) {
+        if comes_next(cmp, file, last, key, next) {
             next = Some(file);
         }
     }
     next
+}
+
+// Whether a file is past a rank, has the key in its range, and comes before another, if there is
+// one.
+fn comes_next<C: Cmp>(
+    cmp: &C,
+    file: &(usize, FileMetaData),
+    last: Option<u128>,
+    key: &[u8],
+    other: Option<&(usize, FileMetaData)>,
+) -> bool
+    ensures { IsTrue result ↔ ComesNext (C.cmp cmp.now) last key.now
+        (option_map new_file_of (option_copied other.entry)) (new_file_of file.now) }
+{
+    is_past(last, rank(file)) && is_in_range(cmp, file, key) && is_before(file, other)
 }
 
 // Whether a rank is past the last one, if there is one.
@@ -62,8 +83,8 @@ fn is_in_range<C: Cmp>(cmp: &C, file: &(usize, FileMetaData), key: &[u8]) -> boo
 
 // Whether a file comes before another, if there is one.
 fn is_before(file: &(usize, FileMetaData), other: Option<&(usize, FileMetaData)>) -> bool
-    ensures { IsTrue result ↔ IfSome (option_copied other)
-        (λ one. rank (new_file_of file.now) < rank (new_file_of one)) }
+    ensures { IsTrue result ↔ IfSome (option_map new_file_of (option_copied other.entry))
+        (λ one. rank (new_file_of file.now) < rank one) }
 {
     match other {
         None => true,
