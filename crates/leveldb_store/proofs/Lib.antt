@@ -3,3 +3,4 @@ pub mod WriteLemmas
 mod ReadTableLemmas
 mod NewestLemmas
 mod SearchLemmas
+mod ReadFileLemmas

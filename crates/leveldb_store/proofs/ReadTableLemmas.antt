@@ -45,6 +45,14 @@ value_of : {T : Type 0} (P : T → Type 0) (o : Option T) → IsSomeAnd o P → 
 value_of P None some = absurd some
 value_of P (Some x) some = (x, refl, some)
 
+-- a step comes to one position
+same_outcome : {x y : TablePosition} (out : Outcome) → out ≡ Ok y → out ≡ Ok x → x ≡ y
+same_outcome out p q = cc
+
+-- or fails
+no_outcome : {x : TablePosition} {status : Status} (out : Outcome) → out ≡ Ok x → out ≡ Err status → ⊥
+no_outcome out p q = cc
+
 -- ---- blocks
 
 module _ {format : Format} {meaning : Meaning} (agrees : Agrees format meaning) where
@@ -194,13 +202,10 @@ module _ {format : Format} {meaning : Meaning} (agrees : Agrees format meaning) 
             → InsideOr o (record { line = Some i; pairs = to.pairs; inner = None }) (Ok new) (ToFirstPair format.codings cmp bytes lines (next_position lines (Some i)) (Ok new)) → pair_at new.pairs new.inner ≡ sought
         by (Some j) found inside =
             let pairs = other.1 in
-            let same : new ≡ record { line = Some i; pairs = to.pairs; inner = Some j } = ok_same inside in
+            let same = same_outcome (Ok new) inside refl in
             ap (λ (p : TablePosition). pair_at p.pairs p.inner) same ∙ ap (λ ps. pair_at ps (Some j)) pairs
             ∙ current_at parts (Some i) other.0.part.pairs (Some j) (seek_position cmp (pairs_in parts) key)
             (seek_in order has.parted has.accepted key fit i other.0.part j named other.0.there (ap (λ ps. seek_position cmp ps key) (sym pairs) ∙ found))
-          where
-            ok_same : {x y : TablePosition} → Ok {E = Status} x ≡ Ok y → x ≡ y
-            ok_same e = cc
         by None none after =
             found_after new (next_position lines (Some i))
             (seek_after order has.parted has.accepted key fit (parts_some has) i other.0.part named other.0.there (ap (λ ps. seek_position cmp ps key) (sym other.1) ∙ none)) refl after
@@ -255,10 +260,7 @@ module _ {format : Format} {meaning : Meaning} (agrees : Agrees format meaning) 
     lacks_in_block i status to = by (seek_position cmp to.pairs key) to.outcome
       where
         by : (o : Option ℕ) → InsideOr o (record { line = Some i; pairs = to.pairs; inner = None }) (Err status) (ToFirstPair format.codings cmp bytes lines (next_position lines (Some i)) (Err status)) → Wants status
-        by (Some j) inside = absurd (never inside)
-          where
-            never : {x : TablePosition} → Err {T = TablePosition} status ≡ Ok x → ⊥
-            never e = cc
+        by (Some j) inside = absurd (no_outcome (Err status) inside refl)
         by None after = lacks_after status (next_position lines (Some i)) after
 
     -- a look-up fails only where the format lacks a compressor
