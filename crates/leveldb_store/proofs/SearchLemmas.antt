@@ -121,32 +121,32 @@ same_rank a b a_fits b_fits e =
 
 -- ---- tables
 
-module _ {cmp : List ℕ → List ℕ → Ordering} (total : IsTotalOrder cmp) (tables : List LiveTable) (order : LevelOrder cmp tables) (bounded : (table : LiveTable) → Contains tables table → IsBounded cmp table)
-    (fit : (table : LiveTable) → Contains tables table → table.file.number < 2 ^ 64)
-    (one : (a b : LiveTable) → Contains tables a → Contains tables b → a.file.number ≡ b.file.number → a.entries ≡ b.entries) (s : ℕ) (key : List ℕ) where
-  -- the tables up to a rank have no entry of the key
-  abbrev pub NoneUpTo : Option ℕ → Type 0
-  NoneUpTo last = (table : LiveTable) → Contains tables table → (IsPast last (rank table.file) → ⊥) → FindsNewest table.entries s key None
+-- the tables up to a rank have no entry of the key
+abbrev pub NoneUpTo : List LiveTable → ℕ → List ℕ → Option ℕ → Type 0
+NoneUpTo tables s key last = (table : LiveTable) → Contains tables table → (IsPast last (rank table.file) → ⊥) → FindsNewest table.entries s key None
 
-  -- nor has a table in whose range the key isn't
-  out_of_range : (table : LiveTable) → Contains tables table → (IsInRange cmp table.file key → ⊥) → FindsNewest table.entries s key None
-  out_of_range table there out entry c k seen = out (subst (IsInRange cmp table.file) k ((bounded table there).within entry c))
+pub none_yet : (tables : List LiveTable) (s : ℕ) (key : List ℕ) → NoneUpTo tables s key None
+none_yet tables s key table there not = absurd (not tt)
 
-  pub none_yet : NoneUpTo None
-  none_yet = λ table there not. absurd (not tt)
+-- Tables that are a store's: their keys are in the ranges of their files, and a number has one table.
+pub record AreTables (cmp : List ℕ → List ℕ → Ordering) (tables : List LiveTable) : Type 0 where
+  pub bounded : (table : LiveTable) → Contains tables table → IsBounded cmp table
+  pub fit : (table : LiveTable) → Contains tables table → table.file.number < 2 ^ 64
+  pub one : (a b : LiveTable) → Contains tables a → Contains tables b → a.file.number ≡ b.file.number → a.entries ≡ b.entries
 
+module _ {cmp : List ℕ → List ℕ → Ordering} (total : IsTotalOrder cmp) (tables : List LiveTable) (are : AreTables cmp tables) (s : ℕ) (key : List ℕ) where
   -- ---- an entry of the key
 
   -- of an entry that a table has and the others: it is this table's, or an older one
-  module _ (table : LiveTable) (there : Contains tables table) {value : Option (List ℕ)} (has : HasNewest table.entries s key value) (before : (other : LiveTable) → Contains tables other → rank other.file < rank table.file → FindsNewest other.entries s key None) where
+  module _ (order : LevelOrder cmp tables) (table : LiveTable) (there : Contains tables table) {value : Option (List ℕ)} (has : HasNewest table.entries s key value) (before : (other : LiveTable) → Contains tables other → rank other.file < rank table.file → FindsNewest other.entries s key None) where
     not_newer : (other : LiveTable) → Contains tables other → (entry : Entry) → Contains other.entries entry → entry.key ≡ key → entry.sequence ≤ s → Contains table.entries entry ⊎ (entry.sequence < has.entry.sequence)
     not_newer other in_all entry c k seen = ⊎_elim
         (λ (less : rank other.file < rank table.file). absurd (before other in_all less entry c k seen))
         (λ (most : rank table.file ≤ rank other.file). ⊎_elim
-        (λ (less : rank table.file < rank other.file). inr (older (ranked table.file other.file (fit table there) (fit other in_all) less)))
+        (λ (less : rank table.file < rank other.file). inr (older (ranked table.file other.file (are.fit table there) (are.fit other in_all) less)))
         (λ (least : rank other.file ≤ rank table.file).
         let e : rank other.file ≡ rank table.file = omega (arith, most, least) in
-        let same = one other table in_all there (same_rank other.file table.file (fit other in_all) (fit table there) e) in
+        let same = are.one other table in_all there (same_rank other.file table.file (are.fit other in_all) (are.fit table there) e) in
         inl (subst (λ (es : List Entry). Contains es entry) same c))
         (cases_lt (rank table.file) (rank other.file)))
         (cases_lt (rank other.file) (rank table.file))
@@ -158,7 +158,7 @@ module _ {cmp : List ℕ → List ℕ → Ordering} (total : IsTotalOrder cmp) (
         older (above up) = order.deeper table other there in_all up entry has.entry c has.newest.there same_key
         older (newer at other_at less) = order.newer other table in_all there other_at at less entry has.entry c has.newest.there same_key
         older (beside same below differ) =
-            absurd (no_common cmp total table other (bounded table there) (bounded other in_all) (order.disjoint table other there in_all same below differ) has.entry entry has.newest.there c (sym same_key))
+            absurd (no_common cmp total table other (are.bounded table there) (are.bounded other in_all) (order.disjoint table other there in_all same below differ) has.entry entry has.newest.there c (sym same_key))
 
     pub found_in_all : HasNewest (table_entries tables) s key value
     found_in_all = record {
@@ -191,20 +191,20 @@ module _ {cmp : List ℕ → List ℕ → Ordering} (total : IsTotalOrder cmp) (
 
   -- ---- the next table
 
-  module _ (files : List NewFile) (files_are : (table : LiveTable) → Contains tables table → Contains files table.file) (last : Option ℕ) (none : NoneUpTo last) where
+  module _ (files : List NewFile) (files_are : (table : LiveTable) → Contains tables table → Contains files table.file) (last : Option ℕ) (none : NoneUpTo tables s key last) where
     none_before : (next : NewFile) → IsNext cmp files last key (Some next) → (table : LiveTable) → Contains tables table → rank table.file < rank next → FindsNewest table.entries s key None
     none_before next is table there less entry c k seen =
-        let in_range = subst (IsInRange cmp table.file) k ((bounded table there).within entry c) in
+        let in_range = subst (IsInRange cmp table.file) k ((are.bounded table there).within entry c) in
         none table there (λ past. let least = is.1 table.file (record { there = files_are table there; past = past; in_range = in_range }) in absurd (omega (arith, least, less))) entry c k seen
 
     -- what the next table has is what all have
-    pub found_next : (next : NewFile) → IsNext cmp files last key (Some next) → (table : LiveTable) → Contains tables table → table.file ≡ next → (value : Option (List ℕ)) → FindsNewest table.entries s key (Some value)
+    pub found_next : LevelOrder cmp tables → (next : NewFile) → IsNext cmp files last key (Some next) → (table : LiveTable) → Contains tables table → table.file ≡ next → (value : Option (List ℕ)) → FindsNewest table.entries s key (Some value)
         → FindsNewest (table_entries tables) s key (Some value)
-    found_next next is table there same value has =
-        found_in_all table there has (λ other in_all less. none_before next is other in_all (subst (λ f. rank other.file < rank f) same less))
+    found_next order next is table there same value has =
+        found_in_all order table there has (λ other in_all less. none_before next is other in_all (subst (λ f. rank other.file < rank f) same less))
 
     -- where it has no entry of the key, none up to it has
-    pub none_next_too : (next : NewFile) → IsNext cmp files last key (Some next) → (table : LiveTable) → Contains tables table → table.file ≡ next → FindsNewest table.entries s key None → NoneUpTo (Some (rank next))
+    pub none_next_too : (next : NewFile) → IsNext cmp files last key (Some next) → (table : LiveTable) → Contains tables table → table.file ≡ next → FindsNewest table.entries s key None → NoneUpTo tables s key (Some (rank next))
     none_next_too next is table there same none_here other in_all not = ⊎_elim
         (λ (less : rank other.file < rank next). none_before next is other in_all less)
         (λ (most : rank next ≤ rank other.file). ⊎_elim
@@ -212,7 +212,7 @@ module _ {cmp : List ℕ → List ℕ → Ordering} (total : IsTotalOrder cmp) (
         (λ (least : rank other.file ≤ rank next).
         let at : rank table.file ≡ rank next = ap rank same in
         let e : rank table.file ≡ rank other.file = omega (arith, most, least, at) in
-        let entries = one table other there in_all (same_rank table.file other.file (fit table there) (fit other in_all) e) in
+        let entries = are.one table other there in_all (same_rank table.file other.file (are.fit table there) (are.fit other in_all) e) in
         subst (λ (es : List Entry). FindsNewest es s key None) entries none_here)
         (cases_lt (rank next) (rank other.file)))
         (cases_lt (rank other.file) (rank next))
@@ -221,5 +221,5 @@ module _ {cmp : List ℕ → List ℕ → Ordering} (total : IsTotalOrder cmp) (
     pub none_at_all : IsNext cmp files last key None → FindsNewest (table_entries tables) s key None
     none_at_all no_next entry c k seen =
         let from = in_flat (λ (t : LiveTable). t.entries) tables entry c in
-        let in_range = subst (IsInRange cmp from.0.file) k ((bounded from.0 from.1).within entry from.2) in
+        let in_range = subst (IsInRange cmp from.0.file) k ((are.bounded from.0 from.1).within entry from.2) in
         none from.0 from.1 (λ past. no_next from.0.file (record { there = files_are from.0 from.1; past = past; in_range = in_range })) entry from.2 k seen

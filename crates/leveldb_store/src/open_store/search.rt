@@ -1,5 +1,5 @@
 //! The order in which a look-up goes through the live tables.
-ghost use Rattle.std.specs.Prelude.{◌≡◌, ◌<◌, ◌↔◌, IfSome, IsTrue, map, option_copied, option_map};
+ghost use Rattle.std.specs.Prelude.{◌≡◌, ◌<◌, ◌↔◌, ◌^◌, All, IfSome, IsTrue, map, option_copied, option_map};
 ghost use Rattle.leveldb_version.specs.Levels.{IsInRange};
 ghost use Rattle.leveldb_version.specs.VersionEdit.{new_file_of};
 ghost use Rattle.leveldb_store.specs.Search.{ComesNext, IsNext, IsPast, place_in_level, rank};
@@ -11,19 +11,22 @@ use leveldb_base::types::{FileMetaData, FileNum};
 /// Where a file comes in a look-up: by its level, and then by its number, of which the greater ones
 /// come first in level 0.
 pub(super) fn rank(file: &(usize, FileMetaData)) -> u128
-    ensures { result ≡ rank (new_file_of file.now) }
+    ensures rank { result ≡ rank (new_file_of file.now) }
+    ensures number { file.now.1.num < 2 ^ 64 }
 {
     file.0 as u128 * (1 << 64) + u128::from(place_in_level(file))
 }
 
 // Where a file comes among those of its level.
 fn place_in_level(file: &(usize, FileMetaData)) -> FileNum
-    ensures { result ≡ place_in_level (new_file_of file.now) }
+    ensures place { result ≡ place_in_level (new_file_of file.now) }
+    ensures number { file.now.1.num < 2 ^ 64 }
 {
+    let number = file.1.num;
     if file.0 == 0 {
-        FileNum::MAX - file.1.num
+        FileNum::MAX - number
     } else {
-        file.1.num
+        number
     }
 }
 
@@ -35,8 +38,9 @@ pub(super) fn next_file<'a, C: Cmp>(
     last: Option<u128>,
     key: &[u8],
 ) -> Option<&'a (usize, FileMetaData)>
-    ensures { IsNext (C.cmp cmp.now) (map new_file_of files.now) last key.now
+    ensures next { IsNext (C.cmp cmp.now) (map new_file_of files.now) last key.now
         (option_map new_file_of (option_copied result)) }
+    ensures numbers { All (λ file. file.1.num < 2 ^ 64) files.now }
 {
     let mut next: Option<&'a (usize, FileMetaData)> = None;
     for file in files {
@@ -56,8 +60,9 @@ fn comes_next<C: Cmp>(
     key: &[u8],
     other: Option<&(usize, FileMetaData)>,
 ) -> bool
-    ensures { IsTrue result ↔ ComesNext (C.cmp cmp.now) last key.now
+    ensures comes { IsTrue result ↔ ComesNext (C.cmp cmp.now) last key.now
         (option_map new_file_of (option_copied other.entry)) (new_file_of file.now) }
+    ensures number { file.now.1.num < 2 ^ 64 }
 {
     is_past(last, rank(file)) && is_in_range(cmp, file, key) && is_before(file, other)
 }
