@@ -4,3 +4,4 @@ mod ReadTableLemmas
 mod NewestLemmas
 mod SearchLemmas
 mod ReadFileLemmas
+mod ReadLemmas

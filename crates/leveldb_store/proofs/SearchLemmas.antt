@@ -61,6 +61,16 @@ module _ (cmp : List ℕ → List ℕ → Ordering) (last : Option ℕ) (key : L
 
 -- ---- ranks
 
+-- how far a search has come
+abbrev pub searched_up_to : Option ℕ → ℕ
+searched_up_to None = 0
+searched_up_to (Some n) = n + 1
+
+-- the next file is further on
+pub goes_on : (last : Option ℕ) (next most : ℕ) → IsPast last next → next < most → most - (next + 1) < most - searched_up_to last
+goes_on None next most past fits = omega (arith, fits)
+goes_on (Some n) next most past fits = omega (arith, past, fits)
+
 -- in its level a file comes by a number of 64 bits
 place_fits : (file : NewFile) → file.number < 2 ^ 64 → place_in_level file < 2 ^ 64
 place_fits file fits = by (file.level == 0)
