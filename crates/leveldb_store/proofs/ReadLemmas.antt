@@ -1,5 +1,5 @@
 -- What a look-up finds in memtables and in the live tables together, and what that is of a history.
-use Rattle.std.specs.Prelude.{All, Contains, IfErr, IfOk, IsTrue, min}
+use Rattle.std.specs.Prelude.{All, Contains, IfErr, IfOk, IsTrue, min, unwrap_or}
 use Rattle.std.proofs.Common.{◌≡◌, ◌⊎◌, inl, inr, ⊎_elim, ℕ, ◌+◌, ◌<◌, ◌≤◌, ◌^◌, List, [], ◌∷◌, ◌++◌, map, Option, None, Some, Result, Ok, Err, refl, sym, ◌∙◌, ap, subst, append_assoc, arith}
 use Rattle.std.specs.declared.cmp.Ordering.{Ordering}
 use Rattle.std.proofs.lemmas.List.Elements.{All-contains, Contains-append_cases, Contains-append_left, Contains-append_right}
@@ -219,6 +219,11 @@ module _ {E F C : Type 0} (env : EnvGhosts E F) {cmp : List ℕ → List ℕ →
           }
 
 -- ---- a history
+
+-- what was found, or none
+pub or_none : (found : Option (Option (List ℕ))) → value_found found ≡ unwrap_or found None
+or_none None = refl
+or_none (Some value) = refl
 
 -- the same view gives the same value
 value_same : (these those : List Entry) (s : ℕ) (key : List ℕ) (found : Option (List ℕ)) → SameView these those s → IsValueAt these s key found → IsValueAt those s key found
