@@ -36,7 +36,7 @@ use Rattle.leveldb_store.specs.Format.{Agrees, Format, Meaning}
 use Rattle.leveldb_store.specs.OpenStore.{OpenStoreValue}
 use Rattle.leveldb_store.specs.Read.{IsUnreadable, LooksUpKey}
 use Rattle.leveldb_store.specs.ReadTable.{FindsInTable, IsUnreadableTable}
-use Rattle.leveldb_store.specs.Search.{IsNext, SearchesTables, rank}
+use Rattle.leveldb_store.specs.Search.{IsNext, SearchesTables, search_rank}
 use Rattle.leveldb_store.specs.Written.{HasLiveTables, IsTableOf, Shows, memory_of, waiting_entries}
 use Rattle.leveldb_store.proofs.SearchLemmas.{AreTables, NoneUpTo, found_next, none_at_all, none_next_too}
 
@@ -186,7 +186,7 @@ module _ {E F C : Type 0} (env : EnvGhosts E F) {cmp : List ℕ → List ℕ →
           (finds.finds modelled meaning agrees table.0 table.2 (still_there modelled live table.0 table.1)))
 
       -- it has no entry of the key
-      pub search_passes : {to : E} → FindsInTable env cmp format mid value.set.store (new_file_of file) sought (Ok None) to → NoneYet env cmp format value from key (Some (rank (new_file_of file)))
+      pub search_passes : {to : E} → FindsInTable env cmp format mid value.set.store (new_file_of file) sought (Ok None) to → NoneYet env cmp format value from key (Some (search_rank (new_file_of file)))
       search_passes finds modelled meaning agrees tables live =
           let table = table_of live (new_file_of file) next.0.there in
           none_next_too (exact_total exact) tables (of_store numbers meaning tables live) (min value.set.last_sequence greatest_sequence) key (map new_file_of files) (file_of live) last (none modelled meaning agrees tables live) (new_file_of file) next table.0 table.1 table.2

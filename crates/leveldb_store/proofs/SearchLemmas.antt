@@ -13,7 +13,7 @@ use Rattle.leveldb_version.proofs.LevelsLemmas.{no_common}
 use Rattle.leveldb_version.proofs.OneStoreLemmas.{flat_in, in_flat}
 use Rattle.leveldb_version.specs.Levels.{IsBounded, IsInRange, LevelOrder, LiveTable, table_entries}
 use Rattle.leveldb_version.specs.VersionEdit.{NewFile}
-use Rattle.leveldb_store.specs.Search.{ComesNext, IsLeft, IsNext, IsPast, place_in_level, rank}
+use Rattle.leveldb_store.specs.Search.{ComesNext, IsLeft, IsNext, IsPast, place_in_level, search_rank}
 
 -- ---- the next file
 
@@ -26,10 +26,10 @@ module _ (cmp : List ℕ → List ℕ → Ordering) (last : Option ℕ) (key : L
     left_front one left = record { there = Contains-append_left files (file ∷ []) one left.there; past = left.past; in_range = left.in_range }
 
     -- one of the files, or the one after them
-    left_cases : (one : NewFile) → IsLeft cmp (files ++ file ∷ []) last key one → IsLeft cmp files last key one ⊎ ((file ≡ one) × IsPast last (rank file) × IsInRange cmp file key)
+    left_cases : (one : NewFile) → IsLeft cmp (files ++ file ∷ []) last key one → IsLeft cmp files last key one ⊎ ((file ≡ one) × IsPast last (search_rank file) × IsInRange cmp file key)
     left_cases one left = ⊎_elim
         (λ (old : Contains files one). inl (record { there = old; past = left.past; in_range = left.in_range }))
-        (λ (same : file ≡ one). inr (same, subst (λ f. IsPast last (rank f)) (sym same) left.past, subst (λ f. IsInRange cmp f key) (sym same) left.in_range))
+        (λ (same : file ≡ one). inr (same, subst (λ f. IsPast last (search_rank f)) (sym same) left.past, subst (λ f. IsInRange cmp f key) (sym same) left.in_range))
         (Contains-push_cases files file one left.there)
 
     -- a file that comes before the next one so far is the next
@@ -37,11 +37,11 @@ module _ (cmp : List ℕ → List ℕ → Ordering) (last : Option ℕ) (key : L
     next_taken next so_far is = (
       record { there = Contains-push files file; past = is.past; in_range = is.in_range },
       λ one left. ⊎_elim
-      (λ (old : IsLeft cmp files last key one). first next so_far is.before one old)
-      (λ (same : (file ≡ one) × IsPast last (rank file) × IsInRange cmp file key). let e = ap rank same.0 in omega (arith, e)) (left_cases one left),
+          (λ (old : IsLeft cmp files last key one). first next so_far is.before one old)
+          (λ (same : (file ≡ one) × IsPast last (search_rank file) × IsInRange cmp file key). let e = ap search_rank same.0 in omega (arith, e)) (left_cases one left),
     )
       where
-        first : (next : Option NewFile) → IsNext cmp files last key next → IfSome next (λ one. rank file < rank one) → (one : NewFile) → IsLeft cmp files last key one → rank file ≤ rank one
+        first : (next : Option NewFile) → IsNext cmp files last key next → IfSome next (λ one. search_rank file < search_rank one) → (one : NewFile) → IsLeft cmp files last key one → search_rank file ≤ search_rank one
         first None none before one left = absurd (none one left)
         first (Some other) is before one left = let least = is.1 one left in omega (arith, least, before)
 
@@ -49,14 +49,14 @@ module _ (cmp : List ℕ → List ℕ → Ordering) (last : Option ℕ) (key : L
     pub next_kept : (next : Option NewFile) → IsNext cmp files last key next → (ComesNext cmp last key next file → ⊥) → IsNext cmp (files ++ file ∷ []) last key next
     next_kept None none not = λ one left. ⊎_elim
         (λ (old : IsLeft cmp files last key one). none one old)
-        (λ (same : (file ≡ one) × IsPast last (rank file) × IsInRange cmp file key). not (record { past = same.1; in_range = same.2; before = tt })) (left_cases one left)
+        (λ (same : (file ≡ one) × IsPast last (search_rank file) × IsInRange cmp file key). not (record { past = same.1; in_range = same.2; before = tt })) (left_cases one left)
     next_kept (Some next) is not = (
       left_front next is.0,
       λ one left. ⊎_elim
-      (λ (old : IsLeft cmp files last key one). is.1 one old)
-      (λ (same : (file ≡ one) × IsPast last (rank file) × IsInRange cmp file key). ⊎_elim
-      (λ (less : rank file < rank next). absurd (not (record { past = same.1; in_range = same.2; before = less })))
-      (λ (most : rank next ≤ rank file). let e = ap rank same.0 in omega (arith, most, e)) (cases_lt (rank file) (rank next))) (left_cases one left),
+          (λ (old : IsLeft cmp files last key one). is.1 one old)
+          (λ (same : (file ≡ one) × IsPast last (search_rank file) × IsInRange cmp file key). ⊎_elim
+          (λ (less : search_rank file < search_rank next). absurd (not (record { past = same.1; in_range = same.2; before = less })))
+          (λ (most : search_rank next ≤ search_rank file). let e = ap search_rank same.0 in omega (arith, most, e)) (cases_lt (search_rank file) (search_rank next))) (left_cases one left),
     )
 
 -- ---- ranks
@@ -92,7 +92,7 @@ deeper : (file : NewFile) → 0 < file.level → place_in_level file ≡ file.nu
 deeper file below = let test : (file.level == 0) ≡ false = grind (arith, nat_tests) in ap (λ b. if b then 2 ^ 64 - 1 - file.number else file.number) test
 
 -- a file of the lesser rank is searched before the other
-pub ranked : (a b : NewFile) → a.number < 2 ^ 64 → b.number < 2 ^ 64 → rank a < rank b → Ranked a b
+pub ranked : (a b : NewFile) → a.number < 2 ^ 64 → b.number < 2 ^ 64 → search_rank a < search_rank b → Ranked a b
 ranked a b a_fits b_fits less = ⊎_elim
     (λ (up : a.level < b.level). above up)
     (λ (at_least : b.level ≤ a.level).
@@ -114,7 +114,7 @@ ranked a b a_fits b_fits less = ⊎_elim
     (cases_lt a.level b.level)
 
 -- files of one rank have one level and one number
-pub same_rank : (a b : NewFile) → a.number < 2 ^ 64 → b.number < 2 ^ 64 → rank a ≡ rank b → a.number ≡ b.number
+pub same_rank : (a b : NewFile) → a.number < 2 ^ 64 → b.number < 2 ^ 64 → search_rank a ≡ search_rank b → a.number ≡ b.number
 same_rank a b a_fits b_fits e =
     let p = place_fits a a_fits in
     let q = place_fits b b_fits in
@@ -133,7 +133,7 @@ same_rank a b a_fits b_fits e =
 
 -- the tables up to a rank have no entry of the key
 abbrev pub NoneUpTo : List LiveTable → ℕ → List ℕ → Option ℕ → Type 0
-NoneUpTo tables s key last = (table : LiveTable) → Contains tables table → (IsPast last (rank table.file) → ⊥) → FindsNewest table.entries s key None
+NoneUpTo tables s key last = (table : LiveTable) → Contains tables table → (IsPast last (search_rank table.file) → ⊥) → FindsNewest table.entries s key None
 
 pub none_yet : (tables : List LiveTable) (s : ℕ) (key : List ℕ) → NoneUpTo tables s key None
 none_yet tables s key table there not = absurd (not tt)
@@ -148,18 +148,18 @@ module _ {cmp : List ℕ → List ℕ → Ordering} (total : IsTotalOrder cmp) (
   -- ---- an entry of the key
 
   -- of an entry that a table has and the others: it is this table's, or an older one
-  module _ (order : LevelOrder cmp tables) (table : LiveTable) (there : Contains tables table) {value : Option (List ℕ)} (has : HasNewest table.entries s key value) (before : (other : LiveTable) → Contains tables other → rank other.file < rank table.file → FindsNewest other.entries s key None) where
+  module _ (order : LevelOrder cmp tables) (table : LiveTable) (there : Contains tables table) {value : Option (List ℕ)} (has : HasNewest table.entries s key value) (before : (other : LiveTable) → Contains tables other → search_rank other.file < search_rank table.file → FindsNewest other.entries s key None) where
     not_newer : (other : LiveTable) → Contains tables other → (entry : Entry) → Contains other.entries entry → entry.key ≡ key → entry.sequence ≤ s → Contains table.entries entry ⊎ (entry.sequence < has.entry.sequence)
     not_newer other in_all entry c k seen = ⊎_elim
-        (λ (less : rank other.file < rank table.file). absurd (before other in_all less entry c k seen))
-        (λ (most : rank table.file ≤ rank other.file). ⊎_elim
-        (λ (less : rank table.file < rank other.file). inr (older (ranked table.file other.file (are.fit table there) (are.fit other in_all) less)))
-        (λ (least : rank other.file ≤ rank table.file).
-        let e : rank other.file ≡ rank table.file = omega (arith, most, least) in
+        (λ (less : search_rank other.file < search_rank table.file). absurd (before other in_all less entry c k seen))
+        (λ (most : search_rank table.file ≤ search_rank other.file). ⊎_elim
+        (λ (less : search_rank table.file < search_rank other.file). inr (older (ranked table.file other.file (are.fit table there) (are.fit other in_all) less)))
+        (λ (least : search_rank other.file ≤ search_rank table.file).
+        let e : search_rank other.file ≡ search_rank table.file = omega (arith, most, least) in
         let same = are.one other table in_all there (same_rank other.file table.file (are.fit other in_all) (are.fit table there) e) in
         inl (subst (λ (es : List Entry). Contains es entry) same c))
-        (cases_lt (rank table.file) (rank other.file)))
-        (cases_lt (rank other.file) (rank table.file))
+        (cases_lt (search_rank table.file) (search_rank other.file)))
+        (cases_lt (search_rank other.file) (search_rank table.file))
       where
         same_key : entry.key ≡ has.entry.key
         same_key = k ∙ sym has.key_is
@@ -202,7 +202,7 @@ module _ {cmp : List ℕ → List ℕ → Ordering} (total : IsTotalOrder cmp) (
   -- ---- the next table
 
   module _ (files : List NewFile) (files_are : (table : LiveTable) → Contains tables table → Contains files table.file) (last : Option ℕ) (none : NoneUpTo tables s key last) where
-    none_before : (next : NewFile) → IsNext cmp files last key (Some next) → (table : LiveTable) → Contains tables table → rank table.file < rank next → FindsNewest table.entries s key None
+    none_before : (next : NewFile) → IsNext cmp files last key (Some next) → (table : LiveTable) → Contains tables table → search_rank table.file < search_rank next → FindsNewest table.entries s key None
     none_before next is table there less entry c k seen =
         let in_range = subst (IsInRange cmp table.file) k ((are.bounded table there).within entry c) in
         none table there (λ past. let least = is.1 table.file (record { there = files_are table there; past = past; in_range = in_range }) in absurd (omega (arith, least, less))) entry c k seen
@@ -211,21 +211,21 @@ module _ {cmp : List ℕ → List ℕ → Ordering} (total : IsTotalOrder cmp) (
     pub found_next : LevelOrder cmp tables → (next : NewFile) → IsNext cmp files last key (Some next) → (table : LiveTable) → Contains tables table → table.file ≡ next → (value : Option (List ℕ)) → FindsNewest table.entries s key (Some value)
         → FindsNewest (table_entries tables) s key (Some value)
     found_next order next is table there same value has =
-        found_in_all order table there has (λ other in_all less. none_before next is other in_all (subst (λ f. rank other.file < rank f) same less))
+        found_in_all order table there has (λ other in_all less. none_before next is other in_all (subst (λ f. search_rank other.file < search_rank f) same less))
 
     -- where it has no entry of the key, none up to it has
-    pub none_next_too : (next : NewFile) → IsNext cmp files last key (Some next) → (table : LiveTable) → Contains tables table → table.file ≡ next → FindsNewest table.entries s key None → NoneUpTo tables s key (Some (rank next))
+    pub none_next_too : (next : NewFile) → IsNext cmp files last key (Some next) → (table : LiveTable) → Contains tables table → table.file ≡ next → FindsNewest table.entries s key None → NoneUpTo tables s key (Some (search_rank next))
     none_next_too next is table there same none_here other in_all not = ⊎_elim
-        (λ (less : rank other.file < rank next). none_before next is other in_all less)
-        (λ (most : rank next ≤ rank other.file). ⊎_elim
-        (λ (past : rank next < rank other.file). absurd (not past))
-        (λ (least : rank other.file ≤ rank next).
-        let at : rank table.file ≡ rank next = ap rank same in
-        let e : rank table.file ≡ rank other.file = omega (arith, most, least, at) in
+        (λ (less : search_rank other.file < search_rank next). none_before next is other in_all less)
+        (λ (most : search_rank next ≤ search_rank other.file). ⊎_elim
+        (λ (past : search_rank next < search_rank other.file). absurd (not past))
+        (λ (least : search_rank other.file ≤ search_rank next).
+        let at : search_rank table.file ≡ search_rank next = ap search_rank same in
+        let e : search_rank table.file ≡ search_rank other.file = omega (arith, most, least, at) in
         let entries = are.one table other there in_all (same_rank table.file other.file (are.fit table there) (are.fit other in_all) e) in
         subst (λ (es : List Entry). FindsNewest es s key None) entries none_here)
-        (cases_lt (rank next) (rank other.file)))
-        (cases_lt (rank other.file) (rank next))
+        (cases_lt (search_rank next) (search_rank other.file)))
+        (cases_lt (search_rank other.file) (search_rank next))
 
     -- after the last one there is no entry of the key
     pub none_at_all : IsNext cmp files last key None → FindsNewest (table_entries tables) s key None

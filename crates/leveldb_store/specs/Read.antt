@@ -36,7 +36,7 @@ IsTableFault format code =
 module _ {E F C : Type 0} (env : Ghosts E F) (cmp : List ℕ → List ℕ → Ordering) (format : Format)
     (value : OpenStoreValue C) (from : E) where
   -- A table can't be read. Where the live tables are there, by whatever their names and ids mean,
-  -- that is for want of a compressor alone.
+  -- that is only since the format lacks a compressor.
   pub record IsUnreadable (status : Status) : Type 0 where
     pub fault : IsTableFault format status.code
     pub lacks : IsTrue env.models_disk → (meaning : Meaning) → Agrees format meaning

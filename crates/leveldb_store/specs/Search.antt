@@ -20,8 +20,8 @@ abbrev pub place_in_level : NewFile → ℕ
 place_in_level file = if file.level == 0 then 2 ^ 64 - 1 - file.number else file.number
 
 -- where a file comes in a look-up: by its level, and then by its place there
-abbrev pub rank : NewFile → ℕ
-rank file = file.level * 2 ^ 64 + place_in_level file
+abbrev pub search_rank : NewFile → ℕ
+search_rank file = file.level * 2 ^ 64 + place_in_level file
 
 -- past the rank of the file that was searched last, if one was
 abbrev pub IsPast : Option ℕ → ℕ → Type 0
@@ -31,22 +31,22 @@ IsPast (Some last) n = last < n
 -- a file is past a rank, has the key in its range, and comes before another, if there is one
 pub record ComesNext (cmp : List ℕ → List ℕ → Ordering) (last : Option ℕ) (key : List ℕ)
     (other : Option NewFile) (file : NewFile) : Type 0 where
-  pub past : IsPast last (rank file)
+  pub past : IsPast last (search_rank file)
   pub in_range : IsInRange cmp file key
-  pub before : IfSome other (λ one. rank file < rank one)
+  pub before : IfSome other (λ one. search_rank file < search_rank one)
 
 module _ (cmp : List ℕ → List ℕ → Ordering) (files : List NewFile) (last : Option ℕ)
     (key : List ℕ) where
   -- a file is still to be searched, since the key is in its range
   pub record IsLeft (file : NewFile) : Type 0 where
     pub there : Contains files file
-    pub past : IsPast last (rank file)
+    pub past : IsPast last (search_rank file)
     pub in_range : IsInRange cmp file key
 
   -- of those that are still to be searched it is the next, or there is none
   abbrev pub IsNext : Option NewFile → Type 0
   IsNext None = (file : NewFile) → IsLeft file → ⊥
-  IsNext (Some next) = IsLeft next × ((file : NewFile) → IsLeft file → rank next ≤ rank file)
+  IsNext (Some next) = IsLeft next × ((file : NewFile) → IsLeft file → search_rank next ≤ search_rank file)
 
 -- ---- what is found in them
 

@@ -11,7 +11,7 @@ ghost use Rattle.leveldb_store.specs.Written.{waiting_entries};
 
 use super::OpenStore;
 use super::read_table::newest_in_table;
-use super::search::{next_file, rank};
+use super::search::{next_file, search_rank};
 use bytes::Bytes;
 use leveldb_base::cmp::UserCmp;
 use leveldb_base::error::Result;
@@ -82,7 +82,7 @@ impl<E: Env, C: UserCmp + Copy + Drop> OpenStore<E, C> {
             if found.is_some() {
                 return Ok(found);
             }
-            searched = Some(rank(file));
+            searched = Some(search_rank(file));
         }
         Ok(None)
     }

@@ -37,7 +37,14 @@ pub(super) fn newest_in_table<E: Env, C: UserCmp + Copy + Drop, FP: FilterPolicy
 {
     let path = table_file_name(alloc, store, file.1.num)?;
     let opened = found(alloc, &path, env.open_random_access_file(&path))?;
-    let pair = first_in_file(alloc, env, options, opened, file.1.size, sought.internal_key())?;
+    let pair = first_in_file(
+        alloc,
+        env,
+        options,
+        opened,
+        file.1.size,
+        sought.internal_key(),
+    )?;
     value_at(alloc, pair, sought.user_key())
 }
 

@@ -2,7 +2,7 @@
 ghost use Rattle.std.specs.Prelude.{◌≡◌, ◌<◌, ◌↔◌, ◌^◌, All, IfSome, IsTrue, map, option_copied, option_map};
 ghost use Rattle.leveldb_version.specs.Levels.{IsInRange};
 ghost use Rattle.leveldb_version.specs.VersionEdit.{new_file_of};
-ghost use Rattle.leveldb_store.specs.Search.{ComesNext, IsNext, IsPast, place_in_level, rank};
+ghost use Rattle.leveldb_store.specs.Search.{ComesNext, IsNext, IsPast, place_in_level, search_rank};
 
 use leveldb_base::cmp::Cmp;
 use leveldb_base::key_types::split_sequence;
@@ -10,8 +10,8 @@ use leveldb_base::types::{FileMetaData, FileNum};
 
 /// Where a file comes in a look-up: by its level, and then by its number, of which the greater ones
 /// come first in level 0.
-pub(super) fn rank(file: &(usize, FileMetaData)) -> u128
-    ensures rank { result ≡ rank (new_file_of file.now) }
+pub(super) fn search_rank(file: &(usize, FileMetaData)) -> u128
+    ensures rank { result ≡ search_rank (new_file_of file.now) }
     ensures number { file.now.1.num < 2 ^ 64 }
 {
     file.0 as u128 * (1 << 64) + u128::from(place_in_level(file))
@@ -64,7 +64,7 @@ fn comes_next<C: Cmp>(
         (option_map new_file_of (option_copied other.entry)) (new_file_of file.now) }
     ensures number { file.now.1.num < 2 ^ 64 }
 {
-    is_past(last, rank(file)) && is_in_range(cmp, file, key) && is_before(file, other)
+    is_past(last, search_rank(file)) && is_in_range(cmp, file, key) && is_before(file, other)
 }
 
 // Whether a rank is past the last one, if there is one.
@@ -89,10 +89,10 @@ fn is_in_range<C: Cmp>(cmp: &C, file: &(usize, FileMetaData), key: &[u8]) -> boo
 // Whether a file comes before another, if there is one.
 fn is_before(file: &(usize, FileMetaData), other: Option<&(usize, FileMetaData)>) -> bool
     ensures { IsTrue result ↔ IfSome (option_map new_file_of (option_copied other.entry))
-        (λ one. rank (new_file_of file.now) < rank one) }
+        (λ one. search_rank (new_file_of file.now) < search_rank one) }
 {
     match other {
         None => true,
-        Some(other) => rank(file) < rank(other),
+        Some(other) => search_rank(file) < search_rank(other),
     }
 }

@@ -71,7 +71,7 @@ searching-preserved g c =
     record {
       disk = KeepsDisk-trans g.E.Env c.searching.invariant.disk c.newest_in_table.ensures.reads.kept_disk;
       counted = c.in_ok-found.ensures.reads.cause.ok ∙ c.searching.invariant.counted;
-      none = subst (λ n. NoneYet g.E.Env (g.C.Cmp.cmp order) format c.args.self.now c.args.env.now c.args.key.now (Some n)) (sym c.rank.ensures.rank)
+      none = subst (λ n. NoneYet g.E.Env (g.C.Cmp.cmp order) format c.args.self.now c.args.env.now c.args.key.now (Some n)) (sym c.search_rank.ensures.rank)
           (search_passes g.E.Env exact format c.args.self.now c.args.env.now c.files-files.result.now files_are c.args.key.now c.searching.searched c.searching.invariant.none c.next_file.ensures.numbers file next
           c.searching.invariant.disk c.searching.invariant.counted c.in_ok-sought.sought TypeValue sought finds);
     }
