@@ -1,6 +1,6 @@
 -- What the pair that a look-up finds in a table of internal keys says of the key's newest entry.
-use Rattle.std.specs.Prelude.{◌≢◌, IfSome, slice_get}
-use Rattle.std.proofs.Common.{◌≡◌, ◌⊎◌, inl, inr, ⊎_elim, ℕ, ◌<◌, ◌≤◌, ◌^◌, Bool, true, false, List, [], ◌∷◌, ◌&&◌, length, Option, None, Some, refl, sym, ◌∙◌, ap, subst, arith, map, nat_le, if◌then◌else◌}
+use Rattle.std.specs.Prelude.{IfSome}
+use Rattle.std.proofs.Common.{◌≡◌, ◌⊎◌, inl, inr, ⊎_elim, ℕ, ◌≤◌, Bool, true, false, List, [], ◌∷◌, ◌&&◌, length, Option, None, Some, refl, sym, ◌∙◌, ap, subst, arith, map, nat_le, if◌then◌else◌}
 use Rattle.std.proofs.lemmas.Bool.{and_parts}
 use Rattle.std.proofs.lemmas.Bool.Decides.{nat_tests}
 use Rattle.std.proofs.lemmas.Option.{slice_get_cases}

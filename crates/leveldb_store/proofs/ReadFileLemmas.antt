@@ -1,5 +1,5 @@
 -- What is found in a file by opening it as a table, and in a table of the store, and why that fails.
-use Rattle.std.specs.Prelude.{IfErr, IfOk, IfSome, IsErrAnd, IsSomeAnd, IsTrue, OnOk, option_map}
+use Rattle.std.specs.Prelude.{IfErr, IfOk, IfSome, IsSomeAnd, IsTrue, OnOk}
 use Rattle.std.proofs.Common.{◌≡◌, ◌⊎◌, inl, inr, ⊎_elim, ℕ, ◌+◌, ◌<◌, ◌≤◌, ◌^◌, Bool, true, List, [], length, map, Option, None, Some, Result, Ok, Err, refl, sym, ◌∙◌, ap, subst, arith}
 use Rattle.std.proofs.lemmas.Result.{IfOk-weaker}
 use Rattle.std.specs.declared.cmp.Ordering.{Ordering}
@@ -8,16 +8,16 @@ use Rattle.leveldb_base.specs.Entries.{FindsNewest, found_at}
 use Rattle.leveldb_base.specs.Error.{IsOutOfMemory}
 use Rattle.leveldb_base.specs.History.{Entry}
 use Rattle.leveldb_base.specs.KeyTypes.{internal_cmp, sequence_part, user_part}
-use Rattle.leveldb_base.specs.Types.{Pair, pair_at, seek_position}
+use Rattle.leveldb_base.specs.Types.{Pair, seek_position}
 use Rattle.leveldb_base.specs.declared.cmp.Cmp.{Ghosts as CmpGhosts}
 use Rattle.leveldb_base.specs.declared.error.Status.{Status}
 use Rattle.leveldb_base.specs.declared.error.StatusCode.TheVariants.{Corruption, NotSupported}
 use Rattle.leveldb_env.proofs.WholeFilesLemmas.{found_cause, found_ok}
-use Rattle.leveldb_env.specs.Compressor.{Coding, Codings, Decodes}
+use Rattle.leveldb_env.specs.Compressor.{Coding}
 use Rattle.leveldb_env.specs.Env.{ChangesFiles, File, Files, FilesUnchanged, HasCause, IsMissing, SameLocks, bytes_of, same as same_disk}
 use Rattle.leveldb_env.specs.WholeFiles.{IsFoundOr, IsMissingFile}
 use Rattle.leveldb_env.specs.declared.env.Env.{Ghosts as EnvGhosts}
-use Rattle.leveldb_table.proofs.TableBlockLemmas.{FileHas-after, KeepsDisk-call, KeepsDisk-trans, KeepsDisk-refl, reads_ok, reads_own, reads_refused, reads_then, reads_weaker, same_files as same_files_then}
+use Rattle.leveldb_table.proofs.TableBlockLemmas.{FileHas-after, KeepsDisk-call, KeepsDisk-refl, reads_ok, reads_own, reads_refused, reads_then, reads_weaker, same_files as same_files_then}
 use Rattle.leveldb_table.proofs.TableReaderLemmas.{index_read, opened_pass, opens_well, parts_there}
 use Rattle.leveldb_table.specs.BlockCache.{HoldsOnlyOf, cache_key}
 use Rattle.leveldb_table.specs.Cache.{Cached, value_of}
@@ -33,7 +33,7 @@ use Rattle.leveldb_version.specs.Paths.{table_path}
 use Rattle.leveldb_version.specs.Store.{HasTable}
 use Rattle.leveldb_version.specs.VersionEdit.{NewFile}
 use Rattle.leveldb_store.specs.Format.{Agrees, Format, Meaning}
-use Rattle.leveldb_store.specs.Read.{HasDecodingError, IsTableFault}
+use Rattle.leveldb_store.specs.Read.{IsTableFault}
 use Rattle.leveldb_store.specs.ReadTable.{FindsInFile, FindsInTable, IsUnreadableFile, IsUnreadableTable, SaysNewest}
 use Rattle.leveldb_store.specs.Written.{IsTableOf}
 use Rattle.leveldb_store.proofs.NewestLemmas.{accepted_key, entries_are, says_newest, store_order}

@@ -1,8 +1,8 @@
 -- What a look-up finds in memtables and in the live tables together, and what that is of a history.
 use Rattle.std.specs.Prelude.{All, Contains, IfErr, IfOk, IsTrue, min, unwrap_or}
-use Rattle.std.proofs.Common.{◌≡◌, ◌⊎◌, inl, inr, ⊎_elim, ℕ, ◌+◌, ◌<◌, ◌≤◌, ◌^◌, List, [], ◌∷◌, ◌++◌, map, Option, None, Some, Result, Ok, Err, refl, sym, ◌∙◌, ap, subst, append_assoc, arith}
+use Rattle.std.proofs.Common.{◌≡◌, inl, ⊎_elim, ℕ, ◌<◌, ◌≤◌, ◌^◌, List, [], ◌∷◌, ◌++◌, map, Option, None, Some, Result, Ok, Err, refl, sym, ◌∙◌, ap, subst, append_assoc, arith}
 use Rattle.std.specs.declared.cmp.Ordering.{Ordering}
-use Rattle.std.proofs.lemmas.List.Elements.{All-contains, Contains-append_cases, Contains-append_left, Contains-append_right}
+use Rattle.std.proofs.lemmas.List.Elements.{All-contains, Contains-append_cases, Contains-append_left}
 use Rattle.leveldb_base.proofs.EntriesLemmas.{finds_after, in_map, map_in}
 use Rattle.leveldb_base.proofs.HistoryLemmas.{in_cases, in_none}
 use Rattle.leveldb_base.proofs.LayersLemmas.{found_is_value}
@@ -28,7 +28,7 @@ use Rattle.leveldb_version.proofs.OneStoreLemmas.{in_flat, one_entry}
 use Rattle.leveldb_version.proofs.SafeLemmas.{some_is}
 use Rattle.leveldb_version.proofs.TablesLemmas.{one_store_table, tables_bounded}
 use Rattle.leveldb_version.specs.Batches.{Each}
-use Rattle.leveldb_version.specs.Levels.{LevelOrder, LiveTable, table_entries}
+use Rattle.leveldb_version.specs.Levels.{LiveTable, table_entries}
 use Rattle.leveldb_version.specs.Paths.{table_path}
 use Rattle.leveldb_version.specs.Store.{HasTable, IsInternalPair}
 use Rattle.leveldb_version.specs.VersionEdit.{NewFile, new_file_of}
@@ -37,7 +37,7 @@ use Rattle.leveldb_store.specs.OpenStore.{OpenStoreValue}
 use Rattle.leveldb_store.specs.Read.{IsUnreadable, LooksUpKey}
 use Rattle.leveldb_store.specs.ReadTable.{FindsInTable, IsUnreadableTable}
 use Rattle.leveldb_store.specs.Search.{IsNext, SearchesTables, search_rank}
-use Rattle.leveldb_store.specs.Written.{HasLiveTables, IsTableOf, Shows, memory_of, waiting_entries}
+use Rattle.leveldb_store.specs.Written.{HasLiveTables, IsTableOf, Shows, waiting_entries}
 use Rattle.leveldb_store.proofs.SearchLemmas.{AreTables, NoneUpTo, found_next, none_at_all, none_next_too}
 
 -- ---- newer entries and older ones

@@ -1,8 +1,7 @@
 -- What a look-up by the compressors of a format finds in a table that is one by what its ids mean, and why it fails there.
-use Rattle.std.specs.Prelude.{◌≢◌, IfSome, IsOkAnd, IsSome, IsSomeAnd, is_some, slice_get}
-use Rattle.std.proofs.Common.{◌≡◌, ◌⊎◌, inl, inr, ⊎_elim, ℕ, ◌+◌, ◌<◌, ◌≤◌, Bool, true, false, List, [], ◌∷◌, ◌++◌, length, map, Option, None, Some, Result, Ok, Err, refl, sym, ◌∙◌, ap, subst, arith, if◌then◌else◌}
+use Rattle.std.specs.Prelude.{◌≢◌, IsSome, IsSomeAnd, slice_get}
+use Rattle.std.proofs.Common.{◌≡◌, inl, inr, ℕ, ◌+◌, ◌<◌, Bool, true, false, List, [], ◌∷◌, ◌++◌, length, map, Option, None, Some, Ok, Err, refl, sym, ◌∙◌, ap, subst, arith, if◌then◌else◌}
 use Rattle.std.proofs.lemmas.List.{length-append, length-map}
-use Rattle.std.specs.List.{AllByRecursion}
 use Rattle.std.specs.Map.{lookup}
 use Rattle.std.specs.Str.{bytes_eq}
 use Rattle.std.specs.declared.cmp.Ordering.{Ordering}
@@ -11,19 +10,18 @@ use Rattle.leveldb_base.specs.Cmp.{IsPreorderOn}
 use Rattle.leveldb_base.specs.Types.{Pair, next_position, pair_at, position_within, seek_position}
 use Rattle.leveldb_base.specs.declared.error.Status.{Status}
 use Rattle.leveldb_base.specs.declared.error.StatusCode.TheVariants.{NotSupported}
-use Rattle.leveldb_env.specs.Compressor.{Coding, Codings, Decodes, decoded_by, decoded_under}
-use Rattle.leveldb_table.proofs.TableBlockLemmas.{lacks_none}
+use Rattle.leveldb_env.specs.Compressor.{Coding, Decodes, decoded_by, decoded_under}
 use Rattle.leveldb_table.proofs.TableLemmas.{has_one_block, stores_one}
-use Rattle.leveldb_table.proofs.TableReaderLemmas.{blocks_one, ends_one, opens_well}
+use Rattle.leveldb_table.proofs.TableReaderLemmas.{blocks_one, ends_one}
 use Rattle.leveldb_table.proofs.TableReaderMovesLemmas.{let_none}
 use Rattle.leveldb_table.proofs.TableReaderWalkLemmas.{all_at, current_at, first_is, found_at, lacks_some, named_at, pairs_cut, part_at, parts_some, position_in, position_none, position_out, same_handle, seek_after, seek_in, to_block}
 use Rattle.leveldb_table.specs.Block.{IsBlock}
-use Rattle.leveldb_table.specs.Table.{HasBlockAt, IsPart, IsTable, Part, StoresAt, filter_key, first_from, index_pair, named_part}
-use Rattle.leveldb_table.specs.TableBlock.{IsUndecodedBy, LacksBlock, LacksLine, NamesNone, lacking, no_block, undecoded, unnamed, unstored}
+use Rattle.leveldb_table.specs.Table.{HasBlockAt, IsPart, Part, first_from, index_pair}
+use Rattle.leveldb_table.specs.TableBlock.{IsUndecodedBy, LacksBlock, LacksLine, lacking, no_block, undecoded, unnamed, unstored}
 use Rattle.leveldb_table.specs.TableLaws.{DecodesMore}
 use Rattle.leveldb_table.specs.TableReader.{EndsInFooter, HasFiltersBy, HasParts, LacksPart, OpensAs, found_in, no_filters, no_footer, no_index, no_metaindex, not_indexed, pairs_in}
-use Rattle.leveldb_table.specs.TableReaderBlocks.{IsAfterLine, let_position}
-use Rattle.leveldb_table.specs.TableReaderMoves.{HasLine, InsideOr, LookUpByLine, LookUpFromLine, ToFirstPair, ToKeyByLine, ToKeyByLineIfLet, ToKeyInBlock}
+use Rattle.leveldb_table.specs.TableReaderBlocks.{IsAfterLine}
+use Rattle.leveldb_table.specs.TableReaderMoves.{HasLine, InsideOr, LookUpFromLine, ToFirstPair, ToKeyByLineIfLet, ToKeyInBlock}
 use Rattle.leveldb_table.specs.TableReaderWalk.{Outcome, TablePosition}
 use Rattle.leveldb_store.specs.Format.{Agrees, Format, Meaning}
 use Rattle.leveldb_store.specs.Read.{LacksCompressor}

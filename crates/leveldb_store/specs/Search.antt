@@ -1,5 +1,5 @@
 -- In which order a look-up goes through the live tables, and what it finds in them.
-use Rattle.std.specs.Prelude.{◌≡◌, ◌==◌, ◌<◌, ◌≤◌, ◌+◌, ◌-◌, ◌*◌, ◌^◌, ℕ, List, Option, None, Some, Contains, IfOk, IfSome, IsTrue, Result, if◌then◌else◌}
+use Rattle.std.specs.Prelude.{◌==◌, ◌<◌, ◌≤◌, ◌+◌, ◌-◌, ◌*◌, ◌^◌, ℕ, List, Option, None, Some, Contains, IfOk, IfSome, IsTrue, Result, if◌then◌else◌}
 use Rattle.std.specs.declared.cmp.Ordering.{Ordering}
 use Rattle.leveldb_base.specs.Entries.{FindsNewest}
 use Rattle.leveldb_base.specs.declared.error.Status.{Status}

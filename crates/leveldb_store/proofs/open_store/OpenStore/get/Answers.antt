@@ -1,6 +1,5 @@
-use Rattle.std.proofs.Common.{◌≡◌, ◌∙◌, Ok, option_copied, sym, subst}
+use Rattle.std.proofs.Common.{◌∙◌, Ok, option_copied, sym, subst}
 use Rattle.std.proofs.lemmas.Result.{err_from_is_err_and}
-use Rattle.leveldb_base.specs.Layers.{value_found}
 use Rattle.leveldb_env.specs.contracts.compressor.CompressorListCompressors.TheImpl.{ghosts as compressors}
 use Rattle.leveldb_store.specs.Format.{format_of}
 use Rattle.leveldb_store.specs.Read.{LooksUpKey}

@@ -1,4 +1,4 @@
-use Rattle.std.proofs.Common.{◌≡◌, ◌∙◌, List, None, Some, ap, option_copied, option_map, subst, sym}
+use Rattle.std.proofs.Common.{◌≡◌, ◌∙◌, List, None, ap, option_copied, option_map, subst, sym}
 use Rattle.leveldb_base.proofs.EntriesLemmas.{finds_after}
 use Rattle.leveldb_base.specs.Entries.{FindsNewest, HasNewest}
 use Rattle.leveldb_base.specs.History.{Entry}

@@ -1,4 +1,4 @@
-use Rattle.std.proofs.Common.{◌∷◌, ◌++◌, ◌<◌, ◌^◌, ℕ, List, [], Option, Some, false, true, option_copied, option_map, subst, sym, take}
+use Rattle.std.proofs.Common.{◌∷◌, ◌++◌, ◌<◌, ◌^◌, ℕ, [], Option, option_copied, option_map, subst, sym, take}
 use Rattle.std.proofs.lemmas.List.{take_all}
 use Rattle.std.proofs.lemmas.List.Elements.{All-more}
 use Rattle.std.specs.List.{All}
