@@ -33,7 +33,8 @@ module _ {E F : Type 0} (env : Ghosts E F) (cmp : List ℕ → List ℕ → Orde
         → Agrees format meaning → (pairs : List Pair) → IsTableOf cmp meaning bytes pairs
         → P meaning pairs)
 
-    -- It can't be read as a table. Where it is one, that is only since the format lacks a compressor.
+    -- It can't be read as a table. Where it is one, that is only since the format lacks a
+    -- compressor.
     pub record IsUnreadableFile (status : Status) : Type 0 where
       pub fault : IsTableFault format status.code
       pub lacks : ForFile (λ meaning pairs.

@@ -46,7 +46,8 @@ module _ (cmp : List ℕ → List ℕ → Ordering) (files : List NewFile) (last
   -- of those that are still to be searched it is the next, or there is none
   abbrev pub IsNext : Option NewFile → Type 0
   IsNext None = (file : NewFile) → IsLeft file → ⊥
-  IsNext (Some next) = IsLeft next × ((file : NewFile) → IsLeft file → search_rank next ≤ search_rank file)
+  IsNext (Some next) =
+      IsLeft next × ((file : NewFile) → IsLeft file → search_rank next ≤ search_rank file)
 
 -- ---- what is found in them
 
