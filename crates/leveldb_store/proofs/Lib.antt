@@ -5,3 +5,8 @@ pub mod RemoveLemmas
 pub mod TableKeepsLemmas
 pub mod TableWaitingLemmas
 pub mod NotTabledLemmas
+mod ReadTableLemmas
+mod NewestLemmas
+mod SearchLemmas
+mod ReadFileLemmas
+mod ReadLemmas

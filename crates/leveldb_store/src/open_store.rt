@@ -3,6 +3,9 @@ ghost use Rattle.std.specs.Prelude.{◌≡◌, ◌↔◌, IsTrue, false};
 ghost use Rattle.leveldb_store.specs.OpenStore.{IsUnbroken};
 
 mod obsolete;
+mod read;
+mod read_table;
+mod search;
 mod switch;
 mod table;
 mod write;
