@@ -3,6 +3,7 @@ use Rattle.std.specs.Prelude.{IsTrue}
 use Rattle.std.proofs.lemmas.Result.{err_from_is_err_and}
 use Rattle.leveldb_env.specs.Env.{BeforeOrAfter, ChangesFiles, emptied}
 use Rattle.leveldb_version.specs.Paths.{log_path}
+use Rattle.leveldb_store.specs.OpenStore.{HasOwnManifest}
 use Rattle.leveldb_store.specs.Write.{SyncsLog}
 use Rattle.leveldb_store.specs.Written.{KeepsStore, SparesRest}
 use Rattle.leveldb_store.proofs.SwitchLemmas.{after_giving, keeps_given, keeps_switched, keeps_unmade, spared_by_sync, switched, sync_made, unmade, unsynced, unsynced_keeps}
@@ -125,3 +126,15 @@ returns-clause-keeps g c = λ modelled meaning allowed w.
       waiting = ap (λ m. Some m.kept) c.replace.ensures.value ∙ ap (λ v. Some v.recent) same;
     })
     c.requires (opening.ok modelled)
+
+pub invariant_of-self-in_err-path : goal.invariant_of-self-in_err-path
+invariant_of-self-in_err-path g c =
+    let given = c.in_ok-number.ensures.ok in
+    (ap (λ set. set.store) given ∙ c.self.invariant.0, c.self.invariant.1, c.self.invariant.2, c.self.invariant.3,
+    λ modelled. subst HasOwnManifest (sym given) (c.self.invariant.4 modelled), λ e. c.self.invariant.5 (sym (ap (λ set. set.manifest) given) ∙ e))
+
+pub invariant_of-self-2 : goal.invariant_of-self-2
+invariant_of-self-2 g c =
+    let given = c.in_ok-number.ensures.ok in
+    (ap (λ set. set.store) given ∙ c.self.invariant.0, c.self.invariant.1, c.self.invariant.2, c.self.invariant.3,
+    λ modelled. subst HasOwnManifest (sym given) (c.self.invariant.4 modelled), λ e. c.self.invariant.5 (sym (ap (λ set. set.manifest) given) ∙ e))
