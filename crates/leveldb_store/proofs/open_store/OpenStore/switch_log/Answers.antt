@@ -129,12 +129,22 @@ returns-clause-keeps g c = λ modelled meaning allowed w.
 
 pub invariant_of-self-in_err-path : goal.invariant_of-self-in_err-path
 invariant_of-self-in_err-path g c =
-    let given = c.in_ok-number.ensures.ok in
-    (ap (λ set. set.store) given ∙ c.self.invariant.0, c.self.invariant.1, c.self.invariant.2, c.self.invariant.3,
-    λ modelled. subst HasOwnManifest (sym given) (c.self.invariant.4 modelled), λ e. c.self.invariant.5 (sym (ap (λ set. set.manifest) given) ∙ e))
+    let given = c.in_ok-number.ensures.ok in (
+      ap (λ set. set.store) given ∙ c.self.invariant.0,
+      c.self.invariant.1,
+      c.self.invariant.2,
+      c.self.invariant.3,
+      λ modelled. subst HasOwnManifest (sym given) (c.self.invariant.4 modelled),
+      λ e. c.self.invariant.5 (sym (ap (λ set. set.manifest) given) ∙ e),
+    )
 
 pub invariant_of-self-2 : goal.invariant_of-self-2
 invariant_of-self-2 g c =
-    let given = c.in_ok-number.ensures.ok in
-    (ap (λ set. set.store) given ∙ c.self.invariant.0, c.self.invariant.1, c.self.invariant.2, c.self.invariant.3,
-    λ modelled. subst HasOwnManifest (sym given) (c.self.invariant.4 modelled), λ e. c.self.invariant.5 (sym (ap (λ set. set.manifest) given) ∙ e))
+    let given = c.in_ok-number.ensures.ok in (
+      ap (λ set. set.store) given ∙ c.self.invariant.0,
+      c.self.invariant.1,
+      c.self.invariant.2,
+      c.self.invariant.3,
+      λ modelled. subst HasOwnManifest (sym given) (c.self.invariant.4 modelled),
+      λ e. c.self.invariant.5 (sym (ap (λ set. set.manifest) given) ∙ e),
+    )
