@@ -5,6 +5,5 @@ pub mod Write
 pub mod Written
 pub mod Switch
 pub mod Read
-pub mod Opening
 pub mod ReadTable
 pub mod Search
