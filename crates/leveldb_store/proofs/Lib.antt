@@ -1,2 +1,4 @@
 mod BuildTableLemmas
 pub mod WriteLemmas
+mod ReplayFilesLemmas
+mod ReplayLogLemmas

@@ -1,10 +1,9 @@
 //! The replay of a log: its batches go into a memtable, one after another, and each memtable that is
 //! full becomes a table.
-ghost use Rattle.std.specs.Prelude.{◌≡◌, ◌≢◌, ◌⊎◌, ◌≤◌, ◌<◌, ◌↔◌, [], IfErr, IfOk, IsTrue, OnErr, OnOk, length};
+ghost use Rattle.std.specs.Prelude.{◌≡◌, ◌≢◌, ◌⊎◌, [], false, IfErr, IfOk, OnOk};
 ghost use Rattle.leveldb_base.specs.Error.{IsOutOfMemory};
 ghost use Rattle.leveldb_base.specs.History.{AreUpTo};
 ghost use Rattle.leveldb_base.specs.declared.error.StatusCode.TheVariants.{Corruption, NotSupported};
-ghost use Rattle.leveldb_mem.specs.MemTable.{memory_of_entries};
 ghost use Rattle.leveldb_mem.specs.WriteBatch.{IsBatch};
 ghost use Rattle.leveldb_version.specs.Batches.{IsRecordOf};
 ghost use Rattle.leveldb_store.specs.BuildTable.{choices_of};
