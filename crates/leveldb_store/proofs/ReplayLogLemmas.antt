@@ -1,5 +1,5 @@
 -- What each step of a replay makes of what was replayed before it, and why it fails.
-use Rattle.std.specs.Prelude.{◌↔◌, All, AllPairs, Contains, IfOk, IfSome, IsTrue, OnOk, flat_map, max}
+use Rattle.std.specs.Prelude.{◌↔◌, All, AllPairs, Contains, IfErr, IfOk, IfSome, IsErrAnd, IsTrue, OnOk, flat_map, max}
 use Rattle.std.proofs.Common.{◌≡◌, ◌≢◌, ◌∙◌, ◌⊎◌, inl, inr, ⊎_elim, ℕ, zero, suc, ◌+◌, ◌-◌, ◌<◌, ◌≤◌, ◌^◌, List, [], ◌∷◌, ◌++◌, Option, None, Result, Ok, Err, Some, ap, append-nil, arith, length, map, refl, subst, sym}
 use Rattle.std.proofs.lemmas.List.{map_push}
 use Rattle.std.proofs.lemmas.List.Elements.{All-push, Contains-append_cases, Contains-append_left, Contains-append_right, Contains-push_cases}
@@ -16,7 +16,7 @@ use Rattle.leveldb_base.specs.KeyTypes.{greatest_sequence, user_part}
 use Rattle.leveldb_base.specs.Types.{Pair}
 use Rattle.leveldb_base.specs.declared.cmp.Cmp.{Ghosts as CmpGhosts}
 use Rattle.leveldb_base.specs.declared.error.Status.{Status}
-use Rattle.leveldb_base.specs.declared.error.StatusCode.TheVariants.{NotSupported}
+use Rattle.leveldb_base.specs.declared.error.StatusCode.TheVariants.{Corruption, NotSupported}
 use Rattle.leveldb_base.specs.declared.types.FileMetaData.{FileMetaData}
 use Rattle.leveldb_base.specs.declared.types.FileType.TheVariants.{Table}
 use Rattle.leveldb_env.specs.Compressor.{Coding, Decodes, decoded_under}
@@ -61,6 +61,13 @@ AllPairs-push R (x ∷ xs) y pairs all =
     (λ z c. all z (in_rest x z xs c)))
 
 -- ---- the numbers of a batch
+
+-- an error for a batch that doesn't follow
+pub corrupt : (P : Type 0) (result : Result (Unit {0}) Status)
+    → IsErrAnd result (λ status. status.code ≡ Corruption) → (P → ⊥)
+    → IfErr result (λ status. (status.code ≡ Corruption) × (P → ⊥))
+corrupt P (Ok value) code never = tt
+corrupt P (Err status) code never = (code, never)
 
 pub fits_all : (first : ℕ) (items : List Item) → first ≤ greatest_sequence
     → first + length items ≤ greatest_sequence + 1
