@@ -25,13 +25,14 @@ use Rattle.leveldb_env.specs.declared.env.Env.{Ghosts}
 use Rattle.leveldb_env.specs.declared.filter.FilterPolicy.{Ghosts as FilterGhosts}
 use Rattle.leveldb_mem.proofs.EntryLemmas.{all_fit, none_fit, placed_from}
 use Rattle.leveldb_mem.specs.MemTable.{IsUnion, MemTableState}
-use Rattle.leveldb_mem.specs.WriteBatch.{Batch}
+use Rattle.leveldb_mem.specs.WriteBatch.{Batch, IsBatch}
+use Rattle.leveldb_mem.specs.WriteBatchLaws.{BatchOf-one}
 use Rattle.leveldb_version.proofs.LogsLemmas.{all_append, order_append}
 use Rattle.leveldb_version.proofs.ManagedLemmas.{same_bytes, table_on}
 use Rattle.leveldb_version.proofs.NumbersLemmas.{greatest_append, up_to, up_to_greatest}
 use Rattle.leveldb_version.proofs.OneStoreLemmas.{flat_in, in_flat}
 use Rattle.leveldb_version.proofs.StoreTablesLemmas.{held_tables_by_more}
-use Rattle.leveldb_version.specs.Batches.{AreInOrder, Each, all_entries, batch_entries}
+use Rattle.leveldb_version.specs.Batches.{AreInOrder, Each, IsRecordOf, all_entries, batch_entries}
 use Rattle.leveldb_version.specs.Levels.{LiveTable, table_entries}
 use Rattle.leveldb_version.specs.Opening.{IsMadeBefore}
 use Rattle.leveldb_version.specs.Paths.{table_path}
@@ -42,7 +43,7 @@ use Rattle.leveldb_version.specs.VersionSetValue.{AreFileNumbersUsedUp, VersionS
 use Rattle.leveldb_store.specs.BuildTable.{IsTableFile, MakesTable, TableChoices}
 use Rattle.leveldb_store.specs.Format.{Agrees, Format, Meaning}
 use Rattle.leveldb_store.specs.Opening.{AreMadeTables, GivesNumbers, IsMadeTable, SameButTables}
-use Rattle.leveldb_store.specs.ReplayLog.{AddsBatch, FailsToTable, Follows, HasReplayed, MakesRestTable, MakesTablesOnly, TablesRest, table_files}
+use Rattle.leveldb_store.specs.ReplayLog.{AddsBatch, FailsToTable, Follows, HasReplayed, IsNoNextBatch, IsNotFull, MakesRestTable, MakesTablesOnly, TablesRest, TakesRecord, table_files}
 use Rattle.leveldb_store.specs.Written.{IsTableOf}
 use Rattle.leveldb_store.specs.declared.opening.replay_log.ReplayedLog.{ReplayedLog}
 use Rattle.leveldb_store.proofs.ReplayFilesLemmas.{GivesNumbers-refl, GivesNumbers-trans, MakesTablesOnly-made, MakesTablesOnly-none, same_store}
@@ -455,3 +456,105 @@ module _ {E F D FP C : Type 0} (env : Ghosts E F) {order : CmpGhosts D} {filters
         };
         cause = record { later = makes.cause.later; ok = makes.cause.ok; uncounted = tt; cause = tt };
       }
+
+-- ---- a record is taken
+
+pub none_of_length : (entries : List Entry) → length entries ≤ 0 → entries ≡ []
+none_of_length [] none = refl
+none_of_length (entry ∷ entries) none = absurd (omega (arith, none))
+
+-- a record that is no batch, or one that doesn't follow, isn't the next
+pub no_next_batch : (last : ℕ) (text : List ℕ) → (IsBatch text → ⊥) → IsNoNextBatch last text
+no_next_batch last text never batch is follows = never (batch, is)
+
+pub no_following_batch : (last : ℕ) (text : List ℕ) (batch : Batch) → IsRecordOf text batch
+    → (Follows last batch → ⊥) → IsNoNextBatch last text
+no_following_batch last text batch is never other other_is follows =
+    let same = BatchOf-one text other.first batch.first other.items batch.items other_is is in
+    let here : other ≡ batch = λ i. record { first = same.0 i; items = same.1 i } in
+    never (subst (Follows last) here follows)
+
+module _ {E F D FP C : Type 0} (env : Ghosts E F) {order : CmpGhosts D} {filters : FilterGhosts FP}
+    (choices : TableChoices order filters) (limit : ℕ) (text : List ℕ) (old : ReplayedLog C)
+    (set : VersionSetValue) where
+  -- before a table is made
+  pub TakesRecord-refused : (at : E) (status : Status)
+      → IsOutOfMemory status ⊎ (FailsToTable choices status
+      ⊎ ((status.code ≡ Corruption) × IsNoNextBatch old.last text)) → (new : ReplayedLog C)
+      → TakesRecord env choices limit text old set at (Err status) new set at
+  TakesRecord-refused at status why new = record {
+    spares = MakesTablesOnly-none env set at;
+    ok = tt;
+    room = tt;
+    cmp = tt;
+    size = tt;
+    bad = tt;
+    cause = record {
+      later = omega arith;
+      ok = tt;
+      uncounted = λ excused. refl;
+      cause = inl (⊎_elim (λ memory. inl memory) (λ other. inr (other, refl)) why);
+    };
+  }
+
+  module _ (batch : Batch) (is : IsRecordOf text batch) (follows : Follows old.last batch)
+      (mid : ReplayedLog C) (adds : AddsBatch old batch mid) where
+    -- no table is made
+    pub TakesRecord-added : (at : E) → IsNotFull limit mid
+        → TakesRecord env choices limit text old set at (Ok tt) mid set at
+    TakesRecord-added at room = record {
+      spares = MakesTablesOnly-none env set at;
+      ok = λ first last batches was.
+          (batch, is, HasReplayed-added env choices.format was batch follows adds);
+      room = room;
+      cmp = adds.cmp;
+      size = ap (λ (log : ReplayedLog C). log.size) adds.rest;
+      bad = ap (λ (log : ReplayedLog C). log.is_clean) adds.rest;
+      cause = record { later = omega arith; ok = refl; uncounted = tt; cause = tt };
+    }
+
+    -- one is made, or an error comes of it
+    pub TakesRecord-tabled : {from to : E} {new : ReplayedLog C} {now : VersionSetValue}
+        (result : Result (Unit {0}) Status)
+        → MakesRestTable env choices mid set from result new now to
+        → TakesRecord env choices limit text old set from result new now to
+    TakesRecord-tabled {new = new} (Ok done) makes = record {
+      spares = makes.spares;
+      ok = λ first last batches was. (
+        batch,
+        is,
+        HasReplayed-tabled env choices.format
+            (HasReplayed-added env choices.format was batch follows adds) makes.spares makes.ok,
+      );
+      room = inl makes.ok.none_left;
+      cmp = makes.ok.cmp ∙ adds.cmp;
+      size = ap (λ (log : ReplayedLog C). log.size) makes.ok.rest
+          ∙ ap (λ (log : ReplayedLog C). log.size) adds.rest;
+      bad = ap (λ (log : ReplayedLog C). log.is_clean) makes.ok.rest
+          ∙ ap (λ (log : ReplayedLog C). log.is_clean) adds.rest;
+      cause = record {
+        later = makes.cause.later;
+        ok = makes.cause.ok;
+        uncounted = tt;
+        cause = tt;
+      };
+    }
+    TakesRecord-tabled (Err status) makes = record {
+      spares = makes.spares;
+      ok = tt;
+      room = tt;
+      cmp = tt;
+      size = tt;
+      bad = tt;
+      cause = record {
+        later = makes.cause.later;
+        ok = tt;
+        uncounted = λ excused. ⊎_elim
+            (λ (memory : IsOutOfMemory status). makes.cause.uncounted (inl memory))
+            (λ other. other.1) excused;
+        cause = ⊎_elim
+            (λ excused. inl (⊎_elim (λ (memory : IsOutOfMemory status). inl memory)
+            (λ other. inr (inl other.0, other.1)) excused))
+            (λ counted. inr counted) makes.cause.cause;
+      };
+    }
