@@ -2,3 +2,4 @@ mod BuildTableLemmas
 pub mod WriteLemmas
 mod ReplayFilesLemmas
 mod ReplayLogLemmas
+mod ReplayTextLemmas
