@@ -79,32 +79,34 @@ no_order last now records batches text others those each is never read order =
 
 -- ---- bytes in memory
 
--- a source of bytes in memory is seen as those that it still has
-module _ {S : Type 0} (left : S → List ℕ) {core next : ReaderState} {from to : S} where
-  abbrev plain : List ℕ → ℕ → Result (List ℕ) Status → List ℕ → Type 0
-  plain = first_given (λ (bytes : List ℕ). bytes)
+-- bytes in memory as a source
+abbrev plain : List ℕ → ℕ → Result (List ℕ) Status → List ℕ → Type 0
+plain = first_given (λ (bytes : List ℕ). bytes)
 
-  some_seen : {at end : S} {bytes : List ℕ} → GivesSome (first_given left) at bytes end
-      → GivesSome plain (left at) bytes (left end)
+-- a source of bytes in memory is seen as those that it still has
+module _ {S : Type 0} (left : S → List ℕ) where
+  some_seen : {from to : S} {bytes : List ℕ} → GivesSome (first_given left) from bytes to
+      → GivesSome plain (left from) bytes (left to)
   some_seen = GivesSome-seen (first_given left) plain left (λ old room result new first. first)
 
-  all_seen : {at end : S} {bytes : List ℕ} → GivesAll (first_given left) at bytes end
-      → GivesAll plain (left at) bytes (left end)
+  all_seen : {from to : S} {bytes : List ℕ} → GivesAll (first_given left) from bytes to
+      → GivesAll plain (left from) bytes (left to)
   all_seen = GivesAll-seen (first_given left) plain left (λ old room result new first. first)
 
-  come_seen : {at end : S} {unread bytes : List ℕ}
-      → IsUnreadThenGiven (GivesSome (first_given left)) unread at bytes end
-      → IsUnreadThenGiven (GivesSome plain) unread (left at) bytes (left end)
+  come_seen : {from to : S} {unread bytes : List ℕ}
+      → IsUnreadThenGiven (GivesSome (first_given left)) unread from bytes to
+      → IsUnreadThenGiven (GivesSome plain) unread (left from) bytes (left to)
   come_seen come =
       record { given = come.given; reads = some_seen come.reads; bytes_are = come.bytes_are }
 
-  all_come_seen : {at end : S} {unread bytes : List ℕ}
-      → IsUnreadThenGiven (GivesAll (first_given left)) unread at bytes end
-      → IsUnreadThenGiven (GivesAll plain) unread (left at) bytes (left end)
+  all_come_seen : {from to : S} {unread bytes : List ℕ}
+      → IsUnreadThenGiven (GivesAll (first_given left)) unread from bytes to
+      → IsUnreadThenGiven (GivesAll plain) unread (left from) bytes (left to)
   all_come_seen come =
       record { given = come.given; reads = all_seen come.reads; bytes_are = come.bytes_are }
 
-  pub record_seen : {text : List ℕ} → FindsRecord (first_given left) core from text next to
+  pub record_seen : {core next : ReaderState} {from to : S} {text : List ℕ}
+      → FindsRecord (first_given left) core from text next to
       → FindsRecord plain core (left from) text next (left to)
   record_seen found = record {
     front = found.front;
@@ -113,11 +115,13 @@ module _ {S : Type 0} (left : S → List ℕ) {core next : ReaderState} {from to
     reader = found.reader;
   }
 
-  pub end_seen : FindsEnd (first_given left) core from next to
+  pub end_seen : {core next : ReaderState} {from to : S}
+      → FindsEnd (first_given left) core from next to
       → FindsEnd plain core (left from) next (left to)
   end_seen found = record { come = all_come_seen found.come; reader = found.reader }
 
-  pub checksum_seen : FindsWrongChecksum (first_given left) core from next to
+  pub checksum_seen : {core next : ReaderState} {from to : S}
+      → FindsWrongChecksum (first_given left) core from next to
       → FindsWrongChecksum plain core (left from) next (left to)
   checksum_seen found = record {
     front = found.front;
@@ -127,12 +131,13 @@ module _ {S : Type 0} (left : S → List ℕ) {core next : ReaderState} {from to
     reader = found.reader;
   }
 
-  pub rest_seen : {P : List ℕ → Type 0} {unread : List ℕ}
-      → HoldsOfRest (first_given left) P unread from to → HoldsOfRest plain P unread (left from) (left to)
+  pub rest_seen : {P : List ℕ → Type 0} {unread : List ℕ} {from to : S}
+      → HoldsOfRest (first_given left) P unread from to
+      → HoldsOfRest plain P unread (left from) (left to)
   rest_seen (at_end bytes come holds) = at_end bytes (all_come_seen come) holds
   rest_seen (whatever_follows bytes come holds) = whatever_follows bytes (come_seen come) holds
 
-  pub stop_seen : {status : Status} → StopsReading (first_given left) from status to
+  pub stop_seen : {from to : S} {status : Status} → StopsReading (first_given left) from status to
       → StopsReading plain (left from) status (left to)
   stop_seen (inl up) =
       inl (GivesUp-seen (first_given left) plain left (λ old room result new first. first) up)

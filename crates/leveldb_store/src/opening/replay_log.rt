@@ -95,7 +95,8 @@ fn replay_text<E: Env, C: UserCmp + Copy + Drop, FP: FilterPolicy + Copy + Drop>
                 log.is_clean = true;
                 return Ok(log);
             }
-            Found::WrongChecksum | Found::Damage(_) => return Ok(log),
+            Found::WrongChecksum => return Ok(log),
+            Found::Damage(_) => return Ok(log),
         }
         log.take_record(alloc, env, store, options, versions, &mut batch, &record)?;
     }
