@@ -3,3 +3,4 @@ pub mod WriteLemmas
 mod ReplayFilesLemmas
 mod ReplayLogLemmas
 mod ReplayTextLemmas
+mod ReplayStoreLemmas
