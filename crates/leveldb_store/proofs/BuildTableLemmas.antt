@@ -32,8 +32,6 @@ use Rattle.leveldb_table.specs.TableBuilder.{AddsPair, IsBegun, IsBuiltTable, Is
 use Rattle.leveldb_table.specs.TableBuilderAdd.{TakesPair}
 use Rattle.leveldb_table.specs.TableBuilderFinish.{IsFinished}
 use Rattle.leveldb_table.specs.declared.table_builder.builder_core.BuilderCore.{BuilderCore}
-use Rattle.leveldb_version.proofs.BytesLemmas.{bytes_stay}
-use Rattle.leveldb_version.proofs.ManifestLemmas.{bytes_take}
 use Rattle.leveldb_version.specs.Batches.{Each}
 use Rattle.leveldb_version.specs.Paths.{table_path}
 use Rattle.leveldb_version.specs.Store.{IsFirstKey, IsInternalPair, IsLastKey, IsStoreTable, any_user_key}
@@ -333,19 +331,6 @@ module _ (path bytes : List ℕ) where
 -- no bytes
 no_bytes : AreBytes []
 no_bytes i = omega arith
-
--- what was appended to each file stays bytes while a file is made
-pub bytes_opened : (path : List ℕ) (old new : Files) → BeforeOrAfter (emptied path) old new → AppendedAreBytes old → AppendedAreBytes new
-bytes_opened path old new (inl same) were = subst AppendedAreBytes (sym same) were
-bytes_opened path old new (inr made) were = subst AppendedAreBytes (sym made) ((bytes_stay old were).empty path)
-
-pub bytes_appended : (path bytes : List ℕ) (old new : Files) → AreBytes bytes → PrefixAppended path bytes old new → AppendedAreBytes old → AppendedAreBytes new
-bytes_appended path bytes old new are (inl same) were = subst AppendedAreBytes (sym same) were
-bytes_appended path bytes old new are (inr part) were = subst AppendedAreBytes (sym part.1) ((bytes_stay old were).append path (take part.0 bytes) (bytes_take part.0 bytes are))
-
-pub bytes_synced : (path : List ℕ) (old new : Files) → BeforeOrAfter (synced path) old new → AppendedAreBytes old → AppendedAreBytes new
-bytes_synced path old new (inl same) were = subst AppendedAreBytes (sym same) were
-bytes_synced path old new (inr made) were = subst AppendedAreBytes (sym made) ((bytes_stay old were).sync path)
 
 -- ---- the ends of `build_table`
 

@@ -1,5 +1,15 @@
 mod BuildTableLemmas
 pub mod WriteLemmas
+pub mod SwitchLemmas
+pub mod RemoveLemmas
+pub mod TableKeepsLemmas
+pub mod TableWaitingLemmas
+pub mod NotTabledLemmas
+mod ReadTableLemmas
+mod NewestLemmas
+mod SearchLemmas
+mod ReadFileLemmas
+mod ReadLemmas
 mod ReplayFilesLemmas
 mod ReplayLogLemmas
 mod ReplayTextLemmas

@@ -5,5 +5,7 @@ pub mod Write
 pub mod Written
 pub mod Switch
 pub mod Read
+pub mod ReadTable
+pub mod Search
 pub mod Opening
 pub mod ReplayLog

@@ -3,5 +3,5 @@
 #![tactic(auto)]
 
 pub mod build;
-mod opening;
 pub mod open_store;
+mod opening;
