@@ -181,9 +181,12 @@ module _ {E F : Type 0} (env : Ghosts E F) where
     numbers = GivesNumbers-refl set;
     run = λ modelled. begun (env.observed at) (λ path others. refl);
     locks = λ modelled. refl;
-    keeps = λ modelled cmp meaning edits r. (r, λ allowed bound. begun (env.observed at)
-        (KeepsHistory-refl set.store cmp (IsTableOf cmp meaning) (λ it. IsTrue (allowed it)) bound
-        (env.observed at).disk.files));
+    keeps = λ modelled cmp meaning edits r. (
+      r,
+      λ allowed bound. begun (env.observed at)
+          (KeepsHistory-refl set.store cmp (IsTableOf cmp meaning) (λ it. IsTrue (allowed it)) bound
+          (env.observed at).disk.files),
+    );
   }
 
   -- calls that leave the files

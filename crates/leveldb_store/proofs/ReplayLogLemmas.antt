@@ -424,8 +424,7 @@ module _ {E F D FP C : Type 0} (env : Ghosts E F) {order : CmpGhosts D} {filters
           let held = makes.has some_pairs modelled meaning.filters 0 old.rest.kept.entries
           (subst
           (λ known. IfSome known (λ found. found ≡ (λ key. choices.format.matches (user_part key))))
-          (sym agrees.filters) refl) each in
-          (
+          (sym agrees.filters) refl) each in (
             held_tables_by_more (Decodes choices.format.codings) (Decodes meaning.codings)
                 (decodes_more choices.format meaning agrees) store choices.format.order
                 meaning.filters (env.observed to).disk.files table held,

@@ -127,8 +127,11 @@ module _ {E F D FP : Type 0} (env : Ghosts E F) {order : CmpGhosts D} {filters :
               (λ excused. inl (⊎_elim (λ (memory : IsOutOfMemory status). inl (inl memory))
               (λ other. inr (
                 ⊎_elim (λ table. inl table)
-                    (λ torn. inr (torn.0, λ modelled. damaged_file set.store
-                    (env.observed from).disk.files number last text (file_read modelled) torn.1))
+                    (λ torn. inr (
+                      torn.0,
+                      λ modelled. damaged_file set.store
+                          (env.observed from).disk.files number last text (file_read modelled) torn.1,
+                    ))
                     other.0,
                 other.1 ∙ counted,
               )) excused))

@@ -274,8 +274,11 @@ module _ {E F D FP C S : Type 0} (env : Ghosts E F) {order : CmpGhosts D}
                 (λ other. other.1) excused;
             cause = ⊎_elim
                 (λ excused. inl (⊎_elim (λ (memory : IsOutOfMemory status). inl memory)
-                (λ other. inr (⊎_elim (λ table. inl table)
-                (λ torn. inr (torn.0, damaged found torn.1)) other.0, other.1)) excused))
+                (λ other. inr (
+                  ⊎_elim (λ table. inl table)
+                      (λ torn. inr (torn.0, damaged found torn.1)) other.0,
+                  other.1,
+                )) excused))
                 (λ counted. inr counted) takes.cause.cause;
           });
     }

@@ -15,8 +15,8 @@ pub returns-clause-ok : goal.returns-clause-ok
 returns-clause-ok g c =
     elim c.if-count-gt0.branch [
       | then-count-gt0 w ↦ rw w.self-is (AddsBatch-some c.args.self.now c.args.batch.now c.insert_prepared.new.self c.prepare.new.self.kept.entries c.sequence.result c.requires.follows c.sequence.ensures
-      c.prepare.ensures.kept.entries c.insert_prepared.ensures.adds.gains (c.insert_prepared.ensures.cmp ∙ c.prepare.ensures.cmp) _ (omega (arith, w.if-count-gt0, c.count.ensures))
-      (omega (arith, w.sequence-then-count-gt0.ensures, w.count-then-count-gt0.ensures, w.from.ensures)))
+          c.prepare.ensures.kept.entries c.insert_prepared.ensures.adds.gains (c.insert_prepared.ensures.cmp ∙ c.prepare.ensures.cmp) _ (omega (arith, w.if-count-gt0, c.count.ensures))
+          (omega (arith, w.sequence-then-count-gt0.ensures, w.count-then-count-gt0.ensures, w.from.ensures)))
       | else-count-gt0 w ↦ rw w.self-is (AddsBatch-none c.args.self.now c.args.batch.now c.insert_prepared.new.self c.prepare.new.self.kept.entries c.sequence.result c.requires.follows c.sequence.ensures
-      c.prepare.ensures.kept.entries c.insert_prepared.ensures.adds.gains (c.insert_prepared.ensures.cmp ∙ c.prepare.ensures.cmp) (omega (arith, w.if-count-gt0, c.count.ensures)))
+          c.prepare.ensures.kept.entries c.insert_prepared.ensures.adds.gains (c.insert_prepared.ensures.cmp ∙ c.prepare.ensures.cmp) (omega (arith, w.if-count-gt0, c.count.ensures)))
     ]
