@@ -1,6 +1,6 @@
 -- What calls leave of a store that is recovered, which make tables alone, one after another.
 use Rattle.std.specs.Prelude.{◌≢◌, IsTrue}
-use Rattle.std.proofs.Common.{◌≡◌, ◌∙◌, ◌⊎◌, inl, inr, ℕ, ◌+◌, ◌<◌, ◌≤◌, ◌^◌, Bool, true, false, List, Option, None, Some, ap, arith, refl, subst, sym}
+use Rattle.std.proofs.Common.{◌≡◌, ◌∙◌, inr, ℕ, ◌+◌, ◌<◌, ◌≤◌, ◌^◌, Bool, false, List, None, Some, ap, arith, refl, subst, sym}
 use Rattle.std.specs.Str.{bytes_eq}
 use Rattle.std.specs.declared.cmp.Ordering.{Ordering}
 use Rattle.leveldb_base.proofs.NamesLemmas.{made_name}
@@ -8,7 +8,7 @@ use Rattle.leveldb_base.specs.Names.{IsFileName, file_name}
 use Rattle.leveldb_base.specs.Types.{Pair}
 use Rattle.leveldb_base.specs.declared.types.FileType.TheVariants.{Current, Descriptor, Log, Table}
 use Rattle.leveldb_env.proofs.EnvLemmas.{Run-mono, Run-trans, begun, bytes_eq-apart}
-use Rattle.leveldb_env.specs.Env.{File, Files, FilesUnchanged, Observed, Run, SameBut, SameLocks, in_folder}
+use Rattle.leveldb_env.specs.Env.{Files, FilesUnchanged, Observed, Run, SameBut, SameLocks, in_folder}
 use Rattle.leveldb_env.specs.declared.env.Env.{Ghosts}
 use Rattle.leveldb_version.proofs.ManagedLemmas.{kinds_apart, managed_on}
 use Rattle.leveldb_version.proofs.ManifestLemmas.{edits_on, managed_of}
@@ -23,9 +23,9 @@ use Rattle.leveldb_version.specs.StoreSteps.{AppendedAreBytes, IsKept, IsUnnamed
 use Rattle.leveldb_version.specs.VersionEdit.{Edit, NewFile}
 use Rattle.leveldb_version.specs.VersionSet.{live_after}
 use Rattle.leveldb_version.specs.VersionSetValue.{VersionSetValue, with_number_given}
-use Rattle.leveldb_version.specs.Writing.{IsNumberedUpTo, IsRecoveredBy}
+use Rattle.leveldb_version.specs.Writing.{IsRecoveredBy}
 use Rattle.leveldb_store.specs.Format.{Meaning}
-use Rattle.leveldb_store.specs.Opening.{GivesNumbers, KeepsRecovered, SameButTables}
+use Rattle.leveldb_store.specs.Opening.{GivesNumbers, SameButTables}
 use Rattle.leveldb_store.specs.ReplayLog.{MakesTablesOnly}
 use Rattle.leveldb_store.specs.Written.{IsTableOf}
 

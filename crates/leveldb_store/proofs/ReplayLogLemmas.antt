@@ -1,5 +1,5 @@
 -- What each step of a replay makes of what was replayed before it, and why it fails.
-use Rattle.std.specs.Prelude.{◌↔◌, All, AllPairs, Contains, IfErr, IfOk, IfSome, IsErrAnd, IsTrue, OnOk, flat_map, max}
+use Rattle.std.specs.Prelude.{◌↔◌, AllPairs, Contains, IfErr, IfSome, IsErrAnd, IsTrue, max}
 use Rattle.std.proofs.Common.{◌≡◌, ◌≢◌, ◌∙◌, ◌⊎◌, inl, inr, ⊎_elim, ℕ, zero, suc, ◌+◌, ◌-◌, ◌<◌, ◌≤◌, ◌^◌, List, [], ◌∷◌, ◌++◌, Option, None, Result, Ok, Err, Some, ap, append-nil, arith, length, map, refl, subst, sym}
 use Rattle.std.proofs.lemmas.List.{map_push}
 use Rattle.std.proofs.lemmas.List.Elements.{All-push, Contains-append_cases, Contains-append_left, Contains-append_right, Contains-push_cases}
@@ -16,11 +16,11 @@ use Rattle.leveldb_base.specs.KeyTypes.{greatest_sequence, user_part}
 use Rattle.leveldb_base.specs.Types.{Pair}
 use Rattle.leveldb_base.specs.declared.cmp.Cmp.{Ghosts as CmpGhosts}
 use Rattle.leveldb_base.specs.declared.error.Status.{Status}
-use Rattle.leveldb_base.specs.declared.error.StatusCode.TheVariants.{Corruption, NotSupported}
+use Rattle.leveldb_base.specs.declared.error.StatusCode.TheVariants.{Corruption}
 use Rattle.leveldb_base.specs.declared.types.FileMetaData.{FileMetaData}
 use Rattle.leveldb_base.specs.declared.types.FileType.TheVariants.{Table}
 use Rattle.leveldb_env.specs.Compressor.{Coding, Decodes, decoded_under}
-use Rattle.leveldb_env.specs.Env.{Files, kept_file}
+use Rattle.leveldb_env.specs.Env.{Files}
 use Rattle.leveldb_env.specs.declared.env.Env.{Ghosts}
 use Rattle.leveldb_env.specs.declared.filter.FilterPolicy.{Ghosts as FilterGhosts}
 use Rattle.leveldb_mem.proofs.EntryLemmas.{all_fit, none_fit, placed_from}
@@ -29,20 +29,20 @@ use Rattle.leveldb_mem.specs.WriteBatch.{Batch, IsBatch}
 use Rattle.leveldb_mem.specs.WriteBatchLaws.{BatchOf-one}
 use Rattle.leveldb_version.proofs.LogsLemmas.{all_append, order_append}
 use Rattle.leveldb_version.proofs.ManagedLemmas.{same_bytes, table_on}
-use Rattle.leveldb_version.proofs.NumbersLemmas.{greatest_append, up_to, up_to_greatest}
-use Rattle.leveldb_version.proofs.OneStoreLemmas.{flat_in, in_flat}
+use Rattle.leveldb_version.proofs.NumbersLemmas.{greatest_append, up_to_greatest}
+use Rattle.leveldb_version.proofs.OneStoreLemmas.{flat_in}
 use Rattle.leveldb_version.proofs.StoreTablesLemmas.{held_tables_by_more}
-use Rattle.leveldb_version.specs.Batches.{AreInOrder, Each, IsRecordOf, all_entries, batch_entries}
+use Rattle.leveldb_version.specs.Batches.{Each, IsRecordOf, all_entries, batch_entries}
 use Rattle.leveldb_version.specs.Levels.{LiveTable, table_entries}
 use Rattle.leveldb_version.specs.Opening.{IsMadeBefore}
 use Rattle.leveldb_version.specs.Paths.{table_path}
-use Rattle.leveldb_version.specs.Store.{HasTable, IsInternalPair, IsStoreTable}
+use Rattle.leveldb_version.specs.Store.{IsInternalPair}
 use Rattle.leveldb_version.specs.StoreSteps.{IsKept}
 use Rattle.leveldb_version.specs.VersionEdit.{NewFile, new_file_of}
 use Rattle.leveldb_version.specs.VersionSetValue.{AreFileNumbersUsedUp, VersionSetValue, with_number_given}
-use Rattle.leveldb_store.specs.BuildTable.{IsTableFile, MakesTable, TableChoices}
+use Rattle.leveldb_store.specs.BuildTable.{MakesTable, TableChoices}
 use Rattle.leveldb_store.specs.Format.{Agrees, Format, Meaning}
-use Rattle.leveldb_store.specs.Opening.{AreMadeTables, GivesNumbers, IsMadeTable, SameButTables}
+use Rattle.leveldb_store.specs.Opening.{IsMadeTable, SameButTables}
 use Rattle.leveldb_store.specs.ReplayLog.{AddsBatch, FailsToTable, Follows, HasReplayed, IsNoNextBatch, IsNotFull, MakesRestTable, MakesTablesOnly, TablesRest, TakesRecord, table_files}
 use Rattle.leveldb_store.specs.Written.{IsTableOf}
 use Rattle.leveldb_store.specs.declared.opening.replay_log.ReplayedLog.{ReplayedLog}

@@ -1,10 +1,9 @@
 -- The replay of the log of a number: its file is read, and then its bytes are replayed.
-use Rattle.std.specs.Prelude.{IfOk, IsSomeAnd, IsTrue, OnOk, if◌then◌else◌}
-use Rattle.std.proofs.Common.{◌≡◌, ◌∙◌, ◌⊎◌, inl, inr, ⊎_elim, ℕ, ◌+◌, ◌≤◌, List, None, Option, Some, Result, Ok, Err, ap, arith, length, refl, subst, sym}
+use Rattle.std.specs.Prelude.{IsSomeAnd, IsTrue, OnOk, if◌then◌else◌}
+use Rattle.std.proofs.Common.{◌≡◌, ◌∙◌, ◌⊎◌, inl, inr, ⊎_elim, ℕ, ◌+◌, List, None, Option, Some, Result, Ok, Err, ap, arith, length, refl, subst, sym}
 use Rattle.leveldb_base.specs.Error.{IsOutOfMemory}
 use Rattle.leveldb_base.specs.declared.cmp.Cmp.{Ghosts as CmpGhosts}
 use Rattle.leveldb_base.specs.declared.error.Status.{Status}
-use Rattle.leveldb_base.specs.declared.error.StatusCode.TheVariants.{Corruption}
 use Rattle.leveldb_env.proofs.EnvLemmas.{Run-call}
 use Rattle.leveldb_env.specs.Env.{ChangesFiles, File, Files, FilesUnchanged, HasCause, SameLocks, bytes_of, same}
 use Rattle.leveldb_env.specs.WholeFiles.{IsLost}
@@ -15,9 +14,7 @@ use Rattle.leveldb_version.specs.Paths.{log_path}
 use Rattle.leveldb_version.specs.Store.{ReplayedLog as StoreLog}
 use Rattle.leveldb_version.specs.VersionSetValue.{VersionSetValue}
 use Rattle.leveldb_store.specs.BuildTable.{TableChoices}
-use Rattle.leveldb_store.specs.Format.{Agrees, Meaning}
-use Rattle.leveldb_store.specs.Opening.{ReplaysLog}
-use Rattle.leveldb_store.specs.ReplayLog.{FailsToReplay, FailsToTable, HasReplayedText, IsDamagedLog, IsDamagedText, IsNotFull, MakesTablesOnly, ReplaysFile, ReplaysText, log_in_memory}
+use Rattle.leveldb_store.specs.ReplayLog.{IsDamagedLog, IsDamagedText, MakesTablesOnly, ReplaysFile, ReplaysText}
 use Rattle.leveldb_store.specs.declared.opening.replay_log.ReplayedLog.{ReplayedLog}
 use Rattle.leveldb_store.proofs.ReplayFilesLemmas.{MakesTablesOnly-none, MakesTablesOnly-still, MakesTablesOnly-trans}
 

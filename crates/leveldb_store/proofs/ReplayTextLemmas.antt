@@ -1,16 +1,14 @@
 -- The records of a log, taken one after another, and what its replay returns in the end.
-use Rattle.std.specs.Prelude.{IfOk, IsSomeAnd, IsTrue, OnOk, if◌then◌else◌, max}
-use Rattle.std.proofs.Common.{◌≡◌, ◌∙◌, ◌⊎◌, inl, inr, ⊎_elim, ℕ, ◌+◌, ◌<◌, ◌≤◌, ◌^◌, true, false, Bool, List, [], ◌∷◌, ◌++◌, Option, None, Some, Result, Ok, Err, ap, append_assoc, arith, length, length-append, refl, subst, sym}
+use Rattle.std.specs.Prelude.{if◌then◌else◌, max}
+use Rattle.std.proofs.Common.{◌≡◌, ◌∙◌, ◌⊎◌, inl, inr, ⊎_elim, ℕ, ◌+◌, ◌<◌, true, false, Bool, List, [], ◌∷◌, ◌++◌, Result, Ok, Err, ap, append_assoc, arith, length, length-append, refl, subst, sym}
 use Rattle.leveldb_base.specs.Error.{IsOutOfMemory}
 use Rattle.leveldb_base.specs.History.{greatest}
 use Rattle.leveldb_base.specs.declared.cmp.Cmp.{Ghosts as CmpGhosts}
 use Rattle.leveldb_base.specs.declared.error.Status.{Status}
-use Rattle.leveldb_base.specs.declared.error.StatusCode.TheVariants.{Corruption, NotSupported}
-use Rattle.leveldb_env.proofs.EnvLemmas.{Run-call}
+use Rattle.leveldb_base.specs.declared.error.StatusCode.TheVariants.{Corruption}
 use Rattle.leveldb_env.proofs.SourceLemmas.{GivesAll-seen, GivesSome-first, GivesSome-seen, GivesUp-seen}
-use Rattle.leveldb_env.specs.Env.{ChangesFiles, File, Files, FilesUnchanged, HasCause, SameLocks, bytes_of, same}
+use Rattle.leveldb_env.specs.Env.{HasCause}
 use Rattle.leveldb_env.specs.Source.{GivesAll, GivesSome, ReadFails}
-use Rattle.leveldb_env.specs.WholeFiles.{IsLost}
 use Rattle.leveldb_env.specs.declared.env.Env.{Ghosts}
 use Rattle.leveldb_env.specs.declared.filter.FilterPolicy.{Ghosts as FilterGhosts}
 use Rattle.leveldb_mem.proofs.LawsLemmas.{usual_size}
@@ -22,15 +20,11 @@ use Rattle.leveldb_mem.specs.WriteBatch.{Batch}
 use Rattle.leveldb_version.proofs.BatchesLemmas.{each_more, one_batches}
 use Rattle.leveldb_version.proofs.LogsLemmas.{order_after}
 use Rattle.leveldb_version.specs.Batches.{AreInOrder, Each, IsRecordOf, all_entries}
-use Rattle.leveldb_version.specs.Paths.{log_path}
-use Rattle.leveldb_version.specs.Store.{HasLog, ReplayedLog as StoreLog}
 use Rattle.leveldb_version.specs.VersionSetValue.{VersionSetValue}
 use Rattle.leveldb_store.specs.BuildTable.{TableChoices}
-use Rattle.leveldb_store.specs.Format.{Agrees, Meaning}
-use Rattle.leveldb_store.specs.Opening.{ReplaysLog}
-use Rattle.leveldb_store.specs.ReplayLog.{FailsToReplay, FailsToTable, Follows, HasReplayed, HasReplayedText, IsDamagedLog, IsDamagedText, IsNoNextBatch, IsNotFull, MakesTablesOnly, ReplaysFile, ReplaysText, TakesRecord, log_in_memory}
+use Rattle.leveldb_store.specs.ReplayLog.{FailsToTable, HasReplayed, IsDamagedText, IsNoNextBatch, IsNotFull, MakesTablesOnly, ReplaysText, TakesRecord}
 use Rattle.leveldb_store.specs.declared.opening.replay_log.ReplayedLog.{ReplayedLog}
-use Rattle.leveldb_store.proofs.ReplayFilesLemmas.{MakesTablesOnly-none, MakesTablesOnly-still, MakesTablesOnly-trans}
+use Rattle.leveldb_store.proofs.ReplayFilesLemmas.{MakesTablesOnly-none, MakesTablesOnly-trans}
 use Rattle.leveldb_store.proofs.ReplayLogLemmas.{HasReplayed-none}
 
 -- ---- a batch in the midst of others

@@ -1,5 +1,5 @@
 -- What each step of a replay of a log makes of memory and of the store's files, and why it fails.
-use Rattle.std.specs.Prelude.{◌≡◌, ◌≤◌, ◌<◌, ◌⊎◌, ℕ, List, [], ◌∷◌, ◌++◌, AllPairs, Contains, OnOk, IfOk, IsTrue, Result, if◌then◌else◌, length, map, max}
+use Rattle.std.specs.Prelude.{◌≡◌, ◌≤◌, ◌<◌, ◌⊎◌, ℕ, List, [], ◌∷◌, ◌++◌, Contains, OnOk, IfOk, IsTrue, Result, if◌then◌else◌, length, map, max}
 use Rattle.std.specs.declared.cmp.Ordering.{Ordering}
 use Rattle.leveldb_base.specs.Entries.{internal_pair}
 use Rattle.leveldb_base.specs.Error.{IsOutOfMemory}

@@ -1,5 +1,5 @@
-//! The replay of a log: its batches go into a memtable, one after another, and each memtable that is
-//! full becomes a table.
+//! The replay of a log: its batches go into a memtable, one after another, and each memtable that
+//! is full becomes a table.
 ghost use Rattle.std.specs.Prelude.{◌≡◌, ◌≢◌, ◌⊎◌, [], false, IfErr, IfOk, OnOk};
 ghost use Rattle.leveldb_base.specs.Error.{IsOutOfMemory};
 ghost use Rattle.leveldb_base.specs.History.{AreUpTo};

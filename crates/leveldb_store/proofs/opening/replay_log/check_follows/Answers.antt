@@ -1,5 +1,4 @@
 use Rattle.std.proofs.Common.{arith}
-use Rattle.std.specs.Prelude.{IfErr}
 use Rattle.leveldb_store.specs.ReplayLog.{Follows}
 use Rattle.leveldb_store.proofs.ReplayLogLemmas.{corrupt, fits_all, fits_not}
 use Rattle.leveldb_store.proofs.opening.replay_log.check_follows.Goals as goal

@@ -1,7 +1,7 @@
-use Rattle.std.proofs.Common.{Bor, List, ℕ, ap, sym}
+use Rattle.std.proofs.Common.{Bor, List, ℕ}
 use Rattle.std.proofs.lemmas.Result.{err_from_is_err_and}
 use Rattle.leveldb_store.proofs.ReplayLogLemmas.{replayed_up_to}
-use Rattle.leveldb_store.proofs.ReplayTextLemmas.{Replaying-more, Replaying-none, ReplaysText-clean, ReplaysText-refused, ReplaysText-stopped, ReplaysText-torn, ReplaysText-wrong, checksum_seen, end_seen, fewer_unread, record_seen, rest_seen, stop_seen}
+use Rattle.leveldb_store.proofs.ReplayTextLemmas.{Replaying-more, Replaying-none, ReplaysText-clean, ReplaysText-refused, ReplaysText-torn, ReplaysText-wrong, checksum_seen, end_seen, fewer_unread, record_seen, rest_seen}
 use Rattle.leveldb_store.proofs.opening.replay_log.replay_text.Goals as goal
 
 abbrev slice_bytes : Bor (List ℕ) → List ℕ
