@@ -10,3 +10,7 @@ mod NewestLemmas
 mod SearchLemmas
 mod ReadFileLemmas
 mod ReadLemmas
+mod ReplayFilesLemmas
+mod ReplayLogLemmas
+mod ReplayTextLemmas
+mod ReplayStoreLemmas

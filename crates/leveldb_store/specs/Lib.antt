@@ -7,3 +7,5 @@ pub mod Switch
 pub mod Read
 pub mod ReadTable
 pub mod Search
+pub mod Opening
+pub mod ReplayLog
