@@ -1,5 +1,5 @@
 -- What an open store's memory has to do with the files, and what a call keeps of that.
-use Rattle.std.specs.Prelude.{◌≡◌, ◌≤◌, ◌%◌, ◌⊎◌, ℕ, Bool, List, [], Option, None, Some, All, IsTrue, length, map}
+use Rattle.std.specs.Prelude.{◌≡◌, ◌≤◌, ◌%◌, ℕ, Bool, List, [], Option, None, Some, All, IsTrue, length, map}
 use Rattle.std.specs.declared.cmp.Ordering.{Ordering}
 use Rattle.leveldb_base.specs.History.{Entry, History, entries_of, greatest}
 use Rattle.leveldb_base.specs.Types.{Pair}
@@ -12,7 +12,7 @@ use Rattle.leveldb_mem.specs.Log.Writer.{new_writer}
 use Rattle.leveldb_mem.specs.MemTable.{Kept}
 use Rattle.leveldb_version.specs.Contents.{Store}
 use Rattle.leveldb_version.specs.Levels.{LiveTable}
-use Rattle.leveldb_version.specs.Paths.{IsFilePath, current_path}
+use Rattle.leveldb_version.specs.Paths.{IsFilePath}
 use Rattle.leveldb_version.specs.Store.{HasTable, IsStoreTable}
 use Rattle.leveldb_version.specs.StoreSteps.{KeepsHistory}
 use Rattle.leveldb_version.specs.VersionEdit.{Edit}
@@ -53,10 +53,6 @@ IsData kind = ⊥
 -- a path of such a file
 abbrev pub IsDataPath : List ℕ → List ℕ → Type 0
 IsDataPath store path = (kind : FileType) × IsData kind × IsFilePath kind store path
-
--- a path of such a file, or of `CURRENT`
-abbrev pub IsOwnPath : List ℕ → List ℕ → Type 0
-IsOwnPath store path = IsDataPath store path ⊎ (path ≡ current_path store)
 
 -- `cmp` is the order of user keys, and `meaning` what names and ids in the files mean.
 module _ {C : Type 0} (cmp : List ℕ → List ℕ → Ordering) (meaning : Meaning) where

@@ -1,2 +1,2 @@
-//! Opening a store: its files are read, its logs are replayed, and it is made ready for writing.
+//! Opening a store: so far the replay of one of its logs.
 pub(crate) mod replay_log;
