@@ -19,7 +19,7 @@ use Rattle.rusty_leveldb.specs.Causes.{Setting, out_of_memory, bad_operand, IsLo
 use Rattle.rusty_leveldb.specs.Machine.{Keeps, Step}
 use Rattle.rusty_leveldb.specs.Serves.{setting_between, refusal_of}
 use Rattle.rusty_leveldb.specs.Engine.{Recalls, AnswersStill}
-use Rattle.rusty_leveldb.proofs.Writes.Moments.{moments_none}
+use Rattle.rusty_leveldb.proofs.Moments.{moments_none}
 use Rattle.rusty_leveldb.specs.Frame.{MayTouch}
 use Rattle.rusty_leveldb.proofs.Others.{spares_still}
 use Rattle.leveldb_env.specs.Options.{Boxed, OptionsOf}

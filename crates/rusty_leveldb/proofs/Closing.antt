@@ -25,7 +25,8 @@ use Rattle.rusty_leveldb.proofs.Writes.Stands.{is_open as open_store}
 use Rattle.rusty_leveldb.proofs.Writes.Found.{memory_found}
 use Rattle.rusty_leveldb.proofs.Writes.Moments.{risk_at, moments_none, moments_still, sync_moments, with_none}
 use Rattle.rusty_leveldb.specs.Frame.{MayTouch, SameBytes}
-use Rattle.rusty_leveldb.proofs.Others.{but_same, spares_with, spares_but_log, spares_same, spares_still, bytes_same, bytes_synced}
+use Rattle.rusty_leveldb.proofs.OneLog.Sparing.{spares_with, spares_but_log}
+use Rattle.rusty_leveldb.proofs.Others.{but_same, spares_same, spares_still, bytes_same, bytes_synced}
 use Rattle.leveldb_env.specs.Options.{Boxed, OptionsOf}
 use Rattle.rusty_leveldb.specs.Boxes.{EngineOf}
 use Rattle.leveldb_store.specs.Format.{Format, Meaning}

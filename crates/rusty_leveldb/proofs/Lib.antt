@@ -4,6 +4,7 @@ pub mod RunsLemmas
 pub mod LawsLemmas
 mod Inserted
 pub mod Readings
+pub mod ReadsLemmas
 pub mod Bounds
 pub mod Crashed
 pub mod Crashes

@@ -7,3 +7,4 @@ pub mod Disks
 pub mod Writing
 pub mod Opening
 pub mod Crashes
+pub mod Sparing

@@ -6,7 +6,6 @@ use Rattle.leveldb_mem.specs.WriteBatchLaws.{BatchOf-one}
 use Rattle.leveldb_mem.proofs.LawsLemmas.{log_laws}
 use Rattle.leveldb_version.specs.Contents.{Contents}
 use Rattle.rusty_leveldb.specs.OneLog.{Each, IsRecordOf, IsLogOf, IsRead, contents_of}
-use Rattle.rusty_leveldb.specs.Laws.{OneReading}
 
 -- ---- lists in step
 
@@ -56,7 +55,3 @@ one_log bytes these those p q =
 pub one_read : (file : Option File) (these those : Contents) → IsRead file these → IsRead file those → these ≡ those
 one_read None these those a b = a ∙ sym b
 one_read (Some file) these those a b = a.2 ∙ ap contents_of (one_log (bytes_of file) a.0 b.0 a.1 b.1) ∙ sym b.2
-
--- and so are two of one disk
-pub one_reading : OneReading
-one_reading store meaning files these those a b = one_read _ these those a b

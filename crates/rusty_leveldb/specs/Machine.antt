@@ -76,11 +76,10 @@ pub record Abandons (old : State) (locked : Bool) (new : State) : Type 0 where
 
 -- ---- opening
 
--- a store is there, and its comparator is the opening's if its files name one
+-- a store is there, and its comparator is the opening's
 abbrev pub IsStoreOf : Opening → Store → Type 0
 IsStoreOf opening missing = ⊥
-IsStoreOf opening (made None) = Unit {0}
-IsStoreOf opening (made (Some name)) = name ≡ opening.format.order_name
+IsStoreOf opening (made name) = name ≡ Some opening.format.order_name
 
 -- the store is as it was; or it was missing and is now one of the opening that is at work
 abbrev pub StaysOr : Option Opening → Store → Store → Type 0

@@ -19,7 +19,8 @@ use Rattle.rusty_leveldb.specs.State.{Opening}
 use Rattle.rusty_leveldb.specs.Engine.{OpenExcused, are_within_limits}
 use Rattle.rusty_leveldb.specs.Replay.{IsTooLarge, IsLargeLog}
 use Rattle.rusty_leveldb.specs.Recovery.{IsFoundAs, SparesLog, IsUnusable, IsUnwanted, NeverOpens, ChangesLogAlone, IsRecovered, HasCauses}
-use Rattle.rusty_leveldb.proofs.Others.{log_kept, others_made, others_alone, others_then, alone_same, alone_then}
+use Rattle.rusty_leveldb.proofs.OneLog.Sparing.{log_kept, others_alone, alone_same, alone_then}
+use Rattle.rusty_leveldb.proofs.Others.{others_made, others_then}
 use Rattle.rusty_leveldb.proofs.Openings.Asked.{within_if}
 use Rattle.rusty_leveldb.proofs.Openings.Logs.{usable}
 use Rattle.rusty_leveldb.proofs.Openings.Calls.{RecoveryExcused}

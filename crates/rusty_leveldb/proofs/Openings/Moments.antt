@@ -13,7 +13,7 @@ use Rattle.rusty_leveldb.specs.Serves.{StandsFor, IsSpared}
 use Rattle.rusty_leveldb.specs.Recovery.{SparesLog}
 use Rattle.rusty_leveldb.proofs.MachineLemmas.{risk_opening}
 use Rattle.rusty_leveldb.proofs.Bounds.{safe_allow}
-use Rattle.rusty_leveldb.proofs.Others.{log_kept}
+use Rattle.rusty_leveldb.proofs.OneLog.Sparing.{log_kept}
 use Rattle.rusty_leveldb.proofs.Openings.Calls.{Sparing}
 use Rattle.rusty_leveldb.proofs.Openings.Survives.{Survives, survives_now, survives_same, survives_kept}
 use Rattle.leveldb_store.specs.Format.{Meaning}

@@ -17,7 +17,7 @@ use Rattle.rusty_leveldb.specs.Serves.{IsSpared, Goes, setting_between, refusal_
 use Rattle.rusty_leveldb.specs.Engine.{scene, Recalls}
 use Rattle.rusty_leveldb.proofs.Histories.{entries_more, greatest_append, placed_greatest, placed_length, history_more}
 use Rattle.rusty_leveldb.proofs.OneLog.Writing.{appending_holds}
-use Rattle.rusty_leveldb.proofs.Others.{spares_but_log}
+use Rattle.rusty_leveldb.proofs.OneLog.Sparing.{spares_but_log}
 use Rattle.rusty_leveldb.proofs.Writes.Stands.{Fails, IsOpen, IsStill, broken_with, Broke, broken_is}
 use Rattle.leveldb_env.specs.Options.{Boxed, OptionsOf}
 use Rattle.rusty_leveldb.specs.Boxes.{EngineOf}

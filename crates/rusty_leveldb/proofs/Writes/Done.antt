@@ -25,7 +25,7 @@ use Rattle.rusty_leveldb.proofs.FrameBytes.{frame_bytes}
 use Rattle.rusty_leveldb.proofs.Histories.{entries_more, placed_above, up_to_greatest, up_to, greatest_append}
 use Rattle.rusty_leveldb.proofs.OneLog.Appending.{bytes_append, batch_some}
 use Rattle.rusty_leveldb.proofs.OneLog.Writing.{appended_holds, synced_holds}
-use Rattle.rusty_leveldb.proofs.Others.{spares_but_log}
+use Rattle.rusty_leveldb.proofs.OneLog.Sparing.{spares_but_log}
 use Rattle.rusty_leveldb.proofs.Writes.Stands.{IsOpen}
 use Rattle.rusty_leveldb.proofs.Writes.Moments.{risk_behind, append_moments, synced_moments, done_moments}
 use Rattle.rusty_leveldb.proofs.Writes.Batches.{placed_last, not_long, same_set, same_by}

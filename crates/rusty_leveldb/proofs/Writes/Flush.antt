@@ -21,7 +21,8 @@ use Rattle.rusty_leveldb.specs.Serves.{StandsFor, IsSpared, Goes, setting_betwee
 use Rattle.rusty_leveldb.specs.Engine.{scene, Recalls, mode_of, SyncExcused, CloseExcused}
 use Rattle.rusty_leveldb.specs.Recovery.{IsErrorFor}
 use Rattle.rusty_leveldb.proofs.OneLog.Writing.{synced_holds}
-use Rattle.rusty_leveldb.proofs.Others.{but_same, spares_but_log, bytes_same, bytes_synced}
+use Rattle.rusty_leveldb.proofs.OneLog.Sparing.{spares_but_log}
+use Rattle.rusty_leveldb.proofs.Others.{but_same, bytes_same, bytes_synced}
 use Rattle.rusty_leveldb.proofs.Writes.Found.{found_cause, fails_found}
 use Rattle.rusty_leveldb.proofs.Writes.Moments.{risk_at, sync_moments, with_none}
 use Rattle.rusty_leveldb.proofs.Writes.Stands.{Fails, fails, Was, IsOpen, is_open, IsStill, still_cmp, remembers_still, broken_with, Broke, broken_is}

@@ -1,5 +1,5 @@
 use Rattle.std.proofs.Common.{◌∙◌}
-use Rattle.rusty_leveldb.proofs.Others.{alone_replaced}
+use Rattle.rusty_leveldb.proofs.OneLog.Sparing.{alone_replaced}
 use Rattle.rusty_leveldb.proofs.db_impl.open.mend.Goals as goal
 
 pub returns-clause-rest : goal.returns-clause-rest

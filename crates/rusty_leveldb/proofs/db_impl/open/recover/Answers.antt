@@ -3,7 +3,7 @@ use Rattle.std.specs.Prelude.{map, if◌then◌else◌}
 use Rattle.std.proofs.lemmas.Result.{err_from_is_err_and}
 use Rattle.leveldb_mem.specs.Log.{clean, bad}
 use Rattle.rusty_leveldb.specs.OneLog.{log_path}
-use Rattle.rusty_leveldb.proofs.Others.{alone_same, alone_then, alone_log}
+use Rattle.rusty_leveldb.proofs.OneLog.Sparing.{alone_same, alone_then, alone_log}
 use Rattle.rusty_leveldb.proofs.Openings.Logs.{usable}
 use Rattle.rusty_leveldb.proofs.Openings.Calls.{found_here, read_run, mend_run, open_run, open_recovers, read_refused, replay_refused, wanted_here}
 use Rattle.rusty_leveldb.proofs.db_impl.open.recover.Goals as goal
