@@ -5,6 +5,7 @@ pub mod LawsLemmas
 mod Inserted
 pub mod Readings
 pub mod ReadsLemmas
+pub mod UnopenedLemmas
 pub mod Bounds
 pub mod Crashed
 pub mod Crashes

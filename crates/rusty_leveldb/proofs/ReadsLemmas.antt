@@ -182,7 +182,8 @@ same_if (made (Some name)) missing is = absurd (let never : false ≡ true = is 
 same_if (made (Some name)) (made None) is = absurd (let never : false ≡ true = is in cc)
 
 pub if_same : (these those : Store) → those ≡ these → IsTrue (is_same_store these those)
-if_same these those is = subst (λ (s : Store). IsTrue (is_same_store these s)) (sym is) (itself these)
+if_same these those is =
+    subst (λ (s : Store). IsTrue (is_same_store these s)) (sym is) (itself these)
   where
     itself : (s : Store) → IsTrue (is_same_store s s)
     itself missing = refl
@@ -388,8 +389,8 @@ module _ (store : List ℕ) (meaning : Meaning) (name : List ℕ)
         keeps in
         record { now = by.now; crash = by.crash }
 
-  -- A step that keeps each history where these stores may be there, by a test of them, keeps what is
-  -- spared: outside an opening, of a store with the name,
+  -- A step that keeps each history where these stores may be there, by a test of them, keeps what
+  -- is spared: outside an opening, of a store with the name,
   pub spared_keeps : (old : State) (risk : Risk) (files now : Files)
       → risk.opening ≡ None → IsNamed name old.store
       → KeepsHistory store cmp (IsTableOf cmp meaning)
@@ -459,8 +460,9 @@ one_reading store meaning files these those (inr a) (inr b) =
     ∙ ap (λ (n : List ℕ). made (Some n)) name
     ∙ sym (ap (λ (c : Contents). c.store) b.managed.is) in
     one_in store (order_of meaning those.store) meaning files these those
-    (subst (λ (s : Store). IsStore store (order_of meaning s) (IsTableOf (order_of meaning s) meaning)
-    files these) same (inr a)) (inr b)
+    (subst (λ (s : Store).
+    IsStore store (order_of meaning s) (IsTableOf (order_of meaning s) meaning) files these) same
+    (inr a)) (inr b)
 
 -- ---- bytes after a crash
 

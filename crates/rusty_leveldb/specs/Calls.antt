@@ -10,8 +10,8 @@ use Rattle.leveldb_store.specs.Format.{Format, Meaning, Agrees}
 use Rattle.rusty_leveldb.specs.State.{Opening, Request, Answer, open_store, write, get, walk, get_snapshot, release_snapshot, flush, close, abandon}
 use Rattle.rusty_leveldb.specs.Causes.{HasFailed}
 use Rattle.rusty_leveldb.specs.Serves.{done_or, given_engine}
-use Rattle.rusty_leveldb.specs.Engine.{IsClosed, HasBroken, IsClosedOrBroken, RefusedByMode, TimeGoesOn, AnswersAs, Answers, WriteExcused, SyncExcused, CloseExcused, GetExcused, OpenExcused, IsStoreName, IsOpening}
-use Rattle.rusty_leveldb.specs.Recovery.{NeverOpens, StaysUnopened}
+use Rattle.rusty_leveldb.specs.Engine.{IsClosed, HasBroken, IsClosedOrBroken, RefusedByMode, TimeGoesOn, AnswersAs, Answers, WriteExcused, SyncExcused, CloseExcused, GetExcused, IsStoreName, IsOpening}
+use Rattle.rusty_leveldb.specs.Unopened.{NeverOpens, OpenExcused, StaysUnopened}
 use Rattle.rusty_leveldb.specs.Boxes.{EngineOf}
 
 -- ---- why a call fails
@@ -124,18 +124,16 @@ module _ {E C FP F : Type 0} {B : Boxed} (env : Ghosts E F)
     -- count past its limits, or without the compressor of new blocks
     pub misnamed : (IsStoreName name × IsTrue asked.fits × IsTrue asked.compresses → ⊥)
         → (to ≡ from) × OnOk result ⊥
-    -- a store that is locked or damaged isn't opened, nor is a missing one that isn't to be made,
-    -- or one that is there and must not be
+    -- a store that is locked isn't opened, nor one without usable edits, nor a missing one that
+    -- isn't to be made, or one that is there and must not be
     pub never_opens : IsTrue env.models_disk
         → NeverOpens name asked (env.observed from).disk → OnOk result ⊥
     -- what an opening leaves that fails
     pub unopened : IfErr result (λ status. IsTrue env.models_disk
-        → StaysUnopened name asked (env.observed from) (env.observed to)
-        (env.failures from) (env.failures to) status)
+        → StaysUnopened env name asked from to status)
     -- why it fails
-    pub cause : FailsFor
-        (OpenExcused env.models_disk name asked (env.observed from))
-        (env.failures from) (env.failures to) result
+    pub cause : FailsFor (OpenExcused env name asked from) (env.failures from) (env.failures to)
+        result
 
 -- the same result, with what this makes of its value
 abbrev pub result_map : {A B S : Type 0} → (A → B) → Result A S → Result B S

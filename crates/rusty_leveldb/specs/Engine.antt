@@ -3,27 +3,26 @@
 use Rattle.std.specs.Prelude.{◌≡◌, ◌≢◌, ◌≤◌, ◌%◌, ◌⊎◌, ◌↔◌, ℕ, Bool, true, false, List, [], ◌∷◌, ◌++◌, length, Option, Some, None, IsTrue, string_bytes, Contains, ◌&&◌, nat_le, ◌^◌, is_some}
 use Rattle.leveldb_base.specs.declared.cmp.Cmp.{Ghosts as CmpGhosts}
 use Rattle.leveldb_base.specs.declared.error.Status.{Status}
-use Rattle.leveldb_base.specs.declared.error.StatusCode.TheVariants.{InvalidArgument, AlreadyExists, NotSupported, Corruption, IOError, LockError}
+use Rattle.leveldb_base.specs.declared.error.StatusCode.TheVariants.{InvalidArgument, NotSupported, Corruption, IOError}
 use Rattle.leveldb_base.specs.History.{Item, Entry, entries_of, greatest, SameView}
 use Rattle.leveldb_env.specs.declared.env.Env.{Ghosts}
 use Rattle.leveldb_env.specs.declared.filter.FilterPolicy.{Ghosts as FilterGhosts}
 use Rattle.leveldb_env.specs.declared.compressor.CompressorList.{CompressorList}
 use Rattle.leveldb_env.specs.Compressor.{Codings}
-use Rattle.leveldb_env.specs.Env.{File, Disk, bytes_of, AreBytes, Observed}
+use Rattle.leveldb_env.specs.Env.{File, Disk, bytes_of, AreBytes}
 use Rattle.leveldb_base.specs.Error.{IsOutOfMemory}
 use Rattle.leveldb_mem.specs.Log.{log_block_size, clean, IsLogFile}
 use Rattle.leveldb_mem.specs.Log.Writer.{WriterState, IsWriterBroken}
 use Rattle.rusty_leveldb.specs.declared.db_impl.engine.Mode.{Mode}
 use Rattle.rusty_leveldb.specs.declared.db_impl.engine.Mode.TheVariants.{Open, Broken, Closed}
 use Rattle.leveldb_version.specs.Paths.{lock_path}
-use Rattle.rusty_leveldb.specs.OneLog.{log_path, IsOneLog}
+use Rattle.rusty_leveldb.specs.OneLog.{log_path}
 use Rattle.rusty_leveldb.specs.Recent.{IsFull}
-use Rattle.rusty_leveldb.specs.Replay.{IsLargeLog}
 use Rattle.leveldb_store.specs.Format.{Format, Meaning, format_of}
 use Rattle.rusty_leveldb.specs.State as machine
 use Rattle.rusty_leveldb.specs.State.{State, Opening, Request, Answer, open_mode, closed}
 use Rattle.rusty_leveldb.specs.Causes.{AreUsedUp, IsLongKey, IsLongBatch}
-use Rattle.rusty_leveldb.specs.Serves.{Serves, Scene, IsUnreadable}
+use Rattle.rusty_leveldb.specs.Serves.{Serves, Scene}
 use Rattle.leveldb_env.specs.Options.{Boxed, OptionsOf}
 use Rattle.rusty_leveldb.specs.Boxes.{EngineOf}
 
@@ -213,18 +212,3 @@ opening_of cmp filters codings options = record {
 pub record IsOpening (name : List ℕ) (asked opening : Opening) : Type 0 where
   pub same : opening ≡ record asked { fits = opening.fits }
   pub fits : IsTrue opening.fits ↔ (IsStoreName name × IsTrue asked.fits)
-
--- why an opening may be refused with no failure of the device: among others damage, where nothing
--- can be read of the files
-abbrev pub OpenExcused : Bool → List ℕ → Opening → Observed → Status → Type 0
-OpenExcused models_disk name asked told e = IsOutOfMemory e
-    ⊎ ((e.code ≡ InvalidArgument) × (IsStoreName name × IsTrue asked.fits → ⊥))
-    ⊎ ((e.code ≡ InvalidArgument) × (asked.create_if_missing ≡ false)
-    × (IsTrue models_disk → told.disk.files (log_path name) ≡ None))
-    ⊎ ((e.code ≡ LockError) × (IsTrue models_disk → told.disk.locked (lock_path name) ≡ true))
-    ⊎ ((e.code ≡ Corruption)
-    × (IsTrue models_disk → IsUnreadable (IsOneLog (log_path name)) told.disk.files))
-    ⊎ IsLargeLog models_disk (told.disk.files (log_path name)) e
-    ⊎ ((e.code ≡ NotSupported) × (asked.compresses ≡ false))
-    ⊎ ((e.code ≡ AlreadyExists) × IsTrue asked.error_if_exists
-    × (IsTrue models_disk → told.disk.files (log_path name) ≢ None))

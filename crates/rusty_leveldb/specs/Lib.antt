@@ -11,6 +11,7 @@ pub mod Laws
 pub mod Recent
 pub mod Replay
 pub mod Engine
+pub mod Unopened
 pub mod Calls
 pub mod Shell
 pub mod Lives

@@ -3,19 +3,15 @@
 use Rattle.std.specs.Prelude.{◌≡◌, ◌≢◌, ◌≤◌, ◌<◌, ◌+◌, ◌-◌, ◌%◌, ◌^◌, ◌⊎◌, ℕ, Bool, true, false, List, [], length, Option, Some, None, Result, Ok, Err, OnOk, IfErr, IsErrAnd, IsTrue}
 use Rattle.leveldb_base.specs.declared.error.Status.{Status}
 use Rattle.leveldb_base.specs.declared.error.StatusCode.TheVariants.{InvalidArgument, AlreadyExists, NotFound, Corruption}
-use Rattle.leveldb_env.specs.Env.{File, Files, Disk, bytes_of, kept_file, file_kept, created, Observed, BeforeOrAfter}
+use Rattle.leveldb_env.specs.Env.{File, Files, bytes_of, kept_file, file_kept}
 use Rattle.leveldb_base.specs.Error.{IsOutOfMemory}
 use Rattle.leveldb_mem.specs.Log.{log_block_size, End, clean, IsLogFile, framed}
 use Rattle.leveldb_mem.specs.Log.Writer.{WriterState}
-use Rattle.leveldb_version.specs.Paths.{lock_path}
 use Rattle.rusty_leveldb.specs.OneLog.{log_path, temp_path, IsRead}
 use Rattle.leveldb_version.specs.Contents.{Contents}
 use Rattle.rusty_leveldb.specs.Causes.{HasFailed}
-use Rattle.rusty_leveldb.specs.State.{Opening}
 use Rattle.rusty_leveldb.specs.Recent.{Numbered}
 use Rattle.rusty_leveldb.specs.Replay.{IsReplayed}
-use Rattle.rusty_leveldb.specs.Frame.{IsOwn, Spares}
-use Rattle.rusty_leveldb.specs.Engine.{OpenExcused}
 
 -- ---- the log
 
@@ -61,43 +57,10 @@ IsUnusable create was = ((contents : Contents) → IsRead was contents → ⊥)
 abbrev pub IsUnwanted : Bool → Option File → Type 0
 IsUnwanted error_if_exists was = IsTrue error_if_exists × (was ≢ None)
 
--- a disk on which this store isn't opened: its lock is held, or its log is unusable or unwanted
-abbrev pub NeverOpens : List ℕ → Opening → Disk → Type 0
-NeverOpens name asked disk = IsTrue (disk.locked (lock_path name))
-    ⊎ IsUnusable asked.create_if_missing (disk.files (log_path name))
-    ⊎ IsUnwanted asked.error_if_exists (disk.files (log_path name))
-
 -- all but the log and what takes its place stays as it is
 abbrev pub ChangesLogAlone : List ℕ → Files → Files → Type 0
 ChangesLogAlone name before after = (path : List ℕ) → path ≢ log_path name → path ≢ temp_path name
     → after path ≡ before path
-
--- beside what the refusal tells, at least one more call of the device failed, or the count stands
--- at its greatest
-abbrev pub FailedBeside : Type 0 → ℕ → ℕ → Type 0
-FailedBeside excused before now = (excused × (before < now)) ⊎ (before + 2 ≤ now)
-    ⊎ (now ≡ 2 ^ 64 - 1)
-
--- a disk on which an opening looks no further: the store's lock is held, or it is missing and isn't
--- to be made, or is there and must not be
-abbrev pub IsBarred : List ℕ → Opening → Disk → Type 0
-IsBarred name asked disk = IsTrue (disk.locked (lock_path name))
-    ⊎ ((asked.create_if_missing ≡ false) × (disk.files (log_path name) ≡ None))
-    ⊎ IsUnwanted asked.error_if_exists (disk.files (log_path name))
-
--- What an opening leaves that fails, whatever is under the store's name.
-pub record StaysUnopened (name : List ℕ) (asked : Opening) (old new : Observed) (before now : ℕ)
-    (e : Status) : Type 0 where
-  -- a store that is locked, or is missing and isn't to be made, or is there and must not be, keeps
-  -- all its files, but that the lock's may be made
-  pub untouched : IsBarred name asked old.disk
-      → BeforeOrAfter (created (lock_path name)) old.disk.files new.disk.files
-  -- its lock is as it was, or is held where giving it back failed, too
-  pub lock : (new.disk.locked (lock_path name) ≡ old.disk.locked (lock_path name))
-      ⊎ ((new.disk.locked (lock_path name) ≡ true)
-      × FailedBeside (OpenExcused true name asked old e) before now)
-  -- what isn't the store's is as it was
-  pub others : Spares name (IsOwn name) old.disk new.disk
 
 -- The log has the records that were found there, all its bytes kept, and ends cleanly; memory has
 -- what they say, and the writer stands at the end.

@@ -80,12 +80,6 @@ pub record IsConversation (requests : List Request) (answers : List Answer) (mom
   pub answers_are : map (λ event. event.answer) events ≡ answers
   pub moments_are : map (λ event. event.moment) events ≡ moments
 
--- ---- damage
-
--- nothing can be read of the files, so they represent no state
-abbrev pub IsUnreadable : (Files → Contents → Type 0) → Files → Type 0
-IsUnreadable reads files = (contents : Contents) → reads files contents → ⊥
-
 -- ---- crashes
 
 -- these were the files at a moment that has come, and an honest crash at that moment leaves this
