@@ -82,9 +82,9 @@ module _ (cmp : List ℕ → List ℕ → Ordering) (meaning : Meaning) where
   KeepsRecovered old from new to = (edits : List Edit)
       → IsRecoveredBy old.store cmp (IsTableOf cmp meaning) from.disk.files edits old
       → IsRecoveredBy old.store cmp (IsTableOf cmp meaning) to.disk.files edits new
-      × ((allowed : Store → Type 0) (bound : ℕ)
-      → Run (KeepsHistory old.store cmp (IsTableOf cmp meaning) allowed bound from.disk.files)
-      from to)
+      × ((allowed : Store → Bool) (bound : ℕ)
+      → Run (KeepsHistory old.store cmp (IsTableOf cmp meaning) (λ it. IsTrue (allowed it)) bound
+      from.disk.files) from to)
 
   -- ---- the whole opening
 
@@ -93,21 +93,21 @@ module _ (cmp : List ℕ → List ℕ → Ordering) (meaning : Meaning) where
   pub record IsSound (store : List ℕ) (files : Files) (contents : Contents) : Type 0 where
     pub read : IsStore store cmp (IsTableOf cmp meaning) files contents
     pub bytes : AppendedAreBytes files
-    pub allowed : Store → Type 0
+    pub allowed : Store → Bool
     pub bound : ℕ
     pub durable : ℕ
     pub history : History
-    pub safe : IsSafe store (IsStore store cmp (IsTableOf cmp meaning)) allowed bound durable
-        history files
+    pub safe : IsSafe store (IsStore store cmp (IsTableOf cmp meaning))
+        (λ it. IsTrue (allowed it)) bound durable history files
 
   -- each history is kept at each moment, where the store that is there may be there, and the one
   -- that the opening makes
   abbrev pub KeepsFound : List ℕ → List ℕ → Contents → Observed → Observed → Type 0
-  KeepsFound store comparator contents from to = (allowed : Store → Type 0)
-      → allowed contents.store → allowed (made (Some comparator)) → (bound : ℕ)
+  KeepsFound store comparator contents from to = (allowed : Store → Bool)
+      → IsTrue (allowed contents.store) → IsTrue (allowed (made (Some comparator))) → (bound : ℕ)
       → contents.last ≤ bound
-      → Run (KeepsHistory store cmp (IsTableOf cmp meaning) allowed bound from.disk.files)
-      from to
+      → Run (KeepsHistory store cmp (IsTableOf cmp meaning) (λ it. IsTrue (allowed it)) bound
+      from.disk.files) from to
 
   -- The store is open: it is written with what is in memory, its last number is that of the
   -- contents, and it holds each history that these match, all of it durable.
@@ -115,18 +115,18 @@ module _ (cmp : List ℕ → List ℕ → Ordering) (meaning : Meaning) where
       (value : OpenStoreValue C) (files : Files) : Type 0 where
     pub written : IsWritten cmp meaning value files
     pub last : value.set.last_sequence ≡ contents.last
-    pub holds : (allowed : Store → Type 0) → allowed (made (Some comparator))
+    pub holds : (allowed : Store → Bool) → IsTrue (allowed (made (Some comparator)))
         → (history : History)
         → MatchesHistory (λ any. Unit {0}) contents.last contents history
-        → Holds store (IsStore store cmp (IsTableOf cmp meaning)) allowed files history
-        contents.last (length history) None
+        → Holds store (IsStore store cmp (IsTableOf cmp meaning)) (λ it. IsTrue (allowed it)) files
+        history contents.last (length history) None
 
 -- nothing is read of the files, by whatever names and ids mean
 abbrev pub IsDamaged : List ℕ → (List ℕ → List ℕ → Ordering) → Files → Type 0
 IsDamaged store cmp files = (meaning : Meaning) (contents : Contents)
     → IsStore store cmp (IsTableOf cmp meaning) files contents → ⊥
 
-module _ {E F C : Type 0} (env : Ghosts E F) (cmp : List ℕ → List ℕ → Ordering) (format : Format)
+module _ {E F : Type 0} (env : Ghosts E F) (cmp : List ℕ → List ℕ → Ordering) (format : Format)
     (store : List ℕ) (create_if_missing error_if_exists : Bool) (from : E) where
   -- there is a store that must not be, or none that must be
   abbrev pub MayNotOpen : Status → Type 0
@@ -152,7 +152,8 @@ module _ {E F C : Type 0} (env : Ghosts E F) (cmp : List ℕ → List ℕ → Or
       ⊎ HasCompressorError format status.code ⊎ (status.code ≡ NotSupported)
 
   -- An opening. Its lock is the caller's.
-  pub record OpensStore (result : Result (OpenStoreValue C) Status) (to : E) : Type 0 where
+  pub record OpensStore {C : Type 0} (result : Result (OpenStoreValue C) Status) (to : E)
+      : Type 0 where
     pub path : IfOk result (λ value. value.set.store ≡ store)
     -- of files that are sound it keeps each history, and opens the store that they are or a new one
     pub keeps : IsTrue env.models_disk → (meaning : Meaning) → Agrees format meaning

@@ -20,7 +20,7 @@ LacksCompressor format meaning =
     (id : ℕ) × IsSome (meaning.codings id) × (format.codings id ≡ None)
 
 -- a compressor of the format fails with this code as it decodes some text
-record HasDecodingError (format : Format) (code : StatusCode) : Type 0 where
+pub record HasDecodingError (format : Format) (code : StatusCode) : Type 0 where
   pub id : ℕ
   pub coding : Coding
   pub is_set : format.codings id ≡ Some coding

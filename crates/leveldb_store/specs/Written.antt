@@ -96,10 +96,11 @@ module _ {C : Type 0} (cmp : List ℕ → List ℕ → Ordering) (meaning : Mean
     pub shows : (history : History) → Shows old from.disk.files history
         → Shows new to.disk.files history
 
-  -- the same, if the store was written before the call, whichever stores may be there
+  -- the same, if the store was written before the call, whichever stores may be there: those that
+  -- pass a test
   abbrev pub KeepsWritten : OpenStoreValue C → Observed → OpenStoreValue C → Observed → Type 0
-  KeepsWritten old from new to = (allowed : Store → Type 0) → IsWritten old from.disk.files
-      → KeepsStore allowed old from new to
+  KeepsWritten old from new to = (allowed : Store → Bool) → IsWritten old from.disk.files
+      → KeepsStore (λ store. IsTrue (allowed store)) old from new to
 
 -- What a call leaves alone that adds no batch: the store's path, its order and its last number, all
 -- files but logs, tables, manifests and temporary files of the store, and all locks.

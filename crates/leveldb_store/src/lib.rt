@@ -4,3 +4,4 @@
 
 pub mod build;
 pub mod open_store;
+mod opening;

@@ -1,0 +1,119 @@
+//! The version set that a store's manifest leaves, and which logs are replayed.
+use leveldb_base::cmp::Cmp;
+use leveldb_base::error::{Result, StatusCode, err};
+use leveldb_base::names::{log_file_name, table_file_name};
+use leveldb_base::types::{FileMetaData, FileNum, FileType, parse_file_name};
+use leveldb_env::env::Env;
+use leveldb_env::env::whole_files::found;
+use leveldb_env::options::Options;
+use leveldb_version::version_set::VersionSet;
+use std::alloc::Global;
+use std::collections::BTreeSet;
+
+// A version set that was recovered, whether its next edit begins a new manifest, and the numbers of
+// the logs that are replayed.
+#[derive(Drop)]
+pub(super) struct RecoveredSet<E: Env> {
+    pub(super) versions: VersionSet<E>,
+    pub(super) is_anew: bool,
+    pub(super) logs: BTreeSet<FileNum>,
+}
+
+// Recovers the set of the manifest that `CURRENT` names. Its live tables are there, and the logs
+// that are replayed have their own names. `names` are those of the folder.
+pub(super) fn recover_set<E: Env, C: Cmp, FP>(
+    alloc: Global,
+    env: &mut E,
+    store: &str,
+    options: &Options<C, FP>,
+    names: &[String],
+) -> Result<RecoveredSet<E>> {
+    let mut versions = VersionSet::new(alloc, store, &options.cmp)?;
+    mark_numbers(alloc, &mut versions, names)?;
+    let is_anew = versions.recover(env, options)?;
+    check_tables(alloc, env, store, versions.files())?;
+    let logs = find_logs(
+        alloc,
+        store,
+        names,
+        versions.log_num(),
+        versions.prev_log_num(),
+    )?;
+    Ok(RecoveredSet {
+        versions,
+        is_anew,
+        logs,
+    })
+}
+
+// Makes the numbers of all names used.
+fn mark_numbers<E: Env>(
+    alloc: Global,
+    versions: &mut VersionSet<E>,
+    names: &[String],
+) -> Result<()> {
+    for name in names {
+        if let Ok((number, _)) = parse_file_name(alloc, name.as_str()) {
+            versions.mark_file_number_used(number)?;
+        }
+    }
+    Ok(())
+}
+
+// Checks that each of the tables is there.
+fn check_tables<E: Env>(
+    alloc: Global,
+    env: &mut E,
+    store: &str,
+    files: &[(usize, FileMetaData)],
+) -> Result<()> {
+    for (_, file) in files {
+        let path = table_file_name(alloc, store, file.num)?;
+        found(alloc, &path, env.size_of(&path))?;
+    }
+    Ok(())
+}
+
+// The numbers of the logs among these names that are replayed, each of which is under its own name.
+fn find_logs(
+    alloc: Global,
+    store: &str,
+    names: &[String],
+    log: FileNum,
+    previous: FileNum,
+) -> Result<BTreeSet<FileNum>> {
+    let mut logs = BTreeSet::new(alloc);
+    for name in names {
+        if let Some(number) = replayed_log(alloc, name.as_str(), log, previous) {
+            check_log_name(alloc, store, name.as_str(), number)?;
+            logs.insert(number)?;
+        }
+    }
+    Ok(logs)
+}
+
+// The number of the log of this name, if it is one that is replayed.
+fn replayed_log(alloc: Global, name: &str, log: FileNum, previous: FileNum) -> Option<FileNum> {
+    match parse_file_name(alloc, name) {
+        Ok((number, FileType::Log)) if is_replayed(number, log, previous) => Some(number),
+        _ => None,
+    }
+}
+
+// Whether the log of a number is replayed, by the manifest's log number and that of the log before.
+fn is_replayed(number: FileNum, log: FileNum, previous: FileNum) -> bool {
+    number >= log || (number == previous && previous > 0)
+}
+
+// Checks that a log's name is the one that a store gives to a log of its number.
+fn check_log_name(alloc: Global, store: &str, name: &str, number: FileNum) -> Result<()> {
+    let path = format!(in alloc; "{store}/{name}")?;
+    if path.as_str() == log_file_name(alloc, store, number)?.as_str() {
+        return Ok(());
+    }
+    err(
+        alloc,
+        StatusCode::Corruption,
+        "a log isn't under the name of its number",
+    )
+}

@@ -1,0 +1,120 @@
+//! The replay of all logs: what comes to tables, and what stays in memory of the log that is used
+//! on.
+use super::replay_log::replay_log;
+use crate::build::build_memtable;
+use leveldb_base::cmp::{Cmp, UserCmp};
+use leveldb_base::error::{Result, StatusCode, err};
+use leveldb_base::types::{FileMetaData, FileNum, SequenceNumber};
+use leveldb_env::env::Env;
+use leveldb_env::filter::FilterPolicy;
+use leveldb_env::options::Options;
+use leveldb_mem::memtable::MemTable;
+use leveldb_version::version_set::VersionSet;
+use std::alloc::Global;
+use std::collections::BTreeSet;
+
+// A log that goes on to be used: its number, how many bytes it has, and its entries.
+#[derive(Drop)]
+pub(super) struct UsedLog<C: Cmp> {
+    pub(super) number: FileNum,
+    pub(super) size: usize,
+    pub(super) entries: MemTable<C>,
+}
+
+// What the logs that were replayed so far have left.
+#[derive(Drop)]
+pub(super) struct Replay<C: Cmp> {
+    // The tables that were made, in their order.
+    pub(super) tables: Vec<FileMetaData>,
+    // The log that is used on, if the last one is.
+    pub(super) used: Option<UsedLog<C>>,
+    // Whether there was another log.
+    pub(super) leaves_log: bool,
+    // Whether all of them end cleanly, so that the next one may have batches.
+    pub(super) is_clean: bool,
+    // The number of the last entry.
+    pub(super) last: SequenceNumber,
+}
+
+// Replays the logs of these numbers in rising order. The last one may be used on where the options
+// say so.
+pub(super) fn replay_logs<
+    E: Env,
+    C: UserCmp + Copy + Drop,
+    FP: FilterPolicy + Copy + Drop,
+>(
+    alloc: Global,
+    env: &mut E,
+    store: &str,
+    options: &Options<C, FP>,
+    versions: &mut VersionSet<E>,
+    logs: BTreeSet<FileNum>,
+) -> Result<Replay<C>> {
+    let mut logs = logs;
+    let mut replay = Replay {
+        tables: Vec::new(alloc),
+        used: None,
+        leaves_log: false,
+        is_clean: true,
+        last: 0,
+    };
+    while let Some(number) = logs.pop_first() {
+        let may_go_on = options.reuse_logs && logs.is_empty() && number >= versions.log_num();
+        replay_next(alloc, env, store, options, versions, &mut replay, number, may_go_on)?;
+    }
+    Ok(replay)
+}
+
+// Replays one more log.
+fn replay_next<E: Env, C: UserCmp + Copy + Drop, FP: FilterPolicy + Copy + Drop>(
+    alloc: Global,
+    env: &mut E,
+    store: &str,
+    options: &Options<C, FP>,
+    versions: &mut VersionSet<E>,
+    replay: &mut Replay<C>,
+    number: FileNum,
+    may_go_on: bool,
+) -> Result<()> {
+    let (log, last) = replay_log(alloc, env, store, options, versions, replay.last, number)?;
+    if !replay.is_clean && log.size > 0 {
+        return err(
+            alloc,
+            StatusCode::Corruption,
+            "a log ends badly, and one after it isn't empty",
+        );
+    }
+    replay.last = last;
+    replay.is_clean = replay.is_clean && log.is_clean;
+    if may_go_on && log.is_clean && log.tables.is_empty() {
+        replay.used = Some(UsedLog {
+            number,
+            size: log.size,
+            entries: log.rest,
+        });
+        return Ok(());
+    }
+    replay.leaves_log = true;
+    let mut tables = log.tables;
+    replay.tables.append(&mut tables)?;
+    table_rest(alloc, env, store, options, versions, &log.rest, &mut replay.tables)
+}
+
+// Makes a table of the entries of a log that are in none, if there are some.
+fn table_rest<E: Env, C: UserCmp + Copy + Drop, FP: FilterPolicy + Copy + Drop>(
+    alloc: Global,
+    env: &mut E,
+    store: &str,
+    options: &Options<C, FP>,
+    versions: &mut VersionSet<E>,
+    rest: &MemTable<C>,
+    tables: &mut Vec<FileMetaData>,
+) -> Result<()> {
+    if rest.len() == 0 {
+        return Ok(());
+    }
+    let number = versions.new_file_number()?;
+    let file = build_memtable(alloc, env, store, options, rest, number)?;
+    tables.push(file)?;
+    Ok(())
+}
