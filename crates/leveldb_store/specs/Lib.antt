@@ -6,3 +6,4 @@ pub mod Written
 pub mod Switch
 pub mod Read
 pub mod Opening
+pub mod ReplayLog

@@ -47,13 +47,17 @@ SameButTables old new before after = (path : List ℕ)
 
 -- `cmp` is the order of user keys, and `meaning` what names and ids in the files mean.
 module _ (cmp : List ℕ → List ℕ → Ordering) (meaning : Meaning) where
+  -- the table is there, of level 0 and kept, and its file may be written into an edit
+  abbrev pub IsMadeTable : List ℕ → Files → LiveTable → Type 0
+  IsMadeTable store files table =
+      HasTable store cmp (IsTableOf cmp meaning) files table × (table.file.level ≡ 0)
+      × IsKept (files (table_path store table.file.number)) × FitsEdit table.file
+
   -- tables of level 0 under numbers that were given from one set to the other, one made after the
   -- other, each kept
   pub record AreMadeTables (old new : VersionSetValue) (files : Files) (tables : List LiveTable)
       : Type 0 where
-    pub each : (table : LiveTable) → Contains tables table
-        → HasTable old.store cmp (IsTableOf cmp meaning) files table × (table.file.level ≡ 0)
-        × IsKept (files (table_path old.store table.file.number)) × FitsEdit table.file
+    pub each : (table : LiveTable) → Contains tables table → IsMadeTable old.store files table
     pub numbers : (table : LiveTable) → Contains tables table
         → (old.next_file ≤ table.file.number) × (table.file.number < new.next_file)
     pub rising : AllPairs IsMadeBefore tables

@@ -4,7 +4,7 @@ mod find;
 mod log_to_write;
 mod logs;
 mod replay;
-mod replay_log;
+pub(crate) mod replay_log;
 mod sync;
 
 use crate::open_store::OpenStore;

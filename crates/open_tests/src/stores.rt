@@ -3,10 +3,11 @@ use leveldb_base::cmp::DefaultCmp;
 use leveldb_base::error::{Result, StatusCode};
 use leveldb_base::types::SequenceNumber;
 use leveldb_env::env::Env;
-use leveldb_env::env::whole_files::{read_file, replace_file};
+use leveldb_env::env::whole_files::read_file;
 use leveldb_env::filter::BloomPolicy;
 use leveldb_env::mem_env::MemEnv;
 use leveldb_env::options::Options;
+use leveldb_mem::log::LogWriter;
 use leveldb_mem::write_batch::WriteBatch;
 use leveldb_store::open_store::OpenStore;
 use slow_store::read_store;
@@ -92,10 +93,35 @@ pub fn put_file(alloc: Global, env: &mut MemEnv, name: &str, bytes: &[u8]) -> Re
     env.sync(&mut file)
 }
 
-/// The bytes of a file of the store.
-pub fn bytes_of(alloc: Global, env: &mut MemEnv, name: &str) -> Result<Vec<u8>> {
+/// Cuts a file of the store to so many bytes.
+pub fn cut_file(alloc: Global, env: &mut MemEnv, name: &str, size: usize) -> Result<()> {
     let path = format!(in alloc; "{STORE}/{name}")?;
-    read_file(alloc, env, &path)
+    let mut bytes = read_file(alloc, env, &path)?;
+    bytes.truncate(size);
+    put_file(alloc, env, name, bytes.as_slice())
+}
+
+/// Gives a file of the store another name.
+pub fn move_file(alloc: Global, env: &mut MemEnv, from: &str, to: &str) -> Result<()> {
+    let from = format!(in alloc; "{STORE}/{from}")?;
+    let to = format!(in alloc; "{STORE}/{to}")?;
+    env.rename(&from, &to)
+}
+
+/// A number, a key and a value.
+pub type Row = (SequenceNumber, &'static [u8], &'static [u8]);
+
+/// Makes a log of these rows, each in a batch of its own: 24 bytes for a key and a value of one
+/// byte each.
+pub fn put_log(alloc: Global, env: &mut MemEnv, name: &str, rows: &[Row]) -> Result<()> {
+    let mut writer = LogWriter::new(alloc, Vec::new(alloc));
+    for row in rows {
+        let mut batch = WriteBatch::new(alloc)?;
+        batch.put(row.1, row.2)?;
+        let record = batch.encode(row.0);
+        writer.add_record(record.as_slice())?;
+    }
+    put_file(alloc, env, name, writer.sink.as_slice())
 }
 
 /// Whether an opening fails with this code. Out of memory is passed on.

@@ -1,7 +1,6 @@
 //! The replay of all logs: what comes to tables, and what stays in memory of the log that is used
 //! on.
-use super::replay_log::replay_log;
-use crate::build::build_memtable;
+use super::replay_log::{ReplayedLog, replay_log};
 use leveldb_base::cmp::{Cmp, UserCmp};
 use leveldb_base::error::{Result, StatusCode, err};
 use leveldb_base::types::{FileMetaData, FileNum, SequenceNumber};
@@ -76,7 +75,7 @@ fn replay_next<E: Env, C: UserCmp + Copy + Drop, FP: FilterPolicy + Copy + Drop>
     number: FileNum,
     may_go_on: bool,
 ) -> Result<()> {
-    let (log, last) = replay_log(alloc, env, store, options, versions, replay.last, number)?;
+    let log = replay_log(alloc, env, store, options, versions, replay.last, number)?;
     if !replay.is_clean && log.size > 0 {
         return err(
             alloc,
@@ -84,7 +83,7 @@ fn replay_next<E: Env, C: UserCmp + Copy + Drop, FP: FilterPolicy + Copy + Drop>
             "a log ends badly, and one after it isn't empty",
         );
     }
-    replay.last = last;
+    replay.last = log.last;
     replay.is_clean = replay.is_clean && log.is_clean;
     if may_go_on && log.is_clean && log.tables.is_empty() {
         replay.used = Some(UsedLog {
@@ -95,26 +94,23 @@ fn replay_next<E: Env, C: UserCmp + Copy + Drop, FP: FilterPolicy + Copy + Drop>
         return Ok(());
     }
     replay.leaves_log = true;
-    let mut tables = log.tables;
+    let mut tables = tabled(alloc, env, store, options, versions, log)?;
     replay.tables.append(&mut tables)?;
-    table_rest(alloc, env, store, options, versions, &log.rest, &mut replay.tables)
+    Ok(())
 }
 
-// Makes a table of the entries of a log that are in none, if there are some.
-fn table_rest<E: Env, C: UserCmp + Copy + Drop, FP: FilterPolicy + Copy + Drop>(
+// The tables of a log, once all its entries are in tables.
+fn tabled<E: Env, C: UserCmp + Copy + Drop, FP: FilterPolicy + Copy + Drop>(
     alloc: Global,
     env: &mut E,
     store: &str,
     options: &Options<C, FP>,
     versions: &mut VersionSet<E>,
-    rest: &MemTable<C>,
-    tables: &mut Vec<FileMetaData>,
-) -> Result<()> {
-    if rest.len() == 0 {
-        return Ok(());
+    log: ReplayedLog<C>,
+) -> Result<Vec<FileMetaData>> {
+    let mut log = log;
+    if log.rest.len() > 0 {
+        log.make_table(alloc, env, store, options, versions)?;
     }
-    let number = versions.new_file_number()?;
-    let file = build_memtable(alloc, env, store, options, rest, number)?;
-    tables.push(file)?;
-    Ok(())
+    Ok(log.tables)
 }

@@ -1,31 +1,51 @@
-//! The replay of one log.
+//! The replay of a log: its batches go into a memtable, one after another, and each memtable that is
+//! full becomes a table.
+ghost use Rattle.std.specs.Prelude.{◌≡◌, ◌≢◌, ◌⊎◌, ◌≤◌, ◌<◌, ◌↔◌, [], IfErr, IfOk, IsTrue, OnErr, OnOk, length};
+ghost use Rattle.leveldb_base.specs.Error.{IsOutOfMemory};
+ghost use Rattle.leveldb_base.specs.History.{AreUpTo};
+ghost use Rattle.leveldb_base.specs.declared.error.StatusCode.TheVariants.{Corruption, NotSupported};
+ghost use Rattle.leveldb_mem.specs.MemTable.{memory_of_entries};
+ghost use Rattle.leveldb_mem.specs.WriteBatch.{IsBatch};
+ghost use Rattle.leveldb_version.specs.Batches.{IsRecordOf};
+ghost use Rattle.leveldb_store.specs.BuildTable.{choices_of};
+ghost use Rattle.leveldb_store.specs.ReplayLog.{AddsBatch, Follows, MakesRestTable, ReplaysFile, ReplaysText, TakesRecord};
+
 use crate::build::build_memtable;
-use leveldb_base::cmp::{Cmp, UserCmp};
+use leveldb_base::cmp::{Cmp, InternalKeyCmp, UserCmp};
 use leveldb_base::error::{Result, StatusCode, err};
 use leveldb_base::names::log_file_name;
 use leveldb_base::types::{FileMetaData, FileNum, MAX_SEQUENCE_NUMBER, SequenceNumber};
+use leveldb_env::compressor::{CompressorList, Compressors};
 use leveldb_env::env::Env;
-use leveldb_env::env::whole_files::found;
-use leveldb_env::filter::FilterPolicy;
+use leveldb_env::env::whole_files::read_file;
+use leveldb_env::filter::{FilterPolicy, InternalFilterPolicy};
 use leveldb_env::options::Options;
-use leveldb_mem::log::read_log_file;
+use leveldb_mem::log::{Found, ReaderCore};
 use leveldb_mem::memtable::MemTable;
 use leveldb_mem::write_batch::WriteBatch;
 use leveldb_version::version_set::VersionSet;
 use std::alloc::Global;
 
-// What is in memory of a log that was replayed: the tables that were made of it, its entries that
-// are in none of them, whether it ends cleanly, and how many bytes it has.
+/// What is in memory of a log that was replayed, and the number of the last entry.
 #[derive(Drop)]
 pub(crate) struct ReplayedLog<C: Cmp> {
+    /// The tables that were made of it, one after another.
     pub(crate) tables: Vec<FileMetaData>,
+    /// Its entries that are in no table.
     pub(crate) rest: MemTable<C>,
+    /// The greatest number of an entry, of this log or of those before it.
+    pub(crate) last: SequenceNumber,
+    /// Whether it ends between two records.
     pub(crate) is_clean: bool,
+    /// How many bytes it has.
     pub(crate) size: usize,
 }
 
-// Replays the log of a number, whose batches begin above `last`. Returns the number of the last
-// entry, too.
+/// Replays a log up to its first bad end, batch by batch: each batch goes into a memtable, and one
+/// that isn't empty and is at or above the options' write buffer size after a batch becomes a table
+/// of level 0 under the next number.
+/// `Corruption` if the log is missing, a record is no batch, or a batch begins at or below a number
+/// before it, or its numbers don't fit.
 pub(crate) fn replay_log<E: Env, C: UserCmp + Copy + Drop, FP: FilterPolicy + Copy + Drop>(
     alloc: Global,
     env: &mut E,
@@ -34,37 +54,178 @@ pub(crate) fn replay_log<E: Env, C: UserCmp + Copy + Drop, FP: FilterPolicy + Co
     versions: &mut VersionSet<E>,
     last: SequenceNumber,
     number: FileNum,
-) -> Result<(ReplayedLog<C>, SequenceNumber)> {
+) -> Result<ReplayedLog<C>>
+    requires store { store.now ≡ versions.old.store }
+    ensures replays { ReplaysFile E.Env (choices_of C.Cmp FP.FilterPolicy
+        ⟦<InternalKeyCmp<C> as Cmp>⟧ ⟦<InternalFilterPolicy<FP> as FilterPolicy>⟧
+        ⟦<CompressorList as Compressors>⟧.codings options.now) options.now.write_buffer_size
+        versions.old last number env.old result versions.new env.new }
+    ensures order { IfOk result (λ log. log.rest.cmp ≡ options.now.cmp) }
+{
     let path = log_file_name(alloc, store, number)?;
-    let (records, is_clean) = found(alloc, &path, read_log_file(alloc, env, &path))?;
-    let size = found(alloc, &path, env.size_of(&path))?;
-    let mut log = ReplayedLog {
-        tables: Vec::new(alloc),
-        rest: MemTable::new(alloc, options.cmp),
-        is_clean,
-        size,
-    };
-    let mut last = last;
-    for record in &records {
-        let mut batch = WriteBatch::new(alloc)?;
-        if batch.set_contents(record.as_slice()).is_err() {
-            return err(alloc, StatusCode::Corruption, "a record that is no batch");
+    let text = read_file(alloc, env, &path)?;
+    replay_text(alloc, env, store, options, versions, last, &text)
+}
+
+// Replays a log of these bytes.
+fn replay_text<E: Env, C: UserCmp + Copy + Drop, FP: FilterPolicy + Copy + Drop>(
+    alloc: Global,
+    env: &mut E,
+    store: &str,
+    options: &Options<C, FP>,
+    versions: &mut VersionSet<E>,
+    last: SequenceNumber,
+    text: &[u8],
+) -> Result<ReplayedLog<C>>
+    requires store { store.now ≡ versions.old.store }
+    ensures replays { ReplaysText E.Env (choices_of C.Cmp FP.FilterPolicy
+        ⟦<InternalKeyCmp<C> as Cmp>⟧ ⟦<InternalFilterPolicy<FP> as FilterPolicy>⟧
+        ⟦<CompressorList as Compressors>⟧.codings options.now) options.now.write_buffer_size
+        versions.old last text.now env.old result versions.new env.new }
+    ensures order { IfOk result (λ log. log.rest.cmp ≡ options.now.cmp) }
+{
+    let mut log = ReplayedLog::begun(alloc, options.cmp, last, text.len());
+    let mut batch = WriteBatch::new(alloc)?;
+    let mut record = Vec::new(alloc);
+    let mut core = ReaderCore::new(alloc, true);
+    let mut source = text;
+    'records: loop {
+        match core.next_record(&mut source, &mut record)? {
+            Found::Record => {}
+            Found::End => {
+                log.is_clean = true;
+                return Ok(log);
+            }
+            Found::WrongChecksum | Found::Damage(_) => return Ok(log),
         }
-        let first = batch.sequence();
-        let count = u64::from(batch.count());
-        if first <= last || first > MAX_SEQUENCE_NUMBER || first + count > MAX_SEQUENCE_NUMBER + 1 {
-            return err(alloc, StatusCode::Corruption, "batches out of order");
-        }
-        batch.insert_into_memtable(first, &mut log.rest)?;
-        if count > 0 {
-            last = first + (count - 1);
-        }
-        if log.rest.approx_mem_usage() > options.write_buffer_size {
-            let number = versions.new_file_number()?;
-            let file = build_memtable(alloc, env, store, options, &log.rest, number)?;
-            log.tables.push(file)?;
-            log.rest = MemTable::new(alloc, options.cmp);
+        log.take_record(alloc, env, store, options, versions, &mut batch, &record)?;
+    }
+}
+
+impl<C: UserCmp + Copy + Drop> ReplayedLog<C> {
+    // No record is read of a log of this size.
+    fn begun(alloc: Global, cmp: C, last: SequenceNumber, size: usize) -> ReplayedLog<C>
+        ensures tables { result.tables.items ≡ [] }
+        ensures rest { result.rest.kept.entries ≡ [] }
+        ensures cmp { result.rest.cmp ≡ cmp }
+        ensures last { result.last ≡ last }
+        ensures bad { result.is_clean ≡ false }
+        ensures size { result.size ≡ size }
+    {
+        ReplayedLog {
+            tables: Vec::new(alloc),
+            rest: MemTable::new(alloc, cmp),
+            last,
+            is_clean: false,
+            size,
         }
     }
-    Ok((log, last))
+
+    // Adds the batch that a record is. If the memtable is full then, it becomes a table.
+    fn take_record<E: Env, FP: FilterPolicy + Copy + Drop>(
+        &mut self,
+        alloc: Global,
+        env: &mut E,
+        store: &str,
+        options: &Options<C, FP>,
+        versions: &mut VersionSet<E>,
+        batch: &mut WriteBatch,
+        record: &[u8],
+    ) -> Result<()>
+        requires store { store.now ≡ versions.old.store }
+        requires order { self.old.rest.cmp ≡ options.now.cmp }
+        requires up_to { AreUpTo self.old.last self.old.rest.kept.entries }
+        ensures takes { TakesRecord E.Env (choices_of C.Cmp FP.FilterPolicy
+            ⟦<InternalKeyCmp<C> as Cmp>⟧ ⟦<InternalFilterPolicy<FP> as FilterPolicy>⟧
+            ⟦<CompressorList as Compressors>⟧.codings options.now) options.now.write_buffer_size
+            record.now self.old versions.old env.old result self.new versions.new env.new }
+    {
+        read_batch(alloc, batch, record)?;
+        check_follows(alloc, self.last, batch)?;
+        self.add_batch(batch)?;
+        if self.rest.len() > 0 && self.rest.approx_mem_usage() >= options.write_buffer_size {
+            self.make_table(alloc, env, store, options, versions)?;
+        }
+        Ok(())
+    }
+
+    // Adds the entries of a batch to those that are in no table.
+    fn add_batch(&mut self, batch: &WriteBatch) -> Result<()>
+        requires follows { Follows self.old.last batch.now }
+        requires up_to { AreUpTo self.old.last self.old.rest.kept.entries }
+        ensures ok { OnOk result (AddsBatch self.old batch.now self.new) }
+        ensures cause { IfErr result (λ status.
+            (status.code ≡ NotSupported) ⊎ IsOutOfMemory status) }
+    {
+        self.rest.prepare(batch)?;
+        self.rest.insert_prepared(batch.sequence(), batch);
+        if batch.count() > 0 {
+            self.last = batch.sequence() + u64::from(batch.count() - 1);
+        }
+        Ok(())
+    }
+
+    // Makes a table of the entries that are in none, and a new memtable.
+    pub(super) fn make_table<E: Env, FP: FilterPolicy + Copy + Drop>(
+        &mut self,
+        alloc: Global,
+        env: &mut E,
+        store: &str,
+        options: &Options<C, FP>,
+        versions: &mut VersionSet<E>,
+    ) -> Result<()>
+        requires store { store.now ≡ versions.old.store }
+        requires order { self.old.rest.cmp ≡ options.now.cmp }
+        requires some { self.old.rest.kept.entries ≢ [] }
+        ensures makes { MakesRestTable E.Env (choices_of C.Cmp FP.FilterPolicy
+            ⟦<InternalKeyCmp<C> as Cmp>⟧ ⟦<InternalFilterPolicy<FP> as FilterPolicy>⟧
+            ⟦<CompressorList as Compressors>⟧.codings options.now)
+            self.old versions.old env.old result self.new versions.new env.new }
+    {
+        let number = versions.new_file_number()?;
+        let file = build_memtable(alloc, env, store, options, &self.rest, number)?;
+        self.tables.push(file)?;
+        self.rest = MemTable::new(alloc, options.cmp);
+        Ok(())
+    }
+}
+
+// The batch that a record is.
+fn read_batch(alloc: Global, batch: &mut WriteBatch, record: &[u8]) -> Result<()>
+    ensures ok { OnOk result (IsRecordOf record.now batch.new) }
+    ensures cause { IfErr result (λ status. IsOutOfMemory status
+        ⊎ ((status.code ≡ Corruption) × (IsBatch record.now → ⊥))) }
+{
+    match batch.set_contents(record) {
+        Err(status) if status.code == StatusCode::InvalidArgument => err(
+            alloc,
+            StatusCode::Corruption,
+            "a record of the log is no batch",
+        ),
+        other => other,
+    }
+}
+
+// A batch begins above all entries before it, and its numbers fit.
+fn check_follows(alloc: Global, last: SequenceNumber, batch: &WriteBatch) -> Result<()>
+    ensures ok { OnOk result (Follows last batch.now) }
+    ensures cause { IfErr result (λ status.
+        (status.code ≡ Corruption) × (Follows last batch.now → ⊥)) }
+{
+    let first = batch.sequence();
+    if first <= last {
+        return err(
+            alloc,
+            StatusCode::Corruption,
+            "a batch begins among earlier ones",
+        );
+    }
+    if first > MAX_SEQUENCE_NUMBER || first + u64::from(batch.count()) > MAX_SEQUENCE_NUMBER + 1 {
+        return err(
+            alloc,
+            StatusCode::Corruption,
+            "a sequence number is too great",
+        );
+    }
+    Ok(())
 }

@@ -1,0 +1,216 @@
+-- What each step of a replay of a log makes of memory and of the store's files, and why it fails.
+use Rattle.std.specs.Prelude.{◌≡◌, ◌≤◌, ◌<◌, ◌⊎◌, ℕ, List, [], ◌∷◌, ◌++◌, AllPairs, Contains, OnOk, IfOk, IsTrue, Result, if◌then◌else◌, length, map, max}
+use Rattle.std.specs.declared.cmp.Ordering.{Ordering}
+use Rattle.leveldb_base.specs.Entries.{internal_pair}
+use Rattle.leveldb_base.specs.Error.{IsOutOfMemory}
+use Rattle.leveldb_base.specs.History.{Entry, greatest}
+use Rattle.leveldb_base.specs.KeyTypes.{greatest_sequence}
+use Rattle.leveldb_base.specs.declared.cmp.Cmp.{Ghosts as CmpGhosts}
+use Rattle.leveldb_base.specs.declared.error.Status.{Status}
+use Rattle.leveldb_base.specs.declared.error.StatusCode.TheVariants.{Corruption, NotSupported}
+use Rattle.leveldb_env.specs.Env.{Files, HasCause, Run, SameLocks}
+use Rattle.leveldb_env.specs.WholeFiles.{IsLost}
+use Rattle.leveldb_env.specs.declared.env.Env.{Ghosts}
+use Rattle.leveldb_env.specs.declared.filter.FilterPolicy.{Ghosts as FilterGhosts}
+use Rattle.leveldb_mem.specs.Log.{IsLogFile, bad, clean}
+use Rattle.leveldb_mem.specs.MemTable.{IsUnion, memory_of_entries}
+use Rattle.leveldb_mem.specs.WriteBatch.{Batch}
+use Rattle.leveldb_version.specs.Batches.{AreInOrder, Each, IsRecordOf, all_entries, batch_entries}
+use Rattle.leveldb_version.specs.Levels.{LiveTable, table_entries}
+use Rattle.leveldb_version.specs.Paths.{log_path}
+use Rattle.leveldb_version.specs.Store.{HasLog, ReplayedLog as StoreLog, SameEntries}
+use Rattle.leveldb_version.specs.VersionEdit.{NewFile, new_file_of}
+use Rattle.leveldb_version.specs.VersionSetValue.{VersionSetValue, with_number_given}
+use Rattle.leveldb_store.specs.BuildTable.{IsNotTabled, TableChoices}
+use Rattle.leveldb_store.specs.Format.{Agrees, Format, Meaning}
+use Rattle.leveldb_store.specs.Opening.{AreMadeTables, GivesNumbers, IsMadeTable, KeepsRecovered, LogInMemory, ReplaysLog, SameButTables}
+use Rattle.leveldb_store.specs.declared.opening.replay_log.ReplayedLog.{ReplayedLog}
+
+-- ---- memory
+
+-- the files of the tables that were made, of level 0
+abbrev pub table_files : {C : Type 0} → ReplayedLog C → List NewFile
+table_files log = map (λ file. new_file_of (0, file)) log.tables.items
+
+-- what is in memory of a log
+abbrev pub log_in_memory : {C : Type 0} → ReplayedLog C → LogInMemory
+log_in_memory log = record {
+  tables = table_files log;
+  rest = log.rest.kept.entries;
+  is_clean = log.is_clean;
+  size = log.size;
+}
+
+-- a batch begins above the last number, and all its numbers fit
+pub record Follows (last : ℕ) (batch : Batch) : Type 0 where
+  pub above : last < batch.first
+  pub first_fits : batch.first ≤ greatest_sequence
+  pub all_fit : greatest (batch_entries batch) ≤ greatest_sequence
+
+-- a batch's entries are among those that are in no table, and the last number is the greatest
+pub record AddsBatch {C : Type 0} (old : ReplayedLog C) (batch : Batch) (new : ReplayedLog C)
+    : Type 0 where
+  pub gains : IsUnion old.rest.kept.entries (batch_entries batch) new.rest.kept.entries
+  pub last : new.last ≡ max old.last (greatest (batch_entries batch))
+  pub rest : new ≡ record old { rest = new.rest; last = new.last }
+  pub cmp : new.rest.cmp ≡ old.rest.cmp
+
+-- ---- files
+
+-- why a call failed, beside out of memory and a failure of the device: this, and nothing was
+-- counted
+abbrev pub HasCauseOr : {T : Type 0} → (Status → Type 0) → ℕ → ℕ → Result T Status → Type 0
+HasCauseOr Why before now =
+    HasCause (λ status. IsOutOfMemory status ⊎ (Why status × (now ≡ before))) before now
+
+module _ {E F : Type 0} (env : Ghosts E F) where
+  -- What a call leaves of the store that may make tables: numbers were given, and no file changed
+  -- but tables of these. A store that was recovered is so still, and each history is kept.
+  pub record MakesTablesOnly (old : VersionSetValue) (from : E) (new : VersionSetValue) (to : E)
+      : Type 0 where
+    pub numbers : GivesNumbers old new
+    pub run : IsTrue env.models_disk
+        → Run (SameButTables old new (env.observed from).disk.files) (env.observed from)
+        (env.observed to)
+    pub locks : SameLocks env.models_disk (env.observed from) (env.observed to)
+    pub keeps : IsTrue env.models_disk → (cmp : List ℕ → List ℕ → Ordering) (meaning : Meaning)
+        → KeepsRecovered cmp meaning old (env.observed from) new (env.observed to)
+
+  -- ---- what was replayed
+
+  module _ (format : Format) where
+    -- These batches were replayed of a log, in order above `last`, and their entries are in tables
+    -- that were made since the set was `old`, and in memory.
+    pub record HasReplayed {C : Type 0} (limit : ℕ) (old : VersionSetValue) (last : ℕ)
+        (batches : List Batch) (log : ReplayedLog C) (now : VersionSetValue) (at : E)
+        : Type 0 where
+      pub in_order : AreInOrder last batches
+      pub last_is : log.last ≡ max last (greatest (all_entries batches))
+      pub numbers : GivesNumbers old now
+      pub tables : List LiveTable
+      pub files_are : map (λ (table : LiveTable). table.file) tables ≡ table_files log
+      pub made_tables : IsTrue env.models_disk → (meaning : Meaning) → Agrees format meaning
+          → AreMadeTables format.order meaning old now (env.observed at).disk.files tables
+      pub entries : SameEntries (table_entries tables ++ log.rest.kept.entries)
+          (all_entries batches)
+      pub newer : (a b : Entry) → Contains (table_entries tables) a
+          → Contains log.rest.kept.entries b → a.sequence < b.sequence
+      -- the memtable isn't full
+      pub room : (log.rest.kept.entries ≡ [])
+          ⊎ (memory_of_entries log.rest.kept.entries < limit)
+
+    -- the entries that were in no table are in one under the next number, and none is left
+    pub record TablesRest {C : Type 0} (old : ReplayedLog C) (set : VersionSetValue)
+        (new : ReplayedLog C) (now : VersionSetValue) (at : E) : Type 0 where
+      pub table : LiveTable
+      pub number : table.file.number ≡ set.next_file
+      pub given : now ≡ with_number_given set
+      pub made : IsTrue env.models_disk → (meaning : Meaning) → Agrees format meaning
+          → IsMadeTable format.order meaning set.store (env.observed at).disk.files table
+      pub entries : table.entries ≡ old.rest.kept.entries
+      pub files : table_files new ≡ table_files old ++ table.file ∷ []
+      pub none_left : new.rest.kept.entries ≡ []
+      pub rest : new ≡ record old { tables = new.tables; rest = new.rest }
+      pub cmp : new.rest.cmp ≡ old.rest.cmp
+
+-- ---- why a log isn't replayed
+
+-- a record isn't a batch that follows
+abbrev pub IsNoNextBatch : ℕ → List ℕ → Type 0
+IsNoNextBatch last text = (batch : Batch) → IsRecordOf text batch → Follows last batch → ⊥
+
+-- bytes aren't a log of batches in order above a number, up to its first bad end
+abbrev pub IsDamagedText : ℕ → List ℕ → Type 0
+IsDamagedText last text = (log : StoreLog) (records : List (List ℕ))
+    → IsLogFile text records log.end → Each IsRecordOf records log.batches
+    → AreInOrder last log.batches → ⊥
+
+-- so it is with the file of a log
+abbrev pub IsDamagedLog : List ℕ → Files → ℕ → ℕ → Type 0
+IsDamagedLog store files number last = (log : StoreLog) → log.number ≡ number
+    → HasLog store files log → AreInOrder last log.batches → ⊥
+
+-- ---- calls
+
+module _ {E F C D FP : Type 0} (env : Ghosts E F) {order : CmpGhosts D}
+    {filters : FilterGhosts FP} (choices : TableChoices order filters) where
+  -- the numbers of files are used up, entries are too many for a memtable, or no table is built of
+  -- some
+  abbrev pub FailsToTable : Status → Type 0
+  FailsToTable status = (status.code ≡ NotSupported)
+      ⊎ ((entries : List Entry) × IsNotTabled choices (map internal_pair entries) status)
+
+  -- what making a table of the entries in memory returns and leaves
+  pub record MakesRestTable (old : ReplayedLog C) (set : VersionSetValue) (from : E)
+      (result : Result (Unit {0}) Status) (new : ReplayedLog C) (now : VersionSetValue) (to : E)
+      : Type 0 where
+    pub spares : MakesTablesOnly env set from now to
+    pub ok : OnOk result (TablesRest env choices.format old set new now to)
+    pub cause : HasCauseOr FailsToTable (env.failures from) (env.failures to) result
+
+  module _ (limit : ℕ) where
+    -- after what was replayed before, the batch of this record is replayed too
+    abbrev pub ReplaysBatch : List ℕ → ReplayedLog C → VersionSetValue → E → ReplayedLog C
+        → VersionSetValue → E → Type 0
+    ReplaysBatch text old set from new now to =
+        (first : VersionSetValue) (last : ℕ) (batches : List Batch)
+        → HasReplayed env choices.format limit first last batches old set from
+        → (batch : Batch) × IsRecordOf text batch
+        × HasReplayed env choices.format limit first last (batches ++ batch ∷ []) new now to
+
+    -- what taking a record returns and leaves
+    pub record TakesRecord (text : List ℕ) (old : ReplayedLog C) (set : VersionSetValue) (from : E)
+        (result : Result (Unit {0}) Status) (new : ReplayedLog C) (now : VersionSetValue) (to : E)
+        : Type 0 where
+      pub spares : MakesTablesOnly env set from now to
+      pub ok : OnOk result (ReplaysBatch text old set from new now to)
+      pub cmp : OnOk result (new.rest.cmp ≡ old.rest.cmp)
+      pub size : OnOk result (new.size ≡ old.size)
+      pub bad : OnOk result (new.is_clean ≡ old.is_clean)
+      pub cause : HasCauseOr (λ status. FailsToTable status
+          ⊎ ((status.code ≡ Corruption) × IsNoNextBatch old.last text))
+          (env.failures from) (env.failures to) result
+
+    -- these bytes were replayed as a log, up to its first bad end
+    pub record HasReplayedText (set : VersionSetValue) (last : ℕ) (text : List ℕ)
+        (log : ReplayedLog C) (now : VersionSetValue) (to : E) : Type 0 where
+      pub records : List (List ℕ)
+      pub read : IsLogFile text records (if log.is_clean then clean else bad)
+      pub batches : List Batch
+      pub each : Each IsRecordOf records batches
+      pub replayed : HasReplayed env choices.format limit set last batches log now to
+      pub size : log.size ≡ length text
+
+    -- what replaying bytes as a log returns and leaves
+    pub record ReplaysText (set : VersionSetValue) (last : ℕ) (text : List ℕ) (from : E)
+        (result : Result (ReplayedLog C) Status) (now : VersionSetValue) (to : E) : Type 0 where
+      pub spares : MakesTablesOnly env set from now to
+      pub ok : IfOk result (λ log. HasReplayedText set last text log now to)
+      pub cause : HasCauseOr (λ status. FailsToTable status
+          ⊎ ((status.code ≡ Corruption) × IsDamagedText last text))
+          (env.failures from) (env.failures to) result
+
+    -- Why a log isn't replayed, where the device didn't fail: out of memory, the log is missing or
+    -- damaged, or no table is made of some of its entries.
+    abbrev pub FailsToReplay : List ℕ → ℕ → ℕ → E → E → Status → Type 0
+    FailsToReplay store last number from to status =
+        IsLost env.models_disk (log_path store number) (env.observed from) (env.failures from)
+        (env.failures to) status
+        ⊎ ((FailsToTable status ⊎ ((status.code ≡ Corruption)
+        × (IsTrue env.models_disk
+        → IsDamagedLog store (env.observed from).disk.files number last)))
+        × (env.failures to ≡ env.failures from))
+
+    -- what replaying the log of a number returns and leaves
+    pub record ReplaysFile (set : VersionSetValue) (last number : ℕ) (from : E)
+        (result : Result (ReplayedLog C) Status) (now : VersionSetValue) (to : E) : Type 0 where
+      pub spares : MakesTablesOnly env set from now to
+      pub replays : IsTrue env.models_disk → (meaning : Meaning) → Agrees choices.format meaning
+          → IfOk result (λ log. ReplaysLog choices.format.order meaning set last number
+          (env.observed from).disk.files (log_in_memory log) now log.last
+          (env.observed to).disk.files)
+      -- the memtable is empty, or isn't full
+      pub room : IfOk result (λ log. (log.rest.kept.entries ≡ [])
+          ⊎ (memory_of_entries log.rest.kept.entries < limit))
+      pub cause : HasCause (FailsToReplay set.store last number from to) (env.failures from)
+          (env.failures to) result
