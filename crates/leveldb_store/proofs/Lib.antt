@@ -1,2 +1,3 @@
 mod BuildTableLemmas
 pub mod WriteLemmas
+mod OpeningNamesLemmas

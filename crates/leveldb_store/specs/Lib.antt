@@ -7,3 +7,4 @@ pub mod Switch
 pub mod Read
 pub mod Opening
 pub mod ReplayLog
+pub mod OpeningSteps

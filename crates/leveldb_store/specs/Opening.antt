@@ -6,7 +6,7 @@ use Rattle.leveldb_base.specs.History.{Entry, History, greatest}
 use Rattle.leveldb_base.specs.Layers.{IsOlder}
 use Rattle.leveldb_base.specs.declared.error.Status.{Status}
 use Rattle.leveldb_base.specs.declared.error.StatusCode.TheVariants.{AlreadyExists, Corruption, InvalidArgument, NotSupported}
-use Rattle.leveldb_env.specs.Env.{Files, HasCause, Observed, Run, SameLocks}
+use Rattle.leveldb_env.specs.Env.{Files, HasCause, IsEmptyFolder, Observed, Run, SameLocks}
 use Rattle.leveldb_env.specs.declared.env.Env.{Ghosts}
 use Rattle.leveldb_mem.specs.Log.{bad, clean}
 use Rattle.leveldb_version.specs.Batches.{AreInOrder, all_entries}
@@ -130,30 +130,46 @@ abbrev pub IsDamaged : List ℕ → (List ℕ → List ℕ → Ordering) → Fil
 IsDamaged store cmp files = (meaning : Meaning) (contents : Contents)
     → IsStore store cmp (IsTableOf cmp meaning) files contents → ⊥
 
+-- there is a store that must not be, or none that must be
+abbrev pub MayNotOpen : Bool → List ℕ → Bool → Bool → Files → Status → Type 0
+MayNotOpen models_disk store create_if_missing error_if_exists files status =
+    ((status.code ≡ AlreadyExists) × IsTrue error_if_exists
+    × (IsTrue models_disk → files (current_path store) ≢ None))
+    ⊎ ((status.code ≡ InvalidArgument) × (create_if_missing ≡ false)
+    × (IsTrue models_disk → files (current_path store) ≡ None))
+
+-- the store's manifest names a comparator that isn't this one
+abbrev pub HasOtherComparator : Bool → List ℕ → (List ℕ → List ℕ → Ordering) → List ℕ → Files
+    → Status → Type 0
+HasOtherComparator models_disk store cmp comparator files status = (status.code ≡ InvalidArgument)
+    × (IsTrue models_disk → (meaning : Meaning) (contents : Contents)
+    → IsStore store cmp (IsTableOf cmp meaning) files contents
+    → (name : List ℕ) × (contents.store ≡ made (Some name)) × (name ≢ comparator))
+
+-- `Corruption` for a store that is damaged
+abbrev pub IsDamage : Bool → List ℕ → (List ℕ → List ℕ → Ordering) → Files → Status → Type 0
+IsDamage models_disk store cmp files status = (status.code ≡ Corruption)
+    × (IsTrue models_disk → IsDamaged store cmp files)
+
 module _ {E F : Type 0} (env : Ghosts E F) (cmp : List ℕ → List ℕ → Ordering) (format : Format)
     (store : List ℕ) (create_if_missing error_if_exists : Bool) (from : E) where
-  -- there is a store that must not be, or none that must be
-  abbrev pub MayNotOpen : Status → Type 0
-  MayNotOpen status =
-      ((status.code ≡ AlreadyExists) × IsTrue error_if_exists
-      × (IsTrue env.models_disk → (env.observed from).disk.files (current_path store) ≢ None))
-      ⊎ ((status.code ≡ InvalidArgument) × (create_if_missing ≡ false)
-      × (IsTrue env.models_disk → (env.observed from).disk.files (current_path store) ≡ None))
-
-  -- its manifest names a comparator that isn't this one
-  abbrev pub HasOtherComparator : Status → Type 0
-  HasOtherComparator status = (status.code ≡ InvalidArgument)
-      × (IsTrue env.models_disk → (meaning : Meaning) (contents : Contents)
-      → IsStore store cmp (IsTableOf cmp meaning) (env.observed from).disk.files contents
-      → (name : List ℕ) × (contents.store ≡ made (Some name)) × (name ≢ format.order_name))
-
-  -- Why a store isn't opened, where the device didn't fail: out of memory, it may not be opened so,
-  -- it is damaged, a compressor fails, or numbers or room are used up.
-  abbrev pub FailsToOpen : Status → Type 0
-  FailsToOpen status = IsOutOfMemory status ⊎ MayNotOpen status ⊎ HasOtherComparator status
-      ⊎ ((status.code ≡ Corruption)
-      × (IsTrue env.models_disk → IsDamaged store cmp (env.observed from).disk.files))
+  -- Why a store isn't opened, where nothing was counted, beside out of memory: not even the file of
+  -- its lock is there, it may not be opened so, it is damaged, a compressor fails, or numbers or
+  -- room are used up.
+  abbrev pub WhyNotOpened : Status → Type 0
+  WhyNotOpened status =
+      IsEmptyFolder env.models_disk store (env.observed from) status
+      ⊎ MayNotOpen env.models_disk store create_if_missing error_if_exists
+      (env.observed from).disk.files status
+      ⊎ HasOtherComparator env.models_disk store cmp format.order_name
+      (env.observed from).disk.files status
+      ⊎ IsDamage env.models_disk store cmp (env.observed from).disk.files status
       ⊎ HasCompressorError format status.code ⊎ (status.code ≡ NotSupported)
+
+  -- Why a store isn't opened, where the device didn't fail.
+  abbrev pub FailsToOpen : E → Status → Type 0
+  FailsToOpen to status = IsOutOfMemory status
+      ⊎ (WhyNotOpened status × (env.failures to ≡ env.failures from))
 
   -- An opening. Its lock is the caller's.
   pub record OpensStore {C : Type 0} (result : Result (OpenStoreValue C) Status) (to : E)
@@ -173,10 +189,11 @@ module _ {E F : Type 0} (env : Ghosts E F) (cmp : List ℕ → List ℕ → Orde
         → (env.observed from).disk.files (current_path store) ≡ None)
     pub made_if_missing : OnOk result (IsTrue env.models_disk → create_if_missing ≡ false
         → (env.observed from).disk.files (current_path store) ≢ None)
-    pub untouched : IfErr result (λ status. MayNotOpen status → IsTrue env.models_disk
+    pub untouched : IfErr result (λ status. MayNotOpen env.models_disk store create_if_missing
+        error_if_exists (env.observed from).disk.files status → IsTrue env.models_disk
         → (env.observed to).disk.files ≡ (env.observed from).disk.files)
     -- nothing but the store's own files changes
     pub others : IsTrue env.models_disk → (path : List ℕ) → (IsOwnPath store path → ⊥)
         → (env.observed to).disk.files path ≡ (env.observed from).disk.files path
     pub locks : SameLocks env.models_disk (env.observed from) (env.observed to)
-    pub cause : HasCause FailsToOpen (env.failures from) (env.failures to) result
+    pub cause : HasCause (FailsToOpen to) (env.failures from) (env.failures to) result

@@ -41,6 +41,11 @@ log_in_memory log = record {
   size = log.size;
 }
 
+-- no entry is in the memtable, or it has less memory than this
+abbrev pub IsNotFull : {C : Type 0} → ℕ → ReplayedLog C → Type 0
+IsNotFull limit log = (log.rest.kept.entries ≡ [])
+    ⊎ (memory_of_entries log.rest.kept.entries < limit)
+
 -- a batch begins above the last number, and all its numbers fit
 pub record Follows (last : ℕ) (batch : Batch) : Type 0 where
   pub above : last < batch.first
@@ -81,9 +86,8 @@ module _ {E F : Type 0} (env : Ghosts E F) where
   module _ (format : Format) where
     -- These batches were replayed of a log, in order above `last`, and their entries are in tables
     -- that were made since the set was `old`, and in memory.
-    pub record HasReplayed {C : Type 0} (limit : ℕ) (old : VersionSetValue) (last : ℕ)
-        (batches : List Batch) (log : ReplayedLog C) (now : VersionSetValue) (at : E)
-        : Type 0 where
+    pub record HasReplayed {C : Type 0} (old : VersionSetValue) (last : ℕ) (batches : List Batch)
+        (log : ReplayedLog C) (now : VersionSetValue) (at : E) : Type 0 where
       pub in_order : AreInOrder last batches
       pub last_is : log.last ≡ max last (greatest (all_entries batches))
       pub numbers : GivesNumbers old now
@@ -95,9 +99,6 @@ module _ {E F : Type 0} (env : Ghosts E F) where
           (all_entries batches)
       pub newer : (a b : Entry) → Contains (table_entries tables) a
           → Contains log.rest.kept.entries b → a.sequence < b.sequence
-      -- the memtable isn't full
-      pub room : (log.rest.kept.entries ≡ [])
-          ⊎ (memory_of_entries log.rest.kept.entries < limit)
 
     -- the entries that were in no table are in one under the next number, and none is left
     pub record TablesRest {C : Type 0} (old : ReplayedLog C) (set : VersionSetValue)
@@ -132,85 +133,86 @@ IsDamagedLog store files number last = (log : StoreLog) → log.number ≡ numbe
 
 -- ---- calls
 
-module _ {E F C D FP : Type 0} (env : Ghosts E F) {order : CmpGhosts D}
-    {filters : FilterGhosts FP} (choices : TableChoices order filters) where
-  -- the numbers of files are used up, entries are too many for a memtable, or no table is built of
-  -- some
-  abbrev pub FailsToTable : Status → Type 0
-  FailsToTable status = (status.code ≡ NotSupported)
-      ⊎ ((entries : List Entry) × IsNotTabled choices (map internal_pair entries) status)
+-- the numbers of files are used up, entries are too many for a memtable, or no table is built of
+-- some
+abbrev pub FailsToTable : {D FP : Type 0} {order : CmpGhosts D} {filters : FilterGhosts FP}
+    → TableChoices order filters → Status → Type 0
+FailsToTable choices status = (status.code ≡ NotSupported)
+    ⊎ ((entries : List Entry) × IsNotTabled choices (map internal_pair entries) status)
 
+module _ {E F D FP : Type 0} (env : Ghosts E F) {order : CmpGhosts D} {filters : FilterGhosts FP}
+    (choices : TableChoices order filters) where
   -- what making a table of the entries in memory returns and leaves
-  pub record MakesRestTable (old : ReplayedLog C) (set : VersionSetValue) (from : E)
+  pub record MakesRestTable {C : Type 0} (old : ReplayedLog C) (set : VersionSetValue) (from : E)
       (result : Result (Unit {0}) Status) (new : ReplayedLog C) (now : VersionSetValue) (to : E)
       : Type 0 where
     pub spares : MakesTablesOnly env set from now to
     pub ok : OnOk result (TablesRest env choices.format old set new now to)
-    pub cause : HasCauseOr FailsToTable (env.failures from) (env.failures to) result
+    pub cause : HasCauseOr (FailsToTable choices) (env.failures from) (env.failures to) result
+
+  -- Why a log isn't replayed, where the device didn't fail: out of memory, the log is missing or
+  -- damaged, or no table is made of some of its entries.
+  abbrev pub FailsToReplay : List ℕ → ℕ → ℕ → E → E → Status → Type 0
+  FailsToReplay store last number from to status =
+      IsLost env.models_disk (log_path store number) (env.observed from) (env.failures from)
+      (env.failures to) status
+      ⊎ ((FailsToTable choices status ⊎ ((status.code ≡ Corruption)
+      × (IsTrue env.models_disk → IsDamagedLog store (env.observed from).disk.files number last)))
+      × (env.failures to ≡ env.failures from))
+
+  -- after what was replayed before, the batch of this record is replayed too
+  abbrev pub ReplaysBatch : {C : Type 0} → List ℕ → ReplayedLog C → VersionSetValue → E
+      → ReplayedLog C → VersionSetValue → E → Type 0
+  ReplaysBatch text old set from new now to =
+      (first : VersionSetValue) (last : ℕ) (batches : List Batch)
+      → HasReplayed env choices.format first last batches old set from
+      → (batch : Batch) × IsRecordOf text batch
+      × HasReplayed env choices.format first last (batches ++ batch ∷ []) new now to
 
   module _ (limit : ℕ) where
-    -- after what was replayed before, the batch of this record is replayed too
-    abbrev pub ReplaysBatch : List ℕ → ReplayedLog C → VersionSetValue → E → ReplayedLog C
-        → VersionSetValue → E → Type 0
-    ReplaysBatch text old set from new now to =
-        (first : VersionSetValue) (last : ℕ) (batches : List Batch)
-        → HasReplayed env choices.format limit first last batches old set from
-        → (batch : Batch) × IsRecordOf text batch
-        × HasReplayed env choices.format limit first last (batches ++ batch ∷ []) new now to
-
     -- what taking a record returns and leaves
-    pub record TakesRecord (text : List ℕ) (old : ReplayedLog C) (set : VersionSetValue) (from : E)
-        (result : Result (Unit {0}) Status) (new : ReplayedLog C) (now : VersionSetValue) (to : E)
-        : Type 0 where
+    pub record TakesRecord {C : Type 0} (text : List ℕ) (old : ReplayedLog C)
+        (set : VersionSetValue) (from : E) (result : Result (Unit {0}) Status)
+        (new : ReplayedLog C) (now : VersionSetValue) (to : E) : Type 0 where
       pub spares : MakesTablesOnly env set from now to
       pub ok : OnOk result (ReplaysBatch text old set from new now to)
+      pub room : OnOk result (IsNotFull limit new)
       pub cmp : OnOk result (new.rest.cmp ≡ old.rest.cmp)
       pub size : OnOk result (new.size ≡ old.size)
       pub bad : OnOk result (new.is_clean ≡ old.is_clean)
-      pub cause : HasCauseOr (λ status. FailsToTable status
+      pub cause : HasCauseOr (λ status. FailsToTable choices status
           ⊎ ((status.code ≡ Corruption) × IsNoNextBatch old.last text))
           (env.failures from) (env.failures to) result
 
     -- these bytes were replayed as a log, up to its first bad end
-    pub record HasReplayedText (set : VersionSetValue) (last : ℕ) (text : List ℕ)
+    pub record HasReplayedText {C : Type 0} (set : VersionSetValue) (last : ℕ) (text : List ℕ)
         (log : ReplayedLog C) (now : VersionSetValue) (to : E) : Type 0 where
       pub records : List (List ℕ)
       pub read : IsLogFile text records (if log.is_clean then clean else bad)
       pub batches : List Batch
       pub each : Each IsRecordOf records batches
-      pub replayed : HasReplayed env choices.format limit set last batches log now to
+      pub replayed : HasReplayed env choices.format set last batches log now to
+      pub room : IsNotFull limit log
       pub size : log.size ≡ length text
 
     -- what replaying bytes as a log returns and leaves
-    pub record ReplaysText (set : VersionSetValue) (last : ℕ) (text : List ℕ) (from : E)
-        (result : Result (ReplayedLog C) Status) (now : VersionSetValue) (to : E) : Type 0 where
+    pub record ReplaysText {C : Type 0} (set : VersionSetValue) (last : ℕ) (text : List ℕ)
+        (from : E) (result : Result (ReplayedLog C) Status) (now : VersionSetValue) (to : E)
+        : Type 0 where
       pub spares : MakesTablesOnly env set from now to
       pub ok : IfOk result (λ log. HasReplayedText set last text log now to)
-      pub cause : HasCauseOr (λ status. FailsToTable status
+      pub cause : HasCauseOr (λ status. FailsToTable choices status
           ⊎ ((status.code ≡ Corruption) × IsDamagedText last text))
           (env.failures from) (env.failures to) result
 
-    -- Why a log isn't replayed, where the device didn't fail: out of memory, the log is missing or
-    -- damaged, or no table is made of some of its entries.
-    abbrev pub FailsToReplay : List ℕ → ℕ → ℕ → E → E → Status → Type 0
-    FailsToReplay store last number from to status =
-        IsLost env.models_disk (log_path store number) (env.observed from) (env.failures from)
-        (env.failures to) status
-        ⊎ ((FailsToTable status ⊎ ((status.code ≡ Corruption)
-        × (IsTrue env.models_disk
-        → IsDamagedLog store (env.observed from).disk.files number last)))
-        × (env.failures to ≡ env.failures from))
-
     -- what replaying the log of a number returns and leaves
-    pub record ReplaysFile (set : VersionSetValue) (last number : ℕ) (from : E)
+    pub record ReplaysFile {C : Type 0} (set : VersionSetValue) (last number : ℕ) (from : E)
         (result : Result (ReplayedLog C) Status) (now : VersionSetValue) (to : E) : Type 0 where
       pub spares : MakesTablesOnly env set from now to
       pub replays : IsTrue env.models_disk → (meaning : Meaning) → Agrees choices.format meaning
           → IfOk result (λ log. ReplaysLog choices.format.order meaning set last number
           (env.observed from).disk.files (log_in_memory log) now log.last
           (env.observed to).disk.files)
-      -- the memtable is empty, or isn't full
-      pub room : IfOk result (λ log. (log.rest.kept.entries ≡ [])
-          ⊎ (memory_of_entries log.rest.kept.entries < limit))
+      pub room : IfOk result (IsNotFull limit)
       pub cause : HasCause (FailsToReplay set.store last number from to) (env.failures from)
           (env.failures to) result

@@ -32,8 +32,8 @@ impl<E: Env, C: UserCmp + Copy + Drop> OpenStore<E, C> {
         name: &str,
         options: &Options<C, FP>,
     ) -> Result<OpenStore<E, C>> {
-        let names = find_store(alloc, env, name, options)?;
-        let set = recover_set(alloc, env, name, options, names.as_slice())?;
+        find_store(alloc, env, name, options)?;
+        let set = recover_set(alloc, env, name, options)?;
         sync_logs(alloc, env, name, &set.logs)?;
         let mut versions = set.versions;
         let replay = replay_logs(alloc, env, name, options, &mut versions, set.logs)?;

@@ -1,4 +1,10 @@
 //! The edit with which an opening ends.
+ghost use Rattle.std.specs.Prelude.{◌≡◌, ◌⊎◌, IfErr, IfOk, IsErrAnd, map};
+ghost use Rattle.leveldb_base.specs.Error.{IsOutOfMemory};
+ghost use Rattle.leveldb_env.specs.Env.{SameLocks};
+ghost use Rattle.leveldb_version.specs.LogEdit.{LogEditResult};
+ghost use Rattle.leveldb_version.specs.Opening.{tables_edit};
+ghost use Rattle.leveldb_version.specs.VersionEdit.{edit_of, new_file_of};
 use leveldb_base::error::Result;
 use leveldb_base::types::{FileMetaData, FileNum};
 use leveldb_env::env::Env;
@@ -13,13 +19,24 @@ pub(super) fn log_edit<E: Env>(
     versions: &mut VersionSet<E>,
     log: FileNum,
     tables: Vec<FileMetaData>,
-) -> Result<()> {
+) -> Result<()>
+    ensures log { (IsErrAnd result IsOutOfMemory × (versions.new ≡ versions.old)
+        × (env.new ≡ env.old))
+        ⊎ LogEditResult E.models_disk versions.old
+        (tables_edit log (map (λ file. new_file_of (0, file)) tables.items)) (E.observed env.old)
+        (E.failures env.old) result versions.new (E.observed env.new) (E.failures env.new) }
+    ensures locks { SameLocks E.models_disk (E.observed env.old) (E.observed env.new) }
+{
     let edit = edit_of_tables(alloc, log, tables)?;
     versions.log_and_apply(env, edit)
 }
 
 // The edit of a log number and tables of level 0.
-fn edit_of_tables(alloc: Global, log: FileNum, tables: Vec<FileMetaData>) -> Result<VersionEdit> {
+fn edit_of_tables(alloc: Global, log: FileNum, tables: Vec<FileMetaData>) -> Result<VersionEdit>
+    ensures ok { IfOk result (λ edit. edit_of edit
+        ≡ tables_edit log (map (λ file. new_file_of (0, file)) tables.items)) }
+    ensures memory { IfErr result IsOutOfMemory }
+{
     let mut edit = VersionEdit::new(alloc);
     edit.set_log_num(log);
     for file in tables {

@@ -1,4 +1,14 @@
 //! The version set that a store's manifest leaves, and which logs are replayed.
+ghost use Rattle.std.specs.Prelude.{◌≡◌, ◌≢◌, ◌⊎◌, ◌↔◌, ℕ, IfErr, IfNone, IfOk, IfSome, IsTrue, OnOk, map, string_bytes};
+ghost use Rattle.leveldb_base.specs.Error.{IsOutOfMemory};
+ghost use Rattle.leveldb_base.specs.Names.{IsFileName, file_name};
+ghost use Rattle.leveldb_base.specs.declared.error.StatusCode.TheVariants.{Corruption, NotSupported};
+ghost use Rattle.leveldb_base.specs.declared.types.FileType.TheVariants.{Log};
+ghost use Rattle.leveldb_env.specs.Env.{FilesUnchanged, Run, SameLocks};
+ghost use Rattle.leveldb_version.specs.VersionEdit.{new_file_of};
+ghost use Rattle.leveldb_store.specs.OpeningSteps.{AreReplayedLogs, HasMisnamedLog, IsReplayed, LacksTable, MarksNames};
+ghost use Rattle.leveldb_store.specs.ReplayLog.{HasCauseOr};
+
 use leveldb_base::cmp::Cmp;
 use leveldb_base::error::{Result, StatusCode, err};
 use leveldb_base::names::{log_file_name, table_file_name};
@@ -20,22 +30,22 @@ pub(super) struct RecoveredSet<E: Env> {
 }
 
 // Recovers the set of the manifest that `CURRENT` names. Its live tables are there, and the logs
-// that are replayed have their own names. `names` are those of the folder.
+// that are replayed have their own names.
 pub(super) fn recover_set<E: Env, C: Cmp, FP>(
     alloc: Global,
     env: &mut E,
     store: &str,
     options: &Options<C, FP>,
-    names: &[String],
 ) -> Result<RecoveredSet<E>> {
+    let names = env.children(alloc, store)?;
     let mut versions = VersionSet::new(alloc, store, &options.cmp)?;
-    mark_numbers(alloc, &mut versions, names)?;
+    mark_names(alloc, &mut versions, names.as_slice())?;
     let is_anew = versions.recover(env, options)?;
     check_tables(alloc, env, store, versions.files())?;
     let logs = find_logs(
         alloc,
         store,
-        names,
+        names.as_slice(),
         versions.log_num(),
         versions.prev_log_num(),
     )?;
@@ -47,11 +57,11 @@ pub(super) fn recover_set<E: Env, C: Cmp, FP>(
 }
 
 // Makes the numbers of all names used.
-fn mark_numbers<E: Env>(
-    alloc: Global,
-    versions: &mut VersionSet<E>,
-    names: &[String],
-) -> Result<()> {
+fn mark_names<E: Env>(alloc: Global, versions: &mut VersionSet<E>, names: &[String]) -> Result<()>
+    ensures ok { OnOk result
+        (MarksNames versions.old (map string_bytes names.now) versions.new) }
+    ensures cause { IfErr result (λ status. status.code ≡ NotSupported) }
+{
     for name in names {
         if let Ok((number, _)) = parse_file_name(alloc, name.as_str()) {
             versions.mark_file_number_used(number)?;
@@ -66,7 +76,15 @@ fn check_tables<E: Env>(
     env: &mut E,
     store: &str,
     files: &[(usize, FileMetaData)],
-) -> Result<()> {
+) -> Result<()>
+    ensures still { IsTrue E.models_disk
+        → Run (FilesUnchanged (E.observed env.old).disk.files) (E.observed env.old)
+        (E.observed env.new) }
+    ensures locks { SameLocks E.models_disk (E.observed env.old) (E.observed env.new) }
+    ensures cause { HasCauseOr (λ status. (status.code ≡ Corruption) × (IsTrue E.models_disk
+        → LacksTable store.now (E.observed env.old).disk.files (map new_file_of files.now)))
+        (E.failures env.old) (E.failures env.new) result }
+{
     for (_, file) in files {
         let path = table_file_name(alloc, store, file.num)?;
         found(alloc, &path, env.size_of(&path))?;
@@ -81,7 +99,12 @@ fn find_logs(
     names: &[String],
     log: FileNum,
     previous: FileNum,
-) -> Result<BTreeSet<FileNum>> {
+) -> Result<BTreeSet<FileNum>>
+    ensures ok { IfOk result (λ logs.
+        AreReplayedLogs (map string_bytes names.now) log previous logs.keys) }
+    ensures cause { IfErr result (λ status. IsOutOfMemory status ⊎ ((status.code ≡ Corruption)
+        × HasMisnamedLog (map string_bytes names.now) log previous)) }
+{
     let mut logs = BTreeSet::new(alloc);
     for name in names {
         if let Some(number) = replayed_log(alloc, name.as_str(), log, previous) {
@@ -93,20 +116,46 @@ fn find_logs(
 }
 
 // The number of the log of this name, if it is one that is replayed.
-fn replayed_log(alloc: Global, name: &str, log: FileNum, previous: FileNum) -> Option<FileNum> {
-    match parse_file_name(alloc, name) {
-        Ok((number, FileType::Log)) if is_replayed(number, log, previous) => Some(number),
-        _ => None,
+fn replayed_log(alloc: Global, name: &str, log: FileNum, previous: FileNum) -> Option<FileNum>
+    ensures some { IfSome result (λ n. IsFileName name.now n Log × IsReplayed log previous n) }
+    ensures none { IfNone result ((n : ℕ) → IsFileName name.now n Log
+        → IsReplayed log previous n → ⊥) }
+{
+    let Ok((number, kind)) = parse_file_name(alloc, name) else {
+        return None;
+    };
+    if !is_log(kind) {
+        return None;
+    }
+    if is_replayed(number, log, previous) {
+        return Some(number);
+    }
+    None
+}
+
+// Whether the type is a log's.
+fn is_log(kind: FileType) -> bool
+    ensures { IsTrue result ↔ (kind ≡ Log) }
+{
+    match kind {
+        FileType::Log => true,
+        _ => false,
     }
 }
 
 // Whether the log of a number is replayed, by the manifest's log number and that of the log before.
-fn is_replayed(number: FileNum, log: FileNum, previous: FileNum) -> bool {
-    number >= log || (number == previous && previous > 0)
+fn is_replayed(number: FileNum, log: FileNum, previous: FileNum) -> bool
+    ensures { IsTrue result ↔ IsReplayed log previous number }
+{
+    number >= log || (number == previous && number > 0)
 }
 
 // Checks that a log's name is the one that a store gives to a log of its number.
-fn check_log_name(alloc: Global, store: &str, name: &str, number: FileNum) -> Result<()> {
+fn check_log_name(alloc: Global, store: &str, name: &str, number: FileNum) -> Result<()>
+    ensures ok { OnOk result (name.now ≡ file_name Log number) }
+    ensures cause { IfErr result (λ status. IsOutOfMemory status
+        ⊎ ((status.code ≡ Corruption) × (name.now ≢ file_name Log number))) }
+{
     let path = format!(in alloc; "{store}/{name}")?;
     if path.as_str() == log_file_name(alloc, store, number)?.as_str() {
         return Ok(());

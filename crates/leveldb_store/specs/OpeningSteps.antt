@@ -1,0 +1,146 @@
+-- What each step of an opening returns and leaves of a store's files, and why it fails.
+use Rattle.std.specs.Prelude.{◌≡◌, ◌≢◌, ◌≤◌, ◌<◌, ◌⊎◌, ◌^◌, ℕ, Bool, false, List, [], ◌∷◌, ◌++◌, length, map, Contains, Option, None, Some, Result, OnOk, OnErr, IfOk, IfErr, IsTrue}
+use Rattle.std.specs.List.Sorted.{IsStrictlySortedBy}
+use Rattle.std.specs.Ordering.{nat_cmp}
+use Rattle.std.specs.declared.cmp.Ordering.{Ordering}
+use Rattle.leveldb_base.specs.Error.{IsOutOfMemory}
+use Rattle.leveldb_base.specs.Names.{IsFileName, file_name}
+use Rattle.leveldb_base.specs.declared.error.Status.{Status}
+use Rattle.leveldb_base.specs.declared.error.StatusCode.TheVariants.{Corruption, NotSupported}
+use Rattle.leveldb_base.specs.declared.types.FileType.{FileType}
+use Rattle.leveldb_base.specs.declared.types.FileType.TheVariants.{Log, Table}
+use Rattle.leveldb_env.specs.Env.{Files, IsEmptyFolder, Run, SameLocks, created, in_folder, synced}
+use Rattle.leveldb_env.specs.declared.env.Env.{Ghosts}
+use Rattle.leveldb_version.specs.NewManifest.{MakingManifest, with_manifest}
+use Rattle.leveldb_version.specs.NewStore.{first_edit, first_manifest}
+use Rattle.leveldb_version.specs.Paths.{current_path, log_path, table_path}
+use Rattle.leveldb_version.specs.Store.{HasNoStore}
+use Rattle.leveldb_version.specs.VersionEdit.{IsEncodable, NewFile}
+use Rattle.leveldb_version.specs.VersionSetValue.{VersionSetValue}
+use Rattle.leveldb_store.specs.Opening.{GivesNumbers, MayNotOpen}
+use Rattle.leveldb_store.specs.ReplayLog.{HasCauseOr}
+
+-- ---- which store is there
+
+-- the name is a table's or a log's
+abbrev pub IsTableOrLog : List ℕ → Type 0
+IsTableOrLog name = (n : ℕ) × (IsFileName name n Table ⊎ IsFileName name n Log)
+
+-- one of the names is
+abbrev pub HasTableOrLog : List (List ℕ) → Type 0
+HasTableOrLog names = (name : List ℕ) × Contains names name × IsTableOrLog name
+
+-- `CURRENT` is missing, and a table or a log is there
+pub record LacksCurrent (store : List ℕ) (files : Files) : Type 0 where
+  pub no_current : files (current_path store) ≡ None
+  pub name : List ℕ
+  pub is : IsTableOrLog name
+  pub there : files (in_folder store name) ≢ None
+
+-- no store was there, and the files are those of a new one, or on the way to it
+pub record IsBeingMade (store comparator : List ℕ) (files now : Files) : Type 0 where
+  pub bare : HasNoStore store files
+  pub encodable : IsEncodable (first_edit comparator)
+  pub making : MakingManifest store 1 (first_manifest comparator) files now
+
+-- no store was there, and a new one was made
+pub record IsMade (store comparator : List ℕ) (files now : Files) : Type 0 where
+  pub bare : HasNoStore store files
+  pub encodable : IsEncodable (first_edit comparator)
+  pub made : now ≡ with_manifest store 1 (first_manifest comparator) files
+
+module _ {E F : Type 0} (env : Ghosts E F) (store comparator : List ℕ)
+    (create_if_missing error_if_exists : Bool) (from : E) where
+  -- Why no store is found or made, beside out of memory: not even the lock's file is there, or the
+  -- store may not be opened, or is damaged.
+  abbrev pub WhyNotFound : Status → Type 0
+  WhyNotFound status = IsEmptyFolder env.models_disk store (env.observed from) status
+      ⊎ MayNotOpen env.models_disk store create_if_missing error_if_exists
+      (env.observed from).disk.files status
+      ⊎ ((status.code ≡ Corruption) × (IsTrue env.models_disk
+      → LacksCurrent store (env.observed from).disk.files))
+
+  -- A store was found, and nothing changed; or there was none, and a new one was made.
+  pub record FindsStore (result : Result (Unit {0}) Status) (to : E) : Type 0 where
+    pub ok : OnOk result (IsTrue env.models_disk
+        → (((env.observed from).disk.files (current_path store) ≢ None)
+        × ((env.observed to).disk.files ≡ (env.observed from).disk.files))
+        ⊎ IsMade store comparator (env.observed from).disk.files (env.observed to).disk.files)
+    pub wanted : OnOk result (IsTrue env.models_disk → IsTrue error_if_exists
+        → (env.observed from).disk.files (current_path store) ≡ None)
+    pub made_if_missing : OnOk result (IsTrue env.models_disk → create_if_missing ≡ false
+        → (env.observed from).disk.files (current_path store) ≢ None)
+    -- what must not be opened stays
+    pub untouched : IfErr result (λ status. MayNotOpen env.models_disk store create_if_missing
+        error_if_exists (env.observed from).disk.files status → IsTrue env.models_disk
+        → (env.observed to).disk.files ≡ (env.observed from).disk.files)
+    -- at each moment the files are the same, or on the way to a new store
+    pub run : IsTrue env.models_disk
+        → Run (λ files. (files ≡ (env.observed from).disk.files)
+        ⊎ IsBeingMade store comparator (env.observed from).disk.files files) (env.observed from)
+        (env.observed to)
+    pub locks : SameLocks env.models_disk (env.observed from) (env.observed to)
+    pub cause : HasCauseOr WhyNotFound (env.failures from) (env.failures to) result
+
+-- ---- names and their numbers
+
+-- the numbers of all these names are used
+pub record MarksNames (old : VersionSetValue) (names : List (List ℕ)) (new : VersionSetValue)
+    : Type 0 where
+  pub gives : GivesNumbers old new
+  pub used : (name : List ℕ) (n : ℕ) (kind : FileType) → Contains names name
+      → IsFileName name n kind → n < new.next_file
+
+-- by the manifest's log number and that of the log before it, a log of this number is replayed
+abbrev pub IsReplayed : ℕ → ℕ → ℕ → Type 0
+IsReplayed log previous n = (log ≤ n) ⊎ ((n ≡ previous) × (0 < n))
+
+-- among these names, a log that is replayed is under another name than its number's
+pub record HasMisnamedLog (names : List (List ℕ)) (log previous : ℕ) : Type 0 where
+  pub name : List ℕ
+  pub n : ℕ
+  pub is_there : Contains names name
+  pub is_log : IsFileName name n Log
+  pub replayed : IsReplayed log previous n
+  pub misnamed : name ≢ file_name Log n
+
+-- the numbers in rising order of the logs among these names that are replayed, each of which is
+-- under its own name
+pub record AreReplayedLogs (names : List (List ℕ)) (log previous : ℕ) (numbers : List ℕ)
+    : Type 0 where
+  pub each : (n : ℕ) → Contains numbers n
+      → IsReplayed log previous n × Contains names (file_name Log n) × (n < 2 ^ 64)
+  pub all : (name : List ℕ) (n : ℕ) → Contains names name → IsFileName name n Log
+      → IsReplayed log previous n → (name ≡ file_name Log n) × Contains numbers n
+  pub rising : IsStrictlySortedBy nat_cmp numbers
+
+-- the table of one of these files is missing
+pub record LacksTable (store : List ℕ) (files : Files) (live : List NewFile) : Type 0 where
+  pub file : NewFile
+  pub is_live : Contains live file
+  pub missing : files (table_path store file.number) ≡ None
+
+-- ---- syncs
+
+-- all bytes of a log are kept, which is made if it is missing
+abbrev pub with_log_kept : List ℕ → ℕ → Files → Files
+with_log_kept store n files = synced (log_path store n) (created (log_path store n) files)
+
+-- all bytes of these logs are kept
+abbrev pub with_logs_kept : List ℕ → List ℕ → Files → Files
+with_logs_kept store [] files = files
+with_logs_kept store (n ∷ logs) files = with_logs_kept store logs (with_log_kept store n files)
+
+-- on the way to one log kept
+abbrev pub IsBeingKept : List ℕ → ℕ → Files → Files → Type 0
+IsBeingKept store n old files = (files ≡ old) ⊎ (files ≡ created (log_path store n) old)
+    ⊎ (files ≡ with_log_kept store n old)
+
+-- on the way to all of them kept: the first of them are, and perhaps the next one is made
+pub record AreBeingKept (store : List ℕ) (logs : List ℕ) (old files : Files) : Type 0 where
+  pub front : List ℕ
+  pub rest : List ℕ
+  pub logs_are : logs ≡ front ++ rest
+  pub now : (files ≡ with_logs_kept store front old)
+      ⊎ ((n : ℕ) × (more : List ℕ) × (rest ≡ n ∷ more)
+      × (files ≡ created (log_path store n) (with_logs_kept store front old)))
