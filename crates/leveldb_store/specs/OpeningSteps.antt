@@ -114,6 +114,15 @@ pub record AreReplayedLogs (names : List (List ℕ)) (log previous : ℕ) (numbe
       → IsReplayed log previous n → (name ≡ file_name Log n) × Contains numbers n
   pub rising : IsStrictlySortedBy nat_cmp numbers
 
+-- the number of a log's name has come, if that is one that is replayed
+pub record AddsLog (log previous : ℕ) (name : List ℕ) (old new : List ℕ) : Type 0 where
+  pub kept : (n : ℕ) → Contains old n → Contains new n
+  pub added : (n : ℕ) → IsFileName name n Log → IsReplayed log previous n
+      → (name ≡ file_name Log n) × Contains new n
+  pub no_other : (n : ℕ) → Contains new n → Contains old n
+      ⊎ (IsReplayed log previous n × (name ≡ file_name Log n) × (n < 2 ^ 64))
+  pub rising : IsStrictlySortedBy nat_cmp old → IsStrictlySortedBy nat_cmp new
+
 -- the table of one of these files is missing
 pub record LacksTable (store : List ℕ) (files : Files) (live : List NewFile) : Type 0 where
   pub file : NewFile

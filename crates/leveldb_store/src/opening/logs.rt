@@ -1,12 +1,13 @@
 //! The version set that a store's manifest leaves, and which logs are replayed.
-ghost use Rattle.std.specs.Prelude.{◌≡◌, ◌≢◌, ◌⊎◌, ◌↔◌, ℕ, IfErr, IfNone, IfOk, IfSome, IsTrue, OnOk, map, string_bytes};
+ghost use Rattle.std.specs.Prelude.{◌≡◌, ◌≢◌, ◌<◌, ◌⊎◌, ◌↔◌, ℕ, [], ◌∷◌, IfErr, IfNone, IfOk, IfSome, IsTrue, OnOk, map, string_bytes};
 ghost use Rattle.leveldb_base.specs.Error.{IsOutOfMemory};
 ghost use Rattle.leveldb_base.specs.Names.{IsFileName, file_name};
 ghost use Rattle.leveldb_base.specs.declared.error.StatusCode.TheVariants.{Corruption, NotSupported};
 ghost use Rattle.leveldb_base.specs.declared.types.FileType.TheVariants.{Log};
 ghost use Rattle.leveldb_env.specs.Env.{FilesUnchanged, Run, SameLocks};
 ghost use Rattle.leveldb_version.specs.VersionEdit.{new_file_of};
-ghost use Rattle.leveldb_store.specs.OpeningSteps.{AreReplayedLogs, HasMisnamedLog, IsReplayed, LacksTable, MarksNames};
+ghost use Rattle.leveldb_store.specs.Opening.{GivesNumbers};
+ghost use Rattle.leveldb_store.specs.OpeningSteps.{AddsLog, AreReplayedLogs, HasMisnamedLog, IsReplayed, LacksTable, MarksNames};
 ghost use Rattle.leveldb_store.specs.ReplayLog.{HasCauseOr};
 
 use leveldb_base::cmp::Cmp;
@@ -63,11 +64,22 @@ fn mark_names<E: Env>(alloc: Global, versions: &mut VersionSet<E>, names: &[Stri
     ensures cause { IfErr result (λ status. status.code ≡ NotSupported) }
 {
     for name in names {
-        if let Ok((number, _)) = parse_file_name(alloc, name.as_str()) {
-            versions.mark_file_number_used(number)?;
-        }
+        mark_name(alloc, versions, name.as_str())?;
     }
     Ok(())
+}
+
+// Makes the number of a name used, if it has one.
+fn mark_name<E: Env>(alloc: Global, versions: &mut VersionSet<E>, name: &str) -> Result<()>
+    ensures gives { OnOk result (GivesNumbers versions.old versions.new) }
+    ensures used { OnOk result ((n : ℕ) (kind : FileType) → IsFileName name.now n kind
+        → n < versions.new.next_file) }
+    ensures cause { IfErr result (λ status. status.code ≡ NotSupported) }
+{
+    let Ok((number, _)) = parse_file_name(alloc, name) else {
+        return Ok(());
+    };
+    versions.mark_file_number_used(number)
 }
 
 // Checks that each of the tables is there.
@@ -107,12 +119,30 @@ fn find_logs(
 {
     let mut logs = BTreeSet::new(alloc);
     for name in names {
-        if let Some(number) = replayed_log(alloc, name.as_str(), log, previous) {
-            check_log_name(alloc, store, name.as_str(), number)?;
-            logs.insert(number)?;
-        }
+        add_log(alloc, store, name.as_str(), log, previous, &mut logs)?;
     }
     Ok(logs)
+}
+
+// Adds the number of the log of this name, if it is one that is replayed.
+fn add_log(
+    alloc: Global,
+    store: &str,
+    name: &str,
+    log: FileNum,
+    previous: FileNum,
+    logs: &mut BTreeSet<FileNum>,
+) -> Result<()>
+    ensures ok { OnOk result (AddsLog log previous name.now logs.old.keys logs.new.keys) }
+    ensures cause { IfErr result (λ status. IsOutOfMemory status ⊎ ((status.code ≡ Corruption)
+        × HasMisnamedLog (name.now ∷ []) log previous)) }
+{
+    let Some(number) = replayed_log(alloc, name, log, previous) else {
+        return Ok(());
+    };
+    check_log_name(alloc, store, name, number)?;
+    logs.insert(number)?;
+    Ok(())
 }
 
 // The number of the log of this name, if it is one that is replayed.

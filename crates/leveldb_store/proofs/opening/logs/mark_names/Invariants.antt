@@ -1,0 +1,11 @@
+use Rattle.std.proofs.Common.{◌<◌, ◌≡◌, ℕ, List, take}
+use Rattle.std.specs.Prelude.{Contains}
+use Rattle.leveldb_base.specs.Names.{IsFileName}
+use Rattle.leveldb_base.specs.declared.types.FileType.{FileType}
+use Rattle.leveldb_store.specs.Opening.{GivesNumbers}
+use Rattle.leveldb_store.specs.OpeningSteps.{MarksNames}
+use Rattle.leveldb_store.proofs.OpeningNamesLemmas.{texts_of}
+use Rattle.leveldb_store.proofs.opening.logs.mark_names.Given as goal
+
+abbrev pub invariant-loop-name : goal.invariant-loop-name
+invariant-loop-name g l = MarksNames l.initial.versions (texts_of (take l.name-index l.names)) l.versions
