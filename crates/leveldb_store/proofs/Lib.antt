@@ -1,3 +1,5 @@
 mod BuildTableLemmas
 pub mod WriteLemmas
 mod OpeningNamesLemmas
+mod OpeningCausesLemmas
+mod OpeningSyncsLemmas

@@ -15,7 +15,9 @@ use Rattle.std.specs.Ordering.{is_eq, nat_cmp}
 use Rattle.leveldb_base.proofs.HistoryLemmas.{in_none}
 use Rattle.leveldb_base.proofs.NamesLemmas.{one_reading}
 use Rattle.leveldb_base.specs.Names.{IsFileName, ReadsName, file_name}
+use Rattle.leveldb_base.specs.Error.{IsOutOfMemory}
 use Rattle.leveldb_base.specs.declared.error.Status.{Status}
+use Rattle.leveldb_base.specs.declared.error.StatusCode.TheVariants.{Corruption}
 use Rattle.leveldb_base.specs.declared.types.FileType.{FileType}
 use Rattle.leveldb_base.specs.declared.types.FileType.TheVariants.{Log, Table}
 use Rattle.leveldb_version.specs.VersionSetValue.{VersionSetValue, with_numbers_used}
@@ -92,7 +94,10 @@ pub marks_more : (old mid new : VersionSetValue) (names : List (String Global)) 
     → MarksNames old (texts_of (take i names)) mid → GivesNumbers mid new
     → ((n : ℕ) (kind : FileType) → IsFileName (string_bytes name) n kind → n < new.next_file) → MarksNames old (texts_of (take (i + 1) names)) new
 marks_more old mid new names i name inside is marks gives used = record {
-  gives = record { set = gives.set ∙ ap (λ set. record set { next_file = new.next_file; given = new.given }) marks.gives.set; rises = omega (arith, marks.gives.rises, gives.rises) };
+  gives = record {
+    set = let moved : VersionSetValue → VersionSetValue = λ set. record set { next_file = new.next_file; given = new.given } in gives.set ∙ ap moved marks.gives.set;
+    rises = omega (arith, marks.gives.rises, gives.rises);
+  };
   used = λ a n kind there is_name. each_name_more (λ a. (n : ℕ) (kind : FileType) → IsFileName a n kind → n < new.next_file) names i name inside is
       (λ a there n kind is_name. let below = marks.used a n kind there is_name in omega (arith, below, gives.rises)) used a there n kind is_name;
 }
@@ -211,3 +216,17 @@ marked_used (Ok done) name number kind old new is marked = λ n other read.
     let next = ap (λ set. set.next_file) marked in
     rw same (rw next (omega arith))
 marked_used (Err status) name number kind old new is marked = tt
+
+-- why a log's name was refused
+pub misnamed_alone : (log previous : ℕ) (name : List ℕ) (n : ℕ) (status : Status) → IsFileName name n Log → IsReplayed log previous n
+    → IsOutOfMemory status ⊎ ((status.code ≡ Corruption) × (name ≢ file_name Log n))
+    → IsOutOfMemory status ⊎ ((status.code ≡ Corruption) × HasMisnamedLog (name ∷ []) log previous)
+misnamed_alone log previous name n status is replayed (inl memory) = inl memory
+misnamed_alone log previous name n status is replayed (inr it) = inr (it.0, record {
+  name = name;
+  n = n;
+  is_there = Contains-push [] name;
+  is_log = is;
+  replayed = replayed;
+  misnamed = it.1;
+})
