@@ -1,5 +1,5 @@
 -- How a builder gets the pairs of a walk, what its table is to a store, and what the file's calls leave.
-use Rattle.std.proofs.Common.{◌≡◌, ◌≢◌, ◌⊎◌, inl, inr, ⊎_elim, ℕ, zero, suc, ◌+◌, ◌<◌, ◌≤◌, Bool, true, false, List, [], ◌∷◌, ◌++◌, length, take, map, nat_lt, Option, None, Some, Result, Ok, Err, refl, sym, ◌∙◌, ap, subst, append_assoc, arith}
+use Rattle.std.proofs.Common.{◌≡◌, ◌≢◌, ◌⊎◌, inl, inr, ⊎_elim, ℕ, zero, suc, ◌+◌, ◌^◌, ◌<◌, ◌≤◌, Bool, true, false, List, [], ◌∷◌, ◌++◌, length, take, map, nat_lt, Option, None, Some, Result, Ok, Err, refl, sym, ◌∙◌, ap, subst, append_assoc, arith}
 use Rattle.std.specs.Prelude.{All, IsTrue, OnOk, slice_get, slice_index_or, if◌then◌else◌, ◌&&◌}
 use Rattle.std.specs.Global.{Vec}
 use Rattle.std.specs.Option.{option_map}
@@ -21,7 +21,7 @@ use Rattle.leveldb_base.specs.declared.error.Status.{Status}
 use Rattle.leveldb_base.specs.declared.types.FileMetaData.{FileMetaData}
 use Rattle.leveldb_env.proofs.EnvLemmas.{SameBut-appending, SameBut-emptied, SameBut-refl, SameBut-synced, SameBut-trans, at_same, begun, call, extended-same, with_file-twice}
 use Rattle.leveldb_env.proofs.SinkLemmas.{PutsAll-bytes, PutsAll-none, PutsAll-trans}
-use Rattle.leveldb_env.specs.Env.{BeforeOrAfter, ChangesFiles, Files, HasCause, Observed, PrefixAppended, Run, SameBut, SameLocks, emptied, extended, file_kept, kept_file, longer_file, synced, with_file}
+use Rattle.leveldb_env.specs.Env.{AreBytes, BeforeOrAfter, ChangesFiles, Files, HasCause, Observed, PrefixAppended, Run, SameBut, SameLocks, emptied, extended, file_kept, kept_file, longer_file, synced, with_file}
 use Rattle.leveldb_env.specs.Compressor.{Codings, Decodes}
 use Rattle.leveldb_env.specs.declared.env.Env.{Ghosts as EnvGhosts}
 use Rattle.leveldb_env.specs.declared.filter.FilterPolicy.{Ghosts as FilterGhosts}
@@ -35,6 +35,7 @@ use Rattle.leveldb_table.specs.declared.table_builder.builder_core.BuilderCore.{
 use Rattle.leveldb_version.specs.Batches.{Each}
 use Rattle.leveldb_version.specs.Paths.{table_path}
 use Rattle.leveldb_version.specs.Store.{IsFirstKey, IsInternalPair, IsLastKey, IsStoreTable, any_user_key}
+use Rattle.leveldb_version.specs.StoreSteps.{AppendedAreBytes}
 use Rattle.leveldb_store.specs.BuildTable.{AddsPairs, CanBeTabled, HasTaken, IsNotTabled, IsTableBuilt, IsTableFile, IsTableOfStore, IsTableUnder, MakesTable, TableChoices, flushes_in_memory, passed, puts_in_memory}
 
 -- ---- pairs in turn
@@ -327,6 +328,10 @@ module _ (path bytes : List ℕ) where
         ap (synced path) (append.ok modelled ∙ ap (extended path bytes) (opening.ok modelled)) ∙ written_is first in
         record { ok = λ t. subst (λ (f : Files). OnOk synced' (v3.disk.files ≡ f)) made (sync.ok t); now = λ t. run.has; time = run.time }
 
+-- no bytes
+no_bytes : AreBytes []
+no_bytes i = omega arith
+
 -- ---- the ends of `build_table`
 
 module _ {C FP : Type 0} {order : CmpGhosts C} {filters : FilterGhosts FP} (choices : TableChoices order filters) (pairs : List Pair) {E F : Type 0} (env : EnvGhosts E F) (Fails : Status → Type 0) (store : List ℕ) (number : ℕ) where
@@ -334,18 +339,28 @@ module _ {C FP : Type 0} {order : CmpGhosts C} {filters : FilterGhosts FP} (choi
   pub MakesTable-before : (old : E) (status : Status) → IsOutOfMemory status ⊎ (IsNotTabled choices pairs status ⊎ Fails status) → MakesTable choices pairs env Fails store number old (Err status) old
   MakesTable-before old status why = record {
     number_is = tt;
+    fits = tt;
     none = λ empty. (refl, tt);
     made = λ some. tt;
     has = λ some modelled. tt;
+    bytes = λ modelled were. were;
     run = λ modelled. begun (env.observed old) (SameBut-refl (table_path store number) (env.observed old).disk.files);
     locks = λ modelled. refl;
     cause = record { later = omega arith; ok = tt; uncounted = λ excused. refl; cause = inl (⊎_elim (λ memory. inl memory) (λ other. inr (other, refl)) why) };
   }
 
   -- no pair
-  pub MakesTable-none : (old : E) (file : FileMetaData) → pairs ≡ [] → file.num ≡ number → file.allowed_seeks ≡ 0 → file.size ≡ 0 → MakesTable choices pairs env Fails store number old (Ok file) old
-  MakesTable-none old file empty number_is seeks size = record {
+  pub MakesTable-none : (old : E) (file : FileMetaData) → pairs ≡ [] → number < 2 ^ 64 → file.num ≡ number → file.allowed_seeks ≡ 0 → file.size ≡ 0 → file.smallest ≡ [] → file.largest ≡ []
+      → MakesTable choices pairs env Fails store number old (Ok file) old
+  MakesTable-none old file empty number_fits number_is seeks size smallest largest = record {
     number_is = (number_is, seeks);
+    fits = λ level. record {
+      number = omega (arith, number_is, number_fits);
+      size = omega (arith, size);
+      smallest = subst AreBytes (sym smallest) no_bytes;
+      largest = subst AreBytes (sym largest) no_bytes;
+    };
+    bytes = λ modelled were. were;
     none = λ none. (refl, size);
     made = λ some. absurd (some empty);
     has = λ some modelled. absurd (some empty);
@@ -354,12 +369,15 @@ module _ {C FP : Type 0} {order : CmpGhosts C} {filters : FilterGhosts FP} (choi
     cause = record { later = omega arith; ok = refl; uncounted = tt; cause = tt };
   }
 
-  module _ (some : pairs ≢ []) (path bytes : List ℕ) (named : path ≡ table_path store number) {old new : E} (locks : SameLocks env.models_disk (env.observed old) (env.observed new)) where
+  module _ (some : pairs ≢ []) (path bytes : List ℕ) (named : path ≡ table_path store number) {old new : E} (locks : SameLocks env.models_disk (env.observed old) (env.observed new))
+      (stay : IsTrue env.models_disk → AppendedAreBytes (env.observed old).disk.files → AppendedAreBytes (env.observed new).disk.files) where
     -- a call for the file failed
     pub MakesTable-failed : (status : Status) → (IsTrue env.models_disk → ChangesFiles {T = Unit {0}} env.models_disk (with_file path (Some (kept_file bytes))) (SameBut path) (env.observed old) (env.observed new) (Err status))
         → HasCause {T = Unit {0}} IsOutOfMemory (env.failures old) (env.failures new) (Err status) → MakesTable choices pairs env Fails store number old (Err status) new
     MakesTable-failed status does cause = record {
       number_is = tt;
+      fits = tt;
+      bytes = stay;
       none = λ empty. absurd (some empty);
       made = λ more. tt;
       has = λ more modelled. tt;
@@ -374,18 +392,20 @@ module _ {C FP : Type 0} {order : CmpGhosts C} {filters : FilterGhosts FP} (choi
     }
 
     -- the file was made
-    pub MakesTable-done : (smallest largest : List ℕ) (size : ℕ) → size ≡ length bytes → (IsTrue env.models_disk → ChangesFiles {T = Unit {0}} env.models_disk (with_file path (Some (kept_file bytes))) (SameBut path) (env.observed old) (env.observed new) (Ok tt))
+    pub MakesTable-done : (smallest largest : List ℕ) (size : ℕ) → number < 2 ^ 64 → size < 2 ^ 64 → AreBytes smallest × AreBytes largest → size ≡ length bytes → (IsTrue env.models_disk → ChangesFiles {T = Unit {0}} env.models_disk (with_file path (Some (kept_file bytes))) (SameBut path) (env.observed old) (env.observed new) (Ok tt))
         → HasCause {T = Unit {0}} IsOutOfMemory (env.failures old) (env.failures new) (Ok tt) → IsTableBuilt choices pairs bytes → IsFirstKey smallest pairs → IsLastKey largest pairs
         → ((read : List ℕ) → IsTableBuilt choices pairs read → (meaning : List ℕ → Option (List ℕ → List ℕ → Bool)) → IsMeaningOf meaning choices.format.policy_name (λ key. choices.format.matches (user_part key))
         → IsStoreTable (Decodes choices.format.codings) choices.format.order meaning read pairs)
         → MakesTable choices pairs env Fails store number old (Ok (record { allowed_seeks = 0; num = number; size = size; smallest = smallest; largest = largest })) new
-    MakesTable-done smallest largest size size_is does cause built first last reads =
+    MakesTable-done smallest largest size number_fits size_fits keys size_is does cause built first last reads =
         let file : FileMetaData = record { allowed_seeks = 0; num = number; size = size; smallest = smallest; largest = largest } in
         let there : IsTrue env.models_disk → (env.observed new).disk.files (table_path store number) ≡ Some (kept_file bytes) = λ modelled. subst (λ p. (env.observed new).disk.files p ≡ Some (kept_file bytes)) named
         (ap (λ (f : Files). f path) ((does modelled).ok modelled) ∙ at_same path (Some (kept_file bytes)) (env.observed old).disk.files) in
         let made : IsTableFile choices pairs env.models_disk store (env.observed new).disk.files file = record { bytes = bytes; built = built; kept = there; size = size_is; smallest = first; largest = last } in
         record {
           number_is = (refl, refl);
+          fits = λ level. record { number = number_fits; size = size_fits; smallest = keys.0; largest = keys.1 };
+          bytes = stay;
           none = λ empty. absurd (some empty);
           made = λ more. made;
           has = λ more modelled. file_of_store choices pairs modelled made reads;

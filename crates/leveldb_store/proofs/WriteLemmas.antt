@@ -1,6 +1,6 @@
 -- What syncs of the log, and appends to it, make of an open store.
 use Rattle.std.specs.Prelude.{◌≢◌, IsErrAnd, IsTrue, OnErr, OnOk, IfErr, IfOk}
-use Rattle.std.proofs.Common.{◌≡◌, ◌⊎◌, ◌∙◌, ◌∷◌, ◌+◌, ◌≤◌, length, inl, inr, ⊎_elim, ℕ, Bool, true, false, List, [], None, Ok, Err, Result, ap, arith, refl, subst, sym}
+use Rattle.std.proofs.Common.{◌≡◌, ◌∙◌, ◌∷◌, ◌+◌, ◌≤◌, length, inl, inr, ⊎_elim, ℕ, Bool, true, false, List, [], None, Ok, Err, Result, ap, arith, refl, subst, sym}
 use Rattle.leveldb_base.specs.History.{Item, greatest, placed}
 use Rattle.leveldb_base.specs.declared.error.Status.{Status}
 use Rattle.leveldb_base.specs.declared.error.StatusCode.TheVariants.{IOError, NotFound, OutOfMemory}
@@ -78,6 +78,7 @@ module _ {E F C : Type 0} (env : Ghosts E F) (old : OpenStoreValue C) (from : E)
     undone = λ modelled. refl;
     locks = λ modelled. refl;
     ok = tt;
+    usable = tt;
     err = stays;
     broken = λ is. (refl, refl);
     cause = still_cause status lost;
@@ -92,11 +93,16 @@ module _ {E F C : Type 0} (env : Ghosts E F) (old : OpenStoreValue C) (from : E)
       undone = err_found (IsTrue env.models_disk → (env.observed to).disk.files ≡ (env.observed from).disk.files) (open_log_path old) answer result found flushes.flushed.undone;
       locks = flushes.flushed.locks;
       ok = ok_found (with_writer old last ≡ old) (open_log_path old) answer result found (same_of answer flushes.ok);
+      usable = of_ok result usable;
       err = all_errs (last ≡ broken_writer old.log.writer) (StaysOrBreaks env old from (with_writer old last) to) result (λ is status. inr (ap (with_writer old) is)) (err_found (last ≡ broken_writer old.log.writer) (open_log_path old) answer result found flushes.err);
       broken = λ broken. let never : false ≡ true = sym usable ∙ broken in absurd (cc never);
       cause = device_cause (env.name_of file) answer result usable named found flushes.flushed.cause;
     }
       where
+        of_ok : (result : Result (Unit {0}) Status) → old.log.writer.broken ≡ false → OnOk result (old.log.writer.broken ≡ false)
+        of_ok (Ok value) is = is
+        of_ok (Err status) is = tt
+
         same_of : (answer : Result (Unit {0}) Status) → OnOk answer (last ≡ old.log.writer) → OnOk answer (with_writer old last ≡ old)
         same_of (Ok value) is = ap (with_writer old) is
         same_of (Err status) is = tt

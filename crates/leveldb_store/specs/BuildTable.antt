@@ -22,8 +22,10 @@ use Rattle.leveldb_table.specs.TableBuilderAdd.{IsAddError}
 use Rattle.leveldb_table.specs.TableBuilderFinish.{IsFinishError}
 use Rattle.leveldb_table.specs.declared.table_builder.builder_core.BuilderCore.{BuilderCore}
 use Rattle.leveldb_version.specs.Batches.{Each}
+use Rattle.leveldb_version.specs.Opening.{FitsEdit}
 use Rattle.leveldb_version.specs.Paths.{table_path}
 use Rattle.leveldb_version.specs.Store.{HasTable, IsFirstKey, IsInternalPair, IsLastKey, IsStoreTable}
+use Rattle.leveldb_version.specs.StoreSteps.{AppendedAreBytes}
 use Rattle.leveldb_version.specs.VersionEdit.{new_file_of}
 use Rattle.leveldb_store.specs.Format.{Format, format_of}
 
@@ -188,6 +190,8 @@ module _ {C FP : Type 0} {order : CmpGhosts C} {filters : FilterGhosts FP}
       (store : List ℕ) (number : ℕ) (old : E) (result : Result FileMetaData Status) (new : E)
       : Type 0 where
     pub number_is : IfOk result (λ file. (file.num ≡ number) × (file.allowed_seeks ≡ 0))
+    -- an edit may have the file, in any level
+    pub fits : IfOk result (λ file. (level : ℕ) → FitsEdit (new_file_of (level, file)))
     -- over no pair no call is made, and the file has no byte
     pub none : pairs ≡ [] → (new ≡ old) × IfOk result (λ file. file.size ≡ 0)
     -- else the file is made, and it is a table of the store
@@ -198,6 +202,9 @@ module _ {C FP : Type 0} {order : CmpGhosts C} {filters : FilterGhosts FP}
     -- now and at each moment on the way no other file changes, nor does a lock
     pub run : IsTrue env.models_disk → Run (SameBut (table_path store number)
         (env.observed old).disk.files) (env.observed old) (env.observed new)
+    -- what was appended to each file are bytes, if they were before
+    pub bytes : IsTrue env.models_disk → AppendedAreBytes (env.observed old).disk.files
+        → AppendedAreBytes (env.observed new).disk.files
     pub locks : SameLocks env.models_disk (env.observed old) (env.observed new)
     -- Out of memory; or no table was built in memory or the walk failed, and no call was made; or
     -- the device failed. Keys out of order are no cause: those of the walk rise.

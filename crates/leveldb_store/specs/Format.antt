@@ -2,6 +2,7 @@
 use Rattle.std.specs.Prelude.{◌≡◌, ℕ, Bool, List, Option, Some, IsTrue}
 use Rattle.std.specs.declared.cmp.Ordering.{Ordering}
 use Rattle.leveldb_base.specs.declared.error.StatusCode.{StatusCode}
+use Rattle.leveldb_base.specs.KeyTypes.{user_part}
 use Rattle.leveldb_base.specs.declared.cmp.Cmp.{Ghosts as CmpGhosts}
 use Rattle.leveldb_env.specs.Compressor.{Coding, Codings}
 use Rattle.leveldb_env.specs.Options.{Boxed, OptionsOf}
@@ -9,8 +10,8 @@ use Rattle.leveldb_env.specs.declared.compressor.CompressorList.{CompressorList}
 use Rattle.leveldb_env.specs.declared.filter.FilterPolicy.{Ghosts as FilterGhosts}
 
 -- What names and ids mean in the files of a store, at each of its openings alike: of a comparator's
--- name the order of users' keys, of an id its compressor, and of a filter policy's name whether a
--- key matches a filter.
+-- name the order of users' keys, of an id its compressor, and of a filter policy's name whether an
+-- internal key matches a filter.
 pub record Meaning : Type 0 where
   pub orders : List ℕ → List ℕ → List ℕ → Ordering
   pub codings : Codings
@@ -23,7 +24,7 @@ pub record Format : Type 0 where
   pub order_name : List ℕ
   pub codings : Codings
   pub policy_name : List ℕ
-  -- whether a key matches a filter
+  -- whether a user's key matches a filter
   pub matches : List ℕ → List ℕ → Bool
 
 -- the format of a store with these options, where the ghosts say what comparators and filter
@@ -38,12 +39,13 @@ format_of cmp filters codings options = record {
   matches = filters.matches options.filter_policy;
 }
 
--- the format says of its names and ids what they mean
+-- The format says of its names and ids what they mean. An internal key matches a filter where its
+-- user's key does.
 pub record Agrees (format : Format) (meaning : Meaning) : Type 0 where
   pub order : format.order ≡ meaning.orders format.order_name
   pub codings : (id : ℕ) (coding : Coding) → format.codings id ≡ Some coding
       → meaning.codings id ≡ Some coding
-  pub filters : meaning.filters format.policy_name ≡ Some format.matches
+  pub filters : meaning.filters format.policy_name ≡ Some (λ key. format.matches (user_part key))
 
 -- a compressor of the format fails with this code for some block that it is to encode
 pub record HasCompressorError (format : Format) (code : StatusCode) : Type 0 where

@@ -5,6 +5,8 @@ pub mod Write
 pub mod Written
 pub mod Switch
 pub mod Read
+pub mod ReadTable
+pub mod Search
 pub mod Opening
 pub mod ReplayLog
 pub mod OpeningSteps

@@ -1,8 +1,10 @@
 -- A store that is open: what is in memory of it.
-use Rattle.std.specs.Prelude.{◌≡◌, ◌≢◌, ℕ, Bool, Option, false}
+use Rattle.std.specs.Prelude.{◌≡◌, ◌≢◌, ℕ, Option, false}
+use Rattle.leveldb_base.specs.declared.types.FileType.TheVariants.{Descriptor}
 use Rattle.leveldb_mem.specs.Log.Writer.{WriterState}
 use Rattle.leveldb_mem.specs.MemTable.{Kept}
-use Rattle.leveldb_version.specs.VersionSetValue.{VersionSetValue, broken}
+use Rattle.leveldb_version.specs.Paths.{IsFilePath}
+use Rattle.leveldb_version.specs.VersionSetValue.{OpenManifest, VersionSetValue, broken, in_use}
 
 -- a log that batches are appended to
 pub record OpenLogValue : Type 0 where
@@ -27,3 +29,8 @@ pub record OpenStoreValue (C : Type 0) : Type 0 where
 pub record IsUnbroken {C : Type 0} (value : OpenStoreValue C) : Type 0 where
   pub manifest : value.set.manifest ≢ broken
   pub log : value.log.writer.broken ≡ false
+
+-- the manifest to which edits are appended, if one is in use, is in the store's folder
+abbrev pub HasOwnManifest : VersionSetValue → Type 0
+HasOwnManifest set = (manifest : OpenManifest) → set.manifest ≡ in_use manifest
+    → IsFilePath Descriptor set.store manifest.path

@@ -1,13 +1,14 @@
 -- What a switch of the log, the table of the entries that wait, and the removal of obsolete files
 -- change of an open store, and why each fails.
-use Rattle.std.specs.Prelude.{◌≡◌, ◌≢◌, ◌⊎◌, ℕ, [], List, None, Some, Result, IfErr, OnErr, OnOk, IsTrue}
+use Rattle.std.specs.Prelude.{◌≡◌, ◌≢◌, ◌⊎◌, ◌≤◌, ◌<◌, ◌-◌, ◌^◌, ℕ, List, [], ◌∷◌, All, Contains, None, Some, Result, Ok, IfErr, OnErr, OnOk, IsTrue}
 use Rattle.leveldb_base.specs.Error.{IsOutOfMemory}
 use Rattle.leveldb_base.specs.Names.{IsFileName}
 use Rattle.leveldb_base.specs.Types.{Pair}
 use Rattle.leveldb_base.specs.declared.cmp.Cmp.{Ghosts as CmpGhosts}
 use Rattle.leveldb_base.specs.declared.error.Status.{Status}
+use Rattle.leveldb_base.specs.declared.error.StatusCode.TheVariants.{NotFound}
 use Rattle.leveldb_base.specs.declared.types.FileType.{FileType}
-use Rattle.leveldb_env.specs.Env.{HasCause, Files, SameLocks, in_folder}
+use Rattle.leveldb_env.specs.Env.{BeforeOrAfter, ChangesFiles, Files, HasCause, IsEmptyFolder, IsMissing, Run, SameLocks, deleted, in_folder}
 use Rattle.leveldb_env.specs.WholeFiles.{IsLost}
 use Rattle.leveldb_env.specs.declared.env.Env.{Ghosts}
 use Rattle.leveldb_env.specs.declared.filter.FilterPolicy.{Ghosts as FilterGhosts}
@@ -68,6 +69,14 @@ module _ {E F C : Type 0} (env : Ghosts E F) (old : OpenStoreValue C) (from : E)
       (env.failures to) status)
       ⊎ ((old.set.manifest ≡ broken) × IsWriterBroken status)
 
+  -- Why the entries aren't in a table: the numbers of files are used up; out of memory; no table
+  -- was built of them, and no call was made; or the manifest is lost.
+  abbrev pub FailsToTable : {D FP : Type 0} {order : CmpGhosts D} {filters : FilterGhosts FP}
+      → TableChoices order filters → List Pair → E → Status → Type 0
+  FailsToTable choices pairs to status = AreFileNumbersUsedUp old.set.next_file status
+      ⊎ IsOutOfMemory status ⊎ (IsNotTabled choices pairs status × (to ≡ from))
+      ⊎ IsManifestLost to status
+
   -- The entries that waited are in a table of level 0, which the set has; `pairs` are they. After
   -- an Err they wait still; a number may have been given, and the set be broken.
   pub record TablesWaiting {D FP : Type 0} {order : CmpGhosts D} {filters : FilterGhosts FP}
@@ -78,34 +87,93 @@ module _ {E F C : Type 0} (env : Ghosts E F) (old : OpenStoreValue C) (from : E)
     pub waits : OnErr result (new.waiting ≡ old.waiting)
     pub err : OnErr result (MayGiveNumber old.set new.set
         ⊎ (new.set ≡ record (with_number_given old.set) { manifest = broken }))
+    -- where the set was broken before, no call is made
+    pub broken_before : old.set.manifest ≡ broken → (new ≡ old) × (to ≡ from)
     pub recent : new.recent ≡ old.recent
     pub log : new.log ≡ old.log
     pub rest : SparesRest env.models_disk old (env.observed from) new (env.observed to)
-    pub cause : HasCause (λ status. AreFileNumbersUsedUp old.set.next_file status
-        ⊎ IsNotTabled choices pairs status ⊎ IsManifestLost to status)
-        (env.failures from) (env.failures to) result
+    pub cause : HasCause (FailsToTable choices pairs to) (env.failures from) (env.failures to)
+        result
 
-  -- ---- obsolete files
+-- ---- obsolete files
+
+-- Why a call that goes on after an error returned the first one. The count of failed calls doesn't
+-- fall, and an Ok isn't counted. An Err is excused, or the count rose or is at its greatest.
+pub record HasFirstCause {T : Type 0} (Excused : Status → Type 0) (before now : ℕ)
+    (result : Result T Status) : Type 0 where
+  pub later : before ≤ now
+  pub ok : OnOk result (now ≡ before)
+  pub cause : IfErr result
+      (λ e. Excused e ⊎ (before < now) ⊎ ((before ≡ 2 ^ 64 - 1) × (now ≡ before)))
+
+-- the files without these
+abbrev pub without_files : List (List ℕ) → Files → Files
+without_files [] files = files
+without_files (path ∷ paths) files = deleted path (without_files paths files)
+
+module _ (set : VersionSetValue) where
+  -- a name of an obsolete file
+  abbrev pub IsObsoleteName : List ℕ → Type 0
+  IsObsoleteName name =
+      (n : ℕ) × (kind : FileType) × IsFileName name n kind × IsObsolete set kind n
 
   -- a path of an obsolete file
   abbrev pub IsObsoletePath : List ℕ → Type 0
-  IsObsoletePath path = (name : List ℕ) × (n : ℕ) × (kind : FileType) × IsFileName name n kind
-      × IsObsolete old.set kind n × (path ≡ in_folder old.set.store name)
+  IsObsoletePath path =
+      (name : List ℕ) × IsObsoleteName name × (path ≡ in_folder set.store name)
 
   -- each file stays as it is, or is obsolete and gone
   abbrev pub RemovesNoOther : Files → Files → Type 0
   RemovesNoOther before after = (path : List ℕ) → (after path ≡ before path)
       ⊎ (IsObsoletePath path × (after path ≡ None))
 
+  -- some files were removed, all of them obsolete
+  abbrev pub AreRemoved : Files → Files → Type 0
+  AreRemoved before after =
+      (paths : List (List ℕ)) × All IsObsoletePath paths × (after ≡ without_files paths before)
+
+-- a file was deleted, or the call failed
+pub record DeletesFile {E F : Type 0} (env : Ghosts E F) (from : E) (path : List ℕ)
+    (result : Result (Unit {0}) Status) (to : E) : Type 0 where
+  pub does : IsTrue env.models_disk → ChangesFiles env.models_disk (deleted path)
+      (BeforeOrAfter (deleted path)) (env.observed from) (env.observed to) result
+  pub locks : SameLocks env.models_disk (env.observed from) (env.observed to)
+  pub cause : HasCause (IsMissing env.models_disk path (env.observed from))
+      (env.failures from) (env.failures to) result
+
+module _ {E F : Type 0} (env : Ghosts E F) (set : VersionSetValue) (from : E) where
   -- Obsolete files were removed, and no others; after an Err some of them may be there still. A
-  -- store that is broken removes none.
+  -- set that is broken removes none.
   pub record RemovesObsolete (result : Result (Unit {0}) Status) (to : E) : Type 0 where
     pub others : IsTrue env.models_disk
-        → RemovesNoOther (env.observed from).disk.files (env.observed to).disk.files
-    pub all : old.set.manifest ≢ broken → OnOk result (IsTrue env.models_disk
-        → (path : List ℕ) → IsObsoletePath path → (env.observed to).disk.files path ≡ None)
-    pub broken_keeps : old.set.manifest ≡ broken → to ≡ from
+        → RemovesNoOther set (env.observed from).disk.files (env.observed to).disk.files
+    pub all : set.manifest ≢ broken → OnOk result (IsTrue env.models_disk
+        → (path : List ℕ) → IsObsoletePath set path → (env.observed to).disk.files path ≡ None)
+    pub broken_keeps : set.manifest ≡ broken → (result ≡ Ok tt) × (to ≡ from)
     pub locks : SameLocks env.models_disk (env.observed from) (env.observed to)
-    -- out of memory, or a call of the device failed; where no disk is modelled, it may lack a name
-    pub cause : HasCause (λ status. IsOutOfMemory status ⊎ (IsTrue env.models_disk → ⊥))
+    -- out of memory, the folder has no file, or a call of the device failed; where no disk is
+    -- modelled, a file may be missing that was listed
+    pub cause : HasFirstCause (IsEmptyFolder env.models_disk set.store (env.observed from))
+        (env.failures from) (env.failures to) result
+
+  -- ---- one file after the other
+
+  -- the file of a name was deleted, or it isn't obsolete and no call was made
+  abbrev pub RemovesName : List ℕ → Result (Unit {0}) Status → E → Type 0
+  RemovesName name result to =
+      (IsObsoleteName set name × DeletesFile env from (in_folder set.store name) result to)
+      ⊎ ((IsObsoleteName set name → ⊥) × (result ≡ Ok tt) × (to ≡ from))
+
+  -- Of the files of these names in the folder, each of which was there, the obsolete ones were
+  -- deleted, or some of them after an Err.
+  pub record RemovesNames (names : List (List ℕ)) (result : Result (Unit {0}) Status) (to : E)
+      : Type 0 where
+    pub run : IsTrue env.models_disk → Run (AreRemoved set (env.observed from).disk.files)
+        (env.observed from) (env.observed to)
+    pub all : OnOk result (IsTrue env.models_disk → (name : List ℕ) → Contains names name
+        → IsObsoleteName set name
+        → (env.observed to).disk.files (in_folder set.store name) ≡ None)
+    pub locks : SameLocks env.models_disk (env.observed from) (env.observed to)
+    pub cause : HasFirstCause (λ status. IsOutOfMemory status
+        ⊎ ((status.code ≡ NotFound) × (IsTrue env.models_disk → ⊥)))
         (env.failures from) (env.failures to) result

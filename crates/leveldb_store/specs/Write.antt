@@ -1,5 +1,5 @@
 -- What the calls on an open store's log change, and what each returns.
-use Rattle.std.specs.Prelude.{◌≡◌, ◌≤◌, ◌<◌, ◌+◌, ◌⊎◌, ℕ, true, List, length, max, Result, OnOk, OnErr, IfErr, IsTrue}
+use Rattle.std.specs.Prelude.{◌≡◌, ◌≤◌, ◌<◌, ◌+◌, ◌⊎◌, ℕ, true, false, List, length, max, Result, OnOk, OnErr, IfErr, IsTrue}
 use Rattle.leveldb_base.specs.History.{AreUpTo, placed}
 use Rattle.leveldb_base.specs.KeyTypes.{greatest_sequence}
 use Rattle.leveldb_base.specs.declared.error.Status.{Status}
@@ -47,6 +47,7 @@ module _ {E F C : Type 0} (env : Ghosts E F) (old : OpenStoreValue C) (from : E)
         → (env.observed to).disk.files ≡ (env.observed from).disk.files)
     pub locks : SameLocks env.models_disk (env.observed from) (env.observed to)
     pub ok : OnOk result (new ≡ old)
+    pub usable : OnOk result (old.log.writer.broken ≡ false)
     pub err : IfErr result (StaysOrBreaks new to)
     pub broken : old.log.writer.broken ≡ true → (new ≡ old) × (to ≡ from)
     pub cause : HasCause (IsLogLost to) (env.failures from) (env.failures to) result

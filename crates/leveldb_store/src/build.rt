@@ -5,11 +5,12 @@ ghost use Rattle.leveldb_base.specs.Error.{IsOutOfMemory};
 ghost use Rattle.leveldb_base.specs.History.{AreRising};
 ghost use Rattle.leveldb_base.specs.KeyTypes.{internal_cmp};
 ghost use Rattle.leveldb_base.specs.Types.{position_within, SameWalk};
-ghost use Rattle.leveldb_env.specs.Env.{ChangesFiles, HasCause, SameBut, SameLocks, kept_file, with_file};
+ghost use Rattle.leveldb_env.specs.Env.{AreBytes, ChangesFiles, HasCause, SameBut, SameLocks, kept_file, with_file};
 ghost use Rattle.leveldb_table.specs.BlockBuilder.{last_added};
 ghost use Rattle.leveldb_table.specs.TableBuilder.{order_of, policy_of, last_of};
 ghost use Rattle.leveldb_version.specs.Batches.{Each};
 ghost use Rattle.leveldb_version.specs.Store.{IsFirstKey, IsInternalPair, IsLastKey};
+ghost use Rattle.leveldb_version.specs.StoreSteps.{AppendedAreBytes};
 ghost use Rattle.leveldb_store.specs.BuildTable.{CanBeTabled, HasTaken, IsTableUnder, IsUnused, MakesTable, StopsAtPair, StopsInMemory, choices_of};
 
 use bytes::Bytes;
@@ -117,6 +118,8 @@ fn build_in_memory<I: LdbIterator, C: Cmp + Copy + Drop, FP: FilterPolicy + Drop
         core.compressor core.block.interval core.index.interval it.bytes.items
         (I.pairs from.old)
         × IsFirstKey it.smallest (I.pairs from.old) × IsLastKey it.largest (I.pairs from.old))) }
+    ensures keys { IfOk result (λ table. IfSome table (λ it.
+        AreBytes it.smallest × AreBytes it.largest)) }
     ensures walk { SameWalk I.pairs I.order I.fails from.old from.new }
     ensures cause { let codings = ⟦<CompressorList as Compressors>⟧.codings compressors.now in
         IfErr result (λ status. IsOutOfMemory status ⊎ I.fails from.old from.new status
@@ -126,17 +129,26 @@ fn build_in_memory<I: LdbIterator, C: Cmp + Copy + Drop, FP: FilterPolicy + Drop
     let Some((first, _)) = from.current() else {
         return Ok(None);
     };
-    let smallest = Bytes::copy_from_slice(alloc, first)?;
+    let smallest = copied_key(alloc, first)?;
     let mut core = core;
     let mut bytes = Vec::new(alloc);
     add_pairs(&mut core, &mut bytes, compressors, from)?;
-    let largest = Bytes::copy_from_slice(alloc, core.last_key())?;
+    let largest = copied_key(alloc, core.last_key())?;
     core.finish(&mut bytes, compressors)?;
     Ok(Some(BuiltTable {
         bytes,
         smallest,
         largest,
     }))
+}
+
+// A copy of a key.
+fn copied_key(alloc: Global, key: &[u8]) -> Result<Bytes>
+    ensures ok { IfOk result (λ copy. copy ≡ key.now) }
+    ensures bytes { OnOk result (AreBytes key.now) }
+    ensures memory { IfErr result IsOutOfMemory }
+{
+    Ok(Bytes::copy_from_slice(alloc, key)?)
 }
 
 // Adds the pairs of a walk that is at the first one.
@@ -172,6 +184,8 @@ fn write_synced<E: Env>(env: &mut E, path: &str, bytes: &[u8]) -> Result<()>
     ensures does { IsTrue E.models_disk
         → ChangesFiles E.models_disk (with_file path.now (Some (kept_file bytes.now)))
         (SameBut path.now) (E.observed env.old) (E.observed env.new) result }
+    ensures bytes { IsTrue E.models_disk → AppendedAreBytes (E.observed env.old).disk.files
+        → AppendedAreBytes (E.observed env.new).disk.files }
     ensures locks { SameLocks E.models_disk (E.observed env.old) (E.observed env.new) }
     ensures cause { HasCause IsOutOfMemory (E.failures env.old) (E.failures env.new) result }
 {

@@ -2,6 +2,12 @@
 ghost use Rattle.std.specs.Prelude.{◌≡◌, ◌↔◌, IsTrue, false};
 ghost use Rattle.leveldb_store.specs.OpenStore.{IsUnbroken};
 
+mod obsolete;
+mod read;
+mod read_table;
+mod search;
+mod switch;
+mod table;
 mod write;
 
 use leveldb_base::cmp::{Cmp, UserCmp};
@@ -37,10 +43,11 @@ pub struct OpenStore<E: Env, C: Cmp> {
 }
 
 impl<E: Env, C: Cmp> Model for OpenStore<E, C> {
-    ghost use Rattle.std.specs.Prelude.{◌≡◌, IfSome, IsTrue, string_bytes};
+    ghost use Rattle.std.specs.Prelude.{◌≡◌, ◌≢◌, IfSome, IsTrue, string_bytes};
     ghost use Rattle.std.specs.Option.{option_map};
     ghost use Rattle.leveldb_version.specs.Paths.{log_path};
-    ghost use Rattle.leveldb_store.specs.OpenStore.{OpenStoreValue};
+    ghost use Rattle.leveldb_version.specs.VersionSetValue.{unmade};
+    ghost use Rattle.leveldb_store.specs.OpenStore.{HasOwnManifest, OpenStoreValue};
 
     ghost Value = { OpenStoreValue C };
 
@@ -53,11 +60,14 @@ impl<E: Env, C: Cmp> Model for OpenStore<E, C> {
     } };
 
     // The version set is of the store's path, the log's file has the log's path, and both memtables
-    // have the store's order.
+    // have the store's order. A manifest in use is in the store's folder. The manifest is in use or
+    // broken.
     ghost invariant = { λ it. (it.versions.store ≡ string_bytes it.name)
         × (IsTrue E.models_disk → E.name_of it.log.file ≡ log_path (string_bytes it.name) it.log.number)
         × (it.recent.cmp ≡ it.cmp)
-        × IfSome it.waiting (λ memtable. memtable.cmp ≡ it.cmp) };
+        × IfSome it.waiting (λ memtable. memtable.cmp ≡ it.cmp)
+        × (IsTrue E.models_disk → HasOwnManifest it.versions)
+        × (it.versions.manifest ≢ unmade) };
 }
 
 impl<E: Env, C: UserCmp + Copy> OpenStore<E, C> {

@@ -15,9 +15,9 @@ use Rattle.leveldb_mem.proofs.WriteBatchLemmas.{length-batch_bytes}
 use Rattle.rusty_leveldb.specs.declared.shell.commands.Item as item
 use Rattle.rusty_leveldb.specs.Shell.{change_of}
 use Rattle.rusty_leveldb.specs.State.{State, open_mode, write, refused}
-use Rattle.rusty_leveldb.specs.Causes.{Faults, out_of_memory, bad_operand, IsLongBatch}
+use Rattle.rusty_leveldb.specs.Causes.{Setting, out_of_memory, bad_operand, IsLongBatch}
 use Rattle.rusty_leveldb.specs.Machine.{Keeps, Step}
-use Rattle.rusty_leveldb.specs.Serves.{faults_between, refusal_of}
+use Rattle.rusty_leveldb.specs.Serves.{setting_between, refusal_of}
 use Rattle.rusty_leveldb.specs.Engine.{Recalls, AnswersStill}
 use Rattle.rusty_leveldb.proofs.Writes.Moments.{moments_none}
 use Rattle.rusty_leveldb.specs.Frame.{MayTouch}
@@ -55,7 +55,7 @@ module _ {E C FP F : Type 0} {B : Boxed} (env : Ghosts E F) (formats : OptionsOf
     new = old;
     represents = represents;
     later = omega arith;
-    step = subst (λ mode. Step mode faults old (write items sync) (refused (refusal_of status)) old) (sym (is_open store disk old represents.memory_is)) (⊎_elim for_memory for_length why);
+    step = subst (λ mode. Step mode setting old (write items sync) (refused (refusal_of status)) old) (sym (is_open store disk old represents.memory_is)) (⊎_elim for_memory for_length why);
     moments = moments_none store meaning (write items sync) old (env.observed at) represents.disk_is;
     spares = spares_still store (MayTouch store old.mode (write items sync)) (env.observed at).disk;
     bytes = λ never. absurd never;
@@ -64,14 +64,14 @@ module _ {E C FP F : Type 0} {B : Boxed} (env : Ghosts E F) (formats : OptionsOf
       disk : Disk
       disk = (env.observed at).disk
 
-      faults : Faults
-      faults = faults_between (env.failures at) (env.failures at)
+      setting : Setting
+      setting = setting_between meaning (env.failures at) (env.failures at)
 
       kept : Keeps old old
       kept = record { state = refl; durable = inl refl }
 
-      for_memory : IsOutOfMemory status → Step open_mode faults old (write items sync) (refused (refusal_of status)) old
+      for_memory : IsOutOfMemory status → Step open_mode setting old (write items sync) (refused (refusal_of status)) old
       for_memory none = record { cause = out_of_memory; comes = (tt, none.0, ap text_of none.1); leaves = inl kept }
 
-      for_length : (status.code ≡ InvalidArgument) × IsLongBatch items → Step open_mode faults old (write items sync) (refused (refusal_of status)) old
+      for_length : (status.code ≡ InvalidArgument) × IsLongBatch items → Step open_mode setting old (write items sync) (refused (refusal_of status)) old
       for_length long = record { cause = bad_operand; comes = long; leaves = inl kept }

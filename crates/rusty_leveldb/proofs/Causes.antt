@@ -1,15 +1,15 @@
 -- Each refusal has a cause.
 use Rattle.std.proofs.Common.{◌≡◌, ◌⊎◌, inl, inr, refl}
 use Rattle.rusty_leveldb.specs.State.{State, Mode, broken, closed, Request, open_store, write, flush, compact_range, close, abandon, Refusal, refused}
-use Rattle.rusty_leveldb.specs.Causes.{Faults, Cause, Comes, IsClosedRefusal, IsBrokenRefusal}
+use Rattle.rusty_leveldb.specs.Causes.{Setting, Cause, Comes, IsClosedRefusal, IsBrokenRefusal}
 use Rattle.rusty_leveldb.specs.Machine.{Step}
 use Rattle.rusty_leveldb.specs.Laws.{RefusalHasCause}
 
-module _ (faults : Faults) (old new : State) (refusal : Refusal) where
+module _ (setting : Setting) (old new : State) (refusal : Refusal) where
   abbrev HasReason : Mode → Request → Type 0
-  HasReason mode request = ((cause : Cause) × Comes faults old request refusal cause) ⊎ ((mode ≡ closed) × IsClosedRefusal refusal) ⊎ ((mode ≡ broken) × IsBrokenRefusal refusal)
+  HasReason mode request = ((cause : Cause) × Comes setting old request refusal cause) ⊎ ((mode ≡ closed) × IsClosedRefusal refusal) ⊎ ((mode ≡ broken) × IsBrokenRefusal refusal)
 
-  reason : (mode : Mode) (request : Request) → Step mode faults old request (refused refusal) new → HasReason mode request
+  reason : (mode : Mode) (request : Request) → Step mode setting old request (refused refusal) new → HasReason mode request
   reason closed (open_store opening) step = inl (step.cause, step.comes)
   reason closed abandon step = absurd (cc)
   reason closed request step = inr (inl (refl, step.0))
@@ -21,4 +21,4 @@ module _ (faults : Faults) (old new : State) (refusal : Refusal) where
   reason mode request step = inl (step.cause, step.comes)
 
 pub refusal_has_cause : RefusalHasCause
-refusal_has_cause faults old new request refusal step = reason faults old new refusal old.mode request step
+refusal_has_cause setting old new request refusal step = reason setting old new refusal old.mode request step

@@ -15,9 +15,9 @@ use Rattle.leveldb_version.specs.Paths.{lock_path}
 use Rattle.rusty_leveldb.specs.OneLog.{log_path}
 use Rattle.rusty_leveldb.specs.State as machine
 use Rattle.rusty_leveldb.specs.State.{State, Request, close, abandon, Answer, done, refused, open_mode, closed}
-use Rattle.rusty_leveldb.specs.Causes.{Faults, Cause, out_of_memory, device_failed, Comes, ReachesDevice}
+use Rattle.rusty_leveldb.specs.Causes.{Setting, Cause, out_of_memory, device_failed, Comes, ReachesDevice}
 use Rattle.rusty_leveldb.specs.Machine.{Step, Responds}
-use Rattle.rusty_leveldb.specs.Serves.{StandsFor, IsSpared, Represents, done_or, refusal_of, faults_between}
+use Rattle.rusty_leveldb.specs.Serves.{StandsFor, IsSpared, Represents, done_or, refusal_of, setting_between}
 use Rattle.rusty_leveldb.specs.Engine.{Recalls, WritesOn, mode_of, Answers}
 use Rattle.rusty_leveldb.specs.Recovery.{IsErrorFor}
 use Rattle.rusty_leveldb.proofs.Ended.{broke, ended, broke_still, ended_still, broke_covered, ended_covered}
@@ -36,17 +36,17 @@ none_some : {A : Type 0} {x : A} → None ≡ Some x → ⊥
 none_some e = cc
 
 -- why a sync of a log that is there was refused
-sync_cause : (models_disk : Bool) (name : List ℕ) (told : Observed) (file : File) (before now : ℕ) (old : State) (raw status : Status) → IsErrorFor raw status → told.disk.files name ≡ Some file
-    → HasCause {T = Unit {0}} (IsGone models_disk name told) before now (Err raw) → (cause : Cause) × Comes (faults_between before now) old close (refusal_of status) cause
-sync_cause models_disk name told file before now old raw status error there cause = ⊎_elim
+sync_cause : (meaning : Meaning) (models_disk : Bool) (name : List ℕ) (told : Observed) (file : File) (before now : ℕ) (old : State) (raw status : Status) → IsErrorFor raw status → told.disk.files name ≡ Some file
+    → HasCause {T = Unit {0}} (IsGone models_disk name told) before now (Err raw) → (cause : Cause) × Comes (setting_between meaning before now) old close (refusal_of status) cause
+sync_cause meaning models_disk name told file before now old raw status error there cause = ⊎_elim
     (λ gone. ⊎_elim (λ memory. let found = memory_found raw status error memory in (out_of_memory, (tt, found.0, ap text_of found.1))) (λ missing. absurd (none_some (sym missing.2 ∙ there))) gone)
     (λ counted. (device_failed, (tt, ⊎_elim (λ more. inl (omega arith)) (λ full. inr full.0) counted)))
     cause.cause
 
 -- why a lock wasn't given back
-unlock_cause : (before mid now : ℕ) (old : State) (request : Request) (status : Status) → ReachesDevice request → mid ≡ before
-    → HasCause {T = Unit {0}} (λ _. ⊥) mid now (Err status) → (cause : Cause) × Comes (faults_between before now) old request (refusal_of status) cause
-unlock_cause before mid now old request status reaches same_count cause = ⊎_elim
+unlock_cause : (meaning : Meaning) (before mid now : ℕ) (old : State) (request : Request) (status : Status) → ReachesDevice request → mid ≡ before
+    → HasCause {T = Unit {0}} (λ _. ⊥) mid now (Err status) → (cause : Cause) × Comes (setting_between meaning before now) old request (refusal_of status) cause
+unlock_cause meaning before mid now old request status reaches same_count cause = ⊎_elim
     (λ (never : ⊥). absurd never)
     (λ counted. (device_failed, (reaches, ⊎_elim (λ more. inl (omega arith)) (λ full. inr (sym same_count ∙ full.0)) counted)))
     cause.cause
@@ -72,11 +72,11 @@ freed_other lock name locked differs = ap (λ b. cond b false (locked name)) (by
 -- ---- modes
 
 -- an engine that isn't closed responds to an abandon
-abandons : (faults : Faults) (old new : State) (answer : Answer) (mode : Mode) → (mode ≡ Closed → ⊥) → Responds faults old abandon answer new
-    → Step (mode_of mode) faults old abandon answer new
-abandons faults old new answer Open differs responds = responds
-abandons faults old new answer Broken differs responds = responds
-abandons faults old new answer Closed differs responds = absurd (differs refl)
+abandons : (setting : Setting) (old new : State) (answer : Answer) (mode : Mode) → (mode ≡ Closed → ⊥) → Responds setting old abandon answer new
+    → Step (mode_of mode) setting old abandon answer new
+abandons setting old new answer Open differs responds = responds
+abandons setting old new answer Broken differs responds = responds
+abandons setting old new answer Closed differs responds = absurd (differs refl)
 
 -- ---- the exits
 
@@ -118,7 +118,7 @@ module _ {E C FP F : Type 0} {B : Boxed} (env : Ghosts E F) (formats : OptionsOf
       let syncs = refusal.2.flushed in
       let mode : old.mode ≡ open_mode = sym represents.memory_is.mode ∙ ap mode_of is_open in
       let writes = represents.memory_is.writes mode in
-      let cause = sync_cause env.models_disk (env.name_of before.log) (env.observed at) writes.file (env.failures at) (env.failures now) old refusal.0 status refusal.1 (ap (env.observed at).disk.files writes.name ∙ writes.there) syncs.cause in
+      let cause = sync_cause meaning env.models_disk (env.name_of before.log) (env.observed at) writes.file (env.failures at) (env.failures now) old refusal.0 status refusal.1 (ap (env.observed at).disk.files writes.name ∙ writes.there) syncs.cause in
       record {
         new = broke old old.durable;
         represents = record {
@@ -126,7 +126,7 @@ module _ {E C FP F : Type 0} {B : Boxed} (env : Ghosts E F) (formats : OptionsOf
           memory_is = recalls_broke store before after (env.observed at).disk (env.observed now).disk old old.durable represents.memory_is mode only is_broken;
         };
         later = syncs.cause.later;
-        step = subst (λ m. Step m (faults_between (env.failures at) (env.failures now)) old close (refused (refusal_of status)) (broke old old.durable)) (sym mode) (record { cause = cause.0; comes = cause.1; leaves = record { state = refl; durable = inl refl } });
+        step = subst (λ m. Step m (setting_between meaning (env.failures at) (env.failures now)) old close (refused (refusal_of status)) (broke old old.durable)) (sym mode) (record { cause = cause.0; comes = cause.1; leaves = record { state = refl; durable = inl refl } });
         moments = sync_moments env formats store meaning before at old (open_store env formats store meaning before at old is_open represents) now told syncs.does;
         bytes = λ syncing. bytes_same (env.observed at).disk.files (env.observed now).disk.files (syncs.undone told);
         spares = spares_but_log store (env.observed at).disk (env.observed now).disk old.mode close mode tt (but_same (log_path store) (env.observed at).disk.files (env.observed now).disk.files (syncs.undone told)) (syncs.locks told);
@@ -192,7 +192,7 @@ module _ {E C FP F : Type 0} {B : Boxed} (env : Ghosts E F) (formats : OptionsOf
     unlock_refused status does relocks caused store meaning told old represents =
         let is = mode told store meaning old represents (does.now told) in
         let counted : env.failures mid ≡ env.failures at = flushed.flushed.cause.ok in
-        let cause = unlock_cause (env.failures at) (env.failures mid) (env.failures now) old close status tt counted caused in
+        let cause = unlock_cause meaning (env.failures at) (env.failures mid) (env.failures now) old close status tt counted caused in
         record {
           new = broke old (length old.history);
           represents = record {
@@ -200,7 +200,7 @@ module _ {E C FP F : Type 0} {B : Boxed} (env : Ghosts E F) (formats : OptionsOf
             memory_is = recalls_broke store before (record after { mode = Broken }) (env.observed at).disk (env.observed now).disk old (length old.history) represents.memory_is is (ap (λ (e : EngineOf E C FP F B). record e { mode = Broken }) only) refl;
           };
           later = omega (arith, caused.later);
-          step = subst (λ m. Step m (faults_between (env.failures at) (env.failures now)) old close (refused (refusal_of status)) (broke old (length old.history))) (sym is) (record { cause = cause.0; comes = cause.1; leaves = record { state = refl; durable = inr refl } });
+          step = subst (λ m. Step m (setting_between meaning (env.failures at) (env.failures now)) old close (refused (refusal_of status)) (broke old (length old.history))) (sym is) (record { cause = cause.0; comes = cause.1; leaves = record { state = refl; durable = inr refl } });
           moments = given_back told store meaning old represents does;
           bytes = λ syncing. synced_bytes told store meaning old represents (does.now told);
           spares = spares_but_log store (env.observed at).disk (env.observed now).disk old.mode close is tt (but_log told store meaning old represents (does.now told)) (relocks told ∙ flushed.flushed.locks told);
@@ -220,7 +220,7 @@ module _ {E C FP F : Type 0} {B : Boxed} (env : Ghosts E F) (formats : OptionsOf
             memory_is = recalls_ended store before (record after { mode = Closed }) (env.observed at).disk (env.observed now).disk old (length old.history) false represents.memory_is (ap (λ (e : EngineOf E C FP F B). record e { mode = Closed }) only) refl;
           };
           later = omega (arith, caused.later);
-          step = subst (λ m. Step m (faults_between (env.failures at) (env.failures now)) old close done (ended old (length old.history) false)) (sym is) (record { operands = λ never. never; numbers = λ never. never }, record { state = refl });
+          step = subst (λ m. Step m (setting_between meaning (env.failures at) (env.failures now)) old close done (ended old (length old.history) false)) (sym is) (record { operands = λ never. never; numbers = λ never. never }, record { state = refl });
           moments = with_none env formats store meaning before at old (open_store env formats store meaning before at old is_open represents) now (given_back told store meaning old represents does);
           bytes = λ syncing. synced_bytes told store meaning old represents (does.now told);
           spares = spares_with store (env.observed at).disk (env.observed now).disk old.mode close is tt (but_log told store meaning old represents (does.now told))
@@ -239,7 +239,7 @@ module _ {E C FP F : Type 0} {B : Boxed} (env : Ghosts E F) (formats : OptionsOf
         new = old;
         represents = record { disk_is = represents.disk_is; memory_is = is };
         later = omega arith;
-        step = subst (λ m. Step m (faults_between (env.failures at) (env.failures at)) old abandon done old) (sym is) (refl, refl);
+        step = subst (λ m. Step m (setting_between meaning (env.failures at) (env.failures at)) old abandon done old) (sym is) (refl, refl);
         moments = moments_none store meaning abandon old (env.observed at) represents.disk_is;
         spares = spares_still store (MayTouch store old.mode abandon) (env.observed at).disk;
         bytes = λ never. absurd never;
@@ -251,7 +251,7 @@ module _ {E C FP F : Type 0} {B : Boxed} (env : Ghosts E F) (formats : OptionsOf
         → ChangesLocks {T = Unit {0}} env.models_disk (lock_set lock false) (env.observed at) (env.observed now) (Err status) → HasCause {T = Unit {0}} (λ _. ⊥) (env.failures at) (env.failures now) (Err status)
         → Answers env formats (Some before) at abandon (refused (refusal_of status)) None now
     abandon_refused status does relocks caused store meaning told old represents =
-        let cause = unlock_cause (env.failures at) (env.failures at) (env.failures now) old abandon status tt refl caused in
+        let cause = unlock_cause meaning (env.failures at) (env.failures at) (env.failures now) old abandon status tt refl caused in
         record {
           new = ended old old.durable old.locked;
           represents = record {
@@ -259,8 +259,8 @@ module _ {E C FP F : Type 0} {B : Boxed} (env : Ghosts E F) (formats : OptionsOf
             memory_is = refl;
           };
           later = caused.later;
-          step = subst (λ m. Step m (faults_between (env.failures at) (env.failures now)) old abandon (refused (refusal_of status)) (ended old old.durable old.locked)) represents.memory_is.mode
-              (abandons (faults_between (env.failures at) (env.failures now)) old (ended old old.durable old.locked) (refused (refusal_of status)) before.mode differs (record { cause = cause.0; comes = cause.1; leaves = record { state = refl } }));
+          step = subst (λ m. Step m (setting_between meaning (env.failures at) (env.failures now)) old abandon (refused (refusal_of status)) (ended old old.durable old.locked)) represents.memory_is.mode
+              (abandons (setting_between meaning (env.failures at) (env.failures now)) old (ended old old.durable old.locked) (refused (refusal_of status)) before.mode differs (record { cause = cause.0; comes = cause.1; leaves = record { state = refl } }));
           moments = moments_still store meaning old told represents.disk_is does;
           bytes = λ never. absurd never;
           spares = spares_same store (env.observed at).disk (env.observed now).disk (MayTouch store old.mode abandon) (does.now told) (λ name apart. ap (λ (locked : List ℕ → Bool). locked name) (relocks told));
@@ -280,8 +280,8 @@ module _ {E C FP F : Type 0} {B : Boxed} (env : Ghosts E F) (formats : OptionsOf
             memory_is = refl;
           };
           later = caused.later;
-          step = subst (λ m. Step m (faults_between (env.failures at) (env.failures now)) old abandon done (ended old old.durable false)) represents.memory_is.mode
-              (abandons (faults_between (env.failures at) (env.failures now)) old (ended old old.durable false) done before.mode differs (record { operands = λ never. never; numbers = λ never. never }, record { state = refl }));
+          step = subst (λ m. Step m (setting_between meaning (env.failures at) (env.failures now)) old abandon done (ended old old.durable false)) represents.memory_is.mode
+              (abandons (setting_between meaning (env.failures at) (env.failures now)) old (ended old old.durable false) done before.mode differs (record { operands = λ never. never; numbers = λ never. never }, record { state = refl }));
           moments = moments_still store meaning old told represents.disk_is does;
           bytes = λ never. absurd never;
           spares = spares_same store (env.observed at).disk (env.observed now).disk (MayTouch store old.mode abandon) (does.now told)

@@ -4,8 +4,9 @@ use Rattle.std.proofs.lemmas.List.Elements.{All-nil, All-cons}
 use Rattle.leveldb_base.specs.History.{Entry, HasValueAt}
 use Rattle.leveldb_base.proofs.HistoryLemmas.{in_front}
 use Rattle.leveldb_version.specs.Contents.{made}
+use Rattle.leveldb_store.specs.Format.{Meaning}
 use Rattle.rusty_leveldb.specs.State.{State, Opening, open_store, write, get, done, found, open_mode, closed}
-use Rattle.rusty_leveldb.specs.Causes.{Faults, Fits, IsLongKey, IsLongBatch}
+use Rattle.rusty_leveldb.specs.Causes.{Setting, Fits, IsLongKey, IsLongBatch}
 use Rattle.rusty_leveldb.specs.Machine.{Step}
 use Rattle.rusty_leveldb.specs.Runs.{Event, StopsAt, Lives, new_state}
 use Rattle.rusty_leveldb.specs.Laws.{SyncedCanBeFound, answered_at, written_and_found}
@@ -14,13 +15,13 @@ not_false : (b : Bool) → IsTrue b → b ≡ false → ⊥
 not_false true t e = absurd (cc)
 not_false false t e = absurd (cc)
 
-abbrev quiet : Faults
-quiet = record { before = 0; after = 0 }
-
-module _ (opening : Opening) (key value : List ℕ) (short : IsLongKey key → ⊥)
+module _ (meaning : Meaning) (opening : Opening) (key value : List ℕ) (short : IsLongKey key → ⊥)
     (small : IsLongBatch (record { key = key; value = Some value } ∷ []) → ⊥) (fits : IsTrue opening.fits)
     (compresses : IsTrue opening.compresses) (create : IsTrue opening.create_if_missing)
     (there : opening.error_if_exists ≡ false) where
+  abbrev quiet : Setting
+  quiet = record { before = 0; after = 0; meaning = meaning }
+
   abbrev entry : Entry
   entry = record { sequence = 1; key = key; value = Some value }
 
@@ -115,7 +116,7 @@ module _ (opening : Opening) (key value : List ℕ) (short : IsLongKey key → �
   abbrev reading_then : Event
   reading_then = answered_at 3 (get None key) (found (Some value))
 
-  stops : StopsAt 0 0 first (opening_then ∷ writing_then ∷ reading_then ∷ []) 2 false 0 written left
+  stops : StopsAt meaning 0 0 first (opening_then ∷ writing_then ∷ reading_then ∷ []) 2 false 0 written left
   stops = record {
     done = opening_then ∷ writing_then ∷ [];
     undone = reading_then ∷ [];
@@ -145,7 +146,7 @@ module _ (opening : Opening) (key value : List ℕ) (short : IsLongKey key → �
     );
   }
 
-  lives : Lives 0 first (written_and_found opening key value) 0 written
+  lives : Lives meaning 0 first (written_and_found opening key value) 0 written
   lives = (
     0,
     left,
@@ -159,7 +160,7 @@ module _ (opening : Opening) (key value : List ℕ) (short : IsLongKey key → �
   )
 
 pub synced_can_be_found : SyncedCanBeFound
-synced_can_be_found opening key value short small fits compresses create there = (
-  written opening key value short small fits compresses create there,
-  lives opening key value short small fits compresses create there,
+synced_can_be_found meaning opening key value short small fits compresses create there = (
+  written meaning opening key value short small fits compresses create there,
+  lives meaning opening key value short small fits compresses create there,
 )

@@ -14,7 +14,7 @@ use Rattle.rusty_leveldb.specs.declared.db_impl.engine.Mode.{Mode}
 use Rattle.rusty_leveldb.specs.declared.db_impl.engine.Mode.TheVariants.{Open, Broken, Closed}
 use Rattle.rusty_leveldb.specs.State as machine
 use Rattle.rusty_leveldb.specs.State.{State, IsState, get, Answer, found, refused}
-use Rattle.rusty_leveldb.specs.Causes.{Faults, bad_operand, out_of_memory, Misfits, IsLongKey}
+use Rattle.rusty_leveldb.specs.Causes.{Setting, bad_operand, out_of_memory, Misfits, IsLongKey}
 use Rattle.rusty_leveldb.specs.Machine.{Step, Responds}
 use Rattle.rusty_leveldb.specs.Serves.{refusal_of, found_or}
 use Rattle.rusty_leveldb.specs.Engine.{IsClosed, RefusedAsClosed, RefusedByMode, mode_of, Remembers, Recalls, AnswersStill}
@@ -54,7 +54,7 @@ shut_mode Closed e = refl
 module _ {E C FP F : Type 0} {B : Boxed} (env : Ghosts E F) (formats : OptionsOf C FP B → Format) (engine : EngineOf E C FP F B) (key : List ℕ) where
   -- the state answers so and stays
   abbrev Stays : Answer → State → Type 0
-  Stays answer old = (faults : Faults) → Step old.mode faults old (get None key) answer old
+  Stays answer old = (setting : Setting) → Step old.mode setting old (get None key) answer old
 
   still : (answer : Answer) → ((store : List ℕ) (disk : Disk) (old : State) → IsState old → Recalls env formats store engine disk old → Stays answer old)
       → AnswersStill env formats engine (get None key) answer
@@ -69,28 +69,28 @@ module _ {E C FP F : Type 0} {B : Boxed} (env : Ghosts E F) (formats : OptionsOf
   }
 
   -- a store that isn't closed responds in either mode
-  responds_in : (mode : machine.Mode) (faults : Faults) (old : State) (answer : Answer) → (mode ≡ machine.closed → ⊥) → Responds faults old (get None key) answer old
-      → Step mode faults old (get None key) answer old
-  responds_in machine.open_mode faults old answer usable responds = responds
-  responds_in machine.broken faults old answer usable responds = responds
-  responds_in machine.closed faults old answer usable responds = absurd (usable refl)
+  responds_in : (mode : machine.Mode) (setting : Setting) (old : State) (answer : Answer) → (mode ≡ machine.closed → ⊥) → Responds setting old (get None key) answer old
+      → Step mode setting old (get None key) answer old
+  responds_in machine.open_mode setting old answer usable responds = responds
+  responds_in machine.broken setting old answer usable responds = responds
+  responds_in machine.closed setting old answer usable responds = absurd (usable refl)
 
   -- a closed store refuses it
   pub get_shut : (status : Status) → RefusedAsClosed engine.mode status → AnswersStill env formats engine (get None key) (refused (refusal_of status))
   get_shut status out = still (refused (refusal_of status))
-      (λ store disk old is recalls faults. subst (λ m. Step m faults old (get None key) (refused (refusal_of status)) old) (sym (ap mode_of out.0) ∙ recalls.mode) (out.1, refl))
+      (λ store disk old is recalls setting. subst (λ m. Step m setting old (get None key) (refused (refusal_of status)) old) (sym (ap mode_of out.0) ∙ recalls.mode) (out.1, refl))
 
   in_use : (answer : Answer) → (IsClosed engine.mode → ⊥)
-      → ((faults : Faults) (store : List ℕ) (old : State) → IsState old → Remembers env store engine old → Responds faults old (get None key) answer old)
+      → ((setting : Setting) (store : List ℕ) (old : State) → IsState old → Remembers env store engine old → Responds setting old (get None key) answer old)
       → AnswersStill env formats engine (get None key) answer
   in_use answer usable responds = still answer
-      (λ store disk old is recalls faults.
+      (λ store disk old is recalls setting.
       let not_closed : old.mode ≡ machine.closed → ⊥ = λ e. usable (shut_mode engine.mode (recalls.mode ∙ e)) in
-      responds_in old.mode faults old answer not_closed (responds faults store old is (recalls.shows not_closed)))
+      responds_in old.mode setting old answer not_closed (responds setting store old is (recalls.shows not_closed)))
 
   module _ (usable : IsClosed engine.mode → ⊥) where
     long_refused : (status : Status) → status.code ≡ InvalidArgument → IsLongKey key → AnswersStill env formats engine (get None key) (refused (refusal_of status))
-    long_refused status code long = in_use (refused (refusal_of status)) usable (λ faults store old is remembers. record { cause = bad_operand; comes = (code, inr long); leaves = refl })
+    long_refused status code long = in_use (refused (refusal_of status)) usable (λ setting store old is remembers. record { cause = bad_operand; comes = (code, inr long); leaves = refl })
 
     pub get_long : (result : Result (Option (List ℕ)) Status) → IsErrAnd result (λ status. status.code ≡ InvalidArgument) → IsLongKey key
         → AnswersStill env formats engine (get None key) (found_or result)
@@ -98,7 +98,7 @@ module _ {E C FP F : Type 0} {B : Boxed} (env : Ghosts E F) (formats : OptionsOf
     get_long (Err status) code long = long_refused status code long
 
     starved_refused : (status : Status) → IsOutOfMemory status → AnswersStill env formats engine (get None key) (refused (refusal_of status))
-    starved_refused status (code, none) = in_use (refused (refusal_of status)) usable (λ faults store old is remembers. record { cause = out_of_memory; comes = (tt, code, ap text_of none); leaves = refl })
+    starved_refused status (code, none) = in_use (refused (refusal_of status)) usable (λ setting store old is remembers. record { cause = out_of_memory; comes = (tt, code, ap text_of none); leaves = refl })
 
     pub get_starved : (result : Result (Option (List ℕ)) Status) → IsErrAnd result IsOutOfMemory → AnswersStill env formats engine (get None key) (found_or result)
     get_starved (Ok value) fails = absurd fails
@@ -114,7 +114,7 @@ module _ {E C FP F : Type 0} {B : Boxed} (env : Ghosts E F) (formats : OptionsOf
     found_answer : (newest : Option (Option (List ℕ))) → (IsLongKey key → ⊥) → FindsNewest engine.recent.kept.entries engine.recent.last key newest
         → AnswersStill env formats engine (get None key) (found (value_found newest))
     found_answer newest short finds = in_use (found (value_found newest)) usable
-        (λ faults store old is remembers. (
+        (λ setting store old is remembers. (
           record { operands = fits old; numbers = λ never. never },
           (record { sequence = old.last; at_is = refl; looks = found_now newest finds store old is remembers }, refl),
         ))

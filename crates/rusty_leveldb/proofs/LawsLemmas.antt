@@ -6,11 +6,11 @@ use Rattle.std.proofs.lemmas.List.Elements.{All-nil, All-head, All-tail, Contain
 use Rattle.leveldb_base.specs.History.{Item, Entry, History, entries_of, greatest, with_batch, placed, HasValueAt, IsValueAt}
 use Rattle.leveldb_base.proofs.HistoryLemmas.{in_none, in_front, in_rest, in_cases}
 use Rattle.leveldb_base.proofs.EntriesLemmas.{map_in}
-use Rattle.leveldb_store.specs.Format.{Format}
+use Rattle.leveldb_store.specs.Format.{Format, Meaning}
 use Rattle.rusty_leveldb.specs.State.{Mode, open_mode, broken, closed, State, IsState, Request, write, get, flush, close, Answer, done, found}
-use Rattle.rusty_leveldb.specs.Causes.{Faults}
+use Rattle.rusty_leveldb.specs.Causes.{Setting}
 use Rattle.rusty_leveldb.specs.Machine.{Gets, Step}
-use Rattle.rusty_leveldb.specs.Runs.{Event, faults_of, Run, CrashBefore, last_moment, StopsAt, Ending, goes_on, crashes, Life, Lives, new_state}
+use Rattle.rusty_leveldb.specs.Runs.{Event, setting_of, Run, CrashBefore, last_moment, StopsAt, Ending, goes_on, crashes, Life, Lives, new_state}
 use Rattle.rusty_leveldb.specs.Laws.{LivesFit, MakesDurable, DurableStays, SyncedStays, IsInTime, EachAnswerParts, items_of, batches_of, IsSubsequence, asked_in, HistoryIsAsked, MoreIsAsked, NoneHasKey, SyncedIsRead}
 use Rattle.rusty_leveldb.proofs.Histories.{up_to, up_to_greatest, entries_more}
 use Rattle.rusty_leveldb.proofs.MachineLemmas.{none_pending, step_fits}
@@ -31,23 +31,23 @@ since_state old is = record {
 }
 
 pub lives_fit : LivesFit
-lives_fit lives before after old new is leads =
-    let since = since_lives (take old.durable old.history) (batches_of (with_batch
+lives_fit meaning lives before after old new is leads =
+    let since = since_lives meaning (take old.durable old.history) (batches_of (with_batch
     (drop old.durable old.history) old.pending)) before old lives after new
     (since_state old is) leads in
     since.is
 
 pub durable_stays : DurableStays
-durable_stays lives before after old last is leads =
-    let since = since_lives (take old.durable old.history) (batches_of (with_batch
+durable_stays meaning lives before after old last is leads =
+    let since = since_lives meaning (take old.durable old.history) (batches_of (with_batch
     (drop old.durable old.history) old.pending)) before old lives after last
     (since_state old is) leads in
     (since.more, since.history)
 
-module _ (faults : Faults) (old new : State)
+module _ (setting : Setting) (old new : State)
     (is : IsState old) where
   durable_in : (mode : Mode) (request : Request) (answer : Answer) → old.mode ≡ mode
-      → MakesDurable request answer → Step mode faults old request answer new
+      → MakesDurable request answer → Step mode setting old request answer new
       → (new.durable ≡ length new.history) × (new.pending ≡ None)
   durable_in open_mode (write items sync) done m by s =
       (s.1.synced by, ap (λ (s : State). s.pending) s.1.state ∙ none_pending old is m)
@@ -72,12 +72,12 @@ module _ (faults : Faults) (old new : State)
   durable_in mode request answer m by s = absurd by
 
   -- what is done so is a new beginning
-  since_done : (request : Request) (answer : Answer) → Step old.mode faults old request answer new
+  since_done : (request : Request) (answer : Answer) → Step old.mode setting old request answer new
       → MakesDurable request answer → Since new.history [] new
   since_done request answer step by =
       let now = durable_in old.mode request answer refl by step in
       record {
-        is = step_fits faults old new request answer is step;
+        is = step_fits setting old new request answer is step;
         more = [];
         history = sym (append-nil new.history);
         durable = let c = now.0 in omega arith;
@@ -96,14 +96,14 @@ asked_alone part asked state since =
     ∙ map-append items_of since.more rest.0) since.some)
 
 pub more_is_asked : MoreIsAsked
-more_is_asked faults old next last request answer lives before after is step by leads =
-    let since = since_lives next.history [] before next lives after last
-    (since_done faults old next is request answer step by) leads in
+more_is_asked meaning setting old next last request answer lives before after is step by leads =
+    let since = since_lives meaning next.history [] before next lives after last
+    (since_done setting old next is request answer step by) leads in
     (since.more, since.history, asked_alone next.history (asked_in lives) last since)
 
 pub synced_stays : SyncedStays
-synced_stays faults old next last request answer lives before after is step by leads =
-    let more = more_is_asked faults old next last request answer lives before after is step by
+synced_stays meaning setting old next last request answer lives before after is step by leads =
+    let more = more_is_asked meaning setting old next last request answer lives before after is step by
     leads in
     (more.0, more.1)
 
@@ -118,8 +118,8 @@ new_is_state format = record {
 }
 
 pub history_is_asked : HistoryIsAsked
-history_is_asked format lives after last leads =
-    let since = since_lives [] [] 0 (new_state format) lives after last (record {
+history_is_asked meaning format lives after last leads =
+    let since = since_lives meaning [] [] 0 (new_state format) lives after last (record {
       is =
           new_is_state format;
       more = [];
@@ -133,13 +133,13 @@ history_is_asked format lives after last leads =
 -- ---- the states at the answers of lives
 
 -- a run that goes on from another
-run_part : (answered undone : List Event) (before after : ℕ) (old last : State)
-    → Run before old (answered ++ undone) after last
-    → (failures : ℕ) × (state : State) × Run before old answered failures state
-    × Run failures state undone after last
-run_part [] undone before after old last run = (before, old, (refl, refl), run)
-run_part (one ∷ answered) undone before after old last run =
-    let rest = run_part answered undone one.failures after run.1 last run.3 in
+run_part : (meaning : Meaning) (answered undone : List Event) (before after : ℕ) (old last : State)
+    → Run meaning before old (answered ++ undone) after last
+    → (failures : ℕ) × (state : State) × Run meaning before old answered failures state
+    × Run meaning failures state undone after last
+run_part meaning [] undone before after old last run = (before, old, (refl, refl), run)
+run_part meaning (one ∷ answered) undone before after old last run =
+    let rest = run_part meaning answered undone one.failures after run.1 last run.3 in
     (rest.0, rest.1, (run.0, run.1, run.2, rest.2), rest.3)
 
 -- the last moment of events that go on after one of them
@@ -174,8 +174,8 @@ cut_after moment (x ∷ answered) undone (first ∷ come) late one by e not_yet 
     let same : first ≡ x = cc in
     (rest.0, ap (λ xs. first ∷ xs) rest.1 ∙ ap (λ y. y ∷ (answered ++ one ∷ rest.0)) same, rest.2)
 
-module _ (later : List Life) (start : ℕ) (answered undone : List Event) (one : Event) (after : ℕ)
-    (last : State) where
+module _ (meaning : Meaning) (later : List Life) (start : ℕ) (answered undone : List Event)
+    (one : Event) (after : ℕ) (last : State) where
   -- the life of all these events, that of those before the one, and that of those after it
   abbrev whole : Ending → Life
   whole ending = record { start = start; events = answered ++ one ∷ undone; ending = ending }
@@ -190,14 +190,14 @@ module _ (later : List Life) (start : ℕ) (answered undone : List Event) (one :
   abbrev Parts : List Life → Ending → ℕ → State → Type 0
   Parts earlier ending before old =
       (failures : ℕ) × (state : State) × (next : State)
-      × Lives before old (earlier ++ front ∷ []) failures state
-      × Step state.mode (faults_of failures one) state one.request one.answer next
-      × Lives one.failures next (rest ending ∷ later) after last
+      × Lives meaning before old (earlier ++ front ∷ []) failures state
+      × Step state.mode (setting_of meaning failures one) state one.request one.answer next
+      × Lives meaning one.failures next (rest ending ∷ later) after last
 
   parts_now : (ending : Ending) (before : ℕ) (old : State) → IsInTime one.moment ending
-      → Lives before old (whole ending ∷ later) after last → Parts [] ending before old
+      → Lives meaning before old (whole ending ∷ later) after last → Parts [] ending before old
   parts_now goes_on before old in_time leads =
-      let run = run_part answered (one ∷ undone) before leads.0 old leads.1 leads.2 in (
+      let run = run_part meaning answered (one ∷ undone) before leads.0 old leads.1 leads.2 in (
         run.0,
         run.1,
         run.3.1,
@@ -209,9 +209,9 @@ module _ (later : List Life) (start : ℕ) (answered undone : List Event) (one :
       let stops = leads.2.0.2 in
       let cut = cut_after moment answered undone stops.done stops.undone one in_time stops.split
       stops.not_yet in
-      let run = run_part answered (one ∷ cut.0) before stops.failures old stops.state (subst
-      (λ xs. Run before old xs stops.failures stops.state) cut.1 stops.run) in
-      let stops_then : StopsAt one.moment one.failures run.3.1 undone moment inside leads.2.0.0
+      let run = run_part meaning answered (one ∷ cut.0) before stops.failures old stops.state (subst
+      (λ xs. Run meaning before old xs stops.failures stops.state) cut.1 stops.run) in
+      let stops_then : StopsAt meaning one.moment one.failures run.3.1 undone moment inside leads.2.0.0
       leads.2.0.1 leads.1 = record {
         done = cut.0;
         undone = stops.undone;
@@ -223,7 +223,7 @@ module _ (later : List Life) (start : ℕ) (answered undone : List Event) (one :
         failures = stops.failures;
         state = stops.state;
         run = run.3.3;
-        crash = subst (λ n. CrashBefore n moment inside stops.failures stops.state stops.undone
+        crash = subst (λ n. CrashBefore meaning n moment inside stops.failures stops.state stops.undone
             leads.2.0.0 leads.2.0.1 leads.1) (ap (last_moment start) cut.1
             ∙ last_after start answered cut.0 one) stops.crash;
       } in (
@@ -241,7 +241,7 @@ module _ (later : List Life) (start : ℕ) (answered undone : List Event) (one :
       )
 
   parts : (earlier : List Life) (ending : Ending) (before : ℕ) (old : State)
-      → IsInTime one.moment ending → Lives before old (earlier ++ whole ending ∷ later) after last
+      → IsInTime one.moment ending → Lives meaning before old (earlier ++ whole ending ∷ later) after last
       → Parts earlier ending before old
   parts [] ending before old in_time leads = parts_now ending before old in_time leads
   parts (life ∷ earlier) ending before old in_time leads =
@@ -249,8 +249,8 @@ module _ (later : List Life) (start : ℕ) (answered undone : List Event) (one :
       (rest.0, rest.1, rest.2, (leads.0, leads.1, leads.2, rest.3), rest.4, rest.5)
 
 pub each_answer_parts : EachAnswerParts
-each_answer_parts earlier later start ending answered undone one before after old last in_time leads
-    = parts later start answered undone one after last earlier ending before old in_time leads
+each_answer_parts meaning earlier later start ending answered undone one before after old last
+    in_time leads = parts meaning later start answered undone one after last earlier ending before old in_time leads
 
 -- ---- what a look-up finds
 
@@ -334,17 +334,17 @@ module _ (earlier more : List Entry) (last s : ℕ) (key value : List ℕ)
       (λ e. sym looks.value_is ∙ ap (λ (x : Entry). x.value) (sym e))
       looks.newest.there
 
-module _ (faults : Faults) (old new : State) where
+module _ (setting : Setting) (old new : State) where
   -- a look-up that isn't refused was one in the state
   looked_in : (mode : Mode) (key : List ℕ) (looked : Option (List ℕ))
-      → Step mode faults old (get None key) (found looked) new → Gets old None key looked
+      → Step mode setting old (get None key) (found looked) new → Gets old None key looked
   looked_in open_mode key looked s = s.1.0
   looked_in broken key looked s = s.1.0
   looked_in closed key looked s = absurd s
 
   -- a write of one item that was done adds a batch of one entry
   one_in : (mode : Mode) (item : Item)
-      → Step mode faults old (write (item ∷ []) true) done new
+      → Step mode setting old (write (item ∷ []) true) done new
       → (new.history ≡ old.history ++ (record {
         sequence = old.last + 1;
         key = item.key;
@@ -364,7 +364,7 @@ abbrev entry_of : State → List ℕ → List ℕ → Entry
 entry_of old key value = record { sequence = old.last + 1; key = key; value = Some value }
 
 pub synced_is_read : SyncedIsRead
-synced_is_read faults later old next last new key value lives before after looked is step none
+synced_is_read meaning setting later old next last new key value lives before after looked is step none
     leads looks =
     found_alone (entries_of old.history)
     (entries_of more) old.last gets.sequence key value is.reached seen
@@ -376,7 +376,7 @@ synced_is_read faults later old next last new key value lives before after looke
 
     since : (more : History) × (last.history ≡ next.history ++ more)
         × IsSubsequence (batches_of more) (asked_in lives)
-    since = more_is_asked faults old next last (write
+    since = more_is_asked meaning setting old next last (write
         (item ∷ []) true) done lives before after is step refl leads
 
     more : History
@@ -386,7 +386,7 @@ synced_is_read faults later old next last new key value lives before after looke
     gets = looked_in later last new last.mode key looked looks
 
     fits : IsState last
-    fits = lives_fit lives before after next last (step_fits faults old next (write
+    fits = lives_fit meaning lives before after next last (step_fits setting old next (write
         (item ∷ []) true) done is step) leads
 
     batch : List Entry
@@ -396,7 +396,7 @@ synced_is_read faults later old next last new key value lives before after looke
         entries_of more
     whole =
         ap entries_of (since.1 ∙ ap (λ h. h ++ more)
-        (one_in faults old next old.mode item step).0)
+        (one_in setting old next old.mode item step).0)
         ∙ flat_map-append (λ (b : List Entry). b) (old.history ++ batch ∷ []) more
         ∙ ap (λ es. es ++ entries_of more) (entries_more old.history batch)
         ∙ append_assoc (entries_of old.history) batch (entries_of more)

@@ -79,10 +79,10 @@ module _ {C FP : Type 0} {B : Boxed} (cmp : CmpGhosts C) (filters : FilterGhosts
 -- ---- a run of the machine
 
 -- a store is closed after a crash
-closed_then : (last_answer moment : ℕ) (inside : Bool) (failures : ℕ) (state : State) (undone : List Event) (end : ℕ) (last new : State)
-    → CrashBefore last_answer moment inside failures state undone end last new → new.mode ≡ closed
-closed_then last_answer moment inside failures state [] end last new crash = ap (λ (s : State). s.mode) crash.2.state
-closed_then last_answer moment inside failures state (next ∷ later) end last new crash = ⊎_elim
+closed_then : (meaning : Meaning) (last_answer moment : ℕ) (inside : Bool) (failures : ℕ) (state : State) (undone : List Event) (end : ℕ) (last new : State)
+    → CrashBefore meaning last_answer moment inside failures state undone end last new → new.mode ≡ closed
+closed_then meaning last_answer moment inside failures state [] end last new crash = ap (λ (s : State). s.mode) crash.2.state
+closed_then meaning last_answer moment inside failures state (next ∷ later) end last new crash = ⊎_elim
     (λ none. ap (λ (s : State). s.mode) none.2.state) (λ some. ap (λ (s : State). s.mode) some.1.state) crash.4
 
 same_disk : (device from : RecordEnv) → SameObserved device from → (record_observed from).disk ≡ (record_observed device).disk
@@ -103,7 +103,7 @@ opens_so store fits wanted name_fits = record {
 
 module _ {C FP : Type 0} {B : Boxed} (cmp : CmpGhosts C) (filters : FilterGhosts FP) (codings : CompressorList B.compressors B.compressor → Codings) (store : List ℕ) (fits : Bool) (meaning : Meaning) where
   abbrev RunFrom : List (LifeOf C FP B) → List Report → RecordEnv → State → Type 0
-  RunFrom lives reports device old = (of_machine : List machine.Life) × AreLivesOf ghosts cmp filters codings store fits lives reports of_machine × (failures : ℕ) × (last : State) × Lives (failures_of device) old of_machine failures last
+  RunFrom lives reports device old = (of_machine : List machine.Life) × AreLivesOf ghosts cmp filters codings store fits lives reports of_machine × (failures : ℕ) × (last : State) × Lives meaning (failures_of device) old of_machine failures last
 
   -- one life, and what comes after it
   module _ (name_fits : IsTrue fits ↔ IsStoreName store) (device to next : RecordEnv) (life : LifeOf C FP B) (lives : List (LifeOf C FP B)) (report : Report) (reports : List Report) (old : State) (stands : Stands store meaning device old)
@@ -141,7 +141,7 @@ module _ {C FP : Type 0} {B : Boxed} (cmp : CmpGhosts C) (filters : FilterGhosts
       outside = mul-mod_right 2 device.journal.count;
     }
 
-    join : (then : State) → Stands store meaning next then → LifeLeads start (failures_of device) old lived.run.events (ending_of start life.moment) (failures_of next) then
+    join : (then : State) → Stands store meaning next then → LifeLeads meaning start (failures_of device) old lived.run.events (ending_of start life.moment) (failures_of next) then
         → RunFrom (life ∷ lives) (report ∷ reports) device old
     join then stands_then leads =
         let others = rest then stands_then in
@@ -149,9 +149,9 @@ module _ {C FP : Type 0} {B : Boxed} (cmp : CmpGhosts C) (filters : FilterGhosts
 
     by_end : (moment : Option ℕ) → life.moment ≡ moment → IsNextDevice (IsHonestCrash store) start moment life.pick to next → RunFrom (life ∷ lives) (report ∷ reports) device old
     by_end None ends follows = join lived.run.new (subst (λ d. Stands store meaning d lived.run.new) (sym follows) lived.run.represents)
-        (subst (λ m. LifeLeads start (failures_of device) old lived.run.events (ending_of start m) (failures_of next) lived.run.new) (sym ends)
-        (subst (λ n. Run n old lived.run.events (failures_of next) lived.run.new) is.same.failures
-        (subst (λ (d : RecordEnv). Run (failures_of is.from) old lived.run.events (failures_of d) lived.run.new) (sym follows) lived.run.run)))
+        (subst (λ m. LifeLeads meaning start (failures_of device) old lived.run.events (ending_of start m) (failures_of next) lived.run.new) (sym ends)
+        (subst (λ n. Run meaning n old lived.run.events (failures_of next) lived.run.new) is.same.failures
+        (subst (λ (d : RecordEnv). Run meaning (failures_of is.from) old lived.run.events (failures_of d) lived.run.new) (sym follows) lived.run.run)))
     by_end (Some moment) ends follows =
         let crash = follows.crash in
         let at = start + moment in
@@ -159,14 +159,14 @@ module _ {C FP : Type 0} {B : Boxed} (cmp : CmpGhosts C) (filters : FilterGhosts
         let stops = lived.run.stops at inside (files_then to at life.pick.after) (record_observed next).disk (omega (arith, is.same.moment))
         (record { come = crash.come; stood = crash.stood; leaves = crash.leaves; honest = follows.honest; free = crash.fresh.free })
         (between_calls to at (files_then to at life.pick.after) crash.stood) in
-        let stopped = subst (λ m. StopsAt m (failures_of device) old lived.run.events at inside (failures_of to) lived.run.new stops.0) same_start
-        (subst (λ n. StopsAt (record_observed is.from).moment n old lived.run.events at inside (failures_of to) lived.run.new stops.0) is.same.failures stops.1) in
+        let stopped = subst (λ m. StopsAt meaning m (failures_of device) old lived.run.events at inside (failures_of to) lived.run.new stops.0) same_start
+        (subst (λ n. StopsAt meaning (record_observed is.from).moment n old lived.run.events at inside (failures_of to) lived.run.new stops.0) is.same.failures stops.1) in
         join stops.0
         (record {
           disk_is = stops.2;
-          memory_is = closed_then (last_moment start stopped.done) at inside stopped.failures stopped.state stopped.undone (failures_of to) lived.run.new stops.0 stopped.crash;
+          memory_is = closed_then meaning (last_moment start stopped.done) at inside stopped.failures stopped.state stopped.undone (failures_of to) lived.run.new stops.0 stopped.crash;
         })
-        (subst (λ m. LifeLeads start (failures_of device) old lived.run.events (ending_of start m) (failures_of next) stops.0) (sym ends)
+        (subst (λ m. LifeLeads meaning start (failures_of device) old lived.run.events (ending_of start m) (failures_of next) stops.0) (sym ends)
         ((failures_of to, lived.run.new, stopped), crash.fresh.failures))
 
   pub lives_run : (IsTrue fits ↔ IsStoreName store) → (device : RecordEnv) (lives : List (LifeOf C FP B)) (reports : List Report) (end : RecordEnv) (old : State) → All (λ life. Agrees (format_of cmp filters codings life.options) meaning) lives → Stands store meaning device old
@@ -201,7 +201,7 @@ module _ {C FP : Type 0} {B : Boxed} (cmp : CmpGhosts C) (filters : FilterGhosts
       let fresh = are.1.fresh in
       let stands : StandsFor store meaning (record_observed first).disk (new_state format) = nothing_stands store meaning format (record_observed first).disk (are.1.empty _) (fresh.free _) in
       let all = lives_run cmp filters codings store fits meaning name_fits first lives reports are.0 (new_state format) agree (record { disk_is = stands; memory_is = refl }) are.1.reports_are in
-      (all.0, all.1, all.2, all.3, subst (λ n. Lives n (new_state format) all.0 all.2 all.3) fresh.failures all.4)
+      (all.0, all.1, all.2, all.3, subst (λ n. Lives meaning n (new_state format) all.0 all.2 all.3) fresh.failures all.4)
 
   -- so lives without tails are honest
   honest_lives : (device : RecordEnv) (lives : List (LifeOf C FP B)) (reports : List Report) (end : RecordEnv) → All (λ life. life.pick.tails.items ≡ []) lives

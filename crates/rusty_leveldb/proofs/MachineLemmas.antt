@@ -5,7 +5,7 @@ use Rattle.std.proofs.lemmas.List.Elements.{Contains-append_left, Contains-appen
 use Rattle.leveldb_base.specs.History.{Item, Entry, History, IsHistory, placed, entries_of, greatest, with_batch, count_of}
 use Rattle.leveldb_base.proofs.HistoryLemmas.{in_none, in_rest}
 use Rattle.rusty_leveldb.specs.State.{Mode, open_mode, broken, closed, Snapshot, Opening, State, SuitsMode, IsState, Request, open_store, write, get, walk, get_snapshot, release_snapshot, flush, compact_range, close, abandon, Refusal, Answer, done, found, walked, snapshot, refused}
-use Rattle.rusty_leveldb.specs.Causes.{Faults, Cause, device_failed, IsClosedRefusal, IsBrokenRefusal}
+use Rattle.rusty_leveldb.specs.Causes.{Setting, Cause, device_failed, IsClosedRefusal, IsBrokenRefusal}
 use Rattle.rusty_leveldb.specs.Machine.{MayGrow, Keeps, next_batch, Writes, AllDurable, Breaks, Gives, Releases, Closes, Abandons, Opens, StaysClosed, MayBreak, KeepsOrBreaks, Succeeds, LeavesRefused, Responds, Rejects, Step, Risk, risk_between, risk_of, Crashes}
 use Rattle.rusty_leveldb.specs.Laws.{asked_by, StepFits, CrashFits, CrashInsideFits}
 use Rattle.rusty_leveldb.proofs.Histories.{entries_more, greatest_append, placed_greatest, placed_length, history_more, history_part, greatest_part}
@@ -15,8 +15,8 @@ use Rattle.rusty_leveldb.proofs.Histories.{entries_more, greatest_append, placed
 pub data Change (old : State) (request : Request) (new : State) : Type 0 where
   same : new ≡ old → Change old request new
   opens : (opening : Opening) → Opens old opening new → Change old request new
-  stays : (opening : Opening) (faults : Faults) (refusal : Refusal) (cause : Cause)
-      → old.mode ≡ closed → StaysClosed faults old opening refusal cause new
+  stays : (opening : Opening) (setting : Setting) (refusal : Refusal) (cause : Cause)
+      → old.mode ≡ closed → StaysClosed setting old opening refusal cause new
       → Change old request new
   keeps : Keeps old new → Change old request new
   writes : (items : List Item) (sync : Bool) → asked_by request ≡ items ∷ []
@@ -42,9 +42,9 @@ NeedsMode get_snapshot old = old.mode ≡ closed → ⊥
 NeedsMode (release_snapshot one) old = old.mode ≡ closed → ⊥
 NeedsMode request old = Unit {0}
 
-module _ (faults : Faults) (old new : State) where
+module _ (setting : Setting) (old new : State) where
   succeeded : (request : Request) (answer : Answer) → NeedsMode request old
-      → Succeeds faults old request answer new → Change old request new
+      → Succeeds setting old request answer new → Change old request new
   succeeded (open_store opening) done m s = opens opening s
   succeeded (write items sync) done m s = writes items sync refl m s
   succeeded (get at key) (found value) m s = same s.1
@@ -69,8 +69,8 @@ module _ (faults : Faults) (old new : State) where
       ⊎_elim (λ b. breaks m b) (λ b. breaks_with items refl m b) broke.1
 
   refused_for : (request : Request) (refusal : Refusal) (cause : Cause) → NeedsMode request old
-      → LeavesRefused faults old request refusal cause new → Change old request new
-  refused_for (open_store opening) refusal cause m s = stays opening faults refusal cause m s
+      → LeavesRefused setting old request refusal cause new → Change old request new
+  refused_for (open_store opening) refusal cause m s = stays opening setting refusal cause m s
   refused_for (write items sync) refusal cause m s = kept_or_broken_with items sync cause m s
   refused_for flush refusal device_failed m s = breaks m s
   refused_for flush refusal cause m s = kept_or_broken flush cause m s
@@ -81,7 +81,7 @@ module _ (faults : Faults) (old new : State) where
   refused_for request refusal cause m s = same s
 
   responded : (request : Request) (answer : Answer) → NeedsMode request old
-      → Responds faults old request answer new → Change old request new
+      → Responds setting old request answer new → Change old request new
   responded request (refused refusal) m s = refused_for request refusal s.cause m s.leaves
   responded request done m s = succeeded request done m s.1
   responded request (found value) m s = succeeded request (found value) m s.1
@@ -97,7 +97,7 @@ module _ (faults : Faults) (old new : State) where
   rejected Says request (snapshot one) s = absurd s
 
   changed : (mode : Mode) (request : Request) (answer : Answer) → old.mode ≡ mode
-      → Step mode faults old request answer new → Change old request new
+      → Step mode setting old request answer new → Change old request new
   changed closed (open_store opening) answer m s = responded (open_store opening) answer m s
   changed closed abandon answer m s = same s.1
   changed closed request answer m s = rejected IsClosedRefusal request answer s
@@ -134,7 +134,7 @@ module _ (faults : Faults) (old new : State) where
   changed open_mode abandon answer m s = responded abandon answer tt s
 
   -- a step is one of these changes
-  pub change : (request : Request) (answer : Answer) → Step old.mode faults old request answer new
+  pub change : (request : Request) (answer : Answer) → Step old.mode setting old request answer new
       → Change old request new
   change request answer step = changed old.mode request answer refl step
 
@@ -359,9 +359,9 @@ module _ (old : State) (is : IsState old) where
     mode = record { held = refl; given = refl };
   }
 
-  stays_fits : (opening : Opening) (faults : Faults) (refusal : Refusal) (cause : Cause) (new : State)
-      → old.mode ≡ closed → StaysClosed faults old opening refusal cause new → IsState new
-  stays_fits opening faults refusal cause new m s = subst IsState (sym s.state) (record {
+  stays_fits : (opening : Opening) (setting : Setting) (refusal : Refusal) (cause : Cause) (new : State)
+      → old.mode ≡ closed → StaysClosed setting old opening refusal cause new → IsState new
+  stays_fits opening setting refusal cause new m s = subst IsState (sym s.state) (record {
     history = is.history;
     reached = is.reached;
     pending = is.pending;
@@ -411,8 +411,8 @@ module _ (old : State) (is : IsState old) where
   change_fits : (request : Request) (new : State) → Change old request new → IsState new
   change_fits request new (same e) = subst IsState (sym e) is
   change_fits request new (opens opening o) = opens_fits opening new o
-  change_fits request new (stays opening faults refusal cause m s) =
-      stays_fits opening faults refusal cause new m s
+  change_fits request new (stays opening setting refusal cause m s) =
+      stays_fits opening setting refusal cause new m s
   change_fits request new (keeps k) = keeps_fits new k
   change_fits request new (writes items sync asked m w) = writes_fits items sync new m w
   change_fits request new (covers c) = covers_fits new c
@@ -440,8 +440,8 @@ module _ (old : State) (is : IsState old) where
       low = let g = greatest_part old.durable risk.history new.history c.prefix in omega arith
 
 pub step_fits : StepFits
-step_fits faults old new request answer is step =
-    change_fits old is request new (change faults old new request answer step)
+step_fits setting old new request answer is step =
+    change_fits old is request new (change setting old new request answer step)
 
 pub crash_between_fits : CrashFits
 crash_between_fits old new is c = crash_fits old is (risk_between old) new is.history is.pending c
@@ -458,9 +458,9 @@ risk_cases (open_store opening) old new = inr (opening, refl)
 risk_cases request old new = inl refl
 
 pub crash_inside_fits : CrashInsideFits
-crash_inside_fits faults old next new request answer is step c = ⊎_elim
+crash_inside_fits setting old next new request answer is step c = ⊎_elim
     (λ (e : risk_of request old next ≡ risk_between next). let then =
-    step_fits faults old next request answer is step in
+    step_fits setting old next request answer is step in
     crash_fits old is (risk_between next) new then.history then.pending (subst
     (λ r. Crashes old r new) e c))
     (λ (o : (opening : Opening) × (risk_of request old next ≡ risk_opening opening old)).

@@ -13,7 +13,7 @@ use Rattle.rusty_leveldb.specs.declared.shell.commands.Reply.{Reply}
 use Rattle.rusty_leveldb.specs.State.{State, Opening, Request, open_store, abandon, Answer, done, refused}
 use Rattle.leveldb_version.specs.Holds.{IsHonest}
 use Rattle.rusty_leveldb.specs.Machine.{Step, Crashes, risk_between}
-use Rattle.rusty_leveldb.specs.Runs.{Event, Run, CrashesIn, CrashBefore, last_moment, StopsAt, faults_of}
+use Rattle.rusty_leveldb.specs.Runs.{Event, Run, CrashesIn, CrashBefore, last_moment, StopsAt, setting_of}
 use Rattle.rusty_leveldb.specs.Serves.{StandsFor, Represents, Goes, Runs, recalls_nothing, IsHonestlyLeft, IsBetweenCalls, IsConversation, done_or, refusal_of}
 use Rattle.rusty_leveldb.specs.Engine.{scene, Recalls, Answers, AnswersAs, IsOpening, no_engine}
 use Rattle.rusty_leveldb.proofs.Crashes.{crash_between, crash_inside}
@@ -63,19 +63,19 @@ module _ {E F : Type 0} (env : Ghosts E F) (store : List ℕ) where
 
 -- ---- runs
 
-pub run_more : (before mid : ℕ) (old new last : State) (events : List Event) (event : Event)
-    → Run before old events mid new → mid ≤ event.failures
-    → Step new.mode (faults_of mid event) new event.request event.answer last
-    → Run before old (events ++ event ∷ []) event.failures last
-run_more before mid old new last [] event run more step = (
+pub run_more : (meaning : Meaning) (before mid : ℕ) (old new last : State) (events : List Event) (event : Event)
+    → Run meaning before old events mid new → mid ≤ event.failures
+    → Step new.mode (setting_of meaning mid event) new event.request event.answer last
+    → Run meaning before old (events ++ event ∷ []) event.failures last
+run_more meaning before mid old new last [] event run more step = (
   subst (λ n. n ≤ event.failures) run.0 more,
   last,
-  subst (λ (s : State). Step s.mode (faults_of before event) s event.request event.answer last) run.1
-      (subst (λ n. Step new.mode (faults_of n event) new event.request event.answer last) run.0 step),
+  subst (λ (s : State). Step s.mode (setting_of meaning before event) s event.request event.answer last) run.1
+      (subst (λ n. Step new.mode (setting_of meaning n event) new event.request event.answer last) run.0 step),
   (refl, refl),
 )
-run_more before mid old new last (first ∷ events) event run more step =
-    (run.0, run.1, run.2, run_more first.failures mid run.1 new last events event run.3 more step)
+run_more meaning before mid old new last (first ∷ events) event run more step =
+    (run.0, run.1, run.2, run_more meaning first.failures mid run.1 new last events event run.3 more step)
 
 last_more : (start : ℕ) (events : List Event) (event : Event)
     → last_moment start (events ++ event ∷ []) ≡ event.moment
@@ -112,13 +112,13 @@ All-last P [] last all = all 0 last (omega arith)
 All-last P (x ∷ xs) last all = All-last P xs last (λ k d lt. all (suc k) d (omega (arith, lt)))
 
 -- one request more is answered after the moment of a crash
-stops_more : (start before moment : ℕ) (inside : Bool) (mid : ℕ) (old new last then : State)
+stops_more : (meaning : Meaning) (start before moment : ℕ) (inside : Bool) (mid : ℕ) (old new last then : State)
     (events : List Event) (event : Event) → moment < event.moment
     → (All (λ (event : Event). event.moment ≤ moment) events → ⊥) → mid ≤ event.failures
-    → Step new.mode (faults_of mid event) new event.request event.answer last
-    → StopsAt start before old events moment inside mid new then
-    → StopsAt start before old (events ++ event ∷ []) moment inside event.failures last then
-stops_more start before moment inside mid old new last then events event early some more step s =
+    → Step new.mode (setting_of meaning mid event) new event.request event.answer last
+    → StopsAt meaning start before old events moment inside mid new then
+    → StopsAt meaning start before old (events ++ event ∷ []) moment inside event.failures last then
+stops_more meaning start before moment inside mid old new last then events event early some more step s =
     by s.undone s.split s.not_yet s.crash
   where
     one : All (λ (o : Event). moment < o.moment) (event ∷ [])
@@ -126,8 +126,8 @@ stops_more start before moment inside mid old new last then events event early s
         (All-nil (λ (o : Event). moment < o.moment))
 
     by : (undone : List Event) → events ≡ s.done ++ undone → All (λ (o : Event). moment < o.moment) undone
-        → CrashBefore (last_moment start s.done) moment inside s.failures s.state undone mid new then
-        → StopsAt start before old (events ++ event ∷ []) moment inside event.failures last then
+        → CrashBefore meaning (last_moment start s.done) moment inside s.failures s.state undone mid new then
+        → StopsAt meaning start before old (events ++ event ∷ []) moment inside event.failures last then
     by [] split later crash = absurd (some (subst (All (λ (o : Event). o.moment ≤ moment))
         (sym (split ∙ append-nil s.done)) s.by_then))
     by (next ∷ undone) split later crash = record {
@@ -143,7 +143,7 @@ stops_more start before moment inside mid old new last then events event early s
         crash.0,
         crash.1,
         crash.2,
-        run_more next.failures mid crash.1 new last undone event crash.3 more step,
+        run_more meaning next.failures mid crash.1 new last undone event crash.3 more step,
         crash.4,
       );
     }
@@ -225,8 +225,8 @@ module _ {E F C FP : Type 0} {B : Boxed} (env : Ghosts E F) (formats : OptionsOf
     last_is : last_moment (env.observed from).moment led.events ≡ (env.observed mid).moment
     last_is = led.last
 
-    run_now : Run (env.failures from) old (led.events ++ now ∷ []) (env.failures to) goes.new
-    run_now = run_more (env.failures from) (env.failures mid) old led.new goes.new led.events now led.run goes.later goes.step
+    run_now : Run meaning (env.failures from) old (led.events ++ now ∷ []) (env.failures to) goes.new
+    run_now = run_more meaning (env.failures from) (env.failures mid) old led.new goes.new led.events now led.run goes.later goes.step
 
     by_now : (moment : ℕ) → (env.observed from).moment ≤ moment → (env.observed to).moment ≤ moment → All (λ (event : Event). event.moment ≤ moment) (led.events ++ now ∷ [])
     by_now moment low most = All-append (λ (event : Event). event.moment ≤ moment) led.events (now ∷ []) ((led.ends moment low).1 (omega (arith, most, time)))
@@ -235,7 +235,7 @@ module _ {E F C FP : Type 0} {B : Boxed} (env : Ghosts E F) (formats : OptionsOf
     -- a crash at this moment
     abbrev Stops : ℕ → Bool → Disk → Type 0
     Stops moment inside left = (then : State)
-        × StopsAt (env.observed from).moment (env.failures from) old (led.events ++ now ∷ []) moment inside (env.failures to) goes.new then
+        × StopsAt meaning (env.observed from).moment (env.failures from) old (led.events ++ now ∷ []) moment inside (env.failures to) goes.new then
         × StandsFor store meaning left then
 
     -- in the last request
@@ -303,7 +303,7 @@ module _ {E F C FP : Type 0} {B : Boxed} (env : Ghosts E F) (formats : OptionsOf
         let s = led.stops moment inside files left low (record { come = omega (arith, early); stood = goes.moments.time.before moment files early crash.stood; leaves = crash.leaves; honest = crash.honest; free = crash.free })
         (λ out. let b = between out in record { modelled = b.modelled; alone = λ others stood. b.alone others (goes.moments.time.kept moment others (omega (arith, early)) stood) }) in (
           s.0,
-          stops_more (env.observed from).moment (env.failures from) moment inside (env.failures mid) old led.new goes.new s.0 led.events now (omega (arith, early, time))
+          stops_more meaning (env.observed from).moment (env.failures from) moment inside (env.failures mid) old led.new goes.new s.0 led.events now (omega (arith, early, time))
               (λ all. let past = (led.ends moment low).0 all in absurd (omega (arith, early, past))) goes.later goes.step s.1,
           s.2,
         )

@@ -5,10 +5,11 @@ use Rattle.std.proofs.lemmas.List.{take-append-drop, map-append}
 use Rattle.std.proofs.lemmas.List.Concat.{flat_map-append}
 use Rattle.std.proofs.lemmas.List.Elements.{All-head, All-tail}
 use Rattle.leveldb_base.specs.History.{Item, Entry, History, IsPrefixAtLeast, placed, with_batch}
+use Rattle.leveldb_store.specs.Format.{Meaning}
 use Rattle.rusty_leveldb.specs.State.{open_mode, State, IsState, Request, Answer}
-use Rattle.rusty_leveldb.specs.Causes.{Faults}
+use Rattle.rusty_leveldb.specs.Causes.{Setting}
 use Rattle.rusty_leveldb.specs.Machine.{MayGrow, next_batch, Writes, Breaks, Step, Risk, risk_between, risk_of, Crashes}
-use Rattle.rusty_leveldb.specs.Runs.{Event, faults_of, Run, CrashesIn, CrashBefore, last_moment, Ending, goes_on, crashes, Life, LifeLeads, Lives}
+use Rattle.rusty_leveldb.specs.Runs.{Event, setting_of, Run, CrashesIn, CrashBefore, last_moment, Ending, goes_on, crashes, Life, LifeLeads, Lives}
 use Rattle.rusty_leveldb.specs.Laws.{asked_by, items_of, batches_of, IsSubsequence, begun_by, begun_until, asked_in}
 use Rattle.rusty_leveldb.proofs.MachineLemmas.{Change, same, opens, stays, keeps, writes, covers, breaks, breaks_with, gives, releases, closes, abandons, change, none_pending, step_fits, crash_between_fits, crash_inside_fits, risk_opening, risk_cases}
 
@@ -188,7 +189,7 @@ module _ (part : History) (asked : List (List Item)) (old : State)
       since.durable in omega arith) (λ (e : new.durable ≡ length new.history). let l =
       joined_fits new o.joins in omega arith) o.durable)
       o.joins
-  changes request new is (stays opening faults refusal cause m s) =
+  changes request new is (stays opening setting refusal cause m s) =
       as_before new (asked_by request) is (ap (λ (s : State). s.history) s.state) (ap
       (λ (s : State). s.pending) s.state) (covers_part new.durable s.durable)
   changes request new is (keeps k) =
@@ -227,11 +228,11 @@ module _ (part : History) (asked : List (List Item)) (old : State)
       (λ (s : State). s.pending) a.state) (let c =
       ap (λ (s : State). s.durable) a.state in let d = since.durable in omega arith)
 
-  pub since_step : (faults : Faults) (request : Request) (answer : Answer) (new : State)
-      → Step old.mode faults old request answer new → Since part (asked ++ asked_by request) new
-  since_step faults request answer new step =
-      changes request new (step_fits faults old new request answer since.is step)
-      (change faults old new request answer step)
+  pub since_step : (setting : Setting) (request : Request) (answer : Answer) (new : State)
+      → Step old.mode setting old request answer new → Since part (asked ++ asked_by request) new
+  since_step setting request answer new step =
+      changes request new (step_fits setting old new request answer since.is step)
+      (change setting old new request answer step)
 
 -- ---- crashes
 
@@ -289,19 +290,19 @@ module _ (part : History) where
     some = some_more (batches_of (with_batch since.more new.pending)) asked others since.some;
   }
 
-  inside_since : (asked : List (List Item)) (faults : Faults) (old next new : State)
+  inside_since : (asked : List (List Item)) (setting : Setting) (old next new : State)
       (request : Request) (answer : Answer) → Since part asked old
-      → Step old.mode faults old request answer next
+      → Step old.mode setting old request answer next
       → Crashes old (risk_of request old next) new → Since part (asked ++ asked_by request) new
-  inside_since asked faults old next new request answer since step c =
-      let is = crash_inside_fits faults old next new request answer since.is step c in
+  inside_since asked setting old next new request answer since step c =
+      let is = crash_inside_fits setting old next new request answer since.is step c in
       let none = ap (λ (s : State). s.pending) c.state in
       let durable = ap (λ (s : State). s.durable) c.state in
       ⊎_elim
       (λ (e : risk_of request old next ≡ risk_between next).
       crash_since part (asked ++ asked_by request) next old.durable
       (risk_of request old next).history new
-      (since_step part asked old since faults request answer next step) since.durable
+      (since_step part asked old since setting request answer next step) since.durable
       (ap (λ (r : Risk). r.history) e) is c.prefix none durable)
       (λ (o : (opening : _) × (risk_of request old next ≡ risk_opening opening old)).
       more_asked asked (asked_by request) new
@@ -311,24 +312,25 @@ module _ (part : History) where
       (risk_cases request old next)
 
   -- a crash in a request, whether it had called the device or not
-  in_since : (asked : List (List Item)) (faults : Faults) (last_answer moment : ℕ) (inside : Bool)
+  in_since : (asked : List (List Item)) (setting : Setting) (last_answer moment : ℕ) (inside : Bool)
       (old next new : State) (request : Request) (answer : Answer) → Since part asked old
-      → Step old.mode faults old request answer next
+      → Step old.mode setting old request answer next
       → CrashesIn last_answer moment inside old request next new
       → Since part (asked ++ asked_by request) new
-  in_since asked faults last_answer moment inside old next new request answer since step (inl none) =
+  in_since asked setting last_answer moment inside old next new request answer since step (inl none) =
       more_asked asked (asked_by request) new (between_since part asked old new since none.2)
-  in_since asked faults last_answer moment inside old next new request answer since step (inr some) =
-      inside_since asked faults old next new request answer since step some.1
+  in_since asked setting last_answer moment inside old next new request answer since step (inr some) =
+      inside_since asked setting old next new request answer since step some.1
 
-  -- ---- runs and lives
+-- ---- runs and lives
 
+module _ (meaning : Meaning) (part : History) where
   -- the batches that these events' writes asked for
   abbrev asked_of : List Event → List (List Item)
   asked_of events = flat_map (λ event. asked_by event.request) events
 
   run_since : (asked : List (List Item)) (before : ℕ) (old : State) (events : List Event)
-      (after : ℕ) (new : State) → Since part asked old → Run before old events after new
+      (after : ℕ) (new : State) → Since part asked old → Run meaning before old events after new
       → Since part (asked ++ asked_of events) new
   run_since asked before old [] after new since run =
       subst (λ all. Since part all new) (sym (append-nil asked)) (subst (λ s. Since part asked s)
@@ -337,7 +339,7 @@ module _ (part : History) where
       subst (λ all. Since part all new) (append_assoc asked (asked_by event.request)
       (asked_of events))
       (run_since (asked ++ asked_by event.request) event.failures run.1 events after new
-      (since_step part asked old since (faults_of before event) event.request event.answer run.1
+      (since_step part asked old since (setting_of meaning before event) event.request event.answer run.1
       run.2) run.3)
 
   -- none of these had come, and only the first had begun
@@ -363,7 +365,7 @@ module _ (part : History) where
   cut_since : (asked : List (List Item)) (last_answer moment : ℕ) (inside : Bool) (failures : ℕ)
       (old : State) (undone : List Event) (end : ℕ) (last new : State)
       → All (λ event. moment < event.moment) undone → Since part asked old
-      → CrashBefore last_answer moment inside failures old undone end last new
+      → CrashBefore meaning last_answer moment inside failures old undone end last new
       → Since part (asked ++ asked_of (begun_by moment undone)) new
   cut_since asked last_answer moment inside failures old [] end last new not_yet since cut =
       subst (λ all. Since part all new) (sym (append-nil asked))
@@ -373,12 +375,12 @@ module _ (part : History) where
       subst (λ begun. Since part (asked ++ asked_of begun) new) (sym (begun_none moment event undone
       (All-head (λ event. moment < event.moment) event undone not_yet)))
       (subst (λ all. Since part (asked ++ all) new) (sym (append-nil (asked_by event.request)))
-      (in_since asked (faults_of failures event) last_answer moment inside old cut.1 new
+      (in_since part asked (setting_of meaning failures event) last_answer moment inside old cut.1 new
       event.request event.answer since cut.2 cut.4))
 
   life_since : (asked : List (List Item)) (start before : ℕ) (old : State) (events : List Event)
       (ending : Ending) (after : ℕ) (new : State) → Since part asked old
-      → LifeLeads start before old events ending after new
+      → LifeLeads meaning start before old events ending after new
       → Since part (asked ++ asked_of (begun_until ending events)) new
   life_since asked start before old events goes_on after new since leads =
       run_since asked before old events after new since leads
@@ -395,7 +397,7 @@ module _ (part : History) where
       (run_since asked before old s.done s.failures s.state since s.run) s.crash)
 
   pub since_lives : (asked : List (List Item)) (before : ℕ) (old : State) (lives : List Life)
-      (after : ℕ) (new : State) → Since part asked old → Lives before old lives after new
+      (after : ℕ) (new : State) → Since part asked old → Lives meaning before old lives after new
       → Since part (asked ++ asked_in lives) new
   since_lives asked before old [] after new since leads =
       subst (λ all. Since part all new) (sym (append-nil asked)) (subst (λ s. Since part asked s)

@@ -5,7 +5,8 @@ use Rattle.leveldb_base.specs.declared.error.StatusCode.TheVariants.{OutOfMemory
 use Rattle.leveldb_base.specs.History.{Item}
 use Rattle.leveldb_mem.specs.WriteBatch.{batch_bytes, max_length}
 use Rattle.leveldb_version.specs.Contents.{Store, missing, made}
-use Rattle.leveldb_store.specs.Format.{Format, HasCompressorError}
+use Rattle.leveldb_store.specs.Format.{Format, Meaning, HasCompressorError}
+use Rattle.leveldb_store.specs.Read.{LacksCompressor}
 use Rattle.rusty_leveldb.specs.OneLog.{max_sequence}
 use Rattle.rusty_leveldb.specs.State.{State, Opening, Snapshot, Refusal, Request, open_store, write, get, walk, get_snapshot, release_snapshot, compact_range, abandon, Move, seek, reset}
 
@@ -19,11 +20,14 @@ pub data Cause : Type 0 where
   used_up : Cause
   too_large : Cause
   compressor_failed : Cause
+  lacks_compressor : Cause
 
--- how many calls of the device had failed before a request, and by its end
-pub record Faults : Type 0 where
+-- the setting of a request: how many calls of the device had failed before it, and by its end, and
+-- what the names and ids in the store's files mean
+pub record Setting : Type 0 where
   pub before : ℕ
   pub after : ℕ
+  pub meaning : Meaning
 
 -- between these counts of failed calls one was counted, or the count was at its greatest
 abbrev pub HasFailed : ℕ → ℕ → Type 0
@@ -111,8 +115,15 @@ ReachesDevice get_snapshot = ⊥
 ReachesDevice (release_snapshot one) = ⊥
 ReachesDevice _ = Unit {0}
 
--- The format in which a request writes blocks of tables, if it does. What a request reads of a disk
--- that represents a state its compressors decode.
+-- requests that read blocks of tables, of whatever openings
+abbrev pub ReadsTables : Request → Type 0
+ReadsTables (get at key) = Unit {0}
+ReadsTables (walk at moves) = Unit {0}
+ReadsTables (compact_range from to) = Unit {0}
+ReadsTables _ = ⊥
+
+-- The format in which a request writes blocks of tables, if it does. Of a disk that represents a
+-- state its compressors decode each block whose id they have.
 abbrev pub block_format : State → Request → Option Format
 block_format old (open_store opening) = Some opening.format
 block_format old (write items sync) = Some old.format
@@ -127,28 +138,31 @@ CompressorFails (Some format) code = HasCompressorError format code
 -- When a cause comes, and which code and text it has; damage is no cause, since the disk is whole.
 -- How much memory the entries take that are too large isn't in the state: the engine's clauses say
 -- it (`IsFull`, `IsTooLarge`).
-abbrev pub Comes : Faults → State → Request → Refusal → Cause → Type 0
-Comes faults old request refusal out_of_memory =
+abbrev pub Comes : Setting → State → Request → Refusal → Cause → Type 0
+Comes setting old request refusal out_of_memory =
     TakesMemory request × (refusal.code ≡ OutOfMemory) × (refusal.text ≡ [])
-Comes faults old request refusal device_failed =
-    ReachesDevice request × HasFailed faults.before faults.after
-Comes faults old request refusal lock_is_held =
+Comes setting old request refusal device_failed =
+    ReachesDevice request × HasFailed setting.before setting.after
+Comes setting old request refusal lock_is_held =
     TakesLock request × (refusal.code ≡ LockError) × IsTrue old.locked
-Comes faults old request refusal bad_operand =
+Comes setting old request refusal bad_operand =
     (refusal.code ≡ InvalidArgument) × Misfits old request
-Comes faults old request refusal store_exists =
+Comes setting old request refusal store_exists =
     (refusal.code ≡ AlreadyExists) × Exists old request
-Comes faults old request refusal used_up = (refusal.code ≡ NotSupported) × IsUsedUp old request
-Comes faults old request refusal too_large = FillsMemory request × (refusal.code ≡ NotSupported)
-Comes faults old request refusal compressor_failed =
+Comes setting old request refusal used_up = (refusal.code ≡ NotSupported) × IsUsedUp old request
+Comes setting old request refusal too_large = FillsMemory request × (refusal.code ≡ NotSupported)
+Comes setting old request refusal compressor_failed =
     CompressorFails (block_format old request) refusal.code
+Comes setting old request refusal lacks_compressor =
+    ReadsTables request × (refusal.code ≡ NotSupported)
+    × LacksCompressor old.format setting.meaning
 
 -- the same of a move of a walk, which has an operand of its own; a reset is never refused
-abbrev pub MoveComes : Faults → State → Request → Move → Refusal → Cause → Type 0
-MoveComes faults old request reset refusal cause = ⊥
-MoveComes faults old request move refusal bad_operand =
+abbrev pub MoveComes : Setting → State → Request → Move → Refusal → Cause → Type 0
+MoveComes setting old request reset refusal cause = ⊥
+MoveComes setting old request move refusal bad_operand =
     (refusal.code ≡ InvalidArgument) × MoveMisfits move
-MoveComes faults old request move refusal cause = Comes faults old request refusal cause
+MoveComes setting old request move refusal cause = Comes setting old request refusal cause
 
 -- the refusal of a closed store
 abbrev pub IsClosedRefusal : Refusal → Type 0

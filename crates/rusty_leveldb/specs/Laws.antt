@@ -9,9 +9,9 @@ use Rattle.leveldb_store.specs.Format.{Format, Meaning}
 use Rattle.rusty_leveldb.specs.OneLog.{log_path}
 use Rattle.leveldb_version.specs.Holds.{IsHonest, CarriesPrefix}
 use Rattle.rusty_leveldb.specs.State.{State, IsState, broken, closed, Opening, Request, open_store, write, get, flush, close, Answer, done, found, Refusal, refused}
-use Rattle.rusty_leveldb.specs.Causes.{Faults, Cause, IsLongKey, IsLongBatch, Comes, IsClosedRefusal, IsBrokenRefusal}
+use Rattle.rusty_leveldb.specs.Causes.{Setting, Cause, IsLongKey, IsLongBatch, Comes, IsClosedRefusal, IsBrokenRefusal}
 use Rattle.rusty_leveldb.specs.Machine.{Step, StaysOr, risk_between, risk_of, Crashes}
-use Rattle.rusty_leveldb.specs.Runs.{Event, faults_of, Ending, goes_on, crashes, Life, Lives, new_state}
+use Rattle.rusty_leveldb.specs.Runs.{Event, setting_of, Ending, goes_on, crashes, Life, Lives, new_state}
 use Rattle.rusty_leveldb.specs.Serves.{Reads, StandsFor, IsSpared, AtEachMoment}
 
 -- ---- disks
@@ -62,9 +62,10 @@ CrashSince {E = E} env = (store : List ℕ) (meaning : Meaning) (old new : State
 
 -- a refusal has one of the causes, or the store was closed, or it broke earlier
 abbrev pub RefusalHasCause : Type 0
-RefusalHasCause = (faults : Faults) (old new : State)
-    (request : Request) (refusal : Refusal) → Step old.mode faults old request (refused refusal) new
-    → ((cause : Cause) × Comes faults old request refusal cause)
+RefusalHasCause = (setting : Setting) (old new : State)
+    (request : Request) (refusal : Refusal)
+    → Step old.mode setting old request (refused refusal) new
+    → ((cause : Cause) × Comes setting old request refusal cause)
     ⊎ ((old.mode ≡ closed) × IsClosedRefusal refusal)
     ⊎ ((old.mode ≡ broken) × IsBrokenRefusal refusal)
 
@@ -72,9 +73,9 @@ RefusalHasCause = (faults : Faults) (old new : State)
 
 -- a step leads from a state to a state
 abbrev pub StepFits : Type 0
-StepFits = (faults : Faults) (old new : State)
+StepFits = (setting : Setting) (old new : State)
     (request : Request) (answer : Answer)
-    → IsState old → Step old.mode faults old request answer new → IsState new
+    → IsState old → Step old.mode setting old request answer new → IsState new
 
 -- and so does a crash between two requests
 abbrev pub CrashFits : Type 0
@@ -82,15 +83,15 @@ CrashFits = (old new : State) → IsState old → Crashes old (risk_between old)
 
 -- or inside one that would have led on
 abbrev pub CrashInsideFits : Type 0
-CrashInsideFits = (faults : Faults) (old next new : State)
+CrashInsideFits = (setting : Setting) (old next new : State)
     (request : Request) (answer : Answer) → IsState old
-    → Step old.mode faults old request answer next
+    → Step old.mode setting old request answer next
     → Crashes old (risk_of request old next) new → IsState new
 
 -- so do lives, one after another
 abbrev pub LivesFit : Type 0
-LivesFit = (lives : List Life) (before after : ℕ)
-    (old new : State) → IsState old → Lives before old lives after new → IsState new
+LivesFit = (meaning : Meaning) (lives : List Life) (before after : ℕ)
+    (old new : State) → IsState old → Lives meaning before old lives after new → IsState new
 
 -- ---- what is durable
 
@@ -107,17 +108,17 @@ MakesDurable request answer = ⊥
 
 -- whatever lives follow, the history begins with the batches that were durable
 abbrev pub DurableStays : Type 0
-DurableStays = (lives : List Life) (before after : ℕ)
-    (old last : State) → IsState old → Lives before old lives after last
+DurableStays = (meaning : Meaning) (lives : List Life) (before after : ℕ)
+    (old last : State) → IsState old → Lives meaning before old lives after last
     → BeginsWith last.history (take old.durable old.history)
 
 -- and after a synced write, a flush or a close that was done it begins with the history as of that
 -- answer
 abbrev pub SyncedStays : Type 0
-SyncedStays = (faults : Faults) (old next last : State)
+SyncedStays = (meaning : Meaning) (setting : Setting) (old next last : State)
     (request : Request) (answer : Answer) (lives : List Life) (before after : ℕ)
-    → IsState old → Step old.mode faults old request answer next → MakesDurable request answer
-    → Lives before next lives after last → BeginsWith last.history next.history
+    → IsState old → Step old.mode setting old request answer next → MakesDurable request answer
+    → Lives meaning before next lives after last → BeginsWith last.history next.history
 
 -- an answer came by the end of its life
 abbrev pub IsInTime : ℕ → Ending → Type 0
@@ -127,17 +128,17 @@ IsInTime moment (crashes at inside counted) = moment ≤ at
 -- Lives have a state before and after each answer that came in time: what was answered before it
 -- leads there, and the rest of its life and the later ones lead on.
 abbrev pub EachAnswerParts : Type 0
-EachAnswerParts = (earlier later : List Life) (start : ℕ) (ending : Ending)
+EachAnswerParts = (meaning : Meaning) (earlier later : List Life) (start : ℕ) (ending : Ending)
     (answered undone : List Event) (one : Event) (before after : ℕ) (old last : State)
     → let whole : Life =
     record { start = start; events = answered ++ one ∷ undone; ending = ending } in
     let front : Life = record { start = start; events = answered; ending = goes_on } in
     let rest : Life = record { start = one.moment; events = undone; ending = ending } in
-    IsInTime one.moment ending → Lives before old (earlier ++ whole ∷ later) after last
+    IsInTime one.moment ending → Lives meaning before old (earlier ++ whole ∷ later) after last
     → (failures : ℕ) × (state : State) × (next : State)
-    × Lives before old (earlier ++ front ∷ []) failures state
-    × Step state.mode (faults_of failures one) state one.request one.answer next
-    × Lives one.failures next (rest ∷ later) after last
+    × Lives meaning before old (earlier ++ front ∷ []) failures state
+    × Step state.mode (setting_of meaning failures one) state one.request one.answer next
+    × Lives meaning one.failures next (rest ∷ later) after last
 
 -- ---- what a history is made of
 
@@ -180,16 +181,16 @@ asked_in lives = flat_map
 
 -- the batches of every history that lives lead to were asked for by writes, whole and in order
 abbrev pub HistoryIsAsked : Type 0
-HistoryIsAsked = (format : Format) (lives : List Life) (after : ℕ) (last : State)
-    → Lives 0 (new_state format) lives after last
+HistoryIsAsked = (meaning : Meaning) (format : Format) (lives : List Life) (after : ℕ)
+    (last : State) → Lives meaning 0 (new_state format) lives after last
     → IsSubsequence (batches_of last.history) (asked_in lives)
 
 -- after a synced write, a flush or a close that was done so were all after that answer's history
 abbrev pub MoreIsAsked : Type 0
-MoreIsAsked = (faults : Faults) (old next last : State)
+MoreIsAsked = (meaning : Meaning) (setting : Setting) (old next last : State)
     (request : Request) (answer : Answer) (lives : List Life) (before after : ℕ)
-    → IsState old → Step old.mode faults old request answer next → MakesDurable request answer
-    → Lives before next lives after last
+    → IsState old → Step old.mode setting old request answer next → MakesDurable request answer
+    → Lives meaning before next lives after last
     → (more : History) × (last.history ≡ next.history ++ more)
     × IsSubsequence (batches_of more) (asked_in lives)
 
@@ -203,13 +204,13 @@ NoneHasKey key batches = (batch : List Item) → Contains batches batch
 -- After a synced write of a value that was done, and no later write of its key, a look-up of the
 -- key in any life finds that value, if it isn't refused.
 abbrev pub SyncedIsRead : Type 0
-SyncedIsRead = (faults later : Faults)
+SyncedIsRead = (meaning : Meaning) (setting later : Setting)
     (old written last new : State) (key value : List ℕ) (lives : List Life) (before after : ℕ)
     (looked : Option (List ℕ))
     → IsState old
-    → Step old.mode faults old (write (record { key = key; value = Some value } ∷ []) true) done
+    → Step old.mode setting old (write (record { key = key; value = Some value } ∷ []) true) done
     written
-    → NoneHasKey key (asked_in lives) → Lives before written lives after last
+    → NoneHasKey key (asked_in lives) → Lives meaning before written lives after last
     → Step last.mode later last (get None key) (found looked) new → looked ≡ Some value
 
 -- ---- an example
@@ -244,9 +245,9 @@ written_and_found opening key value =
 
 -- these lives may be, if neither the key nor the batch is too long
 abbrev pub SyncedCanBeFound : Type 0
-SyncedCanBeFound = (opening : Opening) (key value : List ℕ)
+SyncedCanBeFound = (meaning : Meaning) (opening : Opening) (key value : List ℕ)
     → (IsLongKey key → ⊥) → (IsLongBatch (record { key = key; value = Some value } ∷ []) → ⊥)
     → IsTrue opening.fits → IsTrue opening.compresses → IsTrue opening.create_if_missing
     → opening.error_if_exists ≡ false
     → (last : State)
-    × Lives 0 (new_state opening.format) (written_and_found opening key value) 0 last
+    × Lives meaning 0 (new_state opening.format) (written_and_found opening key value) 0 last

@@ -177,7 +177,8 @@ module _ {C FP F : Type 0} {B : Boxed} (env : Ghosts RecordEnv F) (cmp : CmpGhos
       → (meaning : Meaning)
       → All (λ life. Agrees (format_of cmp filters codings life.options) meaning) lives
       → (of_machine : List machine.Life) × AreLivesOf named lives reports of_machine
-      × (failures : ℕ) × (last : State) × Lives 0 (new_state format) of_machine failures last
+      × (failures : ℕ) × (last : State)
+      × Lives meaning 0 (new_state format) of_machine failures last
 
   -- a life that ran after those before it has a crash that can't be: its moment is still to come,
   -- or no crash leaves what its pick says

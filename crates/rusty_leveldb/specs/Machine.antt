@@ -6,7 +6,7 @@ use Rattle.leveldb_base.specs.History.{Item, Entry, History, placed, entries_of,
 use Rattle.leveldb_base.specs.Types.{Pair, position_within, next_position, previous_position, seek_position, pair_at}
 use Rattle.leveldb_version.specs.Contents.{Store, missing, made}
 use Rattle.rusty_leveldb.specs.State.{Mode, open_mode, broken, closed, Snapshot, Opening, State, Move, seek_to_first, advance, prev, seek, reset, Request, open_store, write, get, walk, get_snapshot, release_snapshot, flush, compact_range, close, abandon, Refusal, Landing, stands_on, nowhere, move_refused, Answer, done, found, walked, snapshot, refused}
-use Rattle.rusty_leveldb.specs.Causes.{Faults, Cause, out_of_memory, device_failed, lock_is_held, bad_operand, store_exists, used_up, HasFailed, Fits, MoveMisfits, Comes, MoveComes, IsClosedRefusal, IsBrokenRefusal}
+use Rattle.rusty_leveldb.specs.Causes.{Setting, Cause, out_of_memory, device_failed, lock_is_held, bad_operand, store_exists, used_up, HasFailed, Fits, MoveMisfits, Comes, MoveComes, IsClosedRefusal, IsBrokenRefusal}
 
 -- ---- writing
 
@@ -124,18 +124,18 @@ IsEarly used_up = Unit {0}
 IsEarly cause = ⊥
 
 -- the lock is held still, since after the cause had come another call of the device failed
-pub record KeepsLock (faults : Faults) (old : State) (request : Request) (refusal : Refusal)
+pub record KeepsLock (setting : Setting) (old : State) (request : Request) (refusal : Refusal)
     (cause : Cause)
     : Type 0 where
   -- how many calls had failed when the cause had come
   pub mid : ℕ
-  pub later : faults.before ≤ mid
-  pub comes : Comes (record faults { after = mid }) old request refusal cause
-  pub failed : HasFailed mid faults.after
+  pub later : setting.before ≤ mid
+  pub comes : Comes (record setting { after = mid }) old request refusal cause
+  pub failed : HasFailed mid setting.after
 
 -- Not opened: but for what is durable, and a store that was made meanwhile, all is as before. The
 -- lock is given back.
-pub record StaysClosed (faults : Faults) (old : State) (opening : Opening) (refusal : Refusal)
+pub record StaysClosed (setting : Setting) (old : State) (opening : Opening) (refusal : Refusal)
     (cause : Cause)
     (new : State) : Type 0 where
   pub state : new ≡ record old {
@@ -147,7 +147,7 @@ pub record StaysClosed (faults : Faults) (old : State) (opening : Opening) (refu
   pub stays : StaysOr (Some opening) old.store new.store
   pub early : IsEarly cause → new.store ≡ old.store
   pub lock : (new.locked ≡ old.locked)
-      ⊎ ((new.locked ≡ true) × KeepsLock faults old (open_store opening) refusal cause)
+      ⊎ ((new.locked ≡ true) × KeepsLock setting old (open_store opening) refusal cause)
 
 -- ---- reading
 
@@ -173,51 +173,51 @@ position_after order pairs position reset = None
 
 -- A move leads where an iterator over the pairs goes. One that is refused has a cause in what
 -- befell this very move, and leaves no position.
-abbrev pub MovesTo : Faults → State → Request → List Pair → Option ℕ → Move → Landing → Option ℕ
+abbrev pub MovesTo : Setting → State → Request → List Pair → Option ℕ → Move → Landing → Option ℕ
     → Type 0
-MovesTo faults old request pairs position move (stands_on pair) next = (MoveMisfits move → ⊥)
+MovesTo setting old request pairs position move (stands_on pair) next = (MoveMisfits move → ⊥)
     × (next ≡ position_after old.format.order pairs position move)
     × (pair_at pairs next ≡ Some pair)
-MovesTo faults old request pairs position move nowhere next = (MoveMisfits move → ⊥)
+MovesTo setting old request pairs position move nowhere next = (MoveMisfits move → ⊥)
     × (position_after old.format.order pairs position move ≡ None) × (next ≡ None)
-MovesTo faults old request pairs position move (move_refused refusal) next =
-    ((cause : Cause) × MoveComes faults old request move refusal cause) × (next ≡ None)
+MovesTo setting old request pairs position move (move_refused refusal) next =
+    ((cause : Cause) × MoveComes setting old request move refusal cause) × (next ≡ None)
 
--- moves, one after another, each with the faults from the end of the one before to its own
-abbrev pub Moves : Faults → State → Request → List Pair → Option ℕ → List Move → List Landing
+-- moves, one after another, each with the setting from the end of the one before to its own
+abbrev pub Moves : Setting → State → Request → List Pair → Option ℕ → List Move → List Landing
     → Type 0
-Moves faults old request pairs position [] [] = faults.after ≡ faults.before
-Moves faults old request pairs position (move ∷ moves) (landing ∷ landings) =
-    (mid : ℕ) × (faults.before ≤ mid) × (next : Option ℕ)
-    × MovesTo (record faults { after = mid }) old request pairs position move landing next
-    × Moves (record faults { before = mid }) old request pairs next moves landings
-Moves faults old request pairs position _ _ = ⊥
+Moves setting old request pairs position [] [] = setting.after ≡ setting.before
+Moves setting old request pairs position (move ∷ moves) (landing ∷ landings) =
+    (mid : ℕ) × (setting.before ≤ mid) × (next : Option ℕ)
+    × MovesTo (record setting { after = mid }) old request pairs position move landing next
+    × Moves (record setting { before = mid }) old request pairs next moves landings
+Moves setting old request pairs position _ _ = ⊥
 
 -- an iterator over the view, from no position on
-pub record Walks (faults : Faults) (old : State) (at : Option Snapshot) (moves : List Move)
+pub record Walks (setting : Setting) (old : State) (at : Option Snapshot) (moves : List Move)
     (landings : List Landing) : Type 0 where
   pub sequence : ℕ
   pub at_is : IsSequenceOf old at sequence
   pub pairs : List Pair
   pub view : IsView old.format.order (entries_of old.history) sequence pairs
-  pub moves_are : Moves faults old (walk at moves) pairs None moves landings
+  pub moves_are : Moves setting old (walk at moves) pairs None moves landings
 
 -- ---- the steps
 
 -- a request that is done
-abbrev pub Succeeds : Faults → State → Request → Answer → State → Type 0
-Succeeds faults old (open_store opening) done new = Opens old opening new
-Succeeds faults old (write items sync) done new = Writes old items sync new
-Succeeds faults old (get at key) (found value) new = Gets old at key value × (new ≡ old)
-Succeeds faults old (walk at moves) (walked landings) new =
-    Walks faults old at moves landings × (new ≡ old)
-Succeeds faults old get_snapshot (snapshot one) new = Gives old one new
-Succeeds faults old (release_snapshot one) done new = Releases old one new
-Succeeds faults old flush done new = AllDurable old new
-Succeeds faults old (compact_range from to) done new = Keeps old new
-Succeeds faults old close done new = Closes old new
-Succeeds faults old abandon done new = Abandons old false new
-Succeeds faults old _ _ new = ⊥
+abbrev pub Succeeds : Setting → State → Request → Answer → State → Type 0
+Succeeds setting old (open_store opening) done new = Opens old opening new
+Succeeds setting old (write items sync) done new = Writes old items sync new
+Succeeds setting old (get at key) (found value) new = Gets old at key value × (new ≡ old)
+Succeeds setting old (walk at moves) (walked landings) new =
+    Walks setting old at moves landings × (new ≡ old)
+Succeeds setting old get_snapshot (snapshot one) new = Gives old one new
+Succeeds setting old (release_snapshot one) done new = Releases old one new
+Succeeds setting old flush done new = AllDurable old new
+Succeeds setting old (compact_range from to) done new = Keeps old new
+Succeeds setting old close done new = Closes old new
+Succeeds setting old abandon done new = Abandons old false new
+Succeeds setting old _ _ new = ⊥
 
 -- a failed write to a log or manifest breaks the store: out of memory or by the device alone
 abbrev pub MayBreak : Cause → Type 0
@@ -232,27 +232,27 @@ KeepsOrBreaks old cause batch new =
 
 -- what a request leaves that was refused for this cause; all that a flush asks of the device is a
 -- sync
-abbrev pub LeavesRefused : Faults → State → Request → Refusal → Cause → State → Type 0
-LeavesRefused faults old (open_store opening) refusal cause new =
-    StaysClosed faults old opening refusal cause new
-LeavesRefused faults old (write items sync) refusal cause new =
+abbrev pub LeavesRefused : Setting → State → Request → Refusal → Cause → State → Type 0
+LeavesRefused setting old (open_store opening) refusal cause new =
+    StaysClosed setting old opening refusal cause new
+LeavesRefused setting old (write items sync) refusal cause new =
     KeepsOrBreaks old cause (next_batch old items) new
-LeavesRefused faults old flush refusal device_failed new = Breaks old None new
-LeavesRefused faults old flush refusal cause new =
+LeavesRefused setting old flush refusal device_failed new = Breaks old None new
+LeavesRefused setting old flush refusal cause new =
     Keeps old new ⊎ (MayBreak cause × Breaks old None new)
-LeavesRefused faults old (compact_range from to) refusal cause new =
+LeavesRefused setting old (compact_range from to) refusal cause new =
     Keeps old new ⊎ (MayBreak cause × Breaks old None new)
-LeavesRefused faults old close refusal cause new = Breaks old None new
-LeavesRefused faults old abandon refusal cause new = Abandons old old.locked new
-LeavesRefused faults old _ refusal cause new = new ≡ old
+LeavesRefused setting old close refusal cause new = Breaks old None new
+LeavesRefused setting old abandon refusal cause new = Abandons old old.locked new
+LeavesRefused setting old _ refusal cause new = new ≡ old
 
 -- a request that is refused for a cause
-pub record Refuses (faults : Faults) (old : State) (request : Request) (refusal : Refusal)
+pub record Refuses (setting : Setting) (old : State) (request : Request) (refusal : Refusal)
     (new : State)
     : Type 0 where
   pub cause : Cause
-  pub comes : Comes faults old request refusal cause
-  pub leaves : LeavesRefused faults old request refusal cause new
+  pub comes : Comes setting old request refusal cause
+  pub leaves : LeavesRefused setting old request refusal cause new
 
 -- refused by the mode, and the state hasn't changed
 abbrev pub Rejects : (Refusal → Type 0) → State → Answer → State → Type 0
@@ -260,22 +260,23 @@ Rejects IsRefusal old (refused refusal) new = IsRefusal refusal × (new ≡ old)
 Rejects IsRefusal old _ new = ⊥
 
 -- done, and the request fits; or refused for a cause
-abbrev pub Responds : Faults → State → Request → Answer → State → Type 0
-Responds faults old request (refused refusal) new = Refuses faults old request refusal new
-Responds faults old request answer new = Fits old request × Succeeds faults old request answer new
+abbrev pub Responds : Setting → State → Request → Answer → State → Type 0
+Responds setting old request (refused refusal) new = Refuses setting old request refusal new
+Responds setting old request answer new =
+    Fits old request × Succeeds setting old request answer new
 
 -- A step, by the mode, which is looked at first; a store is opened if none of its name is open.
-abbrev pub Step : Mode → Faults → State → Request → Answer → State → Type 0
-Step closed faults old (open_store opening) answer new =
-    Responds faults old (open_store opening) answer new
-Step closed faults old abandon answer new = (answer ≡ done) × (new ≡ old)
-Step closed faults old request answer new = Rejects IsClosedRefusal old answer new
-Step mode faults old (open_store opening) answer new = ⊥
-Step broken faults old (write items sync) answer new = Rejects IsBrokenRefusal old answer new
-Step broken faults old flush answer new = Rejects IsBrokenRefusal old answer new
-Step broken faults old (compact_range from to) answer new = Rejects IsBrokenRefusal old answer new
-Step broken faults old close answer new = Rejects IsBrokenRefusal old answer new
-Step mode faults old request answer new = Responds faults old request answer new
+abbrev pub Step : Mode → Setting → State → Request → Answer → State → Type 0
+Step closed setting old (open_store opening) answer new =
+    Responds setting old (open_store opening) answer new
+Step closed setting old abandon answer new = (answer ≡ done) × (new ≡ old)
+Step closed setting old request answer new = Rejects IsClosedRefusal old answer new
+Step mode setting old (open_store opening) answer new = ⊥
+Step broken setting old (write items sync) answer new = Rejects IsBrokenRefusal old answer new
+Step broken setting old flush answer new = Rejects IsBrokenRefusal old answer new
+Step broken setting old (compact_range from to) answer new = Rejects IsBrokenRefusal old answer new
+Step broken setting old close answer new = Rejects IsBrokenRefusal old answer new
+Step mode setting old request answer new = Responds setting old request answer new
 
 -- ---- a crash
 

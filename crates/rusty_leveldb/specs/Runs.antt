@@ -1,9 +1,11 @@
 -- Runs of the machine, one request after another, and lives with crashes between them.
+--
+-- `meaning` says what the names and ids in the store's files mean, at each opening alike.
 use Rattle.std.specs.Prelude.{◌≡◌, ◌≤◌, ◌<◌, ◌⊎◌, ℕ, Bool, List, [], ◌∷◌, ◌++◌, None, All, false, IsTrue}
 use Rattle.leveldb_version.specs.Contents.{missing}
-use Rattle.leveldb_store.specs.Format.{Format}
+use Rattle.leveldb_store.specs.Format.{Format, Meaning}
 use Rattle.rusty_leveldb.specs.State.{State, Request, Answer, closed}
-use Rattle.rusty_leveldb.specs.Causes.{Faults}
+use Rattle.rusty_leveldb.specs.Causes.{Setting}
 use Rattle.rusty_leveldb.specs.Machine.{Step, risk_between, risk_of, Crashes}
 
 -- ---- runs
@@ -15,17 +17,19 @@ pub record Event : Type 0 where
   pub answer : Answer
   pub failures : ℕ
 
--- what befell an event's call, after so many failures
-abbrev pub faults_of : ℕ → Event → Faults
-faults_of failures event = record { before = failures; after = event.failures }
+-- the setting of an event's call, after so many failures
+abbrev pub setting_of : Meaning → ℕ → Event → Setting
+setting_of meaning failures event =
+    record { before = failures; after = event.failures; meaning = meaning }
 
--- from so many failures and the old state on these events come, one after another, up to so many
--- failures and the new state
-abbrev pub Run : ℕ → State → List Event → ℕ → State → Type 0
-Run before old [] after new = (after ≡ before) × (new ≡ old)
-Run before old (event ∷ events) after new = (before ≤ event.failures) × (next : State)
-    × Step old.mode (faults_of before event) old event.request event.answer next
-    × Run event.failures next events after new
+module _ (meaning : Meaning) where
+  -- from so many failures and the old state on these events come, one after another, up to so many
+  -- failures and the new state
+  abbrev pub Run : ℕ → State → List Event → ℕ → State → Type 0
+  Run before old [] after new = (after ≡ before) × (new ≡ old)
+  Run before old (event ∷ events) after new = (before ≤ event.failures) × (next : State)
+      × Step old.mode (setting_of meaning before event) old event.request event.answer next
+      × Run event.failures next events after new
 
 -- ---- crashes
 
@@ -37,36 +41,38 @@ CrashesIn last_answer moment inside state request next new =
     ((moment ≡ last_answer) × (inside ≡ false) × Crashes state (risk_between state) new)
     ⊎ (((last_answer < moment) ⊎ IsTrue inside) × Crashes state (risk_of request state next) new)
 
--- A crash before these events, all of which would have come, up to so many failures and this last
--- state: after the last request, or in the next one.
-abbrev pub CrashBefore : ℕ → ℕ → Bool → ℕ → State → List Event → ℕ → State → State → Type 0
-CrashBefore last_answer moment inside failures state [] end last new =
-    (end ≡ failures) × (last ≡ state) × Crashes state (risk_between state) new
-CrashBefore last_answer moment inside failures state (event ∷ later) end last new =
-    (failures ≤ event.failures) × (next : State)
-    × Step state.mode (faults_of failures event) state event.request event.answer next
-    × Run event.failures next later end last
-    × CrashesIn last_answer moment inside state event.request next new
-
 -- the moment of the last of these events, or the one from which they came
 abbrev pub last_moment : ℕ → List Event → ℕ
 last_moment start [] = start
 last_moment start (event ∷ events) = last_moment event.moment events
 
--- Of the events from a start on, what was answered by a moment happened; a crash comes then, before
--- the next answer.
-pub record StopsAt (start before : ℕ) (old : State) (events : List Event) (moment : ℕ)
-    (inside : Bool)
-    (end : ℕ) (last new : State) : Type 0 where
-  pub done : List Event
-  pub undone : List Event
-  pub split : events ≡ done ++ undone
-  pub by_then : All (λ event. event.moment ≤ moment) done
-  pub not_yet : All (λ event. moment < event.moment) undone
-  pub failures : ℕ
-  pub state : State
-  pub run : Run before old done failures state
-  pub crash : CrashBefore (last_moment start done) moment inside failures state undone end last new
+module _ (meaning : Meaning) where
+  -- A crash before these events, all of which would have come, up to so many failures and this last
+  -- state: after the last request, or in the next one.
+  abbrev pub CrashBefore : ℕ → ℕ → Bool → ℕ → State → List Event → ℕ → State → State → Type 0
+  CrashBefore last_answer moment inside failures state [] end last new =
+      (end ≡ failures) × (last ≡ state) × Crashes state (risk_between state) new
+  CrashBefore last_answer moment inside failures state (event ∷ later) end last new =
+      (failures ≤ event.failures) × (next : State)
+      × Step state.mode (setting_of meaning failures event) state event.request event.answer next
+      × Run meaning event.failures next later end last
+      × CrashesIn last_answer moment inside state event.request next new
+
+  -- Of the events from a start on, what was answered by a moment happened; a crash comes then,
+  -- before the next answer.
+  pub record StopsAt (start before : ℕ) (old : State) (events : List Event) (moment : ℕ)
+      (inside : Bool)
+      (end : ℕ) (last new : State) : Type 0 where
+    pub done : List Event
+    pub undone : List Event
+    pub split : events ≡ done ++ undone
+    pub by_then : All (λ event. event.moment ≤ moment) done
+    pub not_yet : All (λ event. moment < event.moment) undone
+    pub failures : ℕ
+    pub state : State
+    pub run : Run meaning before old done failures state
+    pub crash : CrashBefore (last_moment start done) moment inside failures state undone end last
+        new
 
 -- ---- lives
 
@@ -97,16 +103,18 @@ pub record Life : Type 0 where
   pub events : List Event
   pub ending : Ending
 
--- the life runs to its end; what comes after it begins there, or where the crash left it
-abbrev pub LifeLeads : ℕ → ℕ → State → List Event → Ending → ℕ → State → Type 0
-LifeLeads start before old events goes_on after new = Run before old events after new
-LifeLeads start before old events (crashes moment inside counted) after new =
-    ((end : ℕ) × (last : State) × StopsAt start before old events moment inside end last new)
-    × (after ≡ counted)
+module _ (meaning : Meaning) where
+  -- the life runs to its end; what comes after it begins there, or where the crash left it
+  abbrev pub LifeLeads : ℕ → ℕ → State → List Event → Ending → ℕ → State → Type 0
+  LifeLeads start before old events goes_on after new = Run meaning before old events after new
+  LifeLeads start before old events (crashes moment inside counted) after new =
+      ((end : ℕ) × (last : State)
+      × StopsAt meaning start before old events moment inside end last new)
+      × (after ≡ counted)
 
--- one life after another
-abbrev pub Lives : ℕ → State → List Life → ℕ → State → Type 0
-Lives before old [] after new = (after ≡ before) × (new ≡ old)
-Lives before old (life ∷ lives) after new = (failures : ℕ) × (next : State)
-    × LifeLeads life.start before old life.events life.ending failures next
-    × Lives failures next lives after new
+  -- one life after another
+  abbrev pub Lives : ℕ → State → List Life → ℕ → State → Type 0
+  Lives before old [] after new = (after ≡ before) × (new ≡ old)
+  Lives before old (life ∷ lives) after new = (failures : ℕ) × (next : State)
+      × LifeLeads life.start before old life.events life.ending failures next
+      × Lives failures next lives after new

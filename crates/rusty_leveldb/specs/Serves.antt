@@ -15,7 +15,7 @@ use Rattle.rusty_leveldb.specs.Frame.{IsOwn, MayTouch, Spares, IsSyncing, SameBy
 use Rattle.rusty_leveldb.specs.OneLog.{IsOneLog, log_path}
 use Rattle.leveldb_version.specs.Holds.{IsHonest, IsSafe, Holds}
 use Rattle.rusty_leveldb.specs.State.{State, IsState, closed, Request, Refusal, Answer, done, found, refused}
-use Rattle.rusty_leveldb.specs.Causes.{Faults}
+use Rattle.rusty_leveldb.specs.Causes.{Setting}
 use Rattle.rusty_leveldb.specs.Machine.{Step, StaysOr, Risk, risk_of}
 use Rattle.rusty_leveldb.specs.Runs.{Event, Run, last_moment, StopsAt}
 
@@ -53,9 +53,10 @@ pub record Scene (M : Type 0) : Type 1 where
   pub observed : Observed
   pub failures : ℕ
 
--- the faults of a call between these counts
-abbrev pub faults_between : ℕ → ℕ → Faults
-faults_between before after = record { before = before; after = after }
+-- the setting of a call between these counts of failed calls
+abbrev pub setting_between : Meaning → ℕ → ℕ → Setting
+setting_between meaning before after =
+    record { before = before; after = after; meaning = meaning }
 
 -- what no engine remembers
 abbrev pub recalls_nothing : Unit {0} → Disk → State → Type 0
@@ -136,7 +137,8 @@ module _ (store : List ℕ) (meaning : Meaning) where
       pub new : State
       pub represents : Represents to.memory to.observed.disk new
       pub later : from.failures ≤ to.failures
-      pub step : Step old.mode (faults_between from.failures to.failures) old request answer new
+      pub step : Step old.mode (setting_between meaning from.failures to.failures) old request
+          answer new
       pub moments : AtEachMoment request old new from.observed to.observed
       pub spares : Spares store (MayTouch store old.mode request) from.observed.disk
           to.observed.disk
@@ -157,7 +159,7 @@ module _ (store : List ℕ) (meaning : Meaning) where
       pub events : List Event
       pub asked : IsConversation requests answers moments events
       pub new : State
-      pub run : Run from.failures old events to.failures new
+      pub run : Run meaning from.failures old events to.failures new
       pub represents : Represents to.memory to.observed.disk new
       pub others : Spares store (IsOwn store) from.observed.disk to.observed.disk
       pub since : All (λ event. from.observed.moment ≤ event.moment) events
@@ -168,5 +170,6 @@ module _ (store : List ℕ) (meaning : Meaning) where
           → from.observed.moment ≤ moment → IsHonestlyLeft store to.observed moment files left
           → (inside ≡ false → IsBetweenCalls models_moments to.observed moment files)
           → (then : State)
-          × StopsAt from.observed.moment from.failures old events moment inside to.failures new then
+          × StopsAt meaning from.observed.moment from.failures old events moment inside
+          to.failures new then
           × StandsFor left then

@@ -21,7 +21,7 @@ use Rattle.leveldb_table.specs.TableReaderWalk.{IsAtPosition}
 use Rattle.leveldb_table.specs.declared.block_cache.CachedBlock.{CachedBlock}
 use Rattle.leveldb_table.specs.declared.table_reader.Table.{Table}
 use Rattle.leveldb_table.specs.declared.table_reader.walk.TableCore.{TableCore}
-use Rattle.table_tests.specs.declared.round_trip.BothWays.{BothWays}
+use Rattle.table_tests.specs.declared.passed.BothWays.{BothWays}
 
 -- ---- pairs, and what is built of them
 

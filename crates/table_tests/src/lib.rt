@@ -11,6 +11,7 @@ mod caches;
 mod checks;
 #[cfg(test)]
 mod footers;
+pub mod passed;
 #[cfg(test)]
 mod round_trip;
 #[cfg(test)]

@@ -14,6 +14,7 @@ ghost use Rattle.leveldb_table.specs.TableReader.{pairs_in};
 ghost use Rattle.table_tests.specs.RoundTrip.{given, AddsAll, AppendsSynced, IsTableOf, PutsTable, GoesByUser, IsOpen, FindsFirst, ReadsBack, ArePassed, IsWalkingAt};
 
 use crate::checks::{Given, options_under};
+use crate::passed::BothWays;
 use bytes::Bytes;
 use leveldb_base::cmp::{Cmp, DefaultCmp, InternalKeyCmp, UserCmp};
 use leveldb_base::error::{Result, StatusCode, err};
@@ -29,13 +30,6 @@ use leveldb_table::table_builder::builder_core::BuilderCore;
 use leveldb_table::table_reader::{Table, TableIterator};
 use std::alloc::Global;
 use std::process::Abort;
-
-/// The pairs over which a walk went forward, and then back.
-#[derive(Drop)]
-struct BothWays {
-    forward: Vec<(Bytes, Bytes)>,
-    back: Vec<(Bytes, Bytes)>,
-}
 
 const TOO_MANY: &str = "more pairs than can be counted";
 

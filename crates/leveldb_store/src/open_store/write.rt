@@ -5,6 +5,7 @@ ghost use Rattle.leveldb_env.specs.EnvFile.{Appends, Syncs, opened};
 ghost use Rattle.leveldb_mem.specs.Log.Writer.{AddsRecord, FailsToAdd, Flushes, IsWriterBroken};
 ghost use Rattle.leveldb_mem.specs.WriteBatch.{BatchOf, batch_bytes};
 ghost use Rattle.leveldb_store.specs.Write.{AppendsToLog, AreNumbersUsedUp, CanBeInserted, HasNumbers, InsertsBatch, PreparesBatch, SyncsLog};
+ghost use Rattle.leveldb_store.specs.Written.{SparesRest};
 
 use super::OpenStore;
 use leveldb_base::cmp::UserCmp;
@@ -58,7 +59,9 @@ impl<E: Env, C: UserCmp + Copy> OpenStore<E, C> {
 
     /// Makes a crash keep all batches. If it fails once it has begun, the store is broken.
     pub fn sync(&mut self, env: &mut E) -> Result<()>
-        ensures { SyncsLog E.Env self.old env.old result self.new env.new }
+        ensures syncs { SyncsLog E.Env self.old env.old result self.new env.new }
+        ensures spares { SparesRest E.models_disk self.old (E.observed env.old) self.new
+            (E.observed env.new) }
     {
         let path = log_file_name(self.alloc, &self.name, self.log.number)?;
         let synced = sync_file(&mut self.log.writer, env, &mut self.log.file);

@@ -1,10 +1,9 @@
 //! The replay of a log: its batches go into a memtable, one after another, and each memtable that is
 //! full becomes a table.
-ghost use Rattle.std.specs.Prelude.{◌≡◌, ◌≢◌, ◌⊎◌, ◌≤◌, ◌<◌, ◌↔◌, [], IfErr, IfOk, IsTrue, OnErr, OnOk, length};
+ghost use Rattle.std.specs.Prelude.{◌≡◌, ◌≢◌, ◌⊎◌, [], false, IfErr, IfOk, OnOk};
 ghost use Rattle.leveldb_base.specs.Error.{IsOutOfMemory};
 ghost use Rattle.leveldb_base.specs.History.{AreUpTo};
 ghost use Rattle.leveldb_base.specs.declared.error.StatusCode.TheVariants.{Corruption, NotSupported};
-ghost use Rattle.leveldb_mem.specs.MemTable.{memory_of_entries};
 ghost use Rattle.leveldb_mem.specs.WriteBatch.{IsBatch};
 ghost use Rattle.leveldb_version.specs.Batches.{IsRecordOf};
 ghost use Rattle.leveldb_store.specs.BuildTable.{choices_of};
@@ -96,7 +95,8 @@ fn replay_text<E: Env, C: UserCmp + Copy + Drop, FP: FilterPolicy + Copy + Drop>
                 log.is_clean = true;
                 return Ok(log);
             }
-            Found::WrongChecksum | Found::Damage(_) => return Ok(log),
+            Found::WrongChecksum => return Ok(log),
+            Found::Damage(_) => return Ok(log),
         }
         log.take_record(alloc, env, store, options, versions, &mut batch, &record)?;
     }
@@ -130,7 +130,7 @@ impl<C: UserCmp + Copy + Drop> ReplayedLog<C> {
         options: &Options<C, FP>,
         versions: &mut VersionSet<E>,
         batch: &mut WriteBatch,
-        record: &[u8],
+        text: &[u8],
     ) -> Result<()>
         requires store { store.now ≡ versions.old.store }
         requires order { self.old.rest.cmp ≡ options.now.cmp }
@@ -138,9 +138,9 @@ impl<C: UserCmp + Copy + Drop> ReplayedLog<C> {
         ensures takes { TakesRecord E.Env (choices_of C.Cmp FP.FilterPolicy
             ⟦<InternalKeyCmp<C> as Cmp>⟧ ⟦<InternalFilterPolicy<FP> as FilterPolicy>⟧
             ⟦<CompressorList as Compressors>⟧.codings options.now) options.now.write_buffer_size
-            record.now self.old versions.old env.old result self.new versions.new env.new }
+            text.now self.old versions.old env.old result self.new versions.new env.new }
     {
-        read_batch(alloc, batch, record)?;
+        read_batch(alloc, batch, text)?;
         check_follows(alloc, self.last, batch)?;
         self.add_batch(batch)?;
         if self.rest.len() > 0 && self.rest.approx_mem_usage() >= options.write_buffer_size {
@@ -191,12 +191,12 @@ impl<C: UserCmp + Copy + Drop> ReplayedLog<C> {
 }
 
 // The batch that a record is.
-fn read_batch(alloc: Global, batch: &mut WriteBatch, record: &[u8]) -> Result<()>
-    ensures ok { OnOk result (IsRecordOf record.now batch.new) }
+fn read_batch(alloc: Global, batch: &mut WriteBatch, text: &[u8]) -> Result<()>
+    ensures ok { OnOk result (IsRecordOf text.now batch.new) }
     ensures cause { IfErr result (λ status. IsOutOfMemory status
-        ⊎ ((status.code ≡ Corruption) × (IsBatch record.now → ⊥))) }
+        ⊎ ((status.code ≡ Corruption) × (IsBatch text.now → ⊥))) }
 {
-    match batch.set_contents(record) {
+    match batch.set_contents(text) {
         Err(status) if status.code == StatusCode::InvalidArgument => err(
             alloc,
             StatusCode::Corruption,

@@ -13,7 +13,7 @@ use Rattle.leveldb_version.specs.Holds.{MatchesHistory, Carries}
 use Rattle.rusty_leveldb.specs.State.{State, IsState, Opening, open_store, open_mode, done}
 use Rattle.rusty_leveldb.specs.Causes.{Misfits, Disagrees}
 use Rattle.rusty_leveldb.specs.Machine.{MayOpen, Opens, Step}
-use Rattle.rusty_leveldb.specs.Serves.{StandsFor, Represents, Goes, faults_between}
+use Rattle.rusty_leveldb.specs.Serves.{StandsFor, Represents, Goes, setting_between}
 use Rattle.rusty_leveldb.specs.Frame.{IsOwn, Spares}
 use Rattle.rusty_leveldb.proofs.Others.{opening_spares}
 use Rattle.rusty_leveldb.specs.Engine.{IsStoreName, Recalls, Remembers, WritesOn, mode_of}
@@ -189,7 +189,7 @@ module _ {E C FP F : Type 0} {B : Boxed} (env : Ghosts E F) (formats : OptionsOf
     new = now;
     represents = record { disk_is = stands; memory_is = record { mode = mode; lock = lock; format = λ in_use. format; cmp = cmp; shows = λ never. remembers; writes = λ open_is. writes } };
     later = omega (arith, counted);
-    step = subst (λ m. Step m (faults_between before after) old (open_store opening_is) done now) (sym represents.memory_is) (record { operands = misfits; numbers = λ none. let never : true ≡ false = sym compresses ∙ sym is.compresses ∙ none in absurd (cc) }, opens);
+    step = subst (λ m. Step m (setting_between meaning before after) old (open_store opening_is) done now) (sym represents.memory_is) (record { operands = misfits; numbers = λ none. let never : true ≡ false = sym compresses ∙ sym is.compresses ∙ none in absurd (cc) }, opens);
     moments = opening_moments wanted.create_if_missing name meaning opening_is old represents.disk_is passed;
     spares = opening_spares name old.mode opening_is from.disk to.disk represents.memory_is others;
     bytes = λ never. absurd never;

@@ -14,7 +14,7 @@ use Rattle.rusty_leveldb.specs.Causes.{HasFailed, Cause, Comes, Disagrees, out_o
 use Rattle.rusty_leveldb.specs.Machine.{IsEarly, Step}
 use Rattle.rusty_leveldb.specs.Frame.{IsOwn, Spares}
 use Rattle.rusty_leveldb.proofs.Others.{opening_spares}
-use Rattle.rusty_leveldb.specs.Serves.{Represents, Goes, IsUnreadable, faults_between, refusal_of}
+use Rattle.rusty_leveldb.specs.Serves.{Represents, Goes, IsUnreadable, setting_between, refusal_of}
 use Rattle.rusty_leveldb.specs.Engine.{IsStoreName, OpenExcused, Recalls}
 use Rattle.rusty_leveldb.specs.Replay.{IsLargeLog}
 use Rattle.rusty_leveldb.specs.Recovery.{SparesLog, IsUnwanted, NeverOpens, FailedBeside, StaysUnopened}
@@ -91,11 +91,11 @@ not_true true never = absurd (never refl)
 not_true false never = refl
 
 -- a cause that had come by a count of failures has come by a greater one
-comes_later : (before mid after : ℕ) (old : State) (request : Request) (refusal : Refusal) (cause : Cause) → mid ≤ after
-    → Comes (faults_between before mid) old request refusal cause → Comes (faults_between before after) old request refusal cause
-comes_later before mid after old request refusal device_failed more comes =
+comes_later : (meaning : Meaning) (before mid after : ℕ) (old : State) (request : Request) (refusal : Refusal) (cause : Cause) → mid ≤ after
+    → Comes (setting_between meaning before mid) old request refusal cause → Comes (setting_between meaning before after) old request refusal cause
+comes_later meaning before mid after old request refusal device_failed more comes =
     (comes.0, ⊎_elim (λ (less : before < mid). inl (omega (arith, less, more))) (λ full. inr full) comes.1)
-comes_later before mid after old request refusal cause more comes = comes
+comes_later meaning before mid after old request refusal cause more comes = comes
 
 module _ {E C FP F : Type 0} {B : Boxed} (env : Ghosts E F) (formats : OptionsOf C FP B → Format) (name : List ℕ) (meaning : Meaning) (opening : Opening) (wanted : Opening) (is : IsAsked name wanted opening)
     (from to : Observed) (before mid after : ℕ) (e : Status) (up : IsGivenUp name wanted from.disk to.disk before mid after e)
@@ -123,7 +123,7 @@ module _ {E C FP F : Type 0} {B : Boxed} (env : Ghosts E F) (formats : OptionsOf
   Refuses = Goes name meaning (Recalls {E = E} {C = C} {FP = FP} {F = F} {B = B} env formats name) (record { memory = None; observed = from; failures = before }) (open_store opening) (refused (refusal_of e)) (record { memory = None; observed = to; failures = after }) old
 
   -- refused for this cause
-  goes : (there : Store) → Survives name opening old there to.disk.files → (cause : Cause) → Comes (faults_between before mid) old (open_store opening) (refusal_of e) cause
+  goes : (there : Store) → Survives name opening old there to.disk.files → (cause : Cause) → Comes (setting_between meaning before mid) old (open_store opening) (refusal_of e) cause
       → (IsEarly cause → there ≡ old.store) → Refuses
   goes there survives cause comes early = record {
     new = left there;
@@ -132,9 +132,9 @@ module _ {E C FP F : Type 0} {B : Boxed} (env : Ghosts E F) (formats : OptionsOf
       memory_is = represents.memory_is;
     };
     later = omega (arith, up.later, up.ends);
-    step = subst (λ m. Step m (faults_between before after) old (open_store opening) (refused (refusal_of e)) (left there)) (sym represents.memory_is) (record {
+    step = subst (λ m. Step m (setting_between meaning before after) old (open_store opening) (refused (refusal_of e)) (left there)) (sym represents.memory_is) (record {
       cause = cause;
-      comes = comes_later before mid after old (open_store opening) (refusal_of e) cause up.ends comes;
+      comes = comes_later meaning before mid after old (open_store opening) (refusal_of e) cause up.ends comes;
       leaves = record {
         state = refl;
         durable = inl refl;

@@ -11,9 +11,9 @@ use Rattle.leveldb_mem.specs.WriteBatch.{BatchOf}
 use Rattle.rusty_leveldb.specs.declared.db_impl.engine.Mode.TheVariants.{Broken}
 use Rattle.rusty_leveldb.specs.OneLog.{log_path, max_sequence}
 use Rattle.rusty_leveldb.specs.State.{State, broken, write, refused}
-use Rattle.rusty_leveldb.specs.Causes.{Faults, out_of_memory, device_failed}
+use Rattle.rusty_leveldb.specs.Causes.{Setting, out_of_memory, device_failed}
 use Rattle.rusty_leveldb.specs.Machine.{next_batch, Breaks, Step, Responds}
-use Rattle.rusty_leveldb.specs.Serves.{IsSpared, Goes, faults_between, refusal_of}
+use Rattle.rusty_leveldb.specs.Serves.{IsSpared, Goes, setting_between, refusal_of}
 use Rattle.rusty_leveldb.specs.Engine.{scene, Recalls}
 use Rattle.rusty_leveldb.proofs.Histories.{entries_more, greatest_append, placed_greatest, placed_length, history_more}
 use Rattle.rusty_leveldb.proofs.OneLog.Writing.{appending_holds}
@@ -62,13 +62,13 @@ module _ {E C FP F : Type 0} {B : Boxed} (env : Ghosts E F) (formats : OptionsOf
   -- ---- an append that was refused, or whose sync was
 
   module _ (sync : Bool) (after : EngineOf E C FP F B) (to : E) where
-    abbrev faults : Faults
-    faults = faults_between (env.failures from) (env.failures to)
+    abbrev setting : Setting
+    setting = setting_between meaning (env.failures from) (env.failures to)
 
     breaks : Breaks old (Some batch) (broken_with old (Some batch))
     breaks = record { state = refl; durable = inl refl }
 
-    refuses : (status : Status) → Fails status (env.failures from) (env.failures to) → Responds faults old (write items sync) (refused (refusal_of status)) (broken_with old (Some batch))
+    refuses : (status : Status) → Fails status (env.failures from) (env.failures to) → Responds setting old (write items sync) (refused (refusal_of status)) (broken_with old (Some batch))
     refuses status (inl memory) = record { cause = out_of_memory; comes = (tt, memory.0, ap text_of memory.1); leaves = inr (tt, inr breaks) }
     refuses status (inr device) = record { cause = device_failed; comes = (tt, device); leaves = inr (tt, inr breaks) }
 
@@ -80,7 +80,7 @@ module _ {E C FP F : Type 0} {B : Boxed} (env : Ghosts E F) (formats : OptionsOf
       new = new;
       represents = broken_is env formats store meaning engine after from to old (Some batch) was broke;
       later = later;
-      step = subst (λ m. Step m faults old (write items sync) (refused (refusal_of status)) new) (sym was.mode) (refuses status why);
+      step = subst (λ m. Step m setting old (write items sync) (refused (refusal_of status)) new) (sym was.mode) (refuses status why);
       moments = moments;
       spares = spares_but_log store (env.observed from).disk (env.observed to).disk old.mode (write items sync) was.mode tt broke.but locks;
       bytes = λ never. absurd never;

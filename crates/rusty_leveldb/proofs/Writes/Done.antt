@@ -19,7 +19,7 @@ use Rattle.rusty_leveldb.specs.Recent.{Inserts}
 use Rattle.rusty_leveldb.specs.State.{State, IsState, SuitsMode, write, done}
 use Rattle.rusty_leveldb.specs.Causes.{AreUsedUp}
 use Rattle.rusty_leveldb.specs.Machine.{MayGrow, Step}
-use Rattle.rusty_leveldb.specs.Serves.{StandsFor, IsSpared, Goes, faults_between}
+use Rattle.rusty_leveldb.specs.Serves.{StandsFor, IsSpared, Goes, setting_between}
 use Rattle.rusty_leveldb.specs.Engine.{scene, Recalls, mode_of}
 use Rattle.rusty_leveldb.proofs.FrameBytes.{frame_bytes}
 use Rattle.rusty_leveldb.proofs.Histories.{entries_more, placed_above, up_to_greatest, up_to, greatest_append}
@@ -157,7 +157,7 @@ module _ {E C FP F : Type 0} {B : Boxed} (env : Ghosts E F) (formats : OptionsOf
       new = new;
       represents = record { disk_is = stands; memory_is = recalls };
       later = omega (arith, added.counted);
-      step = subst (λ m. Step m (faults_between (env.failures from) (env.failures to)) old (write items sync) done new) (sym was.mode)
+      step = subst (λ m. Step m (setting_between meaning (env.failures from) (env.failures to)) old (write items sync) done new) (sym was.mode)
           (record { operands = not_long bytes (old.last + 1) items next.is_batch; numbers = not_used_up }, record { state = refl; durable = wrote.covers; synced = wrote.synced_is });
       moments = done_moments env formats store meaning engine from old was items bytes next wrote.moments;
       spares = spares_but_log store (env.observed from).disk (env.observed to).disk old.mode (write items sync) was.mode tt wrote.but added.locks;

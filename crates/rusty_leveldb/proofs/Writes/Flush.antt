@@ -15,9 +15,9 @@ use Rattle.leveldb_version.specs.Paths.{lock_path}
 use Rattle.rusty_leveldb.specs.OneLog.{log_path, IsOneLog}
 use Rattle.leveldb_version.specs.Holds.{Holds}
 use Rattle.rusty_leveldb.specs.State.{State, SuitsMode, flush, Answer, done, refused}
-use Rattle.rusty_leveldb.specs.Causes.{Faults, out_of_memory, device_failed}
+use Rattle.rusty_leveldb.specs.Causes.{Setting, out_of_memory, device_failed}
 use Rattle.rusty_leveldb.specs.Machine.{Breaks, Step, Responds}
-use Rattle.rusty_leveldb.specs.Serves.{StandsFor, IsSpared, Goes, faults_between, refusal_of, done_or}
+use Rattle.rusty_leveldb.specs.Serves.{StandsFor, IsSpared, Goes, setting_between, refusal_of, done_or}
 use Rattle.rusty_leveldb.specs.Engine.{scene, Recalls, mode_of, SyncExcused, CloseExcused}
 use Rattle.rusty_leveldb.specs.Recovery.{IsErrorFor}
 use Rattle.rusty_leveldb.proofs.OneLog.Writing.{synced_holds}
@@ -33,13 +33,13 @@ module _ {E C FP F : Type 0} {B : Boxed} (env : Ghosts E F) (formats : OptionsOf
   abbrev Flushed : Answer → Type 0
   Flushed answer = Goes store meaning (Recalls env formats store) (scene env (Some engine) from) flush answer (scene env (Some after) to) old
 
-  abbrev faults : Faults
-  faults = faults_between (env.failures from) (env.failures to)
+  abbrev setting : Setting
+  setting = setting_between meaning (env.failures from) (env.failures to)
 
   breaks : Breaks old None (broken_with old None)
   breaks = record { state = refl; durable = inl refl }
 
-  refuses : (status : Status) → Fails status (env.failures from) (env.failures to) → Responds faults old flush (refused (refusal_of status)) (broken_with old None)
+  refuses : (status : Status) → Fails status (env.failures from) (env.failures to) → Responds setting old flush (refused (refusal_of status)) (broken_with old None)
   refuses status (inl memory) = record { cause = out_of_memory; comes = (tt, memory.0, ap text_of memory.1); leaves = inr (tt, breaks) }
   refuses status (inr device) = record { cause = device_failed; comes = (tt, device); leaves = breaks }
 
@@ -50,7 +50,7 @@ module _ {E C FP F : Type 0} {B : Boxed} (env : Ghosts E F) (formats : OptionsOf
     new = new;
     represents = broken_is env formats store meaning engine after from to old None was broke;
     later = later;
-    step = subst (λ m. Step m faults old flush (refused (refusal_of status)) new) (sym was.mode) (refuses status why);
+    step = subst (λ m. Step m setting old flush (refused (refusal_of status)) new) (sym was.mode) (refuses status why);
     moments = moments;
     spares = spares_but_log store (env.observed from).disk (env.observed to).disk old.mode flush was.mode tt broke.but broke.locks;
     bytes = λ syncing. bytes_same (env.observed from).disk.files (env.observed to).disk.files same;
@@ -66,7 +66,7 @@ module _ {E C FP F : Type 0} {B : Boxed} (env : Ghosts E F) (formats : OptionsOf
     new = new;
     represents = record { disk_is = stands; memory_is = recalls };
     later = omega (arith, counted);
-    step = subst (λ m. Step m faults old flush done new) (sym was.mode) (record { operands = λ no. no; numbers = λ no. no }, record { state = refl });
+    step = subst (λ m. Step m setting old flush done new) (sym was.mode) (record { operands = λ no. no; numbers = λ no. no }, record { state = refl });
     moments = with_none env formats store meaning engine from old was to moments;
     spares = spares_but_log store (env.observed from).disk (env.observed to).disk old.mode flush was.mode tt (SameBut-synced (log_path store) (env.observed from).disk.files (env.observed to).disk.files (inr files)) locks;
     bytes = λ syncing. bytes_synced (log_path store) (env.observed from).disk.files (env.observed to).disk.files files;

@@ -12,9 +12,9 @@ use Rattle.rusty_leveldb.specs.declared.db_impl.engine.Mode.TheVariants.{Open}
 use Rattle.rusty_leveldb.specs.Recent.{Numbered}
 use Rattle.rusty_leveldb.specs.OneLog.{max_sequence}
 use Rattle.rusty_leveldb.specs.State.{State, write, refused}
-use Rattle.rusty_leveldb.specs.Causes.{AreUsedUp, Faults, Cause, out_of_memory, used_up, too_large, bad_operand, Comes}
+use Rattle.rusty_leveldb.specs.Causes.{AreUsedUp, Setting, Cause, out_of_memory, used_up, too_large, bad_operand, Comes}
 use Rattle.rusty_leveldb.specs.Machine.{Step, Responds}
-use Rattle.rusty_leveldb.specs.Serves.{Goes, faults_between, refusal_of}
+use Rattle.rusty_leveldb.specs.Serves.{Goes, setting_between, refusal_of}
 use Rattle.rusty_leveldb.specs.Engine.{scene, Recalls}
 use Rattle.rusty_leveldb.specs.Frame.{MayTouch}
 use Rattle.rusty_leveldb.proofs.Others.{spares_still}
@@ -42,23 +42,23 @@ module _ {E C FP F : Type 0} {B : Boxed} (env : Ghosts E F) (formats : OptionsOf
   }
 
   module _ (open_now : engine.mode ≡ Open) (items : List Item) (sync : Bool) (status : Status) where
-    abbrev faults : Faults
-    faults = faults_between (env.failures from) (env.failures from)
+    abbrev setting : Setting
+    setting = setting_between meaning (env.failures from) (env.failures from)
 
     -- the store stays open
-    pub kept_goes : (after : EngineOf E C FP F B) → Was env formats store meaning after from old → (cause : Cause) → Comes faults old (write items sync) (refusal_of status) cause
+    pub kept_goes : (after : EngineOf E C FP F B) → Was env formats store meaning after from old → (cause : Cause) → Comes setting old (write items sync) (refusal_of status) cause
         → Goes store meaning (Recalls env formats store) (scene env (Some engine) from) (write items sync) (refused (refusal_of status)) (scene env (Some after) from) old
     kept_goes after now cause comes = record {
       new = old;
       represents = now;
       later = omega arith;
-      step = subst (λ m. Step m faults old (write items sync) (refused (refusal_of status)) old) (sym (is_open env formats store meaning engine from old open_now was).mode) responds;
+      step = subst (λ m. Step m setting old (write items sync) (refused (refusal_of status)) old) (sym (is_open env formats store meaning engine from old open_now was).mode) responds;
       moments = moments_none store meaning (write items sync) old (env.observed from) was.disk_is;
       spares = spares_still store (MayTouch store old.mode (write items sync)) (env.observed from).disk;
       bytes = λ never. absurd never;
     }
       where
-        responds : Responds faults old (write items sync) (refused (refusal_of status)) old
+        responds : Responds setting old (write items sync) (refused (refusal_of status)) old
         responds = record { cause = cause; comes = comes; leaves = inl (record { state = refl; durable = inl refl }) }
 
     -- the numbers are used up

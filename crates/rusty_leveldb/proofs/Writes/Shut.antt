@@ -10,9 +10,9 @@ use Rattle.leveldb_mem.specs.Log.Writer.{WriterState}
 use Rattle.rusty_leveldb.specs.declared.db_impl.engine.Mode.{Mode}
 use Rattle.rusty_leveldb.specs.declared.db_impl.engine.Mode.TheVariants.{Open, Broken, Closed}
 use Rattle.rusty_leveldb.specs.State.{State, broken, closed, Request, write, flush, refused, Refusal, close}
-use Rattle.rusty_leveldb.specs.Causes.{Faults, IsClosedRefusal, IsBrokenRefusal}
+use Rattle.rusty_leveldb.specs.Causes.{Setting, IsClosedRefusal, IsBrokenRefusal}
 use Rattle.rusty_leveldb.specs.Machine.{Step}
-use Rattle.rusty_leveldb.specs.Serves.{Goes, faults_between, refusal_of}
+use Rattle.rusty_leveldb.specs.Serves.{Goes, setting_between, refusal_of}
 use Rattle.rusty_leveldb.specs.Engine.{scene, Recalls, IsClosed, IsClosedOrBroken, RefusedAsClosed, RefusedAsBroken, mode_of}
 use Rattle.rusty_leveldb.proofs.Others.{spares_still}
 use Rattle.rusty_leveldb.specs.Frame.{MayTouch}
@@ -43,14 +43,14 @@ IsRefusedByMode flush = Unit {0}
 IsRefusedByMode close = Unit {0}
 IsRefusedByMode request = ⊥
 
-module _ (faults : Faults) (old : State) where
-  closed_step : (request : Request) → IsRefusedByMode request → (refusal : Refusal) → IsClosedRefusal refusal → Step closed faults old request (refused refusal) old
+module _ (setting : Setting) (old : State) where
+  closed_step : (request : Request) → IsRefusedByMode request → (refusal : Refusal) → IsClosedRefusal refusal → Step closed setting old request (refused refusal) old
   closed_step (write items sync) logs refusal says = (says, refl)
   closed_step flush logs refusal says = (says, refl)
   closed_step close logs refusal says = (says, refl)
   closed_step request logs refusal says = absurd logs
 
-  broken_step : (request : Request) → IsRefusedByMode request → (refusal : Refusal) → IsBrokenRefusal refusal → Step broken faults old request (refused refusal) old
+  broken_step : (request : Request) → IsRefusedByMode request → (refusal : Refusal) → IsBrokenRefusal refusal → Step broken setting old request (refused refusal) old
   broken_step (write items sync) logs refusal says = (says, refl)
   broken_step flush logs refusal says = (says, refl)
   broken_step close logs refusal says = (says, refl)
@@ -58,13 +58,13 @@ module _ (faults : Faults) (old : State) where
 
 module _ {E C FP F : Type 0} {B : Boxed} (env : Ghosts E F) (formats : OptionsOf C FP B → Format) (store : List ℕ) (meaning : Meaning) (engine : EngineOf E C FP F B) (at : E) (old : State) (was : Was env formats store meaning engine at old)
     (request : Request) (logs : IsRefusedByMode request) (status : Status) where
-  abbrev faults : Faults
-  faults = faults_between (env.failures at) (env.failures at)
+  abbrev setting : Setting
+  setting = setting_between meaning (env.failures at) (env.failures at)
 
   abbrev Refused : Type 0
   Refused = Goes store meaning (Recalls env formats store) (scene env (Some engine) at) request (refused (refusal_of status)) (scene env (Some engine) at) old
 
-  stays : Step old.mode faults old request (refused (refusal_of status)) old → Refused
+  stays : Step old.mode setting old request (refused (refusal_of status)) old → Refused
   stays step = record {
     new = old;
     represents = was;
@@ -77,7 +77,7 @@ module _ {E C FP F : Type 0} {B : Boxed} (env : Ghosts E F) (formats : OptionsOf
 
   -- the store is closed
   pub shut_out : RefusedAsClosed engine.mode status → Refused
-  shut_out shut = stays (subst (λ m. Step m faults old request (refused (refusal_of status)) old) (ap mode_of (sym shut.0) ∙ was.memory_is.mode) (closed_step faults old request logs (refusal_of status) shut.1))
+  shut_out shut = stays (subst (λ m. Step m setting old request (refused (refusal_of status)) old) (ap mode_of (sym shut.0) ∙ was.memory_is.mode) (closed_step setting old request logs (refusal_of status) shut.1))
 
   -- the store broke earlier
   pub shut_down : RefusedAsBroken engine.mode engine.writer status → (IsClosed engine.mode → ⊥) → Refused
@@ -88,8 +88,8 @@ module _ {E C FP F : Type 0} {B : Boxed} (env : Ghosts E F) (formats : OptionsOf
           let sound : engine.writer.broken ≡ false = ap (λ w. w.broken) (is_open env formats store meaning engine at old is was).writes.writer in
           ⊎_elim (λ (broke : engine.mode ≡ Broken). absurd (let never : Open ≡ Broken = sym is ∙ broke in cc))
           (λ (broke : IsTrue engine.writer.broken). absurd (let never : false ≡ true = sym sound ∙ broke in cc)) down.0
-      by_mode Broken is = stays (subst (λ m. Step m faults old request (refused (refusal_of status)) old) (ap mode_of (sym is) ∙ was.memory_is.mode)
-          (broken_step faults old request logs (refusal_of status) (down.1.code, broken_text status.err down.1.text)))
+      by_mode Broken is = stays (subst (λ m. Step m setting old request (refused (refusal_of status)) old) (ap mode_of (sym is) ∙ was.memory_is.mode)
+          (broken_step setting old request logs (refusal_of status) (down.1.code, broken_text status.err down.1.text)))
       by_mode Closed is = absurd (not_shut is)
 
   -- refused by the mode, one way or the other

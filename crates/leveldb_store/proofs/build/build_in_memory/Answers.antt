@@ -1,6 +1,7 @@
 use Rattle.std.proofs.Common.{◌≡◌, ◌∙◌, inl, inr, ⊎_elim, Some, ap, subst, sym}
 use Rattle.std.proofs.lemmas.Result.{err_from_is_err_and}
 use Rattle.leveldb_base.specs.Types.{Pair, pair_at, position_within}
+use Rattle.leveldb_env.specs.Env.{AreBytes}
 use Rattle.leveldb_env.specs.contracts.compressor.CompressorListCompressors.TheImpl.{ghosts as compressors}
 use Rattle.leveldb_table.specs.BlockBuilder.{last_added}
 use Rattle.leveldb_version.specs.Store.{IsFirstKey, IsLastKey}
@@ -53,9 +54,12 @@ returns-clause-some g c =
     ap (λ ps. pair_at ps (g.I.LdbIterator.position walk)) kept.same_pairs ∙ ap (pair_at pairs) c.in_ok-seek_to_first.ensures.ok in
     let pair : Pair = (c.in-Some.first.now, c.in-Some.field-0-1.now) in
     let here : Some pair ≡ pair_at pairs (position_within pairs 0) = c.in-Some.ensures ∙ at_first in
-    let last : c.in_ok-largest.largest ≡ last_added pairs = c.in_ok-largest.ensures ∙ c.last_key.ensures ∙ c.in_ok-add_pairs.ensures.last ∙ ap last_added kept.same_pairs in
+    let last : c.in_ok-largest.largest ≡ last_added pairs = c.in_ok-largest.ensures.ok ∙ c.last_key.ensures ∙ c.in_ok-add_pairs.ensures.last ∙ ap last_added kept.same_pairs in
     let taken : HasTaken codings puts_in_memory c.args.core c.new-bytes.result pairs c.add_pairs.new.core c.add_pairs.new.sink = rw (← kept.same_pairs) c.in_ok-add_pairs.ensures.takes in (
       built_in_memory codings c.new-bytes.ensures.items c.requires.unused.begun taken c.in_ok-finish.ensures.ok,
-      subst (λ k. IsFirstKey k pairs) (sym c.in_ok-smallest.ensures) (first_key_is pairs pair here),
+      subst (λ k. IsFirstKey k pairs) (sym c.in_ok-smallest.ensures.ok) (first_key_is pairs pair here),
       subst (λ k. IsLastKey k pairs) (sym last) (last_key_is pairs pair here),
     )
+
+pub returns-clause-keys : goal.returns-clause-keys
+returns-clause-keys g c = (subst AreBytes (sym c.in_ok-smallest.ensures.ok) c.in_ok-smallest.ensures.bytes, subst AreBytes (sym c.in_ok-largest.ensures.ok) c.in_ok-largest.ensures.bytes)

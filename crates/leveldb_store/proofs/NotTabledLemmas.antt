@@ -1,0 +1,168 @@
+-- Why no table is built of a walk's pairs: three causes.
+use Rattle.std.specs.Prelude.{IsSomeAnd, IsTrue}
+use Rattle.std.proofs.Common.{◌≡◌, ◌⊎◌, ◌∙◌, inl, inr, ⊎_elim, ℕ, true, false, List, [], Option, None, Some, Ok, Err, refl, sym}
+use Rattle.std.specs.Global.{Vec}
+use Rattle.leveldb_base.specs.BlockHandle.{Handle}
+use Rattle.leveldb_base.specs.Error.{IsOutOfMemory}
+use Rattle.leveldb_base.specs.Types.{Pair}
+use Rattle.leveldb_base.specs.declared.cmp.Cmp.{Ghosts as CmpGhosts}
+use Rattle.leveldb_base.specs.declared.error.Status.{Status}
+use Rattle.leveldb_base.specs.declared.error.StatusCode.TheVariants.{NotSupported}
+use Rattle.leveldb_env.specs.Compressor.{Coding, Codings, IsEncodeError}
+use Rattle.leveldb_env.specs.FilterBlock.{IsFilterNotMade}
+use Rattle.leveldb_env.specs.declared.filter.FilterPolicy.{Ghosts as FilterGhosts}
+use Rattle.leveldb_table.specs.Block.{BlockEntry}
+use Rattle.leveldb_table.specs.Footer.{footer_bytes}
+use Rattle.leveldb_table.specs.PutBlock.{IsNoMetaindex, IsNotPut, IsPutError, StopsAtFooter, StopsFrom}
+use Rattle.leveldb_table.specs.TableBuilderAdd.{IsAddError, IsNotAdded, IsNotClosed, IsNotLined}
+use Rattle.leveldb_table.specs.TableBuilderFinish.{IsFinishError, StopsFromFilters, StopsFromIndex}
+use Rattle.leveldb_table.specs.declared.table_builder.builder_core.BuilderCore.{BuilderCore}
+use Rattle.leveldb_store.specs.BuildTable.{IsNotTabled, TableChoices, flushes_in_memory, puts_in_memory}
+use Rattle.leveldb_store.specs.Format.{HasCompressorError}
+
+-- why a builder that isn't broken fails that puts into memory: out of memory, what isn't supported,
+-- or a compressor that is set
+abbrev pub IsBuildFault : Codings → Status → Type 0
+IsBuildFault codings status = IsOutOfMemory status ⊎ (status.code ≡ NotSupported)
+    ⊎ ((id : ℕ) × (coding : Coding) × (codings id ≡ Some coding) × (block : List ℕ)
+    × IsTrue (coding.encode_fails block status.code))
+
+module _ (codings : Codings) (status : Status) where
+  abbrev Fault : Type 0
+  Fault = IsBuildFault codings status
+
+  memory_fault : IsOutOfMemory status → Fault
+  memory_fault memory = inl memory
+
+  unsupported_fault : status.code ≡ NotSupported → Fault
+  unsupported_fault code = inr (inl code)
+
+  set_fault : (id : ℕ) (block : List ℕ) (coding : Option Coding) → codings id ≡ coding
+      → IsSomeAnd coding (λ c. IsEncodeError c block status) → Fault
+  set_fault id block None is fails = absurd fails
+  set_fault id block (Some coding) is fails = inr (inr (id, coding, is, block, fails))
+
+  not_added_fault : (entries : List BlockEntry) (count : ℕ) (pair : Pair)
+      → IsNotAdded entries count pair status → Fault
+  not_added_fault entries count pair (inl memory) = memory_fault memory
+  not_added_fault entries count pair (inr (inl long)) = unsupported_fault long.0
+  not_added_fault entries count pair (inr (inr large)) = unsupported_fault large.0
+
+  filter_fault : (too_large : List (List ℕ) → Type 0) (make : List (List ℕ)
+      → List ℕ) (filters keys : List (List ℕ))
+      → IsFilterNotMade too_large make filters keys status → Fault
+  filter_fault too_large make filters keys (inl memory) = memory_fault memory
+  filter_fault too_large make filters keys (inr large) = unsupported_fault large.0
+
+  metaindex_fault : (name : List ℕ) (filters : Handle) → IsNoMetaindex name filters status → Fault
+  metaindex_fault name filters (inl memory) = memory_fault memory
+  metaindex_fault name filters (inr large) = unsupported_fault large.0
+
+  put_fault : (bytes : List ℕ) (count : ℕ) (from to : Vec ℕ)
+      → IsPutError puts_in_memory bytes count from status to → Fault
+  put_fault bytes count from to (inl failed) = memory_fault failed.memory
+  put_fault bytes count from to (inr (_, inl memory)) = memory_fault memory
+  put_fault bytes count from to (inr (_, inr long)) = unsupported_fault long.0
+
+  not_put_fault : (id : ℕ) (text : List ℕ) (offset : ℕ) (from to : Vec ℕ)
+      → IsNotPut puts_in_memory codings id text offset from status to → Fault
+  not_put_fault id text offset from to (inl unset) = unsupported_fault unset.2.0
+  not_put_fault id text offset from to (inr (inl (_, inl memory))) = memory_fault memory
+  not_put_fault id text offset from to (inr (inl (_, inr fails))) =
+      set_fault id text (codings id) refl fails
+  not_put_fault id text offset from to (inr (inr put)) = put_fault _ _ from to put.2
+
+  stops_fault : (id : ℕ) (text : List ℕ) (offset : ℕ) (Rest : Handle → ℕ → Vec ℕ → Status → Vec ℕ
+      → Type 0)
+      → ((handle : Handle) (end : ℕ) (mid to : Vec ℕ) → Rest handle end mid status to → Fault)
+      → (from to : Vec ℕ) → StopsFrom puts_in_memory codings id text offset Rest from status to
+      → Fault
+  stops_fault id text offset Rest so from to (inl not_put) =
+      not_put_fault id text offset from to not_put
+  stops_fault id text offset Rest so from to (inr later) = so later.2 later.3 later.4 to later.6
+
+  footer_fault : (bytes : List ℕ) (offset : ℕ) (from to : Vec ℕ)
+      → StopsAtFooter puts_in_memory flushes_in_memory bytes offset from status to → Fault
+  footer_fault bytes offset from to (inl long) = unsupported_fault long.1.0
+  footer_fault bytes offset from to (inr (inl failed)) = memory_fault failed.memory
+  footer_fault bytes offset from to (inr (inr flushed)) =
+      let never : Err status ≡ Ok tt = flushed.2.ok in absurd (cc never)
+
+  module _ {C FP : Type 0} {order : CmpGhosts C} {filters : FilterGhosts FP} where
+    lined_fault : (core : BuilderCore C FP order filters) (next : List ℕ) (handle : Handle)
+        → IsNotLined codings core next handle status → Fault
+    lined_fault core next handle (inl memory) = memory_fault memory
+    lined_fault core next handle (inr (inl large)) = unsupported_fault large.0
+    lined_fault core next handle (inr (inr due)) =
+        filter_fault (filters.too_large core.filter.policy)
+        (filters.filter_for core.filter.policy) core.filter.filters core.filter.keys due.1
+
+    closed_fault : (core : BuilderCore C FP order filters) (next : List ℕ) (from to : Vec ℕ)
+        → IsNotClosed codings core puts_in_memory next from status to → Fault
+    closed_fault core next from to (inl memory) = memory_fault memory.1
+    closed_fault core next from to (inr (inl put)) =
+        not_put_fault core.compressor put.0 core.offset from to put.2
+    closed_fault core next from to (inr (inr lined)) = lined_fault core next lined.0 lined.2
+
+    add_fault : (core : BuilderCore C FP order filters) (pair : Pair) (from to : Vec ℕ)
+        → core.broken ≡ false → IsAddError codings core puts_in_memory pair from status to → Fault
+    add_fault core pair from to usable (inl broke) =
+        let never : false ≡ true = sym usable ∙ broke.0 in absurd (cc never)
+    add_fault core pair from to usable (inr (_, inl room)) = not_added_fault _ _ pair room.2
+    add_fault core pair from to usable (inr (_, inr (inl closed))) =
+        closed_fault core pair.0 from to closed.1
+    add_fault core pair from to usable (inr (_, inr (inr next))) =
+        not_added_fault [] core.count pair next.3
+
+    finish_fault : (core : BuilderCore C FP order filters) (from to : Vec ℕ) → core.broken ≡ false
+        → IsFinishError codings core puts_in_memory flushes_in_memory from status to → Fault
+    finish_fault core from to usable (inl broke) =
+        let never : false ≡ true = sym usable ∙ broke.0 in absurd (cc never)
+    finish_fault core from to usable (inr (inl left)) = closed_fault core _ from to left.1.1
+    finish_fault core from to usable (inr (inr (_, last, mid, _, stops))) = at_filters stops
+      where
+        at_index : (meta : Handle) (end : ℕ) (mid to : Vec ℕ)
+            → StopsFromIndex codings (order.cmp core.block.cmp)
+            (filters.too_large core.filter.policy) (filters.filter_for core.filter.policy)
+            core.compressor (filters.name core.filter.policy) last puts_in_memory
+            flushes_in_memory meta end mid status to → Fault
+        at_index meta end mid to (inl memory) = memory_fault memory.1
+        at_index meta end mid to (inr made) = stops_fault core.compressor made.0 end
+            (λ index. StopsAtFooter puts_in_memory flushes_in_memory (footer_bytes meta index))
+            (λ index offset at then footer.
+            footer_fault (footer_bytes meta index) offset at then footer)
+            mid to made.2
+
+        at_filters : StopsFromFilters codings (order.cmp core.block.cmp)
+            (filters.too_large core.filter.policy) (filters.filter_for core.filter.policy)
+            core.compressor (filters.name core.filter.policy) last puts_in_memory
+            flushes_in_memory mid status to → Fault
+        at_filters (inl unmade) = filter_fault (filters.too_large core.filter.policy)
+            (filters.filter_for core.filter.policy) last.filter.filters last.filter.keys unmade.1
+        at_filters (inr (text, _, inl failed)) = put_fault _ _ mid to failed
+        at_filters (inr (text, _, inr (handle, end, at, _, inl none))) =
+            metaindex_fault _ handle none.1
+        at_filters (inr (text, _, inr (handle, end, at, _, inr meta))) =
+            stops_fault core.compressor meta.0 end
+            (StopsFromIndex codings (order.cmp core.block.cmp)
+            (filters.too_large core.filter.policy) (filters.filter_for core.filter.policy)
+            core.compressor (filters.name core.filter.policy) last puts_in_memory
+            flushes_in_memory) at_index at to meta.2
+
+-- Memory is out; it isn't supported, as an entry, a filter or a count that is too large, or an id
+-- without a compressor; or a compressor that is set fails for a block.
+pub not_tabled_causes : {C FP : Type 0} {order : CmpGhosts C} {filters : FilterGhosts FP}
+    (choices : TableChoices order filters) (pairs : List Pair) (status : Status)
+    → IsNotTabled choices pairs status
+    → IsOutOfMemory status ⊎ (status.code ≡ NotSupported)
+    ⊎ HasCompressorError choices.format status.code
+not_tabled_causes choices pairs status (inl memory) = inl memory
+not_tabled_causes choices pairs status (inr (core, new, stops)) = ⊎_elim (λ memory. inl memory)
+    (λ other. inr (⊎_elim (λ code. inl code)
+    (λ is. inr (record { id = is.0; coding = is.1; is_set = is.2; block = is.3; fails = is.4 }))
+    other))
+    (⊎_elim
+    (λ at_pair. add_fault choices.format.codings status at_pair.mid at_pair.pair at_pair.at
+    at_pair.to at_pair.taken.unbroken at_pair.cause)
+    (λ at_end. finish_fault choices.format.codings status at_end.mid at_end.at at_end.to
+    at_end.taken.unbroken at_end.cause) stops.2)

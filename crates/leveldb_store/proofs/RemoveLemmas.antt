@@ -1,0 +1,513 @@
+-- Which files are obsolete, and what their removal keeps of an open store.
+use Rattle.std.proofs.Common.{◌≡◌, ◌⊎◌, ◌∙◌, ◌++◌, ◌+◌, ◌-◌, ◌^◌, ◌<◌, ◌≤◌, inl, inr, ⊎_elim, ℕ, Bool, true, false, cond, drop, eqb, List, [], ◌∷◌, None, Option, Some, Ok, Err, Result, ap, arith, fold, get_or, length, map, refl, subst, suc, sym, take, zero}
+use Rattle.std.specs.Prelude.{◌↔◌, ◌≢◌, All, Contains, IsSome, IsTrue, OnOk, codes, not}
+use Rattle.std.specs.BTreeMap.{is_at}
+use Rattle.std.specs.BTreeSet.{BTreeSet, contains, insert_key}
+use Rattle.std.specs.Cmp.Lexicographic.{bytes_decides}
+use Rattle.std.specs.List.{IsDistinct}
+use Rattle.std.specs.Ordering.{match_ordering, nat_cmp}
+use Rattle.std.specs.Result.{result_and}
+use Rattle.std.specs.Str.{bytes_eq}
+use Rattle.std.specs.Str.Parse.{AllDigits, digits_value}
+use Rattle.std.specs.declared.cmp.Ordering.{Ordering}
+use Rattle.std.specs.declared.cmp.Ordering.TheVariants.{Equal, Greater, Less}
+use Rattle.std.proofs.lemmas.Bool.{cases_lt}
+use Rattle.std.proofs.lemmas.Cmp.{nat_cmp_total}
+use Rattle.std.proofs.lemmas.List.{get_or_default}
+use Rattle.std.proofs.lemmas.List.Elements.{All-cons, All-contains, All-contains_itself, All-from_recursion, All-head, All-nil, All-tail, All-weaker, Contains-append_cases, Contains-push_cases}
+use Rattle.std.proofs.lemmas.Map.Keys.{IsDistinct-head, IsDistinct-tail}
+use Rattle.std.proofs.lemmas.Map.Lookups.{exact_unsigned}
+use Rattle.std.proofs.lemmas.Map.Views.{All-insert_key, All-set_contains, Contains-from_any}
+use Rattle.std.proofs.lemmas.Str.Parse.{IsNumeralModel, not_in_digits, numerals_by_value, tells_digits}
+use Rattle.leveldb_base.proofs.HistoryLemmas.{in_cases, in_front, in_none, in_rest}
+use Rattle.leveldb_base.proofs.NamesLemmas.{made_name, one_reading}
+use Rattle.leveldb_base.specs.Error.{IsOutOfMemory}
+use Rattle.leveldb_base.specs.History.{History}
+use Rattle.leveldb_base.specs.Names.{IsFileName, IsNumber, IsNumbered, file_name}
+use Rattle.leveldb_base.specs.declared.error.Status.{Status}
+use Rattle.leveldb_base.specs.declared.error.StatusCode.TheVariants.{NotFound}
+use Rattle.leveldb_base.specs.declared.types.FileType.{FileType}
+use Rattle.leveldb_base.specs.declared.types.FileType.TheVariants.{Current, DBLock, Descriptor, InfoLog, Log, Table, Temp}
+use Rattle.leveldb_env.proofs.EnvLemmas.{Run-mono, Run-trans, SameBut-deleted, at_other, at_same, begun, bytes_eq-apart, call, with_file-itself}
+use Rattle.leveldb_env.specs.Env.{BeforeOrAfter, ChangesFiles, File, Files, FilesUnchanged, HasCause, IsEmptyFolder, ListsChildren, Observed, Run, SameBut, SameLocks, deleted, in_folder, same, with_file}
+use Rattle.leveldb_env.specs.declared.env.Env.{Ghosts}
+use Rattle.leveldb_version.proofs.BytesLemmas.{bytes_stay}
+use Rattle.leveldb_version.proofs.KeepsLemmas.{unread_keeps}
+use Rattle.leveldb_version.proofs.LogKeepsLemmas.{keeps_then}
+use Rattle.leveldb_version.proofs.ManagedLemmas.{same_name}
+use Rattle.leveldb_version.proofs.TrackedLemmas.{numbered_up_to, unread_unnamed}
+use Rattle.leveldb_version.proofs.WrittenLemmas.{obsolete_is_unread, written_unread}
+use Rattle.leveldb_version.specs.Contents.{Store}
+use Rattle.leveldb_version.specs.Paths.{log_path, table_path}
+use Rattle.leveldb_version.specs.StoreSteps.{IsUnnamed, IsUnread}
+use Rattle.leveldb_version.specs.VersionEdit.{NewFile}
+use Rattle.leveldb_version.specs.VersionSet.{live_after}
+use Rattle.leveldb_version.specs.VersionSetValue.{VersionSetValue, broken, numbers_in_order}
+use Rattle.leveldb_version.specs.Writing.{IsObsolete}
+use Rattle.leveldb_store.specs.Format.{Meaning}
+use Rattle.leveldb_store.specs.OpenStore.{OpenStoreValue}
+use Rattle.leveldb_store.specs.Switch.{AreRemoved, DeletesFile, HasFirstCause, IsObsoleteName, IsObsoletePath, RemovesName, RemovesNames, RemovesNoOther, RemovesObsolete, without_files}
+use Rattle.leveldb_store.specs.Written.{IsTableOf, IsWritten, KeepsStore, Shows, memory_of}
+use Rattle.leveldb_store.proofs.SwitchLemmas.{Keeps, keeps_same, shows_stay, written_as}
+
+-- ---- the numbers of live files
+
+inserted_here : (keys : List ℕ) (key : ℕ) → Contains (insert_key nat_cmp keys key) key
+inserted_here [] key = in_front key []
+inserted_here (x ∷ keys) key = by (nat_cmp key x) refl (inserted_here keys key)
+  where
+    by : (o : Ordering) → nat_cmp key x ≡ o → Contains (insert_key nat_cmp keys key) key → Contains (match_ordering o (key ∷ x ∷ keys) (x ∷ keys) (x ∷ insert_key nat_cmp keys key)) key
+    by Less e later = in_front key (x ∷ keys)
+    by Equal e later = subst (Contains (x ∷ keys)) (sym (exact_unsigned key x e)) (in_front x keys)
+    by Greater e later = in_rest x key (insert_key nat_cmp keys key) later
+
+inserted_still : (keys : List ℕ) (key q : ℕ) → Contains keys q → Contains (insert_key nat_cmp keys key) q
+inserted_still [] key q c = absurd (in_none q c)
+inserted_still (x ∷ keys) key q c = by (nat_cmp key x) (inserted_still keys key q)
+  where
+    by : (o : Ordering) → (Contains keys q → Contains (insert_key nat_cmp keys key) q) → Contains (match_ordering o (key ∷ x ∷ keys) (x ∷ keys) (x ∷ insert_key nat_cmp keys key)) q
+    by Less later = in_rest key q (x ∷ keys) c
+    by Equal later = c
+    by Greater later = ⊎_elim
+        (λ (same : x ≡ q). subst (Contains (x ∷ insert_key nat_cmp keys key)) same (in_front x (insert_key nat_cmp keys key)))
+        (λ (rest : Contains keys q). in_rest x q (insert_key nat_cmp keys key) (later rest))
+        (in_cases x q keys c)
+
+inserted_only : (keys : List ℕ) (key q : ℕ) → Contains (insert_key nat_cmp keys key) q → Contains keys q ⊎ (key ≡ q)
+inserted_only keys key q c =
+    All-contains (λ x. Contains keys x ⊎ (key ≡ x)) (insert_key nat_cmp keys key) q
+    (All-insert_key nat_cmp key (λ x. Contains keys x ⊎ (key ≡ x)) keys (All-weaker (Contains keys) (λ x. Contains keys x ⊎ (key ≡ x)) (λ x here. inl here) keys (All-contains_itself keys)) (inr refl)) c
+
+folded_in : (xs keys : List ℕ) (q : ℕ) → Contains keys q ⊎ Contains xs q → Contains (fold (insert_key nat_cmp) keys xs) q
+folded_in [] keys q (inl c) = c
+folded_in [] keys q (inr c) = absurd (in_none q c)
+folded_in (x ∷ xs) keys q (inl c) = folded_in xs (insert_key nat_cmp keys x) q (inl (inserted_still keys x q c))
+folded_in (x ∷ xs) keys q (inr c) = ⊎_elim
+    (λ (same : x ≡ q). folded_in xs (insert_key nat_cmp keys x) q (inl (subst (Contains (insert_key nat_cmp keys x)) same (inserted_here keys x))))
+    (λ (rest : Contains xs q). folded_in xs (insert_key nat_cmp keys x) q (inr rest))
+    (in_cases x q xs c)
+
+folded_only : (xs keys : List ℕ) (q : ℕ) → Contains (fold (insert_key nat_cmp) keys xs) q → Contains keys q ⊎ Contains xs q
+folded_only [] keys q c = inl c
+folded_only (x ∷ xs) keys q c = ⊎_elim
+    (λ (before : Contains (insert_key nat_cmp keys x) q). ⊎_elim
+    (λ (there : Contains keys q). inl there)
+    (λ (same : x ≡ q). inr (subst (Contains (x ∷ xs)) same (in_front x xs)))
+    (inserted_only keys x q before))
+    (λ (rest : Contains xs q). inr (in_rest x q xs rest))
+    (folded_only xs (insert_key nat_cmp keys x) q c)
+
+-- the numbers in order are those of the files
+pub in_order : (files : List NewFile) (q : ℕ) → Contains (numbers_in_order files) q ↔ Contains (map (λ (file : NewFile). file.number) files) q
+in_order files q = (
+  λ c. ⊎_elim (λ (none : Contains [] q). absurd (in_none q none)) (λ there. there) (folded_only (map (λ (file : NewFile). file.number) files) [] q c),
+  λ c. folded_in (map (λ (file : NewFile). file.number) files) [] q (inr c),
+)
+
+-- a set of these numbers lacks a number exactly if no file has it
+pub lacks : (files : List NewFile) (live : BTreeSet ℕ) → live.keys ≡ numbers_in_order files → (q : ℕ) (found : Bool) → found ≡ contains nat_cmp live q
+    → IsTrue (not found) ↔ (Contains (map (λ (file : NewFile). file.number) files) q → ⊥)
+lacks files live is q true same = (
+  λ never. let wrong : false ≡ true = never in absurd (cc wrong),
+  λ none. absurd (none ((in_order files q).0 (subst (λ keys. Contains keys q) is (Contains-from_any {eq = λ x y. is_at (nat_cmp x) y} found_is q live.keys (sym same))))),
+)
+  where
+    found_is : (x y : ℕ) → is_at (nat_cmp x) y ≡ true → x ≡ y
+    found_is x y e = by (nat_cmp x y) refl e
+      where
+        by : (o : Ordering) → nat_cmp x y ≡ o → is_at (λ key. o) y ≡ true → x ≡ y
+        by Equal e at = exact_unsigned x y e
+        by Less e at = let never : false ≡ true = at in absurd (cc never)
+        by Greater e at = let never : false ≡ true = at in absurd (cc never)
+lacks files live is q false same = (
+  λ yes has. let there : contains nat_cmp live q ≡ true = All-contains (λ k. contains nat_cmp live k ≡ true) live.keys q (All-set_contains nat_cmp_total live) (subst (λ keys. Contains keys q) (sym is) ((in_order files q).1 has)) in
+      let never : false ≡ true = same ∙ there in absurd (cc never),
+  λ none. refl,
+)
+
+-- ---- names
+
+-- a name has one reading, so that it is obsolete only if its file is
+pub not_obsolete_name : (set : VersionSetValue) (name : List ℕ) (n : ℕ) (kind : FileType) → IsFileName name n kind → (IsObsolete set kind n → ⊥) → IsObsoleteName set name → ⊥
+not_obsolete_name set name n kind is wanted it =
+    let one = one_reading name it.0 n it.1 kind it.2 is in
+    wanted (subst (λ k. IsObsolete set k n) one.1 (subst (IsObsolete set it.1) one.0 it.3))
+
+own : IsNumeralModel (AllDigits 10) (digits_value 10)
+own = numerals_by_value (AllDigits 10) tells_digits
+
+-- digits have no `/`
+digits_unslashed : (text : List ℕ) (n : ℕ) → IsNumber text n → Contains text 47 → ⊥
+digits_unslashed text n number c = not_in_digits own text 47 number.digits.1 (λ h. omega (arith, h)) c.0 c.1 (get_or_default text c.0 0 47 c.1 ∙ c.2)
+
+-- whether a text has a `/`
+has_slash : List ℕ → Bool
+has_slash [] = false
+has_slash (x ∷ text) = cond (eqb x 47) true (has_slash text)
+
+unslashed : (text : List ℕ) → has_slash text ≡ false → Contains text 47 → ⊥
+unfolding has_slash
+unslashed [] e c = in_none 47 c
+unslashed (x ∷ text) e c = by (eqb x 47) refl e (λ rest. unslashed text rest)
+  where
+    by : (b : Bool) → eqb x 47 ≡ b → cond b true (has_slash text) ≡ false → (has_slash text ≡ false → Contains text 47 → ⊥) → ⊥
+    by true is never later = let wrong : true ≡ false = never in absurd (cc wrong)
+    by false is rest later = ⊎_elim
+        (λ (same : x ≡ 47). let wrong : true ≡ false = sym (ap (λ y. eqb y 47) same) ∙ is in absurd (cc wrong))
+        (λ (more : Contains text 47). later rest more)
+        (in_cases x 47 text c)
+
+numbered_unslashed : (front back name : List ℕ) (n : ℕ) → has_slash front ≡ false → has_slash back ≡ false → IsNumbered front back name n → Contains name 47 → ⊥
+numbered_unslashed front back name n plain_front plain_back is c = ⊎_elim
+    (λ (there : Contains (front ++ is.0) 47). ⊎_elim
+    (λ (before : Contains front 47). unslashed front plain_front before)
+    (λ (digit : Contains is.0 47). digits_unslashed is.0 n is.1 digit)
+    (Contains-append_cases front is.0 47 there))
+    (λ (after : Contains back 47). unslashed back plain_back after)
+    (Contains-append_cases (front ++ is.0) back 47 (subst (λ z. Contains z 47) is.2 c))
+
+-- a store's file has no `/` in its name
+pub name_unslashed : (name : List ℕ) (n : ℕ) (kind : FileType) → IsFileName name n kind → Contains name 47 → ⊥
+unfolding has_slash
+name_unslashed name n Log is c = numbered_unslashed [] (codes ".log") name n refl refl is c
+name_unslashed name n DBLock is c = unslashed (codes "LOCK") refl (subst (λ z. Contains z 47) is.0 c)
+name_unslashed name n Table (inl is) c = numbered_unslashed [] (codes ".ldb") name n refl refl is c
+name_unslashed name n Table (inr is) c = numbered_unslashed [] (codes ".sst") name n refl refl is c
+name_unslashed name n Descriptor is c = numbered_unslashed (codes "MANIFEST-") [] name n refl refl is c
+name_unslashed name n Current is c = unslashed (codes "CURRENT") refl (subst (λ z. Contains z 47) is.0 c)
+name_unslashed name n Temp is c = numbered_unslashed [] (codes ".dbtmp") name n refl refl is c
+name_unslashed name n InfoLog (inl is, none) c = unslashed (codes "LOG") refl (subst (λ z. Contains z 47) is c)
+name_unslashed name n InfoLog (inr is, none) c = unslashed (codes "LOG.old") refl (subst (λ z. Contains z 47) is c)
+
+-- ---- one file is removed
+
+module _ {C : Type 0} (cmp : List ℕ → List ℕ → Ordering) (meaning : Meaning) (allowed : Store → Type 0) (old : OpenStoreValue C) where
+  abbrev store : List ℕ
+  store = old.set.store
+
+  -- what a removal keeps of the store's files
+  pub record KeepsFiles (before after : Files) : Type 0 where
+    pub moments : (bound : ℕ) → Keeps cmp meaning allowed store bound before after
+    pub written : IsWritten cmp meaning old after
+    pub shows : (history : History) → Shows cmp meaning old before history → Shows cmp meaning old after history
+
+  none_kept : (files now : Files) → now ≡ files → IsWritten cmp meaning old files → KeepsFiles files now
+  none_kept files now is w = record {
+    moments = λ bound. keeps_same cmp meaning allowed store bound files now is;
+    written = subst (IsWritten cmp meaning old) (sym is) w;
+    shows = λ history s. subst (λ f. Shows cmp meaning old f history) (sym is) s;
+  }
+
+  module _ (files : Files) (w : IsWritten cmp meaning old files) (name : List ℕ) (n : ℕ) (kind : FileType) (is : IsFileName name n kind) (gone : IsObsolete old.set kind n) where
+    abbrev path : List ℕ
+    path = in_folder store name
+
+    abbrev after : Files
+    after = deleted path files
+
+    abbrev log_file : File
+    log_file = w.by.writable.log.file
+
+    unread : IsUnread store files path
+    unread = obsolete_is_unread store cmp (IsTableOf cmp meaning) files w.edits (memory_of old) w.by name n kind is gone
+
+    unnamed : IsUnnamed store (live_after w.edits) path
+    unnamed = unread_unnamed store cmp (IsTableOf cmp meaning) path files w.edits w.by.tracked.has_edits w.by.tracked.bytes unread
+
+    same_but : SameBut path files after
+    same_but = SameBut-deleted path files after (inr refl)
+
+    table_there : (file : NewFile) → Contains old.set.full.added file → after (table_path store file.number) ≡ files (table_path store file.number)
+    table_there file added =
+        let live = (w.by.tracked.tracks.left.full.added.live file).0 added in
+        let found = w.by.tracked.managed.has_tables.all file live in
+        let fits : file.number < 2 ^ 64 = subst (λ (f : NewFile). f.number < 2 ^ 64) found.2 (w.by.tracked.managed.has_tables.each found.0 found.1).2 in
+        same_but (table_path store file.number) (unnamed.tables file fits live)
+
+    log_there : after (log_path store w.by.writable.log.number) ≡ Some log_file
+    log_there = same_but (log_path store w.by.writable.log.number)
+        (unnamed.logs (file_name Log w.by.writable.log.number) w.by.writable.log.number (made_name Log w.by.writable.log.number w.by.writable.log.fits) w.by.writable.log.last.replayed) ∙ w.by.writable.log.there
+
+    there_removed : files path ≢ None → KeepsFiles files after
+    there_removed there = record {
+      moments = λ bound. unread_keeps store cmp (IsTableOf cmp meaning) allowed path files after same_but w.by.tracked.bytes unread bound;
+      written = written_as cmp meaning old after w.edits
+          (written_unread store cmp (IsTableOf cmp meaning) files w.edits (memory_of old) w.by path unread
+          (numbered_up_to store cmp (IsTableOf cmp meaning) name n kind is old.set.next_file (w.by.tracked.numbers name n kind is there)) after same_but
+          ((bytes_stay files w.by.tracked.bytes).delete path))
+          log_file (subst (λ k. after (log_path store k) ≡ Some log_file) w.by.log_is log_there) w.writer;
+      shows = λ history s. shows_stay cmp meaning old old files after history refl refl refl refl table_there s;
+    }
+
+    pub one_removed : KeepsFiles files after
+    one_removed = by (files path) refl
+      where
+        by : (file : Option File) → files path ≡ file → KeepsFiles files after
+        by None none = none_kept files after (ap (λ (f : Option File). with_file path f files) (sym none) ∙ with_file-itself path files) w
+        by (Some file) some = there_removed (λ none. let never : Some file ≡ None = sym some ∙ none in cc)
+
+  -- one after the other
+  all_removed : (paths : List (List ℕ)) → All (IsObsoletePath old.set) paths → (files : Files) → IsWritten cmp meaning old files → KeepsFiles files (without_files paths files)
+  all_removed [] obsolete files w = none_kept files files refl w
+  all_removed (path ∷ paths) obsolete files w =
+      let first = all_removed paths (All-tail (IsObsoletePath old.set) path paths obsolete) files w in
+      let it = All-head (IsObsoletePath old.set) path paths obsolete in
+      let name = it.1 in
+      let second = one_removed (without_files paths files) first.written it.0 name.0 name.1 name.2 name.3 in
+      let mid = without_files paths files in
+      subst (λ p. KeepsFiles files (deleted p mid)) (sym it.2) (record {
+        moments = λ bound. keeps_then store cmp (IsTableOf cmp meaning) allowed bound files mid (deleted (in_folder store it.0) mid) (first.moments bound) (second.moments bound);
+        written = second.written;
+        shows = λ history s. second.shows history (first.shows history s);
+      })
+
+  -- a removal keeps the store
+  pub removal_keeps : (from to : Observed) → Run (AreRemoved old.set from.disk.files) from to → IsWritten cmp meaning old from.disk.files → KeepsStore cmp meaning allowed old from old to
+  removal_keeps from to run w = record {
+    moments = λ bound reached. Run-mono (λ files removed. (kept files removed).moments bound) run;
+    written = λ unbroken. (kept to.disk.files run.has).written;
+    shows = (kept to.disk.files run.has).shows;
+  }
+    where
+      kept : (files : Files) → AreRemoved old.set from.disk.files files → KeepsFiles from.disk.files files
+      kept files removed = subst (KeepsFiles from.disk.files) (sym removed.2) (all_removed removed.0 removed.1 from.disk.files w)
+
+-- ---- what is removed
+
+module _ (set : VersionSetValue) where
+  pub none_removed : (files now : Files) → now ≡ files → AreRemoved set files now
+  none_removed files now is = ([], All-nil (IsObsoletePath set), is)
+
+  pub one_more_removed : (files mid now : Files) (name : List ℕ) → IsObsoleteName set name → AreRemoved set files mid → BeforeOrAfter (deleted (in_folder set.store name)) mid now → AreRemoved set files now
+  one_more_removed files mid now name obsolete removed (inl is) = subst (AreRemoved set files) (sym is) removed
+  one_more_removed files mid now name obsolete removed (inr is) = (
+    in_folder set.store name ∷ removed.0,
+    All-cons (IsObsoletePath set) (in_folder set.store name) removed.0 (name, obsolete, refl) removed.1,
+    is ∙ ap (deleted (in_folder set.store name)) removed.2,
+  )
+
+  without_no_other : (paths : List (List ℕ)) → All (IsObsoletePath set) paths → (files : Files) → RemovesNoOther set files (without_files paths files)
+  without_no_other [] obsolete files other = inl refl
+  without_no_other (first ∷ paths) obsolete files other = by (bytes_eq first other) refl (without_no_other paths (All-tail (IsObsoletePath set) first paths obsolete) files other)
+    where
+      by : (b : Bool) → bytes_eq first other ≡ b → (without_files paths files other ≡ files other) ⊎ (IsObsoletePath set other × (without_files paths files other ≡ None))
+          → (deleted first (without_files paths files) other ≡ files other) ⊎ (IsObsoletePath set other × (deleted first (without_files paths files) other ≡ None))
+      by true e before =
+          let same = (bytes_decides first other).0 e in
+          inr (
+            subst (IsObsoletePath set) same (All-head (IsObsoletePath set) first paths obsolete),
+            subst (λ p. deleted first (without_files paths files) p ≡ None) same (at_same first None (without_files paths files)),
+          )
+      by false e before = ⊎_elim (λ stays. inl (at_other first None (without_files paths files) other e ∙ stays))
+          (λ gone. inr (gone.0, at_other first None (without_files paths files) other e ∙ gone.1)) before
+
+  -- no other file is
+  pub removes_no_other : (files now : Files) → AreRemoved set files now → RemovesNoOther set files now
+  removes_no_other files now removed = subst (RemovesNoOther set files) (sym removed.2) (without_no_other removed.0 removed.1 files)
+
+-- what is gone stays so
+gone_stays : (gone other : List ℕ) (mid now : Files) → BeforeOrAfter (deleted gone) mid now → mid other ≡ None → now other ≡ None
+gone_stays gone other mid now (inl is) none = ap (λ (f : Files). f other) is ∙ none
+gone_stays gone other mid now (inr is) none = ap (λ (f : Files). f other) is ∙ by (bytes_eq gone other) refl
+  where
+    by : (b : Bool) → bytes_eq gone other ≡ b → deleted gone mid other ≡ None
+    by true e = subst (λ p. deleted gone mid p ≡ None) ((bytes_decides gone other).0 e) (at_same gone None mid)
+    by false e = at_other gone None mid other e ∙ none
+
+-- ---- why
+
+-- one more call
+first_cause : {Excused Missing : Status → Type 0} {before mid now : ℕ} (first result : Result (Unit {0}) Status) → ((e : Status) → Missing e → Excused e)
+    → HasFirstCause Excused before mid first → HasCause Missing mid now result → HasFirstCause Excused before now (result_and first result)
+first_cause (Ok x) (Ok y) excused so_far cause = record { later = omega (arith, so_far.later, cause.later); ok = cause.ok ∙ so_far.ok; cause = tt }
+first_cause {before = before} {mid = mid} {now = now} (Ok x) (Err e) excused so_far cause = record {
+  later = omega (arith, so_far.later, cause.later);
+  ok = tt;
+  cause = ⊎_elim (λ missing. inl (excused e missing))
+      (λ counted. ⊎_elim (λ (one : now ≡ mid + 1). let same = so_far.ok in inr (inl (omega (arith, one, same))))
+      (λ (most : (mid ≡ 2 ^ 64 - 1) × (now ≡ mid)). inr (inr (sym so_far.ok ∙ most.0, most.1 ∙ so_far.ok))) counted) cause.cause;
+}
+first_cause {before = before} {mid = mid} {now = now} (Err e) result excused so_far cause = record {
+  later = omega (arith, so_far.later, cause.later);
+  ok = tt;
+  cause = ⊎_elim (λ it. inl it)
+      (λ counted. ⊎_elim (λ (rose : before < mid). let later = cause.later in inr (inl (omega (arith, rose, later))))
+      (λ (most : (before ≡ 2 ^ 64 - 1) × (mid ≡ before)). ⊎_elim
+      (λ (rose : before < now). inr (inl rose))
+      (λ (stays : now ≤ before). let later = cause.later in let at_most = most.1 in inr (inr (most.0, omega (arith, stays, later, at_most))))
+      (cases_lt before now)) counted) so_far.cause;
+}
+
+and_ok : (first result : Result (Unit {0}) Status) → result ≡ Ok tt → result_and first result ≡ first
+and_ok (Ok x) result is = is
+and_ok (Err e) result is = refl
+
+-- ---- one name after the other
+
+module _ {E F : Type 0} (env : Ghosts E F) (set : VersionSetValue) (from : E) where
+  pub no_names : RemovesNames env set from [] (Ok tt) from
+  no_names = record {
+    run = λ modelled. begun (env.observed from) (none_removed set (env.observed from).disk.files (env.observed from).disk.files refl);
+    all = λ modelled name c. absurd (in_none name c);
+    locks = λ modelled. refl;
+    cause = record { later = omega arith; ok = refl; cause = tt };
+  }
+
+  module _ (done : List (List ℕ)) (first : Result (Unit {0}) Status) (mid : E) (so_far : RemovesNames env set from done first mid) (name : List ℕ)
+      (there : IsTrue env.models_disk → (env.observed mid).disk.files (in_folder set.store name) ≢ None) (result : Result (Unit {0}) Status) (to : E) where
+    abbrev name_path : List ℕ
+    name_path = in_folder set.store name
+
+    all_then : (first' result' : Result (Unit {0}) Status) → OnOk first' (IsTrue env.models_disk → (other : List ℕ) → Contains done other → IsObsoleteName set other → (env.observed mid).disk.files (in_folder set.store other) ≡ None)
+        → (IsTrue env.models_disk → ChangesFiles env.models_disk (deleted name_path) (BeforeOrAfter (deleted name_path)) (env.observed mid) (env.observed to) result')
+        → OnOk (result_and first' result') (IsTrue env.models_disk → (other : List ℕ) → Contains (done ++ name ∷ []) other → IsObsoleteName set other → (env.observed to).disk.files (in_folder set.store other) ≡ None)
+    all_then (Err e) result' before does = tt
+    all_then (Ok x) (Err e) before does = tt
+    all_then (Ok x) (Ok y) before does = λ modelled other c obsolete. ⊎_elim
+        (λ (earlier : Contains done other). gone_stays name_path (in_folder set.store other) (env.observed mid).disk.files (env.observed to).disk.files ((does modelled).now modelled) (before modelled other earlier obsolete))
+        (λ (same : name ≡ other). subst (λ z. (env.observed to).disk.files (in_folder set.store z) ≡ None) same
+        (ap (λ (f : Files). f name_path) ((does modelled).ok modelled) ∙ at_same name_path None (env.observed mid).disk.files))
+        (Contains-push_cases done name other c)
+
+    deleted_one : IsObsoleteName set name → DeletesFile env mid name_path result to → RemovesNames env set from (done ++ name ∷ []) (result_and first result) to
+    deleted_one obsolete it = record {
+      run = λ modelled. call modelled (so_far.run modelled)
+          (λ files passes. one_more_removed set (env.observed from).disk.files (env.observed mid).disk.files files name obsolete (so_far.run modelled).has passes) (it.does modelled);
+      all = all_then first result so_far.all it.does;
+      locks = λ modelled. it.locks modelled ∙ so_far.locks modelled;
+      cause = first_cause first result
+          (λ e missing. ⊎_elim (λ memory. inl memory) (λ (gone : (e.code ≡ NotFound) × (IsTrue env.models_disk → (env.observed mid).disk.files name_path ≡ None)). inr (gone.0, λ modelled. there modelled (gone.1 modelled))) missing)
+          so_far.cause it.cause;
+    }
+
+    skipped_one : (first' : Result (Unit {0}) Status) → (IsObsoleteName set name → ⊥) → RemovesNames env set from done first' mid → RemovesNames env set from (done ++ name ∷ []) first' mid
+    skipped_one (Err e) wanted before = record { run = before.run; all = tt; locks = before.locks; cause = before.cause }
+    skipped_one (Ok x) wanted before = record {
+      run = before.run;
+      all = λ modelled other c obsolete. ⊎_elim
+          (λ (earlier : Contains done other). before.all modelled other earlier obsolete)
+          (λ (same : name ≡ other). absurd (wanted (subst (IsObsoleteName set) (sym same) obsolete)))
+          (Contains-push_cases done name other c);
+      locks = before.locks;
+      cause = before.cause;
+    }
+
+    -- one more name
+    pub one_more_name : RemovesName env set mid name result to → RemovesNames env set from (done ++ name ∷ []) (result_and first result) to
+    one_more_name removes = ⊎_elim
+        (λ (it : IsObsoleteName set name × DeletesFile env mid name_path result to). deleted_one it.0 it.1)
+        (λ (skip : (IsObsoleteName set name → ⊥) × (result ≡ Ok tt) × (to ≡ mid)).
+        subst (λ r. RemovesNames env set from (done ++ name ∷ []) r to) (sym (and_ok first result skip.1))
+        (subst (RemovesNames env set from (done ++ name ∷ []) first) (sym skip.2) (skipped_one first skip.0 so_far))) removes
+
+    -- which leaves the others alone
+    pub others_left : RemovesName env set mid name result to → (other : List ℕ) → bytes_eq name other ≡ false → IsTrue env.models_disk
+        → (env.observed to).disk.files (in_folder set.store other) ≡ (env.observed mid).disk.files (in_folder set.store other)
+    others_left removes other apart modelled = ⊎_elim
+        (λ (it : IsObsoleteName set name × DeletesFile env mid name_path result to).
+        SameBut-deleted name_path (env.observed mid).disk.files (env.observed to).disk.files ((it.1.does modelled).now modelled) (in_folder set.store other)
+        (bytes_eq-apart name_path (in_folder set.store other) (λ same. let same_name' = same_name set.store name other same in
+        let wrong : true ≡ false = sym ((bytes_decides name other).1 same_name') ∙ apart in cc)))
+        (λ (skip : (IsObsoleteName set name → ⊥) × (result ≡ Ok tt) × (to ≡ mid)). ap (λ e. (env.observed e).disk.files (in_folder set.store other)) skip.2) removes
+
+-- ---- a list of names
+
+-- the next item, in what is done and in what is left
+next_item : {A B : Type 0} (f : A → B) (items : List A) (i : ℕ) (item : A) → i < length items → item ≡ get_or items i item
+    → (take (i + 1) (map f items) ≡ take i (map f items) ++ f item ∷ []) × (drop i (map f items) ≡ f item ∷ drop (i + 1) (map f items))
+next_item f [] i item within is = absurd (omega (arith, within))
+next_item f (first ∷ items) zero item within is = (ap (λ x. f x ∷ []) (sym is), ap (λ x. f x ∷ map f items) (sym is))
+next_item f (first ∷ items) (suc i) item within is =
+    let rest = next_item f items i item (omega (arith, within)) is in
+    let more : suc i + 1 ≡ suc (i + 1) = omega arith in
+    (ap (λ n. take n (map f (first ∷ items))) more ∙ ap (λ xs. f first ∷ xs) rest.0, rest.1 ∙ sym (ap (λ n. f item ∷ drop n (map f (first ∷ items))) more))
+
+distinct_rest : (i : ℕ) (names : List (List ℕ)) → IsDistinct bytes_eq names → IsDistinct bytes_eq (drop i names)
+distinct_rest zero names distinct = distinct
+distinct_rest (suc i) [] distinct = distinct
+distinct_rest (suc i) (first ∷ names) distinct = distinct_rest i names (IsDistinct-tail bytes_eq first names distinct)
+
+in_rest_of : (i : ℕ) (names : List (List ℕ)) (name : List ℕ) → Contains (drop i names) name → Contains names name
+in_rest_of zero names name c = c
+in_rest_of (suc i) [] name c = c
+in_rest_of (suc i) (first ∷ names) name c = in_rest first name names (in_rest_of i names name c)
+
+module _ {E F : Type 0} (env : Ghosts E F) (set : VersionSetValue) (from : E) where
+  -- the files of the names after the first ones are as they were
+  abbrev RestThere : List (List ℕ) → ℕ → E → Type 0
+  RestThere names i at = IsTrue env.models_disk → (name : List ℕ) → Contains (drop i names) name
+      → (env.observed at).disk.files (in_folder set.store name) ≡ (env.observed from).disk.files (in_folder set.store name)
+
+  pub names_step : {A : Type 0} (f : A → List ℕ) (items : List A) (i : ℕ) (item : A) → i < length items → item ≡ get_or items i item
+      → (IsTrue env.models_disk → ListsChildren (env.observed from).disk.files set.store (map f items)) → (first : Result (Unit {0}) Status) (mid : E)
+      → RemovesNames env set from (take i (map f items)) first mid → RestThere (map f items) i mid
+      → (name : List ℕ) → name ≡ f item → (result : Result (Unit {0}) Status) (to : E) → RemovesName env set mid name result to → (both : Result (Unit {0}) Status) → both ≡ result_and first result
+      → RemovesNames env set from (take (i + 1) (map f items)) both to × RestThere (map f items) (i + 1) to
+  names_step f items i item within is listed first mid so_far rest name named result to removes both both_is =
+      let next = next_item f items i item within is in
+      let names = map f items in
+      let it : RemovesName env set mid (f item) result to = subst (λ z. RemovesName env set mid z result to) named removes in
+      let here : Contains (drop i names) (f item) = subst (λ xs. Contains xs (f item)) (sym next.1) (in_front (f item) (drop (i + 1) names)) in
+      let there : IsTrue env.models_disk → (env.observed mid).disk.files (in_folder set.store (f item)) ≢ None = λ modelled none.
+      let wrong : false ≡ true = subst (λ o. IsSome o) (sym (rest modelled (f item) here) ∙ none) (((listed modelled).each (f item)).0 (in_rest_of i names (f item) here)).1 in cc in
+      let apart : IsTrue env.models_disk → (other : List ℕ) → Contains (drop (i + 1) names) other → bytes_eq (f item) other ≡ false = λ modelled other c.
+      All-contains (λ y. bytes_eq (f item) y ≡ false) (drop (i + 1) names) other
+      (All-from_recursion (λ y. bytes_eq (f item) y ≡ false) (drop (i + 1) names)
+      (IsDistinct-head bytes_eq (f item) (drop (i + 1) names) (subst (IsDistinct bytes_eq) next.1 (distinct_rest i names (listed modelled).once)))) c in (
+        subst (λ r. RemovesNames env set from (take (i + 1) names) r to) (sym both_is)
+            (subst (λ xs. RemovesNames env set from xs (result_and first result) to) (sym next.0)
+            (one_more_name env set from (take i names) first mid so_far (f item) there result to it)),
+        λ modelled other c.
+            others_left env set from (take i names) first mid so_far (f item) there result to it other (apart modelled other c) modelled
+            ∙ rest modelled other (subst (λ xs. Contains xs other) (sym next.1) (in_rest (f item) other (drop (i + 1) names) c)),
+      )
+
+-- ---- the whole call
+
+-- where nothing changed before, files were removed alone from the start on
+pub removing_after : (set : VersionSetValue) (from mid to : Observed) → Run (FilesUnchanged from.disk.files) from mid → Run (AreRemoved set mid.disk.files) mid to → Run (AreRemoved set from.disk.files) from to
+removing_after set from mid to listing removing = Run-trans (Run-mono (λ files same. none_removed set from.disk.files files same) listing)
+    (λ files removed. subst (λ f. AreRemoved set f files) listing.has removed) removing
+
+module _ {E F : Type 0} (env : Ghosts E F) (set : VersionSetValue) (from : E) where
+  module _ (usable : set.manifest ≢ broken) (mid : E) (listing : IsTrue env.models_disk → Run (FilesUnchanged (env.observed from).disk.files) (env.observed from) (env.observed mid)) (counted : env.failures mid ≡ env.failures from)
+      (names : List (List ℕ)) (listed : IsTrue env.models_disk → ListsChildren (env.observed from).disk.files set.store names) (result : Result (Unit {0}) Status) (to : E)
+      (removes : RemovesNames env set mid names result to) where
+    abbrev first_files : Files
+    first_files = (env.observed from).disk.files
+
+    removing : IsTrue env.models_disk → Run (AreRemoved set first_files) (env.observed from) (env.observed to)
+    removing modelled = removing_after set (env.observed from) (env.observed mid) (env.observed to) (listing modelled) (removes.run modelled)
+
+    gone_at : IsTrue env.models_disk → (path : List ℕ) → first_files path ≡ None → (env.observed to).disk.files path ≡ None
+    gone_at modelled path none = ⊎_elim (λ stays. stays ∙ none) (λ removed. removed.1) (removes_no_other set first_files (env.observed to).disk.files (removing modelled).has path)
+
+    all_gone : (result' : Result (Unit {0}) Status) → OnOk result' (IsTrue env.models_disk → (name : List ℕ) → Contains names name → IsObsoleteName set name → (env.observed to).disk.files (in_folder set.store name) ≡ None)
+        → OnOk result' (IsTrue env.models_disk → (path : List ℕ) → IsObsoletePath set path → (env.observed to).disk.files path ≡ None)
+    all_gone (Err e) each = tt
+    all_gone (Ok x) each = λ modelled path obsolete.
+        subst (λ p. (env.observed to).disk.files p ≡ None) (sym obsolete.2) (by modelled obsolete.0 obsolete.1 (first_files (in_folder set.store obsolete.0)) refl)
+      where
+        by : IsTrue env.models_disk → (name : List ℕ) → IsObsoleteName set name → (file : Option File) → first_files (in_folder set.store name) ≡ file → (env.observed to).disk.files (in_folder set.store name) ≡ None
+        by modelled name obsolete None none = gone_at modelled (in_folder set.store name) none
+        by modelled name obsolete (Some file) some = each modelled name
+            (((listed modelled).each name).1 (name_unslashed name obsolete.0 obsolete.1 obsolete.2, subst (λ o. IsSome o) (sym some) refl)) obsolete
+
+    pub RemovesObsolete-after : SameLocks env.models_disk (env.observed from) (env.observed mid) → RemovesObsolete env set from result to
+    RemovesObsolete-after locks = record {
+      others = λ modelled. removes_no_other set first_files (env.observed to).disk.files (removing modelled).has;
+      all = λ again. all_gone result removes.all;
+      broken_keeps = λ is. absurd (usable is);
+      locks = λ modelled. removes.locks modelled ∙ locks modelled;
+      cause = widened result (subst (λ n. HasFirstCause (λ status. IsOutOfMemory status ⊎ ((status.code ≡ NotFound) × (IsTrue env.models_disk → ⊥))) n (env.failures to) result) counted removes.cause);
+    }
+      where
+        widened : {before now : ℕ} (result' : Result (Unit {0}) Status) → HasFirstCause (λ status. IsOutOfMemory status ⊎ ((status.code ≡ NotFound) × (IsTrue env.models_disk → ⊥))) before now result'
+            → HasFirstCause (IsEmptyFolder env.models_disk set.store (env.observed from)) before now result'
+        widened (Ok x) cause = record { later = cause.later; ok = cause.ok; cause = tt }
+        widened (Err e) cause = record {
+          later = cause.later;
+          ok = tt;
+          cause = ⊎_elim (λ excused. inl (⊎_elim (λ memory. inl memory)
+              (λ (missing : (e.code ≡ NotFound) × (IsTrue env.models_disk → ⊥)). inr (missing.0, λ modelled. absurd (missing.1 modelled))) excused)) (λ counted'. inr counted') cause.cause;
+        }

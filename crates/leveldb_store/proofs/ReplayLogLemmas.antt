@@ -1,0 +1,559 @@
+-- What each step of a replay makes of what was replayed before it, and why it fails.
+use Rattle.std.specs.Prelude.{◌↔◌, All, AllPairs, Contains, IfErr, IfOk, IfSome, IsErrAnd, IsTrue, OnOk, flat_map, max}
+use Rattle.std.proofs.Common.{◌≡◌, ◌≢◌, ◌∙◌, ◌⊎◌, inl, inr, ⊎_elim, ℕ, zero, suc, ◌+◌, ◌-◌, ◌<◌, ◌≤◌, ◌^◌, List, [], ◌∷◌, ◌++◌, Option, None, Result, Ok, Err, Some, ap, append-nil, arith, length, map, refl, subst, sym}
+use Rattle.std.proofs.lemmas.List.{map_push}
+use Rattle.std.proofs.lemmas.List.Elements.{All-push, Contains-append_cases, Contains-append_left, Contains-append_right, Contains-push_cases}
+use Rattle.std.proofs.lemmas.List.Kept.{AllPairs-cons}
+use Rattle.std.proofs.lemmas.List.Concat.{flat_map-append}
+use Rattle.std.specs.Global.{Vec}
+use Rattle.std.specs.declared.cmp.Ordering.{Ordering}
+use Rattle.leveldb_base.proofs.HistoryLemmas.{in_front, in_none, in_rest}
+use Rattle.leveldb_base.proofs.NamesLemmas.{made_paths_apart}
+use Rattle.leveldb_base.specs.Entries.{internal_pair}
+use Rattle.leveldb_base.specs.Error.{IsOutOfMemory}
+use Rattle.leveldb_base.specs.History.{AreUpTo, Entry, Item, greatest, placed}
+use Rattle.leveldb_base.specs.KeyTypes.{greatest_sequence, user_part}
+use Rattle.leveldb_base.specs.Types.{Pair}
+use Rattle.leveldb_base.specs.declared.cmp.Cmp.{Ghosts as CmpGhosts}
+use Rattle.leveldb_base.specs.declared.error.Status.{Status}
+use Rattle.leveldb_base.specs.declared.error.StatusCode.TheVariants.{Corruption, NotSupported}
+use Rattle.leveldb_base.specs.declared.types.FileMetaData.{FileMetaData}
+use Rattle.leveldb_base.specs.declared.types.FileType.TheVariants.{Table}
+use Rattle.leveldb_env.specs.Compressor.{Coding, Decodes, decoded_under}
+use Rattle.leveldb_env.specs.Env.{Files, kept_file}
+use Rattle.leveldb_env.specs.declared.env.Env.{Ghosts}
+use Rattle.leveldb_env.specs.declared.filter.FilterPolicy.{Ghosts as FilterGhosts}
+use Rattle.leveldb_mem.proofs.EntryLemmas.{all_fit, none_fit, placed_from}
+use Rattle.leveldb_mem.specs.MemTable.{IsUnion, MemTableState}
+use Rattle.leveldb_mem.specs.WriteBatch.{Batch, IsBatch}
+use Rattle.leveldb_mem.specs.WriteBatchLaws.{BatchOf-one}
+use Rattle.leveldb_version.proofs.LogsLemmas.{all_append, order_append}
+use Rattle.leveldb_version.proofs.ManagedLemmas.{same_bytes, table_on}
+use Rattle.leveldb_version.proofs.NumbersLemmas.{greatest_append, up_to, up_to_greatest}
+use Rattle.leveldb_version.proofs.OneStoreLemmas.{flat_in, in_flat}
+use Rattle.leveldb_version.proofs.StoreTablesLemmas.{held_tables_by_more}
+use Rattle.leveldb_version.specs.Batches.{AreInOrder, Each, IsRecordOf, all_entries, batch_entries}
+use Rattle.leveldb_version.specs.Levels.{LiveTable, table_entries}
+use Rattle.leveldb_version.specs.Opening.{IsMadeBefore}
+use Rattle.leveldb_version.specs.Paths.{table_path}
+use Rattle.leveldb_version.specs.Store.{HasTable, IsInternalPair, IsStoreTable}
+use Rattle.leveldb_version.specs.StoreSteps.{IsKept}
+use Rattle.leveldb_version.specs.VersionEdit.{NewFile, new_file_of}
+use Rattle.leveldb_version.specs.VersionSetValue.{AreFileNumbersUsedUp, VersionSetValue, with_number_given}
+use Rattle.leveldb_store.specs.BuildTable.{IsTableFile, MakesTable, TableChoices}
+use Rattle.leveldb_store.specs.Format.{Agrees, Format, Meaning}
+use Rattle.leveldb_store.specs.Opening.{AreMadeTables, GivesNumbers, IsMadeTable, SameButTables}
+use Rattle.leveldb_store.specs.ReplayLog.{AddsBatch, FailsToTable, Follows, HasReplayed, IsNoNextBatch, IsNotFull, MakesRestTable, MakesTablesOnly, TablesRest, TakesRecord, table_files}
+use Rattle.leveldb_store.specs.Written.{IsTableOf}
+use Rattle.leveldb_store.specs.declared.opening.replay_log.ReplayedLog.{ReplayedLog}
+use Rattle.leveldb_store.proofs.ReplayFilesLemmas.{GivesNumbers-refl, GivesNumbers-trans, MakesTablesOnly-made, MakesTablesOnly-none, same_store}
+
+-- ---- lists
+
+pub AllPairs-push : {X : Type 0} (R : X → X → Type 0) (xs : List X) (y : X) → AllPairs R xs
+    → ((x : X) → Contains xs x → R x y) → AllPairs R (xs ++ y ∷ [])
+AllPairs-push R [] y pairs all = λ i j d less within. absurd (omega (arith, less, within))
+AllPairs-push R (x ∷ xs) y pairs all =
+    AllPairs-cons R x (xs ++ y ∷ [])
+    (All-push (R x) xs y (λ k d within. pairs zero (suc k) d (omega arith) (omega (arith, within)))
+    (all x (in_front x xs)))
+    (AllPairs-push R xs y
+    (λ i j d less within. pairs (suc i) (suc j) d (omega (arith, less)) (omega (arith, within)))
+    (λ z c. all z (in_rest x z xs c)))
+
+-- ---- the numbers of a batch
+
+-- an error for a batch that doesn't follow
+pub corrupt : (P : Type 0) (result : Result (Unit {0}) Status)
+    → IsErrAnd result (λ status. status.code ≡ Corruption) → (P → ⊥)
+    → IfErr result (λ status. (status.code ≡ Corruption) × (P → ⊥))
+corrupt P (Ok value) code never = tt
+corrupt P (Err status) code never = (code, never)
+
+pub fits_all : (first : ℕ) (items : List Item) → first ≤ greatest_sequence
+    → first + length items ≤ greatest_sequence + 1
+    → greatest (placed first items) ≤ greatest_sequence
+fits_all first items least fits =
+    let below = all_fit first items (omega (arith, least, fits)) in omega (arith, below)
+
+pub fits_not : (first : ℕ) (items : List Item) → first ≤ greatest_sequence
+    → greatest_sequence + 1 < first + length items
+    → greatest (placed first items) ≤ greatest_sequence → ⊥
+fits_not first items least more all =
+    let above = none_fit first items (omega (arith, least, more)) in omega (arith, above, all)
+
+greatest_placed : (first : ℕ) (item : Item) (items : List Item)
+    → greatest (placed first (item ∷ items)) ≡ first + length items
+greatest_placed first item [] = omega arith
+greatest_placed first item (next ∷ items) =
+    let rest = greatest_placed (first + 1) next items in omega (arith, rest)
+
+last_of_some : (low first : ℕ) (items : List Item) → low < first → 0 < length items
+    → first + (length items - 1) ≡ max low (greatest (placed first items))
+last_of_some low first [] above some = absurd (omega (arith, some))
+last_of_some low first (item ∷ items) above some =
+    let is = greatest_placed first item items in omega (arith, is, above)
+
+last_of_none : (low first : ℕ) (items : List Item) → length items ≤ 0
+    → low ≡ max low (greatest (placed first items))
+last_of_none low first [] none = omega arith
+last_of_none low first (item ∷ items) none = absurd (omega (arith, none))
+
+-- ---- a batch is added
+
+module _ {C : Type 0} (old : ReplayedLog C) (batch : Batch) (rest : MemTableState C)
+    (mid : List Entry) (first : ℕ) (follows : Follows old.last batch) (is_first : first ≡ batch.first)
+    (same : mid ≡ old.rest.kept.entries)
+    (gains : IsUnion mid (placed first batch.items) rest.kept.entries)
+    (cmp : rest.cmp ≡ old.rest.cmp) where
+  gained : IsUnion old.rest.kept.entries (batch_entries batch) rest.kept.entries
+  gained = subst (λ es. IsUnion es (batch_entries batch) rest.kept.entries) same
+      (subst (λ n. IsUnion mid (placed n batch.items) rest.kept.entries) is_first gains)
+
+  pub AddsBatch-some : (last : ℕ) → 0 < length batch.items
+      → last ≡ batch.first + (length batch.items - 1)
+      → AddsBatch old batch (record old { rest = rest; last = last })
+  AddsBatch-some last some is = record {
+    gains = gained;
+    last = is ∙ last_of_some old.last batch.first batch.items follows.above some;
+    rest = refl;
+    cmp = cmp;
+  }
+
+  pub AddsBatch-none : length batch.items ≤ 0 → AddsBatch old batch (record old { rest = rest })
+  AddsBatch-none none = record {
+    gains = gained;
+    last = last_of_none old.last batch.first batch.items none;
+    rest = refl;
+    cmp = cmp;
+  }
+
+-- ---- batches
+
+all_more : (batches : List Batch) (batch : Batch)
+    → all_entries (batches ++ batch ∷ []) ≡ all_entries batches ++ batch_entries batch
+all_more batches batch = all_append batches (batch ∷ [])
+    ∙ ap (λ es. all_entries batches ++ es) (append-nil (batch_entries batch))
+
+tables_more : (tables : List LiveTable) (table : LiveTable)
+    → table_entries (tables ++ table ∷ []) ≡ table_entries tables ++ table.entries
+tables_more tables table = flat_map-append (λ (t : LiveTable). t.entries) tables (table ∷ [])
+    ∙ ap (λ es. table_entries tables ++ es) (append-nil table.entries)
+
+-- a table that was made stays, since those that are made then have other numbers
+IsMadeTable-stays : (cmp : List ℕ → List ℕ → Ordering) (meaning : Meaning) (store : List ℕ)
+    (set now : VersionSetValue) (before after : Files) (table : LiveTable) → set.store ≡ store
+    → now.next_file ≤ set.next_file + 1 → set.next_file < 2 ^ 64
+    → table.file.number < set.next_file → SameButTables set now before after
+    → IsMadeTable cmp meaning store before table → IsMadeTable cmp meaning store after table
+IsMadeTable-stays cmp meaning store set now before after table is_store few fits below same made =
+    let path = table_path store table.file.number in
+    let still : after path ≡ before path = same path
+    (λ n least most is.
+    let number : table.file.number ≡ n =
+    (made_paths_apart store table.file.number n Table Table (omega (arith, below, fits))
+    (omega (arith, most, few, fits))
+    (is ∙ ap (λ s. table_path s n) is_store)).0 in
+    omega (arith, number, below, least)) in (
+      table_on store cmp (IsTableOf cmp meaning) before after table
+          (same_bytes (before path) (after path) still) made.0,
+      made.1,
+      subst IsKept (sym still) made.2,
+      made.3,
+    )
+
+module _ {E F : Type 0} (env : Ghosts E F) (format : Format) {C : Type 0} where
+  -- nothing is replayed yet
+  pub HasReplayed-none : (set : VersionSetValue) (last : ℕ) (log : ReplayedLog C) (at : E)
+      → log.tables.items ≡ [] → log.rest.kept.entries ≡ [] → log.last ≡ last
+      → HasReplayed env format set last [] log set at
+  HasReplayed-none set last log at no_tables none is = record {
+    in_order = tt;
+    last_is = omega (arith, is);
+    numbers = GivesNumbers-refl set;
+    tables = [];
+    files_are = sym (ap (map (λ (file : FileMetaData). new_file_of (0, file))) no_tables);
+    made_tables = λ modelled meaning agrees. record {
+      each = λ table c. absurd (in_none table c);
+      numbers = λ table c. absurd (in_none table c);
+      rising = λ i j d less within. absurd (omega (arith, within));
+    };
+    entries = λ entry. (
+      λ c. subst (λ es. Contains es entry) none c,
+      λ c. absurd (in_none entry c),
+    );
+    newer = λ a b c d. absurd (in_none a c);
+  }
+
+  -- no entry is past the last number
+  pub replayed_up_to : {first set : VersionSetValue} {last : ℕ} {batches : List Batch}
+      {log : ReplayedLog C} {at : E} → HasReplayed env format first last batches log set at
+      → AreUpTo log.last log.rest.kept.entries
+  replayed_up_to {batches = batches} {log = log} was entry c =
+      let there = (was.entries entry).0
+      (Contains-append_right (table_entries was.tables) log.rest.kept.entries entry c) in
+      let most = up_to_greatest (all_entries batches) entry there in
+      let is = was.last_is in omega (arith, most, is)
+
+  -- one batch more
+  pub HasReplayed-added : {first set : VersionSetValue} {last : ℕ} {batches : List Batch}
+      {old new : ReplayedLog C} {at : E} → HasReplayed env format first last batches old set at
+      → (batch : Batch) → Follows old.last batch → AddsBatch old batch new
+      → HasReplayed env format first last (batches ++ batch ∷ []) new set at
+  HasReplayed-added {first} {set} {last} {batches} {old} {new} {at} was batch follows adds = record {
+    in_order = order_append last old.last batches (batch ∷ []) (omega (arith, was.last_is))
+        (omega (arith, was.last_is)) was.in_order
+        (follows.above, follows.first_fits, follows.all_fit, tt);
+    last_is =
+        let both = greatest_append (all_entries batches) (batch_entries batch) in
+        let more = ap greatest (all_more batches batch) in
+        omega (arith, adds.last, was.last_is, both, more);
+    numbers = was.numbers;
+    tables = was.tables;
+    files_are = was.files_are ∙ sym (ap (λ (log : ReplayedLog C). table_files log) adds.rest);
+    made_tables = was.made_tables;
+    entries = λ entry. (
+      λ c. subst (λ es. Contains es entry) (sym (all_more batches batch)) (⊎_elim
+          (λ (tabled : Contains (table_entries was.tables) entry).
+          Contains-append_left (all_entries batches) (batch_entries batch) entry
+          ((was.entries entry).0
+          (Contains-append_left (table_entries was.tables) old.rest.kept.entries entry tabled)))
+          (λ (rest : Contains new.rest.kept.entries entry). ⊎_elim
+          (λ (before : Contains old.rest.kept.entries entry).
+          Contains-append_left (all_entries batches) (batch_entries batch) entry
+          ((was.entries entry).0
+          (Contains-append_right (table_entries was.tables) old.rest.kept.entries entry before)))
+          (λ (come : Contains (batch_entries batch) entry).
+          Contains-append_right (all_entries batches) (batch_entries batch) entry come)
+          (Contains-append_cases old.rest.kept.entries (batch_entries batch) entry
+          ((adds.gains entry).0 rest)))
+          (Contains-append_cases (table_entries was.tables) new.rest.kept.entries entry c)),
+      λ c. ⊎_elim
+          (λ (before : Contains (all_entries batches) entry). ⊎_elim
+          (λ (tabled : Contains (table_entries was.tables) entry).
+          Contains-append_left (table_entries was.tables) new.rest.kept.entries entry tabled)
+          (λ (rest : Contains old.rest.kept.entries entry).
+          Contains-append_right (table_entries was.tables) new.rest.kept.entries entry
+          ((adds.gains entry).1
+          (Contains-append_left old.rest.kept.entries (batch_entries batch) entry rest)))
+          (Contains-append_cases (table_entries was.tables) old.rest.kept.entries entry
+          ((was.entries entry).1 before)))
+          (λ (come : Contains (batch_entries batch) entry).
+          Contains-append_right (table_entries was.tables) new.rest.kept.entries entry
+          ((adds.gains entry).1
+          (Contains-append_right old.rest.kept.entries (batch_entries batch) entry come)))
+          (Contains-append_cases (all_entries batches) (batch_entries batch) entry
+          (subst (λ es. Contains es entry) (all_more batches batch) c)),
+    );
+    newer = λ a b c d. ⊎_elim
+        (λ (before : Contains old.rest.kept.entries b). was.newer a b c before)
+        (λ (come : Contains (batch_entries batch) b).
+        let there = (was.entries a).0
+        (Contains-append_left (table_entries was.tables) old.rest.kept.entries a c) in
+        let most = up_to_greatest (all_entries batches) a there in
+        let least = placed_from batch.first batch.items b come in
+        let is = was.last_is in let above = follows.above in
+        omega (arith, most, least, is, above))
+        (Contains-append_cases old.rest.kept.entries (batch_entries batch) b ((adds.gains b).0 d));
+  }
+
+  -- ---- a table is made
+
+  pub HasReplayed-tabled : {first set now : VersionSetValue} {last : ℕ} {batches : List Batch}
+      {old new : ReplayedLog C} {at to : E} → HasReplayed env format first last batches old set at
+      → MakesTablesOnly env set at now to → TablesRest env format old set new now to
+      → HasReplayed env format first last batches new now to
+  HasReplayed-tabled {first} {set} {now} {last} {batches} {old} {new} {at} {to} was spares made = record {
+    in_order = was.in_order;
+    last_is = ap (λ (log : ReplayedLog C). log.last) made.rest ∙ was.last_is;
+    numbers = GivesNumbers-trans was.numbers spares.numbers;
+    tables = was.tables ++ made.table ∷ [];
+    files_are = map_push (λ (table : LiveTable). table.file) was.tables made.table
+        ∙ ap (λ (files : List NewFile). files ++ made.table.file ∷ []) was.files_are ∙ sym made.files;
+    made_tables = λ modelled meaning agrees.
+        let before = was.made_tables modelled meaning agrees in
+        let store_is = same_store was.numbers in
+        let next : now.next_file ≡ set.next_file + 1 =
+        ap (λ (v : VersionSetValue). v.next_file) made.given in
+        let this : IsMadeTable format.order meaning first.store (env.observed to).disk.files
+        made.table = subst (λ s. IsMadeTable format.order meaning s (env.observed to).disk.files
+        made.table) store_is (made.made modelled meaning agrees) in
+        let fits : set.next_file < 2 ^ 64 =
+        (let is = made.number in let most = this.3.number in omega (arith, is, most)) in
+        record {
+          each = λ table c. ⊎_elim
+              (λ (earlier : Contains was.tables table).
+              IsMadeTable-stays format.order meaning first.store set now
+              (env.observed at).disk.files (env.observed to).disk.files table store_is
+              (omega (arith, next)) fits (before.numbers table earlier).1 (spares.run modelled).has
+              (before.each table earlier))
+              (λ (e : made.table ≡ table). subst
+              (IsMadeTable format.order meaning first.store (env.observed to).disk.files) e this)
+              (Contains-push_cases was.tables made.table table c);
+          numbers = λ table c. ⊎_elim
+              (λ (earlier : Contains was.tables table).
+              let n = before.numbers table earlier in
+              (n.0, omega (arith, n.1, next)))
+              (λ (e : made.table ≡ table).
+              let number : table.file.number ≡ set.next_file =
+              sym (ap (λ (t : LiveTable). t.file.number) e) ∙ made.number in
+              let rises = was.numbers.rises in
+              (omega (arith, number, rises), omega (arith, number, next)))
+              (Contains-push_cases was.tables made.table table c);
+          rising = AllPairs-push IsMadeBefore was.tables made.table before.rising
+              (λ table c. record {
+                number = let n = before.numbers table c in let is = made.number in
+                    omega (arith, n.1, is);
+                older = λ a b in_a in_b same. was.newer a b
+                    (flat_in (λ (t : LiveTable). t.entries) was.tables table a c in_a)
+                    (subst (λ es. Contains es b) made.entries in_b);
+              });
+        };
+    entries = subst
+        (λ es. (entry : Entry) → Contains es entry ↔ Contains (all_entries batches) entry)
+        (sym (ap (λ es. table_entries (was.tables ++ made.table ∷ []) ++ es) made.none_left
+        ∙ append-nil (table_entries (was.tables ++ made.table ∷ []))
+        ∙ tables_more was.tables made.table
+        ∙ ap (λ es. table_entries was.tables ++ es) made.entries))
+        was.entries;
+    newer = λ a b c d. absurd (in_none b (subst (λ es. Contains es b) made.none_left d));
+  }
+
+-- ---- a table of the entries in memory
+
+-- what the compressors of a format decode, those of the files do
+decodes_more : (format : Format) (meaning : Meaning) → Agrees format meaning → (id : ℕ)
+    (stored text : List ℕ) → Decodes format.codings id stored text
+    → Decodes meaning.codings id stored text
+decodes_more format meaning agrees id stored text decodes = by (format.codings id) refl decodes
+  where
+    by : (o : Option Coding) → format.codings id ≡ o → decoded_under o stored ≡ Some text
+        → Decodes meaning.codings id stored text
+    by None e d = absurd (let never : None ≡ Some text = d in cc)
+    by (Some coding) e d = subst (λ o. decoded_under o stored ≡ Some text)
+        (sym (agrees.codings id coding e)) d
+
+module _ {E F D FP C : Type 0} (env : Ghosts E F) {order : CmpGhosts D} {filters : FilterGhosts FP}
+    (choices : TableChoices order filters) (old : ReplayedLog C) (set : VersionSetValue) where
+  abbrev pairs : List Pair
+  pairs = map internal_pair old.rest.kept.entries
+
+  -- the numbers of files are used up
+  pub MakesRestTable-unnumbered : (at : E) (status : Status) → AreFileNumbersUsedUp set.next_file status
+      → (new : ReplayedLog C) → MakesRestTable env choices old set at (Err status) new set at
+  MakesRestTable-unnumbered at status used new = record {
+    spares = MakesTablesOnly-none env set at;
+    ok = tt;
+    cause = record {
+      later = omega arith;
+      ok = tt;
+      uncounted = λ excused. refl;
+      cause = inl (inr (inl used.code, refl));
+    };
+  }
+
+  module _ (fits : set.next_file + 1 < 2 ^ 64) {from to : E} (store : List ℕ) (number : ℕ)
+      (is_store : store ≡ set.store) (is_number : number ≡ set.next_file) where
+    made_only : {result : Result FileMetaData Status}
+        → MakesTable choices pairs env (λ status. ⊥) store number from result to
+        → MakesTablesOnly env set from (with_number_given set) to
+    made_only {result} makes =
+        let here : MakesTable choices pairs env (λ status. ⊥) set.store set.next_file from result to =
+        subst (λ s. MakesTable choices pairs env (λ status. ⊥) s set.next_file from result to) is_store
+        (subst (λ n. MakesTable choices pairs env (λ status. ⊥) store n from result to) is_number
+        makes) in
+        MakesTablesOnly-made env set fits here.run here.bytes here.locks
+
+    -- no table was built, or the device failed
+    pub MakesRestTable-unbuilt : (status : Status)
+        → MakesTable choices pairs env (λ status. ⊥) store number from (Err status) to
+        → (new : ReplayedLog C)
+        → MakesRestTable env choices old set from (Err status) new (with_number_given set) to
+    MakesRestTable-unbuilt status makes new = record {
+      spares = made_only makes;
+      ok = tt;
+      cause = record {
+        later = makes.cause.later;
+        ok = tt;
+        uncounted = λ excused. ⊎_elim (λ (memory : IsOutOfMemory status).
+            makes.cause.uncounted (inl memory)) (λ other. other.1) excused;
+        cause = ⊎_elim
+            (λ excused. ⊎_elim (λ (memory : IsOutOfMemory status). inl (inl memory))
+            (λ other. inl (inr (
+              inr (old.rest.kept.entries, ⊎_elim (λ not. not) (λ never. absurd never) other.0),
+              ap env.failures other.1,
+            ))) excused)
+            (λ counted. inr counted) makes.cause.cause;
+      };
+    }
+
+    -- there was no memory for one file more in the list
+    pub MakesRestTable-unlisted : (file : FileMetaData) (status : Status)
+        → MakesTable choices pairs env (λ status. ⊥) store number from (Ok file) to
+        → IsOutOfMemory status → (new : ReplayedLog C)
+        → MakesRestTable env choices old set from (Err status) new (with_number_given set) to
+    MakesRestTable-unlisted file status makes memory new = record {
+      spares = made_only makes;
+      ok = tt;
+      cause = record {
+        later = makes.cause.later;
+        ok = tt;
+        uncounted = λ excused. makes.cause.ok;
+        cause = inl (inl memory);
+      };
+    }
+
+    -- the table is there
+    module _ (file : FileMetaData)
+        (makes : MakesTable choices pairs env (λ status. ⊥) store number from (Ok file) to)
+        (some : old.rest.kept.entries ≢ [])
+        (each : Each IsInternalPair pairs old.rest.kept.entries) where
+      some_pairs : pairs ≢ []
+      some_pairs = by old.rest.kept.entries some
+        where
+          by : (entries : List Entry) → entries ≢ [] → map internal_pair entries ≢ []
+          by [] some is = some refl
+          by (entry ∷ entries) some is = cc
+
+      abbrev table : LiveTable
+      table = record { file = new_file_of (0, file); entries = old.rest.kept.entries }
+
+      is_made : IsTrue env.models_disk → (meaning : Meaning) → Agrees choices.format meaning
+          → IsMadeTable choices.format.order meaning store (env.observed to).disk.files table
+      is_made modelled meaning agrees =
+          let held = makes.has some_pairs modelled meaning.filters 0 old.rest.kept.entries
+          (subst
+          (λ known. IfSome known (λ found. found ≡ (λ key. choices.format.matches (user_part key))))
+          (sym agrees.filters) refl) each in (
+            held_tables_by_more (Decodes choices.format.codings) (Decodes meaning.codings)
+                (decodes_more choices.format meaning agrees) store choices.format.order
+                meaning.filters (env.observed to).disk.files table held,
+            refl,
+            subst IsKept (sym ((makes.made some_pairs).kept modelled)) refl,
+            makes.fits 0,
+          )
+
+      pub MakesRestTable-done : (tables : Vec FileMetaData) (rest : MemTableState C)
+          → tables.items ≡ old.tables.items ++ file ∷ [] → rest.kept.entries ≡ []
+          → rest.cmp ≡ old.rest.cmp
+          → MakesRestTable env choices old set from (Ok tt)
+          (record old { tables = tables; rest = rest }) (with_number_given set) to
+      MakesRestTable-done tables rest items none cmp = record {
+        spares = made_only makes;
+        ok = record {
+          table = table;
+          number = makes.number_is.0 ∙ is_number;
+          given = refl;
+          made = λ modelled meaning agrees. subst (λ s. IsMadeTable choices.format.order meaning s
+              (env.observed to).disk.files table) is_store (is_made modelled meaning agrees);
+          entries = refl;
+          files = ap (map (λ (f : FileMetaData). new_file_of (0, f))) items
+              ∙ map_push (λ (f : FileMetaData). new_file_of (0, f)) old.tables.items file;
+          none_left = none;
+          rest = refl;
+          cmp = cmp;
+        };
+        cause = record { later = makes.cause.later; ok = makes.cause.ok; uncounted = tt; cause = tt };
+      }
+
+-- ---- a record is taken
+
+pub none_of_length : (entries : List Entry) → length entries ≤ 0 → entries ≡ []
+none_of_length [] none = refl
+none_of_length (entry ∷ entries) none = absurd (omega (arith, none))
+
+-- a record that is no batch, or one that doesn't follow, isn't the next
+pub no_next_batch : (last : ℕ) (text : List ℕ) → (IsBatch text → ⊥) → IsNoNextBatch last text
+no_next_batch last text never batch is follows = never (batch, is)
+
+pub no_following_batch : (last : ℕ) (text : List ℕ) (batch : Batch) → IsRecordOf text batch
+    → (Follows last batch → ⊥) → IsNoNextBatch last text
+no_following_batch last text batch is never other other_is follows =
+    let same = BatchOf-one text other.first batch.first other.items batch.items other_is is in
+    let here : other ≡ batch = λ i. record { first = same.0 i; items = same.1 i } in
+    never (subst (Follows last) here follows)
+
+module _ {E F D FP C : Type 0} (env : Ghosts E F) {order : CmpGhosts D} {filters : FilterGhosts FP}
+    (choices : TableChoices order filters) (limit : ℕ) (text : List ℕ) (old : ReplayedLog C)
+    (set : VersionSetValue) where
+  -- before a table is made
+  pub TakesRecord-refused : (at : E) (status : Status)
+      → IsOutOfMemory status ⊎ (FailsToTable choices status
+      ⊎ ((status.code ≡ Corruption) × IsNoNextBatch old.last text)) → (new : ReplayedLog C)
+      → TakesRecord env choices limit text old set at (Err status) new set at
+  TakesRecord-refused at status why new = record {
+    spares = MakesTablesOnly-none env set at;
+    ok = tt;
+    room = tt;
+    cmp = tt;
+    size = tt;
+    bad = tt;
+    cause = record {
+      later = omega arith;
+      ok = tt;
+      uncounted = λ excused. refl;
+      cause = inl (⊎_elim (λ memory. inl memory) (λ other. inr (other, refl)) why);
+    };
+  }
+
+  module _ (batch : Batch) (is : IsRecordOf text batch) (follows : Follows old.last batch)
+      (mid : ReplayedLog C) (adds : AddsBatch old batch mid) where
+    -- no table is made
+    pub TakesRecord-added : (at : E) → IsNotFull limit mid
+        → TakesRecord env choices limit text old set at (Ok tt) mid set at
+    TakesRecord-added at room = record {
+      spares = MakesTablesOnly-none env set at;
+      ok = λ first last batches was.
+          (batch, is, HasReplayed-added env choices.format was batch follows adds);
+      room = room;
+      cmp = adds.cmp;
+      size = ap (λ (log : ReplayedLog C). log.size) adds.rest;
+      bad = ap (λ (log : ReplayedLog C). log.is_clean) adds.rest;
+      cause = record { later = omega arith; ok = refl; uncounted = tt; cause = tt };
+    }
+
+    -- one is made, or an error comes of it
+    pub TakesRecord-tabled : {from to : E} {new : ReplayedLog C} {now : VersionSetValue}
+        (result : Result (Unit {0}) Status)
+        → MakesRestTable env choices mid set from result new now to
+        → TakesRecord env choices limit text old set from result new now to
+    TakesRecord-tabled {new = new} (Ok done) makes = record {
+      spares = makes.spares;
+      ok = λ first last batches was. (
+        batch,
+        is,
+        HasReplayed-tabled env choices.format
+            (HasReplayed-added env choices.format was batch follows adds) makes.spares makes.ok,
+      );
+      room = inl makes.ok.none_left;
+      cmp = makes.ok.cmp ∙ adds.cmp;
+      size = ap (λ (log : ReplayedLog C). log.size) makes.ok.rest
+          ∙ ap (λ (log : ReplayedLog C). log.size) adds.rest;
+      bad = ap (λ (log : ReplayedLog C). log.is_clean) makes.ok.rest
+          ∙ ap (λ (log : ReplayedLog C). log.is_clean) adds.rest;
+      cause = record {
+        later = makes.cause.later;
+        ok = makes.cause.ok;
+        uncounted = tt;
+        cause = tt;
+      };
+    }
+    TakesRecord-tabled (Err status) makes = record {
+      spares = makes.spares;
+      ok = tt;
+      room = tt;
+      cmp = tt;
+      size = tt;
+      bad = tt;
+      cause = record {
+        later = makes.cause.later;
+        ok = tt;
+        uncounted = λ excused. ⊎_elim
+            (λ (memory : IsOutOfMemory status). makes.cause.uncounted (inl memory))
+            (λ other. other.1) excused;
+        cause = ⊎_elim
+            (λ excused. inl (⊎_elim (λ (memory : IsOutOfMemory status). inl memory)
+            (λ other. inr (inl other.0, other.1)) excused))
+            (λ counted. inr counted) makes.cause.cause;
+      };
+    }

@@ -1,0 +1,433 @@
+-- What a switch of the log makes of an open store, and that the store is written on.
+use Rattle.std.proofs.Common.{◌≡◌, ◌∙◌, ◌∷◌, ◌++◌, ◌+◌, ◌-◌, ◌^◌, ◌<◌, ◌%◌, inl, inr, ⊎_elim, ℕ, Bool, true, false, List, [], None, Some, Ok, Err, Result, ap, append-nil, arith, drop, get_or, length, length-append, refl, subst, sym}
+use Rattle.std.specs.Prelude.{◌≢◌, All, Contains, IsTrue, codes, slice_index_or}
+use Rattle.std.specs.Cmp.Lexicographic.{bytes_decides}
+use Rattle.std.specs.Str.{bytes_eq}
+use Rattle.std.specs.declared.cmp.Ordering.{Ordering}
+use Rattle.std.proofs.lemmas.List.{append_cancel_left}
+use Rattle.std.proofs.lemmas.List.Elements.{All-contains_itself}
+use Rattle.leveldb_base.proofs.HistoryLemmas.{in_none}
+use Rattle.leveldb_base.proofs.EntriesLemmas.{map_in}
+use Rattle.leveldb_base.proofs.NamesLemmas.{made_name, made_paths_apart}
+use Rattle.leveldb_base.specs.Error.{IsOutOfMemory}
+use Rattle.leveldb_base.specs.History.{Entry, History, SameView, entries_of, greatest}
+use Rattle.leveldb_base.specs.Layers.{IsOlder}
+use Rattle.leveldb_base.specs.Names.{file_name, six_digits}
+use Rattle.leveldb_base.specs.Types.{Pair}
+use Rattle.leveldb_base.specs.declared.error.Status.{Status}
+use Rattle.leveldb_base.specs.declared.types.FileType.TheVariants.{Log, Table}
+use Rattle.leveldb_env.proofs.EnvLemmas.{Run-call, Run-mono, SameBut-emptied, SameBut-synced, at_same, begun, bytes_eq-apart, call, cause_same, synced-same}
+use Rattle.leveldb_env.specs.Env.{BeforeOrAfter, ChangesFiles, File, Files, HasCause, Observed, Run, SameBut, SameLocks, bytes_of, emptied, file_kept, kept_file, synced}
+use Rattle.leveldb_env.specs.declared.env.Env.{Ghosts}
+use Rattle.leveldb_mem.specs.Log.{log_block_size}
+use Rattle.leveldb_mem.specs.Log.Writer.{IsWriterBroken, WriterState, broken_writer, new_writer}
+use Rattle.leveldb_version.proofs.KeepsLemmas.{sync_keeps}
+use Rattle.leveldb_version.proofs.LogKeepsLemmas.{keeps_then}
+use Rattle.leveldb_version.proofs.SafeLemmas.{some_is}
+use Rattle.leveldb_version.proofs.ShownLemmas.{same_memory_shows}
+use Rattle.leveldb_version.proofs.SwitchLogLemmas.{new_log_written}
+use Rattle.leveldb_version.proofs.WrittenLemmas.{written_given, written_synced}
+use Rattle.leveldb_version.specs.Contents.{Store}
+use Rattle.leveldb_version.specs.Levels.{LiveTable, table_entries}
+use Rattle.leveldb_version.specs.Paths.{log_path, table_path}
+use Rattle.leveldb_version.specs.Store.{HasTable, SameEntries}
+use Rattle.leveldb_version.specs.StoreSteps.{IsKept, KeepsHistory}
+use Rattle.leveldb_version.specs.VersionEdit.{Edit, NewFile}
+use Rattle.leveldb_version.specs.VersionSetValue.{AreFileNumbersUsedUp, VersionSetValue, with_number_given}
+use Rattle.leveldb_version.specs.Writing.{EngineMemory, IsWrittenBy, ShowsHistory, switched_memory}
+use Rattle.leveldb_version.specs.WritingLaws.{NewLogIsWritten}
+use Rattle.leveldb_store.specs.Format.{Meaning}
+use Rattle.leveldb_store.specs.OpenStore.{OpenLogValue, OpenStoreValue}
+use Rattle.leveldb_store.specs.Switch.{MayGiveNumber, SwitchesLog}
+use Rattle.leveldb_store.specs.Write.{StaysOrBreaks, SyncsLog, open_log_path, with_writer}
+use Rattle.leveldb_store.specs.Written.{HasLiveTables, IsDataPath, IsTableOf, IsWritten, KeepsStore, Shows, SparesRest, memory_of, waiting_entries}
+
+-- ---- names
+
+-- two texts with these extensions are apart
+ends_apart : (these those : List ℕ) → these ++ codes ".log" ≡ those ++ codes ".ldb" → ⊥
+ends_apart [] [] e = let third = ap (λ z. get_or z 2 0) e in omega (arith, third)
+ends_apart [] (b ∷ those) e = let long = ap length e in omega (arith, long, length-append those (codes ".ldb"))
+ends_apart (a ∷ these) [] e = let long = ap length e in omega (arith, long, length-append these (codes ".log"))
+ends_apart (a ∷ these) (b ∷ those) e = ends_apart these those (ap (drop 1) e)
+
+-- a log's path is no table's, whatever their numbers are
+pub log_is_no_table : (store : List ℕ) (n k : ℕ) → bytes_eq (log_path store n) (table_path store k) ≡ false
+log_is_no_table store n k = bytes_eq-apart (log_path store n) (table_path store k)
+    (λ e. ends_apart (six_digits n) (six_digits k) (ap (drop 1) (append_cancel_left store (codes "/" ++ file_name Log n) (codes "/" ++ file_name Table k) e)))
+
+-- logs of two numbers have two paths
+pub logs_apart : (store : List ℕ) (n k : ℕ) → n < 2 ^ 64 → k < 2 ^ 64 → n ≢ k → bytes_eq (log_path store n) (log_path store k) ≡ false
+logs_apart store n k fits other_fits differ = bytes_eq-apart (log_path store n) (log_path store k)
+    (λ e. differ (made_paths_apart store n k Log Log fits other_fits e).0)
+
+-- a change of a log changes nothing but data
+pub others_stay : (store : List ℕ) (n : ℕ) → n < 2 ^ 64 → (before after : Files) → SameBut (log_path store n) before after → (path : List ℕ) → (IsDataPath store path → ⊥) → after path ≡ before path
+others_stay store n fits before after same path other = by (bytes_eq (log_path store n) path) refl
+  where
+    by : (b : Bool) → bytes_eq (log_path store n) path ≡ b → after path ≡ before path
+    by true e = absurd (other (Log, tt, (file_name Log n, n, made_name Log n fits, sym ((bytes_decides (log_path store n) path).0 e))))
+    by false e = same path e
+
+-- and no table
+pub tables_same : (store : List ℕ) (n : ℕ) (before after : Files) → SameBut (log_path store n) before after → (k : ℕ) → after (table_path store k) ≡ before (table_path store k)
+tables_same store n before after same k = same (table_path store k) (log_is_no_table store n k)
+
+-- ---- what is shown
+
+same_entries : (these those : List Entry) → these ≡ those → SameEntries these those
+same_entries these those e = λ entry. (subst (λ es. Contains es entry) e, subst (λ es. Contains es entry) (sym e))
+
+-- where none waited, what was recent may wait
+waits_shown : (cmp : List ℕ → List ℕ → Ordering) (before after : EngineMemory) (tables : List LiveTable) (history : History) (from : ℕ) → before.waiting ≡ [] → after.recent ≡ [] → after.waiting ≡ before.recent
+    → ShowsHistory cmp before tables history from → ShowsHistory cmp after tables history from
+waits_shown cmp before after tables history from none empty waits s = record {
+  same = λ t late. subst (λ es. SameView es (entries_of history) t) (sym all) (s.same t late);
+  up_to = λ entry c. s.up_to entry (subst (λ es. Contains es entry) all c);
+  waiting_older = λ a b in_a in_b same_key. absurd (in_none b (subst (λ es. Contains es b) empty in_b));
+  tables_older = subst (IsOlder (table_entries tables)) (sym memory) s.tables_older;
+  levels = s.levels;
+}
+  where
+    all : after.recent ++ (after.waiting ++ table_entries tables) ≡ before.recent ++ (before.waiting ++ table_entries tables)
+    all = ap (λ es. es ++ (after.waiting ++ table_entries tables)) empty ∙ ap (λ es. es ++ table_entries tables) waits ∙ ap (λ es. before.recent ++ (es ++ table_entries tables)) (sym none)
+
+    memory : after.recent ++ after.waiting ≡ before.recent ++ before.waiting
+    memory = ap (λ es. es ++ after.waiting) empty ∙ waits ∙ sym (append-nil before.recent) ∙ ap (λ es. before.recent ++ es) (sym none)
+
+module _ (cmp : List ℕ → List ℕ → Ordering) (meaning : Meaning) where
+  abbrev IsTable : List ℕ → List Pair → Type 0
+  IsTable = IsTableOf cmp meaning
+
+  abbrev pub Keeps : (Store → Type 0) → List ℕ → ℕ → Files → Files → Type 0
+  Keeps allowed store = KeepsHistory store cmp IsTable allowed
+
+  pub keeps_same : (allowed : Store → Type 0) (store : List ℕ) (bound : ℕ) (files now : Files) → now ≡ files → Keeps allowed store bound files now
+  keeps_same allowed store bound files now same = subst (Keeps allowed store bound files) (sym same) (record { now = λ history c. c; crash = λ durable history s. s })
+
+  table_stays : (store : List ℕ) (before after : Files) (table : LiveTable) → after (table_path store table.file.number) ≡ before (table_path store table.file.number)
+      → HasTable store cmp IsTable before table → HasTable store cmp IsTable after table
+  table_stays store before after table same has = record {
+    file = has.file;
+    there = same ∙ has.there;
+    pairs = has.pairs;
+    read = has.read;
+    each = has.each;
+    size = has.size;
+    smallest = has.smallest;
+    largest = has.largest;
+  }
+
+module _ {C : Type 0} (cmp : List ℕ → List ℕ → Ordering) (meaning : Meaning) where
+  -- the set has the same files, whose tables stay
+  tables_stay : (old new : OpenStoreValue C) (before after : Files) (tables : List LiveTable) → new.set.store ≡ old.set.store → new.set.full ≡ old.set.full
+      → ((file : NewFile) → Contains old.set.full.added file → after (table_path old.set.store file.number) ≡ before (table_path old.set.store file.number))
+      → HasLiveTables cmp meaning old before tables → HasLiveTables cmp meaning new after tables
+  tables_stay old new before after tables same_store same_full same has = record {
+    files_are = has.files_are ∙ sym (ap (λ (e : Edit). e.added) same_full);
+    each = subst (λ s. All (HasTable s cmp (IsTableOf cmp meaning) after) tables) (sym same_store)
+        (λ k d here.
+        let table = slice_index_or tables k d in
+        let live : Contains old.set.full.added table.file = subst (λ files. Contains files table.file) has.files_are (map_in (λ (t : LiveTable). t.file) tables table (All-contains_itself tables k d here)) in
+        table_stays cmp meaning old.set.store before after table (same table.file live) (has.each k d here));
+  }
+
+  -- what was shown is shown by the same memory where the tables stay
+  pub shows_stay : (old new : OpenStoreValue C) (before after : Files) (history : History) → new.set.store ≡ old.set.store → new.set.full ≡ old.set.full
+      → new.recent.entries ≡ old.recent.entries → waiting_entries new.waiting ≡ waiting_entries old.waiting
+      → ((file : NewFile) → Contains old.set.full.added file → after (table_path old.set.store file.number) ≡ before (table_path old.set.store file.number))
+      → Shows cmp meaning old before history → Shows cmp meaning new after history
+  shows_stay old new before after history same_store same_full recent waiting same s = record {
+    tables = s.tables;
+    has = tables_stay old new before after s.tables same_store same_full same s.has;
+    shows = same_memory_shows cmp (memory_of old) (memory_of new) s.tables history (greatest (entries_of history))
+        (same_entries old.recent.entries new.recent.entries (sym recent)) (same_entries (waiting_entries old.waiting) (waiting_entries new.waiting) (sym waiting)) s.shows;
+  }
+
+  -- ---- what is written
+
+  -- the files are written with these, where the writer is at the log's end
+  pub written_as : (value : OpenStoreValue C) (files : Files) (edits : List Edit) → IsWrittenBy value.set.store cmp (IsTableOf cmp meaning) files edits (memory_of value) → (file : File)
+      → files (open_log_path value) ≡ Some file → value.log.writer ≡ new_writer log_block_size (length (bytes_of file) % log_block_size) → IsWritten cmp meaning value files
+  written_as value files edits by file there writer = record {
+    edits = edits;
+    by = by;
+    writer = writer ∙ ap (λ (f : File). new_writer log_block_size (length (bytes_of f) % log_block_size))
+        (some_is file by.writable.log.file (sym there ∙ subst (λ n. files (log_path value.set.store n) ≡ Some by.writable.log.file) by.log_is by.writable.log.there));
+  }
+
+  module _ (allowed : Store → Type 0) where
+    module _ (old : OpenStoreValue C) where
+      -- the store with the next number given
+      abbrev pub given : OpenStoreValue C
+      given = record old { set = with_number_given old.set }
+
+      abbrev store : List ℕ
+      store = old.set.store
+
+      abbrev path : List ℕ
+      path = open_log_path old
+
+      abbrev next_path : List ℕ
+      next_path = log_path store old.set.next_file
+
+      -- the value after a switch
+      pub record IsSwitched (new : OpenStoreValue C) : Type 0 where
+        pub set : new.set ≡ with_number_given old.set
+        pub log : new.log ≡ record { number = old.set.next_file; writer = new_writer log_block_size 0 }
+        pub recent : new.recent.entries ≡ []
+        pub waiting : new.waiting ≡ Some old.recent
+
+      module _ (from : Observed) (w : IsWritten cmp meaning old from.disk.files) where
+        abbrev first : Files
+        first = from.disk.files
+
+        abbrev log_file : File
+        log_file = w.by.writable.log.file
+
+        fits : old.log.number < 2 ^ 64
+        fits = subst (λ n. n < 2 ^ 64) w.by.log_is w.by.writable.log.fits
+
+        there : first path ≡ Some log_file
+        there = subst (λ n. first (log_path store n) ≡ Some log_file) w.by.log_is w.by.writable.log.there
+
+        less : old.log.number < old.set.next_file
+        less = w.by.tracked.numbers (file_name Log old.log.number) old.log.number Log (made_name Log old.log.number fits) (λ gone. let never : Some log_file ≡ None = sym there ∙ gone in cc)
+
+        -- ---- no call
+
+        written_given_there : IsWritten cmp meaning given first
+        written_given_there = written_as given first w.edits (written_given store cmp (IsTableOf cmp meaning) first w.edits (memory_of old) w.by) log_file there w.writer
+
+        pub keeps_given : KeepsStore cmp meaning allowed old from given from
+        keeps_given = record {
+          moments = λ bound reached. begun from (keeps_same cmp meaning allowed store bound first first refl);
+          written = λ unbroken. written_given_there;
+          shows = λ history s. shows_stay old given first first history refl refl refl refl (λ file live. refl) s;
+        }
+
+        -- ---- the log is synced
+
+        sync_passes : (bound : ℕ) (files : Files) → BeforeOrAfter (synced path) first files → Keeps cmp meaning allowed store bound first files
+        sync_passes bound files (inl same) = keeps_same cmp meaning allowed store bound first files same
+        sync_passes bound files (inr is) = subst (Keeps cmp meaning allowed store bound first) (sym is) (sync_keeps store cmp (IsTableOf cmp meaning) allowed path first (λ file here. w.by.tracked.bytes path file here) bound)
+
+        module _ {models_disk : Bool} (modelled : IsTrue models_disk) where
+          sync_run : {mid : Observed} {result : Result (Unit {0}) Status} → ChangesFiles models_disk (synced path) (BeforeOrAfter (synced path)) from mid result
+              → (bound : ℕ) → Run (Keeps cmp meaning allowed store bound first) from mid
+          sync_run does bound = Run-mono (sync_passes bound) (Run-call modelled does)
+
+          -- a sync that failed
+          pub keeps_unsynced : (to : Observed) (status : Status) → ChangesFiles {T = Unit {0}} models_disk (synced path) (BeforeOrAfter (synced path)) from to (Err status) → to.disk.files ≡ first
+              → (writer : WriterState) → (writer.broken ≡ false → writer ≡ old.log.writer) → KeepsStore cmp meaning allowed old from (with_writer given writer) to
+          keeps_unsynced to status does undone writer usable = record {
+            moments = λ bound reached. sync_run does bound;
+            written = λ unbroken. subst (IsWritten cmp meaning (with_writer given writer)) (sym undone)
+                (subst (λ it. IsWritten cmp meaning (with_writer given it) first) (sym (usable unbroken.log)) written_given_there);
+            shows = λ history s. shows_stay old (with_writer given writer) first to.disk.files history refl refl refl refl (λ file live. ap (λ (f : Files). f (table_path store file.number)) undone) s;
+          }
+
+          -- ---- and a log is made
+
+          module _ (mid to : Observed) (syncing : ChangesFiles {T = Unit {0}} models_disk (synced path) (BeforeOrAfter (synced path)) from mid (Ok tt)) {T : Type 0} (result : Result T Status)
+              (opening : ChangesFiles models_disk (emptied next_path) (BeforeOrAfter (emptied next_path)) mid to result) (more : old.set.next_file + 1 < 2 ^ 64) where
+            abbrev second : Files
+            second = mid.disk.files
+
+            synced_is : second ≡ synced path first
+            synced_is = syncing.ok modelled
+
+            written_second : IsWrittenBy store cmp (IsTableOf cmp meaning) second w.edits (memory_of old)
+            written_second = subst (λ f. IsWrittenBy store cmp (IsTableOf cmp meaning) f w.edits (memory_of old)) (sym synced_is) (written_synced store cmp (IsTableOf cmp meaning) first w.edits (memory_of old) w.by)
+
+            made : (files : Files) → BeforeOrAfter (emptied next_path) second files → NewLogIsWritten store cmp (IsTableOf cmp meaning) allowed second w.edits (memory_of old) files
+            made files passes = new_log_written store cmp (IsTableOf cmp meaning) second w.edits (memory_of old) written_second more files passes allowed
+
+            run : (bound : ℕ) → Run (Keeps cmp meaning allowed store bound first) from to
+            run bound = call modelled (sync_run syncing bound)
+                (λ files passes. keeps_then store cmp (IsTableOf cmp meaning) allowed bound first second files (sync_run syncing bound).has ((made files passes).keeps bound)) opening
+
+            kept_second : second path ≡ Some (file_kept log_file)
+            kept_second = ap (λ (f : Files). f path) synced_is ∙ synced-same path first log_file there
+
+            tables_then : (file : NewFile) → to.disk.files (table_path store file.number) ≡ first (table_path store file.number)
+            tables_then file = tables_same store old.set.next_file second to.disk.files (SameBut-emptied next_path second to.disk.files (opening.now modelled)) file.number
+                ∙ tables_same store old.log.number first second (SameBut-synced path first second (syncing.now modelled)) file.number
+
+            -- the log's file wasn't made
+            pub keeps_unmade : KeepsStore cmp meaning allowed old from given to
+            keeps_unmade = record {
+              moments = λ bound reached. run bound;
+              written = λ unbroken. written_as given to.disk.files w.edits (made to.disk.files (opening.now modelled)).stays (file_kept log_file)
+                  (SameBut-emptied next_path second to.disk.files (opening.now modelled) path (logs_apart store old.set.next_file old.log.number (omega (arith, more)) fits (λ same. omega (arith, same, less))) ∙ kept_second)
+                  (w.writer ∙ ap (λ (b : List ℕ). new_writer log_block_size (length b % log_block_size)) (sym (append-nil (bytes_of log_file))));
+              shows = λ history s. shows_stay old given first to.disk.files history refl refl refl refl (λ file live. tables_then file) s;
+            }
+
+            -- the log was switched
+            pub keeps_switched : (new : OpenStoreValue C) → IsSwitched new → old.waiting ≡ None → to.disk.files ≡ emptied next_path second → KeepsStore cmp meaning allowed old from new to
+            keeps_switched new switched none made_is = record {
+              moments = λ bound reached. run bound;
+              written = λ unbroken. written_as new to.disk.files w.edits (subst (λ (m : EngineMemory). IsWrittenBy m.set.store cmp (IsTableOf cmp meaning) to.disk.files w.edits m) memory_is by_new) (kept_file [])
+                  (ap to.disk.files path_is ∙ new_there) (ap (λ (l : OpenLogValue). l.writer) switched.log);
+              shows = λ history s. record {
+                tables = s.tables;
+                has = tables_stay old new first to.disk.files s.tables (ap (λ (v : VersionSetValue). v.store) switched.set) (ap (λ (v : VersionSetValue). v.full) switched.set) (λ file live. tables_then file) s.has;
+                shows = waits_shown cmp (memory_of old) (memory_of new) s.tables history (greatest (entries_of history)) none_wait switched.recent (ap waiting_entries switched.waiting) s.shows;
+              };
+            }
+              where
+                none_wait : waiting_entries old.waiting ≡ []
+                none_wait = ap waiting_entries none
+
+                new_there : to.disk.files next_path ≡ Some (kept_file [])
+                new_there = ap (λ (f : Files). f next_path) made_is ∙ at_same next_path (Some (kept_file [])) second
+
+                by_new : IsWrittenBy store cmp (IsTableOf cmp meaning) to.disk.files w.edits (switched_memory (memory_of old))
+                by_new = (made to.disk.files (opening.now modelled)).switches new_there (subst IsKept (sym kept_second) refl) none_wait
+
+                memory_is : switched_memory (memory_of old) ≡ memory_of new
+                memory_is = λ i. record {
+                  set = sym switched.set i;
+                  log = sym (ap (λ (l : OpenLogValue). l.number) switched.log) i;
+                  recent = sym switched.recent i;
+                  waiting = sym (ap waiting_entries switched.waiting) i;
+                }
+
+                path_is : open_log_path new ≡ next_path
+                path_is = λ i. log_path ((switched.set i).store) ((switched.log i).number)
+
+-- ---- what the call changes
+
+module _ {E F C : Type 0} (env : Ghosts E F) (old : OpenStoreValue C) (from : E) where
+  -- ---- a sync
+
+  -- a fact of each value that a sync may leave
+  stays_or_breaks : (P : OpenStoreValue C → Type 0) → ((writer : WriterState) → P (with_writer old writer)) → (new : OpenStoreValue C) (to : E) (status : Status) → StaysOrBreaks env old from new to status → P new
+  stays_or_breaks P all new to status = ⊎_elim
+      (λ (stays : IsOutOfMemory status × (new ≡ old) × (to ≡ from)). subst P (sym stays.1) (all old.log.writer))
+      (λ (breaks : new ≡ with_writer old (broken_writer old.log.writer)). subst P (sym breaks) (all (broken_writer old.log.writer)))
+
+  left_by_sync : (P : OpenStoreValue C → Type 0) → ((writer : WriterState) → P (with_writer old writer)) → (result : Result (Unit {0}) Status) (new : OpenStoreValue C) (to : E) → SyncsLog env old from result new to → P new
+  left_by_sync P all (Ok value) new to sync = subst P (sym sync.ok) (all old.log.writer)
+  left_by_sync P all (Err status) new to sync = stays_or_breaks P all new to status sync.err
+
+  -- a sync changes nothing but the log
+  pub sync_spares : old.log.number < 2 ^ 64 → (result : Result (Unit {0}) Status) (new : OpenStoreValue C) (to : E) → SyncsLog env old from result new to → SparesRest env.models_disk old (env.observed from) new (env.observed to)
+  sync_spares fits result new to sync = record {
+    store = left_by_sync (λ (v : OpenStoreValue C). v.set.store ≡ old.set.store) (λ writer. refl) result new to sync;
+    cmp = left_by_sync (λ (v : OpenStoreValue C). v.cmp ≡ old.cmp) (λ writer. refl) result new to sync;
+    last = left_by_sync (λ (v : OpenStoreValue C). v.set.last_sequence ≡ old.set.last_sequence) (λ writer. refl) result new to sync;
+    files = λ modelled. others_stay old.set.store old.log.number fits (env.observed from).disk.files (env.observed to).disk.files
+        (SameBut-synced (open_log_path old) (env.observed from).disk.files (env.observed to).disk.files ((sync.does modelled).now modelled));
+    locks = sync.locks;
+  }
+
+-- ---- what a switch changes
+
+module _ {E F C : Type 0} (env : Ghosts E F) (old : OpenStoreValue C) (from : E) (more : old.set.next_file + 1 < 2 ^ 64) where
+  abbrev next : OpenStoreValue C
+  next = record old { set = with_number_given old.set }
+
+  -- what spares the rest after a number was given spares it before
+  abbrev pub spares_before : {models_disk : Bool} {at : Observed} {new : OpenStoreValue C} {to : Observed} → SparesRest models_disk next at new to → SparesRest models_disk old at new to
+  spares_before rest = record { store = rest.store; cmp = rest.cmp; last = rest.last; files = rest.files; locks = rest.locks }
+
+  number_left : (status : Status) → AreFileNumbersUsedUp old.set.next_file status → ⊥
+  number_left status up = let last = up.last in omega (arith, last, more)
+
+  -- a sync that failed
+  pub unsynced : (new : OpenStoreValue C) (to : E) (status : Status) → SyncsLog env next from (Err status) new to → SparesRest env.models_disk next (env.observed from) new (env.observed to) → SwitchesLog env old from (Err status) new to
+  unsynced new to status sync rest = record {
+    number = tt;
+    waits = tt;
+    empty = tt;
+    err = stays_or_breaks env next from (λ (v : OpenStoreValue C). MayGiveNumber old.set v.set × (v.log.number ≡ old.log.number) × (v.recent ≡ old.recent) × (v.waiting ≡ old.waiting)) (λ writer. (inr refl, refl, refl, refl)) new to status sync.err;
+    rest = spares_before rest;
+    cause = cause_same (Err status) (λ e lost. inr lost) (λ e fails. ⊎_elim (λ up. absurd (number_left e up)) (λ lost. lost) fails) sync.cause;
+  }
+
+  module _ (mid : E) (sync : SyncsLog env next from (Ok tt) next mid) (rest : SparesRest env.models_disk next (env.observed from) next (env.observed mid)) (to : E)
+      {T : Type 0} (result : Result T Status) (opening : ChangesFiles env.models_disk (emptied (log_path old.set.store old.set.next_file)) (BeforeOrAfter (emptied (log_path old.set.store old.set.next_file))) (env.observed mid) (env.observed to) result)
+      (locks : SameLocks env.models_disk (env.observed mid) (env.observed to)) where
+    spares : (new : OpenStoreValue C) → new.set ≡ with_number_given old.set → new.cmp ≡ old.cmp → SparesRest env.models_disk old (env.observed from) new (env.observed to)
+    spares new set same_cmp = record {
+      store = ap (λ (v : VersionSetValue). v.store) set;
+      cmp = same_cmp;
+      last = ap (λ (v : VersionSetValue). v.last_sequence) set;
+      files = λ modelled path other. others_stay old.set.store old.set.next_file (omega (arith, more)) (env.observed mid).disk.files (env.observed to).disk.files
+          (SameBut-emptied (log_path old.set.store old.set.next_file) (env.observed mid).disk.files (env.observed to).disk.files (opening.now modelled)) path other
+          ∙ rest.files modelled path other;
+      locks = λ modelled. locks modelled ∙ rest.locks modelled;
+    }
+
+    -- the log's file wasn't made
+    pub unmade : (status : Status) → HasCause {T = T} IsOutOfMemory (env.failures mid) (env.failures to) (Err status) → SwitchesLog env old from (Err status) next to
+    unmade status cause = record {
+      number = tt;
+      waits = tt;
+      empty = tt;
+      err = (inr refl, refl, refl, refl);
+      rest = spares next refl refl;
+      cause = record {
+        later = omega (arith, cause.later, sync.cause.ok);
+        ok = tt;
+        uncounted = λ fails. ⊎_elim (λ up. absurd (number_left status up))
+            (λ lost. ⊎_elim
+            (λ there. ⊎_elim (λ memory. cause.uncounted memory ∙ sync.cause.ok) (λ missing. missing.2) there)
+            (λ (broken : (old.log.writer.broken ≡ true) × IsWriterBroken status). let never : true ≡ false = sym broken.0 ∙ sync.usable in cc) lost) fails;
+        cause = ⊎_elim (λ memory. inl (inr (inl (inl memory))))
+            (λ counted. inr (⊎_elim (λ (one : env.failures to ≡ env.failures mid + 1). inl (one ∙ ap (λ n. n + 1) sync.cause.ok))
+            (λ (most : (env.failures mid ≡ 2 ^ 64 - 1) × (env.failures to ≡ env.failures mid)). inr (sym sync.cause.ok ∙ most.0, most.1 ∙ sync.cause.ok)) counted)) cause.cause;
+      };
+    }
+
+    -- the log was switched
+    pub switched : (new : OpenStoreValue C) → new.cmp ≡ old.cmp → new.set ≡ with_number_given old.set → new.log.number ≡ old.set.next_file → new.recent.entries ≡ [] → new.waiting ≡ Some old.recent
+        → env.failures to ≡ env.failures mid → SwitchesLog env old from (Ok tt) new to
+    switched new same_cmp set number empty waits counted = record {
+      number = (set, number);
+      waits = waits;
+      empty = empty;
+      err = tt;
+      rest = spares new set same_cmp;
+      cause = record { later = omega (arith, counted, sync.cause.ok); ok = counted ∙ sync.cause.ok; uncounted = tt; cause = tt };
+    }
+
+-- ---- that the store is written on
+
+module _ {E F C : Type 0} (env : Ghosts E F) (old : OpenStoreValue C) (from : E) (modelled : IsTrue env.models_disk) (cmp : List ℕ → List ℕ → Ordering) (meaning : Meaning) (allowed : Store → Type 0)
+    (w : IsWritten cmp meaning old (env.observed from).disk.files) where
+  abbrev first_next : OpenStoreValue C
+  first_next = record old { set = with_number_given old.set }
+
+  abbrev Kept : E → OpenStoreValue C → Type 0
+  Kept to new = KeepsStore cmp meaning allowed old (env.observed from) new (env.observed to)
+
+  -- after a sync that failed
+  pub unsynced_keeps : (new : OpenStoreValue C) (to : E) (status : Status) → SyncsLog env first_next from (Err status) new to → KeepsStore cmp meaning allowed old (env.observed from) new (env.observed to)
+  unsynced_keeps new to status sync = ⊎_elim
+      (λ (stays : IsOutOfMemory status × (new ≡ first_next) × (to ≡ from)). subst (Kept to) (sym stays.1) (keeps old.log.writer (λ usable. refl)))
+      (λ (breaks : new ≡ with_writer first_next (broken_writer old.log.writer)). subst (Kept to) (sym breaks) (keeps (broken_writer old.log.writer) (λ usable. let never : true ≡ false = usable in cc)))
+      sync.err
+    where
+      keeps : (writer : WriterState) → (writer.broken ≡ false → writer ≡ old.log.writer) → Kept to (with_writer first_next writer)
+      keeps writer usable = keeps_unsynced cmp meaning allowed old (env.observed from) w modelled (env.observed to) status (sync.does modelled) (sync.undone modelled) writer usable
+
+-- ---- facts of values after a call
+
+module _ {C : Type 0} where
+  -- the store with another set
+  abbrev pub with_set : OpenStoreValue C → VersionSetValue → OpenStoreValue C
+  with_set value set = record value { set = set }
+
+  pub after_giving : (before old : OpenStoreValue C) → before ≡ old → (set : VersionSetValue) → set ≡ with_number_given before.set → with_set before set ≡ with_set old (with_number_given old.set)
+  after_giving before old same set is = λ i. with_set (same i) ((is ∙ ap (λ (v : OpenStoreValue C). with_number_given v.set) same) i)
+
+module _ {E F C : Type 0} (env : Ghosts E F) (from : E) {before now new : OpenStoreValue C} (same : new ≡ before) (given : before ≡ now) (to : E) where
+  -- a sync that was made, said of the value after it
+  pub sync_made : SyncsLog env before from (Ok tt) new to → SyncsLog env now from (Ok tt) now to
+  sync_made sync = subst (λ v. SyncsLog env v from (Ok tt) v to) given (subst (λ v. SyncsLog env before from (Ok tt) v to) same sync)
+
+  pub spared_by_sync : SparesRest env.models_disk before (env.observed from) new (env.observed to) → SparesRest env.models_disk now (env.observed from) now (env.observed to)
+  spared_by_sync rest = subst (λ v. SparesRest env.models_disk v (env.observed from) v (env.observed to)) given (subst (λ v. SparesRest env.models_disk before (env.observed from) v (env.observed to)) same rest)

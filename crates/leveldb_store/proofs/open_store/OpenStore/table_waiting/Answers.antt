@@ -1,0 +1,73 @@
+use Rattle.std.proofs.Common.{◌≡◌, ◌≢◌, ◌∙◌, Bool, true, false, None, ap, sym}
+use Rattle.std.specs.Cmp.{IsTotalOrder}
+use Rattle.std.proofs.lemmas.Result.{err_from_is_err_and}
+use Rattle.leveldb_base.specs.CmpLaws.{total_order}
+use Rattle.leveldb_version.specs.VersionSetValue.{VersionSetValue, broken}
+use Rattle.leveldb_store.specs.OpenStore.{OpenStoreValue}
+use Rattle.leveldb_store.proofs.TableWaitingLemmas.{in_use_of, keeps_done, keeps_failed, keeps_unmade, tables_logged, tables_unbuilt, tables_unlogged}
+use Rattle.leveldb_store.proofs.open_store.OpenStore.table_waiting.Goals as goal
+
+not_broken : (set : VersionSetValue) (b : Bool) → (set.manifest ≡ broken → b ≡ true) → b ≡ false → set.manifest ≢ broken
+not_broken set b says is e = let never : false ≡ true = sym is ∙ says e in cc
+
+pub returns-in_err-file-clause-tables : goal.returns-in_err-file-clause-tables
+returns-in_err-file-clause-tables g c =
+    let p = err_from_is_err_and c.from_residual-in_err-file.result c.from_residual-in_err-file.ensures.1 in
+    let usable = not_broken c.self.inside.versions c.is_broken.result c.is_broken.ensures.1 c.if-is_broken.false in
+    let made = rw (c.in_ok-number.ensures.number, c.in_ok-number.ensures.ok) at c.in_err-file.ensures.makes in
+    rw (← c.self.view_is, c.in_ok-number.ensures.ok, p.1, p.2)
+    (tables_unbuilt g.E.Env _ _ c.args.env.now usable c.in_ok-number.ensures.fits c.build_waiting.new.env _ made)
+
+pub returns-in_err-file-clause-keeps : goal.returns-in_err-file-clause-keeps
+returns-in_err-file-clause-keeps g c =
+    let made = rw (c.in_ok-number.ensures.number, c.in_ok-number.ensures.ok) at c.in_err-file.ensures.makes in
+    rw (← c.self.view_is, c.in_ok-number.ensures.ok)
+    (λ modelled meaning agrees. keeps_unmade (g.C.Cmp.cmp c.self.inside.cmp) meaning _ c.in_ok-number.ensures.fits (g.E.Env.observed c.args.env.now) (g.E.Env.observed c.build_waiting.new.env)
+    (made.run modelled) (made.bytes modelled))
+
+pub returns-in_err-log_table-clause-tables : goal.returns-in_err-log_table-clause-tables
+returns-in_err-log_table-clause-tables g c =
+    let p = err_from_is_err_and c.from_residual-in_err-log_table.result c.from_residual-in_err-log_table.ensures.1 in
+    let usable = not_broken c.self.inside.versions c.is_broken.result c.is_broken.ensures.1 c.if-is_broken.false in
+    let made = rw (c.in_ok-number.ensures.number, c.in_ok-number.ensures.ok) at c.in_ok-file.ensures.makes in
+    let logs = rw c.in_ok-number.ensures.ok at c.in_err-log_table.ensures.logs in
+    let used = in_use_of c.self.inside.versions.manifest c.self.invariant.5 usable in
+    rw (← c.self.view_is, c.log_table.ensures.rest, p.1, p.2)
+    (tables_unlogged g.E.Env _ _ c.args.env.now usable c.in_ok-number.ensures.fits c.build_waiting.new.env c.in_ok-file.file made used.0 used.1 c.self.invariant.4 c.log_table.ensures.locks
+    c.log_table.new.self.set _ (logs used.0 used.1))
+
+pub returns-in_err-log_table-clause-keeps : goal.returns-in_err-log_table-clause-keeps
+returns-in_err-log_table-clause-keeps g c =
+    let cmp = c.self.inside.cmp in
+    let made = rw (c.in_ok-number.ensures.number, c.in_ok-number.ensures.ok) at c.in_ok-file.ensures.makes in
+    let logs = rw c.in_ok-number.ensures.ok at c.in_err-log_table.ensures.logs in
+    let some = rw (← c.self.view_is) at c.requires.some in
+    let order = rw (← c.self.view_is) at c.requires.order in
+    let total : IsTotalOrder (g.C.Cmp.cmp cmp) = total_order (g.met.C.Cmp.preorder cmp) (g.met.C.UserCmp.accepts_all cmp) in
+    rw (← c.self.view_is, c.log_table.ensures.rest)
+    (λ modelled meaning agrees. keeps_failed g.E.Env _ _ c.args.env.now c.build_waiting.new.env c.in_ok-file.file some c.build_waiting.ensures.entries made modelled (g.C.Cmp.cmp cmp) order meaning agrees
+    c.in_ok-number.ensures.fits total c.log_table.new.env c.log_table.new.self.set _ logs)
+
+pub returns-clause-tables : goal.returns-clause-tables
+returns-clause-tables g c =
+    let usable = not_broken c.self.inside.versions c.is_broken.result c.is_broken.ensures.1 c.if-is_broken.false in
+    let made = rw (c.in_ok-number.ensures.number, c.in_ok-number.ensures.ok) at c.in_ok-file.ensures.makes in
+    let logs = rw c.in_ok-number.ensures.ok at c.in_ok-log_table.ensures.logs in
+    let used = in_use_of c.self.inside.versions.manifest c.self.invariant.5 usable in
+    let gone = ap (λ (v : OpenStoreValue g.row.C.Denot). record v { waiting = None }) (c.self-2.view_is ∙ c.log_table.ensures.rest) in
+    rw (← c.self.view_is, gone)
+    (tables_logged g.E.Env _ _ c.args.env.now usable c.in_ok-number.ensures.fits c.build_waiting.new.env c.in_ok-file.file made used.0 used.1 c.self.invariant.4 c.log_table.ensures.locks
+    c.log_table.new.self.set (logs used.0 used.1))
+
+pub returns-clause-keeps : goal.returns-clause-keeps
+returns-clause-keeps g c =
+    let cmp = c.self.inside.cmp in
+    let made = rw (c.in_ok-number.ensures.number, c.in_ok-number.ensures.ok) at c.in_ok-file.ensures.makes in
+    let logs = rw c.in_ok-number.ensures.ok at c.in_ok-log_table.ensures.logs in
+    let some = rw (← c.self.view_is) at c.requires.some in
+    let order = rw (← c.self.view_is) at c.requires.order in
+    let total : IsTotalOrder (g.C.Cmp.cmp cmp) = total_order (g.met.C.Cmp.preorder cmp) (g.met.C.UserCmp.accepts_all cmp) in
+    let gone = ap (λ (v : OpenStoreValue g.row.C.Denot). record v { waiting = None }) (c.self-2.view_is ∙ c.log_table.ensures.rest) in
+    rw (← c.self.view_is, gone)
+    (λ modelled meaning agrees. keeps_done g.E.Env _ _ c.args.env.now c.build_waiting.new.env c.in_ok-file.file some c.build_waiting.ensures.entries made modelled (g.C.Cmp.cmp cmp) order meaning agrees
+    c.in_ok-number.ensures.fits total c.log_table.new.env c.log_table.new.self.set logs)

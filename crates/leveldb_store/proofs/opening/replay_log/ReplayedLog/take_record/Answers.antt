@@ -1,0 +1,39 @@
+use Rattle.std.proofs.Common.{Err, Ok, arith, inl, inr}
+use Rattle.std.proofs.lemmas.Result.{err_from_is_err_and}
+use Rattle.leveldb_store.proofs.ReplayLogLemmas.{TakesRecord-added, TakesRecord-refused, TakesRecord-tabled, no_following_batch, none_of_length}
+use Rattle.leveldb_store.proofs.opening.replay_log.ReplayedLog.take_record.Goals as goal
+use Rattle.leveldb_store.proofs.opening.replay_log.ReplayedLog.take_record.Goals.{then-len-gt0+then-approx_mem_usage-options+in_ok-make_table, else-len-gt0, else-len-gt0-via-then-len-gt0+else-approx_mem_usage-options, else-len-gt0-via-else-len-gt0}
+
+pub returns-in_err-check_follows : goal.returns-in_err-check_follows
+returns-in_err-check_follows g c =
+    let failed = err_from_is_err_and c.from_residual-in_err-check_follows.result c.from_residual-in_err-check_follows.ensures.1 in
+    let why = c.in_err-check_follows.ensures.cause in
+    record {
+      takes = rw (failed.1, failed.2) (TakesRecord-refused g.E.Env _ c.args.options.now.write_buffer_size c.args.text.now c.args.self.now c.args.versions.now c.args.env.now _
+          (inr (inr (why.0, no_following_batch c.args.self.now.last c.args.text.now c.read_batch.new.batch c.in_ok-read_batch.ensures.ok why.1))) _);
+    }
+
+pub returns-in_err-make_table : goal.returns-in_err-make_table
+returns-in_err-make_table g c =
+    let failed = err_from_is_err_and c.from_residual-in_err-make_table.result c.from_residual-in_err-make_table.ensures.1 in
+    record {
+      takes = rw (failed.1, failed.2) (TakesRecord-tabled g.E.Env _ c.args.options.now.write_buffer_size c.args.text.now c.args.self.now c.args.versions.now c.read_batch.new.batch
+          c.in_ok-read_batch.ensures.ok c.in_ok-check_follows.ensures.ok c.add_batch.new.self c.in_ok-add_batch.ensures.ok (Err _) c.in_err-make_table.ensures.makes);
+    }
+
+pub returns : goal.returns
+returns g c =
+    elim c.if-len-gt0.branch [
+      | then-len-gt0+then-approx_mem_usage-options+in_ok-make_table w ↦ record {
+        takes = rw (w.self-is, w.env-is, w.versions-is) (TakesRecord-tabled g.E.Env _ c.args.options.now.write_buffer_size c.args.text.now c.args.self.now c.args.versions.now c.read_batch.new.batch
+            c.in_ok-read_batch.ensures.ok c.in_ok-check_follows.ensures.ok c.add_batch.new.self c.in_ok-add_batch.ensures.ok (Ok _) w.in_ok-make_table.ensures.makes);
+      }
+      | else-len-gt0 w ↦ record {
+        takes = rw (w.self-is, w.env-is, w.versions-is) (TakesRecord-added g.E.Env _ c.args.options.now.write_buffer_size c.args.text.now c.args.self.now c.args.versions.now c.read_batch.new.batch
+            c.in_ok-read_batch.ensures.ok c.in_ok-check_follows.ensures.ok c.add_batch.new.self c.in_ok-add_batch.ensures.ok c.args.env.now
+            (elim w.else-len-gt0.branch [
+              | else-len-gt0-via-then-len-gt0+else-approx_mem_usage-options v ↦ inr (omega (arith, v.if-approx_mem_usage-options, v.approx_mem_usage.ensures))
+              | else-len-gt0-via-else-len-gt0 v ↦ inl (none_of_length c.add_batch.new.self.rest.kept.entries (omega (arith, v.if-len-gt0, c.len.ensures)))
+            ]));
+      }
+    ]

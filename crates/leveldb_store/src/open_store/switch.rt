@@ -1,0 +1,48 @@
+//! A switch of the log: the entries of the memtable wait, and batches go to a log of the next
+//! number.
+ghost use Rattle.std.specs.Prelude.{◌≡◌, ◌↔◌, None, IsTrue, false};
+ghost use Rattle.leveldb_store.specs.Format.{Meaning};
+ghost use Rattle.leveldb_store.specs.Switch.{SwitchesLog};
+ghost use Rattle.leveldb_store.specs.Written.{KeepsWritten};
+
+use super::{OpenLog, OpenStore};
+use leveldb_base::cmp::UserCmp;
+use leveldb_base::error::Result;
+use leveldb_base::names::log_file_name;
+use leveldb_env::env::Env;
+use leveldb_mem::log::WriterCore;
+use leveldb_mem::memtable::MemTable;
+
+impl<E: Env, C: UserCmp + Copy> OpenStore<E, C> {
+    /// Whether entries of the logs before the one that is written wait to be in a table.
+    pub fn has_waiting(&self) -> bool
+        ensures { (result ≡ false) ↔ (self.now.waiting ≡ None) }
+    {
+        self.waiting.is_some()
+    }
+
+    /// Makes a crash keep all batches, and begins a log of the next number: batches go to it, and
+    /// the entries of the one before wait. After an Err they are where they were. The store is
+    /// broken if a sync of the log failed once it had begun. A number that was given for a log that
+    /// couldn't be made isn't given again.
+    pub fn switch_log(&mut self, env: &mut E) -> Result<()>
+        requires { self.old.waiting ≡ None }
+        ensures switches { SwitchesLog E.Env self.old env.old result self.new env.new }
+        ensures keeps { IsTrue E.models_disk → (meaning : Meaning)
+            → KeepsWritten (C.cmp self.old.cmp) meaning self.old (E.observed env.old) self.new
+            (E.observed env.new) }
+    {
+        let number = self.versions.new_file_number()?;
+        let path = log_file_name(self.alloc, &self.name, number)?;
+        self.sync(env)?;
+        let file = env.open_writable_file(&path)?;
+        let fresh = MemTable::new(self.alloc, self.cmp);
+        self.waiting = Some(std::mem::replace(&mut self.recent, fresh));
+        self.log = OpenLog {
+            number,
+            file,
+            writer: WriterCore::new(self.alloc),
+        };
+        Ok(())
+    }
+}

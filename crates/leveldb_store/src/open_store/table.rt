@@ -1,0 +1,98 @@
+//! The table of the entries that wait, and its edit.
+ghost use Rattle.std.specs.Prelude.{◌≡◌, ◌≢◌, [], IsTrue, map};
+ghost use Rattle.leveldb_base.specs.Entries.{internal_pair};
+ghost use Rattle.leveldb_env.specs.Env.{SameLocks};
+ghost use Rattle.leveldb_version.specs.Batches.{Each};
+ghost use Rattle.leveldb_version.specs.LogEdit.{AppendsEdit};
+ghost use Rattle.leveldb_version.specs.Store.{IsInternalPair};
+ghost use Rattle.leveldb_version.specs.VersionEdit.{edit_of, new_file_of};
+ghost use Rattle.leveldb_version.specs.VersionSetValue.{OpenManifest, broken, in_use};
+ghost use Rattle.leveldb_version.specs.Writing.{table_edit};
+ghost use Rattle.leveldb_store.specs.BuildTable.{MakesTable, choices_of};
+ghost use Rattle.leveldb_store.specs.Format.{Agrees, Meaning, format_of};
+ghost use Rattle.leveldb_store.specs.Switch.{TablesWaiting};
+ghost use Rattle.leveldb_store.specs.Written.{KeepsWritten, waiting_entries};
+
+use super::OpenStore;
+use crate::build::build_memtable;
+use leveldb_base::cmp::{Cmp, InternalKeyCmp, UserCmp};
+use leveldb_base::error::{Result, StatusCode, err};
+use leveldb_base::types::{FileMetaData, FileNum};
+use leveldb_env::compressor::{CompressorList, Compressors};
+use leveldb_env::env::Env;
+use leveldb_env::filter::{FilterPolicy, InternalFilterPolicy};
+use leveldb_env::options::Options;
+use leveldb_version::version_edit::VersionEdit;
+
+impl<E: Env, C: UserCmp + Copy + Drop> OpenStore<E, C> {
+    /// Makes a table of the entries that wait, in level 0, and logs it: then the logs that had them
+    /// aren't needed any more. Returns `IOError`, and does nothing, if a call on the manifest failed
+    /// before.
+    pub fn table_waiting<FP: FilterPolicy + Copy + Drop>(
+        &mut self,
+        env: &mut E,
+        options: &Options<C, FP>,
+    ) -> Result<()>
+        requires some { waiting_entries self.old.waiting ≢ [] }
+        requires order { C.cmp options.now.cmp ≡ C.cmp self.old.cmp }
+        ensures tables { TablesWaiting E.Env self.old env.old (choices_of C.Cmp FP.FilterPolicy
+            ⟦<InternalKeyCmp<C> as Cmp>⟧ ⟦<InternalFilterPolicy<FP> as FilterPolicy>⟧
+            ⟦<CompressorList as Compressors>⟧.codings options.now)
+            (map internal_pair (waiting_entries self.old.waiting)) result self.new env.new }
+        ensures keeps { IsTrue E.models_disk → (meaning : Meaning)
+            → Agrees (format_of C.Cmp FP.FilterPolicy
+            ⟦<CompressorList as Compressors>⟧.codings options.now) meaning
+            → KeepsWritten (C.cmp self.old.cmp) meaning self.old (E.observed env.old) self.new
+            (E.observed env.new) }
+    {
+        if self.versions.is_broken() {
+            return err(self.alloc, StatusCode::IOError, "reopen the store");
+        }
+        let number = self.versions.new_file_number()?;
+        let file = self.build_waiting(env, options, number)?;
+        self.log_table(env, file)?;
+        self.waiting = None;
+        Ok(())
+    }
+
+    // Makes the table of the entries that wait, under this number.
+    fn build_waiting<FP: FilterPolicy + Copy + Drop>(
+        &self,
+        env: &mut E,
+        options: &Options<C, FP>,
+        number: FileNum,
+    ) -> Result<FileMetaData>
+        requires some { waiting_entries self.now.waiting ≢ [] }
+        requires order { C.cmp options.now.cmp ≡ C.cmp self.now.cmp }
+        ensures makes { MakesTable (choices_of C.Cmp FP.FilterPolicy
+            ⟦<InternalKeyCmp<C> as Cmp>⟧ ⟦<InternalFilterPolicy<FP> as FilterPolicy>⟧
+            ⟦<CompressorList as Compressors>⟧.codings options.now)
+            (map internal_pair (waiting_entries self.now.waiting)) E.Env (λ status. ⊥)
+            self.now.set.store number env.old result env.new }
+        ensures entries { Each IsInternalPair
+            (map internal_pair (waiting_entries self.now.waiting))
+            (waiting_entries self.now.waiting) }
+    {
+        let Some(waiting) = &self.waiting else {
+            unreachable!()
+        };
+        build_memtable(self.alloc, env, &self.name, options, waiting, number)
+    }
+
+    // Logs the edit of a table in level 0, which takes the place of the logs below the one to which
+    // batches are appended.
+    fn log_table(&mut self, env: &mut E, file: FileMetaData) -> Result<()>
+        requires usable { self.old.set.manifest ≢ broken }
+        ensures logs { (manifest : OpenManifest) → self.old.set.manifest ≡ in_use manifest
+            → AppendsEdit E.models_disk manifest self.old.set
+            (table_edit self.old.log.number (new_file_of (0, file))) (E.observed env.old)
+            (E.failures env.old) result self.new.set (E.observed env.new) (E.failures env.new) }
+        ensures rest { self.new ≡ record self.old { set = self.new.set } }
+        ensures locks { SameLocks E.models_disk (E.observed env.old) (E.observed env.new) }
+    {
+        let mut edit = VersionEdit::new(self.alloc);
+        edit.set_log_num(self.log.number);
+        edit.add_file(0, file)?;
+        self.versions.log_and_apply(env, edit)
+    }
+}
