@@ -17,3 +17,4 @@ mod ReplayFilesLemmas
 mod ReplayLogLemmas
 mod ReplayTextLemmas
 mod ReplayStoreLemmas
+mod OpeningFindLemmas
