@@ -4,21 +4,23 @@ use Rattle.std.specs.List.Sorted.{IsStrictlySortedBy}
 use Rattle.std.specs.Ordering.{nat_cmp}
 use Rattle.std.specs.declared.cmp.Ordering.{Ordering}
 use Rattle.leveldb_base.specs.Error.{IsOutOfMemory}
+use Rattle.leveldb_base.specs.History.{Entry}
 use Rattle.leveldb_base.specs.Names.{IsFileName, file_name}
 use Rattle.leveldb_base.specs.declared.error.Status.{Status}
 use Rattle.leveldb_base.specs.declared.error.StatusCode.TheVariants.{Corruption, NotSupported}
 use Rattle.leveldb_base.specs.declared.types.FileType.{FileType}
 use Rattle.leveldb_base.specs.declared.types.FileType.TheVariants.{Log, Table}
-use Rattle.leveldb_env.specs.Env.{Files, IsEmptyFolder, Run, SameLocks, created, in_folder, synced}
+use Rattle.leveldb_env.specs.Env.{Files, IsEmptyFolder, Run, SameLocks, created, emptied, in_folder, synced}
 use Rattle.leveldb_env.specs.declared.env.Env.{Ghosts}
 use Rattle.leveldb_version.specs.NewManifest.{MakingManifest, with_manifest}
 use Rattle.leveldb_version.specs.NewStore.{first_edit, first_manifest}
 use Rattle.leveldb_version.specs.Paths.{current_path, log_path, table_path}
 use Rattle.leveldb_version.specs.Store.{HasNoStore}
 use Rattle.leveldb_version.specs.VersionEdit.{IsEncodable, NewFile}
-use Rattle.leveldb_version.specs.VersionSetValue.{VersionSetValue}
+use Rattle.leveldb_version.specs.VersionSetValue.{VersionSetValue, with_number_given}
 use Rattle.leveldb_store.specs.Opening.{GivesNumbers, MayNotOpen}
 use Rattle.leveldb_store.specs.ReplayLog.{HasCauseOr}
+use Rattle.leveldb_store.specs.declared.opening.replay.UsedLog.{UsedLog}
 
 -- ---- which store is there
 
@@ -153,3 +155,30 @@ pub record AreBeingKept (store : List ℕ) (logs : List ℕ) (old files : Files)
   pub now : (files ≡ with_logs_kept store front old)
       ⊎ ((n : ℕ) × (more : List ℕ) × (rest ≡ n ∷ more)
       × (files ≡ created (log_path store n) (with_logs_kept store front old)))
+
+-- ---- the log to which batches are appended
+
+-- the number of the log to write: of the one that is used on, or the next number
+abbrev pub number_to_write : {C : Type 0} → Option (UsedLog C) → ℕ → ℕ
+number_to_write None next = next
+number_to_write (Some log) next = log.number
+
+-- how many bytes it has
+abbrev pub size_to_write : {C : Type 0} → Option (UsedLog C) → ℕ
+size_to_write None = 0
+size_to_write (Some log) = log.size
+
+-- its entries
+abbrev pub entries_to_write : {C : Type 0} → Option (UsedLog C) → List Entry
+entries_to_write None = []
+entries_to_write (Some log) = log.entries.kept.entries
+
+-- the set once that log has its number
+abbrev pub set_to_write : {C : Type 0} → Option (UsedLog C) → VersionSetValue → VersionSetValue
+set_to_write None set = with_number_given set
+set_to_write (Some log) set = set
+
+-- the files with that log: a new one is empty
+abbrev pub files_to_write : {C : Type 0} → Option (UsedLog C) → List ℕ → ℕ → Files → Files
+files_to_write None store next = emptied (log_path store next)
+files_to_write (Some log) store next = created (log_path store log.number)

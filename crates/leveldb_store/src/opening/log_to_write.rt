@@ -1,5 +1,5 @@
 //! The log to which batches are appended: the last one, or a new one.
-ghost use Rattle.std.specs.Prelude.{◌≡◌, ◌+◌, ◌<◌, ◌%◌, ◌^◌, [], IfOk, IsTrue, OnOk, OnErr};
+ghost use Rattle.std.specs.Prelude.{◌≡◌, ◌+◌, ◌<◌, ◌%◌, ◌^◌, IfNone, IfOk, IfSome, IsTrue, OnOk, OnErr};
 ghost use Rattle.leveldb_base.specs.Error.{IsOutOfMemory};
 ghost use Rattle.leveldb_base.specs.declared.error.StatusCode.TheVariants.{NotSupported};
 ghost use Rattle.leveldb_env.specs.Env.{BeforeOrAfter, ChangesFiles, HasCause, Run, SameLocks, created, emptied};
@@ -7,6 +7,7 @@ ghost use Rattle.leveldb_mem.specs.Log.{log_block_size};
 ghost use Rattle.leveldb_mem.specs.Log.Writer.{new_writer};
 ghost use Rattle.leveldb_version.specs.Paths.{log_path};
 ghost use Rattle.leveldb_version.specs.VersionSetValue.{with_number_given};
+ghost use Rattle.leveldb_store.specs.OpeningSteps.{entries_to_write, files_to_write, number_to_write, set_to_write, size_to_write};
 ghost use Rattle.leveldb_store.specs.ReplayLog.{HasCauseOr};
 ghost use Rattle.leveldb_store.specs.Switch.{MayGiveNumber};
 
@@ -30,7 +31,28 @@ pub(super) fn open_log<E: Env, C: UserCmp + Copy>(
     cmp: C,
     versions: &mut VersionSet<E>,
     used: Option<UsedLog<C>>,
-) -> Result<(OpenLog<E>, MemTable<C>)> {
+) -> Result<(OpenLog<E>, MemTable<C>)>
+    requires { IfSome used (λ log. log.entries.cmp ≡ cmp) }
+    ensures set { OnOk result (versions.new ≡ set_to_write used versions.old) }
+    ensures fits { OnOk result (IfNone used (versions.old.next_file + 1 < 2 ^ 64)) }
+    ensures err { OnErr result (MayGiveNumber versions.old versions.new) }
+    ensures run { IsTrue E.models_disk
+        → Run (BeforeOrAfter (files_to_write used store.now versions.old.next_file)
+        (E.observed env.old).disk.files) (E.observed env.old) (E.observed env.new) }
+    ensures ok { OnOk result (IsTrue E.models_disk → (E.observed env.new).disk.files
+        ≡ files_to_write used store.now versions.old.next_file (E.observed env.old).disk.files) }
+    ensures locks { SameLocks E.models_disk (E.observed env.old) (E.observed env.new) }
+    ensures number { IfOk result (λ it.
+        it.0.number ≡ number_to_write used versions.old.next_file) }
+    ensures file { IfOk result (λ it. IsTrue E.models_disk
+        → E.name_of it.0.file ≡ log_path store.now (number_to_write used versions.old.next_file)) }
+    ensures writer { IfOk result (λ it.
+        it.0.writer ≡ new_writer log_block_size (size_to_write used % log_block_size)) }
+    ensures cmp { IfOk result (λ it. it.1.cmp ≡ cmp) }
+    ensures entries { IfOk result (λ it. it.1.kept.entries ≡ entries_to_write used) }
+    ensures cause { HasCauseOr (λ status. status.code ≡ NotSupported)
+        (E.failures env.old) (E.failures env.new) result }
+{
     match used {
         Some(log) => {
             let open = reopen_log(alloc, env, store, log.number, log.size)?;
