@@ -18,3 +18,4 @@ mod ReplayLogLemmas
 mod ReplayTextLemmas
 mod ReplayStoreLemmas
 mod OpeningFindLemmas
+mod ReplayAllLemmas

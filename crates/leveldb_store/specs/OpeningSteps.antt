@@ -1,26 +1,38 @@
 -- What each step of an opening returns and leaves of a store's files, and why it fails.
-use Rattle.std.specs.Prelude.{◌≡◌, ◌≢◌, ◌≤◌, ◌<◌, ◌⊎◌, ◌^◌, ℕ, Bool, false, List, [], ◌∷◌, ◌++◌, length, map, Contains, Option, None, Some, Result, OnOk, OnErr, IfOk, IfErr, IsTrue}
+use Rattle.std.specs.Prelude.{◌≡◌, ◌≢◌, ◌≤◌, ◌<◌, ◌⊎◌, ◌^◌, ℕ, Bool, false, true, List, [], ◌∷◌, ◌++◌, map, Contains, Option, None, Some, IsSome, IfSome, Result, OnOk, IfOk, IfErr, IsTrue}
 use Rattle.std.specs.List.Sorted.{IsStrictlySortedBy}
 use Rattle.std.specs.Ordering.{nat_cmp}
 use Rattle.std.specs.declared.cmp.Ordering.{Ordering}
 use Rattle.leveldb_base.specs.Error.{IsOutOfMemory}
-use Rattle.leveldb_base.specs.History.{Entry}
+use Rattle.leveldb_base.specs.History.{Entry, greatest}
 use Rattle.leveldb_base.specs.Names.{IsFileName, file_name}
+use Rattle.leveldb_base.specs.declared.cmp.Cmp.{Ghosts as CmpGhosts}
 use Rattle.leveldb_base.specs.declared.error.Status.{Status}
 use Rattle.leveldb_base.specs.declared.error.StatusCode.TheVariants.{Corruption, NotSupported}
 use Rattle.leveldb_base.specs.declared.types.FileType.{FileType}
 use Rattle.leveldb_base.specs.declared.types.FileType.TheVariants.{Log, Table}
-use Rattle.leveldb_env.specs.Env.{Files, IsEmptyFolder, Run, SameLocks, created, emptied, in_folder, synced}
+use Rattle.leveldb_env.specs.Env.{Files, IsEmptyFolder, ListsChildren, Run, SameLocks, created, emptied, in_folder, synced}
 use Rattle.leveldb_env.specs.declared.env.Env.{Ghosts}
+use Rattle.leveldb_env.specs.declared.filter.FilterPolicy.{Ghosts as FilterGhosts}
+use Rattle.leveldb_mem.specs.Log.{bad, clean}
+use Rattle.leveldb_version.specs.Batches.{AreInOrder, all_entries}
+use Rattle.leveldb_version.specs.Levels.{LiveTable, table_entries}
 use Rattle.leveldb_version.specs.NewManifest.{MakingManifest, with_manifest}
 use Rattle.leveldb_version.specs.NewStore.{first_edit, first_manifest}
 use Rattle.leveldb_version.specs.Paths.{current_path, log_path, table_path}
-use Rattle.leveldb_version.specs.Store.{HasNoStore}
-use Rattle.leveldb_version.specs.VersionEdit.{IsEncodable, NewFile}
-use Rattle.leveldb_version.specs.VersionSetValue.{VersionSetValue, with_number_given}
-use Rattle.leveldb_store.specs.Opening.{GivesNumbers, MayNotOpen}
-use Rattle.leveldb_store.specs.ReplayLog.{HasCauseOr}
+use Rattle.leveldb_version.specs.Recover.{LeavesFiles, Recovers}
+use Rattle.leveldb_version.specs.Store.{HasLog, HasNoStore, ReplayedLog as StoreLog, SameEntries, log_batches, log_entries}
+use Rattle.leveldb_version.specs.VersionEdit.{IsEncodable, NewFile, new_file_of}
+use Rattle.leveldb_version.specs.VersionSetValue.{VersionSetValue, new_version_set, with_number_given}
+use Rattle.leveldb_version.specs.Writing.{NumbersAreBelow}
+use Rattle.leveldb_store.specs.BuildTable.{TableChoices}
+use Rattle.leveldb_store.specs.Format.{Agrees, Format, Meaning}
+use Rattle.leveldb_store.specs.Opening.{AreMadeTables, GivesNumbers, HasOtherComparator, IsDamage, MayNotOpen}
+use Rattle.leveldb_store.specs.ReplayLog.{FailsToTable, HasCauseOr, MakesTablesOnly, table_files}
+use Rattle.leveldb_store.specs.declared.opening.logs.RecoveredSet.{RecoveredSet}
+use Rattle.leveldb_store.specs.declared.opening.replay.Replay.{Replay}
 use Rattle.leveldb_store.specs.declared.opening.replay.UsedLog.{UsedLog}
+use Rattle.leveldb_store.specs.declared.opening.replay_log.ReplayedLog.{ReplayedLog}
 
 -- ---- which store is there
 
@@ -182,3 +194,123 @@ set_to_write (Some log) set = set
 abbrev pub files_to_write : {C : Type 0} → Option (UsedLog C) → List ℕ → ℕ → Files → Files
 files_to_write None store next = emptied (log_path store next)
 files_to_write (Some log) store next = created (log_path store log.number)
+
+-- ---- the replay of all logs
+
+-- the entries of a log that were in no table are in tables, one at most, that were made since
+pub record TablesAll {E F C : Type 0} (env : Ghosts E F) (format : Format) (log : ReplayedLog C)
+    (old : VersionSetValue) (files : List NewFile) (new : VersionSetValue) (at : E)
+    : Type 0 where
+  pub tables : List LiveTable
+  pub files_are : files ≡ table_files log ++ map (λ (table : LiveTable). table.file) tables
+  pub made_tables : IsTrue env.models_disk → (meaning : Meaning) → Agrees format meaning
+      → AreMadeTables format.order meaning old new (env.observed at).disk.files tables
+  pub entries : SameEntries (table_entries tables) log.rest.kept.entries
+
+-- a bad end of a log ends the history: the logs after it are empty
+abbrev pub BadEndsEnd : List StoreLog → Type 0
+BadEndsEnd logs = (front : List StoreLog) (one : StoreLog) (later : List StoreLog)
+    → logs ≡ front ++ one ∷ later → one.end ≡ bad → (other : StoreLog) → Contains later other
+    → other.size ≡ 0
+
+-- these are the logs of these numbers, in their order, and their batches rise
+pub record AreLogs (store : List ℕ) (files : Files) (numbers : List ℕ) (logs : List StoreLog)
+    : Type 0 where
+  pub numbers_are : map (λ (log : StoreLog). log.number) logs ≡ numbers
+  pub each : (log : StoreLog) → Contains logs log → HasLog store files log
+  pub in_order : AreInOrder 0 (log_batches logs)
+  pub ends : BadEndsEnd logs
+
+-- no logs of these numbers are so
+abbrev pub AreDamagedLogs : List ℕ → Files → List ℕ → Type 0
+AreDamagedLogs store files numbers =
+    (logs : List StoreLog) → AreLogs store files numbers logs → ⊥
+
+-- Of logs and the tables that were made of them: all entries are in tables; or those of the last
+-- log are in memory, which goes on to be used, and all others are in tables.
+abbrev pub AreTabledBut : {C : Type 0} → Option (UsedLog C) → List StoreLog → List LiveTable
+    → Type 0
+AreTabledBut None logs tables = SameEntries (table_entries tables) (log_entries logs)
+AreTabledBut (Some used) logs tables = (front : List StoreLog) × (last : StoreLog)
+    × (logs ≡ front ++ last ∷ []) × (last.number ≡ used.number) × (last.end ≡ clean)
+    × (last.size ≡ used.size)
+    × SameEntries used.entries.kept.entries (all_entries last.batches)
+    × SameEntries (table_entries tables) (log_entries front)
+
+-- These logs were replayed, one after another, since the set was `old`: their entries are in tables
+-- that were made since, and in memory.
+pub record HasReplayedLogs {C : Type 0} (cmp : List ℕ → List ℕ → Ordering) (meaning : Meaning)
+    (old : VersionSetValue) (from : Files) (numbers : List ℕ) (replay : Replay C)
+    (new : VersionSetValue) (at : Files) : Type 0 where
+  pub logs : List StoreLog
+  pub are_logs : AreLogs old.store from numbers logs
+  pub last_is : replay.last ≡ greatest (log_entries logs)
+  pub clean_is : replay.is_clean ≡ true → (log : StoreLog) → Contains logs log
+      → log.end ≡ clean
+  pub tables : List LiveTable
+  pub files_are : map (λ (table : LiveTable). table.file) tables
+      ≡ map (λ file. new_file_of (0, file)) replay.tables.items
+  pub made_tables : AreMadeTables cmp meaning old new at tables
+  pub tabled : AreTabledBut replay.used logs tables
+  -- where no log is left aside, there is none but the one that is used on
+  pub leaves : replay.leaves_log ≡ false → tables ≡ []
+      × ((log : StoreLog) → Contains logs log
+      → IfSome replay.used (λ used. log.number ≡ used.number) × IsSome replay.used)
+
+module _ {E F D FP : Type 0} (env : Ghosts E F) {order : CmpGhosts D} {filters : FilterGhosts FP}
+    (choices : TableChoices order filters) where
+  -- why logs aren't replayed, where nothing was counted, beside out of memory
+  abbrev pub WhyNotReplayed : List ℕ → Files → List ℕ → Status → Type 0
+  WhyNotReplayed store files numbers status = FailsToTable choices status
+      ⊎ ((status.code ≡ Corruption)
+      × (IsTrue env.models_disk → AreDamagedLogs store files numbers))
+
+  -- what replaying the logs of these numbers returns and leaves
+  pub record ReplaysLogs {C : Type 0} (old : VersionSetValue) (numbers : List ℕ) (from : E)
+      (result : Result (Replay C) Status) (new : VersionSetValue) (to : E) : Type 0 where
+    pub spares : MakesTablesOnly env old from new to
+    pub ok : IfOk result (λ replay. IsTrue env.models_disk → (meaning : Meaning)
+        → Agrees choices.format meaning
+        → HasReplayedLogs choices.format.order meaning old (env.observed from).disk.files numbers
+        replay new (env.observed to).disk.files)
+    -- a log is used on only if that is wanted, and it isn't below the manifest's log number
+    pub from_log : IfOk result (λ replay. IfSome replay.used (λ used.
+        old.log_number ≤ used.number))
+    pub cause : HasCauseOr (WhyNotReplayed old.store (env.observed from).disk.files numbers)
+        (env.failures from) (env.failures to) result
+
+-- ---- the version set
+
+module _ {E F : Type 0} (env : Ghosts E F) (cmp : List ℕ → List ℕ → Ordering)
+    (comparator : List ℕ) (reuse : Bool) (limit : ℕ) (store : List ℕ) (from : E) where
+  -- The set is what the manifest that `CURRENT` names leaves, once the numbers of all names are
+  -- used; and these are the numbers of the logs that are replayed.
+  pub record IsRecoveredSet (anew : Bool) (set : VersionSetValue) (logs : List ℕ) (to : E)
+      : Type 0 where
+    pub marked : VersionSetValue
+    pub gives : GivesNumbers (new_version_set store comparator) marked
+    pub below : IsTrue env.models_disk
+        → NumbersAreBelow store (env.observed from).disk.files marked.next_file
+    pub recovers : Recovers env.models_disk cmp comparator reuse limit marked (env.observed from)
+        anew set (env.observed to)
+    pub fits : set.next_file < 2 ^ 64
+    pub names : List (List ℕ)
+    pub lists : IsTrue env.models_disk
+        → ListsChildren (env.observed from).disk.files store names
+    pub logs_are : AreReplayedLogs names set.log_number set.previous_log logs
+
+  -- why no set is recovered, where nothing was counted, beside out of memory
+  abbrev pub WhyNotRecovered : Status → Type 0
+  WhyNotRecovered status = IsEmptyFolder env.models_disk store (env.observed from) status
+      ⊎ HasOtherComparator env.models_disk store cmp comparator (env.observed from).disk.files
+      status
+      ⊎ IsDamage env.models_disk store cmp (env.observed from).disk.files status
+      ⊎ (status.code ≡ NotSupported)
+
+  -- what recovering the set returns and leaves
+  pub record RecoversSet (result : Result (RecoveredSet E F) Status) (to : E) : Type 0 where
+    pub ok : IfOk result (λ it. IsRecoveredSet it.is_anew it.versions it.logs.keys to)
+    pub files : IsTrue env.models_disk → LeavesFiles env.models_disk cmp comparator reuse limit
+        (new_version_set store comparator) (env.observed from) (env.observed to)
+    pub locks : SameLocks env.models_disk (env.observed from) (env.observed to)
+    pub cause : HasCauseOr WhyNotRecovered (env.failures from) (env.failures to) result

@@ -1,11 +1,19 @@
 //! The replay of all logs: what comes to tables, and what stays in memory of the log that is used
 //! on.
+ghost use Rattle.std.specs.Prelude.{◌≡◌, IfOk, map};
+ghost use Rattle.leveldb_version.specs.VersionEdit.{new_file_of};
+ghost use Rattle.leveldb_store.specs.BuildTable.{choices_of};
+ghost use Rattle.leveldb_store.specs.Format.{format_of};
+ghost use Rattle.leveldb_store.specs.OpeningSteps.{TablesAll};
+ghost use Rattle.leveldb_store.specs.ReplayLog.{FailsToTable, HasCauseOr, MakesTablesOnly};
+
 use super::replay_log::{ReplayedLog, replay_log};
-use leveldb_base::cmp::{Cmp, UserCmp};
+use leveldb_base::cmp::{Cmp, InternalKeyCmp, UserCmp};
 use leveldb_base::error::{Result, StatusCode, err};
 use leveldb_base::types::{FileMetaData, FileNum, SequenceNumber};
+use leveldb_env::compressor::{CompressorList, Compressors};
 use leveldb_env::env::Env;
-use leveldb_env::filter::FilterPolicy;
+use leveldb_env::filter::{FilterPolicy, InternalFilterPolicy};
 use leveldb_env::options::Options;
 use leveldb_mem::memtable::MemTable;
 use leveldb_version::version_set::VersionSet;
@@ -107,10 +115,22 @@ fn tabled<E: Env, C: UserCmp + Copy + Drop, FP: FilterPolicy + Copy + Drop>(
     options: &Options<C, FP>,
     versions: &mut VersionSet<E>,
     log: ReplayedLog<C>,
-) -> Result<Vec<FileMetaData>> {
-    let mut log = log;
-    if log.rest.len() > 0 {
-        log.make_table(alloc, env, store, options, versions)?;
+) -> Result<Vec<FileMetaData>>
+    requires store { store.now ≡ versions.old.store }
+    requires order { log.rest.cmp ≡ options.now.cmp }
+    ensures spares { MakesTablesOnly E.Env versions.old env.old versions.new env.new }
+    ensures ok { IfOk result (λ tables. TablesAll E.Env
+        (format_of C.Cmp FP.FilterPolicy ⟦<CompressorList as Compressors>⟧.codings options.now)
+        log versions.old (map (λ file. new_file_of (0, file)) tables.items) versions.new env.new) }
+    ensures cause { HasCauseOr (FailsToTable (choices_of C.Cmp FP.FilterPolicy
+        ⟦<InternalKeyCmp<C> as Cmp>⟧ ⟦<InternalFilterPolicy<FP> as FilterPolicy>⟧
+        ⟦<CompressorList as Compressors>⟧.codings options.now))
+        (E.failures env.old) (E.failures env.new) result }
+{
+    if log.rest.len() == 0 {
+        return Ok(log.tables);
     }
+    let mut log = log;
+    log.make_table(alloc, env, store, options, versions)?;
     Ok(log.tables)
 }
