@@ -27,7 +27,7 @@ use Rattle.leveldb_version.specs.VersionSetValue.{VersionSetValue, new_version_s
 use Rattle.leveldb_version.specs.Writing.{NumbersAreBelow}
 use Rattle.leveldb_store.specs.BuildTable.{TableChoices}
 use Rattle.leveldb_store.specs.Format.{Agrees, Format, Meaning}
-use Rattle.leveldb_store.specs.Opening.{AreMadeTables, GivesNumbers, HasOtherComparator, IsDamage, MayNotOpen}
+use Rattle.leveldb_store.specs.Opening.{AreMadeTables, GivesNumbers, HasOtherComparator, IsDamage, MayNotOpen, SameButTables}
 use Rattle.leveldb_store.specs.ReplayLog.{FailsToTable, HasCauseOr, MakesTablesOnly, table_files}
 use Rattle.leveldb_store.specs.declared.opening.logs.RecoveredSet.{RecoveredSet}
 use Rattle.leveldb_store.specs.declared.opening.replay.Replay.{Replay}
@@ -242,6 +242,8 @@ AreTabledBut (Some used) logs tables = (front : List StoreLog) × (last : StoreL
 pub record HasReplayedLogs {C : Type 0} (cmp : List ℕ → List ℕ → Ordering) (meaning : Meaning)
     (old : VersionSetValue) (from : Files) (numbers : List ℕ) (replay : Replay C)
     (new : VersionSetValue) (at : Files) : Type 0 where
+  pub gives : GivesNumbers old new
+  pub same : SameButTables old new from at
   pub logs : List StoreLog
   pub are_logs : AreLogs old.store from numbers logs
   pub last_is : replay.last ≡ greatest (log_entries logs)
@@ -264,6 +266,37 @@ module _ {E F D FP : Type 0} (env : Ghosts E F) {order : CmpGhosts D} {filters :
   WhyNotReplayed store files numbers status = FailsToTable choices status
       ⊎ ((status.code ≡ Corruption)
       × (IsTrue env.models_disk → AreDamagedLogs store files numbers))
+
+  -- after what was replayed before, the log of this number is replayed too
+  abbrev pub ReplaysLogAfter : {C : Type 0} → ℕ → Replay C → VersionSetValue → E → Replay C
+      → VersionSetValue → E → Type 0
+  ReplaysLogAfter number old set from new now to = IsTrue env.models_disk → (meaning : Meaning)
+      → Agrees choices.format meaning → (first : VersionSetValue) (start : Files)
+      (numbers : List ℕ)
+      → HasReplayedLogs choices.format.order meaning first start numbers old set
+      (env.observed from).disk.files
+      → HasReplayedLogs choices.format.order meaning first start (numbers ++ number ∷ []) new now
+      (env.observed to).disk.files
+
+  -- whatever logs come after it, these and those before it aren't logs of a store
+  abbrev pub DamagesLogs : {C : Type 0} → ℕ → Replay C → VersionSetValue → E → Type 0
+  DamagesLogs number old set from = (meaning : Meaning) → Agrees choices.format meaning
+      → (first : VersionSetValue) (start : Files) (numbers later : List ℕ)
+      → HasReplayedLogs choices.format.order meaning first start numbers old set
+      (env.observed from).disk.files
+      → AreDamagedLogs first.store start (numbers ++ number ∷ later)
+
+  -- What replaying one more log returns and leaves. It is used on only if it may.
+  pub record ReplaysNext {C : Type 0} (number : ℕ) (may_go_on : Bool) (old : Replay C)
+      (set : VersionSetValue) (from : E) (result : Result (Unit {0}) Status) (new : Replay C)
+      (now : VersionSetValue) (to : E) : Type 0 where
+    pub spares : MakesTablesOnly env set from now to
+    pub ok : OnOk result (ReplaysLogAfter number old set from new now to)
+    pub used : OnOk result (IfSome new.used (λ used. IsTrue may_go_on × (used.number ≡ number)))
+    pub cause : HasCauseOr (λ status. FailsToTable choices status
+        ⊎ ((status.code ≡ Corruption)
+        × (IsTrue env.models_disk → DamagesLogs number old set from)))
+        (env.failures from) (env.failures to) result
 
   -- what replaying the logs of these numbers returns and leaves
   pub record ReplaysLogs {C : Type 0} (old : VersionSetValue) (numbers : List ℕ) (from : E)

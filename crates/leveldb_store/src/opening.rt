@@ -1,4 +1,8 @@
 //! Opening a store over its manifest, its tables and its logs.
+ghost use Rattle.std.specs.Prelude.{◌≡◌, IfOk};
+ghost use Rattle.leveldb_store.specs.Format.{format_of};
+ghost use Rattle.leveldb_store.specs.Opening.{OpensStore};
+
 mod edit;
 mod find;
 mod log_to_write;
@@ -12,6 +16,7 @@ use edit::log_edit;
 use find::find_store;
 use leveldb_base::cmp::UserCmp;
 use leveldb_base::error::Result;
+use leveldb_env::compressor::{CompressorList, Compressors};
 use leveldb_env::env::Env;
 use leveldb_env::filter::FilterPolicy;
 use leveldb_env::options::Options;
@@ -31,7 +36,12 @@ impl<E: Env, C: UserCmp + Copy + Drop> OpenStore<E, C> {
         env: &mut E,
         name: &str,
         options: &Options<C, FP>,
-    ) -> Result<OpenStore<E, C>> {
+    ) -> Result<OpenStore<E, C>>
+        ensures opens { OpensStore E.Env (C.cmp options.now.cmp) (format_of C.Cmp FP.FilterPolicy
+            ⟦<CompressorList as Compressors>⟧.codings options.now) name.now
+            options.now.create_if_missing options.now.error_if_exists env.old result env.new }
+        ensures cmp { IfOk result (λ value. value.cmp ≡ options.now.cmp) }
+    {
         find_store(alloc, env, name, options)?;
         let set = recover_set(alloc, env, name, options)?;
         sync_logs(alloc, env, name, &set.logs)?;

@@ -7,7 +7,7 @@ ghost use Rattle.leveldb_base.specs.declared.types.FileType.TheVariants.{Log};
 ghost use Rattle.leveldb_env.specs.Env.{FilesUnchanged, Run, SameLocks};
 ghost use Rattle.leveldb_version.specs.VersionEdit.{new_file_of};
 ghost use Rattle.leveldb_store.specs.Opening.{GivesNumbers};
-ghost use Rattle.leveldb_store.specs.OpeningSteps.{AddsLog, AreReplayedLogs, HasMisnamedLog, IsReplayed, LacksTable, MarksNames};
+ghost use Rattle.leveldb_store.specs.OpeningSteps.{AddsLog, AreReplayedLogs, HasMisnamedLog, IsReplayed, LacksTable, MarksNames, RecoversSet};
 ghost use Rattle.leveldb_store.specs.ReplayLog.{HasCauseOr};
 
 use leveldb_base::cmp::Cmp;
@@ -37,7 +37,10 @@ pub(super) fn recover_set<E: Env, C: Cmp, FP>(
     env: &mut E,
     store: &str,
     options: &Options<C, FP>,
-) -> Result<RecoveredSet<E>> {
+) -> Result<RecoveredSet<E>>
+    ensures { RecoversSet E.Env (C.cmp options.now.cmp) (C.name options.now.cmp)
+        options.now.reuse_manifest options.now.max_file_size store.now env.old result env.new }
+{
     let names = env.children(alloc, store)?;
     let mut versions = VersionSet::new(alloc, store, &options.cmp)?;
     mark_names(alloc, &mut versions, names.as_slice())?;

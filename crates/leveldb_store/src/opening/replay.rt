@@ -1,10 +1,10 @@
 //! The replay of all logs: what comes to tables, and what stays in memory of the log that is used
 //! on.
-ghost use Rattle.std.specs.Prelude.{◌≡◌, IfOk, map};
+ghost use Rattle.std.specs.Prelude.{◌≡◌, None, IfOk, IfSome, OnOk, map};
 ghost use Rattle.leveldb_version.specs.VersionEdit.{new_file_of};
 ghost use Rattle.leveldb_store.specs.BuildTable.{choices_of};
 ghost use Rattle.leveldb_store.specs.Format.{format_of};
-ghost use Rattle.leveldb_store.specs.OpeningSteps.{TablesAll};
+ghost use Rattle.leveldb_store.specs.OpeningSteps.{ReplaysLogs, ReplaysNext, TablesAll};
 ghost use Rattle.leveldb_store.specs.ReplayLog.{FailsToTable, HasCauseOr, MakesTablesOnly};
 
 use super::replay_log::{ReplayedLog, replay_log};
@@ -56,7 +56,15 @@ pub(super) fn replay_logs<
     options: &Options<C, FP>,
     versions: &mut VersionSet<E>,
     logs: BTreeSet<FileNum>,
-) -> Result<Replay<C>> {
+) -> Result<Replay<C>>
+    requires store { store.now ≡ versions.old.store }
+    ensures replays { ReplaysLogs E.Env (choices_of C.Cmp FP.FilterPolicy
+        ⟦<InternalKeyCmp<C> as Cmp>⟧ ⟦<InternalFilterPolicy<FP> as FilterPolicy>⟧
+        ⟦<CompressorList as Compressors>⟧.codings options.now)
+        versions.old logs.keys env.old result versions.new env.new }
+    ensures order { IfOk result (λ replay.
+        IfSome replay.used (λ used. used.entries.cmp ≡ options.now.cmp)) }
+{
     let mut logs = logs;
     let mut replay = Replay {
         tables: Vec::new(alloc),
@@ -82,7 +90,16 @@ fn replay_next<E: Env, C: UserCmp + Copy + Drop, FP: FilterPolicy + Copy + Drop>
     replay: &mut Replay<C>,
     number: FileNum,
     may_go_on: bool,
-) -> Result<()> {
+) -> Result<()>
+    requires store { store.now ≡ versions.old.store }
+    requires none { replay.old.used ≡ None }
+    ensures replays { ReplaysNext E.Env (choices_of C.Cmp FP.FilterPolicy
+        ⟦<InternalKeyCmp<C> as Cmp>⟧ ⟦<InternalFilterPolicy<FP> as FilterPolicy>⟧
+        ⟦<CompressorList as Compressors>⟧.codings options.now)
+        number may_go_on replay.old versions.old env.old result replay.new versions.new env.new }
+    ensures order { OnOk result
+        (IfSome replay.new.used (λ used. used.entries.cmp ≡ options.now.cmp)) }
+{
     let log = replay_log(alloc, env, store, options, versions, replay.last, number)?;
     if !replay.is_clean && log.size > 0 {
         return err(
