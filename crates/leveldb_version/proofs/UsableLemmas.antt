@@ -121,10 +121,13 @@ module _ (cmp : List ℕ → List ℕ → Ordering) (comparator : List ℕ) (edi
   some_of : {A : Type 0} (a b : Option A) → a ≡ b → IsSome a → IsSome b
   some_of {A} a b e some = let P : Option A → Type 0 = IsSome in subst P e some
 
+  named_left : option_map string_bytes left.full.comparator ≡ Some comparator → (live_after edits).comparator ≡ Some comparator
+  named_left named = sym full_left.comparator ∙ named
+
   pub edits_usable : option_map string_bytes left.full.comparator ≡ Some comparator → HasStartNumbers left → IsTrue left.numbers_fit → HaveKeyRanges cmp files_left → AreAllApart cmp files_left files_left
       → IsUsable cmp comparator edits
   edits_usable named numbers fit ranges apart = record {
-    comparator_is = sym full_left.comparator ∙ named;
+    comparator_is = named_left named;
     log_is = some_of left.log_number (live_after edits).log_number is_left.log_number numbers.log_number;
     next_file_is = some_of left.next_file (live_after edits).next_file is_left.next_file numbers.next_file;
     last_is = some_of left.last_sequence (live_after edits).last_sequence is_left.last_sequence numbers.last_sequence;
@@ -150,16 +153,16 @@ module _ (cmp : List ℕ → List ℕ → Ordering) (comparator : List ℕ) (edi
   pub number_refused : (status : Status) → (status.code ≡ Corruption) × (IsTrue left.numbers_fit → ⊥) → WhyUnusable cmp comparator edits status
   number_refused status why = number_too_great why.0 (λ fit. why.1 (is_left.numbers_fit.1 fit))
 
-  pub ranges_refused : (status : Status) → (status.code ≡ Corruption) × (HaveKeyRanges cmp files_left → ⊥) → WhyUnusable cmp comparator edits status
-  ranges_refused status why =
+  pub ranges_refused : (status : Status) → option_map string_bytes left.full.comparator ≡ Some comparator → (status.code ≡ Corruption) × (HaveKeyRanges cmp files_left → ⊥) → WhyUnusable cmp comparator edits status
+  ranges_refused status named why =
       let one = one_without cmp files_left why.1 in
-      no_range why.0 one.0 ((full_left.added.live one.0).0 one.1) one.2
+      no_range why.0 (named_left named) one.0 ((full_left.added.live one.0).0 one.1) one.2
 
-  pub clash_refused : (status : Status) → HasClash cmp files_left status → WhyUnusable cmp comparator edits status
-  clash_refused status has =
+  pub clash_refused : (status : Status) → option_map string_bytes left.full.comparator ≡ Some comparator → HasClash cmp files_left status → WhyUnusable cmp comparator edits status
+  clash_refused status named has =
       let clash = has.clashes.clash in
       let are = beside has.a has.clashes.b has.a_there has.clashes.b_there clash.peers in
       ⊎_elim
-      (λ (overlap : (status.code ≡ Corruption) × Overlap cmp has.a has.clashes.b). overlapping overlap.0 has.a has.clashes.b are overlap.1)
+      (λ (overlap : (status.code ≡ Corruption) × Overlap cmp has.a has.clashes.b). overlapping overlap.0 (named_left named) has.a has.clashes.b are overlap.1)
       (λ (share : (status.code ≡ NotSupported) × ShareUserKey cmp has.a has.clashes.b). shared_user_key share.0 has.a has.clashes.b are share.1)
       clash.why

@@ -6,7 +6,7 @@ use Rattle.std.specs.declared.cmp.Ordering.TheVariants.{Less}
 use Rattle.leveldb_base.specs.declared.error.Status.{Status}
 use Rattle.leveldb_base.specs.declared.error.StatusCode.TheVariants.{Corruption, InvalidArgument, NotSupported}
 use Rattle.leveldb_base.specs.KeyTypes.{internal_cmp}
-use Rattle.leveldb_env.specs.Env.{BeforeOrAfter, File, Files, HasCause, Observed, Run, SameLocks, bytes_of, in_folder, synced}
+use Rattle.leveldb_env.specs.Env.{BeforeOrAfter, File, Files, FilesUnchanged, HasCause, Observed, Run, SameLocks, bytes_of, in_folder, synced}
 use Rattle.leveldb_env.specs.WholeFiles.{IsLost}
 use Rattle.leveldb_mem.specs.Log.{End, IsLogFile, clean, log_block_size}
 use Rattle.leveldb_mem.specs.Log.Files.{IsHuge}
@@ -58,8 +58,8 @@ module _ (cmp : List ℕ → List ℕ → Ordering) where
     pub disjoint : (a b : NewFile) → AreBeside (live_after edits) a b → AreDisjoint cmp a b
 
   -- Why edits are no beginning of a store: one of the four values isn't given; the comparator has
-  -- another name; a last sequence number is past the greatest; a file's keys are no range; two
-  -- files overlap, or share a user key.
+  -- another name; a last sequence number is past the greatest; or by the comparator that is asked
+  -- for a file's keys are no range, or two files overlap, or share a user key.
   pub data WhyUnusable (comparator : List ℕ) (edits : List Edit) (status : Status) : Type 0 where
     no_comparator : status.code ≡ Corruption → (live_after edits).comparator ≡ None
         → WhyUnusable comparator edits status
@@ -74,11 +74,12 @@ module _ (cmp : List ℕ → List ℕ → Ordering) where
         → WhyUnusable comparator edits status
     number_too_great : status.code ≡ Corruption → (LastNumbersFit edits → ⊥)
         → WhyUnusable comparator edits status
-    no_range : status.code ≡ Corruption → (file : NewFile)
+    no_range : status.code ≡ Corruption → (live_after edits).comparator ≡ Some comparator
+        → (file : NewFile)
         → (live_after edits).file (level_file file) ≡ Some file
         → (IsKeyRange cmp file.smallest file.largest → ⊥) → WhyUnusable comparator edits status
-    overlapping : status.code ≡ Corruption → (a b : NewFile)
-        → AreBeside (live_after edits) a b → Overlap a b → WhyUnusable comparator edits status
+    overlapping : status.code ≡ Corruption → (live_after edits).comparator ≡ Some comparator
+        → (a b : NewFile) → AreBeside (live_after edits) a b → Overlap a b → WhyUnusable comparator edits status
     shared_user_key : status.code ≡ NotSupported → (a b : NewFile)
         → AreBeside (live_after edits) a b → ShareUserKey a b
         → WhyUnusable comparator edits status
@@ -221,6 +222,10 @@ module _ (models_disk : Bool) (cmp : List ℕ → List ℕ → Ordering) (compar
         before after
     pub synced_named : (after.disk.files ≡ before.disk.files)
         ⊎ ((reuse ≡ true) × IsNamed old.store before.disk.files manifest number)
+    -- where no edits can be used, nothing changes
+    pub unusable : ((edits : List Edit) → HasEdits old.store before.disk.files edits
+        → IsUsable cmp comparator edits → ⊥)
+        → Run (FilesUnchanged before.disk.files) before after
 
   -- What the call returns and leaves. A refusal leaves the set as it was.
   pub record RecoverResult (old : VersionSetValue) (before : Observed) (failed : ℕ)

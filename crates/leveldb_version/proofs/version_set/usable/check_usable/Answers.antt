@@ -29,7 +29,7 @@ returns-in_err-check_fit-clause-cause g c =
 pub returns-in_err-check_key_ranges-clause-cause : goal.returns-in_err-check_key_ranges-clause-cause
 returns-in_err-check_key_ranges-clause-cause g c =
     let p = err_from_is_err_and c.from_residual-in_err-check_key_ranges.result c.from_residual-in_err-check_key_ranges.ensures.1 in
-    rw (p.1, p.2) (λ edits is_left. ranges_refused (g.C.Cmp.cmp c.args.ucmp.now) (g.C.Cmp.name c.args.ucmp.now) edits c.args.left.now is_left c.in_err-check_key_ranges.field-0.0
+    rw (p.1, p.2) (λ edits is_left. ranges_refused (g.C.Cmp.cmp c.args.ucmp.now) (g.C.Cmp.name c.args.ucmp.now) edits c.args.left.now is_left c.in_err-check_key_ranges.field-0.0 (rw (sym c.id.ensures) c.in_ok-check_comparator.ensures.ok)
     (c.in_err-check_key_ranges.ensures.malformed.0, λ all. c.in_err-check_key_ranges.ensures.malformed.1 (rw c.as_slice-files.ensures.value all)))
 
 pub returns-clause-ok : goal.returns-clause-ok
@@ -45,5 +45,5 @@ pub returns-clause-cause : goal.returns-clause-cause
 returns-clause-cause g c =
     let cmp = g.C.Cmp.cmp c.args.ucmp.now in
     if_err_more c.check_apart.result c.check_apart.ensures.cause (λ status clash edits is_left.
-    clash_refused cmp (g.C.Cmp.name c.args.ucmp.now) edits c.args.left.now is_left status
+    clash_refused cmp (g.C.Cmp.name c.args.ucmp.now) edits c.args.left.now is_left status (rw (sym c.id.ensures) c.in_ok-check_comparator.ensures.ok)
     (let Clash : List (ℕ × FileMetaData) → Type 0 = λ fs. HasClash cmp (as_new_files fs) status in subst Clash c.as_slice-files.ensures.value clash))
