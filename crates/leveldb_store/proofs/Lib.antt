@@ -1,10 +1,15 @@
 mod BuildTableLemmas
 pub mod WriteLemmas
+mod OpeningNamesLemmas
+mod OpeningCausesLemmas
+mod OpeningSyncsLemmas
 pub mod SwitchLemmas
 pub mod RemoveLemmas
 pub mod TableKeepsLemmas
 pub mod TableWaitingLemmas
 pub mod NotTabledLemmas
+pub mod SoundLemmas
+pub mod RoomLemmas
 mod ReadTableLemmas
 mod NewestLemmas
 mod SearchLemmas
@@ -14,3 +19,28 @@ mod ReplayFilesLemmas
 mod ReplayLogLemmas
 mod ReplayTextLemmas
 mod ReplayStoreLemmas
+pub mod HistoryLemmas
+mod SyncBatchLemmas
+mod LogBatchLemmas
+mod BatchHistoryLemmas
+mod WriteBatchLemmas
+mod SoundWriteLemmas
+mod OpeningFindLemmas
+mod ReplayAllLemmas
+mod ReplayDamageLemmas
+mod ReplayMoreLemmas
+mod ReplayNextLemmas
+mod ReplayLoopLemmas
+mod OpeningDamageLemmas
+mod RecoverSetLemmas
+mod OpeningLogLemmas
+mod OpeningEndLemmas
+mod OpeningMadeLemmas
+mod OpeningNumbersLemmas
+mod OpeningSameLemmas
+mod OpeningRecoveredLemmas
+mod OpeningFrontLemmas
+mod OpeningRecoverLemmas
+mod OpeningOpenLemmas
+mod OpeningBeginLemmas
+mod OpeningBytesLemmas

@@ -495,7 +495,7 @@ module _ {E F : Type 0} (env : Ghosts E F) (set : VersionSetValue) (from : E) wh
 
     pub RemovesObsolete-after : SameLocks env.models_disk (env.observed from) (env.observed mid) → RemovesObsolete env set from result to
     RemovesObsolete-after locks = record {
-      others = λ modelled. removes_no_other set first_files (env.observed to).disk.files (removing modelled).has;
+      run = λ modelled. Run-mono (removes_no_other set first_files) (removing modelled);
       all = λ again. all_gone result removes.all;
       broken_keeps = λ is. absurd (usable is);
       locks = λ modelled. removes.locks modelled ∙ locks modelled;

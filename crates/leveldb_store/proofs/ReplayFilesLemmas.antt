@@ -27,6 +27,7 @@ use Rattle.leveldb_version.specs.Writing.{IsRecoveredBy}
 use Rattle.leveldb_store.specs.Format.{Meaning}
 use Rattle.leveldb_store.specs.Opening.{GivesNumbers, SameButTables}
 use Rattle.leveldb_store.specs.ReplayLog.{MakesTablesOnly}
+use Rattle.leveldb_store.specs.SoundCall.{BytesAreAppended}
 use Rattle.leveldb_store.specs.Written.{IsTableOf}
 
 -- ---- a new table in a store that is recovered
@@ -156,11 +157,11 @@ SameButTables-wider : (old mid new : VersionSetValue) → mid.next_file ≤ new.
 SameButTables-wider old mid new rises before after same path others =
     same path (λ n least below. others n least (omega (arith, rises, below)))
 
-SameButTables-trans : {old mid new : VersionSetValue} → GivesNumbers old mid → GivesNumbers mid new
+pub SameButTables-trans : {old mid new : VersionSetValue} → GivesNumbers old mid → GivesNumbers mid new
     → (before between after : Files) → SameButTables old mid before between
     → SameButTables mid new between after → SameButTables old new before after
 SameButTables-trans first_gives second_gives before between after first second path others =
-    second path (λ n least below. λ is. others n (omega (arith, least, first_gives.rises)) below
+    second path (λ n least below fits. λ is. others n (omega (arith, least, first_gives.rises)) below fits
     (is ∙ ap (λ s. table_path s n) (same_store first_gives)))
     ∙ first path (λ n least below. others n least (omega (arith, below, second_gives.rises)))
 
@@ -179,6 +180,7 @@ module _ {E F : Type 0} (env : Ghosts E F) where
   pub MakesTablesOnly-none : (set : VersionSetValue) (at : E) → MakesTablesOnly env set at set at
   MakesTablesOnly-none set at = record {
     numbers = GivesNumbers-refl set;
+    fits = λ fits. fits;
     run = λ modelled. begun (env.observed at) (λ path others. refl);
     locks = λ modelled. refl;
     keeps = λ modelled cmp meaning edits r. (
@@ -187,6 +189,7 @@ module _ {E F : Type 0} (env : Ghosts E F) where
           (KeepsHistory-refl set.store cmp (IsTableOf cmp meaning) (λ it. IsTrue (allowed it)) bound
           (env.observed at).disk.files),
     );
+    bytes = λ modelled are. are;
   }
 
   -- calls that leave the files
@@ -196,6 +199,7 @@ module _ {E F : Type 0} (env : Ghosts E F) where
       → MakesTablesOnly env set from set to
   MakesTablesOnly-still set {from} {to} run locks = record {
     numbers = GivesNumbers-refl set;
+    fits = λ fits. fits;
     run = λ modelled. Run-mono (λ files is path others. ap (λ (f : Files). f path) is) (run modelled);
     locks = locks;
     keeps = λ modelled cmp meaning edits r. (
@@ -209,13 +213,15 @@ module _ {E F : Type 0} (env : Ghosts E F) where
           (env.observed from).disk.files))
           (run modelled),
     );
+    bytes = λ modelled are. subst AppendedAreBytes (sym (run modelled).has) are;
   }
 
   -- a number is given
-  pub MakesTablesOnly-given : (set : VersionSetValue) (at : E)
+  pub MakesTablesOnly-given : (set : VersionSetValue) (at : E) → set.next_file + 1 < 2 ^ 64
       → MakesTablesOnly env set at (with_number_given set) at
-  MakesTablesOnly-given set at = record {
+  MakesTablesOnly-given set at next_fits = record {
     numbers = record { set = refl; rises = omega arith };
+    fits = λ fits. next_fits;
     run = λ modelled. begun (env.observed at) (λ path others. refl);
     locks = λ modelled. refl;
     keeps = λ modelled cmp meaning edits r. (
@@ -224,6 +230,7 @@ module _ {E F : Type 0} (env : Ghosts E F) where
           (KeepsHistory-refl set.store cmp (IsTableOf cmp meaning) (λ it. IsTrue (allowed it)) bound
           (env.observed at).disk.files),
     );
+    bytes = λ modelled are. are;
   }
 
   -- the file of the next number is made, in whole or in part
@@ -231,16 +238,16 @@ module _ {E F : Type 0} (env : Ghosts E F) where
       → (IsTrue env.models_disk
       → Run (SameBut (table_path set.store set.next_file) (env.observed from).disk.files)
       (env.observed from) (env.observed to))
-      → (IsTrue env.models_disk → AppendedAreBytes (env.observed from).disk.files
-      → AppendedAreBytes (env.observed to).disk.files)
+      → BytesAreAppended env from to
       → SameLocks env.models_disk (env.observed from) (env.observed to)
       → MakesTablesOnly env set from (with_number_given set) to
   MakesTablesOnly-made set {from} {to} fits run bytes locks = record {
     numbers = record { set = refl; rises = omega arith };
+    fits = λ before. fits;
     run = λ modelled. Run-mono
         (λ files same path others. same path
         (bytes_eq-apart (table_path set.store set.next_file) path
-        (λ is. others set.next_file (omega arith) (omega arith) (sym is))))
+        (λ is. others set.next_file (omega arith) (omega arith) (omega (arith, fits)) (sym is))))
         (run modelled);
     locks = locks;
     keeps = λ modelled cmp meaning edits r.
@@ -257,6 +264,7 @@ module _ {E F : Type 0} (env : Ghosts E F) where
               set.next_file (omega (arith, fits)) gone files same (λ it. IsTrue (allowed it)) bound)
               (run modelled),
         );
+    bytes = bytes;
   }
 
   -- one call after another
@@ -265,6 +273,7 @@ module _ {E F : Type 0} (env : Ghosts E F) where
       → MakesTablesOnly env old from new to
   MakesTablesOnly-trans {old} {mid} {new} {from} {at} {to} first second = record {
     numbers = GivesNumbers-trans first.numbers second.numbers;
+    fits = λ fits. second.fits (first.fits fits);
     run = λ modelled. Run-trans
         (Run-mono (λ files same. SameButTables-wider old mid new second.numbers.rises
         (env.observed from).disk.files files same)
@@ -286,4 +295,5 @@ module _ {E F : Type 0} (env : Ghosts E F) where
               (one.1 allowed bound).has keeps)
               (two.1 allowed bound),
         );
+    bytes = λ modelled are. second.bytes modelled (first.bytes modelled are);
   }

@@ -141,18 +141,16 @@ tables_more tables table = flat_map-append (λ (t : LiveTable). t.entries) table
     ∙ ap (λ es. table_entries tables ++ es) (append-nil table.entries)
 
 -- a table that was made stays, since those that are made then have other numbers
-IsMadeTable-stays : (cmp : List ℕ → List ℕ → Ordering) (meaning : Meaning) (store : List ℕ)
+pub IsMadeTable-stays : (cmp : List ℕ → List ℕ → Ordering) (meaning : Meaning) (store : List ℕ)
     (set now : VersionSetValue) (before after : Files) (table : LiveTable) → set.store ≡ store
-    → now.next_file ≤ set.next_file + 1 → set.next_file < 2 ^ 64
     → table.file.number < set.next_file → SameButTables set now before after
     → IsMadeTable cmp meaning store before table → IsMadeTable cmp meaning store after table
-IsMadeTable-stays cmp meaning store set now before after table is_store few fits below same made =
+IsMadeTable-stays cmp meaning store set now before after table is_store below same made =
     let path = table_path store table.file.number in
     let still : after path ≡ before path = same path
-    (λ n least most is.
+    (λ n least most fits is.
     let number : table.file.number ≡ n =
-    (made_paths_apart store table.file.number n Table Table (omega (arith, below, fits))
-    (omega (arith, most, few, fits))
+    (made_paths_apart store table.file.number n Table Table made.3.number fits
     (is ∙ ap (λ s. table_path s n) is_store)).0 in
     omega (arith, number, below, least)) in (
       table_on store cmp (IsTableOf cmp meaning) before after table
@@ -278,14 +276,12 @@ module _ {E F : Type 0} (env : Ghosts E F) (format : Format) {C : Type 0} where
         let this : IsMadeTable format.order meaning first.store (env.observed to).disk.files
         made.table = subst (λ s. IsMadeTable format.order meaning s (env.observed to).disk.files
         made.table) store_is (made.made modelled meaning agrees) in
-        let fits : set.next_file < 2 ^ 64 =
-        (let is = made.number in let most = this.3.number in omega (arith, is, most)) in
         record {
           each = λ table c. ⊎_elim
               (λ (earlier : Contains was.tables table).
               IsMadeTable-stays format.order meaning first.store set now
               (env.observed at).disk.files (env.observed to).disk.files table store_is
-              (omega (arith, next)) fits (before.numbers table earlier).1 (spares.run modelled).has
+              (before.numbers table earlier).1 (spares.run modelled).has
               (before.each table earlier))
               (λ (e : made.table ≡ table). subst
               (IsMadeTable format.order meaning first.store (env.observed to).disk.files) e this)
@@ -458,9 +454,9 @@ module _ {E F D FP C : Type 0} (env : Ghosts E F) {order : CmpGhosts D} {filters
 
 -- ---- a record is taken
 
-pub none_of_length : (entries : List Entry) → length entries ≤ 0 → entries ≡ []
+pub none_of_length : {X : Type 0} (xs : List X) → length xs ≤ 0 → xs ≡ []
 none_of_length [] none = refl
-none_of_length (entry ∷ entries) none = absurd (omega (arith, none))
+none_of_length (x ∷ xs) none = absurd (omega (arith, none))
 
 -- a record that is no batch, or one that doesn't follow, isn't the next
 pub no_next_batch : (last : ℕ) (text : List ℕ) → (IsBatch text → ⊥) → IsNoNextBatch last text

@@ -1,7 +1,10 @@
 -- The replay of the log of a number: its file is read, and then its bytes are replayed.
-use Rattle.std.specs.Prelude.{IsSomeAnd, IsTrue, OnOk, if◌then◌else◌}
-use Rattle.std.proofs.Common.{◌≡◌, ◌∙◌, ◌⊎◌, inl, inr, ⊎_elim, ℕ, ◌+◌, List, None, Option, Some, Result, Ok, Err, ap, arith, length, refl, subst, sym}
+use Rattle.std.specs.Prelude.{Contains, IsSomeAnd, IsTrue, OnOk, if◌then◌else◌}
+use Rattle.std.proofs.Common.{◌≡◌, ◌∙◌, ◌⊎◌, inl, inr, ⊎_elim, ℕ, ◌+◌, List, [], ◌∷◌, None, Option, Some, Result, Ok, Err, ap, arith, length, refl, subst, sym}
+use Rattle.std.proofs.lemmas.List.Elements.{Contains-append_right}
+use Rattle.leveldb_base.proofs.HistoryLemmas.{in_cases, in_none}
 use Rattle.leveldb_base.specs.Error.{IsOutOfMemory}
+use Rattle.leveldb_base.specs.History.{AreUpTo, Entry, greatest}
 use Rattle.leveldb_base.specs.declared.cmp.Cmp.{Ghosts as CmpGhosts}
 use Rattle.leveldb_base.specs.declared.error.Status.{Status}
 use Rattle.leveldb_env.proofs.EnvLemmas.{Run-call}
@@ -10,13 +13,24 @@ use Rattle.leveldb_env.specs.WholeFiles.{IsLost}
 use Rattle.leveldb_env.specs.declared.env.Env.{Ghosts}
 use Rattle.leveldb_env.specs.declared.filter.FilterPolicy.{Ghosts as FilterGhosts}
 use Rattle.leveldb_mem.specs.Log.{IsLogFile, bad, clean}
+use Rattle.leveldb_version.specs.Batches.{all_entries}
+use Rattle.leveldb_version.specs.Levels.{table_entries}
 use Rattle.leveldb_version.specs.Paths.{log_path}
 use Rattle.leveldb_version.specs.Store.{ReplayedLog as StoreLog}
 use Rattle.leveldb_version.specs.VersionSetValue.{VersionSetValue}
 use Rattle.leveldb_store.specs.BuildTable.{TableChoices}
-use Rattle.leveldb_store.specs.ReplayLog.{IsDamagedLog, IsDamagedText, MakesTablesOnly, ReplaysFile, ReplaysText}
+use Rattle.leveldb_store.specs.ReplayLog.{HasReplayedText, IsDamagedLog, IsDamagedText, MakesTablesOnly, ReplaysFile, ReplaysText}
 use Rattle.leveldb_store.specs.declared.opening.replay_log.ReplayedLog.{ReplayedLog}
 use Rattle.leveldb_store.proofs.ReplayFilesLemmas.{MakesTablesOnly-none, MakesTablesOnly-still, MakesTablesOnly-trans}
+
+-- each entry is up to the greatest
+up_to_greatest : (entries : List Entry) → AreUpTo (greatest entries) entries
+up_to_greatest [] entry c = absurd (in_none entry c)
+up_to_greatest (first ∷ entries) entry c = ⊎_elim
+    (λ (e : first ≡ entry). let s = ap (λ (x : Entry). x.sequence) e in omega (arith, s))
+    (λ (rest : Contains entries entry).
+    let below = up_to_greatest entries entry rest in omega (arith, below))
+    (in_cases first entry entries c)
 
 -- the file is there whose bytes were read
 record IsReadFile (file : Option File) (text : List ℕ) : Type 0 where
@@ -52,6 +66,7 @@ module _ {E F D FP : Type 0} (env : Ghosts E F) {order : CmpGhosts D} {filters :
     spares = MakesTablesOnly-none env set from;
     replays = λ modelled meaning agrees. tt;
     room = tt;
+    up_to = tt;
     cause = record {
       later = omega arith;
       ok = tt;
@@ -84,6 +99,7 @@ module _ {E F D FP : Type 0} (env : Ghosts E F) {order : CmpGhosts D} {filters :
           spares = still;
           replays = λ modelled meaning agrees. tt;
           room = tt;
+          up_to = tt;
           cause = record {
             later = why.later;
             ok = tt;
@@ -112,6 +128,7 @@ module _ {E F D FP : Type 0} (env : Ghosts E F) {order : CmpGhosts D} {filters :
         spares = MakesTablesOnly-trans env still replays.spares;
         replays = λ modelled meaning agrees. tt;
         room = tt;
+        up_to = tt;
         cause = record {
           later = omega (arith, replays.cause.later, counted);
           ok = tt;
@@ -138,6 +155,14 @@ module _ {E F D FP : Type 0} (env : Ghosts E F) {order : CmpGhosts D} {filters :
               replays.cause.cause;
         };
       }
+
+      rest_up_to : {C : Type 0} {now : VersionSetValue} {to : E} (log : ReplayedLog C)
+          → HasReplayedText env choices limit set last text log now to
+          → AreUpTo log.last log.rest.kept.entries
+      rest_up_to log h entry c =
+          let there = (h.replayed.entries entry).0
+          (Contains-append_right (table_entries h.replayed.tables) log.rest.kept.entries entry c) in
+          omega (arith, up_to_greatest (all_entries h.batches) entry there, h.replayed.last_is)
 
       done : {C : Type 0} {now : VersionSetValue} {to : E} (log : ReplayedLog C)
           → ReplaysText env choices limit set last text mid (Ok log) now to
@@ -178,6 +203,7 @@ module _ {E F D FP : Type 0} (env : Ghosts E F) {order : CmpGhosts D} {filters :
               newer = h.replayed.newer;
             };
         room = replays.ok.room;
+        up_to = rest_up_to log replays.ok;
         cause = record {
           later = omega (arith, replays.cause.later, counted);
           ok = replays.cause.ok ∙ counted;

@@ -339,7 +339,8 @@ module _ {E F C : Type 0} (env : Ghosts E F) (old : OpenStoreValue C) (from : E)
   -- a sync that failed
   pub unsynced : (new : OpenStoreValue C) (to : E) (status : Status) → SyncsLog env next from (Err status) new to → SparesRest env.models_disk next (env.observed from) new (env.observed to) → SwitchesLog env old from (Err status) new to
   unsynced new to status sync rest = record {
-    number = tt;
+    set = tt;
+    log = tt;
     waits = tt;
     empty = tt;
     err = stays_or_breaks env next from (λ (v : OpenStoreValue C). MayGiveNumber old.set v.set × (v.log.number ≡ old.log.number) × (v.recent ≡ old.recent) × (v.waiting ≡ old.waiting)) (λ writer. (inr refl, refl, refl, refl)) new to status sync.err;
@@ -364,7 +365,8 @@ module _ {E F C : Type 0} (env : Ghosts E F) (old : OpenStoreValue C) (from : E)
     -- the log's file wasn't made
     pub unmade : (status : Status) → HasCause {T = T} IsOutOfMemory (env.failures mid) (env.failures to) (Err status) → SwitchesLog env old from (Err status) next to
     unmade status cause = record {
-      number = tt;
+      set = tt;
+      log = tt;
       waits = tt;
       empty = tt;
       err = (inr refl, refl, refl, refl);
@@ -383,10 +385,11 @@ module _ {E F C : Type 0} (env : Ghosts E F) (old : OpenStoreValue C) (from : E)
     }
 
     -- the log was switched
-    pub switched : (new : OpenStoreValue C) → new.cmp ≡ old.cmp → new.set ≡ with_number_given old.set → new.log.number ≡ old.set.next_file → new.recent.entries ≡ [] → new.waiting ≡ Some old.recent
+    pub switched : (new : OpenStoreValue C) → new.cmp ≡ old.cmp → new.set ≡ with_number_given old.set → new.log ≡ record { number = old.set.next_file; writer = new_writer log_block_size 0 } → new.recent.entries ≡ [] → new.waiting ≡ Some old.recent
         → env.failures to ≡ env.failures mid → SwitchesLog env old from (Ok tt) new to
-    switched new same_cmp set number empty waits counted = record {
-      number = (set, number);
+    switched new same_cmp set log empty waits counted = record {
+      set = set;
+      log = log;
       waits = waits;
       empty = empty;
       err = tt;

@@ -4,6 +4,7 @@ use Rattle.std.proofs.Common.{◌≡◌, ◌⊎◌, ◌∙◌, ◌∷◌, ◌++�
 use Rattle.std.proofs.lemmas.List.{map-append}
 use Rattle.std.proofs.lemmas.List.Elements.{All-cons, All-nil}
 use Rattle.std.specs.Cmp.{IsTotalOrder}
+use Rattle.std.specs.Option.{option_map}
 use Rattle.std.specs.Cmp.Lexicographic.{bytes_decides}
 use Rattle.std.specs.Str.{bytes_eq}
 use Rattle.std.specs.declared.cmp.Ordering.{Ordering}
@@ -23,6 +24,7 @@ use Rattle.leveldb_env.specs.WholeFiles.{IsLost}
 use Rattle.leveldb_env.specs.declared.env.Env.{Ghosts}
 use Rattle.leveldb_env.specs.declared.filter.FilterPolicy.{Ghosts as FilterGhosts}
 use Rattle.leveldb_mem.specs.Log.Writer.{frame}
+use Rattle.leveldb_mem.specs.MemTable.{MemTableState}
 use Rattle.leveldb_table.specs.TableBuilder.{IsMeaningOf}
 use Rattle.leveldb_table.specs.TableLaws.{DecodesMore}
 use Rattle.leveldb_version.proofs.StoreTablesLemmas.{held_tables_by_more}
@@ -39,10 +41,12 @@ use Rattle.leveldb_version.specs.VersionSetValue.{AreFileNumbersUsedUp, Manifest
 use Rattle.leveldb_version.specs.Writing.{IsWrittenBy, table_edit}
 use Rattle.leveldb_version.specs.declared.version_edit.VersionEdit.{VersionEdit}
 use Rattle.leveldb_store.proofs.TableKeepsLemmas.{KeepsHistory-refl, KeepsHistory-trans, appending_and_syncing, is_table_path, keeps_logged, keeps_made, shows_done, shows_failed, shows_made, types_apart, w_made, written_done, written_made}
+use Rattle.leveldb_store.proofs.SoundLemmas.{edit_goes_on, goes_on_then, sound_unlogged, table_goes_on}
 use Rattle.leveldb_store.specs.BuildTable.{MakesTable, TableChoices}
 use Rattle.leveldb_store.specs.Format.{Agrees, Format, Meaning}
 use Rattle.leveldb_store.specs.OpenStore.{HasOwnManifest, OpenStoreValue}
-use Rattle.leveldb_store.specs.Switch.{FailsToTable, TablesWaiting}
+use Rattle.leveldb_store.specs.SoundCall.{IsSoundCall}
+use Rattle.leveldb_store.specs.Switch.{FailsToTableWaiting, TablesWaiting}
 use Rattle.leveldb_store.specs.Written.{IsData, IsDataPath, IsTableOf, IsWritten, KeepsWritten, Shows, SparesRest, memory_of, waiting_entries}
 
 -- ---- the edit
@@ -79,6 +83,16 @@ table_edit_fits log file = record {
       (All-nil (λ (it : NewFile). it.level < 7));
 }
 
+-- ---- what waits
+
+-- a memtable that waits has entries
+pub waiting_has_entries : {C : Type 0} (waiting : Option (MemTableState C))
+    → option_map (λ memtable. memtable.kept) waiting ≢ None
+    → IfSome waiting (λ memtable. memtable.kept.entries ≢ [])
+    → waiting_entries (option_map (λ memtable. memtable.kept) waiting) ≢ []
+waiting_has_entries None waits some = absurd (waits refl)
+waiting_has_entries (Some memtable) waits some = some
+
 -- ---- the set after an edit
 
 -- a manifest that is neither unmade nor broken is in use
@@ -88,9 +102,10 @@ in_use_of unmade made usable = absurd (made refl)
 in_use_of (in_use manifest) made usable = (manifest, refl)
 in_use_of broken made usable = absurd (usable refl)
 
--- the set's path and its manifest's stay
+-- the set's path, its manifest's and its last number stay
 pub record KeepsManifest (old new : VersionSetValue) : Type 0 where
   pub store : new.store ≡ old.store
+  pub last : new.last_sequence ≡ old.last_sequence
   pub made : new.manifest ≢ unmade
   pub path : (manifest : OpenManifest) → new.manifest ≡ in_use manifest
       → (before : OpenManifest) × (old.manifest ≡ in_use before) × (manifest.path ≡ before.path)
@@ -104,14 +119,12 @@ never_used manifest e = cc
 never_made : (manifest : OpenManifest) → in_use manifest ≡ unmade → ⊥
 never_made manifest e = cc
 
-never_broken : (manifest : OpenManifest) → in_use manifest ≡ broken → ⊥
-never_broken manifest e = cc
-
 module _ {old : VersionSetValue} (manifest : OpenManifest)
     (used : old.manifest ≡ in_use manifest) where
   was : KeepsManifest old old
   was = record {
     store = refl;
+    last = refl;
     made = λ e. never_made manifest (sym used ∙ e);
     path = λ m e. (m, e, refl);
   }
@@ -119,6 +132,7 @@ module _ {old : VersionSetValue} (manifest : OpenManifest)
   broke : KeepsManifest old (record old { manifest = broken })
   broke = record {
     store = refl;
+    last = refl;
     made = λ e. let never : broken ≡ unmade = e in cc;
     path = λ m e. absurd (never_used m e);
   }
@@ -129,6 +143,7 @@ module _ {old : VersionSetValue} (manifest : OpenManifest)
       → KeepsManifest old new
   keeps_manifest (Ok unit) a = subst (KeepsManifest old) (sym a.ok) (record {
     store = refl;
+    last = refl;
     made = λ e. never_made _ e;
     path = λ m e. (manifest, used, ap (λ (x : OpenManifest). x.path) (sym (same_manifest _ m e)));
   })
@@ -315,8 +330,8 @@ module _ {E F C D FP : Type 0} {order : CmpGhosts D} {filters : FilterGhosts FP}
   }
 
   -- nothing was done
-  pub tables_nothing : (status : Status) → FailsToTable env old from choices pairs from status
-      → Tables (Err status) old from
+  pub tables_nothing : (status : Status)
+      → FailsToTableWaiting env old from choices pairs from status → Tables (Err status) old from
   tables_nothing status why = record {
     logged = tt;
     none_waits = tt;
@@ -392,7 +407,7 @@ module _ {E F C D FP : Type 0} {order : CmpGhosts D} {filters : FilterGhosts FP}
       };
     }
       where
-        uncounted : FailsToTable env old from choices pairs mid status
+        uncounted : FailsToTableWaiting env old from choices pairs mid status
             → env.failures mid ≡ env.failures from
         uncounted (inl used) = never_used_up status used
         uncounted (inr (inl memory)) = m.cause.uncounted (inl memory)
@@ -445,6 +460,27 @@ module _ {E F C D FP : Type 0} {order : CmpGhosts D} {filters : FilterGhosts FP}
         missing.2 ∙ same_count,
       )
 
+      -- why the edit wasn't logged, said of what was there before the table
+      unlogged_cause : (status : Status) → Logged (Err status)
+          → IsLost env.models_disk manifest.path (env.observed from) (env.failures from)
+          (env.failures to) status
+          ⊎ (env.failures to ≡ env.failures from + 1)
+          ⊎ ((env.failures from ≡ 2 ^ 64 - 1) × (env.failures to ≡ env.failures from))
+      unlogged_cause status l = ⊎_elim (λ lost. inl (lost_before status lost))
+          (λ counted. inr (subst
+          (λ k. (env.failures to ≡ k + 1) ⊎ ((k ≡ 2 ^ 64 - 1) × (env.failures to ≡ k)))
+          same_count counted)) l.cause.cause
+
+      -- that breaks a store that was written only where memory was out or the device failed
+      pub unlogged_sound : (cmp : List ℕ → List ℕ → Ordering) (Means : Meaning → Type 0)
+          (new : OpenStoreValue C) (status : Status) → Logged (Err status)
+          → IsSoundCall {T = Unit {0}} env cmp Means old from (Err status) new to
+      unlogged_sound cmp Means new status l =
+          sound_unlogged env cmp Means old from manifest used status new to
+          (goes_on_then env (table_goes_on env m)
+          (edit_goes_on env manifest given_set old.log.number (new_file_of (0, file)) (m.fits 0)
+          mid to (Err status) set l)) (unlogged_cause status l)
+
       -- the edit wasn't logged
       pub tables_unlogged : (status : Status) → Logged (Err status)
           → Tables (Err status) (record old { set = set }) to
@@ -467,11 +503,8 @@ module _ {E F C D FP : Type 0} {order : CmpGhosts D} {filters : FilterGhosts FP}
           later = omega (arith, l.cause.later, same_count);
           ok = tt;
           uncounted = λ excused. uncounted excused;
-          cause = ⊎_elim
-              (λ lost. inl (inr (inr (inr (inl (manifest, used, lost_before status lost))))))
-              (λ counted. inr (subst
-              (λ k. (env.failures to ≡ k + 1) ⊎ ((k ≡ 2 ^ 64 - 1) × (env.failures to ≡ k)))
-              same_count counted)) l.cause.cause;
+          cause = ⊎_elim (λ lost. inl (inr (inr (inr (inl (manifest, used, lost))))))
+              (λ counted. inr counted) (unlogged_cause status l);
         };
       }
         where
@@ -481,7 +514,7 @@ module _ {E F C D FP : Type 0} {order : CmpGhosts D} {filters : FilterGhosts FP}
           either part same broke = ⊎_elim (λ memory. ap part memory.1 ∙ same)
               (λ is. ap part is ∙ broke) l.err
 
-          uncounted : FailsToTable env old from choices pairs to status
+          uncounted : FailsToTableWaiting env old from choices pairs to status
               → env.failures to ≡ env.failures from
           uncounted (inl numbers) = never_used_up status numbers
           uncounted (inr (inl memory)) = l.cause.uncounted (inl memory) ∙ same_count

@@ -1,7 +1,9 @@
 -- What syncs of the log, and appends to it, make of an open store.
-use Rattle.std.specs.Prelude.{◌≢◌, IsErrAnd, IsTrue, OnErr, OnOk, IfErr, IfOk}
+use Rattle.std.specs.Prelude.{◌≢◌, Contains, IsErrAnd, IsTrue, OnErr, OnOk, IfErr, IfOk}
 use Rattle.std.proofs.Common.{◌≡◌, ◌∙◌, ◌∷◌, ◌+◌, ◌≤◌, length, inl, inr, ⊎_elim, ℕ, Bool, true, false, List, [], None, Ok, Err, Result, ap, arith, refl, subst, sym}
-use Rattle.leveldb_base.specs.History.{Item, greatest, placed}
+use Rattle.std.proofs.lemmas.List.Elements.{Contains-append_cases}
+use Rattle.leveldb_base.proofs.HistoryLemmas.{in_cases, in_none}
+use Rattle.leveldb_base.specs.History.{AreUpTo, Entry, Item, greatest, placed}
 use Rattle.leveldb_base.specs.declared.error.Status.{Status}
 use Rattle.leveldb_base.specs.declared.error.StatusCode.TheVariants.{IOError, NotFound, OutOfMemory}
 use Rattle.leveldb_base.specs.Error.{IsOutOfMemory}
@@ -12,6 +14,7 @@ use Rattle.leveldb_env.specs.EnvFile.{Appends, Opened, Syncs, opened}
 use Rattle.leveldb_env.specs.WholeFiles.{IsFoundOr, IsLost}
 use Rattle.leveldb_env.specs.declared.env.Env.{Ghosts}
 use Rattle.leveldb_mem.specs.Log.Writer.{AddsRecord, FailsToAdd, Flushes, IsWriterBroken, SameWriterAndSink, WriterState, broken_writer, frame}
+use Rattle.leveldb_mem.specs.MemTable.{IsUnion, entry_of}
 use Rattle.leveldb_store.specs.OpenStore.{OpenStoreValue}
 use Rattle.leveldb_store.specs.Write.{AppendsToLog, IsLogLost, StaysOrBreaks, SyncsLog, open_log_path, with_writer}
 
@@ -125,6 +128,28 @@ module _ {E F C : Type 0} (env : Ghosts E F) (old : OpenStoreValue C) (from : E)
             subst (λ w. SyncsLog env old from result (with_writer old w) to) (sym all.1)
             (subst (λ e. SyncsLog env old from result old e) (sym all.2) (refused answer result is all.0 (found_broken (open_log_path old) answer result all.0 found)))
 
+  -- an error of a call on the log leaves its writer broken
+  pub sync_breaks : (file : F) {to : E} {after : F} {last : WriterState} (answer result : Result (Unit {0}) Status)
+      → (old.log.writer.broken ≡ false → Flushes (Syncs env) old.log.writer (opened from file) answer last (opened to after))
+      → (old.log.writer.broken ≡ true → IsErrAnd answer IsWriterBroken × (last ≡ old.log.writer) × (to ≡ from) × (after ≡ file))
+      → IsFoundOr (open_log_path old) answer result → OnErr result (with_writer old last ≡ with_writer old (broken_writer old.log.writer))
+  sync_breaks file {to} {after} {last} answer result usable broken found = by old.log.writer.broken refl
+    where
+      none_of : (answer result : Result (Unit {0}) Status) → IsErrAnd answer IsWriterBroken → with_writer old last ≡ with_writer old (broken_writer old.log.writer)
+          → OnErr result (with_writer old last ≡ with_writer old (broken_writer old.log.writer))
+      none_of answer (Ok value) why is = tt
+      none_of answer (Err status) why is = is
+
+      turned : (answer : Result (Unit {0}) Status) → OnErr answer (last ≡ broken_writer old.log.writer) → OnErr answer (with_writer old last ≡ with_writer old (broken_writer old.log.writer))
+      turned (Ok value) is = tt
+      turned (Err status) is = ap (with_writer old) is
+
+      by : (b : Bool) → old.log.writer.broken ≡ b → OnErr result (with_writer old last ≡ with_writer old (broken_writer old.log.writer))
+      by false is = err_found (with_writer old last ≡ with_writer old (broken_writer old.log.writer)) (open_log_path old) answer result found (turned answer (usable is).err)
+      by true is =
+          let all = broken is in
+          none_of answer result all.0 (ap (with_writer old) all.1 ∙ ap (λ b. with_writer old (record old.log.writer { broken = b })) is)
+
   -- ---- appends
 
   -- an error before any call
@@ -133,6 +158,7 @@ module _ {E F C : Type 0} (env : Ghosts E F) (old : OpenStoreValue C) (from : E)
     does = λ modelled. still status (inl refl);
     locks = λ modelled. refl;
     ok = tt;
+    usable = tt;
     err = stays;
     broken = λ is. (refl, refl);
     cause = still_cause status lost;
@@ -156,10 +182,15 @@ module _ {E F C : Type 0} (env : Ghosts E F) (old : OpenStoreValue C) (from : E)
           does = put_does put;
           locks = put.locks;
           ok = ap (with_writer old) adds.writer;
+          usable = unbroken old.log.writer.broken refl;
           err = tt;
           broken = λ broken. absurd (usable broken);
           cause = record { later = put.cause.later; ok = put.cause.ok; uncounted = tt; cause = tt };
         }
+      where
+        unbroken : (b : Bool) → old.log.writer.broken ≡ b → old.log.writer.broken ≡ false
+        unbroken false is = is
+        unbroken true is = absurd (usable is)
 
     failed_put : {to : E} {after : F} {last : WriterState} (raw status : Status) → old.log.writer.broken ≡ false → FailsToAdd (Appends env) old.log.writer (opened from file) text raw last (opened to after)
         → IsFoundOr {T = Unit {0}} (open_log_path old) (Err raw) (Err status) → AppendsToLog env old from text (Err status) (with_writer old last) to
@@ -172,6 +203,7 @@ module _ {E F C : Type 0} (env : Ghosts E F) (old : OpenStoreValue C) (from : E)
           does = λ modelled. ChangesFiles-found (open_log_path old) (Err raw) (Err status) found (put_does failed.0 modelled);
           locks = failed.0.locks;
           ok = tt;
+          usable = tt;
           err = inr (ap (with_writer old) failed.1);
           broken = λ broken. let never : false ≡ true = sym usable ∙ broken in absurd (cc never);
           cause = device_cause (env.name_of file) (Err raw) (Err status) usable named found failed.0.cause;
@@ -228,3 +260,19 @@ module _ {E F C : Type 0} (env : Ghosts E F) (old : OpenStoreValue C) (from : E)
 pub greatest_below : (last : ℕ) (items : List Item) → greatest (placed (last + 1) items) ≤ last + length items
 greatest_below last [] = omega arith
 greatest_below last (item ∷ items) = let rest = greatest_below (last + 1) items in omega (arith, rest)
+
+-- nor has any of them
+placed_up_to : (last : ℕ) (items : List Item) → AreUpTo (last + length items) (placed (last + 1) items)
+placed_up_to last [] entry there = absurd (in_none entry there)
+placed_up_to last (item ∷ items) entry there = ⊎_elim
+    (λ (e : entry_of (last + 1) item.key item.value ≡ entry). let s = ap (λ (x : Entry). x.sequence) e in omega (arith, s))
+    (λ (rest : Contains (placed ((last + 1) + 1) items) entry). let low = placed_up_to (last + 1) items entry rest in omega (arith, low))
+    (in_cases _ entry (placed ((last + 1) + 1) items) there)
+
+-- so with them no entry has a greater one
+pub inserted_up_to : (last : ℕ) (old : List Entry) (first : ℕ) (items : List Item) (new : List Entry) → AreUpTo last old → first ≡ last + 1 → IsUnion old (placed first items) new
+    → AreUpTo (last + length items) new
+inserted_up_to last old first items new low is gains entry there = ⊎_elim
+    (λ (was : Contains old entry). let a = low entry was in omega (arith, a))
+    (λ (more : Contains (placed first items) entry). placed_up_to last items entry (subst (λ n. Contains (placed n items) entry) is more))
+    (Contains-append_cases old (placed first items) entry ((gains entry).0 there))

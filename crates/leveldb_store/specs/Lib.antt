@@ -9,3 +9,10 @@ pub mod ReadTable
 pub mod Search
 pub mod Opening
 pub mod ReplayLog
+pub mod WriteBatch
+pub mod Room
+pub mod SoundCall
+pub mod RoomSteps
+pub mod OpensStore
+pub mod OpeningState
+pub mod OpeningSteps

@@ -1,5 +1,5 @@
 -- What an opening replays of a store's logs.
-use Rattle.std.specs.Prelude.{◌≡◌, ◌≢◌, ◌≤◌, ◌<◌, ℕ, Bool, if◌then◌else◌, List, ◌++◌, AllPairs, Contains, IsTrue, map, max}
+use Rattle.std.specs.Prelude.{◌≡◌, ◌≢◌, ◌≤◌, ◌<◌, ◌^◌, ℕ, Bool, if◌then◌else◌, List, ◌++◌, AllPairs, Contains, IsTrue, map, max}
 use Rattle.std.specs.declared.cmp.Ordering.{Ordering}
 use Rattle.leveldb_base.specs.History.{Entry, greatest}
 use Rattle.leveldb_env.specs.Env.{Files, Observed, Run}
@@ -32,11 +32,12 @@ pub record GivesNumbers (old new : VersionSetValue) : Type 0 where
   pub set : new ≡ record old { next_file = new.next_file; given = new.given }
   pub rises : old.next_file ≤ new.next_file
 
--- each file is the same but those of tables whose numbers are given from one set to the other
+-- each file is the same but those of tables whose numbers are given from one set to the other, and
+-- fit into 64 bits
 abbrev pub SameButTables : VersionSetValue → VersionSetValue → Files → Files → Type 0
 SameButTables old new before after = (path : List ℕ)
-    → ((n : ℕ) → old.next_file ≤ n → n < new.next_file → path ≢ table_path old.store n)
-    → after path ≡ before path
+    → ((n : ℕ) → old.next_file ≤ n → n < new.next_file → n < 2 ^ 64
+    → path ≢ table_path old.store n) → after path ≡ before path
 
 -- `cmp` is the order of user keys, and `meaning` what names and ids in the files mean.
 module _ (cmp : List ℕ → List ℕ → Ordering) (meaning : Meaning) where

@@ -1,9 +1,9 @@
 -- What each step of a replay of a log makes of memory and of the store's files, and why it fails.
-use Rattle.std.specs.Prelude.{◌≡◌, ◌≤◌, ◌<◌, ◌⊎◌, ℕ, List, [], ◌∷◌, ◌++◌, Contains, OnOk, IfOk, IsTrue, Result, if◌then◌else◌, length, map, max}
+use Rattle.std.specs.Prelude.{◌≡◌, ◌≤◌, ◌<◌, ◌^◌, ◌⊎◌, ℕ, List, [], ◌∷◌, ◌++◌, Contains, OnOk, IfOk, IsTrue, Result, if◌then◌else◌, length, map, max}
 use Rattle.std.specs.declared.cmp.Ordering.{Ordering}
 use Rattle.leveldb_base.specs.Entries.{internal_pair}
 use Rattle.leveldb_base.specs.Error.{IsOutOfMemory}
-use Rattle.leveldb_base.specs.History.{Entry, greatest}
+use Rattle.leveldb_base.specs.History.{AreUpTo, Entry, greatest}
 use Rattle.leveldb_base.specs.KeyTypes.{greatest_sequence}
 use Rattle.leveldb_base.specs.declared.cmp.Cmp.{Ghosts as CmpGhosts}
 use Rattle.leveldb_base.specs.declared.error.Status.{Status}
@@ -24,6 +24,7 @@ use Rattle.leveldb_version.specs.VersionSetValue.{VersionSetValue, with_number_g
 use Rattle.leveldb_store.specs.BuildTable.{IsNotTabled, TableChoices}
 use Rattle.leveldb_store.specs.Format.{Agrees, Format, Meaning}
 use Rattle.leveldb_store.specs.Opening.{AreMadeTables, GivesNumbers, IsMadeTable, KeepsRecovered, LogInMemory, ReplaysLog, SameButTables}
+use Rattle.leveldb_store.specs.SoundCall.{BytesAreAppended}
 use Rattle.leveldb_store.specs.declared.opening.replay_log.ReplayedLog.{ReplayedLog}
 
 -- ---- memory
@@ -74,12 +75,16 @@ module _ {E F : Type 0} (env : Ghosts E F) where
   pub record MakesTablesOnly (old : VersionSetValue) (from : E) (new : VersionSetValue) (to : E)
       : Type 0 where
     pub numbers : GivesNumbers old new
+    -- a number that a file can have comes next still
+    pub fits : old.next_file < 2 ^ 64 → new.next_file < 2 ^ 64
     pub run : IsTrue env.models_disk
         → Run (SameButTables old new (env.observed from).disk.files) (env.observed from)
         (env.observed to)
     pub locks : SameLocks env.models_disk (env.observed from) (env.observed to)
     pub keeps : IsTrue env.models_disk → (cmp : List ℕ → List ℕ → Ordering) (meaning : Meaning)
         → KeepsRecovered cmp meaning old (env.observed from) new (env.observed to)
+    -- what was appended to files are bytes still
+    pub bytes : BytesAreAppended env from to
 
   -- ---- what was replayed
 
@@ -213,6 +218,8 @@ module _ {E F D FP : Type 0} (env : Ghosts E F) {order : CmpGhosts D} {filters :
           → IfOk result (λ log. ReplaysLog choices.format.order meaning set last number
           (env.observed from).disk.files (log_in_memory log) now log.last
           (env.observed to).disk.files)
+      -- no entry in memory has a number past the last one
+      pub up_to : IfOk result (λ log. AreUpTo log.last log.rest.kept.entries)
       pub room : IfOk result (IsNotFull limit)
       pub cause : HasCause (FailsToReplay set.store last number from to) (env.failures from)
           (env.failures to) result

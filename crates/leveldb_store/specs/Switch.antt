@@ -12,7 +12,8 @@ use Rattle.leveldb_env.specs.Env.{BeforeOrAfter, ChangesFiles, Files, HasCause, 
 use Rattle.leveldb_env.specs.WholeFiles.{IsLost}
 use Rattle.leveldb_env.specs.declared.env.Env.{Ghosts}
 use Rattle.leveldb_env.specs.declared.filter.FilterPolicy.{Ghosts as FilterGhosts}
-use Rattle.leveldb_mem.specs.Log.Writer.{IsWriterBroken}
+use Rattle.leveldb_mem.specs.Log.{log_block_size}
+use Rattle.leveldb_mem.specs.Log.Writer.{IsWriterBroken, new_writer}
 use Rattle.leveldb_version.specs.LogEdit.{set_appended}
 use Rattle.leveldb_version.specs.VersionEdit.{NewFile}
 use Rattle.leveldb_version.specs.VersionSetValue.{AreFileNumbersUsedUp, OpenManifest, VersionSetValue, broken, in_use, with_number_given}
@@ -49,8 +50,9 @@ module _ {E F C : Type 0} (env : Ghosts E F) (old : OpenStoreValue C) (from : E)
   -- broken.
   pub record SwitchesLog (result : Result (Unit {0}) Status) (new : OpenStoreValue C) (to : E)
       : Type 0 where
-    pub number : OnOk result ((new.set ≡ with_number_given old.set)
-        × (new.log.number ≡ old.set.next_file))
+    pub set : OnOk result (new.set ≡ with_number_given old.set)
+    pub log : OnOk result (new.log
+        ≡ record { number = old.set.next_file; writer = new_writer log_block_size 0 })
     pub waits : OnOk result (new.waiting ≡ Some old.recent)
     pub empty : OnOk result (new.recent.entries ≡ [])
     pub err : OnErr result (MayGiveNumber old.set new.set
@@ -71,9 +73,9 @@ module _ {E F C : Type 0} (env : Ghosts E F) (old : OpenStoreValue C) (from : E)
 
   -- Why the entries aren't in a table: the numbers of files are used up; out of memory; no table
   -- was built of them, and no call was made; or the manifest is lost.
-  abbrev pub FailsToTable : {D FP : Type 0} {order : CmpGhosts D} {filters : FilterGhosts FP}
-      → TableChoices order filters → List Pair → E → Status → Type 0
-  FailsToTable choices pairs to status = AreFileNumbersUsedUp old.set.next_file status
+  abbrev pub FailsToTableWaiting : {D FP : Type 0} {order : CmpGhosts D}
+      {filters : FilterGhosts FP} → TableChoices order filters → List Pair → E → Status → Type 0
+  FailsToTableWaiting choices pairs to status = AreFileNumbersUsedUp old.set.next_file status
       ⊎ IsOutOfMemory status ⊎ (IsNotTabled choices pairs status × (to ≡ from))
       ⊎ IsManifestLost to status
 
@@ -92,8 +94,8 @@ module _ {E F C : Type 0} (env : Ghosts E F) (old : OpenStoreValue C) (from : E)
     pub recent : new.recent ≡ old.recent
     pub log : new.log ≡ old.log
     pub rest : SparesRest env.models_disk old (env.observed from) new (env.observed to)
-    pub cause : HasCause (FailsToTable choices pairs to) (env.failures from) (env.failures to)
-        result
+    pub cause : HasCause (FailsToTableWaiting choices pairs to) (env.failures from)
+        (env.failures to) result
 
 -- ---- obsolete files
 
@@ -145,8 +147,9 @@ module _ {E F : Type 0} (env : Ghosts E F) (set : VersionSetValue) (from : E) wh
   -- Obsolete files were removed, and no others; after an Err some of them may be there still. A
   -- set that is broken removes none.
   pub record RemovesObsolete (result : Result (Unit {0}) Status) (to : E) : Type 0 where
-    pub others : IsTrue env.models_disk
-        → RemovesNoOther set (env.observed from).disk.files (env.observed to).disk.files
+    -- now and at each moment on the way
+    pub run : IsTrue env.models_disk → Run (RemovesNoOther set (env.observed from).disk.files)
+        (env.observed from) (env.observed to)
     pub all : set.manifest ≢ broken → OnOk result (IsTrue env.models_disk
         → (path : List ℕ) → IsObsoletePath set path → (env.observed to).disk.files path ≡ None)
     pub broken_keeps : set.manifest ≡ broken → (result ≡ Ok tt) × (to ≡ from)

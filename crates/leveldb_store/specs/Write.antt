@@ -1,16 +1,17 @@
 -- What the calls on an open store's log change, and what each returns.
-use Rattle.std.specs.Prelude.{◌≡◌, ◌≤◌, ◌<◌, ◌+◌, ◌⊎◌, ℕ, true, false, List, length, max, Result, OnOk, OnErr, IfErr, IsTrue}
-use Rattle.leveldb_base.specs.History.{AreUpTo, placed}
+use Rattle.std.specs.Prelude.{◌≡◌, ◌≤◌, ◌<◌, ◌+◌, ◌⊎◌, ℕ, Bool, true, false, if◌then◌else◌, List, length, max, Result, OnOk, OnErr, IfErr, IsTrue}
+use Rattle.leveldb_base.specs.History.{placed}
 use Rattle.leveldb_base.specs.KeyTypes.{greatest_sequence}
 use Rattle.leveldb_base.specs.declared.error.Status.{Status}
 use Rattle.leveldb_base.specs.declared.error.StatusCode.TheVariants.{NotSupported}
 use Rattle.leveldb_base.specs.Error.{IsOutOfMemory}
 use Rattle.leveldb_env.specs.declared.env.Env.{Ghosts}
-use Rattle.leveldb_env.specs.Env.{BeforeOrAfter, ChangesFiles, HasCause, PrefixAppended, SameLocks, extended, synced}
+use Rattle.leveldb_env.specs.Env.{BeforeOrAfter, ChangesFiles, Files, HasCause, PrefixAppended, Run, SameLocks, extended, synced}
 use Rattle.leveldb_env.specs.WholeFiles.{IsLost}
 use Rattle.leveldb_mem.specs.Log.Writer.{IsWriterBroken, WriterState, after_frame, broken_writer, frame}
 use Rattle.leveldb_mem.specs.MemTable.{AddsAll, FailsToPrepare, HasRoom, Kept, bytes_in}
 use Rattle.leveldb_mem.specs.WriteBatch.{Batch, batch_of}
+use Rattle.leveldb_version.specs.LogEdit.{AppendingAndSyncing, with_bytes_kept}
 use Rattle.leveldb_version.specs.Paths.{log_path}
 use Rattle.leveldb_store.specs.OpenStore.{OpenStoreValue}
 
@@ -21,6 +22,11 @@ open_log_path value = log_path value.set.store value.log.number
 -- the same store with another state of its log's writer
 abbrev pub with_writer : {C : Type 0} → OpenStoreValue C → WriterState → OpenStoreValue C
 with_writer value writer = record value { log = record value.log { writer = writer } }
+
+-- bytes are appended to the file of a name, and all of it is kept if it is synced
+abbrev pub logged : List ℕ → List ℕ → Bool → Files → Files
+logged path bytes sync files =
+    if sync then with_bytes_kept path bytes files else extended path bytes files
 
 module _ {E F C : Type 0} (env : Ghosts E F) (old : OpenStoreValue C) (from : E) where
   -- out of memory, the log is missing, or a call on it failed before
@@ -61,8 +67,26 @@ module _ {E F C : Type 0} (env : Ghosts E F) (old : OpenStoreValue C) (from : E)
         (env.observed from) (env.observed to) result
     pub locks : SameLocks env.models_disk (env.observed from) (env.observed to)
     pub ok : OnOk result (new ≡ with_writer old (after_frame old.log.writer text))
+    pub usable : OnOk result (old.log.writer.broken ≡ false)
     pub err : IfErr result (StaysOrBreaks new to)
     pub broken : old.log.writer.broken ≡ true → (new ≡ old) × (to ≡ from)
+    pub cause : HasCause (IsLogLost to) (env.failures from) (env.failures to) result
+
+  -- A record of this text was appended to the log, and synced if that is asked for.
+  pub record LogsText (text : List ℕ) (sync : Bool) (result : Result (Unit {0}) Status)
+      (new : OpenStoreValue C) (to : E) : Type 0 where
+    -- on the way some of it was appended, or all of it is there and the log is kept
+    pub run : IsTrue env.models_disk
+        → Run (AppendingAndSyncing (open_log_path old) (frame old.log.writer text)
+        (env.observed from).disk.files) (env.observed from) (env.observed to)
+    pub done : OnOk result (IsTrue env.models_disk → (env.observed to).disk.files
+        ≡ logged (open_log_path old) (frame old.log.writer text) sync
+        (env.observed from).disk.files)
+    pub locks : SameLocks env.models_disk (env.observed from) (env.observed to)
+    pub ok : OnOk result (new ≡ with_writer old (after_frame old.log.writer text))
+    -- memory was out before any call, or the log's writer is broken
+    pub err : IfErr result (λ status. (IsOutOfMemory status × (new ≡ old) × (to ≡ from))
+        ⊎ ((new ≡ with_writer old new.log.writer) × (new.log.writer.broken ≡ true)))
     pub cause : HasCause (IsLogLost to) (env.failures from) (env.failures to) result
 
 -- ---- numbers and memory
@@ -96,13 +120,11 @@ pub record PreparesBatch {C : Type 0} (old : OpenStoreValue C) (batch : Batch)
       AreNumbersUsedUp old.set.last_sequence (length batch.items) status
       ⊎ FailsToPrepare old.recent (length batch.items) (bytes_in batch.items) status)
 
--- A batch may be inserted: there is room for it, it has the next numbers, which entries can have,
--- and the memtable has no greater one.
+-- a batch may be inserted: there is room for it, and it has the next numbers, which entries can have
 pub record CanBeInserted {C : Type 0} (value : OpenStoreValue C) (batch : Batch) : Type 0 where
   pub room : HasRoom value.recent batch.items
   pub first : batch.first ≡ value.set.last_sequence + 1
   pub numbers : HasNumbers value.set.last_sequence (length batch.items)
-  pub up_to : AreUpTo value.set.last_sequence value.recent.entries
 
 -- a batch's entries are in the memtable, and the last number is that of the last of them
 pub record InsertsBatch {C : Type 0} (old : OpenStoreValue C) (batch : Batch)

@@ -5,10 +5,12 @@ ghost use Rattle.leveldb_store.specs.OpenStore.{IsUnbroken};
 mod obsolete;
 mod read;
 mod read_table;
+mod room;
 mod search;
 mod switch;
 mod table;
 mod write;
+mod write_batch;
 
 use leveldb_base::cmp::{Cmp, UserCmp};
 use leveldb_base::types::{FileNum, SequenceNumber};
@@ -43,8 +45,9 @@ pub struct OpenStore<E: Env, C: Cmp> {
 }
 
 impl<E: Env, C: Cmp> Model for OpenStore<E, C> {
-    ghost use Rattle.std.specs.Prelude.{◌≡◌, ◌≢◌, IfSome, IsTrue, string_bytes};
+    ghost use Rattle.std.specs.Prelude.{◌≡◌, ◌≢◌, [], IfSome, IsTrue, string_bytes};
     ghost use Rattle.std.specs.Option.{option_map};
+    ghost use Rattle.leveldb_base.specs.History.{AreUpTo};
     ghost use Rattle.leveldb_version.specs.Paths.{log_path};
     ghost use Rattle.leveldb_version.specs.VersionSetValue.{unmade};
     ghost use Rattle.leveldb_store.specs.OpenStore.{HasOwnManifest, OpenStoreValue};
@@ -61,13 +64,16 @@ impl<E: Env, C: Cmp> Model for OpenStore<E, C> {
 
     // The version set is of the store's path, the log's file has the log's path, and both memtables
     // have the store's order. A manifest in use is in the store's folder. The manifest is in use or
-    // broken.
+    // broken. No entry of the log's memtable has a number past the last one, and a memtable that
+    // waits has entries.
     ghost invariant = { λ it. (it.versions.store ≡ string_bytes it.name)
         × (IsTrue E.models_disk → E.name_of it.log.file ≡ log_path (string_bytes it.name) it.log.number)
         × (it.recent.cmp ≡ it.cmp)
         × IfSome it.waiting (λ memtable. memtable.cmp ≡ it.cmp)
         × (IsTrue E.models_disk → HasOwnManifest it.versions)
-        × (it.versions.manifest ≢ unmade) };
+        × (it.versions.manifest ≢ unmade)
+        × AreUpTo it.versions.last_sequence it.recent.kept.entries
+        × IfSome it.waiting (λ memtable. memtable.kept.entries ≢ []) };
 }
 
 impl<E: Env, C: UserCmp + Copy> OpenStore<E, C> {

@@ -1,2 +1,49 @@
-//! Opening a store: so far the replay of one of its logs.
+//! Opening a store over its manifest, its tables and its logs.
+ghost use Rattle.std.specs.Prelude.{◌≡◌, IfOk};
+ghost use Rattle.leveldb_store.specs.Format.{format_of};
+ghost use Rattle.leveldb_store.specs.OpensStore.{OpensStore};
+ghost use Rattle.leveldb_store.specs.SoundCall.{OpensWithBytes};
+
+mod begin;
+mod edit;
+mod find;
+mod log_to_write;
+mod logs;
+mod recover;
+mod replay;
 pub(crate) mod replay_log;
+mod sync;
+
+use crate::open_store::OpenStore;
+use begin::begin_writing;
+use leveldb_base::cmp::UserCmp;
+use leveldb_base::error::Result;
+use leveldb_env::compressor::{CompressorList, Compressors};
+use leveldb_env::env::Env;
+use leveldb_env::filter::FilterPolicy;
+use leveldb_env::options::Options;
+use recover::recover;
+use std::alloc::Global;
+
+impl<E: Env, C: UserCmp + Copy + Drop> OpenStore<E, C> {
+    /// Opens the store under this path, whose lock the caller holds. A missing one is made, or
+    /// `InvalidArgument` if the options say so; one that is there is `AlreadyExists` if they say
+    /// so. What its logs have comes to memory, or to tables where a log isn't used on.
+    /// Returns `Corruption` where the files are no store. It deletes no file.
+    pub fn open<FP: FilterPolicy + Copy + Drop>(
+        alloc: Global,
+        env: &mut E,
+        name: &str,
+        options: &Options<C, FP>,
+    ) -> Result<OpenStore<E, C>>
+        ensures opens { OpensStore E.Env name.now (format_of C.Cmp FP.FilterPolicy
+            ⟦<CompressorList as Compressors>⟧.codings options.now)
+            options.now.create_if_missing options.now.error_if_exists env.old
+            options.now.write_buffer_size result env.new }
+        ensures bytes { OpensWithBytes E.Env name.now env.old result env.new }
+        ensures cmp { IfOk result (λ value. value.cmp ≡ options.now.cmp) }
+    {
+        let set = recover(alloc, env, name, options)?;
+        begin_writing(alloc, env, name, options, set)
+    }
+}

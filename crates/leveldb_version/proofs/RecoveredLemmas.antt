@@ -32,7 +32,7 @@ module _ (models_disk : Bool) (cmp : List ℕ → List ℕ → Ordering) (compar
   nothing_recovered after f0 f1 status still locks same cause = record {
     ok = tt;
     err = same;
-    files = λ modelled. record { manifest = []; number = 0; run = Run-mono (λ files e. inl e) (still modelled); synced_named = inl (still modelled).has; unusable = λ none. still modelled };
+    files = λ modelled. record { manifest = []; number = 0; run = Run-mono (λ files e. inl e) (still modelled); synced_named = inl (still modelled); unusable = λ none. still modelled };
     locks = locks;
     cause = cause;
   }
@@ -76,7 +76,7 @@ module _ (models_disk : Bool) (cmp : List ℕ → List ℕ → Ordering) (compar
         starts_anew = λ not. (refl, is_new ∙ starting_anew, λ modelled. (still modelled).has);
       };
       err = tt;
-      files = λ modelled. record { manifest = []; number = 0; run = Run-mono (λ files e. inl e) (still modelled); synced_named = inl (still modelled).has; unusable = λ none. still modelled };
+      files = λ modelled. record { manifest = []; number = 0; run = Run-mono (λ files e. inl e) (still modelled); synced_named = inl (still modelled); unusable = λ none. still modelled };
       locks = locks;
       cause = record { later = omega (arith, same); ok = same; uncounted = tt; cause = tt };
     }

@@ -220,7 +220,7 @@ module _ (models_disk : Bool) (cmp : List ℕ → List ℕ → Ordering) (compar
     pub number : ℕ
     pub run : Run (BeforeOrAfter (synced (in_folder old.store manifest)) before.disk.files)
         before after
-    pub synced_named : (after.disk.files ≡ before.disk.files)
+    pub synced_named : Run (FilesUnchanged before.disk.files) before after
         ⊎ ((reuse ≡ true) × IsNamed old.store before.disk.files manifest number)
     -- where no edits can be used, nothing changes
     pub unusable : ((edits : List Edit) → HasEdits old.store before.disk.files edits

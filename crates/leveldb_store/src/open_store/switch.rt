@@ -1,7 +1,8 @@
 //! A switch of the log: the entries of the memtable wait, and batches go to a log of the next
 //! number.
-ghost use Rattle.std.specs.Prelude.{◌≡◌, ◌↔◌, None, IsTrue, false};
+ghost use Rattle.std.specs.Prelude.{◌≡◌, ◌≢◌, ◌↔◌, [], None, IsTrue, false};
 ghost use Rattle.leveldb_store.specs.Format.{Meaning};
+ghost use Rattle.leveldb_store.specs.SoundCall.{IsSoundCall, any_meaning};
 ghost use Rattle.leveldb_store.specs.Switch.{SwitchesLog};
 ghost use Rattle.leveldb_store.specs.Written.{KeepsWritten};
 
@@ -26,11 +27,14 @@ impl<E: Env, C: UserCmp + Copy> OpenStore<E, C> {
     /// broken if a sync of the log failed once it had begun. A number that was given for a log that
     /// couldn't be made isn't given again.
     pub fn switch_log(&mut self, env: &mut E) -> Result<()>
-        requires { self.old.waiting ≡ None }
+        requires none_waits { self.old.waiting ≡ None }
+        requires some { self.old.recent.entries ≢ [] }
         ensures switches { SwitchesLog E.Env self.old env.old result self.new env.new }
         ensures keeps { IsTrue E.models_disk → (meaning : Meaning)
             → KeepsWritten (C.cmp self.old.cmp) meaning self.old (E.observed env.old) self.new
             (E.observed env.new) }
+        ensures sound { IsSoundCall E.Env (C.cmp self.old.cmp) any_meaning self.old env.old result
+            self.new env.new }
     {
         let number = self.versions.new_file_number()?;
         let path = log_file_name(self.alloc, &self.name, number)?;

@@ -1,5 +1,5 @@
 //! The table of the entries that wait, and its edit.
-ghost use Rattle.std.specs.Prelude.{◌≡◌, ◌≢◌, [], IsTrue, map};
+ghost use Rattle.std.specs.Prelude.{◌≡◌, ◌≢◌, None, IsTrue, map};
 ghost use Rattle.leveldb_base.specs.Entries.{internal_pair};
 ghost use Rattle.leveldb_env.specs.Env.{SameLocks};
 ghost use Rattle.leveldb_version.specs.Batches.{Each};
@@ -10,6 +10,7 @@ ghost use Rattle.leveldb_version.specs.VersionSetValue.{OpenManifest, broken, in
 ghost use Rattle.leveldb_version.specs.Writing.{table_edit};
 ghost use Rattle.leveldb_store.specs.BuildTable.{MakesTable, choices_of};
 ghost use Rattle.leveldb_store.specs.Format.{Agrees, Meaning, format_of};
+ghost use Rattle.leveldb_store.specs.SoundCall.{IsSoundCall};
 ghost use Rattle.leveldb_store.specs.Switch.{TablesWaiting};
 ghost use Rattle.leveldb_store.specs.Written.{KeepsWritten, waiting_entries};
 
@@ -33,7 +34,7 @@ impl<E: Env, C: UserCmp + Copy + Drop> OpenStore<E, C> {
         env: &mut E,
         options: &Options<C, FP>,
     ) -> Result<()>
-        requires some { waiting_entries self.old.waiting ≢ [] }
+        requires waits { self.old.waiting ≢ None }
         requires order { C.cmp options.now.cmp ≡ C.cmp self.old.cmp }
         ensures tables { TablesWaiting E.Env self.old env.old (choices_of C.Cmp FP.FilterPolicy
             ⟦<InternalKeyCmp<C> as Cmp>⟧ ⟦<InternalFilterPolicy<FP> as FilterPolicy>⟧
@@ -44,6 +45,9 @@ impl<E: Env, C: UserCmp + Copy + Drop> OpenStore<E, C> {
             ⟦<CompressorList as Compressors>⟧.codings options.now) meaning
             → KeepsWritten (C.cmp self.old.cmp) meaning self.old (E.observed env.old) self.new
             (E.observed env.new) }
+        ensures sound { IsSoundCall E.Env (C.cmp self.old.cmp) (Agrees (format_of C.Cmp
+            FP.FilterPolicy ⟦<CompressorList as Compressors>⟧.codings options.now)) self.old
+            env.old result self.new env.new }
     {
         if self.versions.is_broken() {
             return err(self.alloc, StatusCode::IOError, "reopen the store");
@@ -62,7 +66,7 @@ impl<E: Env, C: UserCmp + Copy + Drop> OpenStore<E, C> {
         options: &Options<C, FP>,
         number: FileNum,
     ) -> Result<FileMetaData>
-        requires some { waiting_entries self.now.waiting ≢ [] }
+        requires waits { self.now.waiting ≢ None }
         requires order { C.cmp options.now.cmp ≡ C.cmp self.now.cmp }
         ensures makes { MakesTable (choices_of C.Cmp FP.FilterPolicy
             ⟦<InternalKeyCmp<C> as Cmp>⟧ ⟦<InternalFilterPolicy<FP> as FilterPolicy>⟧

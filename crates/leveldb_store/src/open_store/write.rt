@@ -1,10 +1,12 @@
-//! Writing a batch: memory for it, its record, and its entries; and syncs of the log.
-ghost use Rattle.std.specs.Prelude.{◌≡◌, ◌+◌, true, false, IfErr, IfOk, IsErrAnd, OnOk};
+//! The parts of writing a batch: memory for it, its record, and its entries; and syncs of the log.
+ghost use Rattle.std.specs.Prelude.{◌≡◌, ◌+◌, true, false, IfErr, IfOk, IsErrAnd, OnErr, OnOk};
 ghost use Rattle.leveldb_env.specs.Env.{AreBytes};
 ghost use Rattle.leveldb_env.specs.EnvFile.{Appends, Syncs, opened};
-ghost use Rattle.leveldb_mem.specs.Log.Writer.{AddsRecord, FailsToAdd, Flushes, IsWriterBroken};
+ghost use Rattle.leveldb_mem.specs.Log.Writer.{AddsRecord, FailsToAdd, Flushes, IsWriterBroken, broken_writer};
 ghost use Rattle.leveldb_mem.specs.WriteBatch.{BatchOf, batch_bytes};
-ghost use Rattle.leveldb_store.specs.Write.{AppendsToLog, AreNumbersUsedUp, CanBeInserted, HasNumbers, InsertsBatch, PreparesBatch, SyncsLog};
+ghost use Rattle.leveldb_store.specs.SoundCall.{IsSoundCall, any_meaning};
+ghost use Rattle.leveldb_store.specs.Write.{AppendsToLog, AreNumbersUsedUp, CanBeInserted, HasNumbers, InsertsBatch, PreparesBatch, SyncsLog, open_log_path, with_writer};
+ghost use Rattle.leveldb_store.specs.WriteBatch.{SyncsBatches};
 ghost use Rattle.leveldb_store.specs.Written.{SparesRest};
 
 use super::OpenStore;
@@ -18,9 +20,9 @@ use leveldb_mem::log::WriterCore;
 use leveldb_mem::write_batch::WriteBatch;
 
 impl<E: Env, C: UserCmp + Copy> OpenStore<E, C> {
-    /// Takes the memory for a batch's entries, and gives the batch its numbers.
-    /// `NotSupported` if the numbers are used up, or the entries are too many for a memtable.
-    pub fn prepare(&mut self, batch: &mut WriteBatch) -> Result<()>
+    // Takes the memory for a batch's entries, and gives the batch its numbers.
+    // `NotSupported` if the numbers are used up, or the entries are too many for a memtable.
+    pub(super) fn prepare(&mut self, batch: &mut WriteBatch) -> Result<()>
         ensures { PreparesBatch self.old batch.old result self.new batch.new }
     {
         let first = self.next_sequence(batch.count())?;
@@ -29,8 +31,8 @@ impl<E: Env, C: UserCmp + Copy> OpenStore<E, C> {
         Ok(())
     }
 
-    /// Inserts the entries of a batch that was prepared. It takes no memory.
-    pub fn insert(&mut self, batch: &WriteBatch)
+    // Inserts the entries of a batch that was prepared. It takes no memory.
+    pub(super) fn insert(&mut self, batch: &WriteBatch)
         requires { CanBeInserted self.old batch.now }
         ensures { InsertsBatch self.old batch.now self.new }
     {
@@ -62,15 +64,30 @@ impl<E: Env, C: UserCmp + Copy> OpenStore<E, C> {
         ensures syncs { SyncsLog E.Env self.old env.old result self.new env.new }
         ensures spares { SparesRest E.models_disk self.old (E.observed env.old) self.new
             (E.observed env.new) }
+        ensures batches { SyncsBatches E.Env (C.cmp self.old.cmp) self.old env.old result self.new
+            env.new }
+        ensures sound { IsSoundCall E.Env (C.cmp self.old.cmp) any_meaning self.old env.old result
+            self.new env.new }
     {
         let path = log_file_name(self.alloc, &self.name, self.log.number)?;
-        let synced = sync_file(&mut self.log.writer, env, &mut self.log.file);
-        found(self.alloc, &path, synced)
+        self.sync_log(env, &path)
     }
 
-    /// Appends the record of a batch. If that fails once it has begun, the store is broken, and the
-    /// batch may be found when it is opened again.
-    pub fn append(&mut self, env: &mut E, batch: &WriteBatch) -> Result<()>
+    // Syncs the log, which has this path. It takes no memory, so that an error breaks the store.
+    pub(super) fn sync_log(&mut self, env: &mut E, path: &str) -> Result<()>
+        requires { path.now ≡ open_log_path self.old }
+        ensures syncs { SyncsLog E.Env self.old env.old result self.new env.new }
+        ensures breaks { OnErr result
+            (self.new ≡ with_writer self.old (broken_writer self.old.log.writer)) }
+    {
+        let synced = sync_file(&mut self.log.writer, env, &mut self.log.file);
+        found(self.alloc, path, synced)
+    }
+
+    // Appends the record of a batch to the log, which has this path. If that fails once it has
+    // begun, the store is broken, and the batch may be found when it is opened again.
+    pub(super) fn append(&mut self, env: &mut E, path: &str, batch: &WriteBatch) -> Result<()>
+        requires { path.now ≡ open_log_path self.old }
         ensures appends { AppendsToLog E.Env self.old env.old
             (batch_bytes batch.now.first batch.now.items) result self.new env.new }
         ensures encoded { BatchOf (batch_bytes batch.now.first batch.now.items) batch.now.first
@@ -78,9 +95,8 @@ impl<E: Env, C: UserCmp + Copy> OpenStore<E, C> {
         ensures bytes { AreBytes (batch_bytes batch.now.first batch.now.items) }
     {
         let text = batch.contents();
-        let path = log_file_name(self.alloc, &self.name, self.log.number)?;
         let added = put_record(&mut self.log.writer, env, &mut self.log.file, text);
-        found(self.alloc, &path, added)?;
+        found(self.alloc, path, added)?;
         Ok(())
     }
 }

@@ -166,7 +166,7 @@ impl<C: UserCmp + Copy + Drop> ReplayedLog<C> {
     }
 
     // Makes a table of the entries that are in none, and a new memtable.
-    fn make_table<E: Env, FP: FilterPolicy + Copy + Drop>(
+    pub(super) fn make_table<E: Env, FP: FilterPolicy + Copy + Drop>(
         &mut self,
         alloc: Global,
         env: &mut E,

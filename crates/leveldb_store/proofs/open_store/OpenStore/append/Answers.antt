@@ -5,15 +5,15 @@ use Rattle.leveldb_env.specs.WholeFiles.{IsFoundOr}
 use Rattle.leveldb_version.proofs.BatchMatchesLemmas.{batch_some}
 use Rattle.leveldb_version.specs.Paths.{log_path}
 use Rattle.leveldb_store.proofs.WriteLemmas.{appended_done, appended_refused}
+use Rattle.leveldb_store.specs.Write.{open_log_path}
 use Rattle.leveldb_store.proofs.open_store.OpenStore.append.Goals as goal
 
 pub returns-in_err-found-clause-appends : goal.returns-in_err-found-clause-appends
 returns-in_err-found-clause-appends g c =
-    let p = err_from_is_err_and c.from_residual-in_err-found.result c.from_residual-in_err-found.ensures.1 in
+    let p = err_from_is_err_and c.from_residual.result c.from_residual.ensures.1 in
     let store = c.self.inside.versions.store in
     let number = c.self.inside.log.number in
-    let at_store : log_path c.deref.result.now number ≡ log_path store number = ap (λ (s : List ℕ). log_path s number) (c.deref.ensures ∙ sym c.self.invariant.0) in
-    let path : c.deref-2.result.now ≡ log_path store number = c.deref-2.ensures ∙ c.in_ok-path.ensures.ok ∙ at_store in
+    let path : c.args.path.now ≡ log_path store number = c.requires ∙ ap open_log_path (sym c.self.view_is) in
     let named : IsTrue g.E.Env.models_disk → g.E.Env.name_of c.self.inside.log.file ≡ log_path store number =
     λ modelled. c.self.invariant.1 modelled ∙ ap (λ (s : List ℕ). log_path s number) (sym c.self.invariant.0) in
     let some : c.contents-text.result.now ≢ [] = batch_some _ _ _ c.contents-text.ensures in
@@ -26,8 +26,7 @@ pub returns-clause-appends : goal.returns-clause-appends
 returns-clause-appends g c =
     let store = c.self.inside.versions.store in
     let number = c.self.inside.log.number in
-    let at_store : log_path c.deref.result.now number ≡ log_path store number = ap (λ (s : List ℕ). log_path s number) (c.deref.ensures ∙ sym c.self.invariant.0) in
-    let path : c.deref-2.result.now ≡ log_path store number = c.deref-2.ensures ∙ c.in_ok-path.ensures.ok ∙ at_store in
+    let path : c.args.path.now ≡ log_path store number = c.requires ∙ ap open_log_path (sym c.self.view_is) in
     let named : IsTrue g.E.Env.models_disk → g.E.Env.name_of c.self.inside.log.file ≡ log_path store number =
     λ modelled. c.self.invariant.1 modelled ∙ ap (λ (s : List ℕ). log_path s number) (sym c.self.invariant.0) in
     let some : c.contents-text.result.now ≢ [] = batch_some _ _ _ c.contents-text.ensures in

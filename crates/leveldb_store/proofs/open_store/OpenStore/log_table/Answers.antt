@@ -1,4 +1,5 @@
 use Rattle.std.proofs.Common.{◌≡◌, ◌∙◌, ap, subst, sym}
+use Rattle.leveldb_base.specs.History.{AreUpTo}
 use Rattle.leveldb_version.specs.LogEdit.{LogEditResult}
 use Rattle.leveldb_version.specs.VersionEdit.{edit_of, new_file_of}
 use Rattle.leveldb_version.specs.Writing.{table_edit}
@@ -16,7 +17,7 @@ invariant_of-self g c =
     subst (λ e. LogEditResult g.E.Env.models_disk old e (g.E.Env.observed c.args.env.now) (g.E.Env.failures c.args.env.now) c.log_and_apply.result new (g.E.Env.observed c.log_and_apply.new.env) (g.E.Env.failures c.log_and_apply.new.env)) made c.log_and_apply.ensures.log in
     let used = in_use_of old.manifest c.self.invariant.5 (λ e. c.requires.usable (ap (λ v. v.set.manifest) (sym c.self.view_is) ∙ e)) in
     let kept : KeepsManifest old new = keeps_manifest used.0 used.1 c.log_and_apply.result (logged.used fits used.0 used.1) in
-    (kept.store ∙ c.self.invariant.0, c.self.invariant.1, c.self.invariant.2, c.self.invariant.3, λ modelled. own_again old new kept (c.self.invariant.4 modelled), kept.made)
+    (kept.store ∙ c.self.invariant.0, c.self.invariant.1, c.self.invariant.2, c.self.invariant.3, λ modelled. own_again old new kept (c.self.invariant.4 modelled), kept.made, subst (λ n. AreUpTo n c.self.inside.recent.kept.entries) (sym kept.last) c.self.invariant.6, c.self.invariant.7)
 
 pub returns-clause-logs : goal.returns-clause-logs
 returns-clause-logs g c =

@@ -1,12 +1,15 @@
 use Rattle.std.proofs.Common.{◌≡◌, ◌∙◌, ◌+◌, ◌<◌, ◌^◌, List, ℕ, Ok, Err, Some, ap, subst, sym}
 use Rattle.std.specs.Prelude.{IsTrue}
 use Rattle.std.proofs.lemmas.Result.{err_from_is_err_and}
+use Rattle.leveldb_base.specs.History.{AreUpTo}
 use Rattle.leveldb_env.specs.Env.{BeforeOrAfter, ChangesFiles, emptied}
 use Rattle.leveldb_version.specs.Paths.{log_path}
 use Rattle.leveldb_store.specs.OpenStore.{HasOwnManifest}
 use Rattle.leveldb_store.specs.Write.{SyncsLog}
 use Rattle.leveldb_store.specs.Written.{KeepsStore, SparesRest}
 use Rattle.leveldb_store.proofs.SwitchLemmas.{after_giving, keeps_given, keeps_switched, keeps_unmade, spared_by_sync, switched, sync_made, unmade, unsynced, unsynced_keeps}
+use Rattle.leveldb_store.proofs.SoundLemmas.{call_goes_on, empty_bytes, given_unbroken, goes_on_then, nothing_goes_on, sound_ok, sound_unbroken, sound_unsynced, sync_bytes}
+use Rattle.leveldb_store.specs.SoundCall.{IsSoundCall, any_meaning}
 use Rattle.leveldb_store.proofs.open_store.OpenStore.switch_log.Goals as goal
 
 pub returns-in_err-path-clause-keeps : goal.returns-in_err-path-clause-keeps
@@ -96,8 +99,9 @@ returns-clause-switches g c =
     let opening : ChangesFiles g.E.Env.models_disk (emptied (log_path old.set.store old.set.next_file)) (BeforeOrAfter (emptied (log_path old.set.store old.set.next_file))) (g.E.Env.observed mid) (g.E.Env.observed to) (Ok c.in_ok-file.file) =
     subst (λ s. ChangesFiles g.E.Env.models_disk (emptied s) (BeforeOrAfter (emptied s)) (g.E.Env.observed mid) (g.E.Env.observed to) (Ok c.in_ok-file.file)) path c.in_ok-file.ensures.does in
     let same = c.self-2.view_is ∙ c.in_ok-sync.ensures.syncs.ok ∙ given in
+    let number_is = c.in_ok-number.ensures.number ∙ ap (λ v. v.set.next_file) c.self.view_is in
     switched g.E.Env old from more mid sync rest to (Ok c.in_ok-file.file) opening c.in_ok-file.ensures.locks _
-    (ap (λ v. v.cmp) same) (ap (λ v. v.set) same) (c.in_ok-number.ensures.number ∙ ap (λ v. v.set.next_file) c.self.view_is)
+    (ap (λ v. v.cmp) same) (ap (λ v. v.set) same) (λ i. record { number = number_is i; writer = c.new.ensures i })
     (ap (λ m. m.kept.entries) c.replace.ensures.after ∙ c.new-fresh.ensures.entries)
     (ap (λ m. Some m.kept) c.replace.ensures.value ∙ ap (λ v. Some v.recent) same) c.in_ok-file.ensures.cause.ok
 
@@ -125,7 +129,7 @@ returns-clause-keeps g c = λ modelled meaning allowed w.
       recent = ap (λ m. m.kept.entries) c.replace.ensures.after ∙ c.new-fresh.ensures.entries;
       waiting = ap (λ m. Some m.kept) c.replace.ensures.value ∙ ap (λ v. Some v.recent) same;
     })
-    c.requires (opening.ok modelled)
+    c.requires.none_waits (opening.ok modelled)
 
 pub invariant_of-self-in_err-path : goal.invariant_of-self-in_err-path
 invariant_of-self-in_err-path g c =
@@ -136,6 +140,8 @@ invariant_of-self-in_err-path g c =
       c.self.invariant.3,
       λ modelled. subst HasOwnManifest (sym given) (c.self.invariant.4 modelled),
       λ e. c.self.invariant.5 (sym (ap (λ set. set.manifest) given) ∙ e),
+      subst (λ set. AreUpTo set.last_sequence c.self.inside.recent.kept.entries) (sym given) c.self.invariant.6,
+      c.self.invariant.7,
     )
 
 pub invariant_of-self-2 : goal.invariant_of-self-2
@@ -147,4 +153,69 @@ invariant_of-self-2 g c =
       c.self.invariant.3,
       λ modelled. subst HasOwnManifest (sym given) (c.self.invariant.4 modelled),
       λ e. c.self.invariant.5 (sym (ap (λ set. set.manifest) given) ∙ e),
+      subst (λ set. AreUpTo set.last_sequence c.self.inside.recent.kept.entries) (sym given) c.self.invariant.6,
+      c.self.invariant.7,
     )
+
+pub invariant_of-self : goal.invariant_of-self
+invariant_of-self g c =
+    let same = c.in_err-number.ensures.err in (
+      ap (λ set. set.store) same ∙ c.self.invariant.0,
+      c.self.invariant.1,
+      c.self.invariant.2,
+      c.self.invariant.3,
+      λ modelled. subst HasOwnManifest (sym same) (c.self.invariant.4 modelled),
+      λ e. c.self.invariant.5 (sym (ap (λ set. set.manifest) same) ∙ e),
+      subst (λ set. AreUpTo set.last_sequence c.self.inside.recent.kept.entries) (sym same) c.self.invariant.6,
+      c.self.invariant.7,
+    )
+
+-- ---- time and bytes, and what breaks the store
+
+pub returns-in_err-path-clause-sound : goal.returns-in_err-path-clause-sound
+returns-in_err-path-clause-sound g c =
+    let old = c.args.self.now in
+    let from = c.args.env.now in
+    let given = after_giving _ old c.self.view_is c.new_file_number.new.self c.in_ok-number.ensures.ok in
+    let p = err_from_is_err_and c.from_residual-in_err-path.result c.from_residual-in_err-path.ensures.1 in
+    rw p.1
+    (subst (λ v. IsSoundCall {T = Unit {0}} g.E.Env (g.C.Cmp.cmp old.cmp) any_meaning old from (Err p.0) v from) (sym given)
+    (sound_unbroken g.E.Env (g.C.Cmp.cmp old.cmp) any_meaning old from p.0 _ from (nothing_goes_on g.E.Env from) (given_unbroken old)))
+
+pub returns-in_err-sync-clause-sound : goal.returns-in_err-sync-clause-sound
+returns-in_err-sync-clause-sound g c =
+    let old = c.args.self.now in
+    let from = c.args.env.now in
+    let status = c.in_err-sync.field-0.0 in
+    let given = after_giving _ old c.self.view_is c.new_file_number.new.self c.in_ok-number.ensures.ok in
+    let p = err_from_is_err_and c.from_residual-in_err-sync.result c.from_residual-in_err-sync.ensures.1 in
+    rw (p.1, p.2)
+    (sound_unsynced g.E.Env (g.C.Cmp.cmp old.cmp) any_meaning old from status c.sync.new.self c.sync.new.env
+    (subst (λ v. SyncsLog g.E.Env v from (Err status) c.sync.new.self c.sync.new.env) given c.in_err-sync.ensures.syncs))
+
+pub returns-in_err-file-clause-sound : goal.returns-in_err-file-clause-sound
+returns-in_err-file-clause-sound g c =
+    let old = c.args.self.now in
+    let from = c.args.env.now in
+    let mid = c.sync.new.env in
+    let to = c.open_writable_file.new.self in
+    let status = c.in_err-file.field-0.0 in
+    let given = after_giving _ old c.self.view_is c.new_file_number.new.self c.in_ok-number.ensures.ok in
+    let sync = sync_made g.E.Env from c.in_ok-sync.ensures.syncs.ok given mid c.in_ok-sync.ensures.syncs in
+    let p = err_from_is_err_and c.from_residual-in_err-file.result c.from_residual-in_err-file.ensures.1 in
+    rw (p.1, p.2, c.in_ok-sync.ensures.syncs.ok ∙ given)
+    (sound_unbroken g.E.Env (g.C.Cmp.cmp old.cmp) any_meaning old from status _ to
+    (goes_on_then g.E.Env (call_goes_on g.E.Env from mid sync.does (sync_bytes _))
+    (call_goes_on g.E.Env mid to (λ modelled. c.in_err-file.ensures.does) (empty_bytes _))) (given_unbroken old))
+
+pub returns-clause-sound : goal.returns-clause-sound
+returns-clause-sound g c =
+    let old = c.args.self.now in
+    let from = c.args.env.now in
+    let mid = c.sync.new.env in
+    let to = c.open_writable_file.new.self in
+    let given = after_giving _ old c.self.view_is c.new_file_number.new.self c.in_ok-number.ensures.ok in
+    let sync = sync_made g.E.Env from c.in_ok-sync.ensures.syncs.ok given mid c.in_ok-sync.ensures.syncs in
+    sound_ok g.E.Env (g.C.Cmp.cmp old.cmp) any_meaning old from tt _ to
+    (goes_on_then g.E.Env (call_goes_on g.E.Env from mid sync.does (sync_bytes _))
+    (call_goes_on g.E.Env mid to (λ modelled. c.in_ok-file.ensures.does) (empty_bytes _)))

@@ -1,10 +1,12 @@
-use Rattle.std.proofs.Common.{◌≡◌, ◌≢◌, ◌∙◌, Bool, true, false, None, ap, sym}
+use Rattle.std.proofs.Common.{◌≡◌, ◌≢◌, ◌∙◌, Bool, true, false, None, ap, subst, sym}
 use Rattle.std.specs.Cmp.{IsTotalOrder}
 use Rattle.std.proofs.lemmas.Result.{err_from_is_err_and}
 use Rattle.leveldb_base.specs.CmpLaws.{total_order}
 use Rattle.leveldb_version.specs.VersionSetValue.{VersionSetValue, broken}
-use Rattle.leveldb_store.specs.OpenStore.{OpenStoreValue}
-use Rattle.leveldb_store.proofs.TableWaitingLemmas.{in_use_of, keeps_done, keeps_failed, keeps_unmade, tables_logged, tables_unbuilt, tables_unlogged}
+use Rattle.leveldb_base.specs.History.{AreUpTo}
+use Rattle.leveldb_store.specs.OpenStore.{HasOwnManifest, OpenStoreValue}
+use Rattle.leveldb_store.proofs.TableWaitingLemmas.{in_use_of, keeps_done, keeps_failed, keeps_unmade, tables_logged, tables_unbuilt, tables_unlogged, unlogged_sound, waiting_has_entries}
+use Rattle.leveldb_store.proofs.SoundLemmas.{edit_goes_on, given_unbroken, goes_on_then, sound_ok, sound_unbroken, table_goes_on}
 use Rattle.leveldb_store.proofs.open_store.OpenStore.table_waiting.Goals as goal
 
 not_broken : (set : VersionSetValue) (b : Bool) → (set.manifest ≡ broken → b ≡ true) → b ≡ false → set.manifest ≢ broken
@@ -41,7 +43,7 @@ returns-in_err-log_table-clause-keeps g c =
     let cmp = c.self.inside.cmp in
     let made = rw (c.in_ok-number.ensures.number, c.in_ok-number.ensures.ok) at c.in_ok-file.ensures.makes in
     let logs = rw c.in_ok-number.ensures.ok at c.in_err-log_table.ensures.logs in
-    let some = rw (← c.self.view_is) at c.requires.some in
+    let some = waiting_has_entries c.self.inside.waiting (rw (← c.self.view_is) at c.requires.waits) c.self.invariant.7 in
     let order = rw (← c.self.view_is) at c.requires.order in
     let total : IsTotalOrder (g.C.Cmp.cmp cmp) = total_order (g.met.C.Cmp.preorder cmp) (g.met.C.UserCmp.accepts_all cmp) in
     rw (← c.self.view_is, c.log_table.ensures.rest)
@@ -64,10 +66,67 @@ returns-clause-keeps g c =
     let cmp = c.self.inside.cmp in
     let made = rw (c.in_ok-number.ensures.number, c.in_ok-number.ensures.ok) at c.in_ok-file.ensures.makes in
     let logs = rw c.in_ok-number.ensures.ok at c.in_ok-log_table.ensures.logs in
-    let some = rw (← c.self.view_is) at c.requires.some in
+    let some = waiting_has_entries c.self.inside.waiting (rw (← c.self.view_is) at c.requires.waits) c.self.invariant.7 in
     let order = rw (← c.self.view_is) at c.requires.order in
     let total : IsTotalOrder (g.C.Cmp.cmp cmp) = total_order (g.met.C.Cmp.preorder cmp) (g.met.C.UserCmp.accepts_all cmp) in
     let gone = ap (λ (v : OpenStoreValue g.row.C.Denot). record v { waiting = None }) (c.self-2.view_is ∙ c.log_table.ensures.rest) in
     rw (← c.self.view_is, gone)
     (λ modelled meaning agrees. keeps_done g.E.Env _ _ c.args.env.now c.build_waiting.new.env c.in_ok-file.file some c.build_waiting.ensures.entries made modelled (g.C.Cmp.cmp cmp) order meaning agrees
     c.in_ok-number.ensures.fits total c.log_table.new.env c.log_table.new.self.set logs)
+
+pub invariant_of-self : goal.invariant_of-self
+invariant_of-self g c =
+    let same = c.in_err-number.ensures.err in (
+      ap (λ (set : VersionSetValue). set.store) same ∙ c.self.invariant.0,
+      c.self.invariant.1,
+      c.self.invariant.2,
+      c.self.invariant.3,
+      λ modelled. subst HasOwnManifest (sym same) (c.self.invariant.4 modelled),
+      λ e. c.self.invariant.5 (sym (ap (λ (set : VersionSetValue). set.manifest) same) ∙ e),
+      subst (λ (set : VersionSetValue). AreUpTo set.last_sequence c.self.inside.recent.kept.entries) (sym same) c.self.invariant.6,
+      c.self.invariant.7,
+    )
+
+pub invariant_of-self-2 : goal.invariant_of-self-2
+invariant_of-self-2 g c =
+    let given = c.in_ok-number.ensures.ok in (
+      ap (λ (set : VersionSetValue). set.store) given ∙ c.self.invariant.0,
+      c.self.invariant.1,
+      c.self.invariant.2,
+      c.self.invariant.3,
+      λ modelled. subst HasOwnManifest (sym given) (c.self.invariant.4 modelled),
+      λ e. c.self.invariant.5 (sym (ap (λ (set : VersionSetValue). set.manifest) given) ∙ e),
+      subst (λ (set : VersionSetValue). AreUpTo set.last_sequence c.self.inside.recent.kept.entries) (sym given) c.self.invariant.6,
+      c.self.invariant.7,
+    )
+
+-- ---- time and bytes, and what breaks the store
+
+pub returns-in_err-file-clause-sound : goal.returns-in_err-file-clause-sound
+returns-in_err-file-clause-sound g c =
+    let p = err_from_is_err_and c.from_residual-in_err-file.result c.from_residual-in_err-file.ensures.1 in
+    rw (← c.self.view_is, c.in_ok-number.ensures.ok, p.1)
+    (sound_unbroken g.E.Env _ _ _ c.args.env.now _ _ c.build_waiting.new.env (table_goes_on g.E.Env c.in_err-file.ensures.makes) (given_unbroken _))
+
+pub returns-in_err-log_table-clause-sound : goal.returns-in_err-log_table-clause-sound
+returns-in_err-log_table-clause-sound g c =
+    let p = err_from_is_err_and c.from_residual-in_err-log_table.result c.from_residual-in_err-log_table.ensures.1 in
+    let usable = not_broken c.self.inside.versions c.is_broken.result c.is_broken.ensures.1 c.if-is_broken.false in
+    let made = rw (c.in_ok-number.ensures.number, c.in_ok-number.ensures.ok) at c.in_ok-file.ensures.makes in
+    let logs = rw c.in_ok-number.ensures.ok at c.in_err-log_table.ensures.logs in
+    let used = in_use_of c.self.inside.versions.manifest c.self.invariant.5 usable in
+    rw (← c.self.view_is, c.log_table.ensures.rest, p.1, p.2)
+    (unlogged_sound g.E.Env _ _ c.args.env.now usable c.in_ok-number.ensures.fits c.build_waiting.new.env c.in_ok-file.file made used.0 used.1 c.self.invariant.4 c.log_table.ensures.locks
+    c.log_table.new.self.set _ _ _ _ (logs used.0 used.1))
+
+pub returns-clause-sound : goal.returns-clause-sound
+returns-clause-sound g c =
+    let mid = c.build_waiting.new.env in
+    let to = c.log_table.new.env in
+    let usable = not_broken c.self.inside.versions c.is_broken.result c.is_broken.ensures.1 c.if-is_broken.false in
+    let logs = rw c.in_ok-number.ensures.ok at c.in_ok-log_table.ensures.logs in
+    let used = in_use_of c.self.inside.versions.manifest c.self.invariant.5 usable in
+    let logged = logs used.0 used.1 in
+    sound_ok g.E.Env _ _ _ c.args.env.now tt _ to
+    (goes_on_then g.E.Env (table_goes_on g.E.Env c.in_ok-file.ensures.makes)
+    (edit_goes_on g.E.Env used.0 _ _ _ (c.in_ok-file.ensures.makes.fits 0) mid to _ _ logged))

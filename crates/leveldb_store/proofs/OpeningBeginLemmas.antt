@@ -1,0 +1,451 @@
+-- A store that was recovered is opened: its logs are replayed, the log to write is opened, and an
+-- edit is logged where one is wanted.
+use Rattle.std.specs.Prelude.{◌≢◌, Contains, IfSome, IsTrue, Result, Ok, Err, max}
+use Rattle.std.proofs.Common.{◌||◌, ◌≡◌, ◌⊎◌, ◌∙◌, ◌<◌, ◌^◌, inl, inr, ⊎_elim, ℕ, Bool, true, false, List, Option, None, Some, ap, arith, refl, subst, sym}
+use Rattle.std.specs.Cmp.Lexicographic.{bytes_decides}
+use Rattle.leveldb_base.proofs.NamesLemmas.{made_name}
+use Rattle.leveldb_base.specs.Error.{IsOutOfMemory}
+use Rattle.leveldb_base.specs.History.{AreUpTo, Entry}
+use Rattle.leveldb_base.specs.Names.{file_name}
+use Rattle.leveldb_base.specs.declared.cmp.Cmp.{Ghosts as CmpGhosts}
+use Rattle.leveldb_base.specs.declared.error.Status.{Status}
+use Rattle.leveldb_base.specs.declared.types.FileMetaData.{FileMetaData}
+use Rattle.leveldb_base.specs.declared.types.FileType.TheVariants.{Descriptor, Log, Table}
+use Rattle.leveldb_env.proofs.EnvLemmas.{Run-call, Run-mono, Run-trans, SameBut-created, SameBut-emptied, begun}
+use Rattle.leveldb_env.specs.Env.{BeforeOrAfter, Files, HasCause, Run, SameBut, SameLocks}
+use Rattle.leveldb_env.specs.WholeFiles.{IsLost, IsLostUnobserved}
+use Rattle.leveldb_env.specs.declared.env.Env.{Ghosts}
+use Rattle.leveldb_env.specs.declared.filter.FilterPolicy.{Ghosts as FilterGhosts}
+use Rattle.leveldb_version.proofs.TracksLemmas.{not_unmade, one_in_use}
+use Rattle.leveldb_mem.specs.Log.Writer.{WriterState}
+use Rattle.leveldb_mem.specs.MemTable.{Kept, MemTableState, memory_of_entries}
+use Rattle.leveldb_version.specs.Contents.{Contents}
+use Rattle.leveldb_version.specs.CurrentFile.{temp_path}
+use Rattle.leveldb_version.specs.LogEdit.{LogEditResult}
+use Rattle.leveldb_version.specs.Opening.{tables_edit}
+use Rattle.leveldb_version.specs.Paths.{IsFilePath, log_path, table_path}
+use Rattle.leveldb_version.specs.StoreSteps.{KeepsHistory}
+use Rattle.leveldb_version.specs.VersionSetValue.{ManifestState, OpenManifest, VersionSetValue, broken, in_use, unmade}
+use Rattle.leveldb_store.proofs.NotTabledLemmas.{not_tabled_causes}
+use Rattle.leveldb_store.proofs.OpeningBytesLemmas.{all_bytes, bytes_then, failed_bytes, log_bytes, logging_bytes, made_keys_bytes, opened_bytes}
+use Rattle.leveldb_store.proofs.OpeningEndLemmas.{IsOpenValue, edit_logged, log_spared, logged_manifest, logging_keeps, logging_spares, made_levels_fit, went_on}
+use Rattle.leveldb_store.proofs.OpeningFrontLemmas.{keeps_found_then}
+use Rattle.leveldb_store.proofs.OpeningLogLemmas.{HasLogOpen, IsReplayedWith, log_opened, log_opening_keeps, replayed_recovered, replaying_keeps}
+use Rattle.leveldb_store.proofs.OpeningRecoverLemmas.{cause_of_step}
+use Rattle.leveldb_store.proofs.OpeningSameLemmas.{spares_then}
+use Rattle.leveldb_store.proofs.TableKeepsLemmas.{is_log_path, is_table_path, types_apart}
+use Rattle.leveldb_store.specs.BuildTable.{TableChoices}
+use Rattle.leveldb_store.specs.Format.{Agrees, Format, Meaning}
+use Rattle.leveldb_store.specs.OpenStore.{HasOwnManifest, OpenStoreValue}
+use Rattle.leveldb_store.specs.Opening.{SameButTables}
+use Rattle.leveldb_store.specs.OpeningSteps.{AreDamagedLogs, BeginsWriting, LogsIfWanted, MayBeWritten, OpensLog, ReplaysLogs, WasRecovered, WhyNotBegun, WhyNotReplayed, entries_to_write, files_to_write, made_files, number_to_write, set_to_write, size_to_write}
+use Rattle.leveldb_store.specs.OpensStore.{IsOpenedAs, KeepsFound, SameBesideOwn}
+use Rattle.leveldb_store.specs.ReplayLog.{HasCauseOr}
+use Rattle.leveldb_store.specs.Room.{IsFull}
+use Rattle.leveldb_store.specs.SoundCall.{BytesAreAppended, OpensWithBytes}
+use Rattle.leveldb_store.specs.Written.{IsTableOf}
+use Rattle.leveldb_store.specs.declared.open_store.OpenLog.{OpenLog}
+use Rattle.leveldb_store.specs.declared.opening.replay.Replay.{Replay}
+use Rattle.leveldb_store.specs.declared.opening.replay.UsedLog.{UsedLog}
+
+-- ---- the log to write
+
+-- opening it changes it alone
+log_alone : {C : Type 0} (used : Option (UsedLog C)) (store : List ℕ) (next : ℕ) (old now : Files) → BeforeOrAfter (files_to_write used store next) old now → SameBut (log_path store (number_to_write used next)) old now
+log_alone None store next old now passes = SameBut-emptied (log_path store next) old now passes
+log_alone (Some used) store next old now passes = SameBut-created (log_path store used.number) old now passes
+
+-- the set is the same but for a number
+pub set_to_write_is : {C : Type 0} (used : Option (UsedLog C)) (set : VersionSetValue) → ((set_to_write used set).store ≡ set.store) × ((set_to_write used set).manifest ≡ set.manifest)
+    × ((set_to_write used set).manifest_number ≡ set.manifest_number)
+set_to_write_is None set = (refl, refl, refl)
+set_to_write_is (Some used) set = (refl, refl, refl)
+
+-- and has the same last number
+last_to_write : {C : Type 0} (used : Option (UsedLog C)) (set : VersionSetValue) → (set_to_write used set).last_sequence ≡ set.last_sequence
+last_to_write None set = refl
+last_to_write (Some used) set = refl
+
+-- a memtable with its entries isn't full if that of the log that is used on isn't
+not_full_to_write : {C : Type 0} (limit : ℕ) (used : Option (UsedLog C)) → IfSome used (λ it. IsFull limit it.entries.kept → ⊥) → (kept : Kept) → kept.entries ≡ entries_to_write used → IsFull limit kept → ⊥
+not_full_to_write limit None room kept is full = full.0 is
+not_full_to_write limit (Some used) room kept is full =
+    let same = ap memory_of_entries is in
+    let least = full.1 in room (λ none. full.0 (is ∙ none), omega (arith, same, least))
+
+in_use_unbroken : (manifest : OpenManifest) → in_use manifest ≡ broken → ⊥
+in_use_unbroken manifest e = cc
+
+-- an edit that isn't wanted is so for both reasons
+pub neither : (a b : Bool) → (a || b) ≡ false → (a ≡ false) × (b ≡ false)
+neither true b e = absurd (cc)
+neither false b e = (refl, e)
+
+-- ---- a set with the manifest of another
+
+-- the sets have one path and one manifest
+record SameManifest (old new : VersionSetValue) : Type 0 where
+  pub store : new.store ≡ old.store
+  pub manifest : new.manifest ≡ old.manifest
+  pub number : new.manifest_number ≡ old.manifest_number
+
+own_still : (old new : VersionSetValue) → SameManifest old new → HasOwnManifest old → HasOwnManifest new
+own_still old new same own manifest used = subst (λ s. IsFilePath Descriptor s manifest.path) (sym same.store) (own manifest (sym same.manifest ∙ used))
+
+module _ {E F D FP : Type 0} (env : Ghosts E F) {order : CmpGhosts D} {filters : FilterGhosts FP} (choices : TableChoices order filters) (limit : ℕ) (store : List ℕ) (anew : Bool) (set : VersionSetValue) (logs : List ℕ)
+    (from : E) (may : MayBeWritten env.models_disk store anew set (env.observed from).disk.files) where
+  abbrev format : Format
+  format = choices.format
+
+  abbrev first : Files
+  first = (env.observed from).disk.files
+
+  abbrev Begins : (C : Type 0) → Result (OpenStoreValue C) Status → E → Type 0
+  Begins C result to = BeginsWriting env format store set logs from limit result to
+
+  abbrev Why : Status → Type 0
+  Why = WhyNotBegun env format store set logs from
+
+  -- what keeps each history of a store that was recovered
+  abbrev Keeps : E → Type 0
+  Keeps to = (meaning : Meaning) → Agrees format meaning → (contents : Contents) → WasRecovered env format store set logs from meaning contents
+      → KeepsFound format.order meaning store format.order_name contents (env.observed from) (env.observed to)
+
+  -- an error at any of the steps
+  refused_at : (C : Type 0) (to : E) (status : Status) → (IsTrue env.models_disk → Keeps to) → (IsTrue env.models_disk → Run (SameBesideOwn store first) (env.observed from) (env.observed to))
+      → OpensWithBytes env store from {T = OpenStoreValue C} (Err status) to
+      → SameLocks env.models_disk (env.observed from) (env.observed to) → HasCauseOr {T = OpenStoreValue C} Why (env.failures from) (env.failures to) (Err status) → Begins C (Err status) to
+  refused_at C to status keeps spares bytes locks cause = record {
+    path = tt;
+    unbroken = tt;
+    room = tt;
+    keeps = keeps;
+    opens = λ modelled meaning agrees contents was. tt;
+    others = spares;
+    bytes = bytes;
+    locks = locks;
+    cause = cause;
+  }
+
+  -- memory was out before any step
+  pub nothing_begun : (C : Type 0) (status : Status) → IsOutOfMemory status → Begins C (Err status) from
+  nothing_begun C status memory = refused_at C from status
+      (λ modelled meaning agrees contents was allowed there can bound reached. begun (env.observed from) (record { now = λ history c. c; crash = λ durable history s. s }))
+      (λ modelled. begun (env.observed from) (λ path other. refl)) (all_bytes env store (Err status) from from (λ modelled before. before)) (λ modelled. refl)
+      (record { later = omega arith; ok = tt; uncounted = λ why. refl; cause = inl (inl memory) })
+
+  -- ---- the logs are replayed
+
+  module _ {C : Type 0} (result : Result (Replay C) Status) (set1 : VersionSetValue) (e1 : E) (replays : ReplaysLogs env choices limit set logs from result set1 e1) where
+    abbrev second : Files
+    second = (env.observed e1).disk.files
+
+    same1 : SameManifest set set1
+    same1 = record {
+      store = ap (λ (s : VersionSetValue). s.store) replays.spares.numbers.set;
+      manifest = ap (λ (s : VersionSetValue). s.manifest) replays.spares.numbers.set;
+      number = ap (λ (s : VersionSetValue). s.manifest_number) replays.spares.numbers.set;
+    }
+
+    -- a path is no table's that was made
+    unmade_path : (path : List ℕ) → ((n : ℕ) → n < 2 ^ 64 → path ≢ table_path store n) → (now : Files) → SameButTables set set1 first now → now path ≡ first path
+    unmade_path path other now same = same path (λ n least less fits is. other n fits (is ∙ ap (λ s. table_path s n) may.path))
+
+    spares1 : IsTrue env.models_disk → Run (SameBesideOwn store first) (env.observed from) (env.observed e1)
+    spares1 modelled = Run-mono
+        (λ now same path other. unmade_path path (λ n fits is. other (inl (Table, tt, (file_name Table n, n, made_name Table n fits, is)))) now same)
+        (replays.spares.run modelled)
+
+    keeps1 : IsTrue env.models_disk → Keeps e1
+    keeps1 modelled meaning agrees contents was allowed there can bound reached =
+        replaying_keeps env modelled store format.order meaning contents set set1 logs from e1 was.1 replays.spares allowed bound
+
+    why_not_replayed : (status : Status) → WhyNotReplayed env choices set.store first logs status → IsOutOfMemory status ⊎ Why status
+    why_not_replayed status (inl (inl used_up)) = inr (inr (inr used_up))
+    why_not_replayed status (inl (inr (entries, not))) = ⊎_elim (λ memory. inl memory) (λ other. inr (inr (⊎_elim (λ used_up. inr used_up) (λ compressor. inl compressor) other)))
+        (not_tabled_causes choices _ status not)
+    why_not_replayed status (inr damaged) = inr (inl (damaged.0, λ modelled. subst (λ s. AreDamagedLogs s first logs) may.path (damaged.1 modelled)))
+
+  pub replay_refused : {C : Type 0} (status : Status) (set1 : VersionSetValue) (e1 : E) → ReplaysLogs env choices {C = C} limit set logs from (Err status) set1 e1 → Begins C (Err status) e1
+  replay_refused {C} status set1 e1 replays = refused_at C e1 status (keeps1 (Err status) set1 e1 replays) (spares1 (Err status) set1 e1 replays) (all_bytes env store (Err status) from e1 replays.spares.bytes) replays.spares.locks
+      (cause_of_step (env.failures from) (env.failures from) (env.failures e1) status refl (why_not_replayed (Err status) set1 e1 replays status) replays.cause)
+
+  -- ---- the log to write is opened
+
+  module _ {C : Type 0} (replay : Replay C) (set1 : VersionSetValue) (e1 : E) (replays : ReplaysLogs env choices limit set logs from (Ok replay) set1 e1) (set2 : VersionSetValue)
+      (set2_is : set2 ≡ record set1 { last_sequence = max set1.last_sequence replay.last }) where
+    abbrev replayed_files : Files
+    replayed_files = (env.observed e1).disk.files
+
+    same2 : SameManifest set set2
+    same2 =
+        let same = same1 (Ok replay) set1 e1 replays in
+        record {
+          store = ap (λ (s : VersionSetValue). s.store) set2_is ∙ same.store;
+          manifest = ap (λ (s : VersionSetValue). s.manifest) set2_is ∙ same.manifest;
+          number = ap (λ (s : VersionSetValue). s.manifest_number) set2_is ∙ same.number;
+        }
+
+    replayed : IsTrue env.models_disk → (meaning : Meaning) → Agrees format meaning → (contents : Contents) → WasRecovered env format store set logs from meaning contents
+        → IsReplayedWith store format.order meaning contents replay.used replay.leaves_log replay.tables.items set2 replayed_files
+    replayed modelled meaning agrees contents was =
+        replayed_recovered env modelled store format.order meaning contents set set1 logs from e1 was.1 replays.spares replay (replays.ok modelled meaning agrees) replays.from_log set2 set2_is
+
+    module _ (cmp : C) (result : Result (OpenLog E F × MemTableState C) Status) (set3 : VersionSetValue) (e2 : E) (opens : OpensLog env store cmp replay.used set2 e1 result set3 e2) where
+      abbrev log_files : Files
+      log_files = (env.observed e2).disk.files
+
+      run2 : IsTrue env.models_disk → Run (BeforeOrAfter (files_to_write replay.used store set2.next_file) replayed_files) (env.observed e1) (env.observed e2)
+      run2 modelled = Run-call modelled opens.does
+
+      spares2 : IsTrue env.models_disk → Run (SameBesideOwn store first) (env.observed from) (env.observed e2)
+      spares2 modelled =
+          let before = spares1 (Ok replay) set1 e1 replays modelled in
+          Run-trans before (λ now spares. spares_then store first replayed_files now before.has spares)
+          (Run-mono (λ now passes. log_spared replay.used store set2.next_file opens.number_fits replayed_files now passes) (run2 modelled))
+
+      keeps2 : IsTrue env.models_disk → Keeps e2
+      keeps2 modelled meaning agrees contents was = keeps_found_then store format.order_name format.order meaning contents contents (env.observed from) (env.observed e1) (env.observed e2) (inl refl)
+          (keeps1 (Ok replay) set1 e1 replays modelled meaning agrees contents was)
+          (λ allowed there can bound reached. Run-mono
+          (λ now passes. log_opening_keeps store format.order meaning contents replay.leaves_log replay.tables.items set2 replayed_files replay.used (replayed modelled meaning agrees contents was)
+          (λ it. IsTrue (allowed it)) bound now passes)
+          (run2 modelled))
+
+      locks2 : SameLocks env.models_disk (env.observed from) (env.observed e2)
+      locks2 modelled = opens.locks modelled ∙ replays.spares.locks modelled
+
+      bytes2 : BytesAreAppended env from e2
+      bytes2 modelled before = log_bytes env store cmp replay.used set2 e1 result set3 e2 opens modelled (replays.spares.bytes modelled before)
+
+      -- a manifest's file stays
+      manifest_still : IsTrue env.models_disk → (path : List ℕ) → IsFilePath Descriptor store path → log_files path ≡ first path
+      manifest_still modelled path is =
+          log_alone replay.used store set2.next_file replayed_files log_files (run2 modelled).has path
+          (types_apart store path_of_log path Log Descriptor (is_log_path store (number_to_write replay.used set2.next_file) opens.number_fits) is (λ e. cc))
+          ∙ unmade_path (Ok replay) set1 e1 replays path
+          (λ n fits same. let apart = types_apart store path (table_path store n) Descriptor Table is (is_table_path store n fits) (λ e. cc) in
+          let never : true ≡ false = sym ((bytes_decides path (table_path store n)).1 same) ∙ apart in cc)
+          replayed_files (replays.spares.run modelled).has
+        where
+          path_of_log : List ℕ
+          path_of_log = log_path store (number_to_write replay.used set2.next_file)
+
+    pub log_refused : (cmp : C) (status : Status) (set3 : VersionSetValue) (e2 : E) → OpensLog env store cmp replay.used set2 e1 (Err status) set3 e2 → Begins C (Err status) e2
+    log_refused cmp status set3 e2 opens = refused_at C e2 status (keeps2 cmp (Err status) set3 e2 opens) (spares2 cmp (Err status) set3 e2 opens) (all_bytes env store (Err status) from e2 (bytes2 cmp (Err status) set3 e2 opens)) (locks2 cmp (Err status) set3 e2 opens)
+        (cause_of_step (env.failures from) (env.failures e1) (env.failures e2) status replays.cause.ok (λ used_up. inr (inr (inr used_up))) opens.cause)
+
+    -- ---- an edit is logged where one is wanted
+
+    module _ (cmp : C) (pair : OpenLog E F × MemTableState C) (set3 : VersionSetValue) (e2 : E) (opens : OpensLog env store cmp replay.used set2 e1 (Ok pair) set3 e2) where
+      abbrev N : ℕ
+      N = pair.0.number
+
+      abbrev made : List FileMetaData
+      made = replay.tables.items
+
+      same3 : SameManifest set set3
+      same3 =
+          let to_write = set_to_write_is replay.used set2 in
+          record {
+            store = ap (λ (s : VersionSetValue). s.store) opens.set ∙ to_write.0 ∙ same2.store;
+            manifest = ap (λ (s : VersionSetValue). s.manifest) opens.set ∙ to_write.1 ∙ same2.manifest;
+            number = ap (λ (s : VersionSetValue). s.manifest_number) opens.set ∙ to_write.2 ∙ same2.number;
+          }
+
+      path3 : set3.store ≡ store
+      path3 = same3.store ∙ may.path
+
+      own3 : IsTrue env.models_disk → HasOwnManifest set3
+      own3 modelled = own_still set set3 same3 (may.own modelled)
+
+      fits3 : set3.manifest_number < 2 ^ 64
+      fits3 = let same = same3.number in let below = may.manifest_fits in let fits = may.fits in omega (arith, same, below, fits)
+
+      unbroken3 : set3.manifest ≢ broken
+      unbroken3 is = may.unbroken (sym same3.manifest ∙ is)
+
+      there3 : IsTrue env.models_disk → (manifest : OpenManifest) → set3.manifest ≡ in_use manifest → log_files cmp (Ok pair) set3 e2 opens manifest.path ≢ None
+      there3 modelled manifest used gone =
+          let is = sym same3.manifest ∙ used in
+          may.there modelled manifest is
+          (sym (manifest_still cmp (Ok pair) set3 e2 opens modelled manifest.path (subst (λ s. IsFilePath Descriptor s manifest.path) may.path (may.own modelled manifest is))) ∙ gone)
+
+      has_open : IsTrue env.models_disk → (meaning : Meaning) → Agrees format meaning → (contents : Contents) → WasRecovered env format store set logs from meaning contents
+          → HasLogOpen store format.order meaning contents replay.leaves_log made set3 N (size_to_write replay.used) (entries_to_write replay.used) (env.observed e2).disk.files
+      has_open modelled meaning agrees contents was =
+          subst (λ s. HasLogOpen store format.order meaning contents replay.leaves_log made s N (size_to_write replay.used) (entries_to_write replay.used) (env.observed e2).disk.files) (sym opens.set)
+          (subst (λ n. HasLogOpen store format.order meaning contents replay.leaves_log made (set_to_write replay.used set2) n (size_to_write replay.used) (entries_to_write replay.used)
+          (env.observed e2).disk.files) (sym opens.number)
+          (log_opened store format.order meaning contents replay.leaves_log made set2 replayed_files replay.used (replayed modelled meaning agrees contents was) opens.fits (env.observed e2).disk.files
+          (opens.does.ok modelled)))
+
+      module _ (wanted : Bool) (unwanted : wanted ≡ false → (anew ≡ false) × (replay.leaves_log ≡ false)) where
+        module _ (result : Result (Unit {0}) Status) (set4 : VersionSetValue) (e3 : E) where
+          -- what is logged, whether an edit is wanted or not
+          keeps3 : (b : Bool) → LogsIfWanted env b N made set3 e2 result set4 e3 → IsTrue env.models_disk → (meaning : Meaning) → Agrees format meaning → (contents : Contents)
+              → WasRecovered env format store set logs from meaning contents → KeepsFound format.order meaning store format.order_name contents (env.observed e2) (env.observed e3)
+          keeps3 true logged modelled meaning agrees contents was allowed there can bound reached =
+              logging_keeps env modelled store format.order meaning format.order_name contents was.0 replay.leaves_log made set3 N (size_to_write replay.used) (entries_to_write replay.used) e2 e3
+              (has_open modelled meaning agrees contents was) set4 result (λ it. IsTrue (allowed it)) bound reached logged
+          keeps3 false logged modelled meaning agrees contents was allowed there can bound reached = subst
+              (λ e. Run (KeepsHistory store format.order (IsTableOf format.order meaning) (λ it. IsTrue (allowed it)) bound (env.observed e2).disk.files) (env.observed e2) (env.observed e)) (sym logged.1)
+              (begun (env.observed e2) (record { now = λ history c. c; crash = λ durable history s. s }))
+
+          spares3 : (b : Bool) → LogsIfWanted env b N made set3 e2 result set4 e3 → IsTrue env.models_disk → Run (SameBesideOwn store (env.observed e2).disk.files) (env.observed e2) (env.observed e3)
+          spares3 true logged modelled = subst (λ s. Run (SameBesideOwn s (env.observed e2).disk.files) (env.observed e2) (env.observed e3)) path3
+              (logging_spares env made set3 N e2 e3 set4 modelled (own3 modelled) fits3 result logged)
+          spares3 false logged modelled = subst (λ e. Run (SameBesideOwn store (env.observed e2).disk.files) (env.observed e2) (env.observed e)) (sym logged.1) (begun (env.observed e2) (λ path other. refl))
+
+          module _ (logged : LogsIfWanted env wanted N made set3 e2 result set4 e3) (locks : SameLocks env.models_disk (env.observed e2) (env.observed e3)) where
+            all_keep : IsTrue env.models_disk → Keeps e3
+            all_keep modelled meaning agrees contents was = keeps_found_then store format.order_name format.order meaning contents contents (env.observed from) (env.observed e2) (env.observed e3)
+                (inl refl) (keeps2 cmp (Ok pair) set3 e2 opens modelled meaning agrees contents was) (keeps3 wanted logged modelled meaning agrees contents was)
+
+            all_spare : IsTrue env.models_disk → Run (SameBesideOwn store first) (env.observed from) (env.observed e3)
+            all_spare modelled =
+                let before = spares2 cmp (Ok pair) set3 e2 opens modelled in
+                Run-trans before (λ now spares. spares_then store first (env.observed e2).disk.files now before.has spares) (spares3 wanted logged modelled)
+
+            all_opens_bytes : OpensWithBytes env store from result e3
+            all_opens_bytes = bytes_then env store result from e2 e3 (bytes2 cmp (Ok pair) set3 e2 opens)
+                (subst (λ s. OpensWithBytes env s e2 result e3) path3
+                (logging_bytes env made set3 N e2 e3 set4
+                (λ modelled. made_keys_bytes format set first logs replay set1 replayed_files (replays.ok modelled)) wanted result logged))
+
+            all_locks : SameLocks env.models_disk (env.observed from) (env.observed e3)
+            all_locks modelled = locks modelled ∙ locks2 cmp (Ok pair) set3 e2 opens modelled
+
+        -- ---- it isn't logged
+
+        module _ (status : Status) (set4 : VersionSetValue) (e3 : E) where
+          abbrev Cause : Type 0
+          Cause = HasCauseOr {T = Unit {0}} Why (env.failures e2) (env.failures e3) (Err status)
+
+          -- only what isn't modelled loses a file that is there
+          lost_cause : (Lost : Status → Type 0) → ((e : Status) → Lost e → IsOutOfMemory e ⊎ (Why e × (env.failures e3 ≡ env.failures e2))) → ((e : Status) → IsOutOfMemory e → Lost e)
+              → HasCause {T = Unit {0}} Lost (env.failures e2) (env.failures e3) (Err status) → Cause
+          lost_cause Lost to memory cause = record {
+            later = cause.later;
+            ok = tt;
+            uncounted = λ why. ⊎_elim (λ (out : IsOutOfMemory status). cause.uncounted (memory status out)) (λ (it : Why status × (env.failures e3 ≡ env.failures e2)). it.1) why;
+            cause = ⊎_elim (λ (lost : Lost status). inl (to status lost)) (λ counted. inr counted) cause.cause;
+          }
+
+          edit_cause : LogEditResult env.models_disk set3 (tables_edit N (made_files made)) (env.observed e2) (env.failures e2) (Err status) set4 (env.observed e3) (env.failures e3) → (state : ManifestState)
+              → set3.manifest ≡ state → Cause
+          edit_cause logs unmade is = lost_cause (IsLostUnobserved env.models_disk (temp_path set3.store set3.manifest_number) (env.failures e2) (env.failures e3))
+              (λ e lost. ⊎_elim (λ memory. inl memory) (λ it. inr (inl (it.0.code, λ modelled. absurd (it.1 modelled)), it.2)) lost) (λ e memory. inl memory)
+              (logs.not_made (made_levels_fit N made) is).cause
+          edit_cause logs (in_use manifest) is = lost_cause (IsLost env.models_disk manifest.path (env.observed e2) (env.failures e2) (env.failures e3))
+              (λ e lost. ⊎_elim (λ memory. inl memory) (λ it. inr (inl (it.0.code, λ modelled. absurd (there3 modelled manifest is (it.1 modelled))), it.2)) lost) (λ e memory. inl memory)
+              (logs.used (made_levels_fit N made) manifest is).cause
+          edit_cause logs broken is = absurd (unbroken3 is)
+
+          logged_cause : (b : Bool) → LogsIfWanted env b N made set3 e2 (Err status) set4 e3 → Cause
+          logged_cause true (inl none) = record {
+            later = let same = ap env.failures none.2 in omega (arith, same);
+            ok = tt;
+            uncounted = λ why. ap env.failures none.2;
+            cause = inl (inl none.0);
+          }
+          logged_cause true (inr logs) = edit_cause logs set3.manifest refl
+          logged_cause false logged = absurd logged.2
+
+          pub edit_refused : LogsIfWanted env wanted N made set3 e2 (Err status) set4 e3 → SameLocks env.models_disk (env.observed e2) (env.observed e3) → Begins C (Err status) e3
+          edit_refused logged locks = refused_at C e3 status (all_keep (Err status) set4 e3 logged locks) (all_spare (Err status) set4 e3 logged locks)
+              (failed_bytes env store status from e3 (all_opens_bytes (Err status) set4 e3 logged locks)) (all_locks (Err status) set4 e3 logged locks)
+              (cause_of_step (env.failures from) (env.failures e2) (env.failures e3) status (opens.cause.ok ∙ replays.cause.ok) (λ why. inr why) (logged_cause wanted logged))
+
+        -- ---- the store is open
+
+        module _ (done : Unit {0}) (set4 : VersionSetValue) (e3 : E) (logged : LogsIfWanted env wanted N made set3 e2 (Ok done) set4 e3) (locks : SameLocks env.models_disk (env.observed e2) (env.observed e3)) where
+          -- the set may log edits
+          pub record IsEnded : Type 0 where
+            pub path : set4.store ≡ store
+            pub used : OpenManifest
+            pub is_in_use : set4.manifest ≡ in_use used
+            pub last : set4.last_sequence ≡ set3.last_sequence
+            pub own : IsTrue env.models_disk → IsFilePath Descriptor store used.path
+
+          ended_by : (b : Bool) → wanted ≡ b → LogsIfWanted env b N made set3 e2 (Ok done) set4 e3 → IsEnded
+          ended_by true is logs =
+              let it = logged_manifest env made set3 N e2 e3 set4 done logs in
+              record {
+                path = it.store ∙ path3;
+                used = it.manifest;
+                is_in_use = it.is_in_use;
+                last = it.last;
+                own = λ modelled. subst (λ s. IsFilePath Descriptor s it.manifest.path) path3 (it.own (own3 modelled) fits3);
+              }
+          ended_by false is same =
+              let on = may.goes_on (unwanted is).0 in
+              record {
+                path = ap (λ (s : VersionSetValue). s.store) same.0 ∙ path3;
+                used = on.0;
+                is_in_use = ap (λ (s : VersionSetValue). s.manifest) same.0 ∙ same3.manifest ∙ on.1;
+                last = ap (λ (s : VersionSetValue). s.last_sequence) same.0;
+                own = λ modelled. subst (λ s. IsFilePath Descriptor s on.0.path) may.path (may.own modelled on.0 on.1);
+              }
+
+          is_ended : IsEnded
+          is_ended = ended_by wanted refl logged
+
+          pub ended_path : set4.store ≡ store
+          ended_path = is_ended.path
+
+          pub ended_own : IsTrue env.models_disk → HasOwnManifest set4
+          ended_own modelled manifest used =
+              let same = one_in_use manifest is_ended.used (sym used ∙ is_ended.is_in_use) in
+              subst (λ s. IsFilePath Descriptor s manifest.path) (sym is_ended.path) (subst (λ (m : OpenManifest). IsFilePath Descriptor store m.path) (sym same) (is_ended.own modelled))
+
+          pub ended_made : set4.manifest ≡ unmade → ⊥
+          ended_made is = not_unmade is_ended.used (sym is_ended.is_in_use ∙ is)
+
+          -- no entry in memory has a number past the last one
+          pub ended_up_to : (entries : List Entry) → entries ≡ entries_to_write replay.used → AreUpTo set4.last_sequence entries
+          ended_up_to entries is entry c =
+              let most = replays.up_to entry (subst (λ es. Contains es entry) is c) in
+              let last = is_ended.last ∙ ap (λ (s : VersionSetValue). s.last_sequence) opens.set ∙ last_to_write replay.used set2 ∙ ap (λ (s : VersionSetValue). s.last_sequence) set2_is in
+              omega (arith, most, last)
+
+          module _ (value : OpenStoreValue C) (is : IsOpenValue set4 N (size_to_write replay.used) (entries_to_write replay.used) value) where
+            opened_by : (b : Bool) → wanted ≡ b → LogsIfWanted env b N made set3 e2 (Ok done) set4 e3 → IsTrue env.models_disk → (meaning : Meaning) → Agrees format meaning → (contents : Contents)
+                → WasRecovered env format store set logs from meaning contents → IsOpenedAs format.order meaning store format.order_name contents value (env.observed e3).disk.files
+            opened_by true want logs modelled meaning agrees contents was =
+                edit_logged env modelled store format.order meaning format.order_name contents was.0 replay.leaves_log made set3 N (size_to_write replay.used) (entries_to_write replay.used) e2 e3
+                (has_open modelled meaning agrees contents was) set4 done value is logs
+            opened_by false want same modelled meaning agrees contents was =
+                let on = may.goes_on (unwanted want).0 in
+                subst (λ e. IsOpenedAs format.order meaning store format.order_name contents value (env.observed e).disk.files) (sym same.1)
+                (went_on store format.order meaning format.order_name contents was.0 replay.leaves_log made set3 N (size_to_write replay.used) (entries_to_write replay.used) (env.observed e2).disk.files
+                (has_open modelled meaning agrees contents was) on.0 (same3.manifest ∙ on.1) (unwanted want).1 value
+                (subst (λ s. IsOpenValue s N (size_to_write replay.used) (entries_to_write replay.used) value) same.0 is))
+
+            counted : (b : Bool) → LogsIfWanted env b N made set3 e2 (Ok done) set4 e3 → env.failures e3 ≡ env.failures e2
+            counted true (inl none) = absurd none.0
+            counted true (inr logs) = by set3.manifest refl
+              where
+                by : (state : ManifestState) → set3.manifest ≡ state → env.failures e3 ≡ env.failures e2
+                by unmade at = (logs.not_made (made_levels_fit N made) at).cause.ok
+                by (in_use manifest) at = (logs.used (made_levels_fit N made) manifest at).cause.ok
+                by broken at = absurd (unbroken3 at)
+            counted false same = ap env.failures same.1
+
+            pub all_begun : Begins C (Ok value) e3
+            all_begun =
+                let count = counted wanted logged ∙ opens.cause.ok ∙ replays.cause.ok in
+                record {
+                  path = ap (λ (s : VersionSetValue). s.store) is.set_is ∙ is_ended.path;
+                  unbroken = record {
+                    manifest = λ e. in_use_unbroken is_ended.used (sym is_ended.is_in_use ∙ sym (ap (λ (s : VersionSetValue). s.manifest) is.set_is) ∙ e);
+                    log = ap (λ (w : WriterState). w.broken) is.writer;
+                  };
+                  room = not_full_to_write limit replay.used replays.room value.recent is.recent_is;
+                  keeps = all_keep (Ok done) set4 e3 logged locks;
+                  opens = opened_by wanted refl logged;
+                  others = all_spare (Ok done) set4 e3 logged locks;
+                  bytes = opened_bytes env store done value from e3 (all_opens_bytes (Ok done) set4 e3 logged locks);
+                  locks = all_locks (Ok done) set4 e3 logged locks;
+                  cause = record { later = omega (arith, count); ok = count; uncounted = tt; cause = tt };
+                }

@@ -1,0 +1,168 @@
+-- The replay of logs one after another, up to the last one.
+use Rattle.std.specs.Prelude.{IfSome, IsSome, IsTrue}
+use Rattle.std.proofs.Common.{◌≡◌, ◌∙◌, ◌⊎◌, inl, inr, ⊎_elim, ◌≤◌, ℕ, Bool, true, false, List, [], ◌∷◌, ◌++◌, None, Option, Some, Ok, Err, ap, append_assoc, arith, map, refl, subst, sym}
+use Rattle.std.proofs.lemmas.Option.{IfSome_then}
+use Rattle.leveldb_base.proofs.HistoryLemmas.{in_none}
+use Rattle.leveldb_base.specs.Error.{IsOutOfMemory}
+use Rattle.leveldb_base.specs.History.{AreUpTo}
+use Rattle.leveldb_base.specs.KeyTypes.{user_part}
+use Rattle.leveldb_base.specs.declared.cmp.Cmp.{Ghosts as CmpGhosts}
+use Rattle.leveldb_base.specs.declared.error.Status.{Status}
+use Rattle.leveldb_base.specs.declared.error.StatusCode.TheVariants.{Corruption}
+use Rattle.leveldb_base.specs.declared.types.FileMetaData.{FileMetaData}
+use Rattle.leveldb_env.specs.Env.{HasCause}
+use Rattle.leveldb_env.specs.declared.env.Env.{Ghosts}
+use Rattle.leveldb_env.specs.declared.filter.FilterPolicy.{Ghosts as FilterGhosts}
+use Rattle.leveldb_version.proofs.RecoverLemmas.{cause_of_error}
+use Rattle.leveldb_version.specs.VersionEdit.{new_file_of}
+use Rattle.leveldb_version.specs.VersionSetValue.{VersionSetValue}
+use Rattle.leveldb_store.specs.BuildTable.{TableChoices}
+use Rattle.leveldb_store.specs.Format.{Agrees, Format, Meaning}
+use Rattle.leveldb_store.specs.OpeningSteps.{AreDamagedLogs, AreTabledBut, DamagesLogs, HasReplayedLogs, ReplaysLogs, ReplaysNext, entries_to_write}
+use Rattle.leveldb_store.specs.ReplayLog.{FailsToTable, MakesTablesOnly}
+use Rattle.leveldb_store.specs.Room.{IsFull}
+use Rattle.leveldb_store.specs.declared.opening.replay.Replay.{Replay}
+use Rattle.leveldb_store.specs.declared.opening.replay.UsedLog.{UsedLog}
+use Rattle.leveldb_store.proofs.ReplayFilesLemmas.{GivesNumbers-refl, MakesTablesOnly-none, MakesTablesOnly-trans}
+
+-- each format has a meaning of names and ids
+abbrev meaning_of : Format → Meaning
+meaning_of format = record {
+  orders = λ name. format.order;
+  codings = format.codings;
+  filters = λ name. Some (λ key. format.matches (user_part key));
+}
+
+agrees_with : (format : Format) → Agrees format (meaning_of format)
+agrees_with format = record { order = refl; codings = λ id coding is. is; filters = refl }
+
+module _ {E F D FP C : Type 0} (env : Ghosts E F) {order : CmpGhosts D} {filters : FilterGhosts FP}
+    (choices : TableChoices order filters) (limit : ℕ) (set : VersionSetValue) (numbers : List ℕ)
+    (from : E) where
+  -- the first of these logs are replayed, and these are left; the one that is used on is the last
+  pub record IsReplaying (replay : Replay C) (rest : List ℕ) (now : VersionSetValue) (at : E)
+      : Type 0 where
+    pub front : List ℕ
+    pub numbers_are : front ++ rest ≡ numbers
+    pub spares : MakesTablesOnly env set from now at
+    pub counted : env.failures at ≡ env.failures from
+    pub replayed : IsTrue env.models_disk → (meaning : Meaning) → Agrees choices.format meaning
+        → HasReplayedLogs choices.format.order meaning set (env.observed from).disk.files front replay
+        now (env.observed at).disk.files
+    pub from_log : IfSome replay.used (λ used. set.log_number ≤ used.number)
+    pub is_last : IsSome replay.used → rest ≡ []
+    pub up_to : AreUpTo replay.last (entries_to_write replay.used)
+    pub room : IfSome replay.used (λ used. IsFull limit used.entries.kept → ⊥)
+
+  -- none is replayed yet
+  pub IsReplaying-none : (replay : Replay C) → replay.tables.items ≡ [] → replay.used ≡ None
+      → replay.is_clean ≡ true → replay.last ≡ 0 → IsReplaying replay numbers set from
+  IsReplaying-none replay no_tables unused is_clean last = record {
+    front = [];
+    numbers_are = refl;
+    spares = MakesTablesOnly-none env set from;
+    counted = refl;
+    replayed = λ modelled meaning agrees. record {
+      gives = GivesNumbers-refl set;
+      same = λ path others. refl;
+      logs = [];
+      are_logs = record {
+        numbers_are = refl;
+        each = λ log c. absurd (in_none log c);
+        in_order = tt;
+        ends = λ front one later parts. absurd (no_part front one later parts);
+      };
+      last_is = last;
+      clean_is = λ e log c. absurd (in_none log c);
+      bad_is = λ e. absurd (let never : true ≡ false = sym is_clean ∙ e in cc);
+      tables = [];
+      files_are = sym (ap (map (λ (file : FileMetaData). new_file_of (0, file))) no_tables);
+      made_tables = record {
+        each = λ table c. absurd (in_none table c);
+        numbers = λ table c. absurd (in_none table c);
+        rising = λ i j d less within. absurd (omega (arith, within));
+      };
+      tabled = subst (λ used. AreTabledBut used [] []) (sym unused) (λ entry. (λ c. c, λ c. c));
+      leaves = λ e. (refl, λ log c. absurd (in_none log c));
+    };
+    from_log = subst (λ used. IfSome used (λ it. set.log_number ≤ it.number)) (sym unused) tt;
+    is_last = λ some. absurd
+        (let never : false ≡ true = subst (λ used. IsSome used) unused some in cc);
+    up_to = subst (AreUpTo replay.last) (sym (ap entries_to_write unused))
+        (λ entry c. absurd (in_none entry c));
+    room = subst (λ used. IfSome used (λ it. IsFull limit it.entries.kept → ⊥)) (sym unused) tt;
+  }
+    where
+      no_part : {X : Type 0} (front : List X) (one : X) (later : List X)
+          → [] ≡ front ++ one ∷ later → ⊥
+      no_part [] one later e = cc
+      no_part (x ∷ front) one later e = cc
+
+  module _ (replay : Replay C) (left : List ℕ) (number : ℕ) (rest : List ℕ)
+      (first : left ≡ number ∷ rest) (now : VersionSetValue) (at : E)
+      (replaying : IsReplaying replay left now at) where
+    so_far : IsReplaying replay (number ∷ rest) now at
+    so_far = subst (λ ns. IsReplaying replay ns now at) first replaying
+
+    log_number_still : now.log_number ≡ set.log_number
+    log_number_still = ap (λ (v : VersionSetValue). v.log_number) so_far.spares.numbers.set
+
+    module _ (may_go_on : Bool) (new : Replay C) (made : VersionSetValue) (to : E) where
+      -- one more is replayed
+      pub IsReplaying-more : (IsTrue may_go_on → (rest ≡ []) × (now.log_number ≤ number))
+          → ReplaysNext env choices limit number may_go_on replay now at (Ok tt) new made to
+          → IsReplaying new rest made to
+      IsReplaying-more may next = record {
+        front = so_far.front ++ number ∷ [];
+        numbers_are = append_assoc so_far.front (number ∷ []) rest ∙ so_far.numbers_are;
+        spares = MakesTablesOnly-trans env so_far.spares next.spares;
+        counted = next.cause.ok ∙ so_far.counted;
+        replayed = λ modelled meaning agrees. next.ok modelled meaning agrees set
+            (env.observed from).disk.files so_far.front (so_far.replayed modelled meaning agrees);
+        from_log = IfSome_then new.used next.used
+            (λ used it. let least = (may it.0).1 in let number_is = it.1 in
+            let same = log_number_still in omega (arith, least, number_is, same));
+        is_last = λ some. last_of new.used next.used some;
+        up_to = next.up_to;
+        room = next.room;
+      }
+        where
+          last_of : (used : Option (UsedLog C))
+              → IfSome used (λ it. IsTrue may_go_on × (it.number ≡ number)) → IsSome used → rest ≡ []
+          last_of None it some = absurd (let never : false ≡ true = some in cc)
+          last_of (Some used) it some = (may it.0).0
+
+      -- one isn't
+      pub ReplaysLogs-refused : (status : Status)
+          → ReplaysNext env choices limit number may_go_on replay now at (Err status) new made to
+          → ReplaysLogs env choices {C = C} limit set numbers from (Err status) made to
+      ReplaysLogs-refused status next = record {
+        spares = MakesTablesOnly-trans env so_far.spares next.spares;
+        ok = tt;
+        from_log = tt;
+        up_to = tt;
+        room = tt;
+        cause = cause_of_error status
+            (λ why. ⊎_elim (λ memory. inl memory)
+            (λ it. inr (
+              ⊎_elim (λ table. inl table) (λ torn. inr (torn.0, damaged torn.1)) it.0,
+              it.1 ∙ so_far.counted,
+            )) why)
+            (λ why. ⊎_elim (λ memory. inl (inl memory)) (λ it. inr it.1) why)
+            (subst (λ count. HasCause {T = Unit {0}} (λ e. IsOutOfMemory e
+            ⊎ (Why e × (env.failures to ≡ env.failures at))) count (env.failures to) (Err status))
+            so_far.counted next.cause);
+      }
+        where
+          Why : Status → Type 0
+          Why e = FailsToTable choices e ⊎ ((e.code ≡ Corruption)
+              × (IsTrue env.models_disk → DamagesLogs env choices number replay now at))
+
+          damaged : (IsTrue env.models_disk → DamagesLogs env choices number replay now at)
+              → IsTrue env.models_disk
+              → AreDamagedLogs set.store (env.observed from).disk.files numbers
+          damaged damages modelled = subst
+              (AreDamagedLogs set.store (env.observed from).disk.files) so_far.numbers_are
+              (damages modelled (meaning_of choices.format) (agrees_with choices.format) set
+              (env.observed from).disk.files so_far.front rest
+              (so_far.replayed modelled (meaning_of choices.format) (agrees_with choices.format)))

@@ -1,0 +1,20 @@
+use Rattle.std.proofs.Common.{◌≡◌, ◌∙◌, map, subst, sym}
+use Rattle.leveldb_env.specs.Env.{HasCause, IsMissing}
+use Rattle.std.proofs.lemmas.Result.{err_from_is_err_and}
+use Rattle.leveldb_version.proofs.UsableLemmas.{file_is_one}
+use Rattle.leveldb_version.specs.Paths.{table_path}
+use Rattle.leveldb_version.specs.VersionEdit.{new_file_of}
+use Rattle.leveldb_store.proofs.OpeningCausesLemmas.{table_lost}
+use Rattle.leveldb_store.proofs.opening.logs.check_tables.Goals as goal
+
+pub returns-in_err-found-clause-cause : goal.returns-in_err-found-clause-cause
+returns-in_err-found-clause-cause g c =
+    let failed = err_from_is_err_and c.from_residual-in_err-found.result c.from_residual-in_err-found.ensures.1 in
+    let named : c.deref.result.now ≡ table_path c.args.store.now c.loop-file-item.result.1.num = c.deref.ensures ∙ c.in_ok-path.ensures.ok in
+    rw failed.1 (rw failed.2 (table_lost g.E.Env.models_disk c.args.store.now (map new_file_of c.args.files.now) (new_file_of c.loop-file-item.result)
+    (file_is_one c.args.files.now c.loop-file.file-index c.loop-file-item.result c.loop-file-test.true c.loop-file-item.is)
+    c.deref.result.now named (g.E.Env.observed c.args.env.now).disk.files (g.E.Env.observed c.loop-file.env) (λ modelled. (c.loop-file.invariant.still modelled).has)
+    (g.E.Env.failures c.args.env.now) (g.E.Env.failures c.loop-file.env) (g.E.Env.failures c.size_of.new.self) c.loop-file.invariant.uncounted
+    c.size_of.result _ c.in_err-found.ensures
+    (subst (λ p. HasCause (IsMissing g.E.Env.models_disk p (g.E.Env.observed c.loop-file.env)) (g.E.Env.failures c.loop-file.env) (g.E.Env.failures c.size_of.new.self) c.size_of.result)
+    (c.deref-in-loop-file.ensures ∙ sym c.deref.ensures) c.size_of.ensures.cause)))

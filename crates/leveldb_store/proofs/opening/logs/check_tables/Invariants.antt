@@ -1,0 +1,11 @@
+use Rattle.std.proofs.Common.{◌≡◌}
+use Rattle.std.specs.Prelude.{IsTrue}
+use Rattle.leveldb_env.specs.Env.{FilesUnchanged, Run, SameLocks}
+use Rattle.leveldb_store.proofs.opening.logs.check_tables.Given as goal
+
+abbrev pub invariant-loop-file : goal.invariant-loop-file
+invariant-loop-file g l = record {
+  still : IsTrue g.E.Env.models_disk → Run (FilesUnchanged (g.E.Env.observed l.initial.env).disk.files) (g.E.Env.observed l.initial.env) (g.E.Env.observed l.env);
+  locks : SameLocks g.E.Env.models_disk (g.E.Env.observed l.initial.env) (g.E.Env.observed l.env);
+  uncounted : g.E.Env.failures l.env ≡ g.E.Env.failures l.initial.env;
+}

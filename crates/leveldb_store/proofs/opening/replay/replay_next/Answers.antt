@@ -1,0 +1,49 @@
+use Rattle.std.proofs.Common.{◌≡◌, ◌==◌, ◌∙◌, inl, inr, true, [], ◌++◌, arith, refl, sym}
+use Rattle.std.proofs.lemmas.Bool.{eqb-true}
+use Rattle.std.proofs.lemmas.Result.{err_from_is_err_and}
+use Rattle.leveldb_store.proofs.ReplayLogLemmas.{none_of_length}
+use Rattle.leveldb_store.proofs.ReplayNextLemmas.{IsBoth, ReplaysNext-tabled, ReplaysNext-torn, ReplaysNext-unlisted, ReplaysNext-unread, ReplaysNext-untabled, ReplaysNext-used, empty_after}
+use Rattle.leveldb_store.proofs.opening.replay.replay_next.Goals.{then-replay, else-replay}
+use Rattle.leveldb_store.proofs.opening.replay.replay_next.Goals as goal
+
+pub returns-in_err-log-clause-replays : goal.returns-in_err-log-clause-replays
+returns-in_err-log-clause-replays g c =
+    let failed = err_from_is_err_and c.from_residual.result c.from_residual.ensures.1 in
+    rw (failed.1, failed.2) (ReplaysNext-unread g.E.Env _ _ c.args.number c.args.may_go_on c.args.replay.now c.args.versions.now c.args.env.now _ c.in_err-log.ensures.replays _)
+
+pub returns-then-log-gt0-clause-replays : goal.returns-then-log-gt0-clause-replays
+returns-then-log-gt0-clause-replays g c =
+    let failed = err_from_is_err_and c.err.result c.err.ensures.code in
+    rw failed.1 (ReplaysNext-torn g.E.Env _ _ c.args.number c.args.may_go_on c.args.replay.now c.args.versions.now c.args.env.now c.in_ok-log.log c.in_ok-log.ensures.replays c.if-not-replay.true c.if-log-gt0.true failed.0 failed.2 _)
+
+pub returns-then-is_empty-clause-replays : goal.returns-then-is_empty-clause-replays
+returns-then-is_empty-clause-replays g c =
+    let log = c.in_ok-log.log in
+    let both : IsBoth c.args.replay.now.is_clean log.is_clean c.if-replay.replay = elim c.if-replay.branch [ then-replay w ↦ inl (w.if-replay.true, w.replay-is) | else-replay w ↦ inr (w.if-replay.false, w.replay-is ∙ w.if-replay.false) ] in
+    let test : true ≡ (log.tables.len == 0) = c.if-is_empty.ensures in
+    let is_empty = eqb-true log.tables.len 0 (sym test) in
+    let none : log.tables.items ≡ [] = none_of_length log.tables.items (omega (arith, is_empty, log.tables.ok.0)) in
+    ReplaysNext-used g.E.Env _ _ c.args.number c.args.may_go_on c.args.replay.now c.args.versions.now c.args.env.now log c.in_ok-log.ensures.replays c.requires.none
+    (empty_after c.args.replay.now.is_clean log.size c.else-not-replay.either) c.if-may_go_on.true c.if-log.true none _ _ refl refl refl refl refl both refl refl
+
+pub returns-in_err-tables-clause-replays : goal.returns-in_err-tables-clause-replays
+returns-in_err-tables-clause-replays g c =
+    let log = c.in_ok-log.log in
+    let failed = err_from_is_err_and c.from_residual-in_err-tables.result c.from_residual-in_err-tables.ensures.1 in
+    rw (failed.1, failed.2) (ReplaysNext-untabled g.E.Env _ _ c.args.number c.args.may_go_on c.args.replay.now c.args.versions.now c.args.env.now log c.in_ok-log.ensures.replays c.requires.none
+    (empty_after c.args.replay.now.is_clean log.size c.else-not-replay.either) c.in_err-tables.ensures.spares _ c.in_err-tables.ensures.cause _)
+
+pub returns-in_err-append-clause-replays : goal.returns-in_err-append-clause-replays
+returns-in_err-append-clause-replays g c =
+    let log = c.in_ok-log.log in
+    let failed = err_from_is_err_and c.from_residual-in_err-append.result c.from_residual-in_err-append.ensures.1 in
+    rw failed.1 (ReplaysNext-unlisted g.E.Env _ _ c.args.number c.args.may_go_on c.args.replay.now c.args.versions.now c.args.env.now log c.in_ok-log.ensures.replays c.requires.none
+    (empty_after c.args.replay.now.is_clean log.size c.else-not-replay.either) c.in_ok-tables.ensures.spares c.in_ok-tables.ensures.cause.ok failed.0 failed.2 _)
+
+pub returns-clause-replays : goal.returns-clause-replays
+returns-clause-replays g c =
+    let log = c.in_ok-log.log in
+    let both : IsBoth c.args.replay.now.is_clean log.is_clean c.if-replay.replay = elim c.if-replay.branch [ then-replay w ↦ inl (w.if-replay.true, w.replay-is) | else-replay w ↦ inr (w.if-replay.false, w.replay-is ∙ w.if-replay.false) ] in
+    let items : c.append.new.self.items ≡ c.args.replay.now.tables.items ++ c.in_ok-tables.tables.items = c.in_ok-append.ensures.items in
+    ReplaysNext-tabled g.E.Env _ _ c.args.number c.args.may_go_on c.args.replay.now c.args.versions.now c.args.env.now log c.in_ok-log.ensures.replays c.requires.none
+    (empty_after c.args.replay.now.is_clean log.size c.else-not-replay.either) c.in_ok-tables.ensures.spares c.in_ok-tables.ensures.cause.ok c.in_ok-tables.tables.items c.in_ok-tables.ensures.ok _ c.requires.none refl both items refl

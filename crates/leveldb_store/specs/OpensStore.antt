@@ -1,0 +1,189 @@
+-- What opening a store returns and leaves of its files, and why it fails.
+use Rattle.std.specs.Prelude.{◌≡◌, ◌≢◌, ◌≤◌, ◌⊎◌, ℕ, Bool, false, List, None, Some, OnOk, IfOk, IsTrue, Result, length}
+use Rattle.std.specs.declared.cmp.Ordering.{Ordering}
+use Rattle.leveldb_base.specs.Error.{IsOutOfMemory}
+use Rattle.leveldb_base.specs.History.{History}
+use Rattle.leveldb_base.specs.Names.{IsFileName}
+use Rattle.leveldb_base.specs.declared.error.Status.{Status}
+use Rattle.leveldb_base.specs.declared.error.StatusCode.TheVariants.{AlreadyExists, Corruption, InvalidArgument, NotSupported}
+use Rattle.leveldb_base.specs.declared.types.FileType.TheVariants.{Log, Table}
+use Rattle.leveldb_env.specs.Env.{Files, FilesUnchanged, HasCause, Observed, Run, SameLocks, in_folder}
+use Rattle.leveldb_env.specs.declared.env.Env.{Ghosts}
+use Rattle.leveldb_version.specs.Contents.{Contents, Store, made}
+use Rattle.leveldb_version.specs.Holds.{Holds, IsSafe, MatchesHistory}
+use Rattle.leveldb_version.specs.Paths.{current_path}
+use Rattle.leveldb_version.specs.Recover.{IsUsable}
+use Rattle.leveldb_version.specs.Store.{HasEdits, IsStore}
+use Rattle.leveldb_version.specs.StoreSteps.{AppendedAreBytes, KeepsHistory}
+use Rattle.leveldb_version.specs.VersionEdit.{Edit}
+use Rattle.leveldb_version.specs.VersionSet.{live_after}
+use Rattle.leveldb_store.specs.Format.{Agrees, Format, HasCompressorError, Meaning}
+use Rattle.leveldb_store.specs.OpenStore.{IsUnbroken, OpenStoreValue}
+use Rattle.leveldb_store.specs.Room.{IsFull}
+use Rattle.leveldb_store.specs.Written.{IsDataPath, IsTableOf, IsWritten}
+
+-- ---- files that change
+
+-- a path of a file that an opening makes or changes: of a file with data, or `CURRENT`
+abbrev pub IsOwnPath : List ℕ → List ℕ → Type 0
+IsOwnPath store path = IsDataPath store path ⊎ (path ≡ current_path store)
+
+-- the same files but at such paths
+abbrev pub SameBesideOwn : List ℕ → Files → Files → Type 0
+SameBesideOwn store old new =
+    (path : List ℕ) → (IsOwnPath store path → ⊥) → new path ≡ old path
+
+-- ---- a store that is opened
+
+-- `cmp` is the order of user keys, and `meaning` what names and ids in the files mean.
+module _ (cmp : List ℕ → List ℕ → Ordering) (meaning : Meaning) (store : List ℕ) where
+  -- Files that an opening may find: a store with these contents or none, which is safe, whatever
+  -- history it holds.
+  pub record IsSound (files : Files) (contents : Contents) : Type 0 where
+    pub read : IsStore store cmp (IsTableOf cmp meaning) files contents
+    pub bytes : AppendedAreBytes files
+    pub allowed : Store → Bool
+    pub bound : ℕ
+    pub durable : ℕ
+    pub history : History
+    pub safe : IsSafe store (IsStore store cmp (IsTableOf cmp meaning))
+        (λ it. IsTrue (allowed it)) bound durable history files
+
+  -- each history is kept at each moment, where the store that is there may be there, and the one
+  -- that the opening makes
+  abbrev pub KeepsFound : List ℕ → Contents → Observed → Observed → Type 0
+  KeepsFound comparator contents from to = (allowed : Store → Bool)
+      → IsTrue (allowed contents.store) → IsTrue (allowed (made (Some comparator))) → (bound : ℕ)
+      → contents.last ≤ bound
+      → Run (KeepsHistory store cmp (IsTableOf cmp meaning) (λ it. IsTrue (allowed it)) bound
+      from.disk.files) from to
+
+  -- The store is open: it is written with what is in memory, its last number is that of the
+  -- contents, and it holds each history that these match, all of it durable.
+  pub record IsOpenedAs {C : Type 0} (comparator : List ℕ) (contents : Contents)
+      (value : OpenStoreValue C) (files : Files) : Type 0 where
+    pub written : IsWritten cmp meaning value files
+    pub last : value.set.last_sequence ≡ contents.last
+    pub holds : (allowed : Store → Bool) → IsTrue (allowed (made (Some comparator)))
+        → (history : History)
+        → MatchesHistory (λ any. Unit {0}) contents.last contents history
+        → Holds store (IsStore store cmp (IsTableOf cmp meaning)) (λ it. IsTrue (allowed it)) files
+        history contents.last (length history) None
+
+-- ---- a store that isn't opened
+
+-- the name is a table's or a log's
+abbrev pub IsTableOrLog : List ℕ → Type 0
+IsTableOrLog name = (n : ℕ) × (IsFileName name n Table ⊎ IsFileName name n Log)
+
+-- `CURRENT` is missing, and a table or a log is there
+pub record LacksCurrent (store : List ℕ) (files : Files) : Type 0 where
+  pub no_current : files (current_path store) ≡ None
+  pub name : List ℕ
+  pub is : IsTableOrLog name
+  pub there : files (in_folder store name) ≢ None
+
+module _ (store : List ℕ) (format : Format) where
+  -- `CURRENT` is there and names no manifest with edits that an opening may begin with: one of the
+  -- two is damaged, or the comparator has another name
+  abbrev pub LacksUsableEdits : Files → Type 0
+  LacksUsableEdits files = (files (current_path store) ≢ None)
+      × ((edits : List Edit) → HasEdits store files edits
+      → IsUsable format.order format.order_name edits → ⊥)
+
+  -- the store's manifest names a comparator that isn't this one
+  pub record HasOtherComparator (files : Files) : Type 0 where
+    pub edits : List Edit
+    pub has_edits : HasEdits store files edits
+    pub name : List ℕ
+    pub named : (live_after edits).comparator ≡ Some name
+    pub other : name ≢ format.order_name
+
+  -- An order in which a store of this kind may be read: it is the format's, or the store's
+  -- comparator has another name.
+  abbrev pub IsOrderFor : Store → (List ℕ → List ℕ → Ordering) → Type 0
+  IsOrderFor there order = (order ≡ format.order)
+      ⊎ ((name : List ℕ) × (there ≡ made (Some name)) × (name ≢ format.order_name))
+
+  -- nothing is read of the files, in whatever order that may be, whatever names and ids mean
+  abbrev pub IsDamaged : Files → Type 0
+  IsDamaged files = (meaning : Meaning) (order : List ℕ → List ℕ → Ordering) (contents : Contents)
+      → IsOrderFor contents.store order
+      → IsStore store order (IsTableOf order meaning) files contents → ⊥
+
+module _ (store : List ℕ) where
+  -- nothing is in the store's folder, not even the file of its lock
+  abbrev pub IsBareFolder : Files → Type 0
+  IsBareFolder files = (name : List ℕ) → files (in_folder store name) ≡ None
+
+  module _ (create_if_missing error_if_exists : Bool) (files : Files) where
+    -- the options forbid it: a store is there that must not be, or none is and none is to be made
+    abbrev pub IsForbidden : Type 0
+    IsForbidden = (IsTrue error_if_exists × (files (current_path store) ≢ None))
+        ⊎ ((create_if_missing ≡ false) × (files (current_path store) ≡ None))
+
+-- the options forbid it, and this is how that is told
+abbrev pub IsForbiddenAs : Bool → List ℕ → Bool → Bool → Files → Status → Type 0
+IsForbiddenAs models_disk store create_if_missing error_if_exists files status =
+    ((status.code ≡ AlreadyExists) × IsTrue error_if_exists
+    × (IsTrue models_disk → files (current_path store) ≢ None))
+    ⊎ ((status.code ≡ InvalidArgument) × (create_if_missing ≡ false)
+    × (IsTrue models_disk → files (current_path store) ≡ None))
+
+-- ---- the call
+
+module _ {E F : Type 0} (env : Ghosts E F) (store : List ℕ) (format : Format)
+    (create_if_missing error_if_exists : Bool) (from : E) where
+  -- Why a store isn't opened, where nothing was counted, beside out of memory: not even the file of
+  -- its lock is there; the options forbid it; its comparator is another; it is damaged; a
+  -- compressor fails; or numbers or room are used up.
+  abbrev pub WhyNotOpened : Status → Type 0
+  WhyNotOpened status =
+      let where_modelled : (Files → Type 0) → Type 0
+      = λ Holds. IsTrue env.models_disk → Holds (env.observed from).disk.files in
+      ((status.code ≡ Corruption) × where_modelled (IsBareFolder store))
+      ⊎ IsForbiddenAs env.models_disk store create_if_missing error_if_exists
+      (env.observed from).disk.files status
+      ⊎ ((status.code ≡ InvalidArgument) × where_modelled (HasOtherComparator store format))
+      ⊎ ((status.code ≡ Corruption) × where_modelled (IsDamaged store format))
+      ⊎ HasCompressorError format status.code ⊎ (status.code ≡ NotSupported)
+
+  -- Why a store isn't opened, where the device didn't fail.
+  abbrev pub FailsToOpen : E → Status → Type 0
+  FailsToOpen to status = IsOutOfMemory status
+      ⊎ (WhyNotOpened status × (env.failures to ≡ env.failures from))
+
+  -- An opening. Its lock is the caller's.
+  pub record OpensStore {C : Type 0} (limit : ℕ) (result : Result (OpenStoreValue C) Status)
+      (to : E) : Type 0 where
+    pub path : IfOk result (λ value. value.set.store ≡ store)
+    pub unbroken : IfOk result IsUnbroken
+    -- the log's memtable isn't full
+    pub room : IfOk result (λ value. IsFull limit value.recent → ⊥)
+    -- of files that are sound it keeps each history, and opens the store that they are or a new one
+    pub keeps : IsTrue env.models_disk → (meaning : Meaning) → Agrees format meaning
+        → (contents : Contents)
+        → IsSound format.order meaning store (env.observed from).disk.files contents
+        → KeepsFound format.order meaning store format.order_name contents (env.observed from)
+        (env.observed to)
+    pub opens : IsTrue env.models_disk → (meaning : Meaning) → Agrees format meaning
+        → (contents : Contents)
+        → IsSound format.order meaning store (env.observed from).disk.files contents
+        → IfOk result (λ value. IsOpenedAs format.order meaning store format.order_name contents
+        value (env.observed to).disk.files)
+    -- what the options forbid isn't opened, nor tables or logs without `CURRENT`, nor what has no
+    -- usable edits, and all files stay
+    pub stays : IsTrue env.models_disk
+        → IsForbidden store create_if_missing error_if_exists
+        (env.observed from).disk.files ⊎ LacksCurrent store
+        (env.observed from).disk.files ⊎ LacksUsableEdits store format
+        (env.observed from).disk.files
+        → OnOk result ⊥
+        × Run (FilesUnchanged (env.observed from).disk.files) (env.observed from)
+        (env.observed to)
+    -- at each moment nothing but the store's own files has changed
+    pub others : IsTrue env.models_disk
+        → Run (SameBesideOwn store (env.observed from).disk.files) (env.observed from)
+        (env.observed to)
+    pub locks : SameLocks env.models_disk (env.observed from) (env.observed to)
+    pub cause : HasCause (FailsToOpen to) (env.failures from) (env.failures to) result

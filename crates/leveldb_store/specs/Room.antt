@@ -1,0 +1,80 @@
+-- What making room in the memtable returns and leaves, and why it fails; and deletions whose
+-- failures are told to a sink alone.
+use Rattle.std.specs.Prelude.{◌≡◌, ◌≢◌, ◌≤◌, ◌<◌, ◌-◌, ◌^◌, ◌⊎◌, ℕ, List, [], None, Result, IfErr, OnErr, OnOk, IsTrue}
+use Rattle.std.specs.declared.cmp.Ordering.{Ordering}
+use Rattle.leveldb_base.specs.Error.{IsOutOfMemory}
+use Rattle.leveldb_base.specs.declared.error.Status.{Status}
+use Rattle.leveldb_base.specs.declared.error.StatusCode.TheVariants.{Corruption, NotSupported}
+use Rattle.leveldb_env.specs.Env.{SameLocks}
+use Rattle.leveldb_env.specs.Options.{Boxed, OptionsOf}
+use Rattle.leveldb_env.specs.declared.env.Env.{Ghosts}
+use Rattle.leveldb_mem.specs.MemTable.{Kept, memory_of_entries}
+use Rattle.leveldb_store.specs.Format.{Agrees, Format, HasCompressorError, Meaning}
+use Rattle.leveldb_store.specs.OpenStore.{IsUnbroken, OpenStoreValue}
+use Rattle.leveldb_store.specs.Switch.{RemovesNoOther}
+use Rattle.leveldb_store.specs.Written.{IsWritten, KeepsWritten, SparesRest}
+
+-- ---- why a call fails that may tell some failures to a sink alone
+
+-- between these counts of failed calls one was counted, or the count was at its greatest
+abbrev pub HasFailed : ℕ → ℕ → Type 0
+HasFailed before after = (before < after) ⊎ (before ≡ 2 ^ 64 - 1)
+
+-- The count of failed calls doesn't fall. An Err is excused, or a call of the device failed. A call
+-- may return Ok though some call of the device failed, as one that deletes a file which isn't
+-- needed.
+pub record FailsFor {T : Type 0} (Excused : Status → Type 0) (before after : ℕ)
+    (result : Result T Status) : Type 0 where
+  pub later : before ≤ after
+  pub cause : IfErr result (λ e. Excused e ⊎ HasFailed before after)
+
+-- nothing but the sink of the options' log has changed, to which lines may have been told
+abbrev pub TellsOnly : {C FP : Type 0} {B : Boxed} → OptionsOf C FP B → OptionsOf C FP B → Type 0
+TellsOnly before after = after ≡ record before { log = after.log }
+
+-- ---- room
+
+-- the memtable has entries, and they take this much memory or more
+abbrev pub IsFull : ℕ → Kept → Type 0
+IsFull limit kept = (kept.entries ≡ [] → ⊥) × (limit ≤ memory_of_entries kept.entries)
+
+module _ {E F C : Type 0} (env : Ghosts E F) (cmp : List ℕ → List ℕ → Ordering)
+    (old : OpenStoreValue C) (from : E) where
+  -- `Corruption`, since a file of the store is missing: a store that is written has its files,
+  -- where the format's names and ids mean what they say
+  abbrev pub IsFileLost : Format → Status → Type 0
+  IsFileLost format status = (status.code ≡ Corruption) × (IsTrue env.models_disk
+      → (meaning : Meaning) → Agrees format meaning
+      → IsWritten cmp meaning old (env.observed from).disk.files → ⊥)
+
+  -- Why no room is made, where the device didn't fail: out of memory; numbers of files are used up,
+  -- or entries are too large for a table; a compressor fails; or a file of the store is lost.
+  abbrev pub FailsToMakeRoom : Format → Status → Type 0
+  FailsToMakeRoom format status = IsOutOfMemory status ⊎ (status.code ≡ NotSupported)
+      ⊎ HasCompressorError format status.code ⊎ IsFileLost format status
+
+  -- Room is made in the memtable of a store that isn't broken: a memtable that is full becomes a
+  -- table of level 0, and a new log is begun.
+  pub record MakesRoom (format : Format) (limit : ℕ) (result : Result (Unit {0}) Status)
+      (new : OpenStoreValue C) (to : E) : Type 0 where
+    pub room : OnOk result (IsFull limit new.recent → ⊥)
+    -- where it isn't full, nothing is done
+    pub not_full : (IsFull limit old.recent → ⊥) → (new ≡ old) × (to ≡ from) × OnErr result ⊥
+    pub none_waits : OnOk result (IsFull limit old.recent
+        → (new.recent.entries ≡ []) × (new.waiting ≡ None))
+    -- after an Err it is full still, or one waits: that a file wasn't deleted is no Err
+    pub err : OnErr result (IsFull limit new.recent ⊎ (new.waiting ≢ None))
+    pub keeps : IsTrue env.models_disk → (meaning : Meaning) → Agrees format meaning
+        → KeepsWritten cmp meaning old (env.observed from) new (env.observed to)
+    pub usable : OnOk result (IsUnbroken new)
+    pub rest : SparesRest env.models_disk old (env.observed from) new (env.observed to)
+    pub cause : FailsFor (FailsToMakeRoom format) (env.failures from) (env.failures to) result
+
+  -- Obsolete files are deleted, and what failed of that is told.
+  pub record TidiesUp (to : E) : Type 0 where
+    pub others : IsTrue env.models_disk
+        → RemovesNoOther old.set (env.observed from).disk.files (env.observed to).disk.files
+    pub keeps : IsTrue env.models_disk → (meaning : Meaning)
+        → KeepsWritten cmp meaning old (env.observed from) old (env.observed to)
+    pub locks : SameLocks env.models_disk (env.observed from) (env.observed to)
+    pub later : env.failures from ≤ env.failures to

@@ -1,0 +1,98 @@
+//! Room in the memtable: entries of one that is full become a table, and obsolete files are
+//! deleted.
+ghost use Rattle.std.specs.Prelude.{◌≡◌, ◌≢◌, ◌↔◌, None, IsTrue, OnErr, OnOk};
+ghost use Rattle.leveldb_store.specs.Format.{Agrees, format_of};
+ghost use Rattle.leveldb_store.specs.OpenStore.{IsUnbroken};
+ghost use Rattle.leveldb_store.specs.Room.{IsFull, MakesRoom, TidiesUp};
+ghost use Rattle.leveldb_store.specs.RoomSteps.{IsStepToRoom};
+ghost use Rattle.leveldb_store.specs.SoundCall.{BytesAreAppended, IsSoundCall, TimeGoesOn};
+
+use super::OpenStore;
+use leveldb_base::cmp::UserCmp;
+use leveldb_base::error::Result;
+use leveldb_env::compressor::{CompressorList, Compressors};
+use leveldb_env::env::Env;
+use leveldb_env::filter::FilterPolicy;
+use leveldb_env::infolog::InfoSink;
+use leveldb_env::options::Options;
+
+impl<E: Env, C: UserCmp + Copy> OpenStore<E, C> {
+    /// Whether the memtable has entries, and they take this much memory or more.
+    pub fn is_full(&self, limit: usize) -> bool
+        ensures { IsTrue result ↔ IsFull limit self.now.recent }
+    {
+        self.recent.len() > 0 && limit <= self.recent.approx_mem_usage()
+    }
+
+    /// Deletes obsolete files. A failure is no error, but a line for `log`: nothing reads the files
+    /// that are left, and the next call deletes them.
+    pub fn tidy_up<S: InfoSink>(&self, env: &mut E, log: &mut S)
+        requires usable { IsUnbroken self.now }
+        ensures tidies { TidiesUp E.Env (C.cmp self.now.cmp) self.now env.old env.new }
+        ensures time { TimeGoesOn E.Env env.old env.new }
+        ensures bytes { BytesAreAppended E.Env env.old env.new }
+    {
+        if let Err(e) = self.remove_obsolete(env) {
+            if let Ok(line) = format!(in self.alloc; "obsolete files may be left: {e}\n") {
+                let _ = log.write(line.as_bytes());
+            }
+        }
+    }
+}
+
+impl<E: Env, C: UserCmp + Copy + Drop> OpenStore<E, C> {
+    /// Makes room in the memtable, if its entries take `write_buffer_size` bytes or more. They wait
+    /// while batches go to a new log, and become a table of level 0. Where they wait already, since
+    /// a call before made no table of them, they become one before anything else, so that one
+    /// memtable waits at most. Obsolete files are deleted after each table; what fails of that is a
+    /// line for `log`.
+    ///
+    /// After an Err no entry is lost: the memtable is full still, or its entries wait. The next call
+    /// goes on from there, unless the store broke.
+    pub fn make_room<FP: FilterPolicy + Copy + Drop, S: InfoSink>(
+        &mut self,
+        env: &mut E,
+        options: &Options<C, FP>,
+        log: &mut S,
+    ) -> Result<()>
+        requires usable { IsUnbroken self.old }
+        requires order { C.cmp options.now.cmp ≡ C.cmp self.old.cmp }
+        ensures makes { MakesRoom E.Env (C.cmp self.old.cmp) self.old env.old (format_of C.Cmp
+            FP.FilterPolicy ⟦<CompressorList as Compressors>⟧.codings options.now)
+            options.now.write_buffer_size result self.new env.new }
+        ensures sound { IsSoundCall E.Env (C.cmp self.old.cmp) (Agrees (format_of C.Cmp
+            FP.FilterPolicy ⟦<CompressorList as Compressors>⟧.codings options.now)) self.old
+            env.old result self.new env.new }
+    {
+        if !self.is_full(options.write_buffer_size) {
+            return Ok(());
+        }
+        self.table_if_waiting(env, options, log)?;
+        self.switch_log(env)?;
+        self.table_if_waiting(env, options, log)
+    }
+
+    // Makes a table of the entries that wait, if some do, and deletes the files that are obsolete
+    // then.
+    fn table_if_waiting<FP: FilterPolicy + Copy + Drop, S: InfoSink>(
+        &mut self,
+        env: &mut E,
+        options: &Options<C, FP>,
+        log: &mut S,
+    ) -> Result<()>
+        requires usable { IsUnbroken self.old }
+        requires order { C.cmp options.now.cmp ≡ C.cmp self.old.cmp }
+        ensures step { IsStepToRoom E.Env (C.cmp self.old.cmp) (format_of C.Cmp FP.FilterPolicy
+            ⟦<CompressorList as Compressors>⟧.codings options.now) self.old env.old result self.new
+            env.new }
+        ensures none_waits { OnOk result (self.new.waiting ≡ None) }
+        ensures waits { OnErr result (self.new.waiting ≢ None) }
+        ensures recent { self.new.recent ≡ self.old.recent }
+    {
+        if self.has_waiting() {
+            self.table_waiting(env, options)?;
+            self.tidy_up(env, log);
+        }
+        Ok(())
+    }
+}

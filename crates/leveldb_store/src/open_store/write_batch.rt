@@ -1,0 +1,54 @@
+//! Writing a batch: its record comes to the log, and its entries to the memtable.
+ghost use Rattle.std.specs.Prelude.{◌≡◌};
+ghost use Rattle.leveldb_env.specs.Env.{AreBytes};
+ghost use Rattle.leveldb_mem.specs.WriteBatch.{BatchOf, batch_bytes};
+ghost use Rattle.leveldb_store.specs.OpenStore.{IsUnbroken};
+ghost use Rattle.leveldb_store.specs.SoundCall.{IsSoundCall, any_meaning};
+ghost use Rattle.leveldb_store.specs.Write.{LogsText, open_log_path};
+ghost use Rattle.leveldb_store.specs.WriteBatch.{WritesBatch};
+
+use super::OpenStore;
+use leveldb_base::cmp::UserCmp;
+use leveldb_base::error::Result;
+use leveldb_base::names::log_file_name;
+use leveldb_env::env::Env;
+use leveldb_mem::write_batch::WriteBatch;
+
+impl<E: Env, C: UserCmp + Copy> OpenStore<E, C> {
+    /// Writes a batch, and makes it durable with all before it if `sync` is set. It gets the next
+    /// numbers. Returns `NotSupported`, and makes no call of the device, if the numbers are used up
+    /// or the entries are too many for the memtable. If its append or its sync fails once it has
+    /// begun, the store is broken: the batch isn't seen, and may be there when the store is opened
+    /// again.
+    pub fn write_batch(&mut self, env: &mut E, batch: WriteBatch, sync: bool) -> Result<()>
+        requires usable { IsUnbroken self.old }
+        ensures writes { WritesBatch E.Env (C.cmp self.old.cmp) self.old env.old batch.items sync
+            result self.new env.new }
+        ensures sound { IsSoundCall E.Env (C.cmp self.old.cmp) any_meaning self.old env.old result
+            self.new env.new }
+    {
+        let mut batch = batch;
+        self.prepare(&mut batch)?;
+        let path = log_file_name(self.alloc, &self.name, self.log.number)?;
+        self.log_batch(env, &path, &batch, sync)?;
+        self.insert(&batch);
+        Ok(())
+    }
+
+    // Appends the record of a batch to the log, which has this path, and syncs it if `sync` is set.
+    fn log_batch(&mut self, env: &mut E, path: &str, batch: &WriteBatch, sync: bool) -> Result<()>
+        requires { path.now ≡ open_log_path self.old }
+        ensures logs { LogsText E.Env self.old env.old
+            (batch_bytes batch.now.first batch.now.items) sync result self.new env.new }
+        ensures encoded { BatchOf (batch_bytes batch.now.first batch.now.items) batch.now.first
+            batch.now.items }
+        ensures bytes { AreBytes (batch_bytes batch.now.first batch.now.items) }
+    {
+        self.append(env, path, batch)?;
+        if sync {
+            self.sync_log(env, path)
+        } else {
+            Ok(())
+        }
+    }
+}

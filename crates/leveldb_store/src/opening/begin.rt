@@ -1,0 +1,75 @@
+//! The last steps of an opening: what the logs of a store that was recovered have comes to memory
+//! or to tables, and batches may be appended.
+ghost use Rattle.std.specs.Prelude.{◌≡◌, IfOk};
+ghost use Rattle.leveldb_env.specs.Env.{SameLocks};
+ghost use Rattle.leveldb_store.specs.Format.{format_of};
+ghost use Rattle.leveldb_store.specs.OpeningSteps.{BeginsWriting, LogsIfWanted, MayBeWritten};
+
+use super::edit::log_edit;
+use super::log_to_write::open_log;
+use super::logs::RecoveredSet;
+use super::replay::replay_logs;
+use crate::open_store::OpenStore;
+use leveldb_base::cmp::UserCmp;
+use leveldb_base::error::Result;
+use leveldb_base::types::{FileMetaData, FileNum};
+use leveldb_env::compressor::{CompressorList, Compressors};
+use leveldb_env::env::Env;
+use leveldb_env::filter::FilterPolicy;
+use leveldb_env::options::Options;
+use leveldb_version::version_set::VersionSet;
+use std::alloc::Global;
+
+// Replays the logs of the store, opens the log to write, and has the tables that were made take the
+// place of the logs before it. Where there are none and the manifest is in use, no edit is logged.
+pub(super) fn begin_writing<E: Env, C: UserCmp + Copy + Drop, FP: FilterPolicy + Copy + Drop>(
+    alloc: Global,
+    env: &mut E,
+    name: &str,
+    options: &Options<C, FP>,
+    set: RecoveredSet<E>,
+) -> Result<OpenStore<E, C>>
+    requires { MayBeWritten E.models_disk name.now set.is_anew set.versions
+        (E.observed env.old).disk.files }
+    ensures begins { BeginsWriting E.Env (format_of C.Cmp FP.FilterPolicy
+        ⟦<CompressorList as Compressors>⟧.codings options.now)
+        name.now set.versions set.logs.keys env.old options.now.write_buffer_size result env.new }
+    ensures cmp { IfOk result (λ value. value.cmp ≡ options.now.cmp) }
+{
+    let path = String::from_str(alloc, name)?;
+    let is_anew = set.is_anew;
+    let mut versions = set.versions;
+    let replay = replay_logs(alloc, env, name, options, &mut versions, set.logs)?;
+    versions.set_last_seq(versions.last_seq().max(replay.last));
+    let (log, recent) = open_log(alloc, env, name, options.cmp, &mut versions, replay.used)?;
+    let wanted = is_anew | replay.leaves_log;
+    log_if(alloc, env, &mut versions, wanted, log.number, replay.tables)?;
+    Ok(OpenStore {
+        alloc,
+        name: path,
+        cmp: options.cmp,
+        versions,
+        log,
+        recent,
+        waiting: None,
+    })
+}
+
+// Logs the edit that has these tables in place of the logs below a number, if it is wanted.
+fn log_if<E: Env>(
+    alloc: Global,
+    env: &mut E,
+    versions: &mut VersionSet<E>,
+    wanted: bool,
+    log: FileNum,
+    tables: Vec<FileMetaData>,
+) -> Result<()>
+    ensures logs { LogsIfWanted E.Env wanted log tables.items versions.old env.old result
+        versions.new env.new }
+    ensures locks { SameLocks E.models_disk (E.observed env.old) (E.observed env.new) }
+{
+    if wanted {
+        return log_edit(alloc, env, versions, log, tables);
+    }
+    Ok(())
+}

@@ -1,0 +1,159 @@
+//! The replay of all logs: what comes to tables, and what stays in memory of the log that is used
+//! on.
+ghost use Rattle.std.specs.Prelude.{◌≡◌, None, IfOk, IfSome, OnOk, map};
+ghost use Rattle.leveldb_version.specs.VersionEdit.{new_file_of};
+ghost use Rattle.leveldb_store.specs.BuildTable.{choices_of};
+ghost use Rattle.leveldb_store.specs.Format.{format_of};
+ghost use Rattle.leveldb_store.specs.OpeningSteps.{ReplaysLogs, ReplaysNext, TablesAll};
+ghost use Rattle.leveldb_store.specs.ReplayLog.{FailsToTable, HasCauseOr, MakesTablesOnly};
+
+use super::replay_log::{ReplayedLog, replay_log};
+use leveldb_base::cmp::{Cmp, InternalKeyCmp, UserCmp};
+use leveldb_base::error::{Result, StatusCode, err};
+use leveldb_base::types::{FileMetaData, FileNum, SequenceNumber};
+use leveldb_env::compressor::{CompressorList, Compressors};
+use leveldb_env::env::Env;
+use leveldb_env::filter::{FilterPolicy, InternalFilterPolicy};
+use leveldb_env::options::Options;
+use leveldb_mem::memtable::MemTable;
+use leveldb_version::version_set::VersionSet;
+use std::alloc::Global;
+use std::collections::BTreeSet;
+
+// A log that goes on to be used: its number, how many bytes it has, and its entries.
+#[derive(Drop)]
+pub(super) struct UsedLog<C: Cmp> {
+    pub(super) number: FileNum,
+    pub(super) size: usize,
+    pub(super) entries: MemTable<C>,
+}
+
+// What the logs that were replayed so far have left.
+#[derive(Drop)]
+pub(super) struct Replay<C: Cmp> {
+    // The tables that were made, in their order.
+    pub(super) tables: Vec<FileMetaData>,
+    // The log that is used on, if the last one is.
+    pub(super) used: Option<UsedLog<C>>,
+    // Whether there was another log.
+    pub(super) leaves_log: bool,
+    // Whether all of them end cleanly, so that the next one may have batches.
+    pub(super) is_clean: bool,
+    // The number of the last entry.
+    pub(super) last: SequenceNumber,
+}
+
+// Replays the logs of these numbers in rising order. The last one may be used on where the options
+// say so.
+pub(super) fn replay_logs<E: Env, C: UserCmp + Copy + Drop, FP: FilterPolicy + Copy + Drop>(
+    alloc: Global,
+    env: &mut E,
+    store: &str,
+    options: &Options<C, FP>,
+    versions: &mut VersionSet<E>,
+    logs: BTreeSet<FileNum>,
+) -> Result<Replay<C>>
+    requires store { store.now ≡ versions.old.store }
+    ensures replays { ReplaysLogs E.Env (choices_of C.Cmp FP.FilterPolicy
+        ⟦<InternalKeyCmp<C> as Cmp>⟧ ⟦<InternalFilterPolicy<FP> as FilterPolicy>⟧
+        ⟦<CompressorList as Compressors>⟧.codings options.now)
+        options.now.write_buffer_size versions.old logs.keys env.old result versions.new env.new }
+    ensures order { IfOk result (λ replay.
+        IfSome replay.used (λ used. used.entries.cmp ≡ options.now.cmp)) }
+{
+    let mut logs = logs;
+    let mut replay = Replay {
+        tables: Vec::new(alloc),
+        used: None,
+        leaves_log: false,
+        is_clean: true,
+        last: 0,
+    };
+    while let Some(number) = logs.pop_first() {
+        let may_go_on = options.reuse_logs && logs.is_empty() && number >= versions.log_num();
+        replay_next(
+            alloc,
+            env,
+            store,
+            options,
+            versions,
+            &mut replay,
+            number,
+            may_go_on,
+        )?;
+    }
+    Ok(replay)
+}
+
+// Replays one more log.
+fn replay_next<E: Env, C: UserCmp + Copy + Drop, FP: FilterPolicy + Copy + Drop>(
+    alloc: Global,
+    env: &mut E,
+    store: &str,
+    options: &Options<C, FP>,
+    versions: &mut VersionSet<E>,
+    replay: &mut Replay<C>,
+    number: FileNum,
+    may_go_on: bool,
+) -> Result<()>
+    requires store { store.now ≡ versions.old.store }
+    requires none { replay.old.used ≡ None }
+    ensures replays { ReplaysNext E.Env (choices_of C.Cmp FP.FilterPolicy
+        ⟦<InternalKeyCmp<C> as Cmp>⟧ ⟦<InternalFilterPolicy<FP> as FilterPolicy>⟧
+        ⟦<CompressorList as Compressors>⟧.codings options.now)
+        options.now.write_buffer_size number may_go_on replay.old versions.old env.old result
+        replay.new versions.new env.new }
+    ensures order { OnOk result
+        (IfSome replay.new.used (λ used. used.entries.cmp ≡ options.now.cmp)) }
+{
+    let log = replay_log(alloc, env, store, options, versions, replay.last, number)?;
+    if !replay.is_clean && log.size > 0 {
+        return err(
+            alloc,
+            StatusCode::Corruption,
+            "a log ends badly, and one after it isn't empty",
+        );
+    }
+    replay.last = log.last;
+    replay.is_clean = replay.is_clean && log.is_clean;
+    if may_go_on && log.is_clean && log.tables.is_empty() {
+        replay.used = Some(UsedLog {
+            number,
+            size: log.size,
+            entries: log.rest,
+        });
+        return Ok(());
+    }
+    replay.leaves_log = true;
+    let mut tables = tabled(alloc, env, store, options, versions, log)?;
+    replay.tables.append(&mut tables)?;
+    Ok(())
+}
+
+// The tables of a log, once all its entries are in tables.
+fn tabled<E: Env, C: UserCmp + Copy + Drop, FP: FilterPolicy + Copy + Drop>(
+    alloc: Global,
+    env: &mut E,
+    store: &str,
+    options: &Options<C, FP>,
+    versions: &mut VersionSet<E>,
+    log: ReplayedLog<C>,
+) -> Result<Vec<FileMetaData>>
+    requires store { store.now ≡ versions.old.store }
+    requires order { log.rest.cmp ≡ options.now.cmp }
+    ensures spares { MakesTablesOnly E.Env versions.old env.old versions.new env.new }
+    ensures ok { IfOk result (λ tables. TablesAll E.Env
+        (format_of C.Cmp FP.FilterPolicy ⟦<CompressorList as Compressors>⟧.codings options.now)
+        log versions.old (map (λ file. new_file_of (0, file)) tables.items) versions.new env.new) }
+    ensures cause { HasCauseOr (FailsToTable (choices_of C.Cmp FP.FilterPolicy
+        ⟦<InternalKeyCmp<C> as Cmp>⟧ ⟦<InternalFilterPolicy<FP> as FilterPolicy>⟧
+        ⟦<CompressorList as Compressors>⟧.codings options.now))
+        (E.failures env.old) (E.failures env.new) result }
+{
+    if log.rest.len() == 0 {
+        return Ok(log.tables);
+    }
+    let mut log = log;
+    log.make_table(alloc, env, store, options, versions)?;
+    Ok(log.tables)
+}
